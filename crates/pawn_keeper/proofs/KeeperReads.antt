@@ -1,18 +1,21 @@
 -- A read of a keeper: a transaction that is lent, and rolled back.
 use Rattle.std.proofs.Common.{◌≡◌, ◌⊎◌, inl, inr, true, false, Result, Ok, Err, IsTrue, refl, sym, subst, ◌∙◌, arith}
+use Rattle.std.specs.Borrow.{MutBor}
 use Rattle.std.specs.Prelude.{IfOk, is_ok}
+use Rattle.sqlite.specs.Held.{Held, state}
+use Rattle.sqlite_trees.specs.declared.store.Store.{Ghosts}
 use Rattle.sqlite.specs.State.{State, HasCleanDisk, IsRolledBack, KeepsCommit, Survives}
 use Rattle.pawn_book.specs.HostStep.{Host}
 use Rattle.pawn_book.specs.Keeping.{Reads, Errs}
 use Rattle.pawn_book.specs.declared.fault.KeepError.{KeepError}
 use Rattle.pawn_book.specs.declared.fault.KeepError.TheVariants as Keeper
 use Rattle.pawn_book.specs.declared.fault.StoreFault.TheVariants.{NoRecord}
-use Rattle.one_table.specs.Lending.{IsLent, Rests}
+use Rattle.one_table.specs.Lending.{IsLent, Lends, Rests}
 use Rattle.one_table.proofs.Lent.{clean_before}
 use Rattle.one_table.proofs.Parts.{rests_open, committed_rests}
 use Rattle.pawn_tables.specs.StandsFor.{StandsFor}
 use Rattle.pawn_tables.specs.Keeps.{IsWhole, Keeps, keeping_by}
-use Rattle.pawn_tables.specs.Finding.{Finds, FindsIn}
+use Rattle.pawn_tables.specs.Finding.{Finds, FindsBy, FindsIn}
 
 -- what was found, alone
 found : {A : Type 0} (r : Result A KeepError) (Q : A → Type 0) (R U : Type 0) → Finds r (λ x. Q x × R) U → IfOk r Q
@@ -39,43 +42,43 @@ pub record IsRead {A : Type 0} (IsUnsound : Host → Type 0) (a lent new : State
 pub was_read : {A : Type 0} {IsUnsound : Host → Type 0} {lent new : State} {P : Host → A → Type 0} (a : State) (r : Result A KeepError) → a.in_transaction ≡ false → (a.in_transaction ≡ false → IsTrue a.is_open → a.now ≡ a.committed) → IsLent (begun_of a) lent (is_ok r) → (HasCleanDisk new → IsRolledBack lent new) → Survives lent new (λ _. ⊥) → FindsIn IsUnsound (begun_of a) lent r P → IsRead IsUnsound a lent new r P
 was_read a r ended settled part undone after finds = record { ended = ended; settled = settled; part = part; undone = undone; after = after; finds = finds }
 
-module _ {K : Type 0} (state : K → State) (old new : K) {A : Type 0} {IsUnsound : Host → Type 0} {lent : State} {r : Result A KeepError} {P : Host → A → Type 0} (was : IsRead IsUnsound (state old) lent (state new) r P) where
-  clean_lent : HasCleanDisk (state new) → HasCleanDisk lent
+module _ {K : Type 0} (state_of : K → State) (old new : K) {A : Type 0} {IsUnsound : Host → Type 0} {lent : State} {r : Result A KeepError} {P : Host → A → Type 0} (was : IsRead IsUnsound (state_of old) lent (state_of new) r P) where
+  clean_lent : HasCleanDisk (state_of new) → HasCleanDisk lent
   clean_lent clean = let up = was.after.clean in omega (arith, clean, up)
 
-  clean_old : HasCleanDisk (state new) → HasCleanDisk (state old)
-  clean_old clean = clean_before (begun_of (state old)) lent (is_ok r) was.part (clean_lent clean)
+  clean_old : HasCleanDisk (state_of new) → HasCleanDisk (state_of old)
+  clean_old clean = clean_before (begun_of (state_of old)) lent (is_ok r) was.part (clean_lent clean)
 
-  commit_kept : HasCleanDisk (state new) → KeepsCommit (begun_of (state old)) lent
+  commit_kept : HasCleanDisk (state_of new) → KeepsCommit (begun_of (state_of old)) lent
   commit_kept clean = was.part.kept (clean_lent clean) refl
 
-  opened : HasCleanDisk (state new) → IsTrue (state new).is_open → IsTrue (state old).is_open
-  opened clean now = rests_open (state old) (begun_of (state old)) lent (state new) (λ now'. now') refl (commit_kept clean) (was.undone clean) now
+  opened : HasCleanDisk (state_of new) → IsTrue (state_of new).is_open → IsTrue (state_of old).is_open
+  opened clean now = rests_open (state_of old) (begun_of (state_of old)) lent (state_of new) (λ now'. now') refl (commit_kept clean) (was.undone clean) now
 
-  as_it_was : HasCleanDisk (state new) → IsTrue (state new).is_open → (state new).now ≡ (state old).now
+  as_it_was : HasCleanDisk (state_of new) → IsTrue (state_of new).is_open → (state_of new).now ≡ (state_of old).now
   as_it_was clean now =
       let undone = was.undone clean in
-      (undone.undone now).0 ∙ sym (undone.undone now).1 ∙ committed_rests (state old) (begun_of (state old)) lent (state new) (λ now'. now') refl (commit_kept clean) undone now
+      (undone.undone now).0 ∙ sym (undone.undone now).1 ∙ committed_rests (state_of old) (begun_of (state_of old)) lent (state_of new) (λ now'. now') refl (commit_kept clean) undone now
       ∙ sym (was.settled was.ended (opened clean now))
 
   no_more : {P : Type 0} → P ⊎ ⊥ → P
   no_more (inl p) = p
   no_more (inr none) = absurd none
 
-  kept : HasCleanDisk (state new) → (h : Host) → Keeps (state old) h → Keeps (state new) h
+  kept : HasCleanDisk (state_of new) → (h : Host) → Keeps (state_of old) h → Keeps (state_of new) h
   kept clean h k = record {
     autocommit = (was.undone clean).autocommit;
     committed = λ now. ((was.undone clean).undone now).0 ∙ sym ((was.undone clean).undone now).1;
     stands = λ now. subst (λ d. StandsFor d h) (sym (as_it_was clean now)) (k.stands (opened clean now));
   }
 
-  left_before : HasCleanDisk (state new) → (trees : _) → (state new).may_leave trees → (state old).may_leave trees
+  left_before : HasCleanDisk (state_of new) → (trees : _) → (state_of new).may_leave trees → (state_of old).may_leave trees
   left_before clean trees left = no_more (was.part.survives.crash (clean_lent clean) trees (no_more (was.after.crash clean trees left)))
 
-  whole : HasCleanDisk (state new) → IsWhole (state old) → IsWhole (state new)
+  whole : HasCleanDisk (state_of new) → IsWhole (state_of old) → IsWhole (state_of new)
   whole clean w = record { host = w.host; sound = w.sound; keeps = kept clean w.host w.keeps; crash = λ trees left. w.crash trees (left_before clean trees left) }
 
-  pub read_by : Reads (keeping_by state) old new (λ h. IfOk r (P h))
+  pub read_by : Reads (keeping_by state_of) old new (λ h. IfOk r (P h))
   read_by = record {
     on = record { past = clean_old; served = opened; stays = λ steady. steady; whole = whole };
     same = kept;
@@ -84,12 +87,23 @@ module _ {K : Type 0} (state : K → State) (old new : K) {A : Type 0} {IsUnsoun
       committed = was.settled was.ended;
       stands = λ before. subst (λ d. StandsFor d h) (as_it_was clean now) (k.stands now);
     };
-    tells = λ clean h k. found r (P h) (Rests (begun_of (state old)) lent) (IsUnsound h) (was.finds (clean_lent clean) refl h k.stands);
+    tells = λ clean h k. found r (P h) (Rests (begun_of (state_of old)) lent) (IsUnsound h) (was.finds (clean_lent clean) refl h k.stands);
     crash = λ clean left l. record { trees = l.trees; left = left_before clean l.trees l.left; stands = l.stands };
   }
 
-  pub errs_by : Errs (keeping_by state) old new IsUnsound r
+  pub errs_by : Errs (keeping_by state_of) old new IsUnsound r
   errs_by = record {
     never = λ steady. absurd steady;
-    no_record = λ is clean h k. unfound r (λ x. P h x × Rests (begun_of (state old)) lent) (IsUnsound h) is (was.finds (clean_lent clean) refl h k.stands);
+    no_record = λ is clean h k. unfound r (λ x. P h x × Rests (begun_of (state_of old)) lent) (IsUnsound h) is (was.finds (clean_lent clean) refl h k.stands);
   }
+
+-- a keeper's read, by what a read answers in a transaction that it is lent, and that is rolled back then
+pub read_in : {S K A : Type 0} (g : Ghosts S) (conn : K → Held S) (old new : K) {tx lent : MutBor (Held S)} {IsUnsound : Host → Type 0} (P : Host → A → Type 0) (r : Result A KeepError)
+    → (conn old).in_transaction ≡ false → ((conn old).in_transaction ≡ false → IsTrue (state g (conn old)).is_open → (state g (conn old)).now ≡ (state g (conn old)).committed)
+    → tx.now ≡ record (conn old) { in_transaction = true } → Lends g tx lent (is_ok r) → FindsBy g tx lent IsUnsound r P
+    → (HasCleanDisk (state g (conn new)) → IsRolledBack (state g lent.now) (state g (conn new))) → Survives (state g lent.now) (state g (conn new)) (λ _. ⊥)
+    → record { reads : Reads (keeping_by (λ k. state g (conn k))) old new (λ h. IfOk r (P h)); errs : Errs (keeping_by (λ k. state g (conn k))) old new IsUnsound r }
+read_in {S} g conn old new {tx} {lent} {IsUnsound} P r ended settled begun lends finds undone after =
+    let was = was_read (state g (conn old)) r ended settled (subst (λ (h : Held S). IsLent (state g h) (state g lent.now) (is_ok r)) begun lends.leaves) undone after
+    (subst (λ (h : Held S). FindsIn IsUnsound (state g h) (state g lent.now) r P) begun finds) in
+    record { reads = read_by (λ k. state g (conn k)) old new was; errs = errs_by (λ k. state g (conn k)) old new was }

@@ -1,7 +1,7 @@
-pub mod Asking
 pub mod Handings
 pub mod KeeperReads
 pub mod PageHandings
 pub mod SheetPages
+pub mod ShutStores
 pub mod TooMany
 pub mod Walks

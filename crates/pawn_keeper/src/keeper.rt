@@ -5,7 +5,7 @@ ghost use Rattle.pawn_book.specs.Keeping.{Reads};
 ghost use Rattle.pawn_tables.specs.Keeps.{keeping_by};
 
 mod handing;
-mod places;
+mod lists;
 mod sheets;
 
 use one_table::know_settled;

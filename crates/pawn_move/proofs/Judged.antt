@@ -8,7 +8,7 @@ use Rattle.pawn_book.specs.declared.fault.KeepError.{KeepError}
 use Rattle.one_table.specs.Lending.{IsLent, Rests}
 use Rattle.one_table.proofs.Lent.{clean_before, rests_then}
 use Rattle.pawn_saving.specs.Writing.{IsCarried}
-use Rattle.pawn_saving.proofs.Tailing.{carried_none, carried_then, past}
+use Rattle.pawn_saving.proofs.RowsInOrder.{carried_none, carried_then, past}
 use Rattle.pawn_tables.specs.Finding.{Finds, FindsOf}
 use Rattle.pawn_tables.specs.StandsFor.{ListDebts}
 use Rattle.pawn_move.specs.Moving.{AreOwedIn, IsNextJudged, ListFirstDebts}

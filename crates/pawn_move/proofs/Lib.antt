@@ -1,4 +1,5 @@
 pub mod AllFilled
+pub mod BooksUpTo
 pub mod Filled
 pub mod Judged
 pub mod JudgedUpto
@@ -9,5 +10,4 @@ pub mod Migrates
 pub mod Moved
 pub mod Owed
 pub mod Reading
-pub mod Told
-pub mod Upto
+pub mod ToldSchema

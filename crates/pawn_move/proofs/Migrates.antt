@@ -21,7 +21,7 @@ use Rattle.pawn_opening.specs.Refusing.{NotesSchema}
 use Rattle.pawn_tables.specs.Finding.{Finds}
 use Rattle.pawn_tables.specs.OneHost.{StandForOne}
 use Rattle.pawn_tables.specs.StandsFor.{StandsFor, HoldHost}
-use Rattle.pawn_move.proofs.Told.{third_is_ours}
+use Rattle.pawn_move.proofs.ToldSchema.{third_is_ours}
 use Rattle.pawn_move.specs.declared.fault.MoveFault.{MoveFault}
 use Rattle.pawn_move.specs.declared.fault.MoveFault.TheVariants.{NotOurs, NewerSchema, Damaged, Store, Memory}
 use Rattle.pawn_move.specs.Migrating.{HoldMoved, HoldSameHost, IsFailure, IsMoved, IsNotOurs, IsUnmovable, IsUntellable, Migrates, MigratesOwed, MovesStore, MovesStoreOwed, TellsNumber, move_fault_of}

@@ -12,7 +12,7 @@ use Rattle.pawn_tables.specs.Rows.{extension_cells, extensions_listed, number_in
 use Rattle.one_table.specs.Listing.{Holds}
 use Rattle.pawn_move.proofs.Filled.{firsts, untold}
 use Rattle.pawn_move.proofs.Reading.{handed}
-use Rattle.pawn_move.proofs.Upto.{Entry, below_key, here_found, low, past_head}
+use Rattle.pawn_move.proofs.BooksUpTo.{Entry, below_key, here_found, low, past_head}
 use Rattle.sqlite.specs.Order.{Row}
 use Rattle.sqlite.specs.Effect.{Database as Tables}
 use Rattle.sqlite.specs.State.{State, HasCleanDisk}
@@ -25,7 +25,7 @@ use Rattle.one_table.specs.Lending.{IsLent, Rests}
 use Rattle.one_table.specs.Listing.{Lists, with_rows}
 use Rattle.one_table.proofs.Lent.{clean_before}
 use Rattle.pawn_saving.specs.Writing.{IsCarried}
-use Rattle.pawn_saving.proofs.Tailing.{past}
+use Rattle.pawn_saving.proofs.RowsInOrder.{past}
 use Rattle.pawn_tables.specs.Finding.{Finds, FindsOf}
 use Rattle.pawn_tables.specs.Rows.{totals_listed}
 use Rattle.pawn_tables.specs.Schema.{keep_schema}

@@ -18,7 +18,7 @@ use Rattle.one_table.proofs.Lent.{clean_before}
 use Rattle.pawn_tables.specs.Finding.{FindsOf}
 use Rattle.pawn_tables.specs.Rows.{totals_cells, totals_listed, under}
 use Rattle.pawn_tables.specs.StandsFor.{AreBooksOrdered, ListDebts}
-use Rattle.pawn_tables.specs.Told.{credit_told, totals_in}
+use Rattle.pawn_tables.specs.PledgeRows.{credit_told, totals_in}
 use Rattle.pawn_tables.specs.declared.credits.Credit.{Credit}
 use Rattle.pawn_tables.proofs.PledgeReads.{holds_in, number_in, under_in}
 use Rattle.pawn_move.specs.Moving.{ListFirstDebts, rows_if_any}

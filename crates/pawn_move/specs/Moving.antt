@@ -19,7 +19,7 @@ use Rattle.pawn_tables.specs.Finding.{Finds}
 use Rattle.pawn_tables.specs.Rows.{totals_listed}
 use Rattle.pawn_tables.specs.Ours.{ListsOurs}
 use Rattle.pawn_tables.specs.Schema.{extensions_tree, totals_tree}
-use Rattle.pawn_tables.specs.Told.{totals_in}
+use Rattle.pawn_tables.specs.PledgeRows.{totals_in}
 use Rattle.pawn_tables.specs.StandsFor.{AreBooksOrdered, AreStorable, ListDebts, StandsFor, of_pledges}
 use Rattle.pawn_move.specs.StandsUnder.{HasNoExtension, StandsUnder, listed_under}
 

@@ -2,7 +2,7 @@ ghost use Rattle.std.specs.Prelude.{◌≡◌, None, is_ok};
 ghost use Rattle.std.specs.FinMap.{get};
 ghost use Rattle.sqlite.specs.Held.{state};
 ghost use Rattle.pawn_book.specs.Sound.{HasUnsoundBook, IsUnsoundAt};
-ghost use Rattle.one_table.specs.Lending.{IsLent};
+ghost use Rattle.one_table.specs.Lending.{Lends};
 ghost use Rattle.pawn_saving.specs.Writing.{IsCarried};
 ghost use Rattle.pawn_tables.specs.Finding.{FindsOf};
 ghost use Rattle.pawn_move.specs.Moving.{AreAllOwed, AreOwedIn, IsJudgedAt, IsNextJudged, ListFirstDebts};
@@ -21,11 +21,9 @@ pub(crate) fn judge_pledge<S: Alter>(
     book: u32,
     number: u32,
 ) -> Result<bool, KeepError>
-    ensures same_reference { tx.new.conn.ghost_name ≡ tx.old.conn.ghost_name }
     ensures judges { FindsOf ListFirstDebts (IsUnsoundAt book) (state S.Store tx.old.conn.now)
         (state S.Store tx.new.conn.now) result (λ h stands. IsJudgedAt h book number stands) }
-    ensures lent { IsLent (state S.Store tx.old.conn.now) (state S.Store tx.new.conn.now)
-        (is_ok result) }
+    ensures lent { Lends S.Store tx.old.conn tx.new.conn (is_ok result) }
 {
     match totals_for(tx, alloc, book, number) {
         Ok(totals) => Ok(totals.is_some()),
@@ -59,11 +57,9 @@ pub(crate) fn judge_next<S: Alter>(
     alloc: Global,
     above: u32,
 ) -> Result<Option<Number>, KeepError>
-    ensures same_reference { tx.new.conn.ghost_name ≡ tx.old.conn.ghost_name }
     ensures judges { FindsOf ListFirstDebts HasUnsoundBook (state S.Store tx.old.conn.now)
         (state S.Store tx.new.conn.now) result (λ h next. IsNextJudged h above next) }
-    ensures lent { IsLent (state S.Store tx.old.conn.now) (state S.Store tx.new.conn.now)
-        (is_ok result) }
+    ensures lent { Lends S.Store tx.old.conn tx.new.conn (is_ok result) }
 {
     let Some(book) = next_in(tx, above)? else {
         return Ok(None);

@@ -1,8 +1,8 @@
-ghost use Rattle.std.specs.Prelude.{◌≡◌, ◌≢◌, Ok, Err, is_ok};
+ghost use Rattle.std.specs.Prelude.{◌≢◌, Ok, Err, is_ok};
 ghost use Rattle.sqlite.specs.Held.{state};
 ghost use Rattle.pawn_book.specs.declared.fault.KeepError.TheVariants as Keeper;
 ghost use Rattle.pawn_book.specs.declared.fault.StoreFault.TheVariants.{NoRecord};
-ghost use Rattle.one_table.specs.Lending.{IsLent};
+ghost use Rattle.one_table.specs.Lending.{Lends};
 ghost use Rattle.pawn_tables.specs.Schema.{first_schema, second_schema, keep_schema, extensions_tree, totals_tree};
 ghost use Rattle.pawn_opening.specs.Indexing.{AddsIndexes};
 ghost use Rattle.pawn_opening.specs.Laying.{AddsTable};
@@ -16,12 +16,10 @@ use sqlite::{Alter, Transaction, params};
 
 /// Adds the table of totals to those of the first schema. It has no rows.
 pub(crate) fn make_totals<S: Alter>(tx: &mut Transaction<'_, S>) -> Result<(), KeepError>
-    ensures same_reference { tx.new.conn.ghost_name ≡ tx.old.conn.ghost_name }
     ensures made { AddsTable (state S.Store tx.old.conn.now)
         (state S.Store tx.new.conn.now) result first_schema second_schema totals_tree }
     ensures no_row { result ≢ Err (Keeper.Store NoRecord) }
-    ensures lent { IsLent (state S.Store tx.old.conn.now) (state S.Store tx.new.conn.now)
-        (is_ok result) }
+    ensures lent { Lends S.Store tx.old.conn tx.new.conn (is_ok result) }
 {
     match pawn_opening::make_totals(tx) {
         Ok(()) => Ok(()),
@@ -31,12 +29,10 @@ pub(crate) fn make_totals<S: Alter>(tx: &mut Transaction<'_, S>) -> Result<(), K
 
 /// Adds the table of extensions to those of the second schema. It has no rows.
 pub(crate) fn make_extensions<S: Alter>(tx: &mut Transaction<'_, S>) -> Result<(), KeepError>
-    ensures same_reference { tx.new.conn.ghost_name ≡ tx.old.conn.ghost_name }
     ensures made { AddsTable (state S.Store tx.old.conn.now)
         (state S.Store tx.new.conn.now) result second_schema keep_schema extensions_tree }
     ensures no_row { result ≢ Err (Keeper.Store NoRecord) }
-    ensures lent { IsLent (state S.Store tx.old.conn.now) (state S.Store tx.new.conn.now)
-        (is_ok result) }
+    ensures lent { Lends S.Store tx.old.conn tx.new.conn (is_ok result) }
 {
     match pawn_opening::make_extensions(tx) {
         Ok(()) => Ok(()),
@@ -46,24 +42,20 @@ pub(crate) fn make_extensions<S: Alter>(tx: &mut Transaction<'_, S>) -> Result<(
 
 /// Notes the number of the program's schema.
 fn note_schema<S: Alter>(tx: &mut Transaction<'_, S>) -> Result<(), KeepError>
-    ensures same_reference { tx.new.conn.ghost_name ≡ tx.old.conn.ghost_name }
     ensures noted { NotesProgram (state S.Store tx.old.conn.now)
         (state S.Store tx.new.conn.now) result }
     ensures no_row { result ≢ Err (Keeper.Store NoRecord) }
-    ensures lent { IsLent (state S.Store tx.old.conn.now) (state S.Store tx.new.conn.now)
-        (is_ok result) }
+    ensures lent { Lends S.Store tx.old.conn tx.new.conn (is_ok result) }
 {
     write(tx, SET_SCHEMA, params![SCHEMA])
 }
 
 /// Makes the program's indexes, once its tables are there.
 fn make_indexes<S: Alter>(tx: &mut Transaction<'_, S>) -> Result<(), KeepError>
-    ensures same_reference { tx.new.conn.ghost_name ≡ tx.old.conn.ghost_name }
     ensures adds { AddsIndexes (state S.Store tx.old.conn.now)
         (state S.Store tx.new.conn.now) result }
     ensures no_row { result ≢ Err (Keeper.Store NoRecord) }
-    ensures lent { IsLent (state S.Store tx.old.conn.now) (state S.Store tx.new.conn.now)
-        (is_ok result) }
+    ensures lent { Lends S.Store tx.old.conn tx.new.conn (is_ok result) }
 {
     match pawn_opening::make_indexes(tx, Lacking::Both) {
         Ok(()) => Ok(()),
@@ -74,12 +66,10 @@ fn make_indexes<S: Alter>(tx: &mut Transaction<'_, S>) -> Result<(), KeepError>
 /// Notes the number of the program's schema, and makes its indexes.
 #[tactic(auto, using(crate::proofs::Lent::lent_then))]
 pub(crate) fn finish<S: Alter>(tx: &mut Transaction<'_, S>) -> Result<(), KeepError>
-    ensures same_reference { tx.new.conn.ghost_name ≡ tx.old.conn.ghost_name }
     ensures noted { NotesProgram (state S.Store tx.old.conn.now)
         (state S.Store tx.new.conn.now) result }
     ensures no_row { result ≢ Err (Keeper.Store NoRecord) }
-    ensures lent { IsLent (state S.Store tx.old.conn.now) (state S.Store tx.new.conn.now)
-        (is_ok result) }
+    ensures lent { Lends S.Store tx.old.conn tx.new.conn (is_ok result) }
 {
     note_schema(tx)?;
     make_indexes(tx)

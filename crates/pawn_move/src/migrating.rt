@@ -1,6 +1,6 @@
 ghost use Rattle.std.specs.Prelude.{◌≡◌, ◌⊎◌, false, is_ok};
 ghost use Rattle.sqlite.specs.Held.{state};
-ghost use Rattle.one_table.specs.Lending.{IsLent};
+ghost use Rattle.one_table.specs.Lending.{Lends};
 ghost use Rattle.pawn_move.specs.Migrating.{Migrates, MigratesOwed, MovesStore, MovesStoreOwed};
 ghost use Rattle.pawn_move.specs.Moving.{Moves, MovesOwed};
 
@@ -21,13 +21,11 @@ fn move_tables<S: Alter>(
     from: u32,
 ) -> Result<(), KeepError>
     requires older { (from ≡ 1) ⊎ (from ≡ 2) }
-    ensures same_reference { tx.new.conn.ghost_name ≡ tx.old.conn.ghost_name }
     ensures moves { Moves from (state S.Store tx.old.conn.now)
         (state S.Store tx.new.conn.now) result }
     ensures judges { MovesOwed from (state S.Store tx.old.conn.now)
         (state S.Store tx.new.conn.now) result }
-    ensures lent { IsLent (state S.Store tx.old.conn.now) (state S.Store tx.new.conn.now)
-        (is_ok result) }
+    ensures lent { Lends S.Store tx.old.conn tx.new.conn (is_ok result) }
 {
     if from == 1 {
         move_first(tx, alloc)

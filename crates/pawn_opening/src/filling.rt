@@ -1,7 +1,7 @@
-ghost use Rattle.std.specs.Prelude.{◌≡◌, is_ok};
+ghost use Rattle.std.specs.Prelude.{is_ok};
 ghost use Rattle.sqlite.specs.Held.{state};
 ghost use Rattle.one_table.specs.Columns.{no_schema};
-ghost use Rattle.one_table.specs.Lending.{IsLent};
+ghost use Rattle.one_table.specs.Lending.{Lends};
 ghost use Rattle.pawn_tables.specs.Schema.{keep_schema};
 ghost use Rattle.pawn_opening.specs.Laying.{Makes};
 ghost use Rattle.pawn_opening.specs.Opened.{Fills};
@@ -15,11 +15,9 @@ use sqlite::{Alter, Error, Transaction};
 // Makes all tables of the program's schema, without rows.
 #[tactic(auto, using(crate::proofs::Lent::lent_then))]
 fn make_tables<S: Alter>(tx: &mut Transaction<'_, S>) -> Result<(), Error>
-    ensures same_reference { tx.new.conn.ghost_name ≡ tx.old.conn.ghost_name }
     ensures made { Makes (state S.Store tx.old.conn.now)
         (state S.Store tx.new.conn.now) result no_schema keep_schema }
-    ensures lent { IsLent (state S.Store tx.old.conn.now) (state S.Store tx.new.conn.now)
-        (is_ok result) }
+    ensures lent { Lends S.Store tx.old.conn tx.new.conn (is_ok result) }
 {
     make_books(tx)?;
     make_lists(tx)?;
@@ -30,11 +28,9 @@ fn make_tables<S: Alter>(tx: &mut Transaction<'_, S>) -> Result<(), Error>
 /// the limit.
 #[tactic(auto, using(crate::proofs::Lent::lent_then))]
 pub(crate) fn fill<S: Alter>(tx: &mut Transaction<'_, S>, limit: u32) -> Result<(), Error>
-    ensures same_reference { tx.new.conn.ghost_name ≡ tx.old.conn.ghost_name }
     ensures filled { Fills (state S.Store tx.old.conn.now)
         (state S.Store tx.new.conn.now) limit result }
-    ensures lent { IsLent (state S.Store tx.old.conn.now) (state S.Store tx.new.conn.now)
-        (is_ok result) }
+    ensures lent { Lends S.Store tx.old.conn tx.new.conn (is_ok result) }
 {
     make_tables(tx)?;
     note(tx, "limit", limit)?;

@@ -1,6 +1,6 @@
 ghost use Rattle.std.specs.Prelude.{◌≡◌, false, is_ok};
 ghost use Rattle.sqlite.specs.Held.{state};
-ghost use Rattle.one_table.specs.Lending.{IsLent};
+ghost use Rattle.one_table.specs.Lending.{Lends};
 ghost use Rattle.pawn_opening.specs.Indexing.{AddsIndexes};
 ghost use Rattle.pawn_opening.specs.Opened.{IndexesStore};
 
@@ -27,11 +27,9 @@ pub enum Lacking {
 /// was refused.
 #[tactic(auto, using(crate::proofs::Lent::lent_then))]
 pub fn make_indexes<S: Alter>(tx: &mut Transaction<'_, S>, lacking: Lacking) -> Result<(), Error>
-    ensures same_reference { tx.new.conn.ghost_name ≡ tx.old.conn.ghost_name }
     ensures adds { AddsIndexes (state S.Store tx.old.conn.now)
         (state S.Store tx.new.conn.now) result }
-    ensures lent { IsLent (state S.Store tx.old.conn.now) (state S.Store tx.new.conn.now)
-        (is_ok result) }
+    ensures lent { Lends S.Store tx.old.conn tx.new.conn (is_ok result) }
 {
     match lacking {
         Lacking::PledgesByEnd => run(tx, MAKE_PLEDGES_BY_END, &[]),

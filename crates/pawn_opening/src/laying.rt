@@ -1,7 +1,7 @@
-ghost use Rattle.std.specs.Prelude.{◌≡◌, is_ok};
+ghost use Rattle.std.specs.Prelude.{is_ok};
 ghost use Rattle.sqlite.specs.Held.{state};
 ghost use Rattle.one_table.specs.Columns.{no_schema};
-ghost use Rattle.one_table.specs.Lending.{IsLent};
+ghost use Rattle.one_table.specs.Lending.{Lends};
 ghost use Rattle.pawn_tables.specs.Schema.{first_schema, keep_schema, second_schema, extensions_tree, totals_tree};
 ghost use Rattle.pawn_opening.specs.Laying.{AddsTable, Makes, first_three, first_six};
 
@@ -15,11 +15,9 @@ use sqlite::{Alter, Error, Transaction};
 /// Makes the tables of books, terms and pledges.
 #[tactic(auto, using(crate::proofs::Lent::lent_then))]
 pub(crate) fn make_books<S: Alter>(tx: &mut Transaction<'_, S>) -> Result<(), Error>
-    ensures same_reference { tx.new.conn.ghost_name ≡ tx.old.conn.ghost_name }
     ensures made { Makes (state S.Store tx.old.conn.now)
         (state S.Store tx.new.conn.now) result no_schema first_three }
-    ensures lent { IsLent (state S.Store tx.old.conn.now) (state S.Store tx.new.conn.now)
-        (is_ok result) }
+    ensures lent { Lends S.Store tx.old.conn tx.new.conn (is_ok result) }
 {
     run(tx, MAKE_BOOKS, &[])?;
     run(tx, MAKE_TERMS, &[])?;
@@ -29,11 +27,9 @@ pub(crate) fn make_books<S: Alter>(tx: &mut Transaction<'_, S>) -> Result<(), Er
 /// Makes the tables of entries, secrets and bookings.
 #[tactic(auto, using(crate::proofs::Lent::lent_then))]
 pub(crate) fn make_lists<S: Alter>(tx: &mut Transaction<'_, S>) -> Result<(), Error>
-    ensures same_reference { tx.new.conn.ghost_name ≡ tx.old.conn.ghost_name }
     ensures made { Makes (state S.Store tx.old.conn.now)
         (state S.Store tx.new.conn.now) result first_three first_six }
-    ensures lent { IsLent (state S.Store tx.old.conn.now) (state S.Store tx.new.conn.now)
-        (is_ok result) }
+    ensures lent { Lends S.Store tx.old.conn tx.new.conn (is_ok result) }
 {
     run(tx, MAKE_ENTRIES, &[])?;
     run(tx, MAKE_SECRETS, &[])?;
@@ -43,11 +39,9 @@ pub(crate) fn make_lists<S: Alter>(tx: &mut Transaction<'_, S>) -> Result<(), Er
 /// Makes the tables `meta`, which holds what the store notes, `totals` and `extensions`.
 #[tactic(auto, using(crate::proofs::Lent::lent_then))]
 pub(crate) fn make_notes<S: Alter>(tx: &mut Transaction<'_, S>) -> Result<(), Error>
-    ensures same_reference { tx.new.conn.ghost_name ≡ tx.old.conn.ghost_name }
     ensures made { Makes (state S.Store tx.old.conn.now)
         (state S.Store tx.new.conn.now) result first_six keep_schema }
-    ensures lent { IsLent (state S.Store tx.old.conn.now) (state S.Store tx.new.conn.now)
-        (is_ok result) }
+    ensures lent { Lends S.Store tx.old.conn tx.new.conn (is_ok result) }
 {
     run(tx, MAKE_META, &[])?;
     make_totals(tx)?;
@@ -56,22 +50,18 @@ pub(crate) fn make_notes<S: Alter>(tx: &mut Transaction<'_, S>) -> Result<(), Er
 
 /// Adds the table of totals to those of the first schema, within a transaction. It has no rows.
 pub fn make_totals<S: Alter>(tx: &mut Transaction<'_, S>) -> Result<(), Error>
-    ensures same_reference { tx.new.conn.ghost_name ≡ tx.old.conn.ghost_name }
     ensures made { AddsTable (state S.Store tx.old.conn.now)
         (state S.Store tx.new.conn.now) result first_schema second_schema totals_tree }
-    ensures lent { IsLent (state S.Store tx.old.conn.now) (state S.Store tx.new.conn.now)
-        (is_ok result) }
+    ensures lent { Lends S.Store tx.old.conn tx.new.conn (is_ok result) }
 {
     run(tx, MAKE_TOTALS, &[])
 }
 
 /// Adds the table of extensions to those of the second schema, within a transaction. It has no rows.
 pub fn make_extensions<S: Alter>(tx: &mut Transaction<'_, S>) -> Result<(), Error>
-    ensures same_reference { tx.new.conn.ghost_name ≡ tx.old.conn.ghost_name }
     ensures made { AddsTable (state S.Store tx.old.conn.now)
         (state S.Store tx.new.conn.now) result second_schema keep_schema extensions_tree }
-    ensures lent { IsLent (state S.Store tx.old.conn.now) (state S.Store tx.new.conn.now)
-        (is_ok result) }
+    ensures lent { Lends S.Store tx.old.conn tx.new.conn (is_ok result) }
 {
     run(tx, MAKE_EXTENSIONS, &[])
 }

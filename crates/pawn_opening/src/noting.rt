@@ -1,6 +1,6 @@
-ghost use Rattle.std.specs.Prelude.{◌≡◌, is_ok};
+ghost use Rattle.std.specs.Prelude.{is_ok};
 ghost use Rattle.sqlite.specs.Held.{state};
-ghost use Rattle.one_table.specs.Lending.{IsLent};
+ghost use Rattle.one_table.specs.Lending.{Lends};
 ghost use Rattle.pawn_tables.specs.Meta.{meta_row};
 ghost use Rattle.pawn_opening.specs.Laying.{Notes};
 
@@ -14,11 +14,9 @@ pub(crate) fn note<S: Alter>(
     name: &str,
     value: u32,
 ) -> Result<(), Error>
-    ensures same_reference { tx.new.conn.ghost_name ≡ tx.old.conn.ghost_name }
     ensures noted { Notes (state S.Store tx.old.conn.now) (state S.Store tx.new.conn.now) result
         (meta_row name.now value) }
-    ensures lent { IsLent (state S.Store tx.old.conn.now) (state S.Store tx.new.conn.now)
-        (is_ok result) }
+    ensures lent { Lends S.Store tx.old.conn tx.new.conn (is_ok result) }
 {
     run(tx, PUT_NOTE, params![name, value])
 }

@@ -18,7 +18,7 @@ use Rattle.pawn_tables.specs.Ours.{ListsOurs}
 use Rattle.pawn_tables.specs.At.{at_book}
 use Rattle.pawn_tables.specs.Rows.{number, placed_from, book_row, terms_cells, terms_listed, pledge_listed, entries_listed, secrets_listed, booking_listed, totals_listed, extensions_listed}
 use Rattle.pawn_tables.specs.StandsFor.{of_books}
-use Rattle.pawn_tables.proofs.Sought.{equals, of_one_book, rows_at}
+use Rattle.pawn_tables.proofs.RowsUnderKey.{equals, of_one_book, rows_at}
 use Rattle.pawn_saving.specs.Counted.{listed_as, ListsHost, IsWrittenPart}
 use Rattle.pawn_saving.specs.Writing.{IsOnly}
 use Rattle.pawn_saving.proofs.Hosting.{AreSame, relisted}

@@ -31,7 +31,7 @@ use Rattle.pawn_tables.specs.At.{at_book, at_pledge}
 use Rattle.pawn_tables.specs.Rows.{at_most_one, book_row, booking_cells, booking_listed, entries_listed, extensions_listed, number, number_in_book, placed_from, pledge_listed, secrets_listed, terms_cells, terms_listed, totals_listed, under}
 use Rattle.pawn_tables.specs.StandsFor.{of_books, of_pledges, AreBooksOrdered}
 use Rattle.pawn_tables.proofs.PledgeReads.{under_booked}
-use Rattle.pawn_tables.proofs.Sought.{equals, filter-append, flat_none, of_one_pledge, rows_at}
+use Rattle.pawn_tables.proofs.RowsUnderKey.{equals, filter-append, flat_none, of_one_pledge, rows_at}
 use Rattle.pawn_saving.specs.Counted.{IsWrittenPart, listed_as, ListsHost}
 use Rattle.pawn_saving.specs.Importing.{whole_pledges}
 use Rattle.pawn_saving.specs.Putting.{beside, booking_under, whole_pledge}
@@ -39,7 +39,7 @@ use Rattle.pawn_saving.specs.Writing.{IsCarried, IsOnly}
 use Rattle.pawn_saving.proofs.BookChanges.{books_only}
 use Rattle.pawn_saving.proofs.Changing.{replaced}
 use Rattle.pawn_saving.proofs.Hosting.{AreSame, relisted}
-use Rattle.pawn_saving.proofs.Tailing.{carried_none, carried_then, take_all}
+use Rattle.pawn_saving.proofs.RowsInOrder.{carried_none, carried_then, take_all}
 
 -- ---- no booking of the next pledge stands among those before it
 

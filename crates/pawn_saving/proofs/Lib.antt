@@ -1,5 +1,5 @@
 pub mod BookChanges
-pub mod BookPuts
+pub mod BookStatements
 pub mod Changing
 pub mod Counter
 pub mod Differing
@@ -10,11 +10,11 @@ pub mod Lent
 pub mod OurTables
 pub mod Places
 pub mod PledgeChanges
+pub mod PledgePartWrites
+pub mod PledgeStatements
 pub mod PledgeWrites
-pub mod Puts
-pub mod RowPuts
+pub mod RowsInOrder
 pub mod Saved
+pub mod StatementWrites
 pub mod StoredReads
-pub mod Tailing
-pub mod WholePuts
 pub mod WriteTexts

@@ -21,7 +21,7 @@ use Rattle.one_table.proofs.Rowed.{swapped}
 use Rattle.pawn_tables.specs.At.{at_book, at_pledge}
 use Rattle.pawn_tables.specs.Rows.{book_row, import_count, import_key, number, or_null, terms_listed, word}
 use Rattle.pawn_tables.specs.StandsFor.{of_books, of_pledges, AreBooksOrdered}
-use Rattle.pawn_tables.proofs.Sought.{AreUnder, all_under, filter-append, of_one_pledge, rows_at}
+use Rattle.pawn_tables.proofs.RowsUnderKey.{AreUnder, all_under, filter-append, of_one_pledge, rows_at}
 use Rattle.pawn_tables.proofs.PledgeReads.{number_in}
 use Rattle.pawn_saving.specs.Counted.{listed_as}
 use Rattle.pawn_saving.specs.Writing.{IsOnly}

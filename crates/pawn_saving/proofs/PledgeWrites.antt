@@ -25,7 +25,7 @@ use Rattle.pawn_tables.specs.Schema.{bookings_tree, pledges_tree}
 use Rattle.pawn_tables.specs.At.{at_pledge}
 use Rattle.pawn_tables.specs.Rows.{book_row, booking_listed, entries_listed, entry_cells, extension_cells, extensions_listed, placed_from, pledge_listed, secret_cells, secrets_listed, totals_listed, under}
 use Rattle.pawn_tables.specs.StandsFor.{of_pledges, AreBooksOrdered}
-use Rattle.pawn_tables.proofs.Sought.{rows_at}
+use Rattle.pawn_tables.proofs.RowsUnderKey.{rows_at}
 use Rattle.pawn_tables.proofs.PledgeReads.{number_in, under_booked}
 use Rattle.pawn_saving.specs.Counted.{IsWrittenPart, listed_as, ListsHost}
 use Rattle.pawn_saving.specs.declared.lengths.Lengths.{Lengths}
@@ -36,7 +36,7 @@ use Rattle.pawn_saving.proofs.PledgeChanges.{after_put, before_put, books_after,
 module _ (h : Host) (b n : ℕ) (k : BookValue) (p : PledgeValue) (is : get h.books b ≡ Some k) where
   -- no booking of a pledge stands that doesn't
   pub none_booked : AreBooksOrdered h → stood h b n k p is ≡ None → filter (at_pledge b n) (of_pledges h booking_listed) ≡ []
-  none_booked ordered none = Rattle.pawn_tables.proofs.Sought.of_one_pledge h b n booking_listed ordered (λ m q. under_booked m q.agreement.number q.standing.booking) ∙ ap (λ o. rows_at (pledge_in o n) (booking_listed b)) is ∙ ap (λ o. rows_at o (booking_listed b)) none
+  none_booked ordered none = Rattle.pawn_tables.proofs.RowsUnderKey.of_one_pledge h b n booking_listed ordered (λ m q. under_booked m q.agreement.number q.standing.booking) ∙ ap (λ o. rows_at (pledge_in o n) (booking_listed b)) is ∙ ap (λ o. rows_at o (booking_listed b)) none
 
   -- a new pledge
   module _ (counted : ℕ) (none : stood h b n k p is ≡ None) where

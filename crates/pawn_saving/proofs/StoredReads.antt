@@ -27,7 +27,7 @@ use Rattle.pawn_saving.specs.Stored.{AreLengths, IsStored, IsLengthWithin}
 use Rattle.pawn_saving.specs.Writing.{IsCarried}
 use Rattle.pawn_saving.proofs.Lent.{clean_before, rests_then}
 use Rattle.pawn_saving.proofs.PledgeWrites.{continues_it}
-use Rattle.pawn_saving.proofs.Tailing.{carried_none, carried_then}
+use Rattle.pawn_saving.proofs.RowsInOrder.{carried_none, carried_then}
 
 -- ---- an element stands at each place up to the length of a list
 

@@ -7,7 +7,7 @@ use Rattle.pawn_book.specs.Keeping.{entries_of, extensions_of, secrets_of}
 use Rattle.pawn_book.specs.Sound.{IsSound}
 use Rattle.one_table.specs.Lending.{Rests}
 use Rattle.pawn_tables.specs.StandsFor.{StandsFor}
-use Rattle.pawn_tables.specs.Told.{booking_of}
+use Rattle.pawn_tables.specs.PledgeRows.{booking_of}
 use Rattle.pawn_saving.specs.declared.lengths.Lengths.{Lengths}
 use Rattle.pawn_saving.specs.declared.stored.PledgeList.{PledgeList}
 use Rattle.pawn_saving.specs.declared.stored.PledgeList.TheVariants.{Entries, Secrets, Extensions}

@@ -4,7 +4,7 @@ ghost use Rattle.pawn_terms.specs.declared.terms.Rates.{Rates};
 ghost use Rattle.pawn_pledge.specs.Pledge.{PledgeValue};
 ghost use Rattle.pawn_book.specs.BookStep.{BookValue, filled_book, made_book};
 ghost use Rattle.pawn_book.specs.declared.rows.BookRows.{BookRows};
-ghost use Rattle.one_table.specs.Lending.{IsLent};
+ghost use Rattle.one_table.specs.Lending.{Lends};
 ghost use Rattle.pawn_tables.specs.At.{at_book};
 ghost use Rattle.pawn_tables.specs.Rows.{book_row, number, terms_cells};
 ghost use Rattle.pawn_saving.specs.Writing.{Joins, Replaces};
@@ -12,7 +12,7 @@ ghost use Rattle.pawn_tables.specs.Schema.{books_tree, terms_tree};
 
 use pawn_book::{KeepError, NewBook, Rates, Secret};
 use pawn_tables::texts::{PUT_BOOK, PUT_TERMS, SET_IMPORT, SET_PLEDGES_COUNT, SET_TERMS_COUNT};
-use pawn_tables::{small, write};
+use pawn_tables::{in_32_bits, write};
 use sqlite::{Alter, Transaction, params};
 
 /// Inserts the row of a new book.
@@ -21,11 +21,9 @@ pub(crate) fn put_book<S: Alter>(
     book: u32,
     new_book: &NewBook,
 ) -> Result<(), KeepError>
-    ensures same_reference { tx.new.conn.ghost_name ≡ tx.old.conn.ghost_name }
     ensures wrote { Joins (state S.Store tx.old.conn.now)
         (state S.Store tx.new.conn.now) result books_tree (book_row book (made_book new_book.now)) }
-    ensures lent { IsLent (state S.Store tx.old.conn.now) (state S.Store tx.new.conn.now)
-        (is_ok result) }
+    ensures lent { Lends S.Store tx.old.conn tx.new.conn (is_ok result) }
 {
     let key = new_book.key.word().to_be_bytes();
     let name = new_book.name.as_str();
@@ -39,12 +37,10 @@ pub(crate) fn set_terms_count<S: Alter>(
     book: u32,
     count: u32,
 ) -> Result<(), KeepError>
-    ensures same_reference { tx.new.conn.ghost_name ≡ tx.old.conn.ghost_name }
     ensures wrote { (k : BookValue) (terms : List Rates) → length terms ≡ count
         → Replaces (state S.Store tx.old.conn.now) (state S.Store tx.new.conn.now) result books_tree
         (at_book book) (book_row book k) (book_row book (record k { terms = terms })) }
-    ensures lent { IsLent (state S.Store tx.old.conn.now) (state S.Store tx.new.conn.now)
-        (is_ok result) }
+    ensures lent { Lends S.Store tx.old.conn tx.new.conn (is_ok result) }
 {
     write(tx, SET_TERMS_COUNT, params![book, count])
 }
@@ -55,12 +51,10 @@ pub(crate) fn set_pledges_count<S: Alter>(
     book: u32,
     count: u32,
 ) -> Result<(), KeepError>
-    ensures same_reference { tx.new.conn.ghost_name ≡ tx.old.conn.ghost_name }
     ensures wrote { (k : BookValue) (pledges : List PledgeValue) → length pledges ≡ count
         → Replaces (state S.Store tx.old.conn.now) (state S.Store tx.new.conn.now) result books_tree
         (at_book book) (book_row book k) (book_row book (record k { pledges = pledges })) }
-    ensures lent { IsLent (state S.Store tx.old.conn.now) (state S.Store tx.new.conn.now)
-        (is_ok result) }
+    ensures lent { Lends S.Store tx.old.conn tx.new.conn (is_ok result) }
 {
     write(tx, SET_PLEDGES_COUNT, params![book, count])
 }
@@ -73,13 +67,11 @@ pub(crate) fn set_import<S: Alter>(
     terms: u32,
     pledges: u32,
 ) -> Result<(), KeepError>
-    ensures same_reference { tx.new.conn.ghost_name ≡ tx.old.conn.ghost_name }
     ensures wrote { (k : BookValue) (rows : BookRows) → length rows.terms ≡ terms
         → length rows.pledges ≡ pledges
         → Replaces (state S.Store tx.old.conn.now) (state S.Store tx.new.conn.now) result books_tree
         (at_book book) (book_row book k) (book_row book (filled_book k key rows)) }
-    ensures lent { IsLent (state S.Store tx.old.conn.now) (state S.Store tx.new.conn.now)
-        (is_ok result) }
+    ensures lent { Lends S.Store tx.old.conn tx.new.conn (is_ok result) }
 {
     let word = key.word().to_be_bytes();
     write(
@@ -96,15 +88,13 @@ pub(crate) fn put_terms<S: Alter>(
     version: u32,
     rates: Rates,
 ) -> Result<(), KeepError>
-    ensures same_reference { tx.new.conn.ghost_name ≡ tx.old.conn.ghost_name }
     ensures wrote { Joins (state S.Store tx.old.conn.now)
         (state S.Store tx.new.conn.now) result terms_tree
         (number book ∷ number version ∷ terms_cells rates) }
-    ensures lent { IsLent (state S.Store tx.old.conn.now) (state S.Store tx.new.conn.now)
-        (is_ok result) }
+    ensures lent { Lends S.Store tx.old.conn tx.new.conn (is_ok result) }
 {
-    let rate = small(rates.rate)?;
-    let before = small(rates.keep_before)?;
-    let after = small(rates.keep_after)?;
+    let rate = in_32_bits(rates.rate)?;
+    let before = in_32_bits(rates.keep_before)?;
+    let after = in_32_bits(rates.keep_after)?;
     write(tx, PUT_TERMS, params![book, version, rate, before, after])
 }

@@ -1,7 +1,7 @@
-ghost use Rattle.std.specs.Prelude.{◌≡◌, is_ok};
+ghost use Rattle.std.specs.Prelude.{is_ok};
 ghost use Rattle.sqlite.specs.Held.{state};
 ghost use Rattle.pawn_book.specs.declared.change.Change.TheVariants.{AddTerms, MakeBook, PutPledge};
-ghost use Rattle.one_table.specs.Lending.{IsLent};
+ghost use Rattle.one_table.specs.Lending.{Lends};
 ghost use Rattle.pawn_saving.specs.Counted.{WritesRows};
 
 use crate::books::{put_book, put_terms, set_terms_count};
@@ -9,7 +9,7 @@ use crate::lengths::lengths_of;
 use crate::renewing::{add_pledge, renew_pledge};
 use crate::stored::stored_within;
 use pawn_book::{KeepError, NewBook, Number, Pledge, Terms};
-use pawn_tables::small;
+use pawn_tables::in_32_bits;
 use sqlite::{Alter, Transaction};
 
 /// Writes a new book. Returns how many counted rows that adds.
@@ -19,11 +19,9 @@ pub(crate) fn make_book<S: Alter>(
     book: Number,
     new_book: &NewBook,
 ) -> Result<u32, KeepError>
-    ensures same_reference { tx.new.conn.ghost_name ≡ tx.old.conn.ghost_name }
     ensures wrote { WritesRows (state S.Store tx.old.conn.now) (state S.Store tx.new.conn.now)
         (MakeBook book new_book.now) result }
-    ensures lent { IsLent (state S.Store tx.old.conn.now) (state S.Store tx.new.conn.now)
-        (is_ok result) }
+    ensures lent { Lends S.Store tx.old.conn tx.new.conn (is_ok result) }
 {
     put_book(tx, book.get(), new_book)?;
     Ok(1)
@@ -37,13 +35,11 @@ pub(crate) fn add_terms<S: Alter>(
     version: u64,
     terms: Terms,
 ) -> Result<u32, KeepError>
-    ensures same_reference { tx.new.conn.ghost_name ≡ tx.old.conn.ghost_name }
     ensures wrote { WritesRows (state S.Store tx.old.conn.now) (state S.Store tx.new.conn.now)
         (AddTerms book version terms) result }
-    ensures lent { IsLent (state S.Store tx.old.conn.now) (state S.Store tx.new.conn.now)
-        (is_ok result) }
+    ensures lent { Lends S.Store tx.old.conn tx.new.conn (is_ok result) }
 {
-    let version = small(version)?;
+    let version = in_32_bits(version)?;
     put_terms(tx, book.get(), version, terms.rates())?;
     set_terms_count(tx, book.get(), version)?;
     Ok(1)
@@ -57,11 +53,9 @@ pub(crate) fn put_pledge<S: Alter>(
     number: Number,
     pledge: &Pledge,
 ) -> Result<u32, KeepError>
-    ensures same_reference { tx.new.conn.ghost_name ≡ tx.old.conn.ghost_name }
     ensures wrote { WritesRows (state S.Store tx.old.conn.now) (state S.Store tx.new.conn.now)
         (PutPledge book number pledge.now) result }
-    ensures lent { IsLent (state S.Store tx.old.conn.now) (state S.Store tx.new.conn.now)
-        (is_ok result) }
+    ensures lent { Lends S.Store tx.old.conn tx.new.conn (is_ok result) }
 {
     let lengths = lengths_of(pledge)?;
     let stored = stored_within(tx, book.get(), number.get(), lengths)?;

@@ -1,7 +1,7 @@
 ghost use Rattle.std.specs.Prelude.{◌≡◌, ◌∷◌, ◌+◌, ◌<◌, ◌^◌, ℕ, IfOk, IsTrue, codes, is_ok};
 ghost use Rattle.sqlite.specs.Held.{state};
 ghost use Rattle.sqlite.specs.State.{HasCleanDisk};
-ghost use Rattle.one_table.specs.Lending.{IsLent, Rests};
+ghost use Rattle.one_table.specs.Lending.{Rests, Lends};
 ghost use Rattle.one_table.specs.Listing.{Listed, with_rows};
 ghost use Rattle.pawn_tables.specs.Ours.{ListsOurs};
 ghost use Rattle.pawn_tables.specs.Schema.{meta_tree};
@@ -11,12 +11,11 @@ ghost use Rattle.pawn_tables.specs.Meta.{meta_row, meta_rows, other_rows};
 use one_table::ask;
 use pawn_book::KeepError;
 use pawn_tables::texts::{ADD_ROWS, READ_LIMIT};
-use pawn_tables::{REFUSED, refused, small};
+use pawn_tables::{REFUSED, in_32_bits, refused};
 use sqlite::{Alter, Transaction, params};
 
 /// The stored limit on counted rows. One of 2^32 or more is a fault of the store.
 fn limit_in<S: Alter>(tx: &mut Transaction<'_, S>) -> Result<u32, KeepError>
-    ensures same_reference { tx.new.conn.ghost_name ≡ tx.old.conn.ghost_name }
     ensures found { HasCleanDisk (state S.Store tx.new.conn.now) → IsTrue
         (state S.Store tx.old.conn.now).in_transaction
         → (listed : Listed) (counted limit : ℕ) → listed meta_tree ≡ meta_rows counted limit
@@ -24,8 +23,7 @@ fn limit_in<S: Alter>(tx: &mut Transaction<'_, S>) -> Result<u32, KeepError>
         → IfOk result
         (λ n. (n ≡ limit) × Rests (state S.Store tx.old.conn.now) (state S.Store tx.new.conn.now)) }
     ensures in_range { IfOk result (λ n. n < 2 ^ 32) }
-    ensures lent { IsLent (state S.Store tx.old.conn.now) (state S.Store tx.new.conn.now)
-        (is_ok result) }
+    ensures lent { Lends S.Store tx.old.conn tx.new.conn (is_ok result) }
 {
     let rows = match ask(tx, READ_LIMIT, &[]) {
         Ok(rows) => rows,
@@ -35,14 +33,13 @@ fn limit_in<S: Alter>(tx: &mut Transaction<'_, S>) -> Result<u32, KeepError>
         return Err(REFUSED);
     };
     match row.get::<u64>(0) {
-        Ok(limit) => small(limit),
+        Ok(limit) => in_32_bits(limit),
         Err(error) => Err(refused(error)),
     }
 }
 
 /// Adds to the stored count of rows, and returns the new count.
 fn count_up<S: Alter>(tx: &mut Transaction<'_, S>, by: u32) -> Result<u64, KeepError>
-    ensures same_reference { tx.new.conn.ghost_name ≡ tx.old.conn.ghost_name }
     ensures wrote { HasCleanDisk (state S.Store tx.new.conn.now) → IsTrue
         (state S.Store tx.old.conn.now).in_transaction
         → (listed : Listed) (counted limit : ℕ) → listed meta_tree ≡ meta_rows counted limit
@@ -50,8 +47,7 @@ fn count_up<S: Alter>(tx: &mut Transaction<'_, S>, by: u32) -> Result<u64, KeepE
         → IfOk result (λ now. (now ≡ counted + by) × ListsOurs
         (state S.Store tx.new.conn.now).now
         (with_rows listed meta_tree (meta_row (codes "rows") now ∷ other_rows limit))) }
-    ensures lent { IsLent (state S.Store tx.old.conn.now) (state S.Store tx.new.conn.now)
-        (is_ok result) }
+    ensures lent { Lends S.Store tx.old.conn tx.new.conn (is_ok result) }
 {
     let row = match tx.query_row(ADD_ROWS, params![by]) {
         Ok(row) => row,
@@ -69,11 +65,9 @@ pub(crate) fn count_within<S: Alter>(
     tx: &mut Transaction<'_, S>,
     by: u32,
 ) -> Result<bool, KeepError>
-    ensures same_reference { tx.new.conn.ghost_name ≡ tx.old.conn.ghost_name }
     ensures counts { Counts (state S.Store tx.old.conn.now)
         (state S.Store tx.new.conn.now) by result }
-    ensures lent { IsLent (state S.Store tx.old.conn.now) (state S.Store tx.new.conn.now)
-        (is_ok result) }
+    ensures lent { Lends S.Store tx.old.conn tx.new.conn (is_ok result) }
 {
     let limit = limit_in(tx)?;
     let counted = count_up(tx, by)?;

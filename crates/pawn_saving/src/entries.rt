@@ -1,13 +1,13 @@
-ghost use Rattle.std.specs.Prelude.{◌≡◌, is_ok};
+ghost use Rattle.std.specs.Prelude.{is_ok};
 ghost use Rattle.sqlite.specs.Held.{state};
-ghost use Rattle.one_table.specs.Lending.{IsLent};
+ghost use Rattle.one_table.specs.Lending.{Lends};
 ghost use Rattle.pawn_tables.specs.Rows.{under, entry_cells, extension_cells, secret_cells};
 ghost use Rattle.pawn_saving.specs.Writing.{Joins};
 ghost use Rattle.pawn_tables.specs.Schema.{entries_tree, extensions_tree, secrets_tree};
 
 use pawn_book::{Entry, Extension, Issued, KeepError};
 use pawn_tables::texts::{PUT_ENTRY, PUT_EXTENSION, PUT_SECRET};
-use pawn_tables::{issue_number, small, sort_number, write};
+use pawn_tables::{in_32_bits, issue_number, sort_number, write};
 use sqlite::{Alter, Transaction, params};
 
 /// Inserts an entry of a pledge.
@@ -17,15 +17,13 @@ pub(crate) fn put_entry<S: Alter>(
     number: u32,
     entry: &Entry,
 ) -> Result<(), KeepError>
-    ensures same_reference { tx.new.conn.ghost_name ≡ tx.old.conn.ghost_name }
     ensures wrote { Joins (state S.Store tx.old.conn.now)
         (state S.Store tx.new.conn.now) result entries_tree
         (under book number (entry_cells entry.now)) }
-    ensures lent { IsLent (state S.Store tx.old.conn.now) (state S.Store tx.new.conn.now)
-        (is_ok result) }
+    ensures lent { Lends S.Store tx.old.conn tx.new.conn (is_ok result) }
 {
-    let seq = small(entry.seq)?;
-    let pence = small(entry.pence)?;
+    let seq = in_32_bits(entry.seq)?;
+    let pence = in_32_bits(entry.pence)?;
     let day = entry.day.count();
     let sort = sort_number(entry.sort);
     write(tx, PUT_ENTRY, params![book, number, seq, day, sort, pence])
@@ -39,12 +37,10 @@ pub(crate) fn put_secret<S: Alter>(
     place: u32,
     issued: &Issued,
 ) -> Result<(), KeepError>
-    ensures same_reference { tx.new.conn.ghost_name ≡ tx.old.conn.ghost_name }
     ensures wrote { Joins (state S.Store tx.old.conn.now)
         (state S.Store tx.new.conn.now) result secrets_tree
         (under book number (secret_cells place issued.now)) }
-    ensures lent { IsLent (state S.Store tx.old.conn.now) (state S.Store tx.new.conn.now)
-        (is_ok result) }
+    ensures lent { Lends S.Store tx.old.conn tx.new.conn (is_ok result) }
 {
     let day = issued.day.count();
     let sort = issue_number(issued.sort);
@@ -64,12 +60,10 @@ pub(crate) fn put_extension<S: Alter>(
     place: u32,
     extension: &Extension,
 ) -> Result<(), KeepError>
-    ensures same_reference { tx.new.conn.ghost_name ≡ tx.old.conn.ghost_name }
     ensures wrote { Joins (state S.Store tx.old.conn.now)
         (state S.Store tx.new.conn.now) result extensions_tree
         (under book number (extension_cells place extension.now)) }
-    ensures lent { IsLent (state S.Store tx.old.conn.now) (state S.Store tx.new.conn.now)
-        (is_ok result) }
+    ensures lent { Lends S.Store tx.old.conn tx.new.conn (is_ok result) }
 {
     let day = extension.day.count();
     let until = extension.until.count();

@@ -1,7 +1,7 @@
 ghost use Rattle.std.specs.Prelude.{◌≡◌, ◌+◌, IfOk, is_ok};
 ghost use Rattle.sqlite.specs.Held.{state};
 ghost use Rattle.pawn_book.specs.declared.change.Change.TheVariants.{ImportBook};
-ghost use Rattle.one_table.specs.Lending.{IsLent};
+ghost use Rattle.one_table.specs.Lending.{Lends};
 ghost use Rattle.pawn_tables.specs.Rows.{number_in_book};
 ghost use Rattle.pawn_saving.specs.Counted.{WritesRows};
 ghost use Rattle.pawn_saving.specs.Importing.{AddsPledges};
@@ -9,9 +9,9 @@ ghost use Rattle.pawn_saving.specs.Putting.{AddsPledge};
 ghost use Rattle.pawn_saving.specs.Writing.{IsCarried};
 
 use crate::books::set_import;
-use crate::lengths::short;
+use crate::lengths::length_in_32_bits;
+use crate::lists::put_versions;
 use crate::putting::put_whole;
-use crate::tails::put_versions;
 use pawn_book::{BookRows, KeepError, Number, Pledge, Secret};
 use pawn_pledge::Parts;
 use pawn_tables::REFUSED;
@@ -31,7 +31,7 @@ fn as_pledge(parts: &Parts) -> Result<Pledge, KeepError>
 }
 
 // The sum of two counts.
-fn together(one: u32, other: u32) -> Result<u32, KeepError>
+fn sum_in_32_bits(one: u32, other: u32) -> Result<u32, KeepError>
     ensures value { IfOk result (λ n. n ≡ one + other) }
 {
     match one.checked_add(other) {
@@ -47,11 +47,9 @@ fn put_parts<S: Alter>(
     book: u32,
     parts: &Parts,
 ) -> Result<u32, KeepError>
-    ensures same_reference { tx.new.conn.ghost_name ≡ tx.old.conn.ghost_name }
     ensures wrote { AddsPledge (state S.Store tx.old.conn.now)
         (state S.Store tx.new.conn.now) result book (number_in_book parts.now) parts.now }
-    ensures lent { IsLent (state S.Store tx.old.conn.now) (state S.Store tx.new.conn.now)
-        (is_ok result) }
+    ensures lent { Lends S.Store tx.old.conn tx.new.conn (is_ok result) }
 {
     let pledge = as_pledge(parts)?;
     put_whole(tx, book, parts.agreement.number.get(), &pledge)
@@ -72,32 +70,30 @@ fn put_pledges<S: Alter>(
     let mut counted = 0;
     for parts in pledges {
         let added = put_parts(tx, book, parts)?;
-        counted = together(counted, added)?;
+        counted = sum_in_32_bits(counted, added)?;
     }
     Ok(counted)
 }
 
 /// Fills a book that has neither terms nor pledges, and notes the import's key. Returns how many counted rows that
 /// adds.
-#[tactic(auto, using(crate::proofs::Lent::lent_then, crate::proofs::Tailing::lent_carried, crate::proofs::Tailing::both_carried))]
+#[tactic(auto, using(crate::proofs::Lent::lent_then, crate::proofs::RowsInOrder::lent_carried, crate::proofs::RowsInOrder::both_carried))]
 pub(crate) fn import_book<S: Alter>(
     tx: &mut Transaction<'_, S>,
     book: Number,
     key: Secret,
     rows: &BookRows,
 ) -> Result<u32, KeepError>
-    ensures same_reference { tx.new.conn.ghost_name ≡ tx.old.conn.ghost_name }
     ensures wrote { WritesRows (state S.Store tx.old.conn.now) (state S.Store tx.new.conn.now)
         (ImportBook book key rows.now) result }
-    ensures lent { IsLent (state S.Store tx.old.conn.now) (state S.Store tx.new.conn.now)
-        (is_ok result) }
+    ensures lent { Lends S.Store tx.old.conn tx.new.conn (is_ok result) }
 {
     let terms = rows.terms.as_slice();
     let pledges = rows.pledges.as_slice();
-    let versions = short(terms.len())?;
-    let so_many = short(pledges.len())?;
+    let versions = length_in_32_bits(terms.len())?;
+    let so_many = length_in_32_bits(pledges.len())?;
     set_import(tx, book.get(), key, versions, so_many)?;
     put_versions(tx, book.get(), terms)?;
     let added = put_pledges(tx, book.get(), pledges)?;
-    together(versions, added)
+    sum_in_32_bits(versions, added)
 }

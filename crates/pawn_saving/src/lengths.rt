@@ -13,7 +13,7 @@ pub(crate) struct Lengths {
 }
 
 /// A length as the 32-bit number that a statement binds.
-pub(crate) fn short(length: usize) -> Result<u32, KeepError>
+pub(crate) fn length_in_32_bits(length: usize) -> Result<u32, KeepError>
     ensures value { IfOk result (λ n. n ≡ length) }
 {
     match u32::try_from(length) {
@@ -26,9 +26,9 @@ pub(crate) fn short(length: usize) -> Result<u32, KeepError>
 pub(crate) fn lengths_of(pledge: &Pledge) -> Result<Lengths, KeepError>
     ensures value { IfOk result (λ l. AreLengths l (Some pledge.now)) }
 {
-    let entries = short(pledge.entries().len())?;
-    let secrets = short(pledge.secrets().len())?;
-    let extensions = short(pledge.extensions().len())?;
+    let entries = length_in_32_bits(pledge.entries().len())?;
+    let secrets = length_in_32_bits(pledge.secrets().len())?;
+    let extensions = length_in_32_bits(pledge.extensions().len())?;
     Ok(Lengths {
         entries,
         secrets,

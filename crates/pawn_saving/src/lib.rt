@@ -7,12 +7,12 @@ mod counting;
 mod entries;
 mod importing;
 mod lengths;
+mod lists;
 mod pledges;
 mod putting;
 mod renewing;
 mod saving;
 mod stored;
-mod tails;
 
 pub use pledges::put_totals;
 pub use saving::save;

@@ -3,7 +3,7 @@ ghost use Rattle.sqlite.specs.Held.{state};
 ghost use Rattle.pawn_debt.specs.declared.owing.Totals.{Totals};
 ghost use Rattle.pawn_pledge.specs.declared.record.Booking.{Booking};
 ghost use Rattle.pawn_pledge.specs.Pledge.{PledgeValue};
-ghost use Rattle.one_table.specs.Lending.{IsLent};
+ghost use Rattle.one_table.specs.Lending.{Lends};
 ghost use Rattle.pawn_tables.specs.At.{at_pledge};
 ghost use Rattle.pawn_tables.specs.Rows.{under, booking_cells, pledge_cells, totals_cells};
 ghost use Rattle.pawn_saving.specs.Writing.{Joins, PutsOver, Replaces};
@@ -13,8 +13,8 @@ use pawn_book::{Booking, KeepError, Pledge};
 use pawn_debt::Totals;
 use pawn_tables::texts::{PUT_BOOKING, PUT_PLEDGE, PUT_TOTALS, SET_PLEDGE, SET_TOTALS};
 use pawn_tables::{
-    REFUSED, agreed_value, closed_amount, closed_day, closed_number, flag_number, kind_number,
-    small, state_number, write,
+    REFUSED, agreed_value, closed_amount, closed_day, closed_number, flag_number, in_32_bits,
+    kind_number, state_number, write,
 };
 use sqlite::{Alter, Transaction, params};
 
@@ -25,23 +25,21 @@ pub(crate) fn put_row<S: Alter>(
     number: u32,
     pledge: &Pledge,
 ) -> Result<(), KeepError>
-    ensures same_reference { tx.new.conn.ghost_name ≡ tx.old.conn.ghost_name }
     ensures wrote { Joins (state S.Store tx.old.conn.now)
         (state S.Store tx.new.conn.now) result pledges_tree
         (under book number (pledge_cells pledge.now)) }
-    ensures lent { IsLent (state S.Store tx.old.conn.now) (state S.Store tx.new.conn.now)
-        (is_ok result) }
+    ensures lent { Lends S.Store tx.old.conn tx.new.conn (is_ok result) }
 {
     let agreement = pledge.agreement();
     let standing = pledge.standing();
     let reference = agreement.opening.reference.as_str();
     let article = agreement.opening.article.as_str();
     let kind = kind_number(agreement.opening.kind);
-    let credit = small(agreement.opening.kind.credit())?;
+    let credit = in_32_bits(agreement.opening.kind.credit())?;
     let taken = agreement.taken.count();
     let agreed = agreed_value(agreement.opening.agreed);
     let five = flag_number(agreement.opening.five_days);
-    let version = small(agreement.version)?;
+    let version = in_32_bits(agreement.version)?;
     let ends = pledge.ends().count();
     let held = flag_number(standing.held);
     let last = standing.last.count();
@@ -66,13 +64,11 @@ pub(crate) fn set_row<S: Alter>(
     number: u32,
     pledge: &Pledge,
 ) -> Result<(), KeepError>
-    ensures same_reference { tx.new.conn.ghost_name ≡ tx.old.conn.ghost_name }
     ensures wrote { (before : PledgeValue) → before.agreement ≡ pledge.now.agreement
         → Replaces (state S.Store tx.old.conn.now) (state S.Store tx.new.conn.now) result pledges_tree
         (at_pledge book number) (under book number (pledge_cells before))
         (under book number (pledge_cells pledge.now)) }
-    ensures lent { IsLent (state S.Store tx.old.conn.now) (state S.Store tx.new.conn.now)
-        (is_ok result) }
+    ensures lent { Lends S.Store tx.old.conn tx.new.conn (is_ok result) }
 {
     let standing = pledge.standing();
     let ends = pledge.ends().count();
@@ -95,16 +91,14 @@ pub(crate) fn put_booking<S: Alter>(
     number: u32,
     booking: Booking,
 ) -> Result<(), KeepError>
-    ensures same_reference { tx.new.conn.ghost_name ≡ tx.old.conn.ghost_name }
     ensures wrote { (before : Option Booking)
         → PutsOver (state S.Store tx.old.conn.now) (state S.Store tx.new.conn.now) result bookings_tree
         (at_pledge book number) (option_map (λ k. under book number (booking_cells k)) before)
         (under book number (booking_cells booking)) }
-    ensures lent { IsLent (state S.Store tx.old.conn.now) (state S.Store tx.new.conn.now)
-        (is_ok result) }
+    ensures lent { Lends S.Store tx.old.conn tx.new.conn (is_ok result) }
 {
     let day = booking.day.count();
-    let window = small(booking.window)?;
+    let window = in_32_bits(booking.window)?;
     let state = state_number(booking.state);
     write(tx, PUT_BOOKING, params![book, number, day, window, state])
 }
@@ -127,15 +121,13 @@ pub fn put_totals<S: Alter>(
     number: u32,
     totals: &Totals,
 ) -> Result<(), KeepError>
-    ensures same_reference { tx.new.conn.ghost_name ≡ tx.old.conn.ghost_name }
     ensures wrote { Joins (state S.Store tx.old.conn.now)
         (state S.Store tx.new.conn.now) result totals_tree
         (under book number (totals_cells totals.now)) }
-    ensures lent { IsLent (state S.Store tx.old.conn.now) (state S.Store tx.new.conn.now)
-        (is_ok result) }
+    ensures lent { Lends S.Store tx.old.conn tx.new.conn (is_ok result) }
 {
     let day = totals.day.count();
-    let principal = small(totals.principal)?;
+    let principal = in_32_bits(totals.principal)?;
     let charges = charges_of(totals.millionths)?;
     write(
         tx,
@@ -151,16 +143,14 @@ pub(crate) fn set_totals<S: Alter>(
     number: u32,
     totals: &Totals,
 ) -> Result<(), KeepError>
-    ensures same_reference { tx.new.conn.ghost_name ≡ tx.old.conn.ghost_name }
     ensures wrote { (before : Totals)
         → Replaces (state S.Store tx.old.conn.now) (state S.Store tx.new.conn.now) result totals_tree
         (at_pledge book number) (under book number (totals_cells before))
         (under book number (totals_cells totals.now)) }
-    ensures lent { IsLent (state S.Store tx.old.conn.now) (state S.Store tx.new.conn.now)
-        (is_ok result) }
+    ensures lent { Lends S.Store tx.old.conn tx.new.conn (is_ok result) }
 {
     let day = totals.day.count();
-    let principal = small(totals.principal)?;
+    let principal = in_32_bits(totals.principal)?;
     let charges = charges_of(totals.millionths)?;
     write(
         tx,

@@ -2,7 +2,7 @@ ghost use Rattle.std.specs.Prelude.{◌≡◌, ◌+◌, if◌then◌else◌, Non
 ghost use Rattle.sqlite.specs.Held.{state};
 ghost use Rattle.pawn_pledge.specs.declared.record.Booking.{Booking};
 ghost use Rattle.pawn_book.specs.HostStep.{pledge_rows};
-ghost use Rattle.one_table.specs.Lending.{IsLent};
+ghost use Rattle.one_table.specs.Lending.{Lends};
 ghost use Rattle.pawn_tables.specs.At.{at_pledge};
 ghost use Rattle.pawn_tables.specs.Rows.{at_most_one, booking_cells, under};
 ghost use Rattle.pawn_saving.specs.Putting.{AddRows, AddSides, AddsPledge, PutsFor, lists_past};
@@ -10,14 +10,14 @@ ghost use Rattle.pawn_saving.specs.Writing.{IsCarried};
 ghost use Rattle.pawn_tables.specs.Schema.{bookings_tree};
 
 use crate::lengths::{Lengths, lengths_of};
+use crate::lists::{next_place, put_entries, put_extensions, put_secrets};
 use crate::pledges::{put_booking, put_row, put_totals};
-use crate::tails::{next_place, put_entries, put_extensions, put_secrets};
 use pawn_book::{Booking, KeepError, Pledge};
-use pawn_tables::small;
+use pawn_tables::in_32_bits;
 use sqlite::{Alter, Transaction};
 
 // The elements after the first `so_many`; none if there are no more.
-fn past<T>(items: &[T], so_many: u32) -> &[T]
+fn behind<T>(items: &[T], so_many: u32) -> &[T]
     ensures value { result.now ≡ drop so_many items.now }
 {
     match items.get(so_many as usize..) {
@@ -33,7 +33,7 @@ pub(crate) fn rows_within(lengths: Lengths, is_booked: bool) -> Result<u32, Keep
         + (if is_booked then 1 else 0)) }
 {
     let bookings = if is_booked { 1 } else { 0 };
-    small(1 + lengths.entries as u64 + lengths.secrets as u64 + bookings)
+    in_32_bits(1 + lengths.entries as u64 + lengths.secrets as u64 + bookings)
 }
 
 /// How many counted rows this pledge has.
@@ -45,7 +45,7 @@ pub(crate) fn rows_of(pledge: &Pledge) -> Result<u32, KeepError>
 }
 
 /// Inserts those rows of a pledge's lists that come after the first `lengths` of each list.
-#[tactic(auto, using(crate::proofs::Lent::lent_then, crate::proofs::Tailing::lent_carried, crate::proofs::Tailing::both_carried))]
+#[tactic(auto, using(crate::proofs::Lent::lent_then, crate::proofs::RowsInOrder::lent_carried, crate::proofs::RowsInOrder::both_carried))]
 pub(crate) fn put_lists<S: Alter>(
     tx: &mut Transaction<'_, S>,
     book: u32,
@@ -61,20 +61,20 @@ pub(crate) fn put_lists<S: Alter>(
 {
     let secrets = next_place(lengths.secrets)?;
     let extensions = next_place(lengths.extensions)?;
-    put_entries(tx, book, number, past(pledge.entries(), lengths.entries))?;
+    put_entries(tx, book, number, behind(pledge.entries(), lengths.entries))?;
     put_secrets(
         tx,
         book,
         number,
         secrets,
-        past(pledge.secrets(), lengths.secrets),
+        behind(pledge.secrets(), lengths.secrets),
     )?;
     put_extensions(
         tx,
         book,
         number,
         extensions,
-        past(pledge.extensions(), lengths.extensions),
+        behind(pledge.extensions(), lengths.extensions),
     )
 }
 
@@ -101,18 +101,16 @@ pub(crate) fn put_any_booking<S: Alter>(
 }
 
 /// Inserts the single rows of a new pledge: its own, its totals and its booking, if it has one.
-#[tactic(auto, using(crate::proofs::Lent::lent_then, crate::proofs::Tailing::lent_carried, crate::proofs::Tailing::both_carried))]
+#[tactic(auto, using(crate::proofs::Lent::lent_then, crate::proofs::RowsInOrder::lent_carried, crate::proofs::RowsInOrder::both_carried))]
 pub(crate) fn put_sides<S: Alter>(
     tx: &mut Transaction<'_, S>,
     book: u32,
     number: u32,
     pledge: &Pledge,
 ) -> Result<(), KeepError>
-    ensures same_reference { tx.new.conn.ghost_name ≡ tx.old.conn.ghost_name }
     ensures wrote { AddSides (state S.Store tx.old.conn.now)
         (state S.Store tx.new.conn.now) result book number pledge.now }
-    ensures lent { IsLent (state S.Store tx.old.conn.now) (state S.Store tx.new.conn.now)
-        (is_ok result) }
+    ensures lent { Lends S.Store tx.old.conn tx.new.conn (is_ok result) }
 {
     put_row(tx, book, number, pledge)?;
     put_totals(tx, book, number, &pledge.totals())?;
@@ -120,18 +118,16 @@ pub(crate) fn put_sides<S: Alter>(
 }
 
 /// Inserts all rows of a pledge that has none stored. Returns how many of them are counted.
-#[tactic(auto, using(crate::proofs::Lent::lent_then, crate::proofs::Tailing::lent_carried, crate::proofs::Tailing::both_carried))]
+#[tactic(auto, using(crate::proofs::Lent::lent_then, crate::proofs::RowsInOrder::lent_carried, crate::proofs::RowsInOrder::both_carried))]
 pub(crate) fn put_whole<S: Alter>(
     tx: &mut Transaction<'_, S>,
     book: u32,
     number: u32,
     pledge: &Pledge,
 ) -> Result<u32, KeepError>
-    ensures same_reference { tx.new.conn.ghost_name ≡ tx.old.conn.ghost_name }
     ensures wrote { AddsPledge (state S.Store tx.old.conn.now)
         (state S.Store tx.new.conn.now) result book number pledge.now }
-    ensures lent { IsLent (state S.Store tx.old.conn.now) (state S.Store tx.new.conn.now)
-        (is_ok result) }
+    ensures lent { Lends S.Store tx.old.conn tx.new.conn (is_ok result) }
 {
     let added = rows_of(pledge)?;
     put_sides(tx, book, number, pledge)?;

@@ -5,7 +5,7 @@ ghost use Rattle.pawn_pledge.specs.Pledge.{PledgeValue};
 ghost use Rattle.pawn_book.specs.declared.change.Change.TheVariants.{PutPledge};
 ghost use Rattle.pawn_book.specs.BookStep.{pledge_in};
 ghost use Rattle.pawn_book.specs.HostStep.{pledge_rows};
-ghost use Rattle.one_table.specs.Lending.{IsLent};
+ghost use Rattle.one_table.specs.Lending.{Lends};
 ghost use Rattle.pawn_saving.specs.Counted.{WritesWhere};
 ghost use Rattle.pawn_saving.specs.Putting.{RenewSides};
 ghost use Rattle.pawn_saving.specs.Stored.{IsStored};
@@ -26,12 +26,10 @@ pub(crate) fn add_pledge<S: Alter>(
     number: Number,
     pledge: &Pledge,
 ) -> Result<u32, KeepError>
-    ensures same_reference { tx.new.conn.ghost_name ≡ tx.old.conn.ghost_name }
     ensures wrote { WritesWhere (state S.Store tx.old.conn.now) (state S.Store tx.new.conn.now)
         (λ h. pledge_in (get h.books book) number ≡ None)
         (PutPledge book number pledge.now) result }
-    ensures lent { IsLent (state S.Store tx.old.conn.now) (state S.Store tx.new.conn.now)
-        (is_ok result) }
+    ensures lent { Lends S.Store tx.old.conn tx.new.conn (is_ok result) }
 {
     let added = put_whole(tx, book.get(), number.get(), pledge)?;
     set_pledges_count(tx, book.get(), number.get())?;
@@ -39,20 +37,18 @@ pub(crate) fn add_pledge<S: Alter>(
 }
 
 /// Updates the single rows of a stored pledge: its own, its totals and its booking.
-#[tactic(auto, using(crate::proofs::Lent::lent_then, crate::proofs::Tailing::lent_carried))]
+#[tactic(auto, using(crate::proofs::Lent::lent_then, crate::proofs::RowsInOrder::lent_carried))]
 fn set_sides<S: Alter>(
     tx: &mut Transaction<'_, S>,
     book: u32,
     number: u32,
     pledge: &Pledge,
 ) -> Result<(), KeepError>
-    ensures same_reference { tx.new.conn.ghost_name ≡ tx.old.conn.ghost_name }
     ensures wrote { (before : PledgeValue) → before.agreement ≡ pledge.now.agreement
         → (pledge.now.standing.booking ≡ None → before.standing.booking ≡ None)
         → RenewSides (state S.Store tx.old.conn.now)
         (state S.Store tx.new.conn.now) result book number before pledge.now }
-    ensures lent { IsLent (state S.Store tx.old.conn.now) (state S.Store tx.new.conn.now)
-        (is_ok result) }
+    ensures lent { Lends S.Store tx.old.conn tx.new.conn (is_ok result) }
 {
     set_row(tx, book, number, pledge)?;
     set_totals(tx, book, number, &pledge.totals())?;
@@ -78,7 +74,7 @@ fn rows_added(stored: Stored, pledge: &Pledge) -> Result<u32, KeepError>
 }
 
 /// Writes a stored pledge as it is now. Returns how many counted rows that adds.
-#[tactic(auto, using(crate::proofs::Lent::lent_then, crate::proofs::Tailing::lent_carried))]
+#[tactic(auto, using(crate::proofs::Lent::lent_then, crate::proofs::RowsInOrder::lent_carried))]
 pub(crate) fn renew_pledge<S: Alter>(
     tx: &mut Transaction<'_, S>,
     book: Number,
@@ -86,13 +82,11 @@ pub(crate) fn renew_pledge<S: Alter>(
     stored: Stored,
     pledge: &Pledge,
 ) -> Result<u32, KeepError>
-    ensures same_reference { tx.new.conn.ghost_name ≡ tx.old.conn.ghost_name }
     ensures wrote { (before : PledgeValue) → IsStored stored (Some before)
         → WritesWhere (state S.Store tx.old.conn.now) (state S.Store tx.new.conn.now)
         (λ h. pledge_in (get h.books book) number ≡ Some before)
         (PutPledge book number pledge.now) result }
-    ensures lent { IsLent (state S.Store tx.old.conn.now) (state S.Store tx.new.conn.now)
-        (is_ok result) }
+    ensures lent { Lends S.Store tx.old.conn tx.new.conn (is_ok result) }
 {
     let added = rows_added(stored, pledge)?;
     set_sides(tx, book.get(), number.get(), pledge)?;

@@ -3,7 +3,7 @@ ghost use Rattle.sqlite.specs.Held.{state};
 ghost use Rattle.pawn_book.specs.declared.fault.SaveError.TheVariants as Save;
 ghost use Rattle.pawn_book.specs.Changes.{CanSave};
 ghost use Rattle.pawn_book.specs.Keeping.{Of, Saves};
-ghost use Rattle.one_table.specs.Lending.{IsLent};
+ghost use Rattle.one_table.specs.Lending.{Lends};
 ghost use Rattle.pawn_tables.specs.Keeps.{keeping_by};
 ghost use Rattle.pawn_saving.specs.Counted.{WritesChange, WritesRows};
 
@@ -26,11 +26,9 @@ fn unsaved(error: KeepError) -> SaveError
 
 // Writes a change. Returns how many counted rows that adds.
 fn write_rows<S: Alter>(tx: &mut Transaction<'_, S>, change: &Change) -> Result<u32, KeepError>
-    ensures same_reference { tx.new.conn.ghost_name ≡ tx.old.conn.ghost_name }
     ensures wrote { WritesRows (state S.Store tx.old.conn.now)
         (state S.Store tx.new.conn.now) change.now result }
-    ensures lent { IsLent (state S.Store tx.old.conn.now) (state S.Store tx.new.conn.now)
-        (is_ok result) }
+    ensures lent { Lends S.Store tx.old.conn tx.new.conn (is_ok result) }
 {
     match change {
         Change::MakeBook { book, new_book } => make_book(tx, *book, new_book),
@@ -55,11 +53,9 @@ pub(crate) fn write_change<S: Alter>(
     tx: &mut Transaction<'_, S>,
     change: &Change,
 ) -> Result<(), SaveError>
-    ensures same_reference { tx.new.conn.ghost_name ≡ tx.old.conn.ghost_name }
     ensures wrote { WritesChange (state S.Store tx.old.conn.now)
         (state S.Store tx.new.conn.now) change.now result }
-    ensures lent { IsLent (state S.Store tx.old.conn.now) (state S.Store tx.new.conn.now)
-        (is_ok result) }
+    ensures lent { Lends S.Store tx.old.conn tx.new.conn (is_ok result) }
 {
     let added = match write_rows(tx, change) {
         Ok(added) => added,

@@ -3,7 +3,7 @@ ghost use Rattle.std.specs.Prelude.{◌≡◌, ◌≤◌, ◌↔◌, IsTrue, is_
 ghost use Rattle.std.specs.FinMap.{get};
 ghost use Rattle.sqlite.specs.Held.{state};
 ghost use Rattle.pawn_book.specs.BookStep.{pledge_in};
-ghost use Rattle.one_table.specs.Lending.{IsLent};
+ghost use Rattle.one_table.specs.Lending.{Lends};
 ghost use Rattle.pawn_saving.specs.Stored.{AreLengths, IsStored, IsLengthWithin, ReadsIn, length_in};
 ghost use Rattle.pawn_saving.specs.Writing.{IsCarried};
 
@@ -36,12 +36,10 @@ fn stands_at<S: Alter>(
     number: u32,
     place: u32,
 ) -> Result<bool, KeepError>
-    ensures same_reference { tx.new.conn.ghost_name ≡ tx.old.conn.ghost_name }
     ensures reads { ReadsIn (state S.Store tx.old.conn.now) (state S.Store tx.new.conn.now) result
         (λ h stands. 1 ≤ place
         → (IsTrue stands ↔ place ≤ length_in list (pledge_in (get h.books book) number))) }
-    ensures lent { IsLent (state S.Store tx.old.conn.now) (state S.Store tx.new.conn.now)
-        (is_ok result) }
+    ensures lent { Lends S.Store tx.old.conn tx.new.conn (is_ok result) }
 {
     match list {
         PledgeList::Entries => Ok(entry_in(tx, book, number, place)?.is_some()),
@@ -76,7 +74,7 @@ fn length_within<S: Alter>(
 }
 
 /// How long the stored lists of a pledge are, if none is longer than `most` says.
-#[tactic(auto, using(crate::proofs::Tailing::both_carried))]
+#[tactic(auto, using(crate::proofs::RowsInOrder::both_carried))]
 fn lengths_within<S: Alter>(
     tx: &mut Transaction<'_, S>,
     book: u32,
@@ -101,19 +99,17 @@ fn lengths_within<S: Alter>(
 }
 
 /// How much of a pledge is stored, if none of its stored lists is longer than `most` says.
-#[tactic(auto, using(crate::proofs::Lent::lent_then, crate::proofs::Tailing::lent_carried))]
+#[tactic(auto, using(crate::proofs::Lent::lent_then, crate::proofs::RowsInOrder::lent_carried))]
 pub(crate) fn stored_within<S: Alter>(
     tx: &mut Transaction<'_, S>,
     book: u32,
     number: u32,
     most: Lengths,
 ) -> Result<Stored, KeepError>
-    ensures same_reference { tx.new.conn.ghost_name ≡ tx.old.conn.ghost_name }
     ensures reads { ReadsIn (state S.Store tx.old.conn.now) (state S.Store tx.new.conn.now) result
         (λ h stored. IsLengthWithin (pledge_in (get h.books book) number) most → IsStored stored
         (pledge_in (get h.books book) number)) }
-    ensures lent { IsLent (state S.Store tx.old.conn.now) (state S.Store tx.new.conn.now)
-        (is_ok result) }
+    ensures lent { Lends S.Store tx.old.conn tx.new.conn (is_ok result) }
 {
     let is_booked = booking_in(tx, book, number)?.is_some();
     let lengths = lengths_within(tx, book, number, most)?;

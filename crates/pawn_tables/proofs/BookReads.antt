@@ -31,7 +31,7 @@ use Rattle.pawn_tables.specs.StandsFor.{StandsFor, ListDebts}
 use Rattle.one_table.proofs.Found.{shown_listed, shown_first}
 use Rattle.pawn_tables.proofs.ReadTexts as text
 use Rattle.pawn_tables.proofs.PledgeReads.{short, few}
-use Rattle.pawn_tables.proofs.Sought.{rows_at, of_one_book, equals, less}
+use Rattle.pawn_tables.proofs.RowsUnderKey.{rows_at, of_one_book, equals, less}
 
 truth_of : (b : Bool) → is_true (from_truth (Some b)) ≡ b
 truth_of true = refl

@@ -17,10 +17,10 @@ use Rattle.pawn_book.specs.HostStep.{Host}
 use Rattle.pawn_book.specs.declared.fault.KeepError.{KeepError}
 use Rattle.pawn_tables.specs.Finding.{IsRead, FindsIn}
 use Rattle.pawn_tables.specs.StandsFor.{AreBooksOrdered, AreStorable}
-use Rattle.pawn_tables.specs.Told.{AreLists, AreSides, AreTold, booking_of, totals_in, row_of}
+use Rattle.pawn_tables.specs.PledgeRows.{AreLists, AreSides, AreTold, booking_of, totals_in, row_of}
 use Rattle.pawn_tables.specs.declared.joining.Lists.{Lists}
-use Rattle.pawn_tables.specs.declared.joining.Sides.{Sides}
-use Rattle.pawn_tables.specs.declared.joining.Told.{Told}
+use Rattle.pawn_tables.specs.declared.joining.RowsBeside.{RowsBeside}
+use Rattle.pawn_tables.specs.declared.joining.StoredPledge.{StoredPledge}
 use Rattle.pawn_tables.specs.declared.records.PledgeRow.{PledgeRow}
 use Rattle.pawn_tables.proofs.PledgeReads.{number_in, under_in}
 
@@ -44,14 +44,14 @@ version_fits h b n p ordered storable is = inside (get h.books b) refl (under_in
     inside (Some k) e at = let low = within_terms k.terms p.agreement.version p.agreement.terms at in let few = (storable b k e).versions in omega (arith, low, few)
 
 -- what was joined of what was found of a pledge, or why it was not
-pub joined_told : {A L : Type 0} (h : Host) (b n : ℕ) (p : PledgeValue) (t : Told) (l : L) (Are : L → PledgeValue → Type 0) (shows : PledgeValue → A) (Q : PledgeValue → Type 0) (r : Result A KeepError) (number : ℕ) → number ≡ n → AreBooksOrdered h
+pub joined_told : {A L : Type 0} (h : Host) (b n : ℕ) (p : PledgeValue) (t : StoredPledge) (l : L) (Are : L → PledgeValue → Type 0) (shows : PledgeValue → A) (Q : PledgeValue → Type 0) (r : Result A KeepError) (number : ℕ) → number ≡ n → AreBooksOrdered h
     → pledge_in (get h.books b) n ≡ Some p → t.row ≡ row_of p → AreSides t.sides p → IfSome (pledge_in (get h.books b) n) (Are l)
     → ((q : PledgeValue) → number ≡ q.agreement.number → t.row ≡ row_of q → AreSides t.sides q → Are l q → IsRead r (shows q) (Q q)) → IsRead r (shows p) (Q p)
 joined_told h b n p t l Are shows Q r number named ordered at of beside lists read =
     read p (named ∙ sym (number_in h b n p ordered at)) of beside (subst (λ o. IfSome o (Are l)) at lists)
 
 -- what the sides have, where they are of a pledge
-pub joined : (s : Sides) (terms : Rates) (totals : Totals) (p : PledgeValue) → s.terms ≡ Some terms → s.totals ≡ Some totals → AreSides s p
+pub joined : (s : RowsBeside) (terms : Rates) (totals : Totals) (p : PledgeValue) → s.terms ≡ Some terms → s.totals ≡ Some totals → AreSides s p
     → (terms ≡ p.agreement.terms) × (s.booking ≡ p.standing.booking) × (totals ≡ totals_of (debt_of p))
 joined s terms totals p has owed sides =
     let a : Some terms ≡ Some p.agreement.terms = sym has ∙ sides.terms in
@@ -61,7 +61,7 @@ joined s terms totals p has owed sides =
 pub ends_joined : (row : PledgeRow) (p q : PledgeValue) (ends : ℕ) → ends ≡ row.ends → row ≡ row_of p → q ≡ p → ends ≡ end_of q
 ends_joined row p q ends is of same = is ∙ ap (λ (r : PledgeRow). r.ends) of ∙ ap end_of (sym same)
 
-pub sides_told : (h : Host) (b n v : ℕ) (s : Sides) → AreBooksOrdered h → s.terms ≡ terms_at (terms_of (get h.books b)) v → s.booking ≡ booking_of (pledge_in (get h.books b) n) → s.totals ≡ totals_in (pledge_in (get h.books b) n)
+pub sides_told : (h : Host) (b n v : ℕ) (s : RowsBeside) → AreBooksOrdered h → s.terms ≡ terms_at (terms_of (get h.books b)) v → s.booking ≡ booking_of (pledge_in (get h.books b) n) → s.totals ≡ totals_in (pledge_in (get h.books b) n)
     → IfSome (pledge_in (get h.books b) n) (λ p. v ≡ p.agreement.version → AreSides s p)
 sides_told h b n v s ordered terms booking totals = go (pledge_in (get h.books b) n) refl booking totals
   where
@@ -98,13 +98,13 @@ none_under s0 s1 (Ok x) b v big lent f clean within h stood =
     inside (Some k) e storable = let few = (storable b k e).versions in past_terms k.terms v (omega (arith, few, big))
 
 -- what the row and the sides tell together
-pub told_of : (h : Host) (b n v : ℕ) (p : PledgeValue) (t : Told) → pledge_in (get h.books b) n ≡ Some p → t.row ≡ row_of p → v ≡ t.row.version
+pub told_of : (h : Host) (b n v : ℕ) (p : PledgeValue) (t : StoredPledge) → pledge_in (get h.books b) n ≡ Some p → t.row ≡ row_of p → v ≡ t.row.version
     → IfSome (pledge_in (get h.books b) n) (λ q. v ≡ q.agreement.version → AreSides t.sides q) → AreTold (Some t) (pledge_in (get h.books b) n)
 told_of h b n v p t at of version sides =
     let beside = subst (λ o. IfSome o (λ q. v ≡ q.agreement.version → AreSides t.sides q)) at sides in
     subst (AreTold (Some t)) (sym at) (of, beside (version ∙ ap (λ (r : PledgeRow). r.version) of))
 
 -- .. which is of a pledge that stands
-pub told_is : (o : Option PledgeValue) (t : Told) → AreTold (Some t) o → (p : PledgeValue) × (o ≡ Some p) × (t.row ≡ row_of p) × AreSides t.sides p
+pub told_is : (o : Option PledgeValue) (t : StoredPledge) → AreTold (Some t) o → (p : PledgeValue) × (o ≡ Some p) × (t.row ≡ row_of p) × AreSides t.sides p
 told_is None t told = absurd told
 told_is (Some p) t told = (p, refl, told.0, told.1)

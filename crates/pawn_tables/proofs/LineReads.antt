@@ -35,8 +35,8 @@ use Rattle.one_table.proofs.Found.{shown_few}
 use Rattle.pawn_tables.proofs.ReadTexts as text
 use Rattle.pawn_tables.proofs.BookReads as books
 use Rattle.pawn_tables.proofs.BookReads.{one_test}
-use Rattle.pawn_tables.proofs.Sought.{equals}
-use Rattle.pawn_tables.proofs.Searches.{confirmed_state, together}
+use Rattle.pawn_tables.proofs.RowsUnderKey.{equals}
+use Rattle.pawn_tables.proofs.PledgeSearches.{confirmed_state, together}
 use Rattle.pawn_tables.proofs.OneEach.{rise_each, shown_each, tell_of}
 use Rattle.pawn_tables.proofs.Counts.{count_of, shown_count}
 use Rattle.pawn_tables.proofs.NextLines.{items_are, told_above}

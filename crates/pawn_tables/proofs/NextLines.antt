@@ -22,7 +22,7 @@ use Rattle.pawn_tables.specs.Finding.{Finds, IsRead}
 use Rattle.pawn_tables.specs.Lines.{IsLineOf, IsLinesPage, item_of, items_past}
 use Rattle.pawn_tables.specs.Pages.{most_page_rows}
 use Rattle.pawn_tables.specs.declared.line.Line.{Line}
-use Rattle.pawn_tables.proofs.Asking.{found_as}
+use Rattle.pawn_tables.proofs.StatementFinds.{found_as}
 use Rattle.pawn_tables.proofs.PageLemmas.{is_page, map_each, page_as, take_each}
 use Rattle.pawn_tables.proofs.SoundBooks.{unsound_book}
 

@@ -15,7 +15,7 @@ use Rattle.pawn_book.specs.Keeping.{pledges_of}
 use Rattle.pawn_book.specs.Rows.{AreNumberedFrom}
 use Rattle.pawn_tables.specs.Rows.{number, number_in_book, under, at_most_one}
 use Rattle.pawn_tables.specs.StandsFor.{of_pledges, AreBooksOrdered}
-use Rattle.pawn_tables.proofs.Sought.{rows_at, of_one_book, filter-flat_map, filter-append, flat_none, less}
+use Rattle.pawn_tables.proofs.RowsUnderKey.{rows_at, of_one_book, filter-flat_map, filter-append, flat_none, less}
 
 -- what is told of what a pledge has, if it has it and it is such
 abbrev pub tell_of : {X A : Type 0} → (X → Bool) → (ℕ → X → A) → ℕ → Option X → Option A

@@ -29,15 +29,15 @@ use Rattle.pawn_tables.specs.Keeps.{keeping_by}
 use Rattle.pawn_tables.specs.Rows.{under, at_most_one, placed_from, head_cells, terms_cells, pledge_cells, pledge_listed, entry_cells, entries_listed, secret_cells, secrets_listed, extension_cells, extensions_listed, booking_cells, booking_listed}
 use Rattle.pawn_tables.specs.Entries.{RiseFrom}
 use Rattle.pawn_tables.specs.Meta.{meta_row, meta_rows}
-use Rattle.pawn_tables.specs.Told.{booking_of}
+use Rattle.pawn_tables.specs.PledgeRows.{booking_of}
 use Rattle.pawn_tables.specs.At.{is_at, at_book, at_pledge}
 use Rattle.pawn_tables.specs.StandsFor.{StandsFor, HoldHost, of_pledges, AreBooksOrdered}
-use Rattle.pawn_tables.proofs.Placed.{mapped, each_any}
+use Rattle.pawn_tables.proofs.ListsOfRows.{mapped, each_any}
 use Rattle.pawn_tables.proofs.PledgeReads.{short, few, holds_in, number_in, under_in, rises_at, under_map, under_placed, under_booked, placed_cells, one_version}
 use Rattle.pawn_tables.proofs.BookReads.{one_book}
 use Rattle.pawn_tables.proofs.SameRows as SameRows
 use Rattle.pawn_tables.proofs.SoundReads.{words_in}
-use Rattle.pawn_tables.proofs.Sought.{rows_at, of_one_pledge, placed_rise, entries_rise}
+use Rattle.pawn_tables.proofs.RowsUnderKey.{rows_at, of_one_pledge, placed_rise, entries_rise}
 use Rattle.pawn_tables.specs.Schema.{bookings_tree, books_tree, entries_tree, extensions_tree, meta_tree, pledges_tree, secrets_tree, terms_tree}
 
 -- ---- what stands of a pledge, by the rows of two hosts
@@ -50,7 +50,7 @@ module _ (h g : Host) (b n : ℕ) (of_h : AreBooksOrdered h) (of_g : AreBooksOrd
   other = pledge_in (get g.books b) n
 
   -- the rows of one pledge
-  one_pledge : (f : ℕ → PledgeValue → List Row) → ((m : ℕ) (p : PledgeValue) → Rattle.pawn_tables.proofs.Sought.AreUnder m p.agreement.number (f m p)) → IsPermutation (of_pledges h f) (of_pledges g f) → IsPermutation (rows_at mine (f b)) (rows_at other (f b))
+  one_pledge : (f : ℕ → PledgeValue → List Row) → ((m : ℕ) (p : PledgeValue) → Rattle.pawn_tables.proofs.RowsUnderKey.AreUnder m p.agreement.number (f m p)) → IsPermutation (of_pledges h f) (of_pledges g f) → IsPermutation (rows_at mine (f b)) (rows_at other (f b))
   one_pledge f under' same =
       subst (λ xs. IsPermutation xs (rows_at other (f b))) (of_one_pledge h b n f of_h under')
       (subst (IsPermutation (filter (at_pledge b n) (of_pledges h f))) (of_one_pledge g b n f of_g under') (IsPermutation-filter (at_pledge b n) _ _ same))

@@ -24,11 +24,11 @@ use Rattle.pawn_tables.specs.Entries.{RiseFrom}
 use Rattle.pawn_tables.specs.Ours.{with_indexes}
 use Rattle.pawn_tables.specs.Schema.{terms, pledges, entries, secrets, bookings, totals, extensions, bookings_tree, entries_tree, extensions_tree, pledges_tree, secrets_tree, terms_tree, totals_tree}
 use Rattle.pawn_tables.specs.Rows.{number, under, placed_from, pledge_listed, pledge_cells, credit_cells, entries_listed, entry_cells, secrets_listed, secret_cells, extensions_listed, extension_cells, booking_listed, at_most_one, booking_cells, totals_listed, totals_cells, terms_listed, terms_cells}
-use Rattle.pawn_tables.specs.Told.{booking_of, totals_in}
+use Rattle.pawn_tables.specs.PledgeRows.{booking_of, totals_in}
 use Rattle.pawn_tables.specs.StandsFor.{StandsFor, ListDebts, of_books, of_pledges, AreBooksOrdered}
 use Rattle.one_table.proofs.Found.{shown_listed, shown_in_order}
 use Rattle.pawn_tables.proofs.ReadTexts as text
-use Rattle.pawn_tables.proofs.Sought.{at_pledge, AreUnder, rows_at, of_one_pledge, of_one_book, placed_rise, entries_rise, equals}
+use Rattle.pawn_tables.proofs.RowsUnderKey.{at_pledge, AreUnder, rows_at, of_one_pledge, of_one_book, placed_rise, entries_rise, equals}
 
 -- ---- what stands of the pledge at a number
 

@@ -39,7 +39,7 @@ use Rattle.pawn_book.specs.declared.fault.StoreFault.TheVariants.{NoRecord, Data
 use Rattle.pawn_book.proofs.Sounds.{each_at}
 use Rattle.pawn_tables.specs.Entries.{IsAmount, IsEntryTold}
 use Rattle.pawn_tables.specs.Rows.{closed_day}
-use Rattle.pawn_tables.specs.Told.{IsBriefTold, IsCreditTold, IsRowTold, booking_of, totals_in}
+use Rattle.pawn_tables.specs.PledgeRows.{IsBriefTold, IsCreditTold, IsRowTold, booking_of, totals_in}
 use Rattle.pawn_tables.specs.StandsFor.{AreStorable}
 use Rattle.pawn_tables.specs.Finding.{Finds, IsRead}
 use Rattle.pawn_tables.proofs.PageLemmas.{last_some}

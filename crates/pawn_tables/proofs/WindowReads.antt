@@ -36,8 +36,8 @@ use Rattle.pawn_tables.proofs.BookReads as books
 use Rattle.pawn_tables.proofs.BookReads.{one_test}
 use Rattle.pawn_tables.proofs.LineReads.{all_kept, booking_in}
 use Rattle.pawn_tables.proofs.OneEach.{shown_each, tell_of}
-use Rattle.pawn_tables.proofs.Searches.{confirmed_state}
-use Rattle.pawn_tables.proofs.Sought.{equals}
+use Rattle.pawn_tables.proofs.PledgeSearches.{confirmed_state}
+use Rattle.pawn_tables.proofs.RowsUnderKey.{equals}
 
 -- a booking that is confirmed for one of the windows of the day
 abbrev comes_on : ℕ → Booking → Bool

@@ -1,6 +1,9 @@
 -- What is read of the tables, and when a row is no record.
 use Rattle.std.specs.Prelude.{◌≡◌, IsTrue, Result, Ok, Err}
+use Rattle.std.specs.Borrow.{MutBor}
 use Rattle.sqlite.specs.State.{State, HasCleanDisk}
+use Rattle.sqlite.specs.Held.{Held, state}
+use Rattle.sqlite_trees.specs.declared.store.Store.{Ghosts}
 use Rattle.pawn_book.specs.HostStep.{Host}
 use Rattle.pawn_book.specs.declared.fault.KeepError.{KeepError}
 use Rattle.pawn_book.specs.declared.fault.KeepError.TheVariants as Keeper
@@ -29,6 +32,10 @@ Stood s h = IsTrue s.is_open → StandsFor s.now h
 abbrev pub FindsIn : {A : Type 0} → (Host → Type 0) → State → State → Result A KeepError → (Host → A → Type 0) → Type 0
 FindsIn IsUnsound old new result P =
     HasCleanDisk new → IsTrue old.in_transaction → (h : Host) → Stood old h → Finds result (λ x. P h x × Rests old new) (IsUnsound h)
+
+-- as `FindsIn`, of a transaction before and after
+abbrev pub FindsBy : {S A : Type 0} → Ghosts S → MutBor (Held S) → MutBor (Held S) → (Host → Type 0) → Result A KeepError → (Host → A → Type 0) → Type 0
+FindsBy g old new IsUnsound result P = FindsIn IsUnsound (state g old.now) (state g new.now) result P
 
 -- as `FindsIn`, for each host of which `Tell` holds, in place of one that the tables stand for
 abbrev pub FindsOf : {A : Type 0} → (Tables → Host → Type 0) → (Host → Type 0) → State → State → Result A KeepError → (Host → A → Type 0) → Type 0

@@ -4,14 +4,14 @@ pub mod Finding
 pub mod Heads
 pub mod Keeps
 pub mod Lines
+pub mod ListEnds
 pub mod Meta
 pub mod OneHost
 pub mod Ours
 pub mod Pages
 pub mod Places
+pub mod PledgeRows
 pub mod Rows
 pub mod Schema
 pub mod StandsFor
-pub mod Tails
-pub mod Told
 pub mod WorkedTables

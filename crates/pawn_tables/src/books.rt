@@ -1,4 +1,4 @@
-#![tactic(auto, using(crate::proofs::Asking::unread))]
+#![tactic(auto, using(crate::proofs::StatementFinds::unread))]
 
 ghost use Rattle.std.specs.Prelude.{◌≡◌, is_ok, option_map};
 ghost use Rattle.std.specs.FinMap.{get};
@@ -8,8 +8,8 @@ ghost use Rattle.pawn_book.specs.BookStep.{book_head};
 ghost use Rattle.pawn_book.specs.HostStep.{rows};
 ghost use Rattle.pawn_book.specs.Keeping.{IsNextBook, number_of, pledges_of};
 ghost use Rattle.pawn_book.specs.Sound.{HasUnsoundBook, IsUnsoundAt};
-ghost use Rattle.one_table.specs.Lending.{IsLent};
-ghost use Rattle.pawn_tables.specs.Finding.{FindsIn, FindsOf};
+ghost use Rattle.one_table.specs.Lending.{Lends};
+ghost use Rattle.pawn_tables.specs.Finding.{FindsOf, FindsBy};
 ghost use Rattle.pawn_tables.specs.StandsFor.{ListDebts};
 
 use crate::heads::{first_head, first_number, only_count, only_number};
@@ -25,12 +25,9 @@ pub fn head_in<S: Alter>(
     alloc: Global,
     book: u32,
 ) -> Result<Option<BookHead>, KeepError>
-    ensures same_reference { tx.new.conn.ghost_name ≡ tx.old.conn.ghost_name }
-    ensures finds { FindsIn (IsUnsoundAt book) (state S.Store tx.old.conn.now)
-        (state S.Store tx.new.conn.now) result
+    ensures finds { FindsBy S.Store tx.old.conn tx.new.conn (IsUnsoundAt book) result
         (λ h head. head ≡ option_map book_head (get h.books book)) }
-    ensures lent { IsLent (state S.Store tx.old.conn.now) (state S.Store tx.new.conn.now)
-        (is_ok result) }
+    ensures lent { Lends S.Store tx.old.conn tx.new.conn (is_ok result) }
 {
     let rows = rows_of(tx, READ_HEAD, params![book])?;
     first_head(alloc, &rows)
@@ -42,12 +39,9 @@ pub fn ref_in<S: Alter>(
     book: u32,
     reference: &str,
 ) -> Result<Option<Number>, KeepError>
-    ensures same_reference { tx.new.conn.ghost_name ≡ tx.old.conn.ghost_name }
-    ensures finds { FindsIn (IsUnsoundAt book) (state S.Store tx.old.conn.now)
-        (state S.Store tx.new.conn.now) result
+    ensures finds { FindsBy S.Store tx.old.conn tx.new.conn (IsUnsoundAt book) result
         (λ h number. number ≡ number_of (get h.books book) reference.now) }
-    ensures lent { IsLent (state S.Store tx.old.conn.now) (state S.Store tx.new.conn.now)
-        (is_ok result) }
+    ensures lent { Lends S.Store tx.old.conn tx.new.conn (is_ok result) }
 {
     let rows = rows_of(tx, FIND_REFERENCE, params![book, reference])?;
     first_number(&rows)
@@ -61,12 +55,9 @@ pub fn confirmed_in<S: Alter>(
     day: Day,
     window: u64,
 ) -> Result<u64, KeepError>
-    ensures same_reference { tx.new.conn.ghost_name ≡ tx.old.conn.ghost_name }
-    ensures finds { FindsIn (IsUnsoundAt book) (state S.Store tx.old.conn.now)
-        (state S.Store tx.new.conn.now) result
+    ensures finds { FindsBy S.Store tx.old.conn tx.new.conn (IsUnsoundAt book) result
         (λ h count. count ≡ confirmed_count (pledges_of (get h.books book)) day window) }
-    ensures lent { IsLent (state S.Store tx.old.conn.now) (state S.Store tx.new.conn.now)
-        (is_ok result) }
+    ensures lent { Lends S.Store tx.old.conn tx.new.conn (is_ok result) }
 {
     let Ok(slot) = u32::try_from(window) else {
         return Err(KeepError::Store(StoreFault::Database));
@@ -81,13 +72,11 @@ pub fn next_in<S: Alter>(
     tx: &mut Transaction<'_, S>,
     above: u32,
 ) -> Result<Option<Number>, KeepError>
-    ensures same_reference { tx.new.conn.ghost_name ≡ tx.old.conn.ghost_name }
-    ensures finds { FindsIn HasUnsoundBook (state S.Store tx.old.conn.now)
-        (state S.Store tx.new.conn.now) result (λ h next. IsNextBook h above next) }
+    ensures finds { FindsBy S.Store tx.old.conn tx.new.conn HasUnsoundBook result
+        (λ h next. IsNextBook h above next) }
     ensures told { FindsOf ListDebts HasUnsoundBook (state S.Store tx.old.conn.now)
         (state S.Store tx.new.conn.now) result (λ h next. IsNextBook h above next) }
-    ensures lent { IsLent (state S.Store tx.old.conn.now) (state S.Store tx.new.conn.now)
-        (is_ok result) }
+    ensures lent { Lends S.Store tx.old.conn tx.new.conn (is_ok result) }
 {
     let rows = rows_of(tx, FIND_NEXT_BOOK, params![above])?;
     first_number(&rows)
@@ -95,11 +84,9 @@ pub fn next_in<S: Alter>(
 
 /// How many rows all books have together, as the store counts them.
 pub fn rows_in<S: Alter>(tx: &mut Transaction<'_, S>) -> Result<u64, KeepError>
-    ensures same_reference { tx.new.conn.ghost_name ≡ tx.old.conn.ghost_name }
-    ensures finds { FindsIn HasUnsoundBook (state S.Store tx.old.conn.now)
-        (state S.Store tx.new.conn.now) result (λ h count. count ≡ rows h) }
-    ensures lent { IsLent (state S.Store tx.old.conn.now) (state S.Store tx.new.conn.now)
-        (is_ok result) }
+    ensures finds { FindsBy S.Store tx.old.conn tx.new.conn HasUnsoundBook result
+        (λ h count. count ≡ rows h) }
+    ensures lent { Lends S.Store tx.old.conn tx.new.conn (is_ok result) }
 {
     let rows = rows_of(tx, READ_ROWS, &[])?;
     only_number(&rows)

@@ -1,15 +1,14 @@
 ghost use Rattle.std.specs.Prelude.{◌≡◌, is_ok, option_map};
 ghost use Rattle.std.specs.FinMap.{get};
-ghost use Rattle.sqlite.specs.Held.{state};
 ghost use Rattle.pawn_pledge.specs.Brief.{brief_of};
 ghost use Rattle.pawn_book.specs.BookStep.{pledge_in};
 ghost use Rattle.pawn_book.specs.Sound.{IsUnsoundAt};
-ghost use Rattle.one_table.specs.Lending.{IsLent};
-ghost use Rattle.pawn_tables.specs.Finding.{FindsIn};
+ghost use Rattle.one_table.specs.Lending.{Lends};
+ghost use Rattle.pawn_tables.specs.Finding.{FindsBy};
 
 use crate::joining::briefs::join;
-use crate::tails::tails_in;
-use crate::whole::told_in;
+use crate::list_ends::list_ends_in;
+use crate::whole::stored_pledge_in;
 use pawn_book::{Brief, KeepError, Number};
 use sqlite::{Alter, Transaction};
 use std::alloc::Global;
@@ -23,18 +22,15 @@ pub fn brief_in<S: Alter>(
     book: u32,
     number: Number,
 ) -> Result<Option<Brief>, KeepError>
-    ensures same_reference { tx.new.conn.ghost_name ≡ tx.old.conn.ghost_name }
-    ensures finds { FindsIn (IsUnsoundAt book) (state S.Store tx.old.conn.now)
-        (state S.Store tx.new.conn.now) result
+    ensures finds { FindsBy S.Store tx.old.conn tx.new.conn (IsUnsoundAt book) result
         (λ h brief. brief ≡ option_map brief_of (pledge_in (get h.books book) number)) }
-    ensures lent { IsLent (state S.Store tx.old.conn.now) (state S.Store tx.new.conn.now)
-        (is_ok result) }
+    ensures lent { Lends S.Store tx.old.conn tx.new.conn (is_ok result) }
 {
     let n = number.get();
-    let Some(told) = told_in(tx, alloc, book, n)? else {
+    let Some(told) = stored_pledge_in(tx, alloc, book, n)? else {
         return Ok(None);
     };
-    let tails = tails_in(tx, book, n)?;
-    let brief = join(number, told.row, told.sides, tails)?;
+    let list_ends = list_ends_in(tx, book, n)?;
+    let brief = join(number, told.row, told.sides, list_ends)?;
     Ok(Some(brief))
 }

@@ -5,11 +5,11 @@ ghost use Rattle.pawn_terms.specs.Calendar.{IsStampDay};
 ghost use Rattle.pawn_pledge.specs.Pledge.{PledgeValue};
 ghost use Rattle.pawn_book.specs.BookStep.{pledge_in};
 ghost use Rattle.pawn_book.specs.Sound.{IsUnsoundAt};
-ghost use Rattle.one_table.specs.Lending.{IsLent};
+ghost use Rattle.one_table.specs.Lending.{Lends};
 ghost use Rattle.pawn_tables.specs.Rows.{at_most_one, credit_cells};
 ghost use Rattle.pawn_tables.specs.Finding.{FindsOf, IsRead};
 ghost use Rattle.pawn_tables.specs.StandsFor.{ListDebts};
-ghost use Rattle.pawn_tables.specs.Told.{IsCreditTold, credit_told};
+ghost use Rattle.pawn_tables.specs.PledgeRows.{IsCreditTold, credit_told};
 
 use crate::cells::{NO_RECORD, day_of, number_at, optional_at, request_day};
 use crate::queries::rows_of;
@@ -74,12 +74,10 @@ pub fn credit_in<S: Alter>(
     book: u32,
     number: u32,
 ) -> Result<Option<Credit>, KeepError>
-    ensures same_reference { tx.new.conn.ghost_name ≡ tx.old.conn.ghost_name }
     ensures finds { FindsOf ListDebts (IsUnsoundAt book) (state S.Store tx.old.conn.now)
         (state S.Store tx.new.conn.now) result
         (λ h x. x ≡ option_map credit_told (pledge_in (get h.books book) number)) }
-    ensures lent { IsLent (state S.Store tx.old.conn.now) (state S.Store tx.new.conn.now)
-        (is_ok result) }
+    ensures lent { Lends S.Store tx.old.conn tx.new.conn (is_ok result) }
 {
     let rows = rows_of(tx, READ_CREDIT, params![book, number])?;
     first_credit(&rows)

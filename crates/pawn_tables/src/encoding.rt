@@ -9,7 +9,7 @@ use sqlite_value::value::Value;
 pub const REFUSED: KeepError = KeepError::Store(StoreFault::Database);
 
 /// The number in 32 bits, as a statement takes it. `REFUSED` if it does not fit.
-pub fn small(number: u64) -> Result<u32, KeepError>
+pub fn in_32_bits(number: u64) -> Result<u32, KeepError>
     ensures value { IfOk result (λ n. n ≡ number) }
     ensures in_range { IfOk result (λ n. n < 2 ^ 32) }
 {

@@ -23,7 +23,7 @@ pub(crate) struct LastSecret {
 
 /// How many entries and extensions a pledge has, and its last secret.
 #[derive(Clone, Copy)]
-pub(crate) struct Tails {
+pub(crate) struct ListEnds {
     pub entries: u64,
     pub last: Option<LastSecret>,
     pub extensions: u64,
@@ -31,7 +31,7 @@ pub(crate) struct Tails {
 
 /// What the tables beside its row hold of a pledge.
 #[derive(Clone, Copy)]
-pub(crate) struct Sides {
+pub(crate) struct RowsBeside {
     pub terms: Option<Terms>,
     pub booking: Option<Booking>,
     pub totals: Option<Totals>,
@@ -39,7 +39,7 @@ pub(crate) struct Sides {
 
 /// What the row of a pledge holds, and what the tables beside it hold.
 #[derive(Drop)]
-pub(crate) struct Told {
+pub(crate) struct StoredPledge {
     pub row: PledgeRow,
-    pub sides: Sides,
+    pub sides: RowsBeside,
 }

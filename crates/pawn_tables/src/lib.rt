@@ -11,14 +11,14 @@ mod joining;
 mod laws;
 mod line;
 mod lines;
+mod list_elements;
+mod list_ends;
 mod lists;
 mod pages;
-mod places;
 mod queries;
 mod records;
 mod rows;
 mod sheets;
-mod tails;
 pub mod texts;
 mod whole;
 mod worked;
@@ -29,13 +29,13 @@ pub use briefs::brief_in;
 pub use cells::refused;
 pub use credits::{Credit, credit_in};
 pub use encoding::{
-    REFUSED, agreed_value, closed_amount, closed_day, closed_number, flag_number, issue_number,
-    kind_number, small, sort_number, state_number,
+    REFUSED, agreed_value, closed_amount, closed_day, closed_number, flag_number, in_32_bits,
+    issue_number, kind_number, sort_number, state_number,
 };
 pub use laws::tables_stand_for_one;
 pub use line::Line;
+pub use list_elements::{entry_in, extension_in, secret_in};
 pub use pages::{PAGE_ROWS, entries_page, extensions_page, secrets_page};
-pub use places::{entry_in, extension_in, secret_in};
 pub use queries::{booking_in, entries_in, terms_in};
 pub use sheets::{count_in, lines_page, windows_in};
 pub use whole::{pledge_of, terms_under};

@@ -1,15 +1,14 @@
 //! Lists that may be long, read page by page.
-#![tactic(auto, using(crate::proofs::Asking::unread))]
+#![tactic(auto, using(crate::proofs::StatementFinds::unread))]
 
 ghost use Rattle.std.specs.Prelude.{◌≡◌, is_ok};
 ghost use Rattle.std.specs.FinMap.{get};
-ghost use Rattle.sqlite.specs.Held.{state};
 ghost use Rattle.pawn_book.specs.BookStep.{pledge_in};
 ghost use Rattle.pawn_book.specs.Keeping.{entries_of, extensions_of, secrets_of};
 ghost use Rattle.pawn_book.specs.Sound.{IsUnsoundAt};
-ghost use Rattle.one_table.specs.Lending.{IsLent};
+ghost use Rattle.one_table.specs.Lending.{Lends};
 ghost use Rattle.pawn_tables.specs.Entries.{IsEntriesPage};
-ghost use Rattle.pawn_tables.specs.Finding.{FindsIn};
+ghost use Rattle.pawn_tables.specs.Finding.{FindsBy};
 ghost use Rattle.pawn_tables.specs.Places.{page_behind};
 
 use crate::lists::{read_entries, read_extensions, read_secrets};
@@ -32,12 +31,9 @@ pub fn entries_page<S: Alter>(
     number: u32,
     from: u32,
 ) -> Result<Entries, KeepError>
-    ensures same_reference { tx.new.conn.ghost_name ≡ tx.old.conn.ghost_name }
-    ensures finds { FindsIn (IsUnsoundAt book) (state S.Store tx.old.conn.now)
-        (state S.Store tx.new.conn.now) result
+    ensures finds { FindsBy S.Store tx.old.conn tx.new.conn (IsUnsoundAt book) result
         (λ h page. IsEntriesPage from (entries_of (pledge_in (get h.books book) number)) page) }
-    ensures lent { IsLent (state S.Store tx.old.conn.now) (state S.Store tx.new.conn.now)
-        (is_ok result) }
+    ensures lent { Lends S.Store tx.old.conn tx.new.conn (is_ok result) }
 {
     let rows = rows_of(tx, READ_ENTRIES_PAGE, params![book, number, from])?;
     read_entries(alloc, &rows)
@@ -51,12 +47,9 @@ pub fn secrets_page<S: Alter>(
     number: u32,
     behind: u32,
 ) -> Result<Secrets, KeepError>
-    ensures same_reference { tx.new.conn.ghost_name ≡ tx.old.conn.ghost_name }
-    ensures finds { FindsIn (IsUnsoundAt book) (state S.Store tx.old.conn.now)
-        (state S.Store tx.new.conn.now) result
+    ensures finds { FindsBy S.Store tx.old.conn tx.new.conn (IsUnsoundAt book) result
         (λ h page. page ≡ page_behind behind (secrets_of (pledge_in (get h.books book) number))) }
-    ensures lent { IsLent (state S.Store tx.old.conn.now) (state S.Store tx.new.conn.now)
-        (is_ok result) }
+    ensures lent { Lends S.Store tx.old.conn tx.new.conn (is_ok result) }
 {
     let rows = rows_of(tx, READ_SECRETS_PAGE, params![book, number, behind])?;
     read_secrets(alloc, &rows)
@@ -70,13 +63,10 @@ pub fn extensions_page<S: Alter>(
     number: u32,
     behind: u32,
 ) -> Result<Extensions, KeepError>
-    ensures same_reference { tx.new.conn.ghost_name ≡ tx.old.conn.ghost_name }
-    ensures finds { FindsIn (IsUnsoundAt book) (state S.Store tx.old.conn.now)
-        (state S.Store tx.new.conn.now) result
-        (λ h page. page ≡ page_behind behind
-        (extensions_of (pledge_in (get h.books book) number))) }
-    ensures lent { IsLent (state S.Store tx.old.conn.now) (state S.Store tx.new.conn.now)
-        (is_ok result) }
+    ensures finds { FindsBy S.Store tx.old.conn tx.new.conn (IsUnsoundAt book) result
+        (λ h page. page ≡ page_behind behind (extensions_of (pledge_in (get h.books book)
+        number))) }
+    ensures lent { Lends S.Store tx.old.conn tx.new.conn (is_ok result) }
 {
     let rows = rows_of(tx, READ_EXTENSIONS_PAGE, params![book, number, behind])?;
     read_extensions(alloc, &rows)

@@ -1,4 +1,4 @@
-#![tactic(auto, using(crate::proofs::Asking::unread))]
+#![tactic(auto, using(crate::proofs::StatementFinds::unread))]
 
 ghost use Rattle.std.specs.Prelude.{◌≡◌, Err, IfOk, is_ok, option_map};
 ghost use Rattle.std.specs.FinMap.{get};
@@ -11,10 +11,10 @@ ghost use Rattle.pawn_book.specs.Rows.{terms_at};
 ghost use Rattle.pawn_book.specs.BookStep.{pledge_in};
 ghost use Rattle.pawn_book.specs.Keeping.{entries_of, extensions_of, secrets_of, terms_of};
 ghost use Rattle.pawn_book.specs.Sound.{IsUnsoundAt};
-ghost use Rattle.one_table.specs.Lending.{IsLent};
-ghost use Rattle.pawn_tables.specs.Finding.{FindsIn, FindsOf};
+ghost use Rattle.one_table.specs.Lending.{Lends};
+ghost use Rattle.pawn_tables.specs.Finding.{FindsOf, FindsBy};
 ghost use Rattle.pawn_tables.specs.StandsFor.{ListDebts};
-ghost use Rattle.pawn_tables.specs.Told.{row_of, booking_of, totals_in};
+ghost use Rattle.pawn_tables.specs.PledgeRows.{row_of, booking_of, totals_in};
 
 use crate::cells::refused;
 use crate::lists::{read_entries, read_extensions, read_secrets};
@@ -37,13 +37,11 @@ pub(crate) fn rows_of<S: Alter>(
     sql: &str,
     params: &[ValueRef<'_>],
 ) -> Result<Vec<Row>, KeepError>
-    ensures same_reference { tx.new.conn.ghost_name ≡ tx.old.conn.ghost_name }
     ensures shown { HasCleanDisk (state S.Store tx.new.conn.now) → IfOk result
         (λ rows. Shown sql.now (bound params.now) (state S.Store tx.old.conn.now)
         (state S.Store tx.new.conn.now) rows.items) }
     ensures unread { result ≡ Err (Keeper.Store NoRecord) → ⊥ }
-    ensures lent { IsLent (state S.Store tx.old.conn.now) (state S.Store tx.new.conn.now)
-        (is_ok result) }
+    ensures lent { Lends S.Store tx.old.conn tx.new.conn (is_ok result) }
 {
     match ask(tx, sql, params) {
         Ok(rows) => Ok(rows),
@@ -58,15 +56,12 @@ pub fn entries_in<S: Alter>(
     book: u32,
     number: u32,
 ) -> Result<Entries, KeepError>
-    ensures same_reference { tx.new.conn.ghost_name ≡ tx.old.conn.ghost_name }
-    ensures finds { FindsIn (IsUnsoundAt book) (state S.Store tx.old.conn.now)
-        (state S.Store tx.new.conn.now) result
+    ensures finds { FindsBy S.Store tx.old.conn tx.new.conn (IsUnsoundAt book) result
         (λ h x. x ≡ entries_of (pledge_in (get h.books book) number)) }
     ensures told { FindsOf ListDebts (IsUnsoundAt book) (state S.Store tx.old.conn.now)
         (state S.Store tx.new.conn.now) result
         (λ h x. x ≡ entries_of (pledge_in (get h.books book) number)) }
-    ensures lent { IsLent (state S.Store tx.old.conn.now) (state S.Store tx.new.conn.now)
-        (is_ok result) }
+    ensures lent { Lends S.Store tx.old.conn tx.new.conn (is_ok result) }
 {
     let rows = rows_of(tx, READ_ENTRIES, params![book, number])?;
     read_entries(alloc, &rows)
@@ -79,12 +74,9 @@ pub(crate) fn secrets_in<S: Alter>(
     book: u32,
     number: u32,
 ) -> Result<Secrets, KeepError>
-    ensures same_reference { tx.new.conn.ghost_name ≡ tx.old.conn.ghost_name }
-    ensures finds { FindsIn (IsUnsoundAt book) (state S.Store tx.old.conn.now)
-        (state S.Store tx.new.conn.now) result
+    ensures finds { FindsBy S.Store tx.old.conn tx.new.conn (IsUnsoundAt book) result
         (λ h x. x ≡ secrets_of (pledge_in (get h.books book) number)) }
-    ensures lent { IsLent (state S.Store tx.old.conn.now) (state S.Store tx.new.conn.now)
-        (is_ok result) }
+    ensures lent { Lends S.Store tx.old.conn tx.new.conn (is_ok result) }
 {
     let rows = rows_of(tx, READ_SECRETS, params![book, number])?;
     read_secrets(alloc, &rows)
@@ -97,12 +89,9 @@ pub(crate) fn extensions_in<S: Alter>(
     book: u32,
     number: u32,
 ) -> Result<Extensions, KeepError>
-    ensures same_reference { tx.new.conn.ghost_name ≡ tx.old.conn.ghost_name }
-    ensures finds { FindsIn (IsUnsoundAt book) (state S.Store tx.old.conn.now)
-        (state S.Store tx.new.conn.now) result
+    ensures finds { FindsBy S.Store tx.old.conn tx.new.conn (IsUnsoundAt book) result
         (λ h x. x ≡ extensions_of (pledge_in (get h.books book) number)) }
-    ensures lent { IsLent (state S.Store tx.old.conn.now) (state S.Store tx.new.conn.now)
-        (is_ok result) }
+    ensures lent { Lends S.Store tx.old.conn tx.new.conn (is_ok result) }
 {
     let rows = rows_of(tx, READ_EXTENSIONS, params![book, number])?;
     read_extensions(alloc, &rows)
@@ -114,12 +103,9 @@ pub fn booking_in<S: Alter>(
     book: u32,
     number: u32,
 ) -> Result<Option<Booking>, KeepError>
-    ensures same_reference { tx.new.conn.ghost_name ≡ tx.old.conn.ghost_name }
-    ensures finds { FindsIn (IsUnsoundAt book) (state S.Store tx.old.conn.now)
-        (state S.Store tx.new.conn.now) result
+    ensures finds { FindsBy S.Store tx.old.conn tx.new.conn (IsUnsoundAt book) result
         (λ h x. x ≡ booking_of (pledge_in (get h.books book) number)) }
-    ensures lent { IsLent (state S.Store tx.old.conn.now) (state S.Store tx.new.conn.now)
-        (is_ok result) }
+    ensures lent { Lends S.Store tx.old.conn tx.new.conn (is_ok result) }
 {
     let rows = rows_of(tx, READ_BOOKING, params![book, number])?;
     first_booking(&rows)
@@ -131,12 +117,9 @@ pub(crate) fn totals_in<S: Alter>(
     book: u32,
     number: u32,
 ) -> Result<Option<Totals>, KeepError>
-    ensures same_reference { tx.new.conn.ghost_name ≡ tx.old.conn.ghost_name }
-    ensures finds { FindsIn (IsUnsoundAt book) (state S.Store tx.old.conn.now)
-        (state S.Store tx.new.conn.now) result
+    ensures finds { FindsBy S.Store tx.old.conn tx.new.conn (IsUnsoundAt book) result
         (λ h x. x ≡ totals_in (pledge_in (get h.books book) number)) }
-    ensures lent { IsLent (state S.Store tx.old.conn.now) (state S.Store tx.new.conn.now)
-        (is_ok result) }
+    ensures lent { Lends S.Store tx.old.conn tx.new.conn (is_ok result) }
 {
     let rows = rows_of(tx, READ_TOTALS, params![book, number])?;
     first_totals(&rows)
@@ -148,15 +131,12 @@ pub fn terms_in<S: Alter>(
     book: u32,
     version: u32,
 ) -> Result<Option<Terms>, KeepError>
-    ensures same_reference { tx.new.conn.ghost_name ≡ tx.old.conn.ghost_name }
-    ensures finds { FindsIn (IsUnsoundAt book) (state S.Store tx.old.conn.now)
-        (state S.Store tx.new.conn.now) result
+    ensures finds { FindsBy S.Store tx.old.conn tx.new.conn (IsUnsoundAt book) result
         (λ h x. x ≡ terms_at (terms_of (get h.books book)) version) }
     ensures told { FindsOf ListDebts (IsUnsoundAt book) (state S.Store tx.old.conn.now)
         (state S.Store tx.new.conn.now) result
         (λ h x. x ≡ terms_at (terms_of (get h.books book)) version) }
-    ensures lent { IsLent (state S.Store tx.old.conn.now) (state S.Store tx.new.conn.now)
-        (is_ok result) }
+    ensures lent { Lends S.Store tx.old.conn tx.new.conn (is_ok result) }
 {
     let rows = rows_of(tx, READ_TERMS, params![book, version])?;
     first_terms(&rows)
@@ -169,12 +149,9 @@ pub(crate) fn row_in<S: Alter>(
     book: u32,
     number: u32,
 ) -> Result<Option<PledgeRow>, KeepError>
-    ensures same_reference { tx.new.conn.ghost_name ≡ tx.old.conn.ghost_name }
-    ensures finds { FindsIn (IsUnsoundAt book) (state S.Store tx.old.conn.now)
-        (state S.Store tx.new.conn.now) result
+    ensures finds { FindsBy S.Store tx.old.conn tx.new.conn (IsUnsoundAt book) result
         (λ h x. x ≡ option_map row_of (pledge_in (get h.books book) number)) }
-    ensures lent { IsLent (state S.Store tx.old.conn.now) (state S.Store tx.new.conn.now)
-        (is_ok result) }
+    ensures lent { Lends S.Store tx.old.conn tx.new.conn (is_ok result) }
 {
     let rows = rows_of(tx, READ_PLEDGE, params![book, number])?;
     first_pledge(alloc, &rows)

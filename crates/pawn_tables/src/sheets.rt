@@ -1,14 +1,13 @@
-#![tactic(auto, using(crate::proofs::Asking::unread))]
+#![tactic(auto, using(crate::proofs::StatementFinds::unread))]
 
 ghost use Rattle.std.specs.Prelude.{◌≡◌, is_ok, length};
 ghost use Rattle.std.specs.FinMap.{get};
-ghost use Rattle.sqlite.specs.Held.{state};
 ghost use Rattle.pawn_book.specs.declared.sheet.Part.TheVariants as part_of;
 ghost use Rattle.pawn_book.specs.Keeping.{pledges_of};
 ghost use Rattle.pawn_book.specs.Sheet.{part_items};
 ghost use Rattle.pawn_book.specs.Sound.{IsUnsoundAt};
-ghost use Rattle.one_table.specs.Lending.{IsLent};
-ghost use Rattle.pawn_tables.specs.Finding.{FindsIn};
+ghost use Rattle.one_table.specs.Lending.{Lends};
+ghost use Rattle.pawn_tables.specs.Finding.{FindsBy};
 ghost use Rattle.pawn_tables.specs.Lines.{IsLinesPage, NamesWindows};
 
 use crate::books::confirmed_in;
@@ -26,12 +25,10 @@ use std::alloc::Global;
 
 // How many bookings are asked for a day.
 fn asked_in<S: Alter>(tx: &mut Transaction<'_, S>, book: u32, day: Day) -> Result<u64, KeepError>
-    ensures same_reference { tx.new.conn.ghost_name ≡ tx.old.conn.ghost_name }
-    ensures finds { FindsIn (IsUnsoundAt book) (state S.Store tx.old.conn.now)
-        (state S.Store tx.new.conn.now) result
-        (λ h count. count ≡ length (part_items part_of.Asked day (pledges_of (get h.books book)))) }
-    ensures lent { IsLent (state S.Store tx.old.conn.now) (state S.Store tx.new.conn.now)
-        (is_ok result) }
+    ensures finds { FindsBy S.Store tx.old.conn tx.new.conn (IsUnsoundAt book) result
+        (λ h count. count ≡ length (part_items part_of.Asked day (pledges_of (get h.books
+        book)))) }
+    ensures lent { Lends S.Store tx.old.conn tx.new.conn (is_ok result) }
 {
     let day = day.count();
     let rows = rows_of(tx, COUNT_ASKED, params![book, day])?;
@@ -40,12 +37,10 @@ fn asked_in<S: Alter>(tx: &mut Transaction<'_, S>, book: u32, day: Day) -> Resul
 
 // How many periods end on a day, those of the redeemed and the sold aside.
 fn ends_in<S: Alter>(tx: &mut Transaction<'_, S>, book: u32, day: Day) -> Result<u64, KeepError>
-    ensures same_reference { tx.new.conn.ghost_name ≡ tx.old.conn.ghost_name }
-    ensures finds { FindsIn (IsUnsoundAt book) (state S.Store tx.old.conn.now)
-        (state S.Store tx.new.conn.now) result
-        (λ h count. count ≡ length (part_items part_of.Ends day (pledges_of (get h.books book)))) }
-    ensures lent { IsLent (state S.Store tx.old.conn.now) (state S.Store tx.new.conn.now)
-        (is_ok result) }
+    ensures finds { FindsBy S.Store tx.old.conn tx.new.conn (IsUnsoundAt book) result
+        (λ h count. count ≡ length (part_items part_of.Ends day (pledges_of (get h.books
+        book)))) }
+    ensures lent { Lends S.Store tx.old.conn tx.new.conn (is_ok result) }
 {
     let day = day.count();
     let rows = rows_of(tx, COUNT_ENDS, params![book, day])?;
@@ -60,12 +55,9 @@ pub fn count_in<S: Alter>(
     day: Day,
     part: Part,
 ) -> Result<u64, KeepError>
-    ensures same_reference { tx.new.conn.ghost_name ≡ tx.old.conn.ghost_name }
-    ensures finds { FindsIn (IsUnsoundAt book) (state S.Store tx.old.conn.now)
-        (state S.Store tx.new.conn.now) result
+    ensures finds { FindsBy S.Store tx.old.conn tx.new.conn (IsUnsoundAt book) result
         (λ h count. count ≡ length (part_items part day (pledges_of (get h.books book)))) }
-    ensures lent { IsLent (state S.Store tx.old.conn.now) (state S.Store tx.new.conn.now)
-        (is_ok result) }
+    ensures lent { Lends S.Store tx.old.conn tx.new.conn (is_ok result) }
 {
     match part {
         Part::Confirmed { window } => confirmed_in(tx, book, day, window),
@@ -81,12 +73,9 @@ pub fn windows_in<S: Alter>(
     book: u32,
     day: Day,
 ) -> Result<Rows<u64>, KeepError>
-    ensures same_reference { tx.new.conn.ghost_name ≡ tx.old.conn.ghost_name }
-    ensures finds { FindsIn (IsUnsoundAt book) (state S.Store tx.old.conn.now)
-        (state S.Store tx.new.conn.now) result
+    ensures finds { FindsBy S.Store tx.old.conn tx.new.conn (IsUnsoundAt book) result
         (λ h windows. NamesWindows day (pledges_of (get h.books book)) windows) }
-    ensures lent { IsLent (state S.Store tx.old.conn.now) (state S.Store tx.new.conn.now)
-        (is_ok result) }
+    ensures lent { Lends S.Store tx.old.conn tx.new.conn (is_ok result) }
 {
     let day = day.count();
     let rows = rows_of(tx, READ_WINDOWS, params![book, day])?;
@@ -102,13 +91,10 @@ fn confirmed_page<S: Alter>(
     window: u64,
     above: u32,
 ) -> Result<Rows<Line>, KeepError>
-    ensures same_reference { tx.new.conn.ghost_name ≡ tx.old.conn.ghost_name }
-    ensures finds { FindsIn (IsUnsoundAt book) (state S.Store tx.old.conn.now)
-        (state S.Store tx.new.conn.now) result
-        (λ h page. IsLinesPage (part_of.Confirmed window) day above
-        (pledges_of (get h.books book)) page) }
-    ensures lent { IsLent (state S.Store tx.old.conn.now) (state S.Store tx.new.conn.now)
-        (is_ok result) }
+    ensures finds { FindsBy S.Store tx.old.conn tx.new.conn (IsUnsoundAt book) result
+        (λ h page. IsLinesPage (part_of.Confirmed window) day above (pledges_of (get h.books
+        book)) page) }
+    ensures lent { Lends S.Store tx.old.conn tx.new.conn (is_ok result) }
 {
     let Ok(slot) = u32::try_from(window) else {
         return Err(KeepError::Store(StoreFault::Database));
@@ -126,12 +112,9 @@ fn asked_page<S: Alter>(
     day: Day,
     above: u32,
 ) -> Result<Rows<Line>, KeepError>
-    ensures same_reference { tx.new.conn.ghost_name ≡ tx.old.conn.ghost_name }
-    ensures finds { FindsIn (IsUnsoundAt book) (state S.Store tx.old.conn.now)
-        (state S.Store tx.new.conn.now) result
+    ensures finds { FindsBy S.Store tx.old.conn tx.new.conn (IsUnsoundAt book) result
         (λ h page. IsLinesPage part_of.Asked day above (pledges_of (get h.books book)) page) }
-    ensures lent { IsLent (state S.Store tx.old.conn.now) (state S.Store tx.new.conn.now)
-        (is_ok result) }
+    ensures lent { Lends S.Store tx.old.conn tx.new.conn (is_ok result) }
 {
     let day = day.count();
     let rows = rows_of(tx, READ_ASKED_PAGE, params![book, above, day])?;
@@ -146,12 +129,9 @@ fn ends_page<S: Alter>(
     day: Day,
     above: u32,
 ) -> Result<Rows<Line>, KeepError>
-    ensures same_reference { tx.new.conn.ghost_name ≡ tx.old.conn.ghost_name }
-    ensures finds { FindsIn (IsUnsoundAt book) (state S.Store tx.old.conn.now)
-        (state S.Store tx.new.conn.now) result
+    ensures finds { FindsBy S.Store tx.old.conn tx.new.conn (IsUnsoundAt book) result
         (λ h page. IsLinesPage part_of.Ends day above (pledges_of (get h.books book)) page) }
-    ensures lent { IsLent (state S.Store tx.old.conn.now) (state S.Store tx.new.conn.now)
-        (is_ok result) }
+    ensures lent { Lends S.Store tx.old.conn tx.new.conn (is_ok result) }
 {
     let day = day.count();
     let rows = rows_of(tx, READ_ENDS_PAGE, params![book, above, day])?;
@@ -168,12 +148,9 @@ pub fn lines_page<S: Alter>(
     part: Part,
     above: u32,
 ) -> Result<Rows<Line>, KeepError>
-    ensures same_reference { tx.new.conn.ghost_name ≡ tx.old.conn.ghost_name }
-    ensures finds { FindsIn (IsUnsoundAt book) (state S.Store tx.old.conn.now)
-        (state S.Store tx.new.conn.now) result
+    ensures finds { FindsBy S.Store tx.old.conn tx.new.conn (IsUnsoundAt book) result
         (λ h page. IsLinesPage part day above (pledges_of (get h.books book)) page) }
-    ensures lent { IsLent (state S.Store tx.old.conn.now) (state S.Store tx.new.conn.now)
-        (is_ok result) }
+    ensures lent { Lends S.Store tx.old.conn tx.new.conn (is_ok result) }
 {
     match part {
         Part::Confirmed { window } => confirmed_page(tx, alloc, book, day, window, above),

@@ -1,17 +1,16 @@
 ghost use Rattle.std.specs.Prelude.{◌≡◌, IfSome, is_ok};
 ghost use Rattle.std.specs.FinMap.{get};
-ghost use Rattle.sqlite.specs.Held.{state};
 ghost use Rattle.pawn_book.specs.Rows.{terms_at};
 ghost use Rattle.pawn_book.specs.BookStep.{pledge_in};
 ghost use Rattle.pawn_book.specs.Keeping.{terms_of};
 ghost use Rattle.pawn_book.specs.Sound.{IsUnsoundAt};
-ghost use Rattle.one_table.specs.Lending.{IsLent};
-ghost use Rattle.pawn_tables.specs.Finding.{FindsIn};
-ghost use Rattle.pawn_tables.specs.Told.{AreLists, AreSides, AreTold};
+ghost use Rattle.one_table.specs.Lending.{Lends};
+ghost use Rattle.pawn_tables.specs.Finding.{FindsBy};
+ghost use Rattle.pawn_tables.specs.PledgeRows.{AreLists, AreSides, AreTold};
 
 use crate::cells::NO_RECORD;
 use crate::joining::pledges::join;
-use crate::joining::{Lists, Sides, Told};
+use crate::joining::{Lists, RowsBeside, StoredPledge};
 use crate::queries::{
     booking_in, entries_in, extensions_in, row_in, secrets_in, terms_in, totals_in,
 };
@@ -26,12 +25,9 @@ pub fn terms_under<S: Alter>(
     book: u32,
     version: u64,
 ) -> Result<Option<Terms>, KeepError>
-    ensures same_reference { tx.new.conn.ghost_name ≡ tx.old.conn.ghost_name }
-    ensures finds { FindsIn (IsUnsoundAt book) (state S.Store tx.old.conn.now)
-        (state S.Store tx.new.conn.now) result
+    ensures finds { FindsBy S.Store tx.old.conn tx.new.conn (IsUnsoundAt book) result
         (λ h terms. terms ≡ terms_at (terms_of (get h.books book)) version) }
-    ensures lent { IsLent (state S.Store tx.old.conn.now) (state S.Store tx.new.conn.now)
-        (is_ok result) }
+    ensures lent { Lends S.Store tx.old.conn tx.new.conn (is_ok result) }
 {
     let Ok(short) = u32::try_from(version) else {
         return terms_in(tx, book, 0);
@@ -47,12 +43,9 @@ pub(crate) fn lists_in<S: Alter>(
     book: u32,
     number: u32,
 ) -> Result<Lists, KeepError>
-    ensures same_reference { tx.new.conn.ghost_name ≡ tx.old.conn.ghost_name }
-    ensures finds { FindsIn (IsUnsoundAt book) (state S.Store tx.old.conn.now)
-        (state S.Store tx.new.conn.now) result
+    ensures finds { FindsBy S.Store tx.old.conn tx.new.conn (IsUnsoundAt book) result
         (λ h l. IfSome (pledge_in (get h.books book) number) (AreLists l)) }
-    ensures lent { IsLent (state S.Store tx.old.conn.now) (state S.Store tx.new.conn.now)
-        (is_ok result) }
+    ensures lent { Lends S.Store tx.old.conn tx.new.conn (is_ok result) }
 {
     let entries = entries_in(tx, alloc, book, number)?;
     let secrets = secrets_in(tx, alloc, book, number)?;
@@ -71,19 +64,16 @@ pub(crate) fn sides_in<S: Alter>(
     book: u32,
     number: u32,
     version: u32,
-) -> Result<Sides, KeepError>
-    ensures same_reference { tx.new.conn.ghost_name ≡ tx.old.conn.ghost_name }
-    ensures finds { FindsIn (IsUnsoundAt book) (state S.Store tx.old.conn.now)
-        (state S.Store tx.new.conn.now) result
-        (λ h s. IfSome (pledge_in (get h.books book) number)
-        (λ p. version ≡ p.agreement.version → AreSides s p)) }
-    ensures lent { IsLent (state S.Store tx.old.conn.now) (state S.Store tx.new.conn.now)
-        (is_ok result) }
+) -> Result<RowsBeside, KeepError>
+    ensures finds { FindsBy S.Store tx.old.conn tx.new.conn (IsUnsoundAt book) result
+        (λ h s. IfSome (pledge_in (get h.books book) number) (λ p. version ≡ p.agreement.version
+        → AreSides s p)) }
+    ensures lent { Lends S.Store tx.old.conn tx.new.conn (is_ok result) }
 {
     let terms = terms_in(tx, book, version)?;
     let booking = booking_in(tx, book, number)?;
     let totals = totals_in(tx, book, number)?;
-    Ok(Sides {
+    Ok(RowsBeside {
         terms,
         booking,
         totals,
@@ -92,18 +82,15 @@ pub(crate) fn sides_in<S: Alter>(
 
 /// What the row of a pledge and the tables beside it hold, if there is such a pledge.
 #[tactic(auto, using(crate::proofs::Lent::lent_then))]
-pub(crate) fn told_in<S: Alter>(
+pub(crate) fn stored_pledge_in<S: Alter>(
     tx: &mut Transaction<'_, S>,
     alloc: Global,
     book: u32,
     number: u32,
-) -> Result<Option<Told>, KeepError>
-    ensures same_reference { tx.new.conn.ghost_name ≡ tx.old.conn.ghost_name }
-    ensures finds { FindsIn (IsUnsoundAt book) (state S.Store tx.old.conn.now)
-        (state S.Store tx.new.conn.now) result
+) -> Result<Option<StoredPledge>, KeepError>
+    ensures finds { FindsBy S.Store tx.old.conn tx.new.conn (IsUnsoundAt book) result
         (λ h t. AreTold t (pledge_in (get h.books book) number)) }
-    ensures lent { IsLent (state S.Store tx.old.conn.now) (state S.Store tx.new.conn.now)
-        (is_ok result) }
+    ensures lent { Lends S.Store tx.old.conn tx.new.conn (is_ok result) }
 {
     let Some(row) = row_in(tx, alloc, book, number)? else {
         return Ok(None);
@@ -112,7 +99,7 @@ pub(crate) fn told_in<S: Alter>(
         return Err(NO_RECORD);
     };
     let sides = sides_in(tx, book, number, version)?;
-    Ok(Some(Told { row, sides }))
+    Ok(Some(StoredPledge { row, sides }))
 }
 
 /// The pledge with this number in a book, if there is one. Its stored totals and end are compared with those that
@@ -124,15 +111,12 @@ pub fn pledge_of<S: Alter>(
     book: u32,
     number: Number,
 ) -> Result<Option<Pledge>, KeepError>
-    ensures same_reference { tx.new.conn.ghost_name ≡ tx.old.conn.ghost_name }
-    ensures finds { FindsIn (IsUnsoundAt book) (state S.Store tx.old.conn.now)
-        (state S.Store tx.new.conn.now) result
+    ensures finds { FindsBy S.Store tx.old.conn tx.new.conn (IsUnsoundAt book) result
         (λ h pledge. pledge ≡ pledge_in (get h.books book) number) }
-    ensures lent { IsLent (state S.Store tx.old.conn.now) (state S.Store tx.new.conn.now)
-        (is_ok result) }
+    ensures lent { Lends S.Store tx.old.conn tx.new.conn (is_ok result) }
 {
     let n = number.get();
-    let Some(told) = told_in(tx, alloc, book, n)? else {
+    let Some(told) = stored_pledge_in(tx, alloc, book, n)? else {
         return Ok(None);
     };
     let lists = lists_in(tx, alloc, book, n)?;

@@ -1,10 +1,10 @@
-ghost use Rattle.std.specs.Prelude.{◌≡◌, ◌≢◌, ℕ, IsTrue, OnOk, Ok, Err, is_ok};
+ghost use Rattle.std.specs.Prelude.{◌≢◌, ℕ, IsTrue, OnOk, Ok, Err, is_ok};
 ghost use Rattle.sqlite.specs.Values.{bound};
 ghost use Rattle.sqlite.specs.Held.{state};
 ghost use Rattle.sqlite.specs.State.{Executes, HasCleanDisk};
 ghost use Rattle.pawn_book.specs.declared.fault.KeepError.TheVariants as Keeper;
 ghost use Rattle.pawn_book.specs.declared.fault.StoreFault.TheVariants.{NoRecord};
-ghost use Rattle.one_table.specs.Lending.{IsLent};
+ghost use Rattle.one_table.specs.Lending.{Lends};
 
 use crate::cells::refused;
 use one_table::run;
@@ -18,14 +18,12 @@ pub fn write<S: Alter>(
     sql: &str,
     params: &[ValueRef<'_>],
 ) -> Result<(), KeepError>
-    ensures same_reference { tx.new.conn.ghost_name ≡ tx.old.conn.ghost_name }
     ensures ran { HasCleanDisk (state S.Store tx.new.conn.now) → IsTrue
         (state S.Store tx.old.conn.now).in_transaction → OnOk result
         ((count : ℕ) × Executes sql.now (bound params.now) (state S.Store tx.old.conn.now)
         (state S.Store tx.new.conn.now) (Ok count)) }
     ensures no_row { result ≢ Err (Keeper.Store NoRecord) }
-    ensures lent { IsLent (state S.Store tx.old.conn.now) (state S.Store tx.new.conn.now)
-        (is_ok result) }
+    ensures lent { Lends S.Store tx.old.conn tx.new.conn (is_ok result) }
 {
     match run(tx, sql, params) {
         Ok(()) => Ok(()),

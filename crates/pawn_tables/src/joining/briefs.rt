@@ -4,12 +4,12 @@ ghost use Rattle.pawn_pledge.specs.declared.record.Issued.{Issued};
 ghost use Rattle.pawn_pledge.specs.Brief.{brief_of};
 ghost use Rattle.pawn_pledge.specs.Pledge.{PledgeValue, end_of, last_secret, live_under};
 ghost use Rattle.pawn_tables.specs.Finding.{IsRead};
-ghost use Rattle.pawn_tables.specs.Tails.{AreTails, last_issued};
-ghost use Rattle.pawn_tables.specs.Told.{AreSides, HasSecret, IsBriefTold, row_of};
+ghost use Rattle.pawn_tables.specs.ListEnds.{AreListEnds, last_issued};
+ghost use Rattle.pawn_tables.specs.PledgeRows.{AreSides, HasSecret, IsBriefTold, row_of};
 
 use super::pledges::{ends_of, record_of};
 use crate::cells::{NO_RECORD, day_of};
-use crate::joining::{LastSecret, Sides, Tails};
+use crate::joining::{LastSecret, ListEnds, RowsBeside};
 use crate::records::PledgeRow;
 use pawn_book::{Brief, BriefFields, Closing, KeepError, Number, Secret};
 use pawn_pledge::Counts;
@@ -47,13 +47,13 @@ fn place_of(last: Option<LastSecret>) -> u64
 }
 
 // How many entries, secrets and extensions there are.
-fn counts_of(tails: Tails) -> Counts
-    ensures value { (p : PledgeValue) → AreTails tails p → result ≡ (brief_of p).counts }
+fn counts_of(list_ends: ListEnds) -> Counts
+    ensures value { (p : PledgeValue) → AreListEnds list_ends p → result ≡ (brief_of p).counts }
 {
     Counts {
-        entries: tails.entries as usize,
-        secrets: place_of(tails.last) as usize,
-        extensions: tails.extensions as usize,
+        entries: list_ends.entries as usize,
+        secrets: place_of(list_ends.last) as usize,
+        extensions: list_ends.extensions as usize,
     }
 }
 
@@ -62,14 +62,14 @@ fn counts_of(tails: Tails) -> Counts
 fn fields_of(
     number: Number,
     row: PledgeRow,
-    sides: Sides,
-    tails: Tails,
+    sides: RowsBeside,
+    list_ends: ListEnds,
 ) -> Result<BriefFields, KeepError>
     ensures read { (p : PledgeValue) → number ≡ p.agreement.number → row ≡ row_of p
-        → AreSides sides p → AreTails tails p → IsRead result (brief_of p)
+        → AreSides sides p → AreListEnds list_ends p → IsRead result (brief_of p)
         (HasSecret p × IsDayNumber (end_of p)) }
 {
-    let Sides {
+    let RowsBeside {
         terms,
         booking,
         totals,
@@ -80,15 +80,15 @@ fn fields_of(
     let Some(totals) = totals else {
         return Err(NO_RECORD);
     };
-    if tails.last.is_none() {
+    if list_ends.last.is_none() {
         return Err(NO_RECORD);
     }
     let ends = day_of(ends_of(&row))?;
     let (agreement, standing) = record_of(number, row, terms, booking);
-    let live = live_of(standing.closing, tails.last);
+    let live = live_of(standing.closing, list_ends.last);
     Ok(BriefFields {
         agreement,
-        counts: counts_of(tails),
+        counts: counts_of(list_ends),
         standing,
         live,
         ends,
@@ -100,13 +100,13 @@ fn fields_of(
 pub(crate) fn join(
     number: Number,
     row: PledgeRow,
-    sides: Sides,
-    tails: Tails,
+    sides: RowsBeside,
+    list_ends: ListEnds,
 ) -> Result<Brief, KeepError>
     ensures read { (p : PledgeValue) → number ≡ p.agreement.number → row ≡ row_of p
-        → AreSides sides p → AreTails tails p → IsRead result (brief_of p) (IsBriefTold p) }
+        → AreSides sides p → AreListEnds list_ends p → IsRead result (brief_of p) (IsBriefTold p) }
 {
-    let fields = fields_of(number, row, sides, tails)?;
+    let fields = fields_of(number, row, sides, list_ends)?;
     match Brief::of_fields(fields) {
         Ok(brief) => Ok(brief),
         Err(_) => Err(NO_RECORD),

@@ -2,11 +2,11 @@ ghost use Rattle.std.specs.Prelude.{◌≡◌, ◌↔◌, IfOk, IsTrue, Some};
 ghost use Rattle.pawn_debt.specs.Kept.{totals_of};
 ghost use Rattle.pawn_pledge.specs.Pledge.{PledgeValue, debt_of, end_of};
 ghost use Rattle.pawn_pledge.specs.Replayable.{IsStanding};
-ghost use Rattle.pawn_tables.specs.Told.{AreLists, AreSides, row_of};
+ghost use Rattle.pawn_tables.specs.PledgeRows.{AreLists, AreSides, row_of};
 ghost use Rattle.pawn_tables.specs.Finding.{IsRead};
 
 use crate::cells::NO_RECORD;
-use crate::joining::{Lists, Sides};
+use crate::joining::{Lists, RowsBeside};
 use crate::records::PledgeRow;
 use pawn_book::{Agreement, Booking, KeepError, Number, Parts, Pledge, Standing, Terms};
 use pawn_debt::Totals;
@@ -95,7 +95,7 @@ fn parts_of(
 pub(crate) fn join(
     number: Number,
     row: PledgeRow,
-    sides: Sides,
+    sides: RowsBeside,
     lists: Lists,
 ) -> Result<Pledge, KeepError>
     ensures read { (p : PledgeValue) → number ≡ p.agreement.number → row ≡ row_of p
@@ -103,7 +103,7 @@ pub(crate) fn join(
     ensures ends { IfOk result (λ p. row.ends ≡ end_of p) }
     ensures totals { IfOk result (λ p. sides.totals ≡ Some (totals_of (debt_of p))) }
 {
-    let Sides {
+    let RowsBeside {
         terms,
         booking,
         totals,

@@ -10,11 +10,11 @@ use Rattle.pawn_move.proofs.judging.judge_next.Goals as goal
 
 pub returns-in-Ok-clause-judges : goal.returns-in-Ok-clause-judges
 returns-in-Ok-clause-judges g c =
-    next_judged _ _ _ c.args.above c.in-Some.book c.in_ok-book.ensures.lent c.in-Ok.ensures.carried (rw c.in-Some.is at c.in_ok-book.ensures.told) (rw c.get.ensures.value at c.in-Ok.ensures.judges)
+    next_judged _ _ _ c.args.above c.in-Some.book c.in_ok-book.ensures.lent.leaves c.in-Ok.ensures.carried (rw c.in-Some.is at c.in_ok-book.ensures.told) (rw c.get.ensures.value at c.in-Ok.ensures.judges)
 
 pub returns-in-Err-clause-judges : goal.returns-in-Err-clause-judges
 returns-in-Err-clause-judges g c =
-    next_not_judged _ _ _ c.args.above c.in-Some.book false c.in-Err.error c.in_ok-book.ensures.lent c.in-Err.ensures.carried (rw c.in-Some.is at c.in_ok-book.ensures.told) (rw c.get.ensures.value at c.in-Err.ensures.judges)
+    next_not_judged _ _ _ c.args.above c.in-Some.book false c.in-Err.error c.in_ok-book.ensures.lent.leaves c.in-Err.ensures.carried (rw c.in-Some.is at c.in_ok-book.ensures.told) (rw c.get.ensures.value at c.in-Err.ensures.judges)
 
 pub returns-in_err-book-clause-judges : goal.returns-in_err-book-clause-judges
 returns-in_err-book-clause-judges g c =

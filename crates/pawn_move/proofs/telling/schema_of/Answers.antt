@@ -1,5 +1,5 @@
 use Rattle.sqlite.specs.Held.{state}
-use Rattle.pawn_move.proofs.Told.{not_told, told}
+use Rattle.pawn_move.proofs.ToldSchema.{not_told, told}
 use Rattle.pawn_move.proofs.telling.schema_of.Goals as goal
 
 pub returns-in-Ok : goal.returns-in-Ok

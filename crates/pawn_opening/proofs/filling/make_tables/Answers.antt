@@ -17,5 +17,5 @@ returns-clause-made g c =
     let e = state g.S.Store c.make_notes.new.tx.conn.now in
     let first = c.in_ok-make_books.ensures in
     let second = c.in_ok-make_lists.ensures in
-    makes_then {E = Error} a d e c.make_notes.result (is_ok c.make_notes.result) no_schema first_six keep_schema (lent_then a b d true first.lent second.lent) c.make_notes.ensures.lent
-    (makes_then {E = Error} a b d (Ok tt) true no_schema first_three first_six first.lent second.lent first.made second.made) c.make_notes.ensures.made
+    makes_then {E = Error} a d e c.make_notes.result (is_ok c.make_notes.result) no_schema first_six keep_schema (lent_then a b d true first.lent.leaves second.lent.leaves) c.make_notes.ensures.lent.leaves
+    (makes_then {E = Error} a b d (Ok tt) true no_schema first_three first_six first.lent.leaves second.lent.leaves first.made second.made) c.make_notes.ensures.made

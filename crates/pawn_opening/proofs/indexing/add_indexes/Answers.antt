@@ -15,7 +15,7 @@ returns-in-Ok g c = record {
       let same : c.commit.new.self.0 ≡ c.conn-2-1.given.0 = search rules in
       subst (λ n. IndexesStore (state g.S.Store c.args.conn.now) (state g.S.Store n) (Ok tt)) same
       (indexed (state g.S.Store c.args.conn.now) (state g.S.Store c.commit.new.self.0) (state g.S.Store c.transaction-tx.result.conn.now) (state g.S.Store c.make_indexes.new.tx.conn.now) was c.commit.ensures.ended
-      c.in_default-make_indexes.ensures.lent c.in_default-make_indexes.ensures.adds c.commit.ensures.survives (λ clean. (c.in-Ok.ensures.ok clean).1));
+      c.in_default-make_indexes.ensures.lent.leaves c.in_default-make_indexes.ensures.adds c.commit.ensures.survives (λ clean. (c.in-Ok.ensures.ok clean).1));
 }
 
 pub returns-in-Err-commit : goal.returns-in-Err-commit
@@ -25,7 +25,7 @@ returns-in-Err-commit g c = record {
       let same : c.commit.new.self.0 ≡ c.conn-2-1.given.0 = search rules in
       subst (λ n. IndexesStore (state g.S.Store c.args.conn.now) (state g.S.Store n) (Err c.refused-in-Err-commit.result)) same
       (not_committed (state g.S.Store c.args.conn.now) (state g.S.Store c.commit.new.self.0) (state g.S.Store c.transaction-tx.result.conn.now) (state g.S.Store c.make_indexes.new.tx.conn.now) was c.commit.ensures.ended
-      c.in_default-make_indexes.ensures.lent c.in_default-make_indexes.ensures.adds c.commit.ensures.survives c.refused-in-Err-commit.result c.refused-in-Err-commit.ensures.store c.in-Err-commit.error c.in-Err-commit.ensures.err);
+      c.in_default-make_indexes.ensures.lent.leaves c.in_default-make_indexes.ensures.adds c.commit.ensures.survives c.refused-in-Err-commit.result c.refused-in-Err-commit.ensures.store c.in-Err-commit.error c.in-Err-commit.ensures.err);
 }
 
 pub returns-in-Err : goal.returns-in-Err
@@ -35,5 +35,5 @@ returns-in-Err g c = record {
       let same : c.rollback.new.self.0 ≡ c.conn-1.given.0 = search rules in
       subst (λ n. IndexesStore (state g.S.Store c.args.conn.now) (state g.S.Store n) (Err c.refused.result)) same
       (not_indexed (state g.S.Store c.args.conn.now) (state g.S.Store c.rollback.new.self.0) (state g.S.Store c.transaction-tx.result.conn.now) (state g.S.Store c.make_indexes.new.tx.conn.now) was c.rollback.ensures.ended
-      c.refused.result c.refused.ensures.store c.in-Err.ensures.lent c.rollback.ensures.undone c.rollback.ensures.survives);
+      c.refused.result c.refused.ensures.store c.in-Err.ensures.lent.leaves c.rollback.ensures.undone c.rollback.ensures.survives);
 }

@@ -14,4 +14,4 @@ returns-in-BookingsByTime-clause-adds g c =
 pub returns-in_ok-run-in-Both-clause-adds : goal.returns-in_ok-run-in-Both-clause-adds
 returns-in_ok-run-in-Both-clause-adds g c =
     adds_both {E = Error} (state g.S.Store c.args.tx.now.conn.now) (state g.S.Store c.run-in-Both.new.tx.conn.now) (state g.S.Store c.run-in-Both-2.new.tx.conn.now) c.run-in-Both-2.result (is_ok c.run-in-Both-2.result)
-    c.in_ok-run-in-Both.ensures.lent c.run-in-Both-2.ensures.lent c.in_ok-run-in-Both.ensures.ran c.run-in-Both-2.ensures.ran
+    c.in_ok-run-in-Both.ensures.lent.leaves c.run-in-Both-2.ensures.lent.leaves c.in_ok-run-in-Both.ensures.ran c.run-in-Both-2.ensures.ran

@@ -20,5 +20,5 @@ returns-clause-made g c =
     let first = makes_one {E = Error} no_schema MAKE_BOOKS.now books books_is a b (Ok tt) c.in_ok-run.ensures.ran in
     let second = makes_one {E = Error} (created no_schema books) MAKE_TERMS.now terms terms_is b d (Ok tt) c.in_ok-run-2.ensures.ran in
     let third = makes_one {E = Error} (created (created no_schema books) terms) MAKE_PLEDGES.now pledges pledges_is d e c.run-3.result c.run-3.ensures.ran in
-    makes_then {E = Error} a d e c.run-3.result (is_ok c.run-3.result) no_schema (created (created no_schema books) terms) first_three (lent_then a b d true c.in_ok-run.ensures.lent c.in_ok-run-2.ensures.lent) c.run-3.ensures.lent
-    (makes_then {E = Error} a b d (Ok tt) true no_schema (created no_schema books) (created (created no_schema books) terms) c.in_ok-run.ensures.lent c.in_ok-run-2.ensures.lent first second) third
+    makes_then {E = Error} a d e c.run-3.result (is_ok c.run-3.result) no_schema (created (created no_schema books) terms) first_three (lent_then a b d true c.in_ok-run.ensures.lent.leaves c.in_ok-run-2.ensures.lent.leaves) c.run-3.ensures.lent.leaves
+    (makes_then {E = Error} a b d (Ok tt) true no_schema (created no_schema books) (created (created no_schema books) terms) c.in_ok-run.ensures.lent.leaves c.in_ok-run-2.ensures.lent.leaves first second) third

@@ -18,5 +18,5 @@ returns-clause-made g c =
     let first = makes_one {E = Error} first_six MAKE_META.now meta meta_is a b (Ok tt) c.in_ok-run.ensures.ran in
     let second = makes_totals {E = Error} b d (Ok tt) c.in_ok-make_totals.ensures.made in
     let third = makes_extensions {E = Error} d e c.make_extensions.result c.make_extensions.ensures.made in
-    makes_then {E = Error} a d e c.make_extensions.result (is_ok c.make_extensions.result) first_six second_schema keep_schema (lent_then a b d true c.in_ok-run.ensures.lent c.in_ok-make_totals.ensures.lent) c.make_extensions.ensures.lent
-    (makes_then {E = Error} a b d (Ok tt) true first_six first_schema second_schema c.in_ok-run.ensures.lent c.in_ok-make_totals.ensures.lent first second) third
+    makes_then {E = Error} a d e c.make_extensions.result (is_ok c.make_extensions.result) first_six second_schema keep_schema (lent_then a b d true c.in_ok-run.ensures.lent.leaves c.in_ok-make_totals.ensures.lent.leaves) c.make_extensions.ensures.lent.leaves
+    (makes_then {E = Error} a b d (Ok tt) true first_six first_schema second_schema c.in_ok-run.ensures.lent.leaves c.in_ok-make_totals.ensures.lent.leaves first second) third

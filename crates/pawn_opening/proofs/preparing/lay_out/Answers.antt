@@ -13,7 +13,7 @@ returns-in-Ok g c = record {
       let same : c.commit.new.self.0 ≡ c.conn-2-1.given.0 = search rules in
       subst (λ n. LaysOut (state g.S.Store c.args.conn.now) (state g.S.Store n) c.args.limit (Ok tt)) same
       (laid_out (state g.S.Store c.args.conn.now) (state g.S.Store c.commit.new.self.0) (state g.S.Store c.transaction-tx.result.conn.now) (state g.S.Store c.fill.new.tx.conn.now) c.args.limit was c.commit.ensures.ended
-      c.in_default.ensures.lent c.in_default.ensures.filled c.commit.ensures.survives tables_stand_for_one_host (λ clean. (c.in-Ok.ensures.ok clean).1) (λ now trees left. g.met.S.Store.settled _ trees now left));
+      c.in_default.ensures.lent.leaves c.in_default.ensures.filled c.commit.ensures.survives tables_stand_for_one_host (λ clean. (c.in-Ok.ensures.ok clean).1) (λ now trees left. g.met.S.Store.settled _ trees now left));
 }
 
 pub returns-in-Err-commit : goal.returns-in-Err-commit
@@ -23,7 +23,7 @@ returns-in-Err-commit g c = record {
       let same : c.commit.new.self.0 ≡ c.conn-2-1.given.0 = search rules in
       subst (λ n. LaysOut (state g.S.Store c.args.conn.now) (state g.S.Store n) c.args.limit (Err c.refused-in-Err-commit.result)) same
       (not_committed (state g.S.Store c.args.conn.now) (state g.S.Store c.commit.new.self.0) (state g.S.Store c.transaction-tx.result.conn.now) (state g.S.Store c.fill.new.tx.conn.now) c.args.limit was c.commit.ensures.ended
-      c.in_default.ensures.lent c.in_default.ensures.filled c.commit.ensures.survives c.refused-in-Err-commit.result c.refused-in-Err-commit.ensures.store c.in-Err-commit.error c.in-Err-commit.ensures.err);
+      c.in_default.ensures.lent.leaves c.in_default.ensures.filled c.commit.ensures.survives c.refused-in-Err-commit.result c.refused-in-Err-commit.ensures.store c.in-Err-commit.error c.in-Err-commit.ensures.err);
 }
 
 pub returns-in-Err : goal.returns-in-Err
@@ -33,5 +33,5 @@ returns-in-Err g c = record {
       let same : c.rollback.new.self.0 ≡ c.conn-1.given.0 = search rules in
       subst (λ n. LaysOut (state g.S.Store c.args.conn.now) (state g.S.Store n) c.args.limit (Err c.refused.result)) same
       (not_filled (state g.S.Store c.args.conn.now) (state g.S.Store c.rollback.new.self.0) (state g.S.Store c.transaction-tx.result.conn.now) (state g.S.Store c.fill.new.tx.conn.now) c.args.limit was c.rollback.ensures.ended
-      c.refused.result c.refused.ensures.store c.in-Err.ensures.lent c.rollback.ensures.undone c.rollback.ensures.survives);
+      c.refused.result c.refused.ensures.store c.in-Err.ensures.lent.leaves c.rollback.ensures.undone c.rollback.ensures.survives);
 }

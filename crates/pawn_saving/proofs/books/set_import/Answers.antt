@@ -1,7 +1,7 @@
 use Rattle.std.proofs.Common.{rules}
 use Rattle.sqlite.specs.Held.{state}
-use Rattle.pawn_saving.proofs.Puts.{on_ran}
-use Rattle.pawn_saving.proofs.BookPuts.{import_wrote}
+use Rattle.pawn_saving.proofs.StatementWrites.{on_ran}
+use Rattle.pawn_saving.proofs.BookStatements.{import_wrote}
 use Rattle.pawn_saving.proofs.books.set_import.Goals as goal
 
 pub returns-clause-wrote : goal.returns-clause-wrote

@@ -16,7 +16,7 @@ pub returns-clause-wrote : goal.returns-clause-wrote
 returns-clause-wrote g c clean within h sound can st =
     let mid = state g.S.Store c.put_terms.new.tx.conn.now in
     let new = state g.S.Store c.set_terms_count.new.tx.conn.now in
-    let clean1 = clean_before mid new true c.in_ok-set_terms_count.ensures.lent clean in
+    let clean1 = clean_before mid new true c.in_ok-set_terms_count.ensures.lent.leaves clean in
     let k = can.follows.0 in
     let is = can.follows.1 in
     let version : c.in_ok-version.version ≡ length k.terms + 1 = c.in_ok-version.ensures.value ∙ can.follows.2 in
@@ -25,7 +25,7 @@ returns-clause-wrote g c clean within h sound can st =
     let t : Rates = c.args.terms in
     let n = rows h in
     let one = rw (c.get.ensures.value, c.rates.ensures.value) at (c.in_ok-put_terms.ensures.wrote clean1 within (listed_as h n) (as_lists _ h st)) in
-    let inside = c.in_ok-put_terms.ensures.lent.inside clean1 within refl in
+    let inside = c.in_ok-put_terms.ensures.lent.leaves.inside clean1 within refl in
     let listed = with_rows (listed_as h n) 1 ((number b ∷ number v ∷ terms_cells t) ∷ listed_as h n 1) in
     let grown : length (k.terms ++ t ∷ []) ≡ v = (let more = length-append k.terms (t ∷ []) in omega (arith, more, version)) in
     let rest = others h b v t k is version n in

@@ -11,7 +11,7 @@ returns-then-stored-eq0-clause-wrote g c clean within h sound can st =
     let new = state g.S.Store c.add_pledge.new.tx.conn.now in
     let b = c.args.book in
     let n = c.args.number in
-    let clean1 = clean_before mid new (is_ok c.add_pledge.result) c.add_pledge.ensures.lent clean in
+    let clean1 = clean_before mid new (is_ok c.add_pledge.result) c.add_pledge.ensures.lent.leaves clean in
     let read = rw (c.get.ensures.value, c.get-2.ensures.value) at (c.in_ok-stored.ensures.reads clean1 within h sound st) in
     let few = can_within c.in_ok-lengths.lengths c.args.pledge.now c.in_ok-lengths.ensures.value h b n can in
     c.add_pledge.ensures.wrote clean read.1.inside h sound can (subst (λ d. StandsFor d h) (sym read.1.now_is) st) (none_stored h b n c.in_ok-stored.stored sound (read.0 few) (search rules))
@@ -22,7 +22,7 @@ returns-clause-wrote g c clean within h sound can st =
     let new = state g.S.Store c.renew_pledge.new.tx.conn.now in
     let b = c.args.book in
     let n = c.args.number in
-    let clean1 = clean_before mid new (is_ok c.renew_pledge.result) c.renew_pledge.ensures.lent clean in
+    let clean1 = clean_before mid new (is_ok c.renew_pledge.result) c.renew_pledge.ensures.lent.leaves clean in
     let read = rw (c.get.ensures.value, c.get-2.ensures.value) at (c.in_ok-stored.ensures.reads clean1 within h sound st) in
     let few = can_within c.in_ok-lengths.lengths c.args.pledge.now c.in_ok-lengths.ensures.value h b n can in
     let one = some_stored h b n c.in_ok-stored.stored (read.0 few) (search rules) in

@@ -12,24 +12,33 @@ returns-in-Ok-get-clause-wrote g c clean within listed counted limit noted fits 
 
 pub returns-in-Ok-get-clause-lent : goal.returns-in-Ok-get-clause-lent
 returns-in-Ok-get-clause-lent g c = record {
-  kept = λ clean within. kept_by_row _ _ _ _ c.query_row.result within (c.query_row.ensures.row clean);
-  opened = λ clean within ok. open_by_row _ _ _ _ c.in-Ok.row (rw c.in-Ok.is at (c.query_row.ensures.row clean));
-  inside = λ clean within ok. rw c.in-Ok.is at (inside_after_row _ _ _ _ c.query_row.result within (c.query_row.ensures.row clean));
-  survives = c.query_row.ensures.survives;
+  same_reference = search;
+  leaves = record {
+    kept = λ clean within. kept_by_row _ _ _ _ c.query_row.result within (c.query_row.ensures.row clean);
+    opened = λ clean within ok. open_by_row _ _ _ _ c.in-Ok.row (rw c.in-Ok.is at (c.query_row.ensures.row clean));
+    inside = λ clean within ok. rw c.in-Ok.is at (inside_after_row _ _ _ _ c.query_row.result within (c.query_row.ensures.row clean));
+    survives = c.query_row.ensures.survives;
+  };
 }
 
 pub returns-clause-lent : goal.returns-clause-lent
 returns-clause-lent g c = record {
-  kept = λ clean within. kept_by_row _ _ _ _ c.query_row.result within (c.query_row.ensures.row clean);
-  opened = λ clean within ok. absurd (let e = ok in cc);
-  inside = λ clean within ok. absurd (let e = ok in cc);
-  survives = c.query_row.ensures.survives;
+  same_reference = search;
+  leaves = record {
+    kept = λ clean within. kept_by_row _ _ _ _ c.query_row.result within (c.query_row.ensures.row clean);
+    opened = λ clean within ok. absurd (let e = ok in cc);
+    inside = λ clean within ok. absurd (let e = ok in cc);
+    survives = c.query_row.ensures.survives;
+  };
 }
 
 pub returns-in-Err-clause-lent : goal.returns-in-Err-clause-lent
 returns-in-Err-clause-lent g c = record {
-  kept = λ clean within. kept_by_row _ _ _ _ c.query_row.result within (c.query_row.ensures.row clean);
-  opened = λ clean within ok. absurd (let e = ok in cc);
-  inside = λ clean within ok. absurd (let e = ok in cc);
-  survives = c.query_row.ensures.survives;
+  same_reference = search;
+  leaves = record {
+    kept = λ clean within. kept_by_row _ _ _ _ c.query_row.result within (c.query_row.ensures.row clean);
+    opened = λ clean within ok. absurd (let e = ok in cc);
+    inside = λ clean within ok. absurd (let e = ok in cc);
+    survives = c.query_row.ensures.survives;
+  };
 }

@@ -16,4 +16,4 @@ returns-in-Ok-get-clause-found g c clean within listed counted limit noted st =
     let plain = subst (λ s. IsPlain (understood s READ_LIMIT.now)) (sym st.lists.schema_is) (limit_is st.more).2 in
     let rests = plain_rests READ_LIMIT.now _ old new rows within plain shown in
     let are = c.as_slice.ensures.value ∙ limit_shown old new rows listed counted limit noted st shown in
-    if_small c.small.result c.in-Ok-get.limit limit _ (limit_told c.in-Ok-get.limit limit c.row-item.result _ are c.row-item.is c.in-Ok-get.ensures.ok.1) rests c.small.ensures.value
+    if_small c.in_32_bits.result c.in-Ok-get.limit limit _ (limit_told c.in-Ok-get.limit limit c.row-item.result _ are c.row-item.is c.in-Ok-get.ensures.ok.1) rests c.in_32_bits.ensures.value

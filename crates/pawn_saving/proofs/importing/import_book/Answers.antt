@@ -1,4 +1,4 @@
-use Rattle.std.proofs.Common.{◌∷◌, ◌++◌, refl, subst, sym, true}
+use Rattle.std.proofs.Common.{◌∷◌, ◌∙◌, ◌++◌, refl, subst, sym, true}
 use Rattle.sqlite.specs.Held.{state}
 use Rattle.pawn_book.specs.HostStep.{rows}
 use Rattle.one_table.specs.Listing.{with_rows}
@@ -7,7 +7,7 @@ use Rattle.pawn_tables.specs.Schema.{terms_tree}
 use Rattle.pawn_tables.specs.Rows.{number, placed_from, terms_cells}
 use Rattle.pawn_saving.specs.Counted.{listed_as}
 use Rattle.pawn_saving.proofs.Hosting.{as_lists}
-use Rattle.pawn_saving.proofs.Tailing.{lent_anyway, lent_carried, past}
+use Rattle.pawn_saving.proofs.RowsInOrder.{lent_anyway, lent_carried, past}
 use Rattle.pawn_saving.proofs.ImportWrites.{brought_numbered, filled_counted, only_book, other_books, unbooked, with_own_row, with_terms}
 use Rattle.pawn_saving.proofs.importing.import_book.Goals as goal
 
@@ -25,7 +25,7 @@ returns-clause-wrote g c clean within h sound can st =
     let n = rows h in
     let clean2 = past two new true c.in_ok-added.ensures.carried clean in
     let clean1 = past one two true c.in_ok-put_versions.ensures.carried clean2 in
-    let within1 = c.in_ok-set_import.ensures.lent.inside clean1 within refl in
+    let within1 = c.in_ok-set_import.ensures.lent.leaves.inside clean1 within refl in
     let within2 = c.in_ok-put_versions.ensures.carried.inside clean2 within1 refl in
     let versions = rw c.as_slice-terms.ensures.value at c.in_ok-versions.ensures.value in
     let so_many = rw c.as_slice-pledges.ensures.value at c.in_ok-so_many.ensures.value in
@@ -36,7 +36,7 @@ returns-clause-wrote g c clean within h sound can st =
     let second = subst (λ ts. ListsOurs two.now (with_rows own terms_tree (placed_from (λ version t. number b ∷ number version ∷ terms_cells t) 1 ts ++ own terms_tree))) c.as_slice-terms.ensures.value put in
     let third = rw (c.get-3.ensures.value, c.as_slice-pledges.ensures.value) at (c.in_ok-added.ensures.wrote clean within2 (with_terms h b key k brought is empty n)) in
     let all = third (unbooked h b key k brought is empty st.ordered) (brought_numbered h b key k brought is empty can.sound) second in
-    filled_counted h b key k brought is empty n new.now c.in_ok-versions.versions c.in_ok-added.added c.together.result refl versions all.0 c.together.ensures.value all.1
+    filled_counted h b key k brought is empty n new.now c.in_ok-versions.versions c.in_ok-added.added c.sum_in_32_bits.result refl versions all.0 c.sum_in_32_bits.ensures.value all.1
 
 pub returns-clause-lent : goal.returns-clause-lent
 returns-clause-lent g c =
@@ -44,4 +44,7 @@ returns-clause-lent g c =
     let one = state g.S.Store c.set_import.new.tx.conn.now in
     let two = state g.S.Store c.put_versions.new.tx.conn.now in
     let new = state g.S.Store c.put_pledges.new.tx.conn.now in
-    lent_anyway old new (lent_carried old two new true (lent_carried old one two true c.in_ok-set_import.ensures.lent c.in_ok-put_versions.ensures.carried) c.in_ok-added.ensures.carried) _
+    record {
+      same_reference = c.put_pledges.ensures.same_reference ∙ c.put_versions.ensures.same_reference ∙ c.set_import.ensures.lent.same_reference;
+      leaves = lent_anyway old new (lent_carried old two new true (lent_carried old one two true c.in_ok-set_import.ensures.lent.leaves c.in_ok-put_versions.ensures.carried) c.in_ok-added.ensures.carried) _;
+    }

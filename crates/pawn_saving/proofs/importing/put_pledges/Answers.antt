@@ -2,7 +2,7 @@ use Rattle.std.proofs.Common.{rules, ◌≡◌, ◌≤◌, ◌∙◌, length, re
 use Rattle.sqlite.specs.Held.{state}
 use Rattle.pawn_book.specs.declared.fault.KeepError.{KeepError}
 use Rattle.pawn_saving.specs.Writing.{IsCarried}
-use Rattle.pawn_saving.proofs.Tailing.{carried_then}
+use Rattle.pawn_saving.proofs.RowsInOrder.{carried_then}
 use Rattle.pawn_saving.proofs.ImportWrites.{all_pledges_put, no_pledge_put, one_pledge_put}
 use Rattle.pawn_saving.proofs.importing.put_pledges.Goals as goal
 
@@ -10,7 +10,7 @@ pub loop-parts-init : goal.loop-parts-init
 loop-parts-init g c = (refl, no_pledge_put (state g.S.Store c.args.tx.now.conn.now) c.args.book c.args.pledges.now)
 
 pub returns-in_err-added-clause-same_reference : goal.returns-in_err-added-clause-same_reference
-returns-in_err-added-clause-same_reference g c = c.put_parts.ensures.same_reference ∙ c.loop-parts.invariant.0
+returns-in_err-added-clause-same_reference g c = c.put_parts.ensures.lent.same_reference ∙ c.loop-parts.invariant.0
 
 pub returns-in_err-added-clause-carried : goal.returns-in_err-added-clause-carried
 returns-in_err-added-clause-carried g c =
@@ -18,13 +18,13 @@ returns-in_err-added-clause-carried g c =
     let new = state g.S.Store c.put_parts.new.tx.conn.now in
     let failed : c.from_residual.result ≡ Err c.in_err-added.field-0.0 = search rules in
     subst (λ (r : Result ℕ KeepError). IsCarried old new (is_ok r)) (sym failed)
-    (carried_then old (state g.S.Store c.loop-parts.tx.conn.now) new false c.loop-parts.invariant.1.carried c.in_err-added.ensures.lent)
+    (carried_then old (state g.S.Store c.loop-parts.tx.conn.now) new false c.loop-parts.invariant.1.carried c.in_err-added.ensures.lent.leaves)
 
 pub loop-parts-preserved : goal.loop-parts-preserved
 loop-parts-preserved g c = (
-  c.put_parts.ensures.same_reference ∙ c.loop-parts.invariant.0,
+  c.put_parts.ensures.lent.same_reference ∙ c.loop-parts.invariant.0,
   one_pledge_put (state g.S.Store c.args.tx.now.conn.now) (state g.S.Store c.loop-parts.tx.conn.now) (state g.S.Store c.put_parts.new.tx.conn.now) c.args.book c.loop-parts.parts-index c.loop-parts.counted c.in_ok-added.added _ c.args.pledges.now c.parts-item.result
-      (search rules) c.parts-item.is c.in_ok-counted.ensures.value c.loop-parts.invariant.1 c.in_ok-added.ensures.lent c.in_ok-added.ensures.wrote,
+      (search rules) c.parts-item.is c.in_ok-counted.ensures.value c.loop-parts.invariant.1 c.in_ok-added.ensures.lent.leaves c.in_ok-added.ensures.wrote,
 )
 
 pub returns-clause-same_reference : goal.returns-clause-same_reference

@@ -1,8 +1,8 @@
 use Rattle.sqlite.specs.Held.{state}
 use Rattle.pawn_pledge.specs.declared.record.Booking.{Booking}
 use Rattle.pawn_tables.specs.Rows.{booking_cells, under}
-use Rattle.pawn_saving.proofs.Tailing.{on_done}
-use Rattle.pawn_saving.proofs.WholePuts.{none_stands, now_stands, stood_before}
+use Rattle.pawn_saving.proofs.RowsInOrder.{on_done}
+use Rattle.pawn_saving.proofs.PledgePartWrites.{none_stands, now_stands, stood_before}
 use Rattle.pawn_saving.proofs.putting.put_any_booking.Goals as goal
 use Rattle.pawn_tables.specs.Schema.{bookings_tree}
 

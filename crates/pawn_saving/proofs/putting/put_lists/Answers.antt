@@ -2,8 +2,8 @@ use Rattle.std.proofs.Common.{◌++◌, refl, true, is_ok}
 use Rattle.sqlite.specs.Held.{state}
 use Rattle.one_table.specs.Listing.{with_rows}
 use Rattle.pawn_saving.specs.Putting.{entries_past, secrets_past}
-use Rattle.pawn_saving.proofs.Tailing.{past, on_done}
-use Rattle.pawn_saving.proofs.WholePuts.{lists_put}
+use Rattle.pawn_saving.proofs.RowsInOrder.{past, on_done}
+use Rattle.pawn_saving.proofs.PledgePartWrites.{lists_put}
 use Rattle.pawn_saving.proofs.putting.put_lists.Goals as goal
 use Rattle.pawn_tables.specs.Schema.{entries_tree, secrets_tree}
 
@@ -19,7 +19,7 @@ returns-clause-wrote g c clean within listed l =
     let clean1 = past one two true c.in_ok-put_secrets.ensures.carried clean2 in
     let within1 = c.in_ok-put_entries.ensures.carried.inside clean1 within refl in
     let within2 = c.in_ok-put_secrets.ensures.carried.inside clean2 within1 refl in
-    let first = rw (c.past.ensures.value, c.entries.ensures.value) at (c.in_ok-put_entries.ensures.wrote clean1 within listed l) in
-    let second = rw (c.past-2.ensures.value, c.secrets.ensures.value, c.in_ok-secrets.ensures.value) at (c.in_ok-put_secrets.ensures.wrote clean2 within1 (with_rows listed entries_tree (entries_past c.args.lengths.entries b n p ++ listed entries_tree)) first) in
-    let third = rw (c.past-3.ensures.value, c.extensions.ensures.value, c.in_ok-extensions.ensures.value) at (c.put_extensions.ensures.wrote clean within2 (with_rows (with_rows listed entries_tree (entries_past c.args.lengths.entries b n p ++ listed entries_tree)) secrets_tree (secrets_past c.args.lengths.secrets b n p ++ listed secrets_tree)) second) in
+    let first = rw (c.behind.ensures.value, c.entries.ensures.value) at (c.in_ok-put_entries.ensures.wrote clean1 within listed l) in
+    let second = rw (c.behind-2.ensures.value, c.secrets.ensures.value, c.in_ok-secrets.ensures.value) at (c.in_ok-put_secrets.ensures.wrote clean2 within1 (with_rows listed entries_tree (entries_past c.args.lengths.entries b n p ++ listed entries_tree)) first) in
+    let third = rw (c.behind-3.ensures.value, c.extensions.ensures.value, c.in_ok-extensions.ensures.value) at (c.put_extensions.ensures.wrote clean within2 (with_rows (with_rows listed entries_tree (entries_past c.args.lengths.entries b n p ++ listed entries_tree)) secrets_tree (secrets_past c.args.lengths.secrets b n p ++ listed secrets_tree)) second) in
     on_done c.put_extensions.result _ _ (lists_put new.now listed b n p c.args.lengths) third

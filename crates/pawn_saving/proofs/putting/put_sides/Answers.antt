@@ -4,8 +4,8 @@ use Rattle.sqlite.specs.Held.{state}
 use Rattle.one_table.specs.Listing.{with_rows}
 use Rattle.pawn_saving.specs.Putting.{row_under, totals_under}
 use Rattle.pawn_saving.proofs.Lent.{clean_before}
-use Rattle.pawn_saving.proofs.Tailing.{past, on_done}
-use Rattle.pawn_saving.proofs.WholePuts.{sides_put}
+use Rattle.pawn_saving.proofs.RowsInOrder.{past, on_done}
+use Rattle.pawn_saving.proofs.PledgePartWrites.{sides_put}
 use Rattle.pawn_saving.proofs.putting.put_sides.Goals as goal
 use Rattle.pawn_tables.specs.Schema.{bookings_tree, pledges_tree, totals_tree}
 
@@ -18,9 +18,9 @@ returns-clause-wrote g c clean within listed none l =
     let n = c.args.number in
     let p = c.args.pledge.now in
     let clean2 = past two new (is_ok c.put_any_booking.result) c.put_any_booking.ensures.carried clean in
-    let clean1 = clean_before one two true c.in_ok-put_totals.ensures.lent clean2 in
-    let within1 = c.in_ok-put_row.ensures.lent.inside clean1 within refl in
-    let within2 = c.in_ok-put_totals.ensures.lent.inside clean2 within1 refl in
+    let clean1 = clean_before one two true c.in_ok-put_totals.ensures.lent.leaves clean2 in
+    let within1 = c.in_ok-put_row.ensures.lent.leaves.inside clean1 within refl in
+    let within2 = c.in_ok-put_totals.ensures.lent.leaves.inside clean2 within1 refl in
     let first = c.in_ok-put_row.ensures.wrote clean1 within listed l in
     let second = rw c.totals.ensures.value at (c.in_ok-put_totals.ensures.wrote clean2 within1 (with_rows listed pledges_tree (row_under b n p ∷ listed pledges_tree)) first) in
     let both = with_rows (with_rows listed pledges_tree (row_under b n p ∷ listed pledges_tree)) totals_tree (totals_under b n p ∷ listed totals_tree) in

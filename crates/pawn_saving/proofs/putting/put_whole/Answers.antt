@@ -1,8 +1,8 @@
 use Rattle.std.proofs.Common.{refl, true}
 use Rattle.sqlite.specs.Held.{state}
 use Rattle.pawn_saving.specs.Putting.{beside, sides_of}
-use Rattle.pawn_saving.proofs.Tailing.{past}
-use Rattle.pawn_saving.proofs.WholePuts.{whole_put}
+use Rattle.pawn_saving.proofs.RowsInOrder.{past}
+use Rattle.pawn_saving.proofs.PledgePartWrites.{whole_put}
 use Rattle.pawn_saving.proofs.putting.put_whole.Goals as goal
 
 pub returns-clause-wrote : goal.returns-clause-wrote
@@ -13,6 +13,6 @@ returns-clause-wrote g c clean within listed none l =
     let n = c.args.number in
     let p = c.args.pledge.now in
     let clean1 = past mid new true c.in_ok-put_lists.ensures.carried clean in
-    let within1 = c.in_ok-put_sides.ensures.lent.inside clean1 within refl in
+    let within1 = c.in_ok-put_sides.ensures.lent.leaves.inside clean1 within refl in
     let sides = c.in_ok-put_sides.ensures.wrote clean1 within listed none l in
     (c.in_ok-added.ensures.value, whole_put new.now listed b n p (c.in_ok-put_lists.ensures.wrote clean within1 (beside (sides_of b n p) listed) sides))

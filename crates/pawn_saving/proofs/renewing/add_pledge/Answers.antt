@@ -17,13 +17,13 @@ returns-clause-wrote g c clean within h sound can st absent =
     let b = c.args.book in
     let n = c.args.number in
     let p = c.args.pledge.now in
-    let clean1 = clean_before mid new true c.in_ok-set_pledges_count.ensures.lent clean in
+    let clean1 = clean_before mid new true c.in_ok-set_pledges_count.ensures.lent.leaves clean in
     let k = can.follows.0 in
     let is = can.follows.1 in
     let none : stood h b n k p is ≡ None = ap (λ o. pledge_in o n) (sym is) ∙ absent in
     let next : n ≡ length k.pledges + 1 = next_number k n p none can.follows.2 in
     let counted = rows h in
-    let within1 = c.in_ok-added.ensures.lent.inside clean1 within refl in
+    let within1 = c.in_ok-added.ensures.lent.leaves.inside clean1 within refl in
     let whole = rw (c.get.ensures.value, c.get-2.ensures.value) at (c.in_ok-added.ensures.wrote clean1 within (listed_as h counted)) in
     let one = whole (none_booked h b n k p is st.ordered none) (as_lists _ h st) in
     let longer : length (put_from 1 k.pledges n p) ≡ n = (let sum = put_length n p 1 k.pledges in let zero' : Rattle.pawn_book.proofs.RowSums.part (λ (q : Rattle.pawn_pledge.specs.Pledge.PledgeValue). 1) (Rattle.pawn_book.specs.BookStep.pledge_from 1 k.pledges n) ≡ 0 = ap (Rattle.pawn_book.proofs.RowSums.part (λ (q : Rattle.pawn_pledge.specs.Pledge.PledgeValue). 1)) none in omega (arith, sum, zero', next)) in

@@ -5,7 +5,7 @@ use Rattle.pawn_book.specs.BookStep.{pledge_in}
 use Rattle.pawn_saving.specs.Counted.{listed_as}
 use Rattle.pawn_saving.specs.Putting.{with_sides}
 use Rattle.pawn_saving.proofs.Hosting.{as_lists}
-use Rattle.pawn_saving.proofs.Tailing.{past}
+use Rattle.pawn_saving.proofs.RowsInOrder.{past}
 use Rattle.pawn_saving.proofs.PledgeChanges.{stood}
 use Rattle.pawn_saving.proofs.PledgeWrites.{continues_it, old_sides, others, renewed_written}
 use Rattle.pawn_saving.proofs.renewing.renew_pledge.Goals as goal
@@ -24,7 +24,7 @@ returns-clause-wrote g c old stored clean within h sound can st standing =
     let it = continues_it k n old p some can.follows.2 in
     let counted = rows h in
     let clean1 = past mid new true c.in_ok-put_lists.ensures.carried clean in
-    let within1 = c.in_ok-set_sides.ensures.lent.inside clean1 within refl in
+    let within1 = c.in_ok-set_sides.ensures.lent.leaves.inside clean1 within refl in
     let rest = others h b n k old p is some in
     let set = rw (c.get.ensures.value, c.get-2.ensures.value) at (c.in_ok-set_sides.ensures.wrote old (sym it.agreement) (c.in_ok-added.ensures.booked old stored) clean1 within (listed_as h counted) rest) in
     let one = set (old_sides h b n k old p is some counted st.ordered) (as_lists _ h st) in

@@ -5,8 +5,8 @@ use Rattle.pawn_pledge.specs.Pledge.{debt_of}
 use Rattle.one_table.specs.Listing.{with_rows}
 use Rattle.pawn_saving.specs.Putting.{row_under, totals_under}
 use Rattle.pawn_saving.proofs.Lent.{clean_before}
-use Rattle.pawn_saving.proofs.Tailing.{past, on_done}
-use Rattle.pawn_saving.proofs.WholePuts.{sides_set}
+use Rattle.pawn_saving.proofs.RowsInOrder.{past, on_done}
+use Rattle.pawn_saving.proofs.PledgePartWrites.{sides_set}
 use Rattle.pawn_saving.proofs.renewing.set_sides.Goals as goal
 use Rattle.pawn_tables.specs.Schema.{pledges_tree, bookings_tree, totals_tree}
 
@@ -19,9 +19,9 @@ returns-clause-wrote g c before agreed booked clean within listed others sides l
     let n = c.args.number in
     let p = c.args.pledge.now in
     let clean2 = past two new (is_ok c.put_any_booking.result) c.put_any_booking.ensures.carried clean in
-    let clean1 = clean_before one two true c.in_ok-set_totals.ensures.lent clean2 in
-    let within1 = c.in_ok-set_row.ensures.lent.inside clean1 within refl in
-    let within2 = c.in_ok-set_totals.ensures.lent.inside clean2 within1 refl in
+    let clean1 = clean_before one two true c.in_ok-set_totals.ensures.lent.leaves clean2 in
+    let within1 = c.in_ok-set_row.ensures.lent.leaves.inside clean1 within refl in
+    let within2 = c.in_ok-set_totals.ensures.lent.leaves.inside clean2 within1 refl in
     let first = c.in_ok-set_row.ensures.wrote before agreed clean1 within listed (others pledges_tree) sides.row l in
     let second = rw c.totals.ensures.value at (c.in_ok-set_totals.ensures.wrote (totals_of (debt_of before)) clean2 within1 (with_rows listed pledges_tree (row_under b n p ∷ others pledges_tree)) (others totals_tree) sides.totals first) in
     let both = with_rows (with_rows listed pledges_tree (row_under b n p ∷ others pledges_tree)) totals_tree (totals_under b n p ∷ others totals_tree) in

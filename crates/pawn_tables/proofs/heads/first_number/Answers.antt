@@ -1,6 +1,6 @@
 use Rattle.std.proofs.Common.{rules, arith}
 use Rattle.pawn_tables.specs.Heads.{number_cells}
-use Rattle.pawn_tables.proofs.Placed.{first_err, always_read}
+use Rattle.pawn_tables.proofs.ListsOfRows.{first_err, always_read}
 use Rattle.pawn_pledge.specs.Number.{IsNumber}
 use Rattle.pawn_tables.proofs.RowCells.{cell_at}
 use Rattle.std.proofs.Common.{refl}

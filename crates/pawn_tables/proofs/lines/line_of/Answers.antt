@@ -6,7 +6,7 @@ use Rattle.pawn_book.specs.declared.sheet.Part.TheVariants as part_of
 use Rattle.pawn_tables.specs.Rows.{number}
 use Rattle.pawn_tables.specs.Lines.{line_cells}
 use Rattle.pawn_tables.specs.declared.line.Line.{Line}
-use Rattle.pawn_tables.proofs.Placed.{always_read}
+use Rattle.pawn_tables.proofs.ListsOfRows.{always_read}
 use Rattle.pawn_tables.proofs.RowCells.{cell_at}
 use Rattle.pawn_tables.proofs.lines.line_of.Goals as goal
 

@@ -3,7 +3,7 @@ use Rattle.std.specs.Prelude.{⊤}
 use Rattle.pawn_tables.specs.Finding.{IsRead}
 use Rattle.pawn_tables.specs.Heads.{number_cells}
 use Rattle.pawn_tables.specs.Rows.{number}
-use Rattle.pawn_tables.proofs.Placed.{always_all, each_any, mapped, placed_err, placed_more, placed_whole}
+use Rattle.pawn_tables.proofs.ListsOfRows.{always_all, each_any, mapped, placed_err, placed_more, placed_whole}
 use Rattle.pawn_tables.proofs.RowCells.{cell_at}
 use Rattle.pawn_tables.proofs.lines.read_numbers.Goals as goal
 

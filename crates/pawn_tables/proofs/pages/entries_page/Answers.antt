@@ -5,14 +5,14 @@ use Rattle.pawn_book.specs.BookStep.{pledge_in}
 use Rattle.pawn_book.specs.Keeping.{entries_of}
 use Rattle.pawn_tables.specs.Entries.{IsEntriesPage}
 use Rattle.pawn_tables.proofs.NextEntries.{is_entries_page}
-use Rattle.pawn_tables.proofs.Asking.{found, found_as}
+use Rattle.pawn_tables.proofs.StatementFinds.{found, found_as}
 use Rattle.pawn_tables.proofs.ReadTexts as text
-use Rattle.pawn_tables.proofs.PlaceReads as reads
+use Rattle.pawn_tables.proofs.ListElementReads as reads
 use Rattle.pawn_tables.proofs.pages.entries_page.Goals as goal
 
 pub returns-clause-finds : goal.returns-clause-finds
 returns-clause-finds g c =
-    found _ _ _ _ _ c.read_entries.result _ text.READ_ENTRIES_PAGE.now (λ more. (text.from_is more).2) c.in_ok-rows.ensures.lent
+    found _ _ _ _ _ c.read_entries.result _ text.READ_ENTRIES_PAGE.now (λ more. (text.from_is more).2) c.in_ok-rows.ensures.lent.leaves
     (λ clean. rw (c.params-to_sql.ensures, c.params-to_sql-2.ensures, c.params-to_sql-3.ensures) at (c.in_ok-rows.ensures.shown clean))
     (λ h st shown.
     let are = c.deref.ensures.value ∙ reads.entries_page_shown _ _ h c.args.book c.args.number c.args.from _ st shown in

@@ -6,9 +6,9 @@ use Rattle.pawn_pledge.specs.Pledge.{PledgeValue}
 use Rattle.pawn_pledge.specs.Replayable.{IsStanding}
 use Rattle.pawn_book.specs.BookStep.{pledge_in}
 use Rattle.pawn_book.specs.HostStep.{Host}
-use Rattle.pawn_tables.specs.Told.{AreLists, AreTold}
+use Rattle.pawn_tables.specs.PledgeRows.{AreLists, AreTold}
 use Rattle.pawn_tables.specs.declared.joining.Lists.{Lists}
-use Rattle.pawn_tables.specs.declared.joining.Told.{Told}
+use Rattle.pawn_tables.specs.declared.joining.StoredPledge.{StoredPledge}
 use Rattle.pawn_tables.proofs.Joins.{joined_told, told_is}
 use Rattle.pawn_tables.proofs.Lent.{first_unfound, two_found}
 use Rattle.pawn_tables.proofs.SoundReads.{standing_unsound, unjoined}
@@ -16,15 +16,15 @@ use Rattle.pawn_tables.proofs.whole.pledge_of.Goals as goal
 
 pub returns-in_err-told-clause-finds : goal.returns-in_err-told-clause-finds
 returns-in_err-told-clause-finds g c =
-    let P : Host → Option Told → Type 0 = λ h t. AreTold t (pledge_in (get h.books c.args.book) c.get-n.result) in
-    first_unfound _ (state g.S.Store c.args.tx.now.conn.now) (state g.S.Store c.told_in.new.tx.conn.now) c.in_err-told.field-0.0 P c.from_residual.result _ (search rules) c.in_err-told.ensures.finds
+    let P : Host → Option StoredPledge → Type 0 = λ h t. AreTold t (pledge_in (get h.books c.args.book) c.get-n.result) in
+    first_unfound _ (state g.S.Store c.args.tx.now.conn.now) (state g.S.Store c.stored_pledge_in.new.tx.conn.now) c.in_err-told.field-0.0 P c.from_residual.result _ (search rules) c.in_err-told.ensures.finds
 
 pub returns-in_err-pledge-clause-finds : goal.returns-in_err-pledge-clause-finds
 returns-in_err-pledge-clause-finds g c clean within h stood =
-    let P : Host → Option Told → Type 0 = λ h t. AreTold t (pledge_in (get h.books c.args.book) c.get-n.result) in
+    let P : Host → Option StoredPledge → Type 0 = λ h t. AreTold t (pledge_in (get h.books c.args.book) c.get-n.result) in
     let Q : Host → Lists → Type 0 = λ h l. IfSome (pledge_in (get h.books c.args.book) c.get-n.result) (AreLists l) in
-    let f = two_found (state g.S.Store c.args.tx.now.conn.now) (state g.S.Store c.told_in.new.tx.conn.now) (state g.S.Store c.lists_in.new.tx.conn.now)
-    c.in_ok-told.field-0 P c.in_ok-lists.lists Q c.in_ok-told.ensures.lent c.in_ok-lists.ensures.lent c.in_ok-told.ensures.finds c.in_ok-lists.ensures.finds
+    let f = two_found (state g.S.Store c.args.tx.now.conn.now) (state g.S.Store c.stored_pledge_in.new.tx.conn.now) (state g.S.Store c.lists_in.new.tx.conn.now)
+    c.in_ok-told.field-0 P c.in_ok-lists.lists Q c.in_ok-told.ensures.lent.leaves c.in_ok-lists.ensures.lent.leaves c.in_ok-told.ensures.finds c.in_ok-lists.ensures.finds
     clean within h stood in
     let r = told_is (pledge_in (get h.books c.args.book) c.get-n.result) c.in-Some.told (subst (λ t. AreTold t (pledge_in (get h.books c.args.book) c.get-n.result)) c.in-Some.is f.1) in
     let read = joined_told h c.args.book c.get-n.result r.0 c.in-Some.told c.in_ok-lists.lists AreLists (λ (q : PledgeValue). q) IsStanding (Err c.in_err-pledge.field-0.0) c.args.number (sym c.get-n.ensures.value) f.0.ordered r.1 r.2 r.3 f.2 c.in_err-pledge.ensures.read in
@@ -32,10 +32,10 @@ returns-in_err-pledge-clause-finds g c clean within h stood =
 
 pub returns-clause-finds : goal.returns-clause-finds
 returns-clause-finds g c clean within h stood =
-    let P : Host → Option Told → Type 0 = λ h t. AreTold t (pledge_in (get h.books c.args.book) c.get-n.result) in
+    let P : Host → Option StoredPledge → Type 0 = λ h t. AreTold t (pledge_in (get h.books c.args.book) c.get-n.result) in
     let Q : Host → Lists → Type 0 = λ h l. IfSome (pledge_in (get h.books c.args.book) c.get-n.result) (AreLists l) in
-    let f = two_found (state g.S.Store c.args.tx.now.conn.now) (state g.S.Store c.told_in.new.tx.conn.now) (state g.S.Store c.lists_in.new.tx.conn.now)
-    c.in_ok-told.field-0 P c.in_ok-lists.lists Q c.in_ok-told.ensures.lent c.in_ok-lists.ensures.lent c.in_ok-told.ensures.finds c.in_ok-lists.ensures.finds
+    let f = two_found (state g.S.Store c.args.tx.now.conn.now) (state g.S.Store c.stored_pledge_in.new.tx.conn.now) (state g.S.Store c.lists_in.new.tx.conn.now)
+    c.in_ok-told.field-0 P c.in_ok-lists.lists Q c.in_ok-told.ensures.lent.leaves c.in_ok-lists.ensures.lent.leaves c.in_ok-told.ensures.finds c.in_ok-lists.ensures.finds
     clean within h stood in
     let r = told_is (pledge_in (get h.books c.args.book) c.get-n.result) c.in-Some.told (subst (λ t. AreTold t (pledge_in (get h.books c.args.book) c.get-n.result)) c.in-Some.is f.1) in
     let read = joined_told h c.args.book c.get-n.result r.0 c.in-Some.told c.in_ok-lists.lists AreLists (λ (q : PledgeValue). q) IsStanding (Ok c.in_ok-pledge.pledge) c.args.number (sym c.get-n.ensures.value) f.0.ordered r.1 r.2 r.3 f.2 c.in_ok-pledge.ensures.read in

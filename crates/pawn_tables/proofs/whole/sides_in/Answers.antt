@@ -9,7 +9,7 @@ use Rattle.pawn_debt.specs.declared.owing.Totals.{Totals}
 use Rattle.pawn_book.specs.BookStep.{pledge_in}
 use Rattle.pawn_book.specs.Rows.{terms_at}
 use Rattle.pawn_book.specs.Keeping.{terms_of}
-use Rattle.pawn_tables.specs.Told.{booking_of, totals_in}
+use Rattle.pawn_tables.specs.PledgeRows.{booking_of, totals_in}
 use Rattle.sqlite.specs.Held.{state}
 use Rattle.pawn_tables.proofs.Lent.{first_unfound, second_unfound, third_unfound, three_found}
 use Rattle.pawn_tables.proofs.whole.sides_in.Goals as goal
@@ -24,7 +24,7 @@ returns-in_err-booking-clause-finds g c =
     let P : Host → Option Rates → Type 0 = λ h x. x ≡ terms_at (terms_of (get h.books c.args.book)) c.args.version in
     let Q : Host → Option Booking → Type 0 = λ h x. x ≡ booking_of (pledge_in (get h.books c.args.book) c.args.number) in
     second_unfound _ (state g.S.Store c.args.tx.now.conn.now) (state g.S.Store c.terms_in.new.tx.conn.now) (state g.S.Store c.booking_in.new.tx.conn.now)
-    c.in_ok-terms.terms P c.in_err-booking.field-0.0 Q c.from_residual-in_err-booking.result _ (search rules) c.in_ok-terms.ensures.lent c.in_err-booking.ensures.lent c.in_ok-terms.ensures.finds c.in_err-booking.ensures.finds
+    c.in_ok-terms.terms P c.in_err-booking.field-0.0 Q c.from_residual-in_err-booking.result _ (search rules) c.in_ok-terms.ensures.lent.leaves c.in_err-booking.ensures.lent.leaves c.in_ok-terms.ensures.finds c.in_err-booking.ensures.finds
 
 pub returns-in_err-totals-clause-finds : goal.returns-in_err-totals-clause-finds
 returns-in_err-totals-clause-finds g c =
@@ -32,7 +32,7 @@ returns-in_err-totals-clause-finds g c =
     let Q : Host → Option Booking → Type 0 = λ h x. x ≡ booking_of (pledge_in (get h.books c.args.book) c.args.number) in
     let R : Host → Option Totals → Type 0 = λ h x. x ≡ totals_in (pledge_in (get h.books c.args.book) c.args.number) in
     third_unfound _ (state g.S.Store c.args.tx.now.conn.now) (state g.S.Store c.terms_in.new.tx.conn.now) (state g.S.Store c.booking_in.new.tx.conn.now) (state g.S.Store c.totals_in.new.tx.conn.now)
-    c.in_ok-terms.terms P c.in_ok-booking.booking Q c.in_err-totals.field-0.0 R c.from_residual-in_err-totals.result _ (search rules) c.in_ok-terms.ensures.lent c.in_ok-booking.ensures.lent c.in_err-totals.ensures.lent
+    c.in_ok-terms.terms P c.in_ok-booking.booking Q c.in_err-totals.field-0.0 R c.from_residual-in_err-totals.result _ (search rules) c.in_ok-terms.ensures.lent.leaves c.in_ok-booking.ensures.lent.leaves c.in_err-totals.ensures.lent.leaves
     c.in_ok-terms.ensures.finds c.in_ok-booking.ensures.finds c.in_err-totals.ensures.finds
 
 pub returns-clause-finds : goal.returns-clause-finds
@@ -41,6 +41,6 @@ returns-clause-finds g c clean within h stood =
     let Q : Host → Option Booking → Type 0 = λ h x. x ≡ booking_of (pledge_in (get h.books c.args.book) c.args.number) in
     let R : Host → Option Totals → Type 0 = λ h x. x ≡ totals_in (pledge_in (get h.books c.args.book) c.args.number) in
     let f = three_found (state g.S.Store c.args.tx.now.conn.now) (state g.S.Store c.terms_in.new.tx.conn.now) (state g.S.Store c.booking_in.new.tx.conn.now) (state g.S.Store c.totals_in.new.tx.conn.now)
-    c.in_ok-terms.terms P c.in_ok-booking.booking Q c.in_ok-totals.totals R c.in_ok-terms.ensures.lent c.in_ok-booking.ensures.lent c.in_ok-totals.ensures.lent c.in_ok-terms.ensures.finds c.in_ok-booking.ensures.finds c.in_ok-totals.ensures.finds
+    c.in_ok-terms.terms P c.in_ok-booking.booking Q c.in_ok-totals.totals R c.in_ok-terms.ensures.lent.leaves c.in_ok-booking.ensures.lent.leaves c.in_ok-totals.ensures.lent.leaves c.in_ok-terms.ensures.finds c.in_ok-booking.ensures.finds c.in_ok-totals.ensures.finds
     clean within h stood in
     (sides_told h c.args.book c.args.number c.args.version _ f.0.ordered f.1 f.2 f.3, f.4)

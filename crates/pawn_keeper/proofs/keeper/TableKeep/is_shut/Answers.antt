@@ -3,7 +3,7 @@ use Rattle.sqlite.specs.Held.{state}
 use Rattle.sqlite.specs.Outline.{Outline}
 use Rattle.sqlite.specs.declared.error.Error.TheVariants.{SqliteFailure}
 use Rattle.sqlite.specs.declared.error.ErrorCode.TheVariants.{Closed}
-use Rattle.pawn_keeper.proofs.Asking.{asked, left_by, told_shut}
+use Rattle.pawn_keeper.proofs.ShutStores.{asked, left_by, told_shut}
 use Rattle.pawn_keeper.proofs.keeper.TableKeep.is_shut.Goals as goal
 use Rattle.pawn_keeper.proofs.keeper.TableKeep.is_shut.Goals.{in-Err-SqliteFailure-Closed, in_default, in_default-2, in_default-3}
 

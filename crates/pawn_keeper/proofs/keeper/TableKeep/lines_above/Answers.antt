@@ -1,9 +1,7 @@
-use Rattle.sqlite.specs.Held.{state}
-use Rattle.pawn_keeper.proofs.KeeperReads.{errs_by, read_by, was_read}
+use Rattle.pawn_keeper.proofs.KeeperReads.{read_in}
 use Rattle.pawn_keeper.proofs.keeper.TableKeep.lines_above.Goals as goal
 
 pub returns : goal.returns
 returns g c =
-    let begun = c.transaction-tx.ensures.begun in
-    let was = was_read (state g.S.Store c.args.self.now.conn) c.lines_page-page.result c.args.self.now.rests c.know_settled.ensures.settled (rw begun at c.lines_page-page.ensures.lent) c.rollback.ensures.undone c.rollback.ensures.survives (rw (begun, c.get.ensures.value) at c.lines_page-page.ensures.finds) in
-    record { reads = read_by (λ k. state g.S.Store k.conn) _ _ was; errs = errs_by (λ k. state g.S.Store k.conn) _ _ was }
+    read_in g.S.Store (λ k. k.conn) _ _ _ c.lines_page-page.result c.args.self.now.rests c.know_settled.ensures.settled c.transaction-tx.ensures.begun c.lines_page-page.ensures.lent (rw c.get.ensures.value at c.lines_page-page.ensures.finds)
+    c.rollback.ensures.undone c.rollback.ensures.survives

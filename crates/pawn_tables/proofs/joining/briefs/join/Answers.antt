@@ -2,12 +2,12 @@ use Rattle.std.proofs.Common.{rules}
 use Rattle.pawn_terms.specs.Calendar.{IsDayNumber}
 use Rattle.pawn_pledge.specs.Brief.{brief_of}
 use Rattle.pawn_pledge.specs.Pledge.{end_of}
-use Rattle.pawn_tables.specs.Told.{HasSecret, IsBriefTold}
-use Rattle.pawn_tables.proofs.Placed.{read_part}
+use Rattle.pawn_tables.specs.PledgeRows.{HasSecret, IsBriefTold}
+use Rattle.pawn_tables.proofs.ListsOfRows.{read_part}
 use Rattle.pawn_tables.proofs.joining.briefs.join.Goals as goal
 
 pub returns-in_err-fields : goal.returns-in_err-fields
 returns-in_err-fields c = record {
-  read = λ p number row sides tails.
-      let e = read_part c.in_err-fields.field-0.0 (brief_of p) (HasSecret p × IsDayNumber (end_of p)) (IsBriefTold p) (λ told. (told.secret, told.ends)) (c.in_err-fields.ensures.read p number row sides tails) in search rules;
+  read = λ p number row sides list_ends.
+      let e = read_part c.in_err-fields.field-0.0 (brief_of p) (HasSecret p × IsDayNumber (end_of p)) (IsBriefTold p) (λ told. (told.secret, told.ends)) (c.in_err-fields.ensures.read p number row sides list_ends) in search rules;
 }

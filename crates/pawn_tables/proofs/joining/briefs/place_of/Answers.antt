@@ -1,5 +1,5 @@
 use Rattle.std.proofs.Common.{rules}
-use Rattle.pawn_tables.proofs.TailReads.{last_place}
+use Rattle.pawn_tables.proofs.ListEndReads.{last_place}
 use Rattle.pawn_tables.proofs.joining.briefs.place_of.Goals as goal
 
 pub returns-in-Some : goal.returns-in-Some

@@ -1,0 +1,134 @@
+-- What the queries for the ends of a pledge's lists show, where the tables stand for a host.
+use Rattle.std.proofs.Common.{◌≡◌, ℕ, suc, ◌+◌, ◌-◌, List, [], ◌∷◌, length, map, Option, Some, None, option_map, refl, sym, ap, subst, ◌∙◌, arith}
+use Rattle.std.specs.Prelude.{IfSome, unwrap_or}
+use Rattle.std.specs.declared.cmp.Ordering.TheVariants.{Less}
+use Rattle.std.specs.FinMap.{get}
+use Rattle.std.proofs.lemmas.List.{length-map}
+use Rattle.sqlite.specs.Order.{Row, column, value_cmp}
+use Rattle.sqlite.specs.Tree.{IsAscending}
+use Rattle.sqlite.specs.Table.{Table}
+use Rattle.sqlite.specs.State.{State, Shown}
+use Rattle.pawn_terms.specs.Calendar.{IsDayNumber}
+use Rattle.pawn_pledge.specs.declared.record.Issued.{Issued}
+use Rattle.pawn_pledge.specs.declared.record.Extension.{Extension}
+use Rattle.pawn_pledge.specs.Pledge.{PledgeValue, last_element}
+use Rattle.pawn_pledge.specs.Replayable.{Each}
+use Rattle.pawn_book.specs.BookStep.{pledge_in}
+use Rattle.pawn_book.specs.HostStep.{Host}
+use Rattle.pawn_book.specs.Keeping.{entries_of, extensions_of, secrets_of}
+use Rattle.pawn_book.specs.Sound.{IsUnsoundAt}
+use Rattle.pawn_book.specs.Written.{AreWords, IsWord}
+use Rattle.one_table.proofs.Found.{last_of, shown_last}
+use Rattle.pawn_tables.specs.Heads.{number_cells}
+use Rattle.pawn_tables.specs.Rows.{number, under, at_most_one, placed_from, entry_cells, entries_listed, secret_cells, secrets_listed, extension_cells, extensions_listed}
+use Rattle.pawn_tables.specs.Ours.{with_indexes}
+use Rattle.pawn_tables.specs.Schema.{entries, secrets, extensions, entries_tree, extensions_tree, secrets_tree}
+use Rattle.pawn_tables.specs.StandsFor.{AreStorable, StandsFor, of_pledges}
+use Rattle.pawn_tables.specs.ListEnds.{AreListEnds, last_cells, last_issued}
+use Rattle.pawn_tables.specs.declared.joining.LastSecret.{LastSecret}
+use Rattle.pawn_tables.specs.declared.joining.ListEnds.{ListEnds}
+use Rattle.pawn_tables.proofs.Counts.{count_of, shown_count}
+use Rattle.pawn_tables.proofs.PageLemmas.{last_later, last_some}
+use Rattle.pawn_tables.proofs.ListElementReads.{at_each}
+use Rattle.pawn_tables.proofs.PledgeReads.{rises_at, under_map, under_placed}
+use Rattle.pawn_tables.proofs.ReadTexts as text
+use Rattle.pawn_tables.proofs.SoundReads.{secrets_unsound}
+use Rattle.pawn_tables.proofs.RowsUnderKey.{at_pledge, rows_at, of_one_pledge, placed_rise}
+
+-- ---- the last of elements with their places
+
+last_placed : {A : Type 0} (g told : ℕ → A → Row) (cells : Row → Row) → ((at : ℕ) (x : A) → cells (g at x) ≡ told at x) → (k place : ℕ) (xs : List A) → place + 1 ≡ k + length xs
+    → map cells (last_of (placed_from g k xs)) ≡ at_most_one (told place) (last_element xs)
+last_placed g told cells is k place [] end = refl
+last_placed g told cells is k place (x ∷ []) end = let same : k ≡ place = omega (arith, end) in ap (λ r. r ∷ []) (is k x ∙ ap (λ m. told m x) same)
+last_placed g told cells is k place (x ∷ (y ∷ xs)) end = last_placed g told cells is (k + 1) place (y ∷ xs) (omega (arith, end)) ∙ ap (at_most_one (told place)) (sym (last_later x y xs))
+
+one_mapped : {A B : Type 0} (f : A → B) (g : B → Row) (o : Option A) → at_most_one (λ x. g (f x)) o ≡ at_most_one g (option_map f o)
+one_mapped f g None = refl
+one_mapped f g (Some x) = refl
+
+-- its place tells how many they are
+pub place_count : {A : Type 0} (xs : List A) → unwrap_or (option_map (λ (x : A). length xs) (last_element xs)) 0 ≡ length xs
+place_count [] = refl
+place_count (x ∷ xs) = let last = last_some x xs in ap (λ o. unwrap_or (option_map (λ y. length (x ∷ xs)) o) 0) last.1
+
+pub last_place : (secrets : List Issued) (l : Option LastSecret) → l ≡ last_issued secrets → unwrap_or (option_map (λ (x : LastSecret). x.place) l) 0 ≡ length secrets
+last_place secrets l is = ap (λ o. unwrap_or (option_map (λ (x : LastSecret). x.place) o) 0) is ∙ go (last_element secrets) ∙ place_count secrets
+  where
+    go : (o : Option Issued) → unwrap_or (option_map (λ (x : LastSecret). x.place) (option_map (λ (i : Issued). record { place = length secrets; issued = i }) o)) 0 ≡ unwrap_or (option_map (λ (i : Issued). length secrets) o) 0
+    go None = refl
+    go (Some i) = refl
+
+-- the last of words is a word
+pub last_word : (secrets : List Issued) → AreWords secrets → IfSome (last_issued secrets) (λ (l : LastSecret). IsWord l.issued.secret)
+last_word secrets words = go (last_element secrets) (at_each (λ (i : Issued). IsWord i.secret) secrets (suc (length secrets - 1)) words)
+  where
+    go : (o : Option Issued) → IfSome o (λ (i : Issued). IsWord i.secret) → IfSome (option_map (λ (i : Issued). record { place = length secrets; issued = i }) o) (λ (l : LastSecret). IsWord l.issued.secret)
+    go None fits = tt
+    go (Some i) fits = fits
+
+-- the last of days is a day
+last_day : (secrets : List Issued) → Each (λ i. IsDayNumber i.day) secrets → IfSome (last_issued secrets) (λ (l : LastSecret). IsDayNumber l.issued.day)
+last_day secrets days = go (last_element secrets) (at_each (λ (i : Issued). IsDayNumber i.day) secrets (suc (length secrets - 1)) days)
+  where
+    go : (o : Option Issued) → IfSome o (λ (i : Issued). IsDayNumber i.day) → IfSome (option_map (λ (i : Issued). record { place = length secrets; issued = i }) o) (λ (l : LastSecret). IsDayNumber l.issued.day)
+    go None is = tt
+    go (Some i) is = is
+
+pub last_unsound : (h : Host) → AreStorable h → (b n : ℕ) → (IfSome (last_issued (secrets_of (pledge_in (get h.books b) n))) (λ (l : LastSecret). IsDayNumber l.issued.day) → ⊥) → IsUnsoundAt b h
+last_unsound h storable b n bad = secrets_unsound h storable b n (λ days. bad (last_day _ days))
+
+-- ---- what is shown
+
+module _ (old new : State) (h : Host) (b n : ℕ) (rows : List Row) (st : StandsFor old.now h) where
+  abbrev params : Row
+  params = number b ∷ number n ∷ []
+
+  abbrev found : Option PledgeValue
+  found = pledge_in (get h.books b) n
+
+  pub count_shown : Shown text.COUNT_ENTRIES.now params old new rows → rows ≡ count_of (length (entries_of found)) ∷ []
+  count_shown shown =
+      let t : Table = record entries { tree = entries_tree } in
+      let one = of_one_pledge h b n entries_listed st.ordered (λ m p. under_map m p.agreement.number entry_cells p.entries) in
+      shown_count (with_indexes st.schema.more) entries_tree (λ _. refl) t text.of_pledge params (at_pledge b n) (λ _. refl) text.COUNT_ENTRIES.now _ (text.entry_count_is st.schema.more) old new (of_pledges h entries_listed) rows st.schema.is st.entries shown
+      ∙ ap (λ k. count_of k ∷ []) (ap length one ∙ many found)
+    where
+      many : (o : Option PledgeValue) → length (rows_at o (entries_listed b)) ≡ length (entries_of o)
+      many None = refl
+      many (Some p) = length-map p.entries _
+
+  pub secret_shown : Shown text.READ_LAST_SECRET.now params old new rows → rows ≡ at_most_one last_cells (last_issued (secrets_of found))
+  secret_shown shown =
+      let t : Table = record secrets { tree = secrets_tree } in
+      let one = of_one_pledge h b n secrets_listed st.ordered (λ m p. under_placed m p.agreement.number secret_cells 1 p.secrets) in
+      let up = rises_at found (secrets_listed b) (λ v. column v 2) (λ p is. placed_rise (λ place i. under b p.agreement.number (secret_cells place i)) (λ v. column v 2) (λ place i. refl) 1 p.secrets) in
+      shown_last (with_indexes st.schema.more) secrets_tree (λ _. refl) t text.of_pledge text.secrets_shows params (at_pledge b n) (λ v. column v 2 ∷ column v 3 ∷ column v 4 ∷ column v 5 ∷ []) (λ _. refl) (λ _. refl) 3 (λ v. column v 2) (λ _. refl)
+      text.READ_LAST_SECRET.now _ (text.last_secret_is st.schema.more) old new (of_pledges h secrets_listed) rows st.schema.is st.secrets (subst (IsAscending (λ a c. value_cmp (column a 2) (column c 2) ≡ Less)) (sym one) up) shown
+      ∙ ap (λ xs. map (λ v. column v 2 ∷ column v 3 ∷ column v 4 ∷ column v 5 ∷ []) (last_of xs)) one ∙ cells found
+    where
+      cells : (o : Option PledgeValue) → map (λ v. column v 2 ∷ column v 3 ∷ column v 4 ∷ column v 5 ∷ []) (last_of (rows_at o (secrets_listed b))) ≡ at_most_one last_cells (last_issued (secrets_of o))
+      cells None = refl
+      cells (Some p) =
+          last_placed (λ place i. under b p.agreement.number (secret_cells place i)) (λ place (i : Issued). last_cells (record { place = place; issued = i })) (λ v. column v 2 ∷ column v 3 ∷ column v 4 ∷ column v 5 ∷ []) (λ place i. refl) 1 (length p.secrets) p.secrets (omega arith)
+          ∙ one_mapped (λ (i : Issued). record { place = length p.secrets; issued = i }) last_cells (last_element p.secrets)
+
+  pub place_shown : Shown text.READ_LAST_PLACE.now params old new rows → rows ≡ at_most_one number_cells (option_map (λ (e : Extension). length (extensions_of found)) (last_element (extensions_of found)))
+  place_shown shown =
+      let t : Table = record extensions { tree = extensions_tree } in
+      let one = of_one_pledge h b n extensions_listed st.ordered (λ m p. under_placed m p.agreement.number extension_cells 1 p.extensions) in
+      let up = rises_at found (extensions_listed b) (λ v. column v 2) (λ p is. placed_rise (λ place e. under b p.agreement.number (extension_cells place e)) (λ v. column v 2) (λ place e. refl) 1 p.extensions) in
+      shown_last (with_indexes st.schema.more) extensions_tree (λ _. refl) t text.of_pledge text.last_place_shows params (at_pledge b n) (λ v. column v 2 ∷ []) (λ _. refl) (λ _. refl) 3 (λ v. column v 2) (λ _. refl)
+      text.READ_LAST_PLACE.now _ (text.last_place_is st.schema.more) old new (of_pledges h extensions_listed) rows st.schema.is st.extensions (subst (IsAscending (λ a c. value_cmp (column a 2) (column c 2) ≡ Less)) (sym one) up) shown
+      ∙ ap (λ xs. map (λ v. column v 2 ∷ []) (last_of xs)) one ∙ cells found
+    where
+      cells : (o : Option PledgeValue) → map (λ v. column v 2 ∷ []) (last_of (rows_at o (extensions_listed b))) ≡ at_most_one number_cells (option_map (λ (e : Extension). length (extensions_of o)) (last_element (extensions_of o)))
+      cells None = refl
+      cells (Some p) =
+          last_placed (λ place e. under b p.agreement.number (extension_cells place e)) (λ place (e : Extension). number_cells place) (λ v. column v 2 ∷ []) (λ place e. refl) 1 (length p.extensions) p.extensions (omega arith)
+          ∙ one_mapped (λ (e : Extension). length p.extensions) number_cells (last_element p.extensions)
+
+-- what the ends tell together
+pub list_ends_told : (o : Option PledgeValue) (t : ListEnds) → t.entries ≡ length (entries_of o) → t.last ≡ last_issued (secrets_of o) → t.extensions ≡ length (extensions_of o) → IfSome o (AreListEnds t)
+list_ends_told None t many last longer = tt
+list_ends_told (Some p) t many last longer = record { entries = many; last = last; extensions = longer }

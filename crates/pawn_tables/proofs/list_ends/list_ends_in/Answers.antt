@@ -1,0 +1,43 @@
+use Rattle.std.proofs.Common.{rules, ◌≡◌, ℕ, length}
+use Rattle.std.specs.FinMap.{get}
+use Rattle.std.specs.Prelude.{Option}
+use Rattle.sqlite.specs.Held.{state}
+use Rattle.pawn_book.specs.BookStep.{pledge_in}
+use Rattle.pawn_book.specs.HostStep.{Host}
+use Rattle.pawn_book.specs.Keeping.{entries_of, extensions_of, secrets_of}
+use Rattle.pawn_tables.specs.ListEnds.{last_issued}
+use Rattle.pawn_tables.specs.declared.joining.LastSecret.{LastSecret}
+use Rattle.pawn_tables.proofs.Lent.{first_unfound, second_unfound, third_unfound, three_found}
+use Rattle.pawn_tables.proofs.ListEndReads.{list_ends_told}
+use Rattle.pawn_tables.proofs.list_ends.list_ends_in.Goals as goal
+
+pub returns-in_err-entries-clause-finds : goal.returns-in_err-entries-clause-finds
+returns-in_err-entries-clause-finds g c =
+    let P : Host → ℕ → Type 0 = λ h x. x ≡ length (entries_of (pledge_in (get h.books c.args.book) c.args.number)) in
+    first_unfound _ (state g.S.Store c.args.tx.now.conn.now) (state g.S.Store c.entry_count.new.tx.conn.now) c.in_err-entries.field-0.0 P c.from_residual.result _ (search rules) c.in_err-entries.ensures.finds
+
+pub returns-in_err-last-clause-finds : goal.returns-in_err-last-clause-finds
+returns-in_err-last-clause-finds g c =
+    let P : Host → ℕ → Type 0 = λ h x. x ≡ length (entries_of (pledge_in (get h.books c.args.book) c.args.number)) in
+    let Q : Host → Option LastSecret → Type 0 = λ h x. x ≡ last_issued (secrets_of (pledge_in (get h.books c.args.book) c.args.number)) in
+    second_unfound _ (state g.S.Store c.args.tx.now.conn.now) (state g.S.Store c.entry_count.new.tx.conn.now) (state g.S.Store c.last_secret.new.tx.conn.now)
+    c.in_ok-entries.entries P c.in_err-last.field-0.0 Q c.from_residual-in_err-last.result _ (search rules) c.in_ok-entries.ensures.lent.leaves c.in_err-last.ensures.lent.leaves c.in_ok-entries.ensures.finds c.in_err-last.ensures.finds
+
+pub returns-in_err-extensions-clause-finds : goal.returns-in_err-extensions-clause-finds
+returns-in_err-extensions-clause-finds g c =
+    let P : Host → ℕ → Type 0 = λ h x. x ≡ length (entries_of (pledge_in (get h.books c.args.book) c.args.number)) in
+    let Q : Host → Option LastSecret → Type 0 = λ h x. x ≡ last_issued (secrets_of (pledge_in (get h.books c.args.book) c.args.number)) in
+    let R : Host → ℕ → Type 0 = λ h x. x ≡ length (extensions_of (pledge_in (get h.books c.args.book) c.args.number)) in
+    third_unfound _ (state g.S.Store c.args.tx.now.conn.now) (state g.S.Store c.entry_count.new.tx.conn.now) (state g.S.Store c.last_secret.new.tx.conn.now) (state g.S.Store c.extension_count.new.tx.conn.now)
+    c.in_ok-entries.entries P c.in_ok-last.last Q c.in_err-extensions.field-0.0 R c.from_residual-in_err-extensions.result _ (search rules) c.in_ok-entries.ensures.lent.leaves c.in_ok-last.ensures.lent.leaves c.in_err-extensions.ensures.lent.leaves
+    c.in_ok-entries.ensures.finds c.in_ok-last.ensures.finds c.in_err-extensions.ensures.finds
+
+pub returns-clause-finds : goal.returns-clause-finds
+returns-clause-finds g c clean within h stood =
+    let P : Host → ℕ → Type 0 = λ h x. x ≡ length (entries_of (pledge_in (get h.books c.args.book) c.args.number)) in
+    let Q : Host → Option LastSecret → Type 0 = λ h x. x ≡ last_issued (secrets_of (pledge_in (get h.books c.args.book) c.args.number)) in
+    let R : Host → ℕ → Type 0 = λ h x. x ≡ length (extensions_of (pledge_in (get h.books c.args.book) c.args.number)) in
+    let f = three_found (state g.S.Store c.args.tx.now.conn.now) (state g.S.Store c.entry_count.new.tx.conn.now) (state g.S.Store c.last_secret.new.tx.conn.now) (state g.S.Store c.extension_count.new.tx.conn.now)
+    c.in_ok-entries.entries P c.in_ok-last.last Q c.in_ok-extensions.extensions R c.in_ok-entries.ensures.lent.leaves c.in_ok-last.ensures.lent.leaves c.in_ok-extensions.ensures.lent.leaves c.in_ok-entries.ensures.finds c.in_ok-last.ensures.finds c.in_ok-extensions.ensures.finds
+    clean within h stood in
+    (list_ends_told (pledge_in (get h.books c.args.book) c.args.number) _ f.1 f.2 f.3, f.4)

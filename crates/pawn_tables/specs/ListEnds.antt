@@ -1,0 +1,22 @@
+-- What the ends of a pledge's lists show: how long the lists are, and the last secret.
+use Rattle.std.specs.Prelude.{◌≡◌, List, length, Option, option_map}
+use Rattle.sqlite.specs.Order.{Row}
+use Rattle.pawn_pledge.specs.declared.record.Issued.{Issued}
+use Rattle.pawn_pledge.specs.Pledge.{PledgeValue, last_element}
+use Rattle.pawn_tables.specs.Rows.{secret_cells}
+use Rattle.pawn_tables.specs.declared.joining.LastSecret.{LastSecret}
+use Rattle.pawn_tables.specs.declared.joining.ListEnds.{ListEnds}
+
+-- the last of the secrets; its place is how many there are
+abbrev pub last_issued : List Issued → Option LastSecret
+last_issued secrets = option_map (λ (i : Issued). record { place = length secrets; issued = i }) (last_element secrets)
+
+-- what its row shows
+abbrev pub last_cells : LastSecret → Row
+last_cells l = secret_cells l.place l.issued
+
+-- the ends are those of the lists of a pledge
+pub record AreListEnds (t : ListEnds) (p : PledgeValue) : Type 0 where
+  pub entries : t.entries ≡ length p.entries
+  pub last : t.last ≡ last_issued p.secrets
+  pub extensions : t.extensions ≡ length p.extensions

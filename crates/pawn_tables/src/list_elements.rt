@@ -1,0 +1,62 @@
+#![tactic(auto, using(crate::proofs::StatementFinds::unread))]
+
+ghost use Rattle.std.specs.Prelude.{◌≡◌, is_ok};
+ghost use Rattle.std.specs.FinMap.{get};
+ghost use Rattle.pawn_book.specs.BookStep.{pledge_in};
+ghost use Rattle.pawn_book.specs.Keeping.{entries_of, extensions_of, secrets_of};
+ghost use Rattle.pawn_book.specs.Sound.{IsUnsoundAt};
+ghost use Rattle.one_table.specs.Lending.{Lends};
+ghost use Rattle.pawn_tables.specs.Entries.{with_seq};
+ghost use Rattle.pawn_tables.specs.Finding.{FindsBy};
+ghost use Rattle.pawn_tables.specs.Places.{at_place};
+
+use crate::lists::{first_entry, first_extension, first_issued};
+use crate::queries::rows_of;
+use crate::texts::{READ_ENTRY, READ_EXTENSION, READ_SECRET};
+use pawn_book::{Entry, Extension, Issued, KeepError};
+use sqlite::{Alter, Transaction, params};
+
+/// The entry of a pledge with the number `seq`, if there is one.
+pub fn entry_in<S: Alter>(
+    tx: &mut Transaction<'_, S>,
+    book: u32,
+    number: u32,
+    seq: u32,
+) -> Result<Option<Entry>, KeepError>
+    ensures finds { FindsBy S.Store tx.old.conn tx.new.conn (IsUnsoundAt book) result
+        (λ h x. x ≡ with_seq (entries_of (pledge_in (get h.books book) number)) seq) }
+    ensures lent { Lends S.Store tx.old.conn tx.new.conn (is_ok result) }
+{
+    let rows = rows_of(tx, READ_ENTRY, params![book, number, seq])?;
+    first_entry(&rows)
+}
+
+/// The secret of a pledge at a place, and how it was issued, if there is one. The first place is 1.
+pub fn secret_in<S: Alter>(
+    tx: &mut Transaction<'_, S>,
+    book: u32,
+    number: u32,
+    place: u32,
+) -> Result<Option<Issued>, KeepError>
+    ensures finds { FindsBy S.Store tx.old.conn tx.new.conn (IsUnsoundAt book) result
+        (λ h x. x ≡ at_place (secrets_of (pledge_in (get h.books book) number)) place) }
+    ensures lent { Lends S.Store tx.old.conn tx.new.conn (is_ok result) }
+{
+    let rows = rows_of(tx, READ_SECRET, params![book, number, place])?;
+    first_issued(&rows)
+}
+
+/// The extension of a pledge at a place, if there is one. The first place is 1.
+pub fn extension_in<S: Alter>(
+    tx: &mut Transaction<'_, S>,
+    book: u32,
+    number: u32,
+    place: u32,
+) -> Result<Option<Extension>, KeepError>
+    ensures finds { FindsBy S.Store tx.old.conn tx.new.conn (IsUnsoundAt book) result
+        (λ h x. x ≡ at_place (extensions_of (pledge_in (get h.books book) number)) place) }
+    ensures lent { Lends S.Store tx.old.conn tx.new.conn (is_ok result) }
+{
+    let rows = rows_of(tx, READ_EXTENSION, params![book, number, place])?;
+    first_extension(&rows)
+}

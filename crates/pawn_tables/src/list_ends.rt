@@ -1,0 +1,121 @@
+//! How long the lists of a pledge are, and its last secret. No list is read.
+#![tactic(auto, using(crate::proofs::StatementFinds::unread))]
+
+ghost use Rattle.std.specs.Prelude.{◌≡◌, ℕ, IfSome, Option, is_ok, length, unwrap_or, ⊤};
+ghost use Rattle.std.specs.FinMap.{get};
+ghost use Rattle.pawn_terms.specs.Calendar.{IsDayNumber};
+ghost use Rattle.pawn_book.specs.BookStep.{pledge_in};
+ghost use Rattle.pawn_book.specs.Keeping.{entries_of, extensions_of, secrets_of};
+ghost use Rattle.pawn_book.specs.Sound.{IsUnsoundAt};
+ghost use Rattle.pawn_book.specs.Written.{IsWord};
+ghost use Rattle.one_table.specs.Lending.{Lends};
+ghost use Rattle.pawn_tables.specs.declared.joining.LastSecret.{LastSecret};
+ghost use Rattle.pawn_tables.specs.Finding.{IsRead, FindsBy};
+ghost use Rattle.pawn_tables.specs.Heads.{number_cells};
+ghost use Rattle.pawn_tables.specs.Rows.{at_most_one};
+ghost use Rattle.pawn_tables.specs.ListEnds.{AreListEnds, last_cells, last_issued};
+
+use crate::cells::number_at;
+use crate::heads::only_count;
+use crate::joining::{LastSecret, ListEnds};
+use crate::lists::issued_of;
+use crate::queries::rows_of;
+use crate::texts::{COUNT_ENTRIES, READ_LAST_PLACE, READ_LAST_SECRET};
+use pawn_book::KeepError;
+use sqlite::{Alter, Row, Transaction, params};
+
+// The last secret of a row, and its place.
+fn last_of(row: &Row) -> Result<LastSecret, KeepError>
+    ensures read { (l : LastSecret) → IsWord l.issued.secret → row.now ≡ last_cells l
+        → IsRead result l (IsDayNumber l.issued.day) }
+{
+    let place = number_at(row, 0)?;
+    let issued = issued_of(row)?;
+    Ok(LastSecret { place, issued })
+}
+
+// The last secret of the first row, and its place, if there is a row.
+fn first_last(rows: &[Row]) -> Result<Option<LastSecret>, KeepError>
+    ensures read { (l : Option LastSecret) → IfSome l (λ x. IsWord x.issued.secret)
+        → rows.now ≡ at_most_one last_cells l → IsRead result l
+        (IfSome l (λ x. IsDayNumber x.issued.day)) }
+{
+    let [row, ..] = rows else {
+        return Ok(None);
+    };
+    Ok(Some(last_of(row)?))
+}
+
+// How many elements there are: the first row has the place of the last, and without a row there are none.
+fn first_place(rows: &[Row]) -> Result<u64, KeepError>
+    ensures read { (n : Option ℕ) → rows.now ≡ at_most_one number_cells n → IsRead result
+        (unwrap_or n 0) ⊤ }
+{
+    let [row, ..] = rows else {
+        return Ok(0);
+    };
+    number_at(row, 0)
+}
+
+// How many entries a pledge has. They are counted, since the number of the last does not show whether one is left out.
+fn entry_count<S: Alter>(
+    tx: &mut Transaction<'_, S>,
+    book: u32,
+    number: u32,
+) -> Result<u64, KeepError>
+    ensures finds { FindsBy S.Store tx.old.conn tx.new.conn (IsUnsoundAt book) result
+        (λ h count. count ≡ length (entries_of (pledge_in (get h.books book) number))) }
+    ensures lent { Lends S.Store tx.old.conn tx.new.conn (is_ok result) }
+{
+    let rows = rows_of(tx, COUNT_ENTRIES, params![book, number])?;
+    only_count(&rows)
+}
+
+// The last secret of a pledge, and its place, if there is one.
+fn last_secret<S: Alter>(
+    tx: &mut Transaction<'_, S>,
+    book: u32,
+    number: u32,
+) -> Result<Option<LastSecret>, KeepError>
+    ensures finds { FindsBy S.Store tx.old.conn tx.new.conn (IsUnsoundAt book) result
+        (λ h x. x ≡ last_issued (secrets_of (pledge_in (get h.books book) number))) }
+    ensures lent { Lends S.Store tx.old.conn tx.new.conn (is_ok result) }
+{
+    let rows = rows_of(tx, READ_LAST_SECRET, params![book, number])?;
+    first_last(&rows)
+}
+
+// How many extensions a pledge has, by the place of the last.
+fn extension_count<S: Alter>(
+    tx: &mut Transaction<'_, S>,
+    book: u32,
+    number: u32,
+) -> Result<u64, KeepError>
+    ensures finds { FindsBy S.Store tx.old.conn tx.new.conn (IsUnsoundAt book) result
+        (λ h count. count ≡ length (extensions_of (pledge_in (get h.books book) number))) }
+    ensures lent { Lends S.Store tx.old.conn tx.new.conn (is_ok result) }
+{
+    let rows = rows_of(tx, READ_LAST_PLACE, params![book, number])?;
+    first_place(&rows)
+}
+
+/// How many entries and extensions a pledge has, and its last secret.
+#[tactic(auto, using(crate::proofs::Lent::lent_then))]
+pub(crate) fn list_ends_in<S: Alter>(
+    tx: &mut Transaction<'_, S>,
+    book: u32,
+    number: u32,
+) -> Result<ListEnds, KeepError>
+    ensures finds { FindsBy S.Store tx.old.conn tx.new.conn (IsUnsoundAt book) result
+        (λ h t. IfSome (pledge_in (get h.books book) number) (AreListEnds t)) }
+    ensures lent { Lends S.Store tx.old.conn tx.new.conn (is_ok result) }
+{
+    let entries = entry_count(tx, book, number)?;
+    let last = last_secret(tx, book, number)?;
+    let extensions = extension_count(tx, book, number)?;
+    Ok(ListEnds {
+        entries,
+        last,
+        extensions,
+    })
+}
