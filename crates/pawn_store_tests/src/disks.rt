@@ -1,7 +1,7 @@
 //! Disks in memory that fail at some call, and stores on them.
 
 use pawn_opening::open_files;
-use sqlite::{Connection, FileStore, Files, Options};
+use sqlite::{Alter, Connection, FileStore, Files, Options};
 use sqlite_disk::{Crash, Disk, Fuse, Memory};
 use std::alloc::Global;
 
@@ -71,24 +71,48 @@ pub fn store_on(alloc: Global, disks: Disks) -> Result<Connection<FileStore<Fuse
     }
 }
 
+// Runs these statements on a store. Returns whether all were done. It has no clause, so that its callers carry no facts of
+// the statements into their own proofs.
+fn has_run<S: Alter>(conn: &mut Connection<S>, statements: &str) -> bool {
+    conn.execute_batch(statements).is_ok()
+}
+
+/// Closes a store, and gives its disks back. It has no clause, for the same reason.
+pub fn closed(conn: Connection<FileStore<Fuse<Memory>>>) -> Disks {
+    conn.into_store().close()
+}
+
+// Makes a store, runs these statements on it and closes it. None if the disks stop before that.
+fn bare_store_on(alloc: Global, disks: Disks, statements: &str) -> Option<Disks> {
+    let mut conn = store_on(alloc, disks).ok()?;
+    let made = has_run(&mut conn, statements);
+    let mut left = closed(conn);
+    if made && go_on(&mut left) {
+        return Some(left);
+    }
+    None
+}
+
+// Opens the store on the disks. Returns whether it is opened, and the disks that are left. None if they may not be used.
+fn opened_on(alloc: Global, disks: Disks) -> Option<(bool, Disks)> {
+    if !disks.log.may_be_used() {
+        return None;
+    }
+    if !disks.db.may_be_used() {
+        return None;
+    }
+    match open_files(alloc, disks, SMALL, 100) {
+        Ok(conn) => Some((true, closed(conn))),
+        Err((_, left)) => Some((false, left.into_files())),
+    }
+}
+
 /// Makes a store, runs these statements on it, closes it and opens it again. Returns whether it is opened, and the
 /// disks that are left. None if the disks stop before that.
 pub fn bare_store_opened(alloc: Global, disks: Disks, statements: &str) -> Option<(bool, Disks)> {
-    let mut conn = store_on(alloc, disks).ok()?;
-    let made = conn.execute_batch(statements).is_ok();
-    let mut left = conn.into_store().close();
-    if !made || !go_on(&mut left) {
-        return None;
-    }
-    if !left.log.may_be_used() {
-        return None;
-    }
-    if !left.db.may_be_used() {
-        return None;
-    }
-    match open_files(alloc, left, SMALL, 100) {
-        Ok(conn) => Some((true, conn.into_store().close())),
-        Err((_, left)) => Some((false, left.into_files())),
+    match bare_store_on(alloc, disks, statements) {
+        Some(left) => opened_on(alloc, left),
+        None => None,
     }
 }
 

@@ -1,7 +1,7 @@
 //! A store of an older schema, or of the program's without its indexes, is moved, and one of its files stops at some
 //! call. The tests check what is there when it is opened again. Each call of either file is such a stop in turn, until
 //! a migration meets none. The script `tests/store/migration.py` shows it by kills over files, and checks each total.
-use crate::disks::{Disks, Failing, connected, crashed, disks, go_on, store_on};
+use crate::disks::{Disks, Failing, closed, connected, crashed, disks, go_on, store_on};
 use pawn_check::{CheckFault, Counts, check};
 use pawn_keeper::TableKeep;
 use pawn_move::{MoveFault, migrate, schema_of};
@@ -75,7 +75,7 @@ struct Run {
 fn run_on(alloc: Global, disks: Disks, older: Older) -> Option<Run> {
     let mut conn = store_on(alloc, disks).ok()?;
     let end = moved_from(alloc, &mut conn, older);
-    let mut left = conn.into_store().close();
+    let mut left = closed(conn);
     let is_whole = go_on(&mut left);
     let left = crashed(left);
     match end {
