@@ -3,6 +3,7 @@ use Rattle.std.proofs.Common.{◌≡◌, ◌∙◌, ◌≤◌, ◌+◌, ℕ, zer
 use Rattle.std.specs.Prelude.{replicate}
 use Rattle.std.proofs.Math.Seq.{drop-cons}
 use Rattle.std.proofs.lemmas.List.{drop_all}
+use Rattle.pawn_csv.specs.declared.row.TheConstants.{COLUMNS}
 use Rattle.pawn_csv.specs.Spelling.{AreBlankFrom, column_at}
 
 -- the columns from a place on are these
@@ -21,7 +22,7 @@ pub columns_are : {fs xs : List (List ℕ)} → length fs ≡ length xs → Foll
 columns_are {fs = fs} {xs = xs} n follow = left_are fs 0 xs (omega (arith, n)) follow
 
 -- so many columns from a place on are empty
-pub blank_follow : (fs : List (List ℕ)) (place n : ℕ) → AreBlankFrom place fs → place + n ≤ 15 → Follow fs place (replicate n [])
+pub blank_follow : (fs : List (List ℕ)) (place n : ℕ) → AreBlankFrom place fs → place + n ≤ COLUMNS → Follow fs place (replicate n [])
 blank_follow fs place zero blank within = tt
 blank_follow fs place (suc n) blank within =
     (blank place (omega arith) (omega (arith, within)), blank_follow fs (suc place) n (λ at from to. blank at (omega (arith, from)) to) (omega (arith, within)))

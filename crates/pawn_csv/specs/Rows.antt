@@ -1,5 +1,5 @@
--- A book as rows of fifteen columns.
-use Rattle.std.specs.Prelude.{◌≡◌, ℕ, ◌+◌, ◌<◌, ◌^◌, List, [], ◌∷◌, ◌++◌, length, map, replicate, Option, Some, None, IfSome, codes, decimal}
+-- A book as rows, and a row as columns.
+use Rattle.std.specs.Prelude.{◌≡◌, ℕ, ◌+◌, ◌-◌, ◌<◌, List, [], ◌∷◌, ◌++◌, length, map, replicate, Option, Some, None, IfSome, codes, decimal}
 use Rattle.std.specs.List.{flat_map}
 use Rattle.std.specs.Str.{IsUtf8}
 use Rattle.csv.specs.Writing.{default_writer, row_text}
@@ -26,10 +26,11 @@ use Rattle.pawn_csv.specs.declared.row.ClosingWord.{ClosingWord}
 use Rattle.pawn_csv.specs.declared.row.ClosingWord.TheVariants as closing
 use Rattle.pawn_csv.specs.declared.row.PledgeColumns.{PledgeColumns}
 use Rattle.pawn_csv.specs.declared.row.Row.{Row}
+use Rattle.pawn_csv.specs.declared.row.TheConstants.{COLUMNS, NUMBERS_END}
 use Rattle.pawn_csv.specs.declared.row.Version.{Version}
 use Rattle.pawn_csv.specs.declared.row.Version.TheVariants as version
 
--- the first row, of fifteen columns
+-- the first row: the names of the columns
 abbrev pub header : List (List ℕ)
 header =
     codes "row" ∷ codes "c1" ∷ codes "c2" ∷ codes "c3" ∷ codes "c4" ∷ codes "c5" ∷ codes "c6" ∷ codes "c7" ∷ codes "c8"
@@ -38,6 +39,10 @@ header =
 -- so many empty columns
 abbrev pub empty_columns : ℕ → List (List ℕ)
 empty_columns n = replicate n []
+
+-- a row that begins with these columns; the others are empty
+abbrev pub padded : List (List ℕ) → List (List ℕ)
+padded columns = columns ++ empty_columns (COLUMNS - length columns)
 
 abbrev pub pledge_fields : PledgeColumns → List (List ℕ)
 pledge_fields c =
@@ -48,22 +53,22 @@ pledge_fields c =
 
 -- the columns of a row
 abbrev pub row_fields : Row → List (List ℕ)
-row_fields (Row.Book version terms pledges) = codes "B" ∷ form_text version ∷ decimal terms ∷ decimal pledges ∷ empty_columns 11
+row_fields (Row.Book version terms pledges) = padded (codes "B" ∷ form_text version ∷ decimal terms ∷ decimal pledges ∷ [])
 row_fields (Row.Terms version rates) =
-    codes "T" ∷ decimal version ∷ decimal rates.rate ∷ decimal rates.keep_before ∷ decimal rates.keep_after ∷ empty_columns 10
+    padded (codes "T" ∷ decimal version ∷ decimal rates.rate ∷ decimal rates.keep_before ∷ decimal rates.keep_after ∷ [])
 row_fields (Row.Pledge columns) = pledge_fields columns
 row_fields (Row.Secret number place i) =
-    codes "S" ∷ decimal number ∷ decimal place ∷ day_text i.day ∷ issue_text i.sort ∷ secret_text i.secret ∷ empty_columns 9
+    padded (codes "S" ∷ decimal number ∷ decimal place ∷ day_text i.day ∷ issue_text i.sort ∷ secret_text i.secret ∷ [])
 row_fields (Row.Entry number e) =
-    codes "E" ∷ decimal number ∷ decimal e.seq ∷ day_text e.day ∷ sort_text e.sort ∷ decimal e.pence ∷ empty_columns 9
+    padded (codes "E" ∷ decimal number ∷ decimal e.seq ∷ day_text e.day ∷ sort_text e.sort ∷ decimal e.pence ∷ [])
 row_fields (Row.Extension number place e) =
-    codes "X" ∷ decimal number ∷ decimal place ∷ day_text e.day ∷ day_text e.until ∷ empty_columns 10
+    padded (codes "X" ∷ decimal number ∷ decimal place ∷ day_text e.day ∷ day_text e.until ∷ [])
 row_fields (Row.Booking number b) =
-    codes "K" ∷ decimal number ∷ day_text b.day ∷ decimal b.window ∷ state_text b.state ∷ empty_columns 10
+    padded (codes "K" ∷ decimal number ∷ day_text b.day ∷ decimal b.window ∷ state_text b.state ∷ [])
 
 -- a number of at most twelve digits
 abbrev pub IsShort : ℕ → Type 0
-IsShort n = n < 10 ^ 12
+IsShort n = n < NUMBERS_END
 
 -- the limits of each column of a pledge's own row, taken by itself
 pub record AreColumns (c : PledgeColumns) : Type 0 where

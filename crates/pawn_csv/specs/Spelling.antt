@@ -7,6 +7,7 @@ use Rattle.pawn_debt.specs.Due.{credit_of}
 use Rattle.pawn_pledge.specs.Replayable.{IsOpening}
 use Rattle.pawn_pledge.specs.declared.record.Opening.{Opening}
 use Rattle.pawn_csv.specs.Columns.{kind_text, text_if_any, yes_text}
+use Rattle.pawn_csv.specs.declared.row.TheConstants.{COLUMNS}
 use Rattle.pawn_csv.specs.Rows.{IsShort}
 
 -- what a spelling reads as: the value that is spelled so and keeps its rule, or none if there is no such value
@@ -20,7 +21,7 @@ column_at fields place = get_or fields place []
 
 -- the columns from this place on are empty
 abbrev pub AreBlankFrom : ℕ → List (List ℕ) → Type 0
-AreBlankFrom first fields = (place : ℕ) → first ≤ place → place < 15 → column_at fields place ≡ []
+AreBlankFrom first fields = (place : ℕ) → first ≤ place → place < COLUMNS → column_at fields place ≡ []
 
 -- a text of 1 to so many bytes, in UTF-8
 abbrev pub IsTextColumn : ℕ → List ℕ → Type 0

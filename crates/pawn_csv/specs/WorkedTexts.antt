@@ -52,7 +52,7 @@ abbrev pub comes_to : List Row → Result Bool Cause
 comes_to rows = ended (run None rows)
 
 pub record WorkedRowTexts : Type 0 where
-  -- a version of terms is a row of fifteen columns
+  -- a version of terms is a row of 15 columns
   pub terms : row_fields (Row.Terms 1 free) ≡ codes "T" ∷ codes "1" ∷ codes "0" ∷ codes "0" ∷ codes "0" ∷ [] ∷ [] ∷ [] ∷ [] ∷ [] ∷ [] ∷ [] ∷ [] ∷ [] ∷ [] ∷ []
   -- an extension, and a pledge
   pub extension : row_fields (Row.Extension 1 1 (record { day = date 2024 2 1; until = date 2024 9 30 })) ≡ codes "X" ∷ codes "1" ∷ codes "1" ∷ codes "2024-02-01" ∷ codes "2024-09-30" ∷ [] ∷ [] ∷ [] ∷ [] ∷ [] ∷ [] ∷ [] ∷ [] ∷ [] ∷ [] ∷ []

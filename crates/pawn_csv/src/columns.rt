@@ -11,7 +11,7 @@ ghost use Rattle.pawn_csv.specs.Columns.{form_text, yes_text, kind_text, closing
 ghost use Rattle.pawn_csv.specs.Rows.{IsShort};
 ghost use Rattle.pawn_csv.specs.Spelling.{ReadsAs, column_at, AreBlankFrom, IsTextColumn, IsShortIfAny, IsStampDayIfAny};
 
-use crate::row::{ClosingWord, Version};
+use crate::row::{COLUMNS, ClosingWord, NUMBERS_END, Version};
 use csv::ByteRecord;
 use itoa::Buffer;
 use pawn_book::{BookingState, Day, Issue, Kind, RequestDay, Secret, Sort, Text};
@@ -38,7 +38,7 @@ pub(crate) fn read_number(field: &[u8]) -> Option<u64>
     let Ok(number) = text.parse::<u64>() else {
         return None;
     };
-    if number >= 1_000_000_000_000 {
+    if number >= NUMBERS_END {
         return None;
     }
     let mut buffer = Buffer::new();
@@ -221,7 +221,7 @@ pub(crate) fn read_kind(word: &[u8], amount: &[u8]) -> Option<Kind>
 pub(crate) fn are_blank(columns: &ByteRecord, first: usize) -> bool
     ensures answer { IsTrue result ↔ AreBlankFrom first (fields_of columns.now) }
 {
-    for place in first..15 {
+    for place in first..COLUMNS {
         if !column(columns, place).is_empty() {
             return false;
         }

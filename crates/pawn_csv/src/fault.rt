@@ -8,7 +8,7 @@ use std::fmt;
 /// Why a text is no book.
 #[derive(Clone, Copy, Debug, PartialEq, Eq)]
 pub enum Cause {
-    /// A record has another number of columns than the header's fifteen.
+    /// A record has another number of columns than the header.
     Csv,
     /// The first record is not the header.
     Columns,

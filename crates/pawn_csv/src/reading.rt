@@ -7,6 +7,7 @@ ghost use Rattle.pawn_csv.specs.Reading.{CauseOf, IsFaultOf, IsReadAs, IsTextOf,
 
 use crate::fault::{Cause, CsvFault};
 use crate::order::RawBook;
+use crate::row::COLUMNS;
 use crate::spelling::{is_header, read_row};
 use csv::{ByteRecord, Error, ErrorKind, ReaderBuilder};
 use pawn_book::ReplayableRows;
@@ -36,7 +37,7 @@ fn take(alloc: Global, raw: &mut RawBook, columns: &ByteRecord, first: bool) -> 
             Err(Cause::Columns)
         };
     }
-    if columns.len() != 15 {
+    if columns.len() != COLUMNS {
         return Err(Cause::Csv);
     }
     let Ok(row) = read_row(alloc, columns) else {

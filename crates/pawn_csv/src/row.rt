@@ -2,6 +2,18 @@
 
 use pawn_book::{Booking, Day, Entry, Extension, Issued, Opening, Rates};
 
+// The number of columns of each row.
+pub(crate) const COLUMNS: usize = 15;
+
+// The names of the columns, which are the first row.
+pub(crate) const HEADER: [&[u8]; COLUMNS] = [
+    b"row", b"c1", b"c2", b"c3", b"c4", b"c5", b"c6", b"c7", b"c8", b"c9", b"c10", b"c11", b"c12",
+    b"c13", b"c14",
+];
+
+// Numbers in columns are below this: they have at most 12 digits.
+pub(crate) const NUMBERS_END: u64 = 1_000_000_000_000;
+
 /// The version of a text's form. The first has no rows for extensions.
 #[derive(Clone, Copy)]
 pub enum Version {

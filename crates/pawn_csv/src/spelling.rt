@@ -9,14 +9,14 @@ use crate::columns::{
     read_number, read_number_if_any, read_secret, read_sort, read_state, read_text, read_version,
     read_yes,
 };
-use crate::row::{PledgeColumns, Row};
+use crate::row::{COLUMNS, HEADER, PledgeColumns, Row};
 use csv::ByteRecord;
 use pawn_book::{Booking, Entry, Extension, Issued, Opening, Rates, RequestDay};
 use std::alloc::{AllocError, Global};
 
 // The first row of a book, with its counts.
 fn read_book_row(columns: &ByteRecord) -> Option<Row>
-    requires wide { length (fields_of columns.now) ≡ 15 }
+    requires wide { length (fields_of columns.now) ≡ COLUMNS }
     requires letter { column_at (fields_of columns.now) 0 ≡ codes "B" }
     ensures value { ReadsAs row_fields FitsColumns (fields_of columns.now) result }
 {
@@ -35,7 +35,7 @@ fn read_book_row(columns: &ByteRecord) -> Option<Row>
 
 // The row of a version of terms.
 fn read_terms_row(columns: &ByteRecord) -> Option<Row>
-    requires wide { length (fields_of columns.now) ≡ 15 }
+    requires wide { length (fields_of columns.now) ≡ COLUMNS }
     requires letter { column_at (fields_of columns.now) 0 ≡ codes "T" }
     ensures value { ReadsAs row_fields FitsColumns (fields_of columns.now) result }
 {
@@ -58,7 +58,7 @@ fn read_terms_row(columns: &ByteRecord) -> Option<Row>
 
 // The row of a secret.
 fn read_secret_row(columns: &ByteRecord) -> Option<Row>
-    requires wide { length (fields_of columns.now) ≡ 15 }
+    requires wide { length (fields_of columns.now) ≡ COLUMNS }
     requires letter { column_at (fields_of columns.now) 0 ≡ codes "S" }
     ensures value { ReadsAs row_fields FitsColumns (fields_of columns.now) result }
 {
@@ -79,7 +79,7 @@ fn read_secret_row(columns: &ByteRecord) -> Option<Row>
 
 // The row of an entry.
 fn read_entry_row(columns: &ByteRecord) -> Option<Row>
-    requires wide { length (fields_of columns.now) ≡ 15 }
+    requires wide { length (fields_of columns.now) ≡ COLUMNS }
     requires letter { column_at (fields_of columns.now) 0 ≡ codes "E" }
     ensures value { ReadsAs row_fields FitsColumns (fields_of columns.now) result }
 {
@@ -104,7 +104,7 @@ fn read_entry_row(columns: &ByteRecord) -> Option<Row>
 
 // The row of an extension.
 fn read_extension_row(columns: &ByteRecord) -> Option<Row>
-    requires wide { length (fields_of columns.now) ≡ 15 }
+    requires wide { length (fields_of columns.now) ≡ COLUMNS }
     requires letter { column_at (fields_of columns.now) 0 ≡ codes "X" }
     ensures value { ReadsAs row_fields FitsColumns (fields_of columns.now) result }
 {
@@ -124,7 +124,7 @@ fn read_extension_row(columns: &ByteRecord) -> Option<Row>
 
 // The row of a booking.
 fn read_booking_row(columns: &ByteRecord) -> Option<Row>
-    requires wide { length (fields_of columns.now) ≡ 15 }
+    requires wide { length (fields_of columns.now) ≡ COLUMNS }
     requires letter { column_at (fields_of columns.now) 0 ≡ codes "K" }
     ensures value { ReadsAs row_fields FitsColumns (fields_of columns.now) result }
 {
@@ -173,7 +173,7 @@ fn read_opening(alloc: Global, columns: &ByteRecord) -> Result<Option<Opening>, 
 
 // All columns of a pledge's own row, once its opening has been read.
 fn with_opening(columns: &ByteRecord, opening: Opening) -> Option<PledgeColumns>
-    requires wide { length (fields_of columns.now) ≡ 15 }
+    requires wide { length (fields_of columns.now) ≡ COLUMNS }
     requires letter { column_at (fields_of columns.now) 0 ≡ codes "P" }
     requires opening { IsOpeningOf (fields_of columns.now) opening }
     ensures value { ReadsAs pledge_fields AreColumns (fields_of columns.now) result }
@@ -201,7 +201,7 @@ fn with_opening(columns: &ByteRecord, opening: Opening) -> Option<PledgeColumns>
 
 // The row of a pledge.
 fn read_pledge_row(alloc: Global, columns: &ByteRecord) -> Result<Option<Row>, AllocError>
-    requires wide { length (fields_of columns.now) ≡ 15 }
+    requires wide { length (fields_of columns.now) ≡ COLUMNS }
     requires letter { column_at (fields_of columns.now) 0 ≡ codes "P" }
     ensures value { IfOk result (λ row. ReadsAs row_fields FitsColumns (fields_of columns.now) row) }
 {
@@ -214,9 +214,9 @@ fn read_pledge_row(alloc: Global, columns: &ByteRecord) -> Result<Option<Row>, A
     }
 }
 
-// The row that fifteen columns spell. `None` if they spell no row.
+// The row that so many columns spell. `None` if they spell no row.
 pub(crate) fn read_row(alloc: Global, columns: &ByteRecord) -> Result<Option<Row>, AllocError>
-    requires wide { length (fields_of columns.now) ≡ 15 }
+    requires wide { length (fields_of columns.now) ≡ COLUMNS }
     ensures value { IfOk result (λ row. ReadsAs row_fields FitsColumns (fields_of columns.now) row) }
 {
     match column(columns, 0) {
@@ -231,39 +231,15 @@ pub(crate) fn read_row(alloc: Global, columns: &ByteRecord) -> Result<Option<Row
     }
 }
 
-// The header's column at a place, from 0; empty past the last.
-fn header_name(place: usize) -> &'static [u8]
-    ensures value { result.now ≡ column_at header place }
-{
-    match place {
-        0 => b"row",
-        1 => b"c1",
-        2 => b"c2",
-        3 => b"c3",
-        4 => b"c4",
-        5 => b"c5",
-        6 => b"c6",
-        7 => b"c7",
-        8 => b"c8",
-        9 => b"c9",
-        10 => b"c10",
-        11 => b"c11",
-        12 => b"c12",
-        13 => b"c13",
-        14 => b"c14",
-        _ => b"",
-    }
-}
-
 // Whether the columns are the header's.
 pub(crate) fn is_header(columns: &ByteRecord) -> bool
     ensures answer { IsTrue result ↔ (fields_of columns.now ≡ header) }
 {
-    if columns.len() != 15 {
+    if columns.len() != COLUMNS {
         return false;
     }
-    for place in 0..15 {
-        if column(columns, place) != header_name(place) {
+    for place in 0..COLUMNS {
+        if column(columns, place) != HEADER[place] {
             return false;
         }
     }

@@ -9,6 +9,7 @@ ghost use Rattle.pawn_csv.specs.Sent.{PutsRow, brief_columns, has_ended, text_of
 ghost use Rattle.pawn_csv.specs.declared.row.Row.{Row};
 ghost use Rattle.pawn_csv.specs.declared.row.Version.TheVariants as version;
 
+use crate::row::{COLUMNS, HEADER};
 use crate::words::{
     closing_amount, closing_day, closing_word, day_if_any, issue_word, kind_word, number_if_any,
     secret_text, yes_word,
@@ -96,13 +97,13 @@ pub(crate) fn put_row<W: Write>(sink: &mut Sink<W>, columns: &[&[u8]])
     }
 }
 
-// Writes a row of fifteen columns that begins with these; the others are empty.
+// Writes a row that begins with these columns; the others are empty.
 fn put_short<W: Write>(sink: &mut Sink<W>, columns: &[&[u8]])
-    requires few { length columns.now ≤ 15 }
+    requires few { length columns.now ≤ COLUMNS }
     ensures puts { PutsRow W.contents sink.old (row_text default_writer
-        (map (λ c. c.now) columns.now ++ empty_columns (15 - length columns.now))) sink.new }
+        (map (λ c. c.now) columns.now ++ empty_columns (COLUMNS - length columns.now))) sink.new }
 {
-    let mut row: [&[u8]; 15] = [b""; 15];
+    let mut row: [&[u8]; COLUMNS] = [b""; COLUMNS];
     for place in 0..columns.len() {
         row[place] = columns[place];
     }
@@ -113,13 +114,7 @@ fn put_short<W: Write>(sink: &mut Sink<W>, columns: &[&[u8]])
 pub(crate) fn put_header<W: Write>(sink: &mut Sink<W>)
     ensures puts { PutsRow W.contents sink.old (row_text default_writer header) sink.new }
 {
-    put_row(
-        sink,
-        &[
-            b"row", b"c1", b"c2", b"c3", b"c4", b"c5", b"c6", b"c7", b"c8", b"c9", b"c10", b"c11",
-            b"c12", b"c13", b"c14",
-        ],
-    );
+    put_row(sink, &HEADER);
 }
 
 /// `B,2,1,1`: a text of the second version, with so many versions of terms and so many pledges.

@@ -11,12 +11,12 @@ returns-in_default c = record { value = λ n small is. c.in_default.ensures.case
 pub returns-in_default-parse : goal.returns-in_default-parse
 returns-in_default-parse c = record { value = λ n small is. c.in_default-parse.not-Ok n (parse-decimal 64 n c.in-Ok.text.now c.parse.result (omega (arith, small)) (omega (arith, small)) (c.in-Ok.ensures.cases.0 ∙ is) c.parse.ensures.value.0) }
 
-pub returns-then-number-ge1000000000000 : goal.returns-then-number-ge1000000000000
-returns-then-number-ge1000000000000 c = record {
+pub returns-then-number-ge-NUMBERS_END : goal.returns-then-number-ge-NUMBERS_END
+returns-then-number-ge-NUMBERS_END c = record {
   value = λ n small is.
       let r = parse-decimal 64 n c.in-Ok.text.now c.parse.result (omega (arith, small)) (omega (arith, small)) (c.in-Ok.ensures.cases.0 ∙ is) c.parse.ensures.value.0 in
       let same : c.in-Ok-parse.number ≡ n = let e = sym c.in-Ok-parse.is ∙ r in cc in
-      let test = c.if-number-ge1000000000000.true in
+      let test = c.if-number-ge-NUMBERS_END.true in
       grind (arith, nat_tests, small, same, test);
 }
 

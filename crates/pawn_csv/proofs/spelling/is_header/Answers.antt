@@ -2,14 +2,15 @@ use Rattle.std.proofs.Common.{◌≡◌, [], arith, length, refl}
 use Rattle.std.proofs.lemmas.Bool.Decides.{nat_tests}
 use Rattle.std.proofs.lemmas.List.{ext_get_or}
 use Rattle.csv.specs.Records.{fields_of}
+use Rattle.pawn_csv.specs.declared.row.TheConstants.{COLUMNS}
 use Rattle.pawn_csv.specs.Rows.{header}
 use Rattle.pawn_csv.proofs.spelling.is_header.Goals as goal
 
 pub returns : goal.returns
 returns c =
     let count = c.len.ensures in
-    let other = c.if-len-ne15.false in
-    let wide : length (fields_of c.args.columns.now) ≡ 15 = grind (arith, nat_tests, count, other) in
+    let other = c.if-len-ne-COLUMNS.false in
+    let wide : length (fields_of c.args.columns.now) ≡ COLUMNS = grind (arith, nat_tests, count, other) in
     let over = c.loop-place-test.false in
     record {
       answer = (λ t. ext_get_or [] (fields_of c.args.columns.now) header wide (λ place inside. c.loop-place.invariant.so_far place (grind (arith, nat_tests, over, inside, wide))), λ is. refl);
