@@ -31,7 +31,7 @@ use Rattle.pawn_pledge.specs.declared.record.Issued.{Issued}
 use Rattle.pawn_book.specs.Rows.{IsUnder, terms_at}
 use Rattle.pawn_book.specs.Written.{AreWords, HasTextsAndWords}
 use Rattle.pawn_csv.specs.Laws.{BooksAreHeld, TextsAreRead, TextsOfHostsAreRead}
-use Rattle.pawn_csv.specs.Rows.{AreColumns, FitsColumns, IsShort, booking_csv_rows, closing_amount, closing_day, pledge_columns, entry_rows, extension_rows, pledge_csv_rows, secret_rows, terms_rows}
+use Rattle.pawn_csv.specs.Rows.{AreColumns, FitsColumns, IsColumnNumber, booking_csv_rows, closing_amount, closing_day, pledge_columns, entry_rows, extension_rows, pledge_csv_rows, secret_rows, terms_rows}
 use Rattle.pawn_csv.specs.declared.row.Row.{Row}
 use Rattle.pawn_csv.specs.declared.row.Version.TheVariants as version
 use Rattle.pawn_csv.proofs.RoundLemmas.{held_texts_are_read}
@@ -42,15 +42,15 @@ each_both (x ∷ xs) ys hx hy = (hx.0, each_both xs ys hx.1 hy)
 
 -- ---- sums
 
-few_pence : (pence : ℕ) → is_bad_amount pence ≡ false → IsShort pence
+few_pence : (pence : ℕ) → is_bad_amount pence ≡ false → IsColumnNumber pence
 few_pence pence h = let few : pence ≤ most_pence = grind (arith, nat_tests, h) in omega (arith, few)
 
 -- what the rules accept is a sum of at most a million pounds
-accepted_pence : (s : Sort) (d : DebtValue) (x pence : ℕ) → IsOk (sort_answer s d x pence) → IsShort pence
+accepted_pence : (s : Sort) (d : DebtValue) (x pence : ℕ) → IsOk (sort_answer s d x pence) → IsColumnNumber pence
 accepted_pence Draw d x pence h = few_pence pence ((first_of-is_ok (draw_rows d x pence) (Ok (with_entry d x Draw pence)) h).0.1.1.0)
 accepted_pence Repay d x pence h = few_pence pence ((first_of-is_ok (repay_rows d x pence) (Ok (with_entry d x Repay pence)) h).0.1.0)
 
-all_pence : (d : DebtValue) (prior es : List Entry) → AreEntriesAccepted d prior es → Each (λ e. IsShort e.pence) es
+all_pence : (d : DebtValue) (prior es : List Entry) → AreEntriesAccepted d prior es → Each (λ e. IsColumnNumber e.pence) es
 all_pence d prior [] h = tt
 all_pence d prior (e ∷ es) h = (accepted_pence e.sort (record d { entries = prior }) e.day e.pence h.0.1, all_pence d (prior ++ e ∷ []) es h.1)
 
@@ -73,8 +73,8 @@ days_small t ends x (suc n) o h small =
     omega (arith, less, interest, keep)
 
 -- what is owing on a pledge's last day has twelve digits
-total_short : (p : PledgeValue) → IsStanding p → IsShort (total_on p p.standing.last)
-total_short p h =
+total_fits : (p : PledgeValue) → IsStanding p → IsColumnNumber (total_on p p.standing.last)
+total_fits p h =
     let d = debt_of p in
     let x = p.standing.last in
     let entered = h.replayable.entered in
@@ -97,7 +97,7 @@ fit_terms v (t ∷ ts) h few = ((omega (arith, few), omega (arith, h.0.0), omega
 
 -- ---- the rows of a pledge
 
-fit_secrets : (n k low : ℕ) (is : List Issued) → IsShort n → k + length is ≤ 1000 → first_day ≤ low → DoNotFall (λ i. i.day) low is → last_by (λ i. i.day) low is ≤ last_stamp_day → AreWords is
+fit_secrets : (n k low : ℕ) (is : List Issued) → IsColumnNumber n → k + length is ≤ 1000 → first_day ≤ low → DoNotFall (λ i. i.day) low is → last_by (λ i. i.day) low is ≤ last_stamp_day → AreWords is
     → Each FitsColumns (secret_rows n k is)
 fit_secrets n k low [] hn few from ordered before words = tt
 fit_secrets n k low (i ∷ is) hn few from ordered before words =
@@ -106,7 +106,7 @@ fit_secrets n k low (i ∷ is) hn few from ordered before words =
       fit_secrets n (k + 1) i.day is hn (omega (arith, few)) (omega (arith, from, ordered.0)) ordered.1 before words.1,
     )
 
-fit_entries : (n k low : ℕ) (es : List Entry) → IsShort n → AreNumbered k es → k + length es ≤ 100000 → first_day ≤ low → AreOrdered low es → last_of low es ≤ last_stamp_day → Each (λ e. IsShort e.pence) es
+fit_entries : (n k low : ℕ) (es : List Entry) → IsColumnNumber n → AreNumbered k es → k + length es ≤ 100000 → first_day ≤ low → AreOrdered low es → last_of low es ≤ last_stamp_day → Each (λ e. IsColumnNumber e.pence) es
     → Each FitsColumns (entry_rows n es)
 fit_entries n k low [] hn numbered few from ordered before pence = tt
 fit_entries n k low (e ∷ es) hn numbered few from ordered before pence =
@@ -115,7 +115,7 @@ fit_entries n k low (e ∷ es) hn numbered few from ordered before pence =
       fit_entries n (k + 1) e.day es hn numbered.1 (omega (arith, few)) (omega (arith, from, ordered.0)) ordered.1 before pence.1,
     )
 
-fit_extensions : (n k low ends : ℕ) (xs : List Extension) → IsShort n → k + length xs ≤ 1000 → first_day ≤ low → AreExtended low ends xs → Each (λ e. e.until ≤ last_stamp_day) xs
+fit_extensions : (n k low ends : ℕ) (xs : List Extension) → IsColumnNumber n → k + length xs ≤ 1000 → first_day ≤ low → AreExtended low ends xs → Each (λ e. e.until ≤ last_stamp_day) xs
     → Each FitsColumns (extension_rows n k xs)
 fit_extensions n k low ends [] hn few from extended untils = tt
 fit_extensions n k low ends (e ∷ es) hn few from extended untils = (
@@ -123,7 +123,7 @@ fit_extensions n k low ends (e ∷ es) hn few from extended untils = (
   fit_extensions n (k + 1) e.day e.until es hn (omega (arith, few)) (omega (arith, from, extended.0)) extended.3 untils.1,
 )
 
-fit_booking : (p : PledgeValue) (n : ℕ) (o : Option Booking) → IsShort n → first_day ≤ p.agreement.taken → IsBooked p o → IfSome o (λ b. b.day ≤ last_stamp_day) → Each FitsColumns (booking_csv_rows n o)
+fit_booking : (p : PledgeValue) (n : ℕ) (o : Option Booking) → IsColumnNumber n → first_day ≤ p.agreement.taken → IsBooked p o → IfSome o (λ b. b.day ≤ last_stamp_day) → Each FitsColumns (booking_csv_rows n o)
 fit_booking p n None hn from booked before = tt
 fit_booking p n (Some b) hn from booked before = ((hn, (omega (arith, from, booked.0), before), omega (arith, booked.2)), tt)
 
@@ -144,9 +144,9 @@ fit_closing_day p closed.Open h last = tt
 fit_closing_day p (closed.Redeemed day paid) h last = subst IsStampDay (sym h.0) last
 fit_closing_day p (closed.Sold day net) h last = subst IsStampDay (sym h.0) last
 
-fit_amount : (p : PledgeValue) (c : Closing) → IsClosed p c → IsShort (total_on p p.standing.last) → IfSome (closing_amount c) IsShort
+fit_amount : (p : PledgeValue) (c : Closing) → IsClosed p c → IsColumnNumber (total_on p p.standing.last) → IfSome (closing_amount c) IsColumnNumber
 fit_amount p closed.Open h total = tt
-fit_amount p (closed.Redeemed day paid) h total = subst IsShort (sym (h.1 ∙ ap (total_on p) h.0)) total
+fit_amount p (closed.Redeemed day paid) h total = subst IsColumnNumber (sym (h.1 ∙ ap (total_on p) h.0)) total
 fit_amount p (closed.Sold day net) h total = omega (arith, h.2)
 
 fit_columns : (terms : List Rates) (p : PledgeValue) → length terms ≤ 1000 → IsUnder terms p → IsStanding p → HasTextsAndWords p → AreColumns (pledge_columns p)
@@ -165,7 +165,7 @@ fit_columns terms p few under h written =
       version = omega (arith, version, few);
       last = last;
       closing_day = fit_closing_day p p.standing.closing r.closed last;
-      amount = fit_amount p p.standing.closing r.closed (total_short p h);
+      amount = fit_amount p p.standing.closing r.closed (total_fits p h);
     }
 
 fit_pledge : (terms : List Rates) (p : PledgeValue) → length terms ≤ 1000 → IsUnder terms p → IsStanding p → HasTextsAndWords p → Each FitsColumns (pledge_csv_rows p)
@@ -174,7 +174,7 @@ fit_pledge terms p few under h written =
     let n = p.agreement.number in
     let a = p.agreement in
     let r = h.replayable in
-    let short : IsShort n = omega (arith, h.within.number.1) in
+    let short : IsColumnNumber n = omega (arith, h.within.number.1) in
     let secrets = fit_secrets n 1 a.taken p.secrets short (omega (arith, h.within.secrets)) from r.issued.ordered (omega (arith, r.issued.before, h.within.last)) written.secrets in
     let entries = fit_entries n 1 a.taken p.entries short r.entered.numbered (omega (arith, h.within.entries)) from r.entered.ordered (omega (arith, r.entered.before, h.within.last)) (all_pence (debt_of p) [] p.entries r.entered.accepted) in
     let extensions = fit_extensions n 1 a.taken (end_with a None) p.extensions short (omega (arith, h.within.extensions)) from r.extended.each h.within.untils in

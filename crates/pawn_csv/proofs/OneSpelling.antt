@@ -31,7 +31,7 @@ use Rattle.pawn_csv.specs.declared.row.PledgeColumns.{PledgeColumns}
 use Rattle.pawn_csv.specs.declared.row.Row.{Row}
 use Rattle.pawn_csv.specs.declared.row.Version.{Version}
 use Rattle.pawn_csv.specs.declared.row.Version.TheVariants as version
-use Rattle.pawn_csv.specs.Rows.{AreColumns, FitsColumns, IsShort, pledge_fields, row_fields}
+use Rattle.pawn_csv.specs.Rows.{AreColumns, FitsColumns, IsColumnNumber, pledge_fields, row_fields}
 
 -- columns
 
@@ -42,7 +42,7 @@ column place a b e = ap (λ (fields : List (List ℕ)). get_or fields place []) 
 letter : (place : ℕ) (a b : List ℕ) → a ≡ b → get_or a place 0 ≡ get_or b place 0
 letter place a b e = ap (λ (text : List ℕ). get_or text place 0) e
 
-number : (n m : ℕ) → IsShort n → IsShort m → decimal n ≡ decimal m → n ≡ m
+number : (n m : ℕ) → IsColumnNumber n → IsColumnNumber m → decimal n ≡ decimal m → n ≡ m
 number n m hn hm e = decimal_injective n m (omega (arith, hn)) (omega (arith, hm)) e
 
 day : (n m : ℕ) → IsStampDay n → IsStampDay m → day_text n ≡ day_text m → n ≡ m
@@ -60,7 +60,7 @@ day_if_any None (Some m) ha hb e = absurd (omega (arith, ap length e))
 day_if_any (Some n) None ha hb e = absurd (omega (arith, ap length e))
 day_if_any (Some n) (Some m) ha hb e = ap (λ (d : ℕ). Some d) (day n m ha hb e)
 
-number_if_any : (a b : Option ℕ) → IfSome a IsShort → IfSome b IsShort → text_if_any decimal a ≡ text_if_any decimal b → a ≡ b
+number_if_any : (a b : Option ℕ) → IfSome a IsColumnNumber → IfSome b IsColumnNumber → text_if_any decimal a ≡ text_if_any decimal b → a ≡ b
 number_if_any None None ha hb e = refl
 number_if_any None (Some m) ha hb e = absurd (omega (arith, ap length e, decimal_nonempty m (omega (arith, hb))))
 number_if_any (Some n) None ha hb e = absurd (omega (arith, ap length e, decimal_nonempty n (omega (arith, ha))))

@@ -22,12 +22,12 @@ use Rattle.pawn_csv.specs.Rows.{FitsColumns, row_fields}
 use Rattle.pawn_csv.specs.Reading.{AreTaken, AreTakenBefore, CauseOf, EndsReadingAs, IsFaultOf, IsFirstCause, IsReadAs, IsSpelled, RefusesRow, Taking}
 use Rattle.pawn_csv.specs.Answers.{AnswersBegun, Fails}
 
-pub record SoFar {R : Type 0} (rem : R → Option (List ℕ)) (text : List ℕ) (rdr : Reader R) (index : ℕ) (raw : Option Begun) : Type 0 where
-  pub y : List ℕ
-  pub source : source_of rem rdr ≡ Some y
+pub record SoFar {R : Type 0} (rem : R → Option (List ℕ)) (text : List ℕ) (reader : Reader R) (index : ℕ) (raw : Option Begun) : Type 0 where
+  pub rest : List ℕ
+  pub source : source_of rem reader ≡ Some rest
   pub records : List (List (List ℕ))
   pub rows : List Row
-  pub reached : Reached default_config st.StartRecord text records rdr.state y
+  pub reached : Reached default_config st.StartRecord text records reader.state rest
   pub taken : AreTaken records rows raw
   pub count : length records ≡ index
 
@@ -66,15 +66,15 @@ taken_more u (h ∷ rs) rows i f raw new count taken step =
 pub so_far_more : {R U : Type 0} (u : U) (rem : R → Option (List ℕ)) (text : List ℕ) (a b : Reader R) (i : ℕ) (f : List (List ℕ)) (raw new : Option Begun)
     → a.config ≡ default_config → SoFar rem text a i raw → ReadRecord rem a b true f → Taking (nat_eq i 0) f raw (let r : Result U Cause = Ok u in r) new → SoFar rem text b (i + 1) new
 so_far_more u rem text a b i f raw new config so read step =
-    let (z, at_z, reached) = rows-more rem a b f default_config st.StartRecord text so.y so.records config so.source so.reached read in
+    let (z, at_z, reached) = rows-more rem a b f default_config st.StartRecord text so.rest so.records config so.source so.reached read in
     let (rows, taken) = taken_more u so.records so.rows i f raw new so.count so.taken step in
-    record { y = z; source = at_z; records = so.records ++ f ∷ []; rows = rows; reached = reached; taken = taken; count = grind (arith, length-append so.records (f ∷ []), so.count) }
+    record { rest = z; source = at_z; records = so.records ++ f ∷ []; rows = rows; reached = reached; taken = taken; count = grind (arith, length-append so.records (f ∷ []), so.count) }
 
 -- the end of the text
 pub so_far_end : {R : Type 0} (rem : R → Option (List ℕ)) (text : List ℕ) (a b : Reader R) (i : ℕ) (f : List (List ℕ)) (raw : Option Begun) (k : BookRows)
     → a.config ≡ default_config → SoFar rem text a i raw → ReadRecord rem a b false f → IsFinishedAs raw k → IsReadAs text k
 so_far_end rem text a b i f raw k config so read done =
-    (so.records, so.rows, raw, (a.state, so.y, so.reached, rows-end rem a b f default_config so.y config so.source read), so.taken, done)
+    (so.records, so.rows, raw, (a.state, so.rest, so.reached, rows-end rem a b f default_config so.rest config so.source read), so.taken, done)
 
 -- of the bytes, where they are told
 pub where_told : {A : Type 0} (o : Option A) (P : A → Type 0) → ((x : A) → o ≡ Some x → P x) → IfSome o P
@@ -93,7 +93,7 @@ so_far_before rem text a i raw so = record {
   before = so.records;
   rows = so.rows;
   state = a.state;
-  rest = so.y;
+  rest = so.rest;
   begun = raw;
   reached = so.reached;
   taken = so.taken;
@@ -137,7 +137,7 @@ end_empty (h ∷ rs) raw none = absurd (omega (arith, none))
 pub so_far_refused : {R : Type 0} (rem : R → Option (List ℕ)) (text : List ℕ) (a b : Reader R) (i : ℕ) (f : List (List ℕ)) (raw new : Option Begun) (c : Cause)
     → a.config ≡ default_config → SoFar rem text a i raw → ReadRecord rem a b true f → Taking (nat_eq i 0) f raw (let r : Result (Unit {0}) Cause = Err c in r) new → IsFaultOf text c (i + 1)
 so_far_refused rem text a b i f raw new c config so read step =
-    let (p, is, same) = next_was f b.state (pending_of (rem b.rdr) b) so.y a.state (rw (config, so.source) at read.0) in
+    let (p, is, same) = next_was f b.state (pending_of (rem b.rdr) b) so.rest a.state (rw (config, so.source) at read.0) in
     first_is text c (i + 1) (record {
       at = so_far_before rem text a i raw so;
       why = inl (p, is, rw same at (refused_as (nat_eq (length so.records) 0) f raw new raw c (subst (λ n. Taking (nat_eq n 0) f raw (let r : Result (Unit {0}) Cause = Err c in r) new) (sym so.count) step)));
@@ -149,7 +149,7 @@ pub so_far_unfinished : {R : Type 0} (rem : R → Option (List ℕ)) (text : Lis
 so_far_unfinished rem text a b i f raw c config so read some refused =
     first_is text c (i + 1) (record {
       at = so_far_before rem text a i raw so;
-      why = inr (rows-end rem a b f default_config so.y config so.source read, end_refused so.records raw c (λ e. some (sym so.count ∙ e)) refused);
+      why = inr (rows-end rem a b f default_config so.rest config so.source read, end_refused so.records raw c (λ e. some (sym so.count ∙ e)) refused);
     })
 
 -- a text without records is refused
@@ -158,7 +158,7 @@ pub so_far_empty : {R : Type 0} (rem : R → Option (List ℕ)) (text : List ℕ
 so_far_empty rem text a b i f raw config so read none =
     subst (λ (n : ℕ). IsFirstCause text cause.Columns (n + 1)) none (record {
       at = so_far_before rem text a i raw so;
-      why = inr (rows-end rem a b f default_config so.y config so.source read, end_empty so.records raw (so.count ∙ none));
+      why = inr (rows-end rem a b f default_config so.rest config so.source read, end_empty so.records raw (so.count ∙ none));
     })
 
 refused_for : (fs : List (List ℕ)) (s : Option Begun) (r : Row) (c : Cause) → IsSpelled fs r → Fails (place s r) c → RefusesRow fs s c

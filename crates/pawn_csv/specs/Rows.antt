@@ -67,31 +67,31 @@ row_fields (Row.Booking number b) =
     padded (codes "K" ∷ decimal number ∷ day_text b.day ∷ decimal b.window ∷ state_text b.state ∷ [])
 
 -- a number of at most twelve digits
-abbrev pub IsShort : ℕ → Type 0
-IsShort n = n < NUMBERS_END
+abbrev pub IsColumnNumber : ℕ → Type 0
+IsColumnNumber n = n < NUMBERS_END
 
 -- the limits of each column of a pledge's own row, taken by itself
 pub record AreColumns (c : PledgeColumns) : Type 0 where
-  pub number : IsShort c.number
+  pub number : IsColumnNumber c.number
   pub opening : IsOpening c.opening
   pub reference : IsUtf8 c.opening.reference
   pub article : IsUtf8 c.opening.article
-  pub credit : IsShort (credit_of c.opening.kind)
+  pub credit : IsColumnNumber (credit_of c.opening.kind)
   pub taken : IsStampDay c.taken
-  pub version : IsShort c.version
+  pub version : IsColumnNumber c.version
   pub last : IsStampDay c.last
   pub closing_day : IfSome c.closing_day IsStampDay
-  pub amount : IfSome c.amount IsShort
+  pub amount : IfSome c.amount IsColumnNumber
 
 -- the limits of each column of a row, taken by itself
 abbrev pub FitsColumns : Row → Type 0
-FitsColumns (Row.Book version terms pledges) = IsShort terms × IsShort pledges
-FitsColumns (Row.Terms version rates) = IsShort version × IsShort rates.rate × IsShort rates.keep_before × IsShort rates.keep_after
+FitsColumns (Row.Book version terms pledges) = IsColumnNumber terms × IsColumnNumber pledges
+FitsColumns (Row.Terms version rates) = IsColumnNumber version × IsColumnNumber rates.rate × IsColumnNumber rates.keep_before × IsColumnNumber rates.keep_after
 FitsColumns (Row.Pledge columns) = AreColumns columns
-FitsColumns (Row.Secret number place i) = IsShort number × IsShort place × IsStampDay i.day × IsWord i.secret
-FitsColumns (Row.Entry number e) = IsShort number × IsShort e.seq × IsStampDay e.day × IsShort e.pence
-FitsColumns (Row.Extension number place e) = IsShort number × IsShort place × IsStampDay e.day × IsStampDay e.until
-FitsColumns (Row.Booking number b) = IsShort number × IsStampDay b.day × IsShort b.window
+FitsColumns (Row.Secret number place i) = IsColumnNumber number × IsColumnNumber place × IsStampDay i.day × IsWord i.secret
+FitsColumns (Row.Entry number e) = IsColumnNumber number × IsColumnNumber e.seq × IsStampDay e.day × IsColumnNumber e.pence
+FitsColumns (Row.Extension number place e) = IsColumnNumber number × IsColumnNumber place × IsStampDay e.day × IsStampDay e.until
+FitsColumns (Row.Booking number b) = IsColumnNumber number × IsStampDay b.day × IsColumnNumber b.window
 
 abbrev pub closing_word : Closing → ClosingWord
 closing_word closed.Open = closing.Open

@@ -8,7 +8,7 @@ use Rattle.pawn_pledge.specs.Replayable.{IsOpening}
 use Rattle.pawn_pledge.specs.declared.record.Opening.{Opening}
 use Rattle.pawn_csv.specs.Columns.{kind_text, text_if_any, yes_text}
 use Rattle.pawn_csv.specs.declared.row.TheConstants.{COLUMNS}
-use Rattle.pawn_csv.specs.Rows.{IsShort}
+use Rattle.pawn_csv.specs.Rows.{IsColumnNumber}
 
 -- what a spelling reads as: the value that is spelled so and keeps its rule, or none if there is no such value
 abbrev pub ReadsAs : {A B : Type 0} → (A → B) → (A → Type 0) → B → Option A → Type 0
@@ -27,8 +27,8 @@ AreBlankFrom first fields = (place : ℕ) → first ≤ place → place < COLUMN
 abbrev pub IsTextColumn : ℕ → List ℕ → Type 0
 IsTextColumn most text = IsText most text × IsUtf8 text
 
-abbrev pub IsShortIfAny : Option ℕ → Type 0
-IsShortIfAny number = IfSome number IsShort
+abbrev pub IsColumnNumberIfAny : Option ℕ → Type 0
+IsColumnNumberIfAny number = IfSome number IsColumnNumber
 
 abbrev pub IsStampDayIfAny : Option ℕ → Type 0
 IsStampDayIfAny day = IfSome day IsStampDay
@@ -37,7 +37,7 @@ IsStampDayIfAny day = IfSome day IsStampDay
 pub record IsOpeningOf (fields : List (List ℕ)) (o : Opening) : Type 0 where
   pub opening : IsOpening o
   pub utf8 : IsUtf8 o.reference × IsUtf8 o.article
-  pub credit : IsShort (credit_of o.kind)
+  pub credit : IsColumnNumber (credit_of o.kind)
   pub c2 : column_at fields 2 ≡ o.reference
   pub c3 : column_at fields 3 ≡ o.article
   pub c4 : column_at fields 4 ≡ kind_text o.kind

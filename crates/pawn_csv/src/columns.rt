@@ -8,8 +8,8 @@ ghost use Rattle.pawn_book.specs.Written.{IsWord};
 ghost use Rattle.pawn_debt.specs.Words.{sort_text};
 ghost use Rattle.pawn_pledge.specs.Words.{state_text};
 ghost use Rattle.pawn_csv.specs.Columns.{form_text, yes_text, kind_text, closing_text, issue_text, text_if_any, IsAny};
-ghost use Rattle.pawn_csv.specs.Rows.{IsShort};
-ghost use Rattle.pawn_csv.specs.Spelling.{ReadsAs, column_at, AreBlankFrom, IsTextColumn, IsShortIfAny, IsStampDayIfAny};
+ghost use Rattle.pawn_csv.specs.Rows.{IsColumnNumber};
+ghost use Rattle.pawn_csv.specs.Spelling.{ReadsAs, column_at, AreBlankFrom, IsTextColumn, IsColumnNumberIfAny, IsStampDayIfAny};
 
 use crate::row::{COLUMNS, ClosingWord, NUMBERS_END, Version};
 use csv::ByteRecord;
@@ -30,7 +30,7 @@ pub(crate) fn column(columns: &ByteRecord, place: usize) -> &[u8]
 
 // The number that a column spells: decimal, at most 12 digits, in its only spelling.
 pub(crate) fn read_number(field: &[u8]) -> Option<u64>
-    ensures value { ReadsAs decimal IsShort field.now result }
+    ensures value { ReadsAs decimal IsColumnNumber field.now result }
 {
     let Ok(text) = str::from_utf8(field) else {
         return None;
@@ -149,7 +149,7 @@ pub(crate) fn read_state(field: &[u8]) -> Option<BookingState>
 
 // The number that a column spells, or `Some(None)` if the column is empty. `None` if it is malformed.
 pub(crate) fn read_number_if_any(field: &[u8]) -> Option<Option<u64>>
-    ensures value { ReadsAs (text_if_any decimal) IsShortIfAny field.now result }
+    ensures value { ReadsAs (text_if_any decimal) IsColumnNumberIfAny field.now result }
 {
     if field.is_empty() {
         return Some(None);
@@ -202,10 +202,10 @@ pub(crate) fn read_text<const MOST: usize>(
 
 // The kind of a pledge, with its amount in pence, that two columns spell.
 pub(crate) fn read_kind(word: &[u8], amount: &[u8]) -> Option<Kind>
-    ensures found { IfSome result (λ kind. (word.now ≡ kind_text kind) × IsShort (credit_of kind)
+    ensures found { IfSome result (λ kind. (word.now ≡ kind_text kind) × IsColumnNumber (credit_of kind)
         × (amount.now ≡ decimal (credit_of kind))) }
     ensures none { IfNone result ((kind : Kind) → word.now ≡ kind_text kind
-        → IsShort (credit_of kind) → amount.now ≡ decimal (credit_of kind) → ⊥) }
+        → IsColumnNumber (credit_of kind) → amount.now ≡ decimal (credit_of kind) → ⊥) }
 {
     let Some(amount) = read_number(amount) else {
         return None;

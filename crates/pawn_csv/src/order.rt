@@ -335,13 +335,10 @@ impl RawBook {
     {
         match &mut self.begun {
             Some(begun) => begun.place(alloc, row),
-            None => match begin(alloc, &row) {
-                Err(cause) => Err(cause),
-                Ok(begun) => {
-                    self.begun = Some(begun);
-                    Ok(())
-                }
-            },
+            None => {
+                self.begun = Some(begin(alloc, &row)?);
+                Ok(())
+            }
         }
     }
 }

@@ -26,7 +26,12 @@ fn cause_of(error: &Error) -> Cause
 }
 
 // Takes the next record: the header if it is the first, else a row.
-fn take(alloc: Global, raw: &mut RawBook, columns: &ByteRecord, first: bool) -> Result<(), Cause>
+fn take_record(
+    alloc: Global,
+    raw: &mut RawBook,
+    columns: &ByteRecord,
+    first: bool,
+) -> Result<(), Cause>
     ensures taking { Taking first (fields_of columns.now) (begun_of raw.old) result
         (begun_of raw.new) }
 {
@@ -50,20 +55,20 @@ fn take(alloc: Global, raw: &mut RawBook, columns: &ByteRecord, first: bool) -> 
 }
 
 // Takes the records of a text one after another, and makes the book at their end.
-fn take_all<R: Read + Drop>(alloc: Global, reader: R) -> Result<ReplayableRows, CsvFault>
+fn take_records<R: Read + Drop>(alloc: Global, reader: R) -> Result<ReplayableRows, CsvFault>
     ensures found { IfOk result (λ k. IfSome (R.remaining reader)
         (λ text. IsReadAs (strip_bom text) k)) }
     ensures fault { IfErr result (λ f. IfSome (R.remaining reader)
         (λ text. IsFaultOf (strip_bom text) f.cause f.row)) }
 {
-    let mut rdr = ReaderBuilder::new()
+    let mut csv_reader = ReaderBuilder::new()
         .has_headers(false)
         .flexible(true)
         .from_reader(alloc, reader);
     let mut raw = RawBook { begun: None };
     let mut record = ByteRecord::new(alloc);
     for index in 0..u64::MAX - 1 {
-        match rdr.read_byte_record(&mut record) {
+        match csv_reader.read_byte_record(&mut record) {
             Err(error) => {
                 return Err(CsvFault {
                     cause: cause_of(&error),
@@ -89,7 +94,7 @@ fn take_all<R: Read + Drop>(alloc: Global, reader: R) -> Result<ReplayableRows, 
             }
             Ok(true) => {}
         }
-        match take(alloc, &mut raw, &record, index == 0) {
+        match take_record(alloc, &mut raw, &record, index == 0) {
             Ok(()) => {}
             Err(cause) => {
                 return Err(CsvFault {
@@ -114,5 +119,5 @@ pub fn read_book<R: Read + Drop>(alloc: Global, reader: R) -> Result<ReplayableR
     ensures fault { IfErr result (λ f. IfSome (R.remaining reader)
         (λ text. IsFaultOf (strip_bom text) f.cause f.row)) }
 {
-    take_all(alloc, reader)
+    take_records(alloc, reader)
 }

@@ -98,7 +98,7 @@ pub(crate) fn put_row<W: Write>(sink: &mut Sink<W>, columns: &[&[u8]])
 }
 
 // Writes a row that begins with these columns; the others are empty.
-fn put_short<W: Write>(sink: &mut Sink<W>, columns: &[&[u8]])
+fn put_padded<W: Write>(sink: &mut Sink<W>, columns: &[&[u8]])
     requires few { length columns.now ≤ COLUMNS }
     ensures puts { PutsRow W.contents sink.old (row_text default_writer
         (map (λ c. c.now) columns.now ++ empty_columns (COLUMNS - length columns.now))) sink.new }
@@ -122,7 +122,7 @@ pub(crate) fn put_book<W: Write>(sink: &mut Sink<W>, terms: u64, pledges: u64)
     ensures puts { PutsRow W.contents sink.old
         (text_of_row (Row.Book version.Two terms pledges)) sink.new }
 {
-    put_short(
+    put_padded(
         sink,
         &[
             b"B",
@@ -137,7 +137,7 @@ pub(crate) fn put_book<W: Write>(sink: &mut Sink<W>, terms: u64, pledges: u64)
 pub(crate) fn put_terms<W: Write>(sink: &mut Sink<W>, version: u64, rates: Rates)
     ensures puts { PutsRow W.contents sink.old (text_of_row (Row.Terms version rates)) sink.new }
 {
-    put_short(
+    put_padded(
         sink,
         &[
             b"T",
@@ -233,7 +233,7 @@ pub(crate) fn put_secret<W: Write>(sink: &mut Sink<W>, number: u64, place: u64, 
     ensures puts { PutsRow W.contents sink.old
         (text_of_row (Row.Secret number place issued.now)) sink.new }
 {
-    put_short(
+    put_padded(
         sink,
         &[
             b"S",
@@ -250,7 +250,7 @@ pub(crate) fn put_secret<W: Write>(sink: &mut Sink<W>, number: u64, place: u64, 
 pub(crate) fn put_entry<W: Write>(sink: &mut Sink<W>, number: u64, entry: &Entry)
     ensures puts { PutsRow W.contents sink.old (text_of_row (Row.Entry number entry.now)) sink.new }
 {
-    put_short(
+    put_padded(
         sink,
         &[
             b"E",
@@ -273,7 +273,7 @@ pub(crate) fn put_extension<W: Write>(
     ensures puts { PutsRow W.contents sink.old
         (text_of_row (Row.Extension number place extension.now)) sink.new }
 {
-    put_short(
+    put_padded(
         sink,
         &[
             b"X",
@@ -289,7 +289,7 @@ pub(crate) fn put_extension<W: Write>(
 pub(crate) fn put_booking<W: Write>(sink: &mut Sink<W>, number: u64, booking: Booking)
     ensures puts { PutsRow W.contents sink.old (text_of_row (Row.Booking number booking)) sink.new }
 {
-    put_short(
+    put_padded(
         sink,
         &[
             b"K",

@@ -1,7 +1,7 @@
 use Rattle.std.proofs.Common.{◌≡◌, ◌-◌, ◌++◌, map, take}
 use Rattle.pawn_csv.specs.declared.row.TheConstants.{COLUMNS}
 use Rattle.pawn_csv.specs.Rows.{empty_columns}
-use Rattle.pawn_csv.proofs.writing.put_short.Given as goal
+use Rattle.pawn_csv.proofs.writing.put_padded.Given as goal
 
 abbrev pub invariant-loop-place : goal.invariant-loop-place
 invariant-loop-place g l = record { row : map (λ c. c.now) l.row ≡ map (λ c. c.now) (take l.place l.columns) ++ empty_columns (COLUMNS - l.place) }

@@ -2,7 +2,7 @@ use Rattle.std.proofs.Common.{arith}
 use Rattle.std.proofs.lemmas.Bool.Decides.{nat_tests}
 use Rattle.pawn_csv.specs.declared.row.TheConstants.{COLUMNS}
 use Rattle.pawn_csv.proofs.PadLemmas.{next_padded}
-use Rattle.pawn_csv.proofs.writing.put_short.Goals as goal
+use Rattle.pawn_csv.proofs.writing.put_padded.Goals as goal
 
 pub loop-place-preserved : goal.loop-place-preserved
 loop-place-preserved g c =
