@@ -399,22 +399,30 @@ def a_move_waits_for_what_was_handed_on():
         caller.close()
 
 
+def ask_in_turn(idle, asked, moves, receipt):
+    """Asks one of the idle callers, another after each move, and whoever is idle for ten seconds: nginx ends what is idle
+    for thirty."""
+    for n, caller in enumerate(idle):
+        if n == moves % len(idle) or time.monotonic() - asked[n] > 10:
+            told = caller.ask("GET", "/books/8/held", f"Pledge-Receipt: {receipt}")
+            expect(f"over a kept connection after move {moves}", status(told), 200)
+            asked[n] = time.monotonic()
+
+
 def kept_connections_outlast_a_hundred_moves():
     """Callers of another book who keep their connections, some idle and some at work, notice nothing of the moves."""
     books = {number: 1 for number in range(100, 150)}
     with Hosted(books={8: 2, **books}) as it:
         receipt = it.open_books(1)[8][0]
-        idle = [it.caller() for _ in range(20)]
-        for caller in idle:
-            expect("it is there", status(caller.ask("GET", "/books/8/held", f"Pledge-Receipt: {receipt}")), 200)
-        kept, moves = [caller.connection for caller in idle], 0
+        idle, asked, moves = [it.caller() for _ in range(20)], [0.0] * 20, 0
+        ask_in_turn(idle, asked, moves, receipt)
+        kept = [caller.connection for caller in idle]
         with writers(it, books=(8,), each=1) as running:
             for shard in ("shard2", "shard3"):
                 for book in books:
                     it.run_shards("move", book, shard)
-                    caller, moves = idle[moves % len(idle)], moves + 1
-                    told = caller.ask("GET", "/books/8/held", f"Pledge-Receipt: {receipt}")
-                    expect(f"over a kept connection after move {moves}", status(told), 200)
+                    moves += 1
+                    ask_in_turn(idle, asked, moves, receipt)
         expect("connections that were ended", [kept[n] is not idle[n].connection for n in range(20)], [False] * 20)
         noticed = [(one.cut, one.unknown, one.not_done, one.told) for one in running]
         expect(f"what a writer noticed ({it.log('error')[-900:]})", noticed, [(0, 0, 0, [])])
