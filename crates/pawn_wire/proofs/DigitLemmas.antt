@@ -10,6 +10,7 @@ use Rattle.std.proofs.lemmas.List.{take_more}
 use Rattle.std.proofs.lemmas.Grind.{common_steps}
 use Rattle.std.proofs.Math.Nat.{pow-le-pow_right}
 use Rattle.pawn_wire.specs.Numeral.{is_short_numeral}
+use Rattle.pawn_wire.specs.Limits.{max_digits}
 
 pub digit_small : (c : ℕ) → IsTrue (is_ascii_digit c) → (digit_value c ≡ c - 48) × (48 ≤ c) × (c < 58)
 digit_small c h = grind (arith, common_steps)
@@ -30,10 +31,10 @@ digits_take zero v h = tt
 digits_take (suc n) [] h = tt
 digits_take (suc n) (c ∷ cs) h = (h.0, digits_take n cs h.1)
 
-pub short_numeral : (v : List ℕ) → IsTrue (is_short_numeral v) → AllDigits 10 v × (0 < length v) × (length v ≤ 19)
+pub short_numeral : (v : List ℕ) → IsTrue (is_short_numeral v) → AllDigits 10 v × (0 < length v) × (length v ≤ max_digits)
 short_numeral v h =
-    let outer = both_true (nat_lt 0 (length v) && nat_le (length v) 19) (list_all is_ascii_digit v) h in
-    let sizes = both_true (nat_lt 0 (length v)) (nat_le (length v) 19) outer.0 in
+    let outer = both_true (nat_lt 0 (length v) && nat_le (length v) max_digits) (list_all is_ascii_digit v) h in
+    let sizes = both_true (nat_lt 0 (length v)) (nat_le (length v) max_digits) outer.0 in
     (all_digits v outer.1, grind arith, grind arith)
 
 pub value_bound : (v : List ℕ) (i : ℕ) → AllDigits 10 v → i ≤ 18 → digits_value 10 (take i v) < 10 ^ 18

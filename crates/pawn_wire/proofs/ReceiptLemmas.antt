@@ -19,6 +19,7 @@ use Rattle.pawn_pledge.specs.Secret.{secret_of_text}
 use Rattle.pawn_pledge.specs.Receipt.{IsReceiptText}
 use Rattle.pawn_pledge.specs.declared.receipt.Receipt.{Receipt}
 use Rattle.pawn_book.specs.Limits.{AreFew}
+use Rattle.pawn_book.specs.declared.limits.TheConstants.{MOST_RECEIPTS}
 use Rattle.pawn_wire.specs.Chain.{and_then, Says}
 use Rattle.pawn_wire.specs.Fields.{values_of, value_under}
 use Rattle.pawn_wire.specs.Named.{number_said}
@@ -202,7 +203,7 @@ module _ (bytes : List ℕ) (fs : List HeaderSpan) (i : ℕ) (d : HeaderSpan) (f
 
 pub few_said : (values : List (List ℕ)) (items : List Receipt) (few : Option (List Receipt)) (answer : Result (List Receipt) WireFault)
     → answer ≡ ok_or few BadReceipt → IfSome few (λ r. r ≡ items) → (IsSome few ↔ AreFew items)
-    → all_said values ≡ Some items → (length values ≡ 0 → ⊥) → length values ≤ 32 → Says answer (receipts_said values)
+    → all_said values ≡ Some items → (length values ≡ 0 → ⊥) → length values ≤ MOST_RECEIPTS → Says answer (receipts_said values)
 few_said values items few answer e list some all not_none not_many = subst (λ (a : Result (List Receipt) WireFault). Says a (receipts_said values)) (sym e) (by_few few list (some.1 are_few))
   where
     are_few : AreFew items
@@ -212,5 +213,5 @@ few_said values items few answer e list some all not_none not_many = subst (λ (
     by_few None same found = absurd (false≢true found)
     by_few (Some r) same found =
         let some_left : length values == 0 ≡ false = grind (arith, nat_tests, not_none) in
-        let not_too_many : nat_lt 32 (length values) ≡ false = grind (arith, nat_tests, not_many) in
+        let not_too_many : nat_lt MOST_RECEIPTS (length values) ≡ false = grind (arith, nat_tests, not_many) in
         rw (some_left, not_too_many, all) (ap Ok (sym same))

@@ -10,12 +10,14 @@ use Rattle.pawn_pledge.specs.Number.{IsNumber}
 use Rattle.pawn_pledge.specs.Secret.{secret_of_text}
 use Rattle.pawn_pledge.specs.Text.{is_text, IsText}
 use Rattle.pawn_pledge.specs.Replayable.{IsOpening}
+use Rattle.pawn_pledge.specs.declared.limits.TheConstants.{MOST_ARTICLE_BYTES, MOST_REFERENCE_BYTES}
 use Rattle.pawn_pledge.specs.declared.record.Opening.{Opening}
 use Rattle.pawn_pledge.specs.declared.receipt.Receipt.{Receipt}
 use Rattle.pawn_terms.specs.Refusals.{first_of}
 use Rattle.pawn_pledge.specs.declared.command.Command.{Command}
 use Rattle.pawn_pledge.specs.Commands.{is_brokers, is_bearers}
-use Rattle.pawn_book.specs.Limits.{IsCapacity, AreFew, most_name_bytes}
+use Rattle.pawn_book.specs.Limits.{IsCapacity, AreFew}
+use Rattle.pawn_book.specs.declared.limits.TheConstants.{MOST_BOOKINGS, MOST_NAME_BYTES, MOST_RECEIPTS}
 use Rattle.pawn_book.specs.declared.request.NewBook.{NewBook}
 use Rattle.pawn_book.specs.declared.rows.BookRows.{BookRows}
 use Rattle.pawn_book.specs.declared.request.Request.{Request}
@@ -29,7 +31,6 @@ use Rattle.pawn_wire.specs.Fields.{Pair}
 use Rattle.pawn_wire.specs.Head.{fields_of}
 use Rattle.pawn_wire.specs.Laws.{IsBodyNumber, IsCommandWithin, IsCallerWithin}
 use Rattle.pawn_wire.specs.Limits.{max_number}
-use Rattle.pawn_book.specs.Limits.{most_receipts}
 use Rattle.pawn_wire.specs.Member.{json_of, in_range, number_at, string_at, flag_at, if_text, text_at, key_at, day_at, body_said}
 use Rattle.pawn_wire.specs.Named.{number_said, day_said}
 use Rattle.pawn_wire.specs.Receipts.{is_hyphen, receipt_said, all_said, receipt_values, receipt_faults, receipts_said, one_said}
@@ -117,34 +118,34 @@ agreed_within (Some member) agreed e = some_day member agreed e
 
 -- ---- bodies
 
-new_book_within : (d : Data) (new : NewBook) → new_book_of d ≡ Some new → IsText most_name_bytes new.name × IsCapacity new.capacity
+new_book_within : (d : Data) (new : NewBook) → new_book_of d ≡ Some new → IsText MOST_NAME_BYTES new.name × IsCapacity new.capacity
 new_book_within d new e =
-    let capacity = given_some (and_then (number_at (codes "capacity") d) (in_range 1 1000)) _ new e in
-    let bookings = given_some (number_at (codes "capacity") d) (in_range 1 1000) capacity.0 capacity.1 in
+    let capacity = given_some (and_then (number_at (codes "capacity") d) (in_range 1 MOST_BOOKINGS)) _ new e in
+    let bookings = given_some (number_at (codes "capacity") d) (in_range 1 MOST_BOOKINGS) capacity.0 capacity.1 in
     let key = given_some (key_at (codes "key") d) _ new capacity.2 in
-    let name = given_some (text_at 60 (codes "name") d) _ new key.2 in
+    let name = given_some (text_at MOST_NAME_BYTES (codes "name") d) _ new key.2 in
     let same : ◌≡◌ {A = NewBook} (record { key = key.0; name = name.0; capacity = capacity.0 }) new = cc (name.2) in
-    subst (λ (b : NewBook). IsText most_name_bytes b.name × IsCapacity b.capacity) same
-    (text_within 60 (codes "name") d name.0 name.1, ranged 1 1000 bookings.0 capacity.0 bookings.2)
+    subst (λ (b : NewBook). IsText MOST_NAME_BYTES b.name × IsCapacity b.capacity) same
+    (text_within MOST_NAME_BYTES (codes "name") d name.0 name.1, ranged 1 MOST_BOOKINGS bookings.0 capacity.0 bookings.2)
 
 opening_within : (d : Data) (opening : Opening) → opening_of d ≡ Some opening → IsOpening opening
 opening_within d opening e =
     let agreed = given_some (optional_day_at (codes "agreed") d) _ opening e in
-    let article = given_some (text_at 80 (codes "article") d) _ opening agreed.2 in
+    let article = given_some (text_at MOST_ARTICLE_BYTES (codes "article") d) _ opening agreed.2 in
     let five_days = given_some (flag_at (codes "five_days") d) _ opening article.2 in
     let kind = given_some (kind_of d) _ opening five_days.2 in
-    let reference = given_some (text_at 40 (codes "ref") d) _ opening kind.2 in
+    let reference = given_some (text_at MOST_REFERENCE_BYTES (codes "ref") d) _ opening kind.2 in
     let same : ◌≡◌ {A = Opening} (record { reference = reference.0; article = article.0; kind = kind.0; agreed = agreed.0; five_days = five_days.0 }) opening = cc (reference.2) in
     subst (λ (o : Opening). IsOpening o) same (record {
-      reference = text_within 40 (codes "ref") d reference.0 reference.1;
-      article = text_within 80 (codes "article") d article.0 article.1;
+      reference = text_within MOST_REFERENCE_BYTES (codes "ref") d reference.0 reference.1;
+      article = text_within MOST_ARTICLE_BYTES (codes "article") d article.0 article.1;
       agreed = agreed_within (get (codes "agreed") d) agreed.0 agreed.1;
     })
 
 few_within : (values : List (List ℕ)) (receipts : List Receipt) → receipts_said values ≡ Ok receipts → AreFew receipts
-few_within values receipts e = by_test (length values == 0) (nat_lt most_receipts (length values)) refl refl e
+few_within values receipts e = by_test (length values == 0) (nat_lt MOST_RECEIPTS (length values)) refl refl e
   where
-    by_test : (a b : Bool) → (length values == 0) ≡ a → nat_lt most_receipts (length values) ≡ b
+    by_test : (a b : Bool) → (length values == 0) ≡ a → nat_lt MOST_RECEIPTS (length values) ≡ b
         → first_of ((a, NoReceipt) ∷ (b, TooManyReceipts) ∷ []) (or_fault BadReceipt (all_said values)) ≡ Ok receipts → AreFew receipts
     by_test true b none many same = absurd cc
     by_test false true none many same = absurd cc
@@ -257,7 +258,7 @@ asks_within : (endpoint : Endpoint) (item : Item) (fields : List Pair) (body : L
 asks_within Create item fields body caller within e =
     let key = after_ok (key_of fields) _ caller e in
     mapped AreAsksWithin (λ new. asks.Whole (Operator key.0 new)) (body_said new_book_of body) caller (or_fault_ok BadBody _ caller key.2)
-    (λ new is. of_body (λ (b : NewBook). IsText most_name_bytes b.name × IsCapacity b.capacity) new_book_of body new is (λ d. new_book_within d new))
+    (λ new is. of_body (λ (b : NewBook). IsText MOST_NAME_BYTES b.name × IsCapacity b.capacity) new_book_of body new is (λ d. new_book_within d new))
 asks_within PutTerms item fields body caller within e =
     let key = after_ok (key_of fields) _ caller e in
     mapped AreAsksWithin (λ terms. asks.Whole (Broker key.0 (broker.PutTerms terms))) (body_said new_terms_of body) caller (or_fault_ok BadBody _ caller key.2) (λ terms is. tt)

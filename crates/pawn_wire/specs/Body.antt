@@ -4,7 +4,9 @@ use Rattle.serde_json.specs.Data.{Data}
 use Rattle.serde_json.specs.Find.{get, as_str, as_null}
 use Rattle.pawn_debt.specs.declared.entry.Kind.{Kind}
 use Rattle.pawn_debt.specs.declared.entry.Kind.TheVariants.{Fixed, Running}
+use Rattle.pawn_pledge.specs.declared.limits.TheConstants.{MOST_ARTICLE_BYTES, MOST_REFERENCE_BYTES}
 use Rattle.pawn_pledge.specs.declared.record.Opening.{Opening}
+use Rattle.pawn_book.specs.declared.limits.TheConstants.{MOST_BOOKINGS, MOST_NAME_BYTES}
 use Rattle.pawn_book.specs.declared.request.NewBook.{NewBook}
 use Rattle.pawn_book.specs.declared.request.NewTerms.{NewTerms}
 use Rattle.pawn_wire.specs.Chain.{and_then}
@@ -14,9 +16,9 @@ use Rattle.pawn_wire.specs.Named.{day_said}
 -- a new book: its capacity, its key and its name
 abbrev pub new_book_of : Data → Option NewBook
 new_book_of d =
-    and_then (and_then (number_at (codes "capacity") d) (in_range 1 1000))
+    and_then (and_then (number_at (codes "capacity") d) (in_range 1 MOST_BOOKINGS))
     (λ capacity. and_then (key_at (codes "key") d)
-    (λ key. and_then (text_at 60 (codes "name") d)
+    (λ key. and_then (text_at MOST_NAME_BYTES (codes "name") d)
     (λ name. Some (record { key = key; name = name; capacity = capacity }))))
 
 -- new terms with their version
@@ -57,8 +59,8 @@ optional_day_at name d = day_if_any (get name d)
 abbrev pub opening_of : Data → Option Opening
 opening_of d =
     and_then (optional_day_at (codes "agreed") d)
-    (λ agreed. and_then (text_at 80 (codes "article") d)
+    (λ agreed. and_then (text_at MOST_ARTICLE_BYTES (codes "article") d)
     (λ article. and_then (flag_at (codes "five_days") d)
     (λ five_days. and_then (kind_of d)
-    (λ kind. and_then (text_at 40 (codes "ref") d)
+    (λ kind. and_then (text_at MOST_REFERENCE_BYTES (codes "ref") d)
     (λ reference. Some (record { reference = reference; article = article; kind = kind; agreed = agreed; five_days = five_days }))))))

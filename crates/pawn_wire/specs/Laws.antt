@@ -10,7 +10,8 @@ use Rattle.pawn_pledge.specs.declared.command.Command.{Command}
 use Rattle.pawn_pledge.specs.declared.record.Booking.{Booking}
 use Rattle.pawn_pledge.specs.Text.{IsText}
 use Rattle.pawn_pledge.specs.Replayable.{IsOpening, Each}
-use Rattle.pawn_book.specs.Limits.{IsCapacity, AreFew, most_name_bytes}
+use Rattle.pawn_book.specs.Limits.{IsCapacity, AreFew}
+use Rattle.pawn_book.specs.declared.limits.TheConstants.{MOST_NAME_BYTES}
 use Rattle.pawn_book.specs.declared.request.Request.{Request}
 use Rattle.pawn_book.specs.declared.request.Caller.{Caller}
 use Rattle.pawn_book.specs.declared.request.Caller.TheVariants.{Operator, Broker, Bearer}
@@ -109,7 +110,7 @@ IsCommandWithin (Command.Extend until) = IsStampDay until
 
 -- each part of what a caller asks is within its limits
 abbrev pub IsCallerWithin : Caller → Type 0
-IsCallerWithin (Operator key new_book) = IsText most_name_bytes new_book.name × IsCapacity new_book.capacity
+IsCallerWithin (Operator key new_book) = IsText MOST_NAME_BYTES new_book.name × IsCapacity new_book.capacity
 IsCallerWithin (Broker key (PutTerms terms)) = Unit {0}
 IsCallerWithin (Broker key (TakePledge opening)) = IsOpening opening
 IsCallerWithin (Broker key (broker.OnPledge n command)) = IsNumber n × IsCommandWithin command

@@ -3,10 +3,11 @@ use Rattle.std.specs.Prelude.{ℕ, List, length, Bool, ◌&&◌, nat_lt, nat_le,
 use Rattle.std.specs.List.{list_all}
 use Rattle.std.specs.Char.{is_ascii_digit}
 use Rattle.std.specs.Str.Parse.{digits_value}
+use Rattle.pawn_wire.specs.Limits.{max_digits}
 
 -- 1 to 19 digits
 abbrev pub is_short_numeral : List ℕ → Bool
-is_short_numeral v = nat_lt 0 (length v) && nat_le (length v) 19 && list_all is_ascii_digit v
+is_short_numeral v = nat_lt 0 (length v) && nat_le (length v) max_digits && list_all is_ascii_digit v
 
 -- the number that a text writes, if it is 1 to 19 digits
 abbrev pub decimal_of : List ℕ → Option ℕ

@@ -6,7 +6,7 @@ use Rattle.pawn_pledge.specs.declared.receipt.Receipt.{Receipt}
 use Rattle.pawn_terms.specs.Refusals.{first_of}
 use Rattle.pawn_wire.specs.Chain.{and_then, or_fault}
 use Rattle.pawn_wire.specs.Fields.{Pair, values_of}
-use Rattle.pawn_book.specs.Limits.{most_receipts}
+use Rattle.pawn_book.specs.declared.limits.TheConstants.{MOST_RECEIPTS}
 use Rattle.pawn_wire.specs.Named.{number_said}
 use Rattle.pawn_wire.specs.declared.fault.WireFault.{WireFault}
 use Rattle.pawn_wire.specs.declared.fault.WireFault.TheVariants.{NoReceipt, TooManyReceipts, BadReceipt}
@@ -41,7 +41,7 @@ receipt_faults most values =
 
 -- 1 to 32 receipts
 abbrev pub receipts_said : List (List ℕ) → Result (List Receipt) WireFault
-receipts_said values = first_of (receipt_faults most_receipts values) (or_fault BadReceipt (all_said values))
+receipts_said values = first_of (receipt_faults MOST_RECEIPTS values) (or_fault BadReceipt (all_said values))
 
 -- exactly one receipt
 abbrev pub one_said : List (List ℕ) → Result Receipt WireFault

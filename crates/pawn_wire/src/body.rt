@@ -1,6 +1,7 @@
 //! The JSON bodies of requests.
 ghost use Rattle.std.specs.Prelude.{◌≡◌};
 ghost use Rattle.serde_json.specs.View.{view};
+ghost use Rattle.pawn_book.specs.declared.limits.TheConstants.{MOST_BOOKINGS};
 ghost use Rattle.pawn_wire.specs.Body.{new_book_of, new_terms_of, kind_named, kind_of, day_or_null, optional_day_at, opening_of};
 ghost use Rattle.pawn_wire.specs.Chain.{GivesPart};
 ghost use Rattle.pawn_wire.specs.Member.{in_range};
@@ -14,7 +15,7 @@ use std::alloc::Global;
 
 // A capacity of so many bookings in a window, if it is within the limits.
 fn capacity_of(bookings: u64) -> Option<Capacity>
-    ensures value { result ≡ in_range 1 1000 bookings }
+    ensures value { result ≡ in_range 1 MOST_BOOKINGS bookings }
 {
     Capacity::new(bookings)
 }

@@ -5,6 +5,8 @@ ghost use Rattle.std.specs.Char.{is_ascii_digit};
 ghost use Rattle.std.specs.List.{list_all};
 ghost use Rattle.pawn_wire.specs.Numeral.{is_short_numeral, decimal_of};
 
+use crate::limits::MAX_DIGITS;
+
 fn are_digits(text: &[u8]) -> bool
     ensures value { result ≡ list_all is_ascii_digit text.now }
 {
@@ -15,7 +17,7 @@ fn are_digits(text: &[u8]) -> bool
 fn is_short_numeral(text: &[u8]) -> bool
     ensures value { result ≡ is_short_numeral text.now }
 {
-    !text.is_empty() && text.len() <= 19 && are_digits(text)
+    !text.is_empty() && text.len() <= MAX_DIGITS && are_digits(text)
 }
 
 // The number that these digits write.

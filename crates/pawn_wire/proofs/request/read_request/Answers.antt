@@ -1,4 +1,5 @@
 use Rattle.std.proofs.Common.{arith, ◌≤◌, refl, inr, length, ◌-◌, take, drop}
+use Rattle.pawn_wire.specs.Limits.{max_head, max_fields}
 use Rattle.pawn_wire.specs.Fields.{pairs_of}
 use Rattle.pawn_wire.specs.Request.{IsOutlined, outline_by}
 use Rattle.pawn_wire.specs.Chain.{OrMemory}
@@ -10,8 +11,8 @@ pub returns-in-Ok-Complete : goal.returns-in-Ok-Complete
 returns-in-Ok-Complete c =
     let x = rw c.in-Ok-Complete.field-0-is at c.in-Ok-Complete.ensures.complete in
     let y = rw c.in-Ok-Complete.field-0-is at c.in-Ok-Complete.ensures.within in
-    let small : c.min.result ≤ 8192 = omega (arith, c.min.ensures) in
-    let few : c.in-Ok-Complete.head.headers ≤ 64 = let k = y.section.count_fits in let l = c.parse_request.auto in omega arith in
+    let small : c.min.result ≤ max_head = omega (arith, c.min.ensures) in
+    let few : c.in-Ok-Complete.head.headers ≤ max_fields = let k = y.section.count_fits in let l = c.parse_request.auto in omega arith in
     let body = take (length c.args.bytes.now - c.in-Ok-Complete.head.len) (drop c.in-Ok-Complete.head.len c.args.bytes.now) in
     let says : OrMemory (IsOutlined body (outline_by c.of.result.now c.of-in-Ok-Complete.result.now (pairs_of c.new-fields.result) body)) c.request_by.result = c.request_by.ensures.value in
     let m = c.of.ensures in
