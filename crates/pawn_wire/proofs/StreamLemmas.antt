@@ -70,7 +70,7 @@ pub nil_is_no_bad_head : IsBadHead [] → ⊥
 nil_is_no_bad_head (inl over) = (let k = over (print_request plain_head) plain_head [] (plain_is, sym (append-nil (print_request plain_head))) in omega (arith, k))
 nil_is_no_bad_head (inr full) = omega (arith, full.0)
 
--- ---- a head's facts are small
+-- ---- a head's facts are within the limits
 
 body_within : (fields : List Pair) (n : ℕ) → body_length fields ≡ Ok n → n ≤ max_body
 body_within fields n e = by_test _ _ (unwrap_or (length_by fields) 0) (nat_lt max_body (unwrap_or (length_by fields) 0)) refl e
@@ -83,7 +83,7 @@ body_within fields n e = by_test _ _ (unwrap_or (length_by fields) 0) (nat_lt ma
     by_test false false told false is same = (let k : told ≡ n = cc in grind (arith, nat_tests, k, is))
 
 -- a head and its body have few bytes
-pub small_head : (h : RequestHead) (f : HeadFacts) → length (print_request h) ≤ max_head → IsHead h f → f.len + f.body ≤ max_head + max_body
-small_head h f small is =
+pub head_within : (h : RequestHead) (f : HeadFacts) → length (print_request h) ≤ max_head → IsHead h f → f.len + f.body ≤ max_head + max_body
+head_within h f small is =
     let body = body_within (fields_of h) f.body is.body in
     omega (arith, body, is.len, small)

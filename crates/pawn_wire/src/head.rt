@@ -37,7 +37,7 @@ pub enum HeadRead {
 /// 8,192 bytes. Whether a head is at fault depends on these bytes alone, however many have come.
 pub fn read_head(bytes: &[u8]) -> HeadRead
     ensures head { IsHeadRead bytes.now result }
-    ensures small { IfWhole result (λ f. f.len + f.body ≤ max_head + max_body) }
+    ensures within { IfWhole result (λ f. f.len + f.body ≤ max_head + max_body) }
 {
     let front = &bytes[..bytes.len().min(MAX_HEAD)];
     let mut spans = [EMPTY_HEADER_SPAN; MAX_FIELDS];

@@ -22,7 +22,7 @@ fn is_short_numeral(text: &[u8]) -> bool
 
 // The number that these digits write.
 fn number(text: &[u8]) -> u64
-    requires short { IsTrue (is_short_numeral text.now) }
+    requires numeral { IsTrue (is_short_numeral text.now) }
     ensures value { result ≡ digits_value 10 text.now }
 {
     let mut number: u64 = 0;

@@ -2,18 +2,18 @@ use Rattle.std.proofs.Common.{arith, ◌≡◌, ◌≤◌, ◌∙◌, ap, refl, 
 use Rattle.pawn_wire.specs.Limits.{max_head, max_fields}
 use Rattle.pawn_wire.specs.Head.{body_length, closes_by}
 use Rattle.pawn_wire.proofs.HeadLemmas.{whole_head, told_by_fields, closed_by_fields, overflows_on, never_by_length}
-use Rattle.pawn_wire.proofs.StreamLemmas.{small_head}
+use Rattle.pawn_wire.proofs.StreamLemmas.{head_within}
 use Rattle.pawn_wire.proofs.head.read_head.Goals as goal
 
 pub returns-in-Ok-clause-head : goal.returns-in-Ok-clause-head
 returns-in-Ok-clause-head c =
     let x = rw c.in-Ok-Complete.field-0-is at c.in-Ok-Complete.ensures.complete in
     let y = rw c.in-Ok-Complete.field-0-is at c.in-Ok-Complete.ensures.within in
-    let small : c.min.result ≤ max_head = omega (arith, c.min.ensures) in
+    let within : c.min.result ≤ max_head = omega (arith, c.min.ensures) in
     let few : c.in-Ok-Complete.head.headers ≤ max_fields = let k = y.section.count_fits in let l = c.parse_request.auto in omega arith in (
       x.0,
       _,
-      whole_head c.args.bytes.now c.min.result c.parse_request.new.headers c.in-Ok-Complete.head x.0 x.1 small few,
+      whole_head c.args.bytes.now c.min.result c.parse_request.new.headers c.in-Ok-Complete.head x.0 x.1 within few,
       record {
         len = x.1.len;
         body = told_by_fields c.args.bytes.now c.min.result c.parse_request.new.headers c.in-Ok-Complete.head x.0 _ x.1 (c.in-Ok.ensures.value ∙ ap body_length c.new-fields.ensures.pairs);
@@ -21,21 +21,21 @@ returns-in-Ok-clause-head c =
       },
     )
 
-pub returns-in-Ok-clause-small : goal.returns-in-Ok-clause-small
-returns-in-Ok-clause-small c =
+pub returns-in-Ok-clause-within : goal.returns-in-Ok-clause-within
+returns-in-Ok-clause-within c =
     let head = returns-in-Ok-clause-head c in
-    small_head head.0 _ head.2.2 head.3
+    head_within head.0 _ head.2.2 head.3
 
 pub returns-in-Err-clause-head : goal.returns-in-Err-clause-head
 returns-in-Err-clause-head c =
     let x = rw c.in-Ok-Complete.field-0-is at c.in-Ok-Complete.ensures.complete in
     let y = rw c.in-Ok-Complete.field-0-is at c.in-Ok-Complete.ensures.within in
-    let small : c.min.result ≤ max_head = omega (arith, c.min.ensures) in
+    let within : c.min.result ≤ max_head = omega (arith, c.min.ensures) in
     let few : c.in-Ok-Complete.head.headers ≤ max_fields = let k = y.section.count_fits in let l = c.parse_request.auto in omega arith in
     inr (
       x.0,
       _,
-      whole_head c.args.bytes.now c.min.result c.parse_request.new.headers c.in-Ok-Complete.head x.0 x.1 small few,
+      whole_head c.args.bytes.now c.min.result c.parse_request.new.headers c.in-Ok-Complete.head x.0 x.1 within few,
       told_by_fields c.args.bytes.now c.min.result c.parse_request.new.headers c.in-Ok-Complete.head x.0 _ x.1 (c.in-Err.ensures.value ∙ ap body_length c.new-fields.ensures.pairs),
     )
 

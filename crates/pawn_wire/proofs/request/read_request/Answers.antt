@@ -11,7 +11,7 @@ pub returns-in-Ok-Complete : goal.returns-in-Ok-Complete
 returns-in-Ok-Complete c =
     let x = rw c.in-Ok-Complete.field-0-is at c.in-Ok-Complete.ensures.complete in
     let y = rw c.in-Ok-Complete.field-0-is at c.in-Ok-Complete.ensures.within in
-    let small : c.min.result ≤ max_head = omega (arith, c.min.ensures) in
+    let within : c.min.result ≤ max_head = omega (arith, c.min.ensures) in
     let few : c.in-Ok-Complete.head.headers ≤ max_fields = let k = y.section.count_fits in let l = c.parse_request.auto in omega arith in
     let body = take (length c.args.bytes.now - c.in-Ok-Complete.head.len) (drop c.in-Ok-Complete.head.len c.args.bytes.now) in
     let says : OrMemory (IsOutlined body (outline_by c.of.result.now c.of-in-Ok-Complete.result.now (pairs_of c.new-fields.result) body)) c.request_by.result = c.request_by.ensures.value in
@@ -20,7 +20,7 @@ returns-in-Ok-Complete c =
     let pairs = c.new-fields.ensures.pairs in
     record {
       read = is_read c.args.bytes.now c.request_by.result x.0 _
-          (whole_head c.args.bytes.now c.min.result c.parse_request.new.headers c.in-Ok-Complete.head x.0 x.1 small few)
+          (whole_head c.args.bytes.now c.min.result c.parse_request.new.headers c.in-Ok-Complete.head x.0 x.1 within few)
           (said_by_spans c.args.bytes.now c.min.result c.parse_request.new.headers c.in-Ok-Complete.head x.0 c.request_by.result x.1 y.section.len_fits (rw (m, p, pairs) at says));
     }
 
