@@ -1,7 +1,7 @@
 //! The service: requests as bytes to replies as bytes, one by one, as a list or from a stream.
 //!
 //! ```
-//! let keep = pawn_list::ListKeep::new(rt.alloc(), 5_000_000);
+//! let keep = pawn_list_keeper::ListKeep::new(rt.alloc(), 5_000_000);
 //! let mut service = Service::new(rt.alloc(), keep, operator)?;
 //! let asked = b"GET /books/7/held HTTP/1.1\r\n\r\n";
 //! match service.answer_one(&Stamp { day, word }, asked) {

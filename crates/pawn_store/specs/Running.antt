@@ -11,7 +11,7 @@ use Rattle.pawn_book.specs.HostStep.{Host}
 use Rattle.pawn_book.specs.Sound.{IsSound}
 use Rattle.pawn_tables.specs.StandsFor.{HoldHost}
 use Rattle.pawn_tables.specs.Keeps.{Keeps, Leaves}
-use Rattle.pawn_keeper.specs.declared.keeper.TableKeep.{TableKeep}
+use Rattle.pawn_table_keeper.specs.declared.keeper.TableKeep.{TableKeep}
 use Rattle.pawn_opening.specs.Opened.{OpensAs, empty_host}
 use Rattle.pawn_host.specs.declared.service.Service.{Service}
 use Rattle.pawn_host.specs.declared.session.Ended.{Ended}

@@ -10,7 +10,7 @@ mod turns;
 use ends::{Log, Sink, Source, Stamps};
 use pawn_book::{Keep, RequestDay, Secret, Stamp};
 use pawn_host::{Answer, Cause, Ended, How, IoFault, Reading, Service};
-use pawn_list::ListKeep;
+use pawn_list_keeper::ListKeep;
 use pawn_store::{keep_in_memory, run_over_tables};
 use pawn_view::Writing;
 use std::alloc::Global;

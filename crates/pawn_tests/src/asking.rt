@@ -1,6 +1,6 @@
 //! Asking a keeper for something that may change it.
 use pawn_book::{Refusal, Reply, Request, Secret, Stamp, act};
-use pawn_list::ListKeep;
+use pawn_list_keeper::ListKeep;
 use std::alloc::Global;
 
 /// What a keeper answers to a request, unless the request only reads.

@@ -10,7 +10,7 @@ use pawn_book::{
 };
 use pawn_check::{Counts, check};
 use pawn_debt::DebtFault;
-use pawn_list::ListKeep;
+use pawn_list_keeper::ListKeep;
 use std::alloc::Global;
 use std::process::Abort;
 use std::test::Fail;

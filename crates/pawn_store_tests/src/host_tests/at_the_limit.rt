@@ -3,7 +3,7 @@
 
 use super::{bytes_of, service_of, stamp_on};
 use pawn_host::Service;
-use pawn_list::ListKeep;
+use pawn_list_keeper::ListKeep;
 use std::alloc::Global;
 use std::process::Abort;
 use std::test::Fail;

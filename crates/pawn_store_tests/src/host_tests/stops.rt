@@ -9,7 +9,7 @@ use crate::disks::{Disks, Failing, crashed, disks, go_on, store_on};
 use pawn_book::Keep;
 use pawn_check::{CheckFault, Counts, check};
 use pawn_host::{Answer, Service};
-use pawn_keeper::TableKeep;
+use pawn_table_keeper::TableKeep;
 use sqlite::{Alter, Connection};
 use std::alloc::Global;
 use std::process::Abort;

@@ -6,7 +6,7 @@ use pawn_book::{
     Secret, SheetItem, Stamp, day_sheet, replayable,
 };
 use pawn_csv::{import, read_book};
-use pawn_list::ListKeep;
+use pawn_list_keeper::ListKeep;
 use std::alloc::Global;
 use std::test::Fail;
 

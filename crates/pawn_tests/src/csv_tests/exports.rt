@@ -4,7 +4,7 @@ ghost use Rattle.std.specs.Prelude.{Some};
 use crate::asking::acted;
 use pawn_book::{Caller, Capacity, Name, NewBook, Number, Request, RequestDay, Secret, Stamp};
 use pawn_csv::{RowWriter, ViewFault, export};
-use pawn_list::ListKeep;
+use pawn_list_keeper::ListKeep;
 use std::alloc::Global;
 use std::io;
 use std::io::{ErrorKind, Write};

@@ -1,8 +1,0 @@
-use Rattle.std.proofs.Common.{map, take}
-use Rattle.pawn_book.specs.declared.visit.Flow.TheVariants.{Go}
-use Rattle.pawn_book.specs.Visits.{Handed}
-use Rattle.pawn_tables.specs.Lines.{item_of}
-use Rattle.pawn_keeper.proofs.keeper.handing.hand_lines.Given as goal
-
-abbrev pub invariant-loop-line : goal.invariant-loop-line
-invariant-loop-line g l = Handed g.V.Visitor.step l.fn.visitor (map (item_of l.part) (take l.line-index l.lines)) Go l.visitor

@@ -1,9 +1,0 @@
-use Rattle.std.proofs.Common.{◌∙◌, ap, map}
-use Rattle.std.specs.Prelude.{option_map}
-use Rattle.pawn_book.specs.BookStep.{book_head}
-use Rattle.pawn_list.specs.Listed.{book_at, listed_book}
-use Rattle.pawn_list.proofs.ListKeeping.{book_read, list_reads}
-use Rattle.pawn_list.proofs.list.ListKeepKeep.book_head.Goals as goal
-
-pub returns-clause-reads : goal.returns-clause-reads
-returns-clause-reads c = list_reads c.args.self.now _ (c.in-Ok.ensures.value ∙ ap (option_map book_head) (ap (λ ks. book_at (map listed_book ks) c.args.book) c.deref.ensures.value ∙ book_read _ c.args.self.now c.args.book c.self.view_is))

@@ -1,8 +1,0 @@
-use Rattle.std.proofs.Common.{◌∙◌, ap, map}
-use Rattle.pawn_book.specs.Keeping.{number_of}
-use Rattle.pawn_list.specs.Listed.{book_at, listed_book}
-use Rattle.pawn_list.proofs.ListKeeping.{book_read, list_reads}
-use Rattle.pawn_list.proofs.list.ListKeepKeep.find_ref.Goals as goal
-
-pub returns-clause-reads : goal.returns-clause-reads
-returns-clause-reads c = list_reads c.args.self.now _ (c.number_in-number.ensures.value ∙ ap (λ o. number_of o c.args.reference.now) (ap (λ ks. book_at (map listed_book ks) c.args.book) c.deref.ensures.value ∙ book_read _ c.args.self.now c.args.book c.self.view_is))

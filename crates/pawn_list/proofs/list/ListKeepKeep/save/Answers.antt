@@ -1,9 +1,0 @@
-use Rattle.std.proofs.Common.{refl, subst}
-use Rattle.pawn_book.specs.Sound.{IsSound}
-use Rattle.pawn_list.specs.Listed.{host_of}
-use Rattle.pawn_list.proofs.list.ListKeepKeep.save.Goals as goal
-
-pub make-requires : goal.make-requires
-make-requires c = record {
-  can_save = c.requires.can_save tt tt (host_of c.args.self.now) (subst (λ k. IsSound (host_of k)) c.self.view_is c.self.invariant.sound) refl;
-}

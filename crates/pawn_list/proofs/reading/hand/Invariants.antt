@@ -1,7 +1,0 @@
-use Rattle.std.proofs.Common.{take}
-use Rattle.pawn_book.specs.declared.visit.Flow.TheVariants.{Go}
-use Rattle.pawn_book.specs.Visits.{Handed}
-use Rattle.pawn_list.proofs.reading.hand.Given as goal
-
-abbrev pub invariant-loop-item : goal.invariant-loop-item
-invariant-loop-item g l = Handed g.V.Visitor.step l.fn.visitor (take l.item-index l.items) Go l.visitor

@@ -1,6 +1,0 @@
-use Rattle.std.proofs.Common.{◌≡◌, drop}
-use Rattle.pawn_book.specs.BookStep.{with_reference}
-use Rattle.pawn_list.proofs.reading.number_with.Given as goal
-
-abbrev pub invariant-loop-pledge : goal.invariant-loop-pledge
-invariant-loop-pledge l = with_reference (drop l.pledge-index l.pledges) l.reference ≡ with_reference l.pledges l.reference

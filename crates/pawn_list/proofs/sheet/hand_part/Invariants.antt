@@ -1,8 +1,0 @@
-use Rattle.std.proofs.Common.{take}
-use Rattle.pawn_book.specs.declared.visit.Flow.TheVariants.{Go}
-use Rattle.pawn_book.specs.Sheet.{part_items}
-use Rattle.pawn_book.specs.Visits.{HandsOver}
-use Rattle.pawn_list.proofs.sheet.hand_part.Given as goal
-
-abbrev pub invariant-loop-pledge : goal.invariant-loop-pledge
-invariant-loop-pledge g l = HandsOver g.V.Visitor.step l.fn.visitor (part_items l.part l.day (take l.pledge-index l.pledges)) Go l.visitor

@@ -1,0 +1,35 @@
+-- What a list of books tells of its host.
+use Rattle.std.proofs.Common.{◌≡◌, ◌∙◌, ℕ, ap, sym, subst}
+use Rattle.std.specs.FinMap.{get}
+use Rattle.std.specs.Prelude.{Option, Some, None}
+use Rattle.pawn_book.specs.BookStep.{BookValue}
+use Rattle.pawn_book.specs.HostStep.{Host}
+use Rattle.pawn_book.specs.Keeping.{IsNextBook, Reads}
+use Rattle.pawn_list_keeper.specs.Books.{Books}
+use Rattle.pawn_list_keeper.specs.Listed.{IsLeastAbove, book_at, host_of, list_keeping}
+use Rattle.pawn_list_keeper.proofs.ListReads.{get-book_at}
+
+-- a read tells what is so of the list's host
+pub list_reads : (k : Books) (P : Host → Type 0) → P (host_of k) → Reads list_keeping k k P
+list_reads k P told = record {
+  on = record { past = λ honest. honest; served = λ honest now. now; stays = λ steady. steady; whole = λ honest whole. whole };
+  same = λ honest h is. is;
+  back = λ honest now h is. is;
+  tells = λ honest h is. subst P (sym is) told;
+  crash = λ honest h left. left;
+}
+
+-- the book that is read from the fields
+pub book_read : (k v : Books) (b : ℕ) → k ≡ v → book_at k.books b ≡ get (host_of v).books b
+book_read k v b is = sym (get-book_at k.books b) ∙ ap (λ (o : Books). get (host_of o).books b) is
+
+-- the least number above one, as the host has it
+pub next_read : (k v : Books) (after : ℕ) (next : Option ℕ) → k ≡ v → IsLeastAbove k.books after next → IsNextBook (host_of v) after next
+next_read k v after next is least = subst (λ (o : Books). IsNextBook (host_of o) after next) is (from next least)
+  where
+    listed : (b : ℕ) (book : BookValue) → get (host_of k).books b ≡ Some book → book_at k.books b ≡ Some book
+    listed b book stands = sym (get-book_at k.books b) ∙ stands
+
+    from : (o : Option ℕ) → IsLeastAbove k.books after o → IsNextBook (host_of k) after o
+    from None none = λ b book stands. none b book (listed b book stands)
+    from (Some n) least = (least.0, (least.1.0, get-book_at k.books n ∙ least.1.1), λ b book stands. least.2 b book (listed b book stands))

@@ -1,0 +1,12 @@
+use Rattle.std.proofs.Common.{◌≤◌}
+use Rattle.std.specs.List.{flat_map}
+use Rattle.pawn_book.specs.declared.visit.Flow.TheVariants.{Go}
+use Rattle.pawn_book.specs.Sheet.{window_sheet, windows_below}
+use Rattle.pawn_book.specs.Visits.{HandsOver}
+use Rattle.pawn_list_keeper.proofs.sheet.hand_windows.Given as goal
+
+abbrev pub invariant-loop-window : goal.invariant-loop-window
+invariant-loop-window g l = record {
+  within : l.window ≤ 16;
+  handed : HandsOver g.V.Visitor.step l.fn.visitor (flat_map (window_sheet l.pledges l.day) (windows_below l.window)) Go l.visitor;
+}

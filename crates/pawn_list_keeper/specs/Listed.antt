@@ -1,0 +1,101 @@
+-- The host of books in a list.
+use Rattle.std.specs.Prelude.{◌≡◌, ◌≢◌, ℕ, zero, suc, ◌+◌, ◌≤◌, ◌<◌, List, [], ◌∷◌, Option, Some, None, Result, Ok, Err, length, sum_by, ◌==◌, if◌then◌else◌, ⊤}
+use Rattle.std.specs.FinMap.{from_entries}
+use Rattle.pawn_book.specs.declared.change.Change.{Change}
+use Rattle.pawn_book.specs.declared.change.Change.TheVariants.{MakeBook, AddTerms, PutPledge, ImportBook}
+use Rattle.pawn_book.specs.declared.fault.SaveError.{SaveError}
+use Rattle.pawn_book.specs.declared.fault.SaveError.TheVariants.{Full, Memory, Store}
+use Rattle.pawn_book.specs.BookStep.{BookValue, changed_book, pledge_in}
+use Rattle.pawn_pledge.specs.Pledge.{PledgeValue}
+use Rattle.pawn_book.specs.HostStep.{Host, rows, pledge_rows}
+use Rattle.pawn_book.specs.Limits.{most_rows}
+use Rattle.pawn_book.specs.Rows.{AreReplayable}
+use Rattle.pawn_book.specs.Sound.{IsSound}
+use Rattle.pawn_book.specs.Changes.{book_number, with_change}
+use Rattle.pawn_book.specs.Keeping.{Keeping}
+use Rattle.pawn_list_keeper.specs.declared.kept.Kept.{Kept}
+use Rattle.pawn_list_keeper.specs.Books.{Books}
+
+-- a book of the list, with its number
+abbrev pub listed_book : Kept → ℕ × BookValue
+listed_book k = (
+  k.number,
+  record {
+    key = k.made.key;
+    name = k.made.name;
+    capacity = k.made.capacity;
+    terms = k.terms.items;
+    pledges = k.pledges.items;
+    imported = k.imported;
+  },
+)
+
+-- the book at a number: the first of that number
+abbrev pub book_at : List (ℕ × BookValue) → ℕ → Option BookValue
+book_at [] b = None
+book_at (e ∷ es) b = if b == e.0 then Some e.1 else book_at es b
+
+-- the place of the first book of a number
+abbrev pub IsPlace : List (ℕ × BookValue) → ℕ → ℕ → Type 0
+IsPlace [] b i = ⊥
+IsPlace (e ∷ es) b zero = b ≡ e.0
+IsPlace (e ∷ es) b (suc i) = (b ≢ e.0) × IsPlace es b i
+
+-- the next book number of the list above `after`, or that there is none
+abbrev pub IsLeastAbove : List (ℕ × BookValue) → ℕ → Option ℕ → Type 0
+IsLeastAbove books after None = (b : ℕ) (book : BookValue) → book_at books b ≡ Some book → b ≤ after
+IsLeastAbove books after (Some next) =
+    (after < next) × ((book : BookValue) × (book_at books next ≡ Some book))
+    × ((b : ℕ) (book : BookValue) → book_at books b ≡ Some book → after < b → next ≤ b)
+
+-- the rows of a pledge, or 0 where there is none
+abbrev pub standing_rows : Option PledgeValue → ℕ
+standing_rows None = 0
+standing_rows (Some p) = pledge_rows p
+
+-- the rows that a change adds, and those of the pledge whose place it takes
+abbrev pub added_rows : Change → ℕ
+added_rows (MakeBook b new) = 1
+added_rows (AddTerms b version terms) = 1
+added_rows (PutPledge b n p) = pledge_rows p
+added_rows (ImportBook b key rows) = length rows.terms + sum_by pledge_rows rows.pledges
+
+abbrev pub replaced_rows : List (ℕ × BookValue) → Change → ℕ
+replaced_rows books (MakeBook b new) = 0
+replaced_rows books (AddTerms b version terms) = 0
+replaced_rows books (PutPledge b n p) = standing_rows (pledge_in (book_at books b) n)
+replaced_rows books (ImportBook b key rows) = 0
+
+-- The books of the list have a place for a change: no book yet of a new book's number, else the book, and a place for
+-- the pledge. Imported rows are ones that a book can have.
+abbrev pub Fits : List (ℕ × BookValue) → Change → Type 0
+Fits books (MakeBook b new) = book_at books b ≡ None
+Fits books (AddTerms b version terms) = (at : BookValue) × (book_at books b ≡ Some at)
+Fits books (PutPledge b n p) = (at : BookValue) × (book_at books b ≡ Some at) × (n ≤ 1 + length at.pledges)
+Fits books (ImportBook b key rows) = (at : BookValue) × (book_at books b ≡ Some at) × AreReplayable rows.terms rows.pledges
+
+-- the book of a change's number is the changed one, and the others are as they were
+abbrev pub HasChange : List (ℕ × BookValue) → Change → List (ℕ × BookValue) → Type 0
+HasChange old change new =
+    (b : ℕ) → book_at new b ≡ (if b == book_number change then changed_book (book_at old (book_number change)) change else book_at old b)
+
+-- the host that the list stands for
+abbrev pub host_of : Books → Host
+host_of k = record { books = from_entries k.books; limit = k.limit }
+
+-- the host is sound, and its rows are counted
+pub record IsListed (k : Books) (count : ℕ) : Type 0 where
+  pub sound : IsSound (host_of k)
+  pub counted : count ≡ rows (host_of k)
+  pub limit : k.limit ≤ most_rows
+
+-- the change is made; or nothing is, where the rows are full or memory is refused
+abbrev pub SavesListed : Books → Change → Result (Unit {0}) SaveError → Books → Type 0
+SavesListed old change (Ok done) new = (host_of new ≡ with_change (host_of old) change) × (rows (with_change (host_of old) change) ≤ old.limit)
+SavesListed old change (Err Full) new = (new ≡ old) × (old.limit < rows (with_change (host_of old) change))
+SavesListed old change (Err Memory) new = new ≡ old
+SavesListed old change (Err (Store fault)) new = ⊥
+
+-- a list is always honest, serves and is steady, and a crash would leave what it has; it is whole where that is sound
+abbrev pub list_keeping : Keeping Books
+list_keeping = record { stands = λ k h. h ≡ host_of k; honest = λ k. ⊤; serves = λ k. ⊤; steady = λ k. ⊤; leaves = λ k h. h ≡ host_of k; whole = λ k. IsSound (host_of k) }

@@ -1,0 +1,13 @@
+use Rattle.std.specs.FinMap.{get}
+use Rattle.sqlite.specs.Held.{state}
+use Rattle.pawn_book.specs.Keeping.{pledges_of}
+use Rattle.pawn_book.specs.Sheet.{part_items}
+use Rattle.pawn_tables.specs.Keeps.{keeping_by}
+use Rattle.pawn_tables.specs.Lines.{items_past}
+use Rattle.pawn_table_keeper.proofs.Handings.{HandedTo}
+use Rattle.pawn_table_keeper.proofs.keeper.TableKeep.hand_part.Given as goal
+
+abbrev pub invariant-loop-turn : goal.invariant-loop-turn
+invariant-loop-turn g l =
+    HandedTo (keeping_by (λ k. state g.S.Store k.conn)) g.V.Visitor.step (λ h. part_items l.part l.day (pledges_of (get h.books l.book))) (λ n h. items_past l.part l.day n (pledges_of (get h.books l.book)))
+    l.fn.self l.self l.fn.visitor l.visitor l.above l.turn

@@ -1,0 +1,23 @@
+use Rattle.std.proofs.Common.{rules, Err, refl}
+use Rattle.std.specs.FinMap.{get}
+use Rattle.sqlite.specs.Held.{state}
+use Rattle.pawn_book.specs.HostStep.{Host}
+use Rattle.pawn_book.specs.Keeping.{pledges_of}
+use Rattle.pawn_book.specs.Sheet.{windows_sheet}
+use Rattle.pawn_tables.specs.Keeps.{keeping_by}
+use Rattle.pawn_tables.specs.Lines.{NamesWindows}
+use Rattle.pawn_table_keeper.specs.Windows.{named_sheets}
+use Rattle.pawn_table_keeper.proofs.Handings.{hands_after, hands_unread}
+use Rattle.pawn_table_keeper.proofs.SheetPages.{named_all}
+use Rattle.pawn_table_keeper.proofs.keeper.TableKeep.hand_windows.Goals as goal
+
+pub returns-in_err-windows : goal.returns-in_err-windows
+returns-in_err-windows g c = record { hands = hands_unread (keeping_by (λ k. state g.S.Store k.conn)) g.V.Visitor.step c.args.self.now c.windows_on.new.self c.args.visitor.now (Err c.in_err-windows.field-0.0) c.from_residual.result c.in_err-windows.field-0.0 (λ h. windows_sheet (pledges_of (get h.books c.args.book)) c.args.day) {P = λ h. Unit {0}} refl (search rules) c.in_err-windows.ensures.reads c.in_err-windows.ensures.errs }
+
+pub returns : goal.returns
+returns g c =
+    let told : Host → Type 0 = λ h. NamesWindows c.args.day (pledges_of (get h.books c.args.book)) c.in_ok-windows.windows in
+    record {
+      hands = hands_after (keeping_by (λ k. state g.S.Store k.conn)) g.V.Visitor.step c.args.self.now c.windows_on.new.self c.hand_these.new.self c.args.visitor.now c.hand_these.new.visitor c.hand_these.result (λ h. named_sheets c.in_ok-windows.windows (pledges_of (get h.books c.args.book)) c.args.day) (λ h. windows_sheet (pledges_of (get h.books c.args.book)) c.args.day)
+          {P = told} c.in_ok-windows.ensures.reads (λ h named. named_all c.args.day (pledges_of (get h.books c.args.book)) c.in_ok-windows.windows named) (rw c.as_slice.ensures.value at c.hand_these.ensures.hands);
+    }

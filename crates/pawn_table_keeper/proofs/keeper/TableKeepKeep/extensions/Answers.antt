@@ -1,0 +1,15 @@
+use Rattle.std.proofs.Common.{rules, ◌≡◌, Err, ap}
+use Rattle.std.specs.FinMap.{get}
+use Rattle.sqlite.specs.Held.{state}
+use Rattle.pawn_book.specs.BookStep.{pledge_in}
+use Rattle.pawn_book.specs.Keeping.{extensions_of}
+use Rattle.pawn_book.specs.Visits.{call_end}
+use Rattle.pawn_tables.specs.Keeps.{keeping_by}
+use Rattle.pawn_table_keeper.proofs.Handings.{visits_of}
+use Rattle.pawn_table_keeper.proofs.keeper.TableKeepKeep.extensions.Goals as goal
+
+pub returns-in_err-hand_extensions-clause-reads : goal.returns-in_err-hand_extensions-clause-reads
+returns-in_err-hand_extensions-clause-reads g c =
+    let is : c.from_residual.result ≡ Err c.in_err-hand_extensions.field-0.0 = search rules in
+    visits_of (keeping_by (λ k. state g.S.Store k.conn)) g.V.Visitor.step c.args.self.now c.hand_extensions.new.self c.args.visitor.now c.hand_extensions.new.visitor (Err c.in_err-hand_extensions.field-0.0) c.from_residual.result (λ h. extensions_of (pledge_in (get h.books c.args.book) c.args.number))
+    (ap call_end is) c.in_err-hand_extensions.ensures.hands

@@ -1,0 +1,182 @@
+ghost use Rattle.std.specs.Prelude.{◌≡◌, IfErr, IfOk};
+ghost use Rattle.std.specs.FinMap.{get};
+ghost use Rattle.sqlite.specs.Held.{state};
+ghost use Rattle.pawn_book.specs.declared.fault.KeepError.TheVariants as Keeper;
+ghost use Rattle.pawn_book.specs.declared.fault.StoreFault.TheVariants.{Database};
+ghost use Rattle.pawn_book.specs.BookStep.{pledge_in};
+ghost use Rattle.pawn_book.specs.Keeping.{Errs, Reads, entries_of, extensions_of, secrets_of};
+ghost use Rattle.pawn_book.specs.Sound.{IsUnsoundAt};
+ghost use Rattle.pawn_tables.specs.Entries.{IsEntriesPage, behind};
+ghost use Rattle.pawn_tables.specs.Keeps.{keeping_by};
+ghost use Rattle.pawn_tables.specs.Pages.{page_end};
+ghost use Rattle.pawn_tables.specs.Places.{page_behind};
+ghost use Rattle.pawn_table_keeper.specs.Handing.{HandsRows};
+
+use super::handing::hand_all;
+use super::{BEYOND, TOO_MANY, TableKeep};
+use one_table::know_settled;
+use pawn_book::{Entry, Extension, Flow, Issued, KeepError, Number, Visitor};
+use pawn_debt::{Entries, MOST_ENTRIES};
+use pawn_pledge::{Extensions, MOST_EXTENSIONS, MOST_SECRETS, Secrets};
+use pawn_tables::{PAGE_ROWS, entries_page, extensions_page, secrets_page};
+use sqlite::Alter;
+
+// How many elements a full page has, as a 32-bit number.
+const PLACES: u32 = PAGE_ROWS as u32;
+
+impl<S: Alter> TableKeep<S> {
+    // A page of a pledge's entries: those numbered `from` or more.
+    fn entries_from(
+        &mut self,
+        book: Number,
+        number: Number,
+        from: u32,
+    ) -> Result<Entries, KeepError>
+        ensures reads { Reads (keeping_by (λ k. state S.Store k.conn)) self.old self.new
+            (λ h. IfOk result
+            (λ page. IsEntriesPage from (entries_of (pledge_in (get h.books book) number)) page)) }
+        ensures errs { Errs (keeping_by (λ k. state S.Store k.conn)) self.old self.new
+            (IsUnsoundAt book) result }
+    {
+        know_settled(&self.conn);
+        let mut tx = self.conn.transaction();
+        let page = entries_page(&mut tx, self.alloc, book.get(), number.get(), from);
+        tx.rollback();
+        page
+    }
+
+    // Hands the entries of a pledge to the visitor until it wants no more. Each page begins after the number of the
+    // last entry before it, so a gap in the numbers does not end the walk.
+    pub(super) fn hand_entries<V: Visitor<Entry>>(
+        &mut self,
+        book: Number,
+        number: Number,
+        visitor: &mut V,
+    ) -> Result<Flow, KeepError>
+        ensures hands { HandsRows (keeping_by (λ k. state S.Store k.conn))
+            (IsUnsoundAt book) V.step self.old self.new visitor.old visitor.new result
+            (λ h. entries_of (pledge_in (get h.books book) number)) }
+    {
+        let mut from = 0;
+        for turn in 0..MOST_ENTRIES + 1 {
+            let page = self.entries_from(book, number, from)?;
+            match hand_all(page.as_slice(), visitor) {
+                Flow::Go => {}
+                Flow::Stop => return Ok(Flow::Stop),
+            }
+            if page.len() < PAGE_ROWS {
+                return Ok(Flow::Go);
+            }
+            from = behind_entries(from, page.as_slice())?;
+        }
+        Err(TOO_MANY)
+    }
+
+    // A page of a pledge's secrets: those at places after `behind`.
+    fn secrets_behind(
+        &mut self,
+        book: Number,
+        number: Number,
+        behind: u32,
+    ) -> Result<Secrets, KeepError>
+        ensures reads { Reads (keeping_by (λ k. state S.Store k.conn)) self.old self.new
+            (λ h. IfOk result
+            (λ page. page ≡ page_behind behind
+            (secrets_of (pledge_in (get h.books book) number)))) }
+        ensures errs { Errs (keeping_by (λ k. state S.Store k.conn)) self.old self.new
+            (IsUnsoundAt book) result }
+    {
+        know_settled(&self.conn);
+        let mut tx = self.conn.transaction();
+        let page = secrets_page(&mut tx, self.alloc, book.get(), number.get(), behind);
+        tx.rollback();
+        page
+    }
+
+    // Hands the secrets of a pledge to the visitor until it wants no more.
+    pub(super) fn hand_secrets<V: Visitor<Issued>>(
+        &mut self,
+        book: Number,
+        number: Number,
+        visitor: &mut V,
+    ) -> Result<Flow, KeepError>
+        ensures hands { HandsRows (keeping_by (λ k. state S.Store k.conn))
+            (IsUnsoundAt book) V.step self.old self.new visitor.old visitor.new result
+            (λ h. secrets_of (pledge_in (get h.books book) number)) }
+    {
+        for turn in 0..MOST_SECRETS as u32 + 1 {
+            let page = self.secrets_behind(book, number, turn * PLACES)?;
+            match hand_all(page.as_slice(), visitor) {
+                Flow::Go => {}
+                Flow::Stop => return Ok(Flow::Stop),
+            }
+            if page.len() < PAGE_ROWS {
+                return Ok(Flow::Go);
+            }
+        }
+        Err(TOO_MANY)
+    }
+
+    // A page of a pledge's extensions: those at places after `behind`.
+    fn extensions_behind(
+        &mut self,
+        book: Number,
+        number: Number,
+        behind: u32,
+    ) -> Result<Extensions, KeepError>
+        ensures reads { Reads (keeping_by (λ k. state S.Store k.conn)) self.old self.new
+            (λ h. IfOk result
+            (λ page. page ≡ page_behind behind
+            (extensions_of (pledge_in (get h.books book) number)))) }
+        ensures errs { Errs (keeping_by (λ k. state S.Store k.conn)) self.old self.new
+            (IsUnsoundAt book) result }
+    {
+        know_settled(&self.conn);
+        let mut tx = self.conn.transaction();
+        let page = extensions_page(&mut tx, self.alloc, book.get(), number.get(), behind);
+        tx.rollback();
+        page
+    }
+
+    // Hands the extensions of a pledge to the visitor until it wants no more.
+    pub(super) fn hand_extensions<V: Visitor<Extension>>(
+        &mut self,
+        book: Number,
+        number: Number,
+        visitor: &mut V,
+    ) -> Result<Flow, KeepError>
+        ensures hands { HandsRows (keeping_by (λ k. state S.Store k.conn))
+            (IsUnsoundAt book) V.step self.old self.new visitor.old visitor.new result
+            (λ h. extensions_of (pledge_in (get h.books book) number)) }
+    {
+        for turn in 0..MOST_EXTENSIONS as u32 + 1 {
+            let page = self.extensions_behind(book, number, turn * PLACES)?;
+            match hand_all(page.as_slice(), visitor) {
+                Flow::Go => {}
+                Flow::Stop => return Ok(Flow::Stop),
+            }
+            if page.len() < PAGE_ROWS {
+                return Ok(Flow::Go);
+            }
+        }
+        Err(TOO_MANY)
+    }
+}
+
+// The number from which the next page of entries begins: one more than the last entry's. It is an error if 32 bits
+// can't hold it.
+fn behind_entries(from: u32, page: &[Entry]) -> Result<u32, KeepError>
+    ensures value { IfOk result (λ n. n ≡ page_end behind from page.now) }
+    ensures beyond { IfErr result (λ e. e ≡ Keeper.Store Database) }
+{
+    let Some(last) = page.last() else {
+        return Ok(from);
+    };
+    let Some(next) = last.seq.checked_add(1) else {
+        return Err(BEYOND);
+    };
+    match u32::try_from(next) {
+        Ok(n) => Ok(n),
+        Err(_) => Err(BEYOND),
+    }
+}

@@ -1,0 +1,268 @@
+ghost use Rattle.std.specs.Prelude.{◌∷◌, ◌≡◌, IfOk, length};
+ghost use Rattle.std.specs.FinMap.{get};
+ghost use Rattle.sqlite.specs.Held.{state};
+ghost use Rattle.pawn_book.specs.Keeping.{Errs, Reads, pledges_of};
+ghost use Rattle.pawn_book.specs.Sheet.{part_head, part_items, window_sheet, windows_sheet, with_head, day_sheet};
+ghost use Rattle.pawn_book.specs.Sound.{IsUnsoundAt};
+ghost use Rattle.pawn_tables.specs.Keeps.{keeping_by};
+ghost use Rattle.pawn_tables.specs.Lines.{IsLinesPage, NamesWindows};
+ghost use Rattle.pawn_tables.specs.Pages.{page_end};
+ghost use Rattle.pawn_table_keeper.specs.Handing.{HandsRows};
+ghost use Rattle.pawn_table_keeper.specs.Windows.{named_sheet, named_sheets};
+
+use super::handing::{hand_lines, hand_whole};
+use super::{TOO_MANY, TableKeep};
+use one_table::know_settled;
+use pawn_book::{Day, Flow, KeepError, MOST_PLEDGES, Number, Part, SheetItem, Visitor};
+use pawn_debt::Rows;
+use pawn_pledge::LAST_WINDOW;
+use pawn_tables::{Line, PAGE_ROWS, count_in, lines_page, windows_in};
+use sqlite::Alter;
+
+impl<S: Alter> TableKeep<S> {
+    // How many items a part of a day's sheet has.
+    fn count_part(&mut self, book: Number, day: Day, part: Part) -> Result<u64, KeepError>
+        ensures reads { Reads (keeping_by (λ k. state S.Store k.conn)) self.old self.new
+            (λ h. IfOk result
+            (λ count. count ≡ length (part_items part day (pledges_of (get h.books book))))) }
+        ensures errs { Errs (keeping_by (λ k. state S.Store k.conn)) self.old self.new
+            (IsUnsoundAt book) result }
+    {
+        know_settled(&self.conn);
+        let mut tx = self.conn.transaction();
+        let count = count_in(&mut tx, book.get(), day, part);
+        tx.rollback();
+        count
+    }
+
+    // A page of a part's lines: those of the pledges with numbers above `above`.
+    fn lines_above(
+        &mut self,
+        book: Number,
+        day: Day,
+        part: Part,
+        above: u32,
+    ) -> Result<Rows<Line>, KeepError>
+        ensures reads { Reads (keeping_by (λ k. state S.Store k.conn)) self.old self.new
+            (λ h. IfOk result
+            (λ page. IsLinesPage part day above (pledges_of (get h.books book)) page)) }
+        ensures errs { Errs (keeping_by (λ k. state S.Store k.conn)) self.old self.new
+            (IsUnsoundAt book) result }
+    {
+        know_settled(&self.conn);
+        let mut tx = self.conn.transaction();
+        let page = lines_page(&mut tx, self.alloc, book.get(), day, part, above);
+        tx.rollback();
+        page
+    }
+
+    // Hands a part's items to the visitor until it wants no more.
+    fn hand_part<V: Visitor<SheetItem>>(
+        &mut self,
+        book: Number,
+        day: Day,
+        part: Part,
+        visitor: &mut V,
+    ) -> Result<Flow, KeepError>
+        ensures hands { HandsRows (keeping_by (λ k. state S.Store k.conn))
+            (IsUnsoundAt book) V.step self.old self.new visitor.old visitor.new result
+            (λ h. part_items part day (pledges_of (get h.books book))) }
+    {
+        let mut above = 0;
+        for turn in 0..MOST_PLEDGES + 1 {
+            let page = self.lines_above(book, day, part, above)?;
+            match hand_lines(part, page.as_slice(), visitor) {
+                Flow::Go => {}
+                Flow::Stop => return Ok(Flow::Stop),
+            }
+            if page.len() < PAGE_ROWS {
+                return Ok(Flow::Go);
+            }
+            above = behind_lines(above, page.as_slice());
+        }
+        Err(TOO_MANY)
+    }
+
+    // Hands a part's heading, which gives `count`, and then the part's items, until the visitor wants no more.
+    fn hand_under<V: Visitor<SheetItem>>(
+        &mut self,
+        book: Number,
+        day: Day,
+        part: Part,
+        count: u64,
+        visitor: &mut V,
+    ) -> Result<Flow, KeepError>
+        ensures hands { HandsRows (keeping_by (λ k. state S.Store k.conn))
+            (IsUnsoundAt book) V.step self.old self.new visitor.old visitor.new result
+            (λ h. part_head part count ∷ part_items part day (pledges_of (get h.books book))) }
+    {
+        let heading = part.heading(count);
+        match visitor.visit(&heading) {
+            Flow::Go => self.hand_part(book, day, part, visitor),
+            Flow::Stop => Ok(Flow::Stop),
+        }
+    }
+
+    // Hands a part's heading and then its items, until the visitor wants no more. The tables are asked how many items
+    // there are.
+    fn hand_counted<V: Visitor<SheetItem>>(
+        &mut self,
+        book: Number,
+        day: Day,
+        part: Part,
+        visitor: &mut V,
+    ) -> Result<Flow, KeepError>
+        ensures hands { HandsRows (keeping_by (λ k. state S.Store k.conn))
+            (IsUnsoundAt book) V.step self.old self.new visitor.old visitor.new result
+            (λ h. with_head part (part_items part day (pledges_of (get h.books book)))) }
+    {
+        let count = self.count_part(book, day, part)?;
+        self.hand_under(book, day, part, count, visitor)
+    }
+
+    // Hands a part's heading and then its items, until the visitor wants no more. If they fit on one page, the page
+    // gives how many there are, and the tables are not asked to count.
+    fn hand_headed<V: Visitor<SheetItem>>(
+        &mut self,
+        book: Number,
+        day: Day,
+        part: Part,
+        visitor: &mut V,
+    ) -> Result<Flow, KeepError>
+        ensures hands { HandsRows (keeping_by (λ k. state S.Store k.conn))
+            (IsUnsoundAt book) V.step self.old self.new visitor.old visitor.new result
+            (λ h. with_head part (part_items part day (pledges_of (get h.books book)))) }
+    {
+        let page = self.lines_above(book, day, part, 0)?;
+        if page.len() < PAGE_ROWS {
+            return Ok(hand_whole(part, page.as_slice(), visitor));
+        }
+        self.hand_counted(book, day, part, visitor)
+    }
+
+    // Hands a window's heading and items to the visitor until it wants no more; nothing if nobody comes in that window.
+    fn hand_window<V: Visitor<SheetItem>>(
+        &mut self,
+        book: Number,
+        day: Day,
+        window: u64,
+        visitor: &mut V,
+    ) -> Result<Flow, KeepError>
+        ensures hands { HandsRows (keeping_by (λ k. state S.Store k.conn))
+            (IsUnsoundAt book) V.step self.old self.new visitor.old visitor.new result
+            (λ h. window_sheet (pledges_of (get h.books book)) day window) }
+    {
+        let part = Part::Confirmed { window };
+        let page = self.lines_above(book, day, part, 0)?;
+        if page.is_empty() {
+            return Ok(Flow::Go);
+        }
+        if page.len() < PAGE_ROWS {
+            return Ok(hand_whole(part, page.as_slice(), visitor));
+        }
+        self.hand_counted(book, day, part, visitor)
+    }
+
+    // The windows in which somebody comes on a day.
+    fn windows_on(&mut self, book: Number, day: Day) -> Result<Rows<u64>, KeepError>
+        ensures reads { Reads (keeping_by (λ k. state S.Store k.conn)) self.old self.new
+            (λ h. IfOk result
+            (λ windows. NamesWindows day (pledges_of (get h.books book)) windows)) }
+        ensures errs { Errs (keeping_by (λ k. state S.Store k.conn)) self.old self.new
+            (IsUnsoundAt book) result }
+    {
+        know_settled(&self.conn);
+        let mut tx = self.conn.transaction();
+        let windows = windows_in(&mut tx, self.alloc, book.get(), day);
+        tx.rollback();
+        windows
+    }
+
+    // Hands a window's items to the visitor until it wants no more, if the window is one of these.
+    fn hand_named<V: Visitor<SheetItem>>(
+        &mut self,
+        book: Number,
+        day: Day,
+        windows: &[u64],
+        window: u64,
+        visitor: &mut V,
+    ) -> Result<Flow, KeepError>
+        ensures hands { HandsRows (keeping_by (λ k. state S.Store k.conn))
+            (IsUnsoundAt book) V.step self.old self.new visitor.old visitor.new result
+            (λ h. named_sheet windows.now (pledges_of (get h.books book)) day window) }
+    {
+        if windows.contains(&window) {
+            self.hand_window(book, day, window, visitor)
+        } else {
+            Ok(Flow::Go)
+        }
+    }
+
+    // Hands the items of these windows to the visitor until it wants no more.
+    fn hand_these<V: Visitor<SheetItem>>(
+        &mut self,
+        book: Number,
+        day: Day,
+        windows: &[u64],
+        visitor: &mut V,
+    ) -> Result<Flow, KeepError>
+        ensures hands { HandsRows (keeping_by (λ k. state S.Store k.conn))
+            (IsUnsoundAt book) V.step self.old self.new visitor.old visitor.new result
+            (λ h. named_sheets windows.now (pledges_of (get h.books book)) day) }
+    {
+        for window in 0..LAST_WINDOW + 1 {
+            match self.hand_named(book, day, windows, window, visitor)? {
+                Flow::Go => {}
+                Flow::Stop => return Ok(Flow::Stop),
+            }
+        }
+        Ok(Flow::Go)
+    }
+
+    // Hands the windows' items to the visitor until it wants no more. Only those windows are read in which somebody comes.
+    fn hand_windows<V: Visitor<SheetItem>>(
+        &mut self,
+        book: Number,
+        day: Day,
+        visitor: &mut V,
+    ) -> Result<Flow, KeepError>
+        ensures hands { HandsRows (keeping_by (λ k. state S.Store k.conn))
+            (IsUnsoundAt book) V.step self.old self.new visitor.old visitor.new result
+            (λ h. windows_sheet (pledges_of (get h.books book)) day) }
+    {
+        let windows = self.windows_on(book, day)?;
+        self.hand_these(book, day, windows.as_slice(), visitor)
+    }
+
+    // Hands the items of a day's sheet to the visitor until it wants no more.
+    pub(super) fn hand_sheet<V: Visitor<SheetItem>>(
+        &mut self,
+        book: Number,
+        day: Day,
+        visitor: &mut V,
+    ) -> Result<Flow, KeepError>
+        ensures hands { HandsRows (keeping_by (λ k. state S.Store k.conn))
+            (IsUnsoundAt book) V.step self.old self.new visitor.old visitor.new result
+            (λ h. day_sheet (pledges_of (get h.books book)) day) }
+    {
+        match self.hand_windows(book, day, visitor)? {
+            Flow::Go => {}
+            Flow::Stop => return Ok(Flow::Stop),
+        }
+        match self.hand_headed(book, day, Part::Asked, visitor)? {
+            Flow::Go => {}
+            Flow::Stop => return Ok(Flow::Stop),
+        }
+        self.hand_headed(book, day, Part::Ends, visitor)
+    }
+}
+
+// The number above which the next page of lines begins: that of the last line.
+fn behind_lines(above: u32, page: &[Line]) -> u32
+    ensures value { result ≡ page_end (λ l. l.number) above page.now }
+{
+    match page.last() {
+        Some(line) => line.number.get(),
+        None => above,
+    }
+}
