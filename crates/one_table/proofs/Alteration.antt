@@ -1,32 +1,9 @@
 -- UPDATE of one row, and the upsert of one, told by the rows that the tables hold.
 use Rattle.std.proofs.Common.{◌≡◌, ◌≢◌, ℕ, ℤ, List, [], ◌∷◌, map, filter, Bool, true, false, cond, not, Option, None, Ok, refl, sym, ap, subst, ◌∙◌, IsPermutation, IsTrue}
-use Rattle.std.specs.List.{AllByRecursion}
-use Rattle.std.proofs.lemmas.List.Sorted.{IsPermutation-cons, IsPermutation-trans, IsPermutation-map, IsPermutation-sym}
-use Rattle.sqlite_trees.proofs.ListLemmas.{filter-map, IsPermutation-filter, all-filter}
-use Rattle.sqlite_trees.proofs.TreeLemmas.{IsShaped-put_row, IsShaped-filter}
+use Rattle.one_table.specs.Common.{AllByRecursion, taken_by, Enforced, cast_row, Update, Does, Tally, Applies, are_fresh, edit_of, is_taken, put_all, Database, understood, Row, overlay, IsAnswer, Query, Given, Task, Updates, Written, Schema, Executes, State, mode_of, Table, Term, Trees, has_rowid, put_row, rowid, without_rowid, is_int, Int, Null}
+use Rattle.one_table.proofs.Lemmas.{IsPermutation-cons, IsPermutation-map, IsPermutation-sym, IsPermutation-trans, IsPermutation-filter, all-filter, filter-map, IsShaped-filter, IsShaped-put_row, IsPlain, command_of, one_permutation, one_step, runs_as, statement_of}
 use Rattle.sqlite_trees.specs.declared.store.Shape.TheVariants as shape
-use Rattle.sqlite.specs.declared.types.Value.TheVariants.{Null, Int}
-use Rattle.sqlite.specs.Order.{Row}
-use Rattle.sqlite.specs.Table.{Table}
-use Rattle.sqlite.specs.Schema.{Schema}
-use Rattle.sqlite.specs.Term.{Term}
-use Rattle.sqlite.specs.Tree.{Trees, rowid, has_rowid, without_rowid, put_row}
-use Rattle.sqlite.specs.View.{is_int}
-use Rattle.sqlite.specs.Query.{Query, IsAnswer}
-use Rattle.sqlite.specs.Program.{overlay}
-use Rattle.sqlite.specs.Edit.{edit_of, Applies, put_all, is_taken, are_fresh}
-use Rattle.sqlite.specs.Cast.{cast_row}
-use Rattle.sqlite.specs.Rowids.TheVariants.{Given}
 use Rattle.sqlite_rules.specs.Calls.{ids_of}
-use Rattle.sqlite_rules.specs.Edit.{taken_by}
-use Rattle.sqlite_schema.specs.declared.schema.Keys.TheVariants.{Enforced}
-use Rattle.sqlite.specs.Command.TheVariants.{Update}
-use Rattle.sqlite.specs.Does.{Tally, Does}
-use Rattle.sqlite.specs.Rows.{Written, Task, Updates}
-use Rattle.sqlite.specs.Effect.{Database}
-use Rattle.sqlite.specs.Listing.{understood}
-use Rattle.sqlite.specs.State.{State, mode_of, Executes}
-use Rattle.sqlite.proofs.Callers.{IsPlain, command_of, statement_of, runs_as, one_step, one_permutation}
 use Rattle.one_table.specs.Listing.{Holds, Lists, Listed, with_rows, columns_of, IsNumbered}
 use Rattle.one_table.proofs.OneTable.{over_table, passes, shows_of, found}
 use Rattle.one_table.proofs.Rowed.{plainly, carried, at_place, put_new, first_fresh, without_one, one_of_map, int_at}

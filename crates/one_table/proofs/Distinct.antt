@@ -1,29 +1,12 @@
 -- A query on one table that shows each row once.
 use Rattle.std.proofs.Common.{◌≡◌, ◌≢◌, ◌++◌, ℕ, List, [], ◌∷◌, map, filter, flat_map, Bool, true, false, refl, sym, ap, subst, ◌∙◌, IsPermutation}
-use Rattle.std.specs.List.{AllByRecursion}
-use Rattle.std.specs.Ordering.{eq_by_cmp, is_eq}
-use Rattle.std.specs.List.{IsDistinct}
-use Rattle.std.specs.declared.cmp.Ordering.{Ordering}
-use Rattle.std.specs.declared.cmp.Ordering.TheVariants.{Less, Equal, Greater}
-use Rattle.std.proofs.lemmas.Cmp.{eq_by_cmp_equiv}
+use Rattle.one_table.specs.Common.{AllByRecursion, IsDistinct, eq_by_cmp, is_eq, Ordering, Equal, Greater, Less, IsAscending, Row, overlay, IsAnswer, Output, Query, output, Schema, Shown, State, Table, Term, Trees, Null}
+use Rattle.one_table.proofs.Lemmas.{eq_by_cmp_equiv, IsPermutation-map, IsPermutation-sym, IsPermutation-filter, all-flat_map, all-map, all-permutation, all_both, all_from_map, all_weaker, map-map, reads_as}
 use Rattle.std.proofs.lemmas.Map.Keys.{IsDistinct-IsPermutation}
-use Rattle.std.proofs.lemmas.List.Sorted.{IsPermutation-map, IsPermutation-sym}
-use Rattle.sqlite.specs.declared.types.Value.TheVariants.{Null}
-use Rattle.sqlite.specs.Order.{Row}
-use Rattle.sqlite.specs.Tree.{Trees}
-use Rattle.sqlite.specs.Table.{Table}
-use Rattle.sqlite.specs.Schema.{Schema}
-use Rattle.sqlite.specs.Term.{Term}
-use Rattle.sqlite.specs.Program.{overlay}
-use Rattle.sqlite.specs.State.{State, Shown}
-use Rattle.sqlite.specs.Query.{Query, IsAnswer, output, Output}
 use Rattle.sqlite_value.specs.declared.keys.Collation.{Collation}
 use Rattle.sqlite_value.specs.Keys.{collated_cmp}
 use Rattle.sqlite_value.proofs.KeyLemmas.{collated_cmp_total}
-use Rattle.sqlite_trees.specs.Tree.{IsAscending}
-use Rattle.sqlite_trees.proofs.ListLemmas.{map-map, all-flat_map, all-map, all_from_map, all-permutation, all_weaker, all_both, IsPermutation-filter}
 use Rattle.sqlite_sql.specs.Group.{members}
-use Rattle.sqlite.proofs.Callers.{reads_as}
 use Rattle.one_table.specs.Listing.{Holds, columns_of}
 use Rattle.one_table.proofs.Found.{by_columns}
 use Rattle.one_table.proofs.OneTable.{over_table, around, passes, shows_of, gathered}

@@ -1,23 +1,9 @@
 -- What a query on one table shows, told by the rows that the table holds.
 use Rattle.std.proofs.Common.{◌≡◌, ℕ, List, [], ◌∷◌, map, filter, take, Bool, refl, sym, ap, subst, ◌∙◌, IsPermutation, reverse, ◌++◌}
 use Rattle.std.proofs.lemmas.List.{reverse-append}
-use Rattle.std.specs.declared.cmp.Ordering.TheVariants.{Less}
-use Rattle.std.proofs.lemmas.List.Elements.{filter_agree}
-use Rattle.std.proofs.lemmas.List.Sorted.{IsPermutation-map, IsPermutation-trans, IsPermutation-sym, IsPermutation-reverse}
-use Rattle.sqlite.specs.declared.types.Value.{Value}
-use Rattle.sqlite.specs.declared.types.Value.TheVariants.{Null}
-use Rattle.sqlite.specs.Order.{Row, column, value_cmp}
+use Rattle.one_table.specs.Common.{Less, Key, Row, column, value_cmp, overlay, IsAnswer, Output, Query, output, output_cmp, Schema, Shown, State, Table, Term, Value, Null}
+use Rattle.one_table.proofs.Lemmas.{filter_agree, IsPermutation-map, IsPermutation-reverse, IsPermutation-sym, IsPermutation-trans, IsPermutation-filter, all-append, ascending-append, ascending-map, ascending_weaker, filter-map, map-map, then-Equal, reads_as}
 use Rattle.sqlite.specs.Tree.{Trees, IsAscending}
-use Rattle.sqlite.specs.Table.{Table}
-use Rattle.sqlite.specs.Term.{Term}
-use Rattle.sqlite.specs.Query.{Query, IsAnswer, output, output_cmp, Output}
-use Rattle.sqlite.specs.Program.{overlay}
-use Rattle.sqlite.specs.State.{State, Shown}
-use Rattle.sqlite_value.specs.declared.keys.Key.{Key}
-use Rattle.sqlite_value.proofs.OrderLemmas.{then-Equal}
-use Rattle.sqlite_trees.proofs.ListLemmas.{map-map, filter-map, IsPermutation-filter, ascending-map, ascending_weaker, ascending-append, all-append}
-use Rattle.sqlite.proofs.Callers.{reads_as}
-use Rattle.sqlite.specs.Schema.{Schema}
 use Rattle.one_table.specs.Listing.{Holds, columns_of}
 use Rattle.one_table.proofs.OneTable.{over_table, few_of_table, first_of_table, around, passes, shows_of, found, found_few, found_all}
 use Rattle.one_table.proofs.Texts.{Asks, by_column, by_column_down}

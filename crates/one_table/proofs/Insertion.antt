@@ -1,23 +1,8 @@
 -- INSERT of one row, told by the rows that the tables hold.
 use Rattle.std.proofs.Common.{◌≡◌, ◌⊎◌, inl, inr, ℕ, ◌/◌, List, [], ◌∷◌, map, length, Some, None, Result, Ok, Err, sym, ap, subst, ◌∙◌, IsPermutation, slice_get, append-nil}
-use Rattle.std.proofs.lemmas.List.Sorted.{IsPermutation-cons, IsPermutation-trans, IsPermutation-map}
-use Rattle.sqlite.specs.Order.{Row}
-use Rattle.sqlite.specs.Term.{Term}
-use Rattle.sqlite.specs.Table.{Table}
-use Rattle.sqlite.specs.Schema.{Schema}
-use Rattle.sqlite.specs.Source.TheVariants.{Values}
-use Rattle.sqlite.specs.Command.TheVariants.{Insert}
-use Rattle.sqlite.specs.Edit.{edit_of, Applies, with_rowid}
-use Rattle.sqlite.specs.Cast.{cast_row}
-use Rattle.sqlite.specs.Rowids.TheVariants.{Chosen}
-use Rattle.sqlite_schema.specs.declared.schema.Keys.TheVariants.{Enforced}
+use Rattle.one_table.proofs.Lemmas.{IsPermutation-cons, IsPermutation-map, IsPermutation-trans, IsPlain, command_of, one_step, runs_as, statement_of}
+use Rattle.one_table.specs.Common.{Enforced, cast_row, Insert, Does, Tally, Applies, edit_of, with_rowid, Database, IsDatabase, value_rows, understood, Row, Chosen, Written, Schema, Values, Executes, State, mode_of, Table, Term}
 use Rattle.sqlite_rules.specs.Action.{works}
-use Rattle.sqlite.specs.Does.{Tally, Does}
-use Rattle.sqlite.specs.Rows.{Written}
-use Rattle.sqlite.specs.Effect.{Database, IsDatabase, value_rows}
-use Rattle.sqlite.specs.Listing.{understood}
-use Rattle.sqlite.specs.State.{State, mode_of, Executes}
-use Rattle.sqlite.proofs.Callers.{IsPlain, command_of, statement_of, runs_as, one_step}
 use Rattle.one_table.specs.Listing.{Holds, Lists, Listed, with_rows, columns_of}
 use Rattle.one_table.proofs.Rowed.{plainly, put_one, carried, at_place, IsAlone}
 

@@ -2,6 +2,7 @@ pub mod Alteration
 pub mod Distinct
 pub mod Found
 pub mod Insertion
+pub mod Lemmas
 pub mod Lent
 pub mod OneTable
 pub mod Parts

@@ -1,9 +1,7 @@
 -- What the parts of a transaction leave of the last commit.
 use Rattle.std.proofs.Common.{◌≡◌, ◌⊎◌, inl, inr, ℕ, List, [], Some, None, Result, Ok, Err, OnOk, IsTrue, false, sym, subst, ◌∙◌, if◌then◌else◌}
-use Rattle.sqlite.specs.Order.{Row}
+use Rattle.one_table.specs.Common.{understood, Row, ExecutesInside, Fails, FailsToQuery, FailsToShow, IsNotRun, IsRolledBack, IsTooLate, KeepsCommit, QueriesRow, QueriesRowInside, Shown, Shows, ShowsRows, State, Writes}
 use Rattle.sqlite.specs.declared.error.Error.{Error}
-use Rattle.sqlite.specs.State.{State, Shows, IsRolledBack, KeepsCommit, Fails, IsNotRun, ExecutesInside, QueriesRowInside, QueriesRow, FailsToQuery, Shown, Writes, ShowsRows, FailsToShow, IsTooLate}
-use Rattle.sqlite.specs.Listing.{understood}
 use Rattle.sqlite.proofs.Callers.{IsPlain}
 use Rattle.one_table.specs.Lending.{Rests}
 use Rattle.sqlite.specs.Clock.{timed}

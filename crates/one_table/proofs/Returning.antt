@@ -1,11 +1,7 @@
 -- A write with RETURNING.
 use Rattle.std.proofs.Common.{◌≡◌, inl, inr, ℕ, List, [], Some, Ok, sym, ap, subst₂, ◌∙◌, append-nil, slice_get}
-use Rattle.sqlite.specs.Order.{Row}
-use Rattle.sqlite.specs.Schema.{Schema}
+use Rattle.one_table.specs.Common.{Returning, understood, Row, Schema, Begins, QueriesRow, Shown, State, Writes}
 use Rattle.sqlite.specs.Command.{Command}
-use Rattle.sqlite_schema.specs.declared.command.Returning.{Returning}
-use Rattle.sqlite.specs.Listing.{understood}
-use Rattle.sqlite.specs.State.{State, Writes, Shown, QueriesRow, Begins}
 use Rattle.sqlite.proofs.Callers.{command_of, statement_of}
 use Rattle.one_table.proofs.Texts.{returning_of, formats_of}
 

@@ -1,28 +1,9 @@
 -- One row is put into a table, or takes the place of one that is there.
 use Rattle.std.proofs.Common.{◌≡◌, ◌≢◌, ◌⊎◌, ◌==◌, inl, inr, ℕ, zero, suc, ℤ, pos, List, [], ◌∷◌, map, filter, length, Bool, true, false, cond, not, ◌&&◌, ◌||◌, Some, refl, sym, ap, subst, ◌∙◌, arith, IsPermutation, slice_get, true≢false, IsTrue}
-use Rattle.std.specs.List.{AllByRecursion}
-use Rattle.std.specs.Ordering.{is_eq, is_lt, match_ordering}
-use Rattle.std.specs.declared.cmp.Ordering.{Ordering}
-use Rattle.std.specs.declared.cmp.Ordering.TheVariants.{Less, Equal, Greater}
+use Rattle.one_table.specs.Common.{AllByRecursion, is_eq, is_lt, match_ordering, Ordering, Equal, Greater, Less, Enforced, cast, cast_row, Applies, are_fresh, edit_of, is_taken, with_rowid, unary, Row, value_cmp, Chosen, Schema, Table, IsTable, Trees, has_rowid, put_row, rowid, without_rowid, is_int, Value, Blob, Int, Null, Real, Text}
 use Rattle.std.proofs.lemmas.Bool.Decides.{nat_tests}
-use Rattle.std.proofs.lemmas.Cmp.{tied_itself}
-use Rattle.std.proofs.lemmas.List.Sorted.{IsPermutation-refl, IsPermutation-cons, IsPermutation-trans, IsPermutation-map}
-use Rattle.sqlite.specs.declared.types.Value.{Value}
-use Rattle.sqlite.specs.declared.types.Value.TheVariants.{Null, Int, Real, Text, Blob}
-use Rattle.sqlite.specs.Order.{Row, value_cmp}
-use Rattle.sqlite.specs.Ops.{unary}
-use Rattle.sqlite.specs.Table.{Table}
-use Rattle.sqlite.specs.Schema.{Schema}
+use Rattle.one_table.proofs.Lemmas.{tied_itself, IsPermutation-cons, IsPermutation-map, IsPermutation-refl, IsPermutation-trans, all-filter, all_weaker, filter_all, IsShaped-put_row, later_rowids, value_cmp_total}
 use Rattle.sqlite.specs.Kind.TheVariants.{Integer}
-use Rattle.sqlite.specs.Edit.{edit_of, Applies, is_taken, are_fresh, with_rowid}
-use Rattle.sqlite.specs.Cast.{cast, cast_row}
-use Rattle.sqlite.specs.Rowids.TheVariants.{Chosen}
-use Rattle.sqlite_schema.specs.declared.schema.Keys.TheVariants.{Enforced}
-use Rattle.sqlite.specs.Tree.{Trees, rowid, put_row, IsTable, has_rowid, without_rowid}
-use Rattle.sqlite.specs.View.{is_int}
-use Rattle.sqlite_value.proofs.OrderLemmas.{value_cmp_total}
-use Rattle.sqlite_trees.proofs.ListLemmas.{filter_all, all-filter, all_weaker}
-use Rattle.sqlite_trees.proofs.TreeLemmas.{IsShaped-put_row, later_rowids}
 use Rattle.one_table.specs.Columns.{no_stamps}
 use Rattle.one_table.specs.Listing.{IsNumbered, Holds, Listed, with_rows, columns_of}
 

@@ -1,18 +1,5 @@
 -- What a text means under a schema.
-use Rattle.std.specs.Prelude.{◌≡◌, List, [], ◌∷◌, ℕ, false, true, Option, Some, None, Result, Ok, Err}
-use Rattle.sqlite.specs.Command.TheVariants.{Insert, Select, Update}
-use Rattle.sqlite.specs.Schema.{Schema}
-use Rattle.sqlite.specs.Listing.{understood, reads_listing}
-use Rattle.sqlite.specs.Collation.TheVariants.{Binary}
-use Rattle.sqlite.specs.Term.{Term, col, op2}
-use Rattle.sqlite.specs.Query.{Query}
-use Rattle.sqlite.specs.Source.TheVariants.{Values}
-use Rattle.sqlite_sql.specs.declared.ops.BinaryOp.TheVariants.{Compare}
-use Rattle.sqlite_sql.specs.declared.ops.CompareOp.TheVariants.{Eq}
-use Rattle.sqlite_resolve.specs.declared.compiled.Compiled.{Compiled}
-use Rattle.sqlite_resolve.specs.declared.error.CompileError.{CompileError}
-use Rattle.sqlite_schema.specs.declared.command.Returning.{Returning}
-use Rattle.sqlite_value.specs.declared.keys.Key.{Key}
+use Rattle.one_table.specs.Common.{Err, List, None, Ok, Option, Result, Some, [], false, true, ℕ, ◌∷◌, ◌≡◌, Compiled, CompileError, Returning, Compare, Eq, Key, Binary, Insert, Select, Update, reads_listing, understood, Query, Schema, Values, Term, col, op2}
 use Rattle.sqlite.proofs.Callers.{IsPlain, command_of}
 
 -- the text is this query, which shows columns of these names, and nothing else

@@ -1,46 +1,12 @@
 -- The upsert of one row, told by the rows that the tables hold.
 use Rattle.std.proofs.Common.{◌≡◌, ◌⊎◌, ◌++◌, inl, inr, ℕ, suc, ◌/◌, ℤ, List, [], ◌∷◌, map, filter, length, Bool, true, false, cond, Option, Some, None, Ok, refl, sym, ap, subst, ◌∙◌, arith, IsPermutation, append-nil, true≢false, IsTrue}
-use Rattle.std.specs.List.{list_all, list_any, AllByRecursion}
-use Rattle.std.specs.Ordering.{is_eq, int_cmp}
-use Rattle.std.specs.declared.cmp.Ordering.{Ordering}
-use Rattle.std.specs.declared.cmp.Ordering.TheVariants.{Less, Equal}
-use Rattle.std.proofs.lemmas.Cmp.{tied_itself}
-use Rattle.std.proofs.lemmas.List.Elements.{filter_agree}
-use Rattle.std.proofs.lemmas.List.Sorted.{IsPermutation-cons, IsPermutation-trans, IsPermutation-map, IsPermutation-sym, length_permutation}
-use Rattle.sqlite_trees.proofs.ListLemmas.{filter-map, IsPermutation-filter}
-use Rattle.sqlite_trees.proofs.TreeLemmas.{IsShaped-put_row, later_rowids}
-use Rattle.sqlite.specs.declared.types.Value.{Value}
-use Rattle.sqlite.specs.declared.types.Value.TheVariants.{Null, Int}
-use Rattle.sqlite.specs.Order.{Row, column, value_cmp}
-use Rattle.sqlite.specs.Ops.{binary, is_true, from_truth}
-use Rattle.sqlite.specs.Collation.TheVariants.{Binary}
-use Rattle.sqlite_sql.specs.declared.ops.BinaryOp.TheVariants.{Compare}
-use Rattle.sqlite_sql.specs.declared.ops.CompareOp.TheVariants.{Eq}
-use Rattle.sqlite.specs.Table.{Table}
-use Rattle.sqlite.specs.Schema.{Schema}
-use Rattle.sqlite.specs.Term.{Term}
-use Rattle.sqlite.specs.Source.TheVariants.{Values}
-use Rattle.sqlite.specs.Tree.{Trees, rowid, IsTable, has_rowid, without_rowid, put_row}
-use Rattle.sqlite.specs.Query.{Query}
-use Rattle.sqlite.specs.Program.{overlay}
-use Rattle.sqlite.specs.Edit.{Edit, edit_of, Applies, put_all, is_taken, are_fresh, with_rowid}
-use Rattle.sqlite.specs.Cast.{cast_row}
-use Rattle.sqlite.specs.Rowids.TheVariants.{Chosen, Given}
-use Rattle.sqlite_rules.specs.Edit.{next_rowid, at_least}
+use Rattle.one_table.specs.Common.{AllByRecursion, list_all, list_any, int_cmp, is_eq, Ordering, Equal, Less, at_least, next_rowid, Enforced, Compare, Eq, cast_row, Binary, InsertOr, Does, Tally, Applies, Edit, are_fresh, edit_of, is_taken, put_all, with_rowid, Database, value_rows, understood, binary, from_truth, is_true, Row, column, value_cmp, overlay, Query, Chosen, Given, Clears, Judged, Puts, Task, Tries, TriesEach, Updates, Upserts, Written, nothing, shown, Schema, Values, Executes, State, mode_of, Table, Term, IsTable, Trees, has_rowid, put_row, rowid, without_rowid, Value, Int, Null}
+use Rattle.one_table.proofs.Lemmas.{tied_itself, filter_agree, IsPermutation-cons, IsPermutation-map, IsPermutation-sym, IsPermutation-trans, length_permutation, IsPermutation-filter, filter-map, IsShaped-put_row, later_rowids, value_cmp_total, IsPlain, command_of, one_step, runs_as, statement_of}
 use Rattle.sqlite_rules.specs.Keys.{conflicts, AreConflicts}
 use Rattle.sqlite_rules.specs.Lists.{Has}
 use Rattle.sqlite_rules.specs.declared.error.Refusal.{Refusal}
-use Rattle.sqlite_schema.specs.declared.schema.Keys.TheVariants.{Enforced}
 use Rattle.sqlite_schema.specs.declared.command.Conflict.TheVariants.{Abort}
 use Rattle.sqlite_schema.specs.declared.command.Upsert.{Upsert}
-use Rattle.sqlite.specs.Command.TheVariants.{InsertOr}
-use Rattle.sqlite.specs.Does.{Tally, Does}
-use Rattle.sqlite.specs.Rows.{Written, Task, Updates, Puts, Clears, Upserts, Judged, Tries, TriesEach, shown, nothing}
-use Rattle.sqlite.specs.Effect.{Database, value_rows}
-use Rattle.sqlite.specs.Listing.{understood}
-use Rattle.sqlite.specs.State.{State, mode_of, Executes}
-use Rattle.sqlite.proofs.Callers.{IsPlain, command_of, statement_of, runs_as, one_step}
-use Rattle.sqlite_value.proofs.OrderLemmas.{value_cmp_total}
 use Rattle.one_table.specs.Listing.{Holds, Lists, Listed, with_rows, columns_of, IsNumbered}
 use Rattle.one_table.proofs.OneTable.{over_table, passes, shows_of}
 use Rattle.one_table.proofs.Rowed.{plainly, carried, at_place, put_new, first_fresh, is_keyed}

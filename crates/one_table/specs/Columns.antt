@@ -1,9 +1,6 @@
 -- The columns, keys and references of a table, as its text gives them.
 use Rattle.std.specs.Prelude.{true, false, [], ◌∷◌, None, List, ℕ}
-use Rattle.sqlite.specs.Collation.TheVariants.{Binary}
-use Rattle.sqlite.specs.declared.types.Value.TheVariants.{Null}
-use Rattle.sqlite.specs.Table.{Table}
-use Rattle.sqlite.specs.Schema.{Schema}
+use Rattle.one_table.specs.Common.{Binary, Schema, Table, Null}
 use Rattle.sqlite.specs.Kind.{Kind}
 use Rattle.sqlite_schema.specs.declared.schema.Column.{Column}
 use Rattle.sqlite_schema.specs.declared.schema.Reference.{Reference}

@@ -1,8 +1,7 @@
 -- What a call leaves of a transaction that it was lent.
 use Rattle.std.specs.Prelude.{◌≡◌, Bool, true, IsTrue}
 use Rattle.std.specs.Borrow.{MutBor}
-use Rattle.sqlite.specs.Held.{Held, state}
-use Rattle.sqlite.specs.State.{State, HasCleanDisk, KeepsCommit, Survives}
+use Rattle.one_table.specs.Common.{Held, state, HasCleanDisk, KeepsCommit, State, Survives}
 use Rattle.sqlite_trees.specs.declared.store.Store.{Ghosts}
 
 -- the last commit is kept, the transaction goes on unless the call failed, and a crash leaves what it left before

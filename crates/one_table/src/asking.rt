@@ -1,7 +1,6 @@
 ghost use Rattle.std.specs.Prelude.{◌≡◌, ℕ, IfOk, IsTrue, OnOk, Ok, false, is_ok};
 ghost use Rattle.sqlite.specs.Values.{bound};
-ghost use Rattle.sqlite.specs.Held.{state};
-ghost use Rattle.sqlite.specs.State.{Executes, HasCleanDisk, Shown};
+ghost use Rattle.one_table.specs.Common.{state, Executes, HasCleanDisk, Shown};
 ghost use Rattle.one_table.specs.Lending.{Lends};
 
 use sqlite::{Alter, Connection, Error, Row, Transaction};

@@ -1,14 +1,8 @@
 -- The books of a host up to a number.
 use Rattle.std.proofs.Common.{◌≡◌, ◌≢◌, ◌==◌, ◌≤◌, ◌<◌, ◌++◌, ℕ, [], ◌∷◌, List, Bool, true, false, cond, ◌&&◌, Some, None, T, filter, flat_map, nat_le, refl, sym, ap, subst, ◌∙◌, arith, append_assoc, append-nil}
-use Rattle.std.specs.Ordering.{is_eq, is_lt, nat_cmp}
-use Rattle.std.specs.FinMap.{entries, entries_sorted, get, get-entries, is_sorted, find as find_key}
+use Rattle.pawn_move.specs.Common.{entries, entries_sorted, find_key, get, get-entries, is_sorted, is_eq, is_lt, nat_cmp, Row, BookValue, Host, IsNextBook, of_books}
 use Rattle.std.specs.FinMap.Entries.{below_all}
 use Rattle.std.proofs.lemmas.Bool.Decides.{nat_tests}
-use Rattle.sqlite.specs.Order.{Row}
-use Rattle.pawn_book.specs.BookStep.{BookValue}
-use Rattle.pawn_book.specs.HostStep.{Host}
-use Rattle.pawn_book.specs.Keeping.{IsNextBook}
-use Rattle.pawn_tables.specs.StandsFor.{of_books}
 
 abbrev pub Entry : Type 0
 Entry = ℕ × BookValue

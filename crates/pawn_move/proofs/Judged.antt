@@ -1,16 +1,8 @@
 -- Debts are judged, pledge by pledge and book by book.
 use Rattle.std.proofs.Common.{ℕ, Bool, true, Option, Some, Result, Ok, Err, IsTrue, refl, sym, subst}
-use Rattle.sqlite.specs.State.{State, HasCleanDisk}
-use Rattle.pawn_book.specs.HostStep.{Host}
-use Rattle.pawn_book.specs.Keeping.{IsNextBook}
-use Rattle.pawn_book.specs.Sound.{HasUnsoundBook, IsUnsoundAt}
-use Rattle.pawn_book.specs.declared.fault.KeepError.{KeepError}
-use Rattle.one_table.specs.Lending.{IsLent, Rests}
+use Rattle.pawn_move.specs.Common.{HasCleanDisk, State, Host, IsNextBook, HasUnsoundBook, IsUnsoundAt, KeepError, IsLent, Rests, Finds, FindsOf, ListDebts, IsCarried}
 use Rattle.one_table.proofs.Lent.{clean_before, rests_then}
-use Rattle.pawn_saving.specs.Writing.{IsCarried}
 use Rattle.pawn_saving.proofs.RowsInOrder.{carried_none, carried_then, past}
-use Rattle.pawn_tables.specs.Finding.{Finds, FindsOf}
-use Rattle.pawn_tables.specs.StandsFor.{ListDebts}
 use Rattle.pawn_move.specs.Moving.{AreOwedIn, IsNextJudged, ListFirstDebts}
 use Rattle.pawn_move.proofs.Reading.{handed, tell_then}
 

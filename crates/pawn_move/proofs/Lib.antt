@@ -1,4 +1,5 @@
 pub mod AllFilled
+pub mod Answering
 pub mod BooksUpTo
 pub mod Filled
 pub mod Judged

@@ -3,32 +3,21 @@ use Rattle.std.proofs.Common.{◌≡◌, ℕ, pos, List, [], ◌∷◌, filter, 
 use Rattle.std.specs.List.{list_all}
 use Rattle.std.proofs.lemmas.List.Sorted.{IsPermutation-refl}
 use Rattle.sqlite.specs.declared.types.Value.TheVariants.{Int, Text}
-use Rattle.sqlite.specs.Order.{Row, column, value_cmp}
+use Rattle.pawn_move.specs.Common.{everything, Tables, understood, Row, column, value_cmp, Executes, HasCleanDisk, State, Host, rows, IsLent, meta_row, with_indexes, meta, meta_tree, SET_SCHEMA, AddsIndexes, GainsIndexes}
 use Rattle.sqlite.specs.Ops.{binary, is_true}
 use Rattle.sqlite.specs.Collation.TheVariants.{Binary}
 use Rattle.sqlite.specs.Term.{Term, lit, col, op2}
-use Rattle.sqlite.specs.Effect.{Database as Tables}
-use Rattle.sqlite.specs.State.{State, Executes, HasCleanDisk}
-use Rattle.sqlite.specs.Listing.{understood}
 use Rattle.sqlite_sql.specs.declared.ops.BinaryOp.TheVariants.{Compare}
 use Rattle.sqlite_sql.specs.declared.ops.CompareOp.TheVariants.{Eq}
-use Rattle.sqlite_tied.specs.Compute.{everything}
-use Rattle.pawn_book.specs.HostStep.{Host, rows}
 use Rattle.one_table.proofs.OneTable.{over_table}
 use Rattle.one_table.proofs.Rowed.{cast_int, cast_whole}
 use Rattle.one_table.proofs.Texts.{Sets}
 use Rattle.pawn_saving.proofs.OurTables.{row_set_by, with_tables}
 use Rattle.pawn_saving.proofs.Places.{meta_place}
-use Rattle.pawn_tables.specs.Meta.{meta_row}
 use Rattle.sqlite_schema.specs.declared.schema.Index.{Index}
-use Rattle.pawn_tables.specs.Ours.{with_indexes}
-use Rattle.pawn_tables.specs.Schema.{meta, meta_tree}
-use Rattle.one_table.specs.Lending.{IsLent}
 use Rattle.one_table.proofs.Lent.{clean_before}
-use Rattle.pawn_opening.specs.Indexing.{AddsIndexes, GainsIndexes}
 use Rattle.pawn_opening.proofs.Gained.{gains_lists}
 use Rattle.pawn_move.specs.Moving.{IsMoving, NotesProgram, listed_with}
-use Rattle.pawn_tables.specs.declared.texts.TheConstants.{SET_SCHEMA}
 
 -- where a statement ran, what it wrote
 pub on_ran : {E : Type 0} (r : Result (Unit {0}) E) (P : ℕ → Type 0) (Q : Type 0) → OnOk r ((count : ℕ) × P count) → ((count : ℕ) → P count → Q) → OnOk r Q

@@ -1,21 +1,11 @@
 -- A store is moved: a transaction that moves its tables, and a commit.
 use Rattle.std.proofs.Common.{◌≡◌, ◌≢◌, inl, inr, ℕ, true, false, None, Result, Ok, Err, IsTrue, refl, sym, subst, ◌∙◌, arith}
-use Rattle.std.specs.FinMap.{get}
-use Rattle.sqlite.specs.Tree.{Trees}
-use Rattle.sqlite.specs.State.{State, HasCleanDisk, IsRolledBack, Shows, Survives}
+use Rattle.pawn_move.specs.Common.{get, HasCleanDisk, IsRolledBack, Shows, State, Survives, Trees, Host, HasUnsoundBook, KeepError, NoRecord, IsLent, StandForOne, HoldHost, StandsFor, OpensAs}
 use Rattle.sqlite.specs.Steps.{FailsToCommit}
 use Rattle.sqlite.specs.declared.error.Error.{Error}
 use Rattle.sqlite.proofs.StateLemmas.{survives_then}
-use Rattle.pawn_book.specs.HostStep.{Host}
-use Rattle.pawn_book.specs.Sound.{HasUnsoundBook}
-use Rattle.pawn_book.specs.declared.fault.KeepError.{KeepError}
 use Rattle.pawn_book.specs.declared.fault.KeepError.TheVariants as Keeper
-use Rattle.pawn_book.specs.declared.fault.StoreFault.TheVariants.{NoRecord}
-use Rattle.one_table.specs.Lending.{IsLent}
 use Rattle.pawn_opening.proofs.Begun.{IsBegun, held, opens_as, rolled_back}
-use Rattle.pawn_opening.specs.Opened.{OpensAs}
-use Rattle.pawn_tables.specs.OneHost.{StandForOne}
-use Rattle.pawn_tables.specs.StandsFor.{StandsFor, HoldHost}
 use Rattle.pawn_move.proofs.Filled.{untold}
 use Rattle.pawn_move.proofs.Reading.{handed}
 use Rattle.pawn_move.specs.Migrating.{HoldMoved, MovesStore, MovesStoreOwed}

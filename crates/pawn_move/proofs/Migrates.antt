@@ -1,26 +1,11 @@
 -- A store tells its schema, and is moved where that is an older one.
 use Rattle.std.proofs.Common.{◌≡◌, ◌==◌, ◌⊎◌, inl, inr, ℕ, Bool, true, false, Option, Some, None, Ok, Err, Result, IsTrue, refl, sym, subst, ◌∙◌, arith}
 use Rattle.std.proofs.lemmas.Bool.Decides.{nat_tests}
-use Rattle.std.specs.FinMap.{get}
-use Rattle.sqlite.specs.Effect.{Database as Tables}
-use Rattle.sqlite.specs.Tree.{Trees}
-use Rattle.sqlite.specs.State.{State, HasCleanDisk, Survives}
+use Rattle.pawn_move.specs.Common.{get, Tables, HasCleanDisk, State, Survives, Trees, BookValue, Host, HasUnsoundBook, KeepError, Database, NoRecord, Finds, StandForOne, HoldHost, StandsFor, HoldGained, IndexesStore, IsAsBefore, OpensAs, NotesSchema, OpenFault}
 use Rattle.sqlite.proofs.StateLemmas.{survives_then, survives_weaker}
-use Rattle.pawn_book.specs.BookStep.{BookValue}
-use Rattle.pawn_book.specs.HostStep.{Host}
-use Rattle.pawn_book.specs.Sound.{HasUnsoundBook}
-use Rattle.pawn_book.specs.declared.fault.KeepError.{KeepError}
 use Rattle.pawn_book.specs.declared.fault.KeepError.TheVariants as Keeper
-use Rattle.pawn_book.specs.declared.fault.StoreFault.TheVariants.{NoRecord, Database}
 use Rattle.pawn_opening.proofs.Begun.{held, opens_as}
 use Rattle.pawn_opening.proofs.Gained.{gains_stands}
-use Rattle.pawn_opening.specs.declared.fault.OpenFault.{OpenFault}
-use Rattle.pawn_opening.specs.Indexing.{HoldGained}
-use Rattle.pawn_opening.specs.Opened.{IndexesStore, IsAsBefore, OpensAs}
-use Rattle.pawn_opening.specs.Refusing.{NotesSchema}
-use Rattle.pawn_tables.specs.Finding.{Finds}
-use Rattle.pawn_tables.specs.OneHost.{StandForOne}
-use Rattle.pawn_tables.specs.StandsFor.{StandsFor, HoldHost}
 use Rattle.pawn_move.proofs.ToldSchema.{third_is_ours}
 use Rattle.pawn_move.specs.declared.fault.MoveFault.{MoveFault}
 use Rattle.pawn_move.specs.declared.fault.MoveFault.TheVariants.{NotOurs, NewerSchema, Damaged, Store, Memory}

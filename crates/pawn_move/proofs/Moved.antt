@@ -1,36 +1,12 @@
 -- Tables of an older schema, moved to the program's.
-use Rattle.std.proofs.Common.{◌≡◌, ◌++◌, ℕ, List, [], Some, None, Result, Ok, Err, OnOk, Bool, true, false, IsTrue, refl, sym, ap, subst, ◌∙◌, arith, append-nil}
-use Rattle.std.proofs.Common.{T, flat_map, ◌∷◌}
-use Rattle.std.specs.FinMap.{entries, entries_sorted, get, get-entries, is_sorted, find as find_key}
-use Rattle.std.specs.Ordering.{nat_cmp}
-use Rattle.std.specs.Prelude.{◌≢◌}
-use Rattle.pawn_pledge.specs.Pledge.{PledgeValue}
-use Rattle.pawn_pledge.specs.Replayable.{Each}
-use Rattle.pawn_book.specs.BookStep.{BookValue}
-use Rattle.pawn_tables.specs.Schema.{extensions, first_schema, second_schema, extensions_tree}
-use Rattle.pawn_tables.specs.Rows.{extension_cells, extensions_listed, number_in_book, placed_from, under}
-use Rattle.one_table.specs.Listing.{Holds}
+use Rattle.std.proofs.Common.{◌≡◌, ◌++◌, ℕ, List, [], Some, None, Result, Ok, Err, OnOk, Bool, true, false, IsTrue, refl, sym, ap, subst, ◌∙◌, arith, append-nil, T, flat_map, ◌∷◌}
+use Rattle.pawn_move.specs.Common.{◌≢◌, entries, entries_sorted, find_key, get, get-entries, is_sorted, nat_cmp, Tables, Row, HasCleanDisk, State, PledgeValue, Each, BookValue, Host, HasUnsoundBook, KeepError, NoRecord, IsLent, Rests, Holds, Lists, with_rows, Finds, FindsOf, extension_cells, extensions_listed, number_in_book, placed_from, totals_listed, under, extensions, extensions_tree, first_schema, keep_schema, second_schema, StandsFor, of_pledges, IsCarried, AddsTable}
 use Rattle.pawn_move.proofs.Filled.{firsts, untold}
 use Rattle.pawn_move.proofs.Reading.{handed}
 use Rattle.pawn_move.proofs.BooksUpTo.{Entry, below_key, here_found, low, past_head}
-use Rattle.sqlite.specs.Order.{Row}
-use Rattle.sqlite.specs.Effect.{Database as Tables}
-use Rattle.sqlite.specs.State.{State, HasCleanDisk}
-use Rattle.pawn_book.specs.HostStep.{Host}
-use Rattle.pawn_book.specs.Sound.{HasUnsoundBook}
-use Rattle.pawn_book.specs.declared.fault.KeepError.{KeepError}
 use Rattle.pawn_book.specs.declared.fault.KeepError.TheVariants as Keeper
-use Rattle.pawn_book.specs.declared.fault.StoreFault.TheVariants.{NoRecord}
-use Rattle.one_table.specs.Lending.{IsLent, Rests}
-use Rattle.one_table.specs.Listing.{Lists, with_rows}
 use Rattle.one_table.proofs.Lent.{clean_before}
-use Rattle.pawn_saving.specs.Writing.{IsCarried}
 use Rattle.pawn_saving.proofs.RowsInOrder.{past}
-use Rattle.pawn_tables.specs.Finding.{Finds, FindsOf}
-use Rattle.pawn_tables.specs.Rows.{totals_listed}
-use Rattle.pawn_tables.specs.Schema.{keep_schema}
-use Rattle.pawn_tables.specs.StandsFor.{StandsFor, of_pledges}
-use Rattle.pawn_opening.specs.Laying.{AddsTable}
 use Rattle.pawn_move.specs.Moving.{AreAllOwed, IsMoving, ListFirstDebts, Moves, MovesOwed, NotesProgram, PutsAll, listed_with}
 use Rattle.pawn_move.specs.StandsUnder.{HasNoExtension, StandsUnder}
 

@@ -1,24 +1,10 @@
 -- What was owed on a pledge, by what was read of it.
 use Rattle.std.proofs.Common.{◌≡◌, ℕ, [], ◌∷◌, List, Option, Some, None, Ok, IsTrue, refl, sym, ap, ◌∙◌}
-use Rattle.std.specs.Prelude.{option_map, is_some, true}
-use Rattle.std.specs.FinMap.{get}
-use Rattle.sqlite.specs.State.{State, HasCleanDisk}
+use Rattle.pawn_move.specs.Common.{is_some, option_map, true, get, HasCleanDisk, State, totals_of, Totals, PledgeValue, debt_of, pledge_in, Host, entries_of, terms_of, IsUnsoundAt, IsLent, Rests, FindsOf, credit_told, totals_in, totals_cells, totals_listed, under, AreBooksOrdered, ListDebts}
 use Rattle.pawn_terms.specs.declared.terms.Rates.{Rates}
 use Rattle.pawn_debt.specs.declared.entry.Entry.{Entry}
-use Rattle.pawn_debt.specs.declared.owing.Totals.{Totals}
-use Rattle.pawn_debt.specs.Kept.{totals_of}
-use Rattle.pawn_pledge.specs.Pledge.{PledgeValue, debt_of}
-use Rattle.pawn_book.specs.BookStep.{pledge_in}
-use Rattle.pawn_book.specs.HostStep.{Host}
-use Rattle.pawn_book.specs.Keeping.{entries_of, terms_of}
 use Rattle.pawn_book.specs.Rows.{terms_at}
-use Rattle.pawn_book.specs.Sound.{IsUnsoundAt}
-use Rattle.one_table.specs.Lending.{IsLent, Rests}
 use Rattle.one_table.proofs.Lent.{clean_before}
-use Rattle.pawn_tables.specs.Finding.{FindsOf}
-use Rattle.pawn_tables.specs.Rows.{totals_cells, totals_listed, under}
-use Rattle.pawn_tables.specs.StandsFor.{AreBooksOrdered, ListDebts}
-use Rattle.pawn_tables.specs.PledgeRows.{credit_told, totals_in}
 use Rattle.pawn_tables.specs.declared.credits.Credit.{Credit}
 use Rattle.pawn_tables.proofs.PledgeReads.{holds_in, number_in, under_in}
 use Rattle.pawn_move.specs.Moving.{ListFirstDebts, rows_if_any}

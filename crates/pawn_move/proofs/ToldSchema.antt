@@ -1,26 +1,14 @@
 -- Tables that stand for a host under a schema note its number, and it is told.
 use Rattle.std.proofs.Common.{◌≡◌, ◌==◌, inl, inr, ℕ, Bool, true, false, Option, Some, None, Ok, Err, Result, IsTrue, refl, sym, ap, subst, ◌∙◌, arith}
-use Rattle.std.specs.Prelude.{IfErr, IfOk, IfSome}
+use Rattle.pawn_move.specs.Common.{IfErr, IfOk, IfSome, everything, listing_schema, understood, State, Host, rows, Holds, notes, with_indexes, first_schema, meta, meta_tree, second_schema, READ_SCHEMA, TellsSchema, IsEmptyStore, IsNoted, NotesNoSchema, NotesSchema, OpenFault}
 use Rattle.sqlite.specs.Effect.{Database}
-use Rattle.sqlite.specs.Listing.{listing_schema, understood}
-use Rattle.sqlite.specs.State.{State}
-use Rattle.sqlite_tied.specs.Compute.{everything}
-use Rattle.pawn_book.specs.HostStep.{Host, rows}
-use Rattle.one_table.specs.Listing.{Holds}
-use Rattle.pawn_opening.specs.declared.fault.OpenFault.{OpenFault}
-use Rattle.pawn_opening.specs.Opened.{TellsSchema}
 use Rattle.sqlite_resolve.specs.declared.compiled.Compiled.{Compiled}
 use Rattle.sqlite_resolve.specs.declared.error.CompileError.{CompileError}
 use Rattle.one_table.specs.Columns.{no_schema}
-use Rattle.pawn_tables.specs.declared.texts.TheConstants.{READ_SCHEMA}
-use Rattle.pawn_opening.specs.Refusing.{IsEmptyStore, IsNoted, NotesNoSchema, NotesSchema}
 use Rattle.pawn_opening.proofs.Ours as ours
 use Rattle.pawn_saving.proofs.Hosting.{as_lists, as_stands}
-use Rattle.pawn_tables.specs.Meta.{notes}
 use Rattle.sqlite.specs.Schema.{Schema}
 use Rattle.pawn_saving.proofs.OurTables.{with_tables}
-use Rattle.pawn_tables.specs.Ours.{with_indexes}
-use Rattle.pawn_tables.specs.Schema.{first_schema, second_schema, meta, meta_tree}
 use Rattle.pawn_move.specs.declared.fault.MoveFault.{MoveFault}
 use Rattle.pawn_move.specs.declared.fault.MoveFault.TheVariants.{NotOurs, NewerSchema, Damaged, Store, Memory}
 use Rattle.pawn_move.specs.Migrating.{IsFailure, IsNumberJudged, IsMoveTold, IsNotOurs, IsUntellable, TellsNumber}

@@ -1,3 +1,4 @@
+pub mod Common
 pub mod Migrating
 pub mod Moving
 pub mod StandsUnder

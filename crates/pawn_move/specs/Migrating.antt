@@ -1,20 +1,8 @@
 -- What is found of a store's schema, and how a store of an older one is moved to the program's.
 use Rattle.std.specs.Prelude.{◌≡◌, ◌⊎◌, ◌<◌, false, ℕ, Option, Some, None, IsTrue, Result, Ok, Err, IfErr, IfOk, OnErr, OnOk}
-use Rattle.std.specs.FinMap.{get}
-use Rattle.sqlite.specs.Effect.{Database as Tables}
-use Rattle.sqlite.specs.Tree.{Trees}
-use Rattle.sqlite.specs.State.{State, HasCleanDisk, Survives}
-use Rattle.pawn_book.specs.HostStep.{Host}
-use Rattle.pawn_book.specs.Sound.{HasUnsoundBook}
-use Rattle.pawn_book.specs.declared.fault.KeepError.{KeepError}
+use Rattle.pawn_move.specs.Common.{get, Tables, HasCleanDisk, State, Survives, Trees, Host, HasUnsoundBook, KeepError, Database, NoRecord, Finds, HoldHost, IsAsBefore, OpensAs, IsEmptyStore, NotesNoSchema, NotesSchema, OpenFault}
 use Rattle.pawn_book.specs.declared.fault.KeepError.TheVariants as Keeper
-use Rattle.pawn_book.specs.declared.fault.StoreFault.TheVariants.{NoRecord, Database}
-use Rattle.pawn_opening.specs.Opened.{IsAsBefore, OpensAs}
-use Rattle.pawn_opening.specs.declared.fault.OpenFault.{OpenFault}
 use Rattle.pawn_opening.specs.declared.fault.OpenFault.TheVariants as Opening
-use Rattle.pawn_opening.specs.Refusing.{IsEmptyStore, NotesNoSchema, NotesSchema}
-use Rattle.pawn_tables.specs.Finding.{Finds}
-use Rattle.pawn_tables.specs.StandsFor.{HoldHost}
 use Rattle.pawn_move.specs.declared.fault.MoveFault.{MoveFault}
 use Rattle.pawn_move.specs.declared.fault.MoveFault.TheVariants.{NotOurs, NewerSchema, Damaged, Store, Memory}
 use Rattle.pawn_move.specs.Moving.{AreAllOwed}

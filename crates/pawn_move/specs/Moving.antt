@@ -1,26 +1,8 @@
 -- Tables on their way from an older schema.
 use Rattle.std.specs.Prelude.{◌≡◌, ◌++◌, ℕ, Bool, [], List, OnOk, Option, Some, None, IfSome, IsTrue, Result, flat_map, is_some}
-use Rattle.std.specs.FinMap.{get}
-use Rattle.sqlite.specs.Order.{Row}
-use Rattle.sqlite.specs.Effect.{Database as Tables}
-use Rattle.sqlite.specs.State.{State, HasCleanDisk}
+use Rattle.pawn_move.specs.Common.{get, Tables, Row, HasCleanDisk, State, Totals, PledgeValue, debt_of, Each, BookValue, pledge_in, Host, IsNextBook, pledges_of, HasUnsoundBook, KeepError, Listed, with_rows, Finds, ListsOurs, totals_in, totals_listed, extensions_tree, totals_tree, AreBooksOrdered, AreStorable, ListDebts, StandsFor, of_pledges}
 use Rattle.pawn_terms.specs.Terms.{IsChecked}
 use Rattle.pawn_debt.specs.Replay.{CanStand}
-use Rattle.pawn_debt.specs.declared.owing.Totals.{Totals}
-use Rattle.pawn_pledge.specs.Pledge.{PledgeValue, debt_of}
-use Rattle.pawn_pledge.specs.Replayable.{Each}
-use Rattle.pawn_book.specs.BookStep.{BookValue, pledge_in}
-use Rattle.pawn_book.specs.HostStep.{Host}
-use Rattle.pawn_book.specs.Keeping.{IsNextBook, pledges_of}
-use Rattle.pawn_book.specs.Sound.{HasUnsoundBook}
-use Rattle.pawn_book.specs.declared.fault.KeepError.{KeepError}
-use Rattle.one_table.specs.Listing.{Listed, with_rows}
-use Rattle.pawn_tables.specs.Finding.{Finds}
-use Rattle.pawn_tables.specs.Rows.{totals_listed}
-use Rattle.pawn_tables.specs.Ours.{ListsOurs}
-use Rattle.pawn_tables.specs.Schema.{extensions_tree, totals_tree}
-use Rattle.pawn_tables.specs.PledgeRows.{totals_in}
-use Rattle.pawn_tables.specs.StandsFor.{AreBooksOrdered, AreStorable, ListDebts, StandsFor, of_pledges}
 use Rattle.pawn_move.specs.StandsUnder.{HasNoExtension, StandsUnder, listed_under}
 
 -- the rows of a host by their tree, with this number of a schema, these rows of totals, and no rows of extensions

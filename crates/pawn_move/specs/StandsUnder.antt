@@ -1,16 +1,8 @@
 -- When tables of an older schema, or of the program's, stand for a host.
 use Rattle.std.specs.Prelude.{◌≡◌, ◌≤◌, ◌<◌, ◌==◌, ℕ, Bool, true, false, [], Some}
-use Rattle.std.specs.FinMap.{get}
+use Rattle.pawn_move.specs.Common.{get, Each, BookValue, Host, rows, Listed, Lists, with_rows, notes, ListsOurs, first_schema, meta_tree, second_schema, AreBooksOrdered, AreStorable, StandsFor}
 use Rattle.sqlite.specs.Effect.{Database}
-use Rattle.pawn_pledge.specs.Replayable.{Each}
-use Rattle.pawn_book.specs.BookStep.{BookValue}
-use Rattle.pawn_book.specs.HostStep.{Host, rows}
-use Rattle.one_table.specs.Listing.{Lists, Listed, with_rows}
 use Rattle.pawn_saving.specs.Counted.{listed_as}
-use Rattle.pawn_tables.specs.Meta.{notes}
-use Rattle.pawn_tables.specs.Ours.{ListsOurs}
-use Rattle.pawn_tables.specs.Schema.{first_schema, second_schema, meta_tree}
-use Rattle.pawn_tables.specs.StandsFor.{AreBooksOrdered, AreStorable, StandsFor}
 
 -- the number of a schema; the program's is the third
 abbrev pub IsSchema : ℕ → Type 0

@@ -1,10 +1,5 @@
 ghost use Rattle.std.specs.Prelude.{◌≡◌, None, is_ok};
-ghost use Rattle.std.specs.FinMap.{get};
-ghost use Rattle.sqlite.specs.Held.{state};
-ghost use Rattle.pawn_book.specs.Sound.{HasUnsoundBook, IsUnsoundAt};
-ghost use Rattle.one_table.specs.Lending.{Lends};
-ghost use Rattle.pawn_saving.specs.Writing.{IsCarried};
-ghost use Rattle.pawn_tables.specs.Finding.{FindsOf};
+ghost use Rattle.pawn_move.specs.Common.{get, state, HasUnsoundBook, IsUnsoundAt, Lends, FindsOf, IsCarried};
 ghost use Rattle.pawn_move.specs.Moving.{AreAllOwed, AreOwedIn, IsJudgedAt, IsNextJudged, ListFirstDebts};
 
 use crate::debts::totals_for;

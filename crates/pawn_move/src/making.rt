@@ -1,11 +1,6 @@
 ghost use Rattle.std.specs.Prelude.{◌≢◌, Ok, Err, is_ok};
-ghost use Rattle.sqlite.specs.Held.{state};
+ghost use Rattle.pawn_move.specs.Common.{state, NoRecord, Lends, extensions_tree, first_schema, keep_schema, second_schema, totals_tree, AddsIndexes, AddsTable};
 ghost use Rattle.pawn_book.specs.declared.fault.KeepError.TheVariants as Keeper;
-ghost use Rattle.pawn_book.specs.declared.fault.StoreFault.TheVariants.{NoRecord};
-ghost use Rattle.one_table.specs.Lending.{Lends};
-ghost use Rattle.pawn_tables.specs.Schema.{first_schema, second_schema, keep_schema, extensions_tree, totals_tree};
-ghost use Rattle.pawn_opening.specs.Indexing.{AddsIndexes};
-ghost use Rattle.pawn_opening.specs.Laying.{AddsTable};
 ghost use Rattle.pawn_move.specs.Moving.{NotesProgram};
 
 use pawn_book::KeepError;

@@ -1,6 +1,5 @@
 ghost use Rattle.std.specs.Prelude.{◌≡◌, ◌⊎◌, false, is_ok};
-ghost use Rattle.sqlite.specs.Held.{state};
-ghost use Rattle.one_table.specs.Lending.{Lends};
+ghost use Rattle.pawn_move.specs.Common.{state, Lends};
 ghost use Rattle.pawn_move.specs.Migrating.{Migrates, MigratesOwed, MovesStore, MovesStoreOwed};
 ghost use Rattle.pawn_move.specs.Moving.{Moves, MovesOwed};
 

@@ -1,15 +1,8 @@
 -- A transaction that begins, and what is left once it is rolled back.
 use Rattle.std.proofs.Common.{◌≡◌, inl, true, false, Bool, IsTrue, refl, sym, ap, subst, ◌∙◌, arith}
 use Rattle.sqlite_trees.specs.declared.store.Store.{Ghosts}
-use Rattle.sqlite.specs.Effect.{Database}
-use Rattle.sqlite.specs.Tree.{Trees}
-use Rattle.sqlite.specs.State.{State, HasCleanDisk, IsLive, IsRolledBack, Survives}
-use Rattle.sqlite.specs.Held.{Held, state}
-use Rattle.one_table.specs.Lending.{IsLent}
+use Rattle.pawn_opening.specs.Common.{Database, Held, state, HasCleanDisk, IsLive, IsRolledBack, State, Survives, Trees, Host, IsLent, StandForOne, HoldHost, StandsFor}
 use Rattle.one_table.proofs.Parts.{rests_open, committed_rests}
-use Rattle.pawn_book.specs.HostStep.{Host}
-use Rattle.pawn_tables.specs.StandsFor.{StandsFor, HoldHost}
-use Rattle.pawn_tables.specs.OneHost.{StandForOne}
 use Rattle.pawn_opening.specs.Opened.{IsAsBefore, OpensAs}
 
 -- of a live store at rest

@@ -1,23 +1,11 @@
 -- What CREATE TABLE makes of empty tables.
 use Rattle.std.proofs.Common.{◌≡◌, ℕ, List, [], ◌∷◌, map, Bool, true, false, None, Ok, Err, Result, OnOk, IsTrue, refl, sym, ap, subst, ◌∙◌, IsPermutation}
-use Rattle.std.specs.List.{AllByRecursion}
+use Rattle.pawn_opening.specs.Common.{AllByRecursion, KeepsRows, created, next_tree, CreateTable, Tally, lacks_sequence, Database, IsDatabase, Schema, Executes, HasCleanDisk, State, Writes, Table, Trees, IsLent, Holds, IsNumbered, Listed, Lists, columns_of, with_rows, extensions, extensions_tree, first_schema, keep_schema, second_schema, totals, totals_tree}
 use Rattle.std.proofs.lemmas.List.Sorted.{IsPermutation-refl}
-use Rattle.sqlite.specs.Command.TheVariants.{CreateTable}
-use Rattle.sqlite.specs.Change.{created, next_tree}
-use Rattle.sqlite.specs.Does.{Tally, lacks_sequence}
-use Rattle.sqlite.specs.Table.{Table}
-use Rattle.sqlite.specs.Tree.{Trees}
-use Rattle.sqlite.specs.Schema.{Schema}
-use Rattle.sqlite.specs.Effect.{Database, IsDatabase}
-use Rattle.sqlite.specs.State.{State, HasCleanDisk, Writes, Executes}
-use Rattle.sqlite_catalog.specs.Change.{KeepsRows}
 use Rattle.sqlite_trees.proofs.ListLemmas.{all-append}
 use Rattle.sqlite.proofs.Callers.{runs_as}
-use Rattle.one_table.specs.Lending.{IsLent}
-use Rattle.one_table.specs.Listing.{Holds, IsNumbered, Listed, Lists, columns_of, with_rows}
 use Rattle.one_table.proofs.Insertion.{went, same_value}
 use Rattle.one_table.proofs.Lent.{clean_before}
-use Rattle.pawn_tables.specs.Schema.{extensions, first_schema, keep_schema, second_schema, totals, extensions_tree, totals_tree}
 use Rattle.pawn_opening.specs.Laying.{AddsTable, AreEmpty, Makes, no_rows}
 use Rattle.pawn_opening.proofs.TableTexts.{IsCreation, extensions_is, MAKE_EXTENSIONS, totals_is, MAKE_TOTALS}
 

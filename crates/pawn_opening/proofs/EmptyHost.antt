@@ -2,16 +2,10 @@
 use Rattle.std.proofs.Common.{◌≡◌, ℕ, List, [], ◌∷◌, map, flat_map, length, codes, Some, refl, sym, subst, ◌∙◌, arith, sum_by}
 use Rattle.std.specs.FinMap.{entries, get, empty, get-empty, len-empty, len-entries}
 use Rattle.std.specs.Ordering.{nat_cmp}
-use Rattle.sqlite.specs.Effect.{Database}
-use Rattle.one_table.specs.Listing.{Lists, Listed, with_rows, Holds}
+use Rattle.pawn_opening.specs.Common.{Database, book_rows, Holds, Listed, Lists, with_rows, meta_row, meta_rows, bookings, bookings_tree, books, books_tree, entries_table, entries_tree, extensions, extensions_tree, keep_schema, meta, meta_tree, pledges, pledges_tree, secrets, secrets_tree, terms, terms_tree, totals, totals_tree, StandsFor}
 use Rattle.pawn_book.specs.BookStep.{BookValue}
-use Rattle.pawn_book.specs.HostStep.{book_rows}
-use Rattle.pawn_tables.specs.Meta.{meta_row, meta_rows}
-use Rattle.pawn_tables.specs.Schema.{keep_schema, books, terms, pledges, entries as entries_table, secrets, bookings, meta, totals, extensions, books_tree, terms_tree, pledges_tree, entries_tree, secrets_tree, bookings_tree, meta_tree, totals_tree, extensions_tree}
 use Rattle.pawn_tables.specs.Rows.{book_row, terms_listed, pledge_listed, entries_listed, secrets_listed, booking_listed, totals_listed, extensions_listed}
-use Rattle.pawn_tables.specs.StandsFor.{StandsFor}
-use Rattle.pawn_opening.specs.Laying.{no_rows}
-use Rattle.pawn_opening.specs.Opened.{empty_host}
+use Rattle.pawn_opening.specs.Stores.{no_rows, empty_host}
 
 no_elements : {A : Type 0} (xs : List A) → length xs ≡ 0 → xs ≡ []
 no_elements [] h = refl

@@ -1,18 +1,8 @@
 -- An empty store, table by table, note by note, and then its indexes.
 use Rattle.std.proofs.Common.{ℕ, true, [], ◌∷◌, codes, Result, OnOk, Ok, Err, refl}
-use Rattle.std.specs.Prelude.{is_ok}
-use Rattle.sqlite.specs.declared.error.Error.{Error}
-use Rattle.sqlite.specs.State.{State}
-use Rattle.one_table.specs.Columns.{no_schema}
-use Rattle.one_table.specs.Lending.{IsLent}
-use Rattle.one_table.specs.Listing.{with_rows}
+use Rattle.pawn_opening.specs.Common.{is_ok, State, Error, no_schema, IsLent, with_rows, meta_row, keep_schema, StandsFor}
 use Rattle.one_table.proofs.Lent.{clean_before}
-use Rattle.pawn_tables.specs.Meta.{meta_row}
-use Rattle.pawn_tables.specs.Schema.{keep_schema}
-use Rattle.pawn_tables.specs.StandsFor.{StandsFor}
-use Rattle.pawn_opening.specs.Indexing.{AddsIndexes, GainsIndexes}
-use Rattle.pawn_opening.specs.Laying.{Makes, Notes, no_rows}
-use Rattle.pawn_opening.specs.Opened.{Fills, empty_host}
+use Rattle.pawn_opening.specs.Stores.{AddsIndexes, GainsIndexes, Makes, Notes, no_rows, Fills, empty_host}
 use Rattle.pawn_opening.proofs.EmptyHost.{stands_empty}
 use Rattle.pawn_opening.proofs.Gained.{gains_stands}
 

@@ -1,43 +1,19 @@
 -- What an open finds in files.
 use Rattle.std.proofs.Common.{◌≡◌, ◌⊎◌, ℕ, inl, inr, false, [], Err, refl, sym, ap, subst, ◌∙◌, arith}
-use Rattle.sqlite_disk.specs.declared.Disk.{Ghosts}
-use Rattle.sqlite_disk.specs.declared.Files.{Files}
-use Rattle.sqlite_store.specs.declared.store.FileStore.{FileStore}
-use Rattle.sqlite_store.specs.FileStore.{faults, is_shielded, recovers, view}
+use Rattle.pawn_opening.specs.Common.{MoreFaults, Ghosts, Files, faults, is_shielded, recovers, view, FileStore, catalog_tree, IsClean, IsQuiet, doubt, StoreError, Image, Database, IsDatabase, ExcusesClose, FailsToClose, Finds, IsCleanLeft, IsClosed, file_state, image_of, Held, Schema, HasCleanDisk, IsLive, Opens, State, store_error, Trees, Error, SqliteFailure, Host, no_schema, HoldHost, StandsFor}
 use Rattle.sqlite_trees.proofs.Doubt.{no_doubt}
-use Rattle.sqlite_disk.specs.Disk.{MoreFaults}
-use Rattle.sqlite_trees.specs.View.{IsClean, IsQuiet, doubt}
-use Rattle.sqlite_trees.specs.declared.error.StoreError.{StoreError}
 use Rattle.sqlite_trees.specs.declared.error.StoreError.TheVariants as stored
 use Rattle.sqlite.specs.declared.file.Leftover.TheVariants as left
-use Rattle.sqlite.specs.declared.error.Error.{Error}
-use Rattle.sqlite.specs.declared.error.Error.TheVariants.{SqliteFailure}
 use Rattle.sqlite.specs.declared.error.ErrorCode.TheVariants as code
-use Rattle.sqlite.specs.State.{HasCleanDisk, IsLive, Opens, State, store_error}
-use Rattle.sqlite_trees.specs.Objects.{catalog_tree}
 use Rattle.sqlite_catalog.specs.Listing.{IsSound}
 use Rattle.sqlite_catalog.proofs.ReadLemmas.{lists_once}
 use Rattle.sqlite.proofs.ListingLemmas.{empty_is_sound}
 use Rattle.std.proofs.Math.Logic.{∥∥₁_elim}
 use Rattle.sqlite_trees.specs.Props.{Trees-set}
-use Rattle.sqlite.specs.Effect.{Database, IsDatabase}
-use Rattle.sqlite.specs.Files.{ExcusesClose, FailsToClose, Finds, IsCleanLeft, IsClosed, file_state, image_of}
 use Rattle.sqlite.specs.Start.{FindsIn}
 use Rattle.sqlite.specs.Closing.{HoldsAlone, IsCopied}
-use Rattle.sqlite_wal.specs.Recovery.{Image}
-use Rattle.sqlite.specs.Held.{Held}
-use Rattle.sqlite.specs.Schema.{Schema}
-use Rattle.sqlite.specs.Tree.{Trees}
-use Rattle.one_table.specs.Columns.{no_schema}
-use Rattle.pawn_book.specs.HostStep.{Host}
-use Rattle.pawn_tables.specs.StandsFor.{StandsFor, HoldHost}
 use Rattle.pawn_opening.proofs.Begun.{held}
-use Rattle.pawn_opening.specs.Closed.{AreClosedFor, HasCommitted, IsLeftUnclosed, StandsAlone}
-use Rattle.pawn_opening.specs.FilesStand.{HoldsIn, IsBlank, IsRefusedStore, OpensFound, StandsIn}
-use Rattle.pawn_opening.specs.declared.fault.OpenFault.{OpenFault}
-use Rattle.pawn_opening.specs.Indexing.{GainsIndexes}
-use Rattle.pawn_opening.specs.Opened.{AreMadeOf, IsOpenable, Prepares}
-use Rattle.pawn_opening.specs.Refusing.{IsEmptyStore, IsRefusedFor, IsStoreFault, NotesSchema}
+use Rattle.pawn_opening.specs.Stores.{AreClosedFor, HasCommitted, IsLeftUnclosed, StandsAlone, HoldsIn, IsBlank, IsRefusedStore, OpensFound, StandsIn, GainsIndexes, AreMadeOf, IsOpenable, Prepares, IsEmptyStore, IsRefusedFor, IsStoreFault, NotesSchema, OpenFault}
 use Rattle.pawn_opening.specs.declared.fault.OpenFault.TheVariants as Fault
 
 -- the trees list one schema

@@ -1,18 +1,6 @@
 -- What a database that has gained indexes stands for.
 use Rattle.std.proofs.Common.{◌≡◌, ◌++◌, List, [], ◌∷◌, false, refl, sym, ap, subst, ◌∙◌, append-nil, append_assoc, ℕ}
-use Rattle.std.specs.List.{AllByRecursion}
-use Rattle.sqlite.specs.Effect.{Database, IsDatabase}
-use Rattle.sqlite.specs.Order.{Row}
-use Rattle.sqlite.specs.Schema.{Schema}
-use Rattle.sqlite.specs.Table.{Table}
-use Rattle.sqlite.specs.Tree.{Trees}
-use Rattle.sqlite_catalog.specs.Change.{KeepsRows}
-use Rattle.sqlite_schema.specs.declared.schema.Index.{Index}
-use Rattle.one_table.specs.Listing.{Holds, IsNumbered, Listed, columns_of}
-use Rattle.pawn_book.specs.HostStep.{Host}
-use Rattle.pawn_tables.specs.Ours.{AreLoose, ListsOurs, with_indexes}
-use Rattle.pawn_tables.specs.Schema.{keep_schema}
-use Rattle.pawn_tables.specs.StandsFor.{StandsFor}
+use Rattle.pawn_opening.specs.Common.{AllByRecursion, KeepsRows, Index, Database, IsDatabase, Row, Schema, Table, Trees, Host, Holds, IsNumbered, Listed, columns_of, AreLoose, ListsOurs, with_indexes, keep_schema, StandsFor}
 use Rattle.pawn_opening.specs.Indexing.{GainsIndexes}
 
 loose_both : (xs ys : List Index) → AreLoose xs → AreLoose ys → AreLoose (xs ++ ys)

@@ -1,33 +1,18 @@
 -- What CREATE INDEX makes of tables, whatever their schema is.
 use Rattle.std.proofs.Common.{◌≡◌, ℕ, ◌+◌, List, [], ◌∷◌, Bool, true, false, Option, None, Some, Ok, Err, Result, OnOk, refl, sym, ap, subst, ◌∙◌, slice_get, slice_range}
-use Rattle.std.specs.Prelude.{if◌then◌else◌, is_some}
+use Rattle.pawn_opening.specs.Common.{if◌then◌else◌, is_some, KeepsRows, command, compiled, create_index, creates, first, index_in, is_reserved, meaning, planned, returning, small, target, timed, with_command, Compiled, CompileError, Index, everything, indexed, index_defined_by, AtPlace, Does, Tally, Database, IsDatabase, if_select, is_select, listing_schema, reads_listing, understood, Schema, Executes, ExecutesIn, State, Writes, mode_of, text_of, Table, IsLent}
 use Rattle.std.specs.Option.{option_or}
-use Rattle.sqlite.specs.Change.{indexed}
-use Rattle.sqlite.specs.Compile.{index_defined_by}
-use Rattle.sqlite.specs.Does.{AtPlace, Does, Tally}
-use Rattle.sqlite.specs.Effect.{Database, IsDatabase}
-use Rattle.sqlite.specs.Listing.{understood, reads_listing, if_select, is_select, listing_schema}
-use Rattle.sqlite.specs.Schema.{Schema}
-use Rattle.sqlite.specs.State.{State, Executes, ExecutesIn, Writes, mode_of, text_of}
-use Rattle.sqlite.specs.Table.{Table}
 use Rattle.sqlite.proofs.Callers.{IsPlain, command_of, runs_as, statement_of}
 use Rattle.sqlite_ast.specs.declared.CreateIndex.{CreateIndex}
 use Rattle.sqlite_ast.specs.declared.Statement.TheVariants as written
-use Rattle.sqlite_catalog.specs.Change.{KeepsRows}
-use Rattle.sqlite_resolve.specs.Compile.{compiled, planned, meaning, first, returning, timed, command, small, create_index, creates, is_reserved, target, with_command, index_in}
 use Rattle.sqlite_resolve.specs.Body.{table_at}
 use Rattle.sqlite_resolve.specs.Define as define
 use Rattle.sqlite_resolve.specs.Lowering.{and_then}
-use Rattle.sqlite_resolve.specs.declared.compiled.Compiled.{Compiled}
-use Rattle.sqlite_resolve.specs.declared.error.CompileError.{CompileError}
 use Rattle.sqlite_resolve.specs.declared.error.CompileError.TheVariants.{Exists, Misuse, NoSuchTable}
 use Rattle.sqlite_schema.specs.declared.command.Command.{Command}
 use Rattle.sqlite_schema.specs.declared.command.Command.TheVariants.{CreateIndex as MakeIndex, Nothing}
-use Rattle.sqlite_schema.specs.declared.schema.Index.{Index}
 use Rattle.sqlite_schema.specs.Names.{index_named, table_named, view_named}
 use Rattle.sqlite_syntax.specs.declared.statement.Parsed.{Parsed}
-use Rattle.sqlite_tied.specs.Compute.{everything}
-use Rattle.one_table.specs.Lending.{IsLent}
 use Rattle.one_table.proofs.Insertion.{went, same_value}
 use Rattle.one_table.proofs.Lent.{clean_before}
 use Rattle.pawn_opening.specs.Indexing.{AddsIndexes, GainsIndexes}

@@ -1,15 +1,8 @@
 -- A store gets the indexes that it lacks: a transaction that makes them, and a commit.
 use Rattle.std.proofs.Common.{◌≡◌, inl, inr, true, false, Ok, Err, IsTrue, refl, sym, subst, ◌∙◌, arith}
-use Rattle.sqlite.specs.Tree.{Trees}
-use Rattle.sqlite.specs.State.{State, HasCleanDisk, IsLive, IsRolledBack, Shows, Survives}
-use Rattle.sqlite.specs.Steps.{FailsToCommit}
-use Rattle.sqlite.specs.declared.error.Error.{Error}
+use Rattle.pawn_opening.specs.Common.{HasCleanDisk, IsLive, IsRolledBack, Shows, State, Survives, FailsToCommit, Trees, Error, IsLent}
 use Rattle.sqlite.proofs.StateLemmas.{survives_then}
-use Rattle.one_table.specs.Lending.{IsLent}
-use Rattle.pawn_opening.specs.declared.fault.OpenFault.{OpenFault}
-use Rattle.pawn_opening.specs.Indexing.{AddsIndexes, GainsIndexes, HoldGained}
-use Rattle.pawn_opening.specs.Opened.{IndexesStore}
-use Rattle.pawn_opening.specs.Refusing.{IsStoreFault}
+use Rattle.pawn_opening.specs.Stores.{AddsIndexes, GainsIndexes, HoldGained, IndexesStore, IsStoreFault, OpenFault}
 use Rattle.pawn_opening.proofs.Begun.{IsBegun, rolled_back}
 use Rattle.pawn_opening.proofs.Gained.{gains_none}
 

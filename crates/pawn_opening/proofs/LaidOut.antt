@@ -1,19 +1,8 @@
 -- An empty store is laid out: a transaction that fills it, and a commit.
 use Rattle.std.proofs.Common.{◌≡◌, inl, inr, ℕ, true, false, Ok, Err, IsTrue, refl, sym, ap, subst, ◌∙◌, arith}
-use Rattle.sqlite.specs.Effect.{Database, IsDatabase}
-use Rattle.sqlite.specs.Tree.{Trees}
-use Rattle.sqlite.specs.State.{State, HasCleanDisk, IsRolledBack, Shows, Survives}
-use Rattle.sqlite.specs.Steps.{FailsToCommit}
-use Rattle.sqlite.specs.declared.error.Error.{Error}
+use Rattle.pawn_opening.specs.Common.{Database, IsDatabase, HasCleanDisk, IsRolledBack, Shows, State, Survives, FailsToCommit, Trees, Error, no_schema, IsLent, StandForOne, HoldHost, StandsFor}
 use Rattle.sqlite.proofs.StateLemmas.{survives_then}
-use Rattle.one_table.specs.Columns.{no_schema}
-use Rattle.one_table.specs.Lending.{IsLent}
-use Rattle.pawn_tables.specs.StandsFor.{StandsFor, HoldHost}
-use Rattle.pawn_tables.specs.OneHost.{StandForOne}
-use Rattle.pawn_opening.specs.declared.fault.OpenFault.{OpenFault}
-use Rattle.pawn_opening.specs.Laying.{AreEmpty}
-use Rattle.pawn_opening.specs.Opened.{Fills, LaysOut, empty_host}
-use Rattle.pawn_opening.specs.Refusing.{IsEmptyStore, IsStoreFault}
+use Rattle.pawn_opening.specs.Stores.{AreEmpty, Fills, LaysOut, empty_host, IsEmptyStore, IsStoreFault, OpenFault}
 use Rattle.pawn_opening.proofs.Begun.{IsBegun, held, opens_as, rolled_back}
 
 module _ (old new begun lent : State) (limit : ℕ) (was : IsBegun old begun) (ended : new.in_transaction ≡ false) where

@@ -1,3 +1,4 @@
+pub mod Answering
 pub mod Begun
 pub mod Creating
 pub mod EmptyHost

@@ -1,20 +1,11 @@
 -- A row of what the store notes.
 use Rattle.std.proofs.Common.{◌≡◌, inl, inr, ℕ, pos, ◌==◌, List, [], ◌∷◌, length, false, Ok, Err, Result, OnOk, refl, arith}
-use Rattle.sqlite.specs.declared.types.Value.TheVariants.{Null, Int, Text}
-use Rattle.sqlite.specs.Order.{Row}
-use Rattle.sqlite.specs.Term.{Term, lit, col}
-use Rattle.sqlite.specs.State.{State, Executes}
+use Rattle.pawn_opening.specs.Common.{everything, understood, Row, Executes, State, Term, col, lit, Int, Null, Text, Listed, Lists, with_rows, meta_row, keep_schema, meta, meta_tree, PUT_NOTE}
 use Rattle.sqlite_schema.specs.declared.schema.Keys.TheVariants.{Enforced}
 use Rattle.sqlite_rules.specs.Action.{works}
-use Rattle.sqlite_tied.specs.Compute.{everything}
-use Rattle.sqlite.specs.Listing.{understood}
-use Rattle.one_table.specs.Listing.{Lists, Listed, with_rows}
 use Rattle.one_table.proofs.Insertion.{IsPlace, inserted}
 use Rattle.one_table.proofs.Rowed.{cast_null, cast_int}
 use Rattle.one_table.proofs.Texts.{Puts}
-use Rattle.pawn_tables.specs.Meta.{meta_row}
-use Rattle.pawn_tables.specs.Schema.{meta, keep_schema, meta_tree}
-use Rattle.pawn_tables.specs.declared.texts.TheConstants.{PUT_NOTE}
 
 abbrev pub note_values : List Term
 note_values = lit Null ∷ col 0 0 ∷ col 0 1 ∷ []

@@ -1,36 +1,18 @@
 -- Tables that stand for a host note our schema.
 use Rattle.std.proofs.Common.{◌≡◌, inl, inr, ℕ, List, [], ◌∷◌, pos, map, filter, codes, Bool, refl, sym, ap, subst, ◌∙◌, arith, IsPermutation}
-use Rattle.std.specs.List.{list_all}
-use Rattle.sqlite.specs.declared.types.Value.TheVariants.{Null, Int, Text}
-use Rattle.sqlite.specs.Order.{Row, column, value_cmp}
+use Rattle.pawn_opening.specs.Common.{list_all, Index, everything, Select, Database, Reads, IsSourceOf, reads_listing, understood, Row, column, value_cmp, Schema, Term, col, lit, op2, Int, Null, Text, Host, rows, Holds, columns_of, notes, with_indexes, keep_schema, meta, meta_tree, StandsFor, READ_SCHEMA}
 use Rattle.sqlite.specs.Ops.{binary, is_true}
 use Rattle.sqlite.specs.Collation.TheVariants.{Binary}
-use Rattle.sqlite.specs.Command.TheVariants.{Select}
 use Rattle.sqlite.specs.Query.{IsAnswer}
-use Rattle.sqlite.specs.Schema.{Schema}
 use Rattle.sqlite.specs.Program.{overlay}
-use Rattle.sqlite.specs.Term.{Term, lit, col, op2}
-use Rattle.sqlite.specs.Effect.{Database, Reads}
-use Rattle.sqlite.specs.Listing.{understood, reads_listing, IsSourceOf}
 use Rattle.sqlite_sql.specs.declared.ops.BinaryOp.TheVariants.{Compare}
 use Rattle.sqlite_sql.specs.declared.ops.CompareOp.TheVariants.{Eq}
-use Rattle.sqlite_tied.specs.Compute.{everything}
 use Rattle.sqlite_trees.proofs.ListLemmas.{map-map, filter-map, IsPermutation-filter}
 use Rattle.std.proofs.lemmas.List.Sorted.{IsPermutation-map}
 use Rattle.sqlite.proofs.Callers.{IsPlain, command_of, one_permutation}
-use Rattle.one_table.specs.Listing.{Holds, columns_of}
 use Rattle.one_table.proofs.OneTable.{over_table, passes, shows_of, found}
 use Rattle.one_table.proofs.Texts.{Asks}
-use Rattle.pawn_book.specs.HostStep.{Host, rows}
-use Rattle.sqlite_schema.specs.declared.schema.Index.{Index}
-use Rattle.pawn_tables.specs.Ours.{with_indexes}
-use Rattle.pawn_tables.specs.Schema.{keep_schema, meta, meta_tree}
-use Rattle.pawn_tables.specs.Meta.{notes}
-use Rattle.pawn_tables.specs.StandsFor.{StandsFor}
-use Rattle.pawn_opening.specs.declared.fault.OpenFault.{OpenFault}
-use Rattle.pawn_opening.specs.declared.fault.OpenFault.TheVariants.{NotOurs, OldSchema, Store, Memory}
-use Rattle.pawn_opening.specs.Refusing.{AnswersOpening, HasNoAnswer, IsEmptyStore, IsOneNumber, IsRefusedFor, IsStoreFault, NotesNoSchema, NotesSchema}
-use Rattle.pawn_tables.specs.declared.texts.TheConstants.{READ_SCHEMA}
+use Rattle.pawn_opening.specs.Stores.{AnswersOpening, HasNoAnswer, IsEmptyStore, IsOneNumber, IsRefusedFor, IsStoreFault, NotesNoSchema, NotesSchema, OpenFault, Memory, NotOurs, OldSchema, Store}
 
 -- the text asks meta of a schema, where it stands in its tree
 abbrev pub AsksMeta : Schema → Type 0

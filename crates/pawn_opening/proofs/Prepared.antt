@@ -1,17 +1,8 @@
 -- An empty store is laid out, any other recognised.
 use Rattle.std.proofs.Common.{◌≡◌, ◌⊎◌, inl, inr, ℕ, Ok, Err, Result, OnOk, OnErr, IsTrue, sym, subst, ◌∙◌, arith}
-use Rattle.std.specs.Prelude.{IfErr}
-use Rattle.sqlite.specs.Tree.{Trees}
-use Rattle.sqlite.specs.State.{State, HasCleanDisk, Survives}
+use Rattle.pawn_opening.specs.Common.{IfErr, HasCleanDisk, State, Survives, Trees, Host, StandForOne, StandsFor}
 use Rattle.sqlite.proofs.StateLemmas.{survives_then, survives_weaker}
-use Rattle.pawn_book.specs.HostStep.{Host}
-use Rattle.pawn_tables.specs.OneHost.{StandForOne}
-use Rattle.pawn_tables.specs.StandsFor.{StandsFor}
-use Rattle.pawn_opening.specs.declared.fault.OpenFault.{OpenFault}
-use Rattle.pawn_opening.specs.declared.fault.OpenFault.TheVariants.{NotOurs, OldSchema, Store, Memory}
-use Rattle.pawn_opening.specs.Indexing.{GainsIndexes, HoldGained}
-use Rattle.pawn_opening.specs.Opened.{AreMadeOf, IndexesStore, IsAsBefore, IsIndexed, IsOpenable, LaysOut, OpensAs, Prepares, Recognises}
-use Rattle.pawn_opening.specs.Refusing.{IsEmptyStore, IsRefusedFor, IsStoreFault}
+use Rattle.pawn_opening.specs.Stores.{GainsIndexes, HoldGained, AreMadeOf, IndexesStore, IsAsBefore, IsIndexed, IsOpenable, LaysOut, OpensAs, Prepares, Recognises, IsEmptyStore, IsRefusedFor, IsStoreFault, OpenFault, Memory, NotOurs, OldSchema, Store}
 use Rattle.pawn_opening.proofs.Begun.{opens_as}
 use Rattle.pawn_opening.proofs.Gained.{gains_stands}
 use Rattle.pawn_opening.proofs.Ours.{not_empty, only_faults}

@@ -1,17 +1,8 @@
 -- What the answer of a store makes of it.
 use Rattle.std.proofs.Common.{◌≡◌, inl, inr, ℕ, false, List, [], Option, Some, None, Ok, Err, Result, OnOk, IsTrue, sym, subst}
-use Rattle.std.specs.Prelude.{IfErr, IfOk, IfSome}
-use Rattle.sqlite.specs.declared.error.Error.{Error}
-use Rattle.sqlite.specs.declared.error.Error.TheVariants.{SqlInputError}
-use Rattle.sqlite.specs.Order.{Row}
-use Rattle.sqlite.specs.State.{State, HasCleanDisk, CommitsShowing, FailsToQuery, Shown, Survives}
-use Rattle.sqlite_resolve.specs.declared.error.CompileError.{CompileError}
-use Rattle.pawn_opening.specs.declared.fault.OpenFault.{OpenFault}
-use Rattle.pawn_opening.specs.declared.fault.OpenFault.TheVariants.{NotOurs, OldSchema, Store, Memory}
-use Rattle.pawn_opening.specs.Opened.{Recognises, TellsSchema}
-use Rattle.pawn_opening.specs.Refusing.{IsEmptyStore, IsJudged, IsNoted, IsNumberRead, IsRefusedFor, IsStoreFault, IsStrangeNumber, NotesSchema}
+use Rattle.pawn_opening.specs.Common.{IfErr, IfOk, IfSome, CompileError, Row, CommitsShowing, FailsToQuery, HasCleanDisk, Shown, State, Survives, Error, SqlInputError, READ_SCHEMA}
+use Rattle.pawn_opening.specs.Stores.{Recognises, TellsSchema, IsEmptyStore, IsJudged, IsNoted, IsNumberRead, IsRefusedFor, IsStoreFault, IsStrangeNumber, NotesSchema, OpenFault, Memory, NotOurs, OldSchema, Store}
 use Rattle.pawn_opening.proofs.Recognition.{answered, asks_alone, left_as_before, unanswered, unchanged}
-use Rattle.pawn_tables.specs.declared.texts.TheConstants.{READ_SCHEMA}
 
 -- ---- what is noted of the schema
 

@@ -1,27 +1,13 @@
 -- A store is asked for the number of its schema.
 use Rattle.std.proofs.Common.{◌≡◌, inl, inr, ℕ, List, [], Option, Some, None, Ok, IsSome, IsTrue, refl, sym, subst, ◌∙◌}
-use Rattle.sqlite.specs.declared.error.Error.{Error}
-use Rattle.sqlite.specs.declared.error.Error.TheVariants.{SqlInputError}
-use Rattle.sqlite.specs.Order.{Row}
-use Rattle.sqlite.specs.Tree.{Trees}
+use Rattle.pawn_opening.specs.Common.{first, Compiled, CompileError, everything, StoreError, Rows, Select, Database, Reads, RefusesToRead, understood, Row, CommitsShowing, Fails, FailsToQuery, FailsToShow, IsNoStatement, IsNotRun, IsRolledBack, IsUnchanged, Shown, ShowsRows, State, Survives, store_error, Trees, Error, SqlInputError, READ_SCHEMA}
 use Rattle.sqlite.specs.Clock.{timed}
 use Rattle.sqlite.specs.Command.{Command}
-use Rattle.sqlite.specs.Command.TheVariants.{Select, Rows}
-use Rattle.sqlite.specs.Effect.{Database, Reads, RefusesToRead}
-use Rattle.sqlite.specs.Listing.{understood}
-use Rattle.sqlite.specs.State.{State, CommitsShowing, Fails, FailsToQuery, FailsToShow, IsNoStatement, IsNotRun, IsRolledBack, IsUnchanged, Shown, ShowsRows, Survives, store_error}
 use Rattle.sqlite.proofs.StateLemmas.{survives_weaker}
-use Rattle.sqlite_tied.specs.Compute.{everything}
-use Rattle.sqlite_resolve.specs.Compile.{first}
-use Rattle.sqlite_resolve.specs.declared.error.CompileError.{CompileError}
-use Rattle.sqlite_resolve.specs.declared.compiled.Compiled.{Compiled}
 use Rattle.sqlite_schema.specs.declared.command.Returning.{Returning}
-use Rattle.sqlite_trees.specs.declared.error.StoreError.{StoreError}
 use Rattle.sqlite_trees.specs.declared.error.StoreError.TheVariants.{OutOfMemory, Io, Corrupt, Full, Broken, Unstorable}
 use Rattle.one_table.proofs.Queries.{IsQuery, OnlyReads, only_reads}
-use Rattle.pawn_opening.specs.Opened.{IsAsBefore}
-use Rattle.pawn_opening.specs.Refusing.{AnswersOpening, HasNoAnswer}
-use Rattle.pawn_tables.specs.declared.texts.TheConstants.{READ_SCHEMA}
+use Rattle.pawn_opening.specs.Stores.{IsAsBefore, AnswersOpening, HasNoAnswer}
 
 asks : IsQuery (first READ_SCHEMA.now)
 unfolding everything

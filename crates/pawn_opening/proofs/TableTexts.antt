@@ -1,16 +1,7 @@
 -- What the texts of the tables mean.
 use Rattle.std.proofs.Common.{◌≡◌, List, ℕ, Ok, refl, false}
-use Rattle.sqlite.specs.Compile.{table_defined_by}
-use Rattle.sqlite.specs.Command.TheVariants.{CreateTable}
-use Rattle.sqlite_tied.specs.Compute.{everything}
-use Rattle.sqlite.specs.Listing.{understood}
-use Rattle.sqlite.specs.Change.{created}
-use Rattle.sqlite.specs.Does.{lacks_sequence}
-use Rattle.sqlite.specs.Table.{Table}
-use Rattle.sqlite.specs.Schema.{Schema}
+use Rattle.pawn_opening.specs.Common.{everything, created, CreateTable, table_defined_by, lacks_sequence, understood, Schema, Table, no_schema, bookings, books, entries, extensions, meta, pledges, secrets, terms, totals}
 use Rattle.sqlite.proofs.Callers.{IsPlain, command_of, statement_of}
-use Rattle.one_table.specs.Columns.{no_schema}
-use Rattle.pawn_tables.specs.Schema.{books, terms, pledges, entries, secrets, bookings, meta, totals, extensions}
 use Rattle.pawn_opening.specs.Laying.{first_three, first_six}
 pub use Rattle.pawn_tables.specs.declared.texts.TheConstants.{MAKE_BOOKINGS, MAKE_BOOKS, MAKE_ENTRIES, MAKE_EXTENSIONS, MAKE_META, MAKE_PLEDGES, MAKE_SECRETS, MAKE_TERMS, MAKE_TOTALS}
 

@@ -1,18 +1,6 @@
 -- What a close leaves of a store.
 use Rattle.std.specs.Prelude.{◌≡◌, ◌⊎◌, false, [], IsTrue}
-use Rattle.sqlite_disk.specs.Disk.{MoreFaults}
-use Rattle.sqlite_disk.specs.declared.Disk.{Ghosts}
-use Rattle.sqlite_disk.specs.declared.Files.{Files}
-use Rattle.sqlite_wal.specs.Files.{outcomes}
-use Rattle.sqlite_wal.specs.Recovery.{Image}
-use Rattle.sqlite_store.specs.declared.store.FileStore.{FileStore}
-use Rattle.sqlite_store.specs.FileStore.{faults, view}
-use Rattle.sqlite_trees.specs.View.{IsClean}
-use Rattle.sqlite.specs.Files.{IsClosed, file_state, image_of}
-use Rattle.sqlite.specs.Held.{Held}
-use Rattle.sqlite.specs.State.{State}
-use Rattle.pawn_book.specs.HostStep.{Host}
-use Rattle.pawn_tables.specs.StandsFor.{StandsFor}
+use Rattle.pawn_opening.specs.Common.{MoreFaults, Ghosts, Files, faults, view, FileStore, IsClean, outcomes, Image, IsClosed, file_state, image_of, Held, State, Host, StandsFor}
 use Rattle.pawn_opening.specs.FilesStand.{StandsIn}
 use Rattle.pawn_opening.specs.Refusing.{IsStoreFault}
 use Rattle.pawn_opening.specs.declared.fault.OpenFault.{OpenFault}

@@ -1,19 +1,8 @@
 -- What files hold before an open, and what a refusal leaves of them.
 use Rattle.std.specs.Prelude.{◌≡◌, ◌⊎◌, ℕ, [], IsTrue}
-use Rattle.sqlite_disk.specs.declared.Disk.{Ghosts}
-use Rattle.sqlite_disk.specs.declared.Files.{Files}
-use Rattle.sqlite_wal.specs.Recovery.{Image}
-use Rattle.sqlite_store.specs.declared.store.FileStore.{FileStore}
-use Rattle.sqlite_store.specs.FileStore.{recovers}
-use Rattle.sqlite_trees.specs.Objects.{catalog_tree}
-use Rattle.sqlite.specs.State.{State}
-use Rattle.sqlite.specs.Tree.{Trees}
+use Rattle.pawn_opening.specs.Common.{Ghosts, Files, recovers, FileStore, catalog_tree, Image, Database, IsDatabase, AreFoundIn, HoldsDatabase, LeavesFiles, image_of, State, Trees, Host, HoldHost}
 use Rattle.sqlite.specs.declared.file.Leftover.{Leftover}
 use Rattle.sqlite.specs.declared.file.Leftover.TheVariants as left
-use Rattle.sqlite.specs.Effect.{Database, IsDatabase}
-use Rattle.sqlite.specs.Files.{AreFoundIn, HoldsDatabase, LeavesFiles, image_of}
-use Rattle.pawn_book.specs.HostStep.{Host}
-use Rattle.pawn_tables.specs.StandsFor.{HoldHost}
 use Rattle.pawn_opening.specs.declared.fault.OpenFault.{OpenFault}
 use Rattle.pawn_opening.specs.Indexing.{GainsIndexes}
 use Rattle.pawn_opening.specs.Opened.{AreMadeOf}

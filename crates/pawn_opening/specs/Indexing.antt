@@ -1,11 +1,6 @@
 -- Indexes that a store gains.
 use Rattle.std.specs.Prelude.{◌≡◌, ◌++◌, List, OnOk, IsTrue, Result}
-use Rattle.sqlite.specs.Effect.{Database, IsDatabase}
-use Rattle.sqlite.specs.State.{State, HasCleanDisk}
-use Rattle.sqlite.specs.Tree.{Trees}
-use Rattle.sqlite_catalog.specs.Change.{KeepsRows}
-use Rattle.sqlite_schema.specs.declared.schema.Index.{Index}
-use Rattle.pawn_tables.specs.Ours.{AreLoose}
+use Rattle.pawn_opening.specs.Common.{KeepsRows, Index, Database, IsDatabase, HasCleanDisk, State, Trees, AreLoose}
 
 -- The database has gained some indexes, none of them unique. Its tables and views are as they were, and each table
 -- holds the rows that it held.

@@ -1,13 +1,6 @@
 -- Tables that are made, one after another.
 use Rattle.std.specs.Prelude.{ℕ, [], ◌∷◌, IsTrue, Result, OnOk}
-use Rattle.sqlite.specs.Order.{Row}
-use Rattle.sqlite.specs.Schema.{Schema}
-use Rattle.sqlite.specs.Change.{created}
-use Rattle.sqlite.specs.Effect.{Database}
-use Rattle.sqlite.specs.State.{State, HasCleanDisk}
-use Rattle.one_table.specs.Columns.{no_schema}
-use Rattle.one_table.specs.Listing.{Lists, Listed, with_rows}
-use Rattle.pawn_tables.specs.Schema.{books, terms, pledges, entries, secrets, bookings, keep_schema, meta_tree}
+use Rattle.pawn_opening.specs.Common.{created, Database, Row, Schema, HasCleanDisk, State, no_schema, Listed, Lists, with_rows, bookings, books, entries, keep_schema, meta_tree, pledges, secrets, terms}
 
 -- no table has a row
 abbrev pub no_rows : Listed

@@ -1,12 +1,7 @@
 -- What opening a store does with an empty one, with one of ours, and with any other.
 use Rattle.std.specs.Prelude.{◌≡◌, ◌⊎◌, false, ℕ, IsTrue, Option, IfSome, Result, IfErr, IfOk, OnErr, OnOk}
 use Rattle.std.specs.FinMap.{empty}
-use Rattle.sqlite.specs.Effect.{Database}
-use Rattle.sqlite.specs.Tree.{Trees}
-use Rattle.sqlite.specs.State.{State, HasCleanDisk, Survives}
-use Rattle.one_table.specs.Columns.{no_schema}
-use Rattle.pawn_book.specs.HostStep.{Host}
-use Rattle.pawn_tables.specs.StandsFor.{StandsFor, HoldHost}
+use Rattle.pawn_opening.specs.Common.{Database, HasCleanDisk, State, Survives, Trees, Host, no_schema, HoldHost, StandsFor}
 use Rattle.pawn_tables.specs.Keeps.{Keeps, Leaves}
 use Rattle.pawn_opening.specs.declared.fault.OpenFault.{OpenFault}
 use Rattle.pawn_opening.specs.Indexing.{GainsIndexes, HoldGained}

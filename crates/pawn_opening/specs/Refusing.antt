@@ -1,15 +1,8 @@
 -- Why a store is not opened.
 use Rattle.std.specs.Prelude.{◌≡◌, ◌⊎◌, ◌<◌, ℕ, pos, List, [], ◌∷◌, Option, Some, None, Result, Ok, Err}
-use Rattle.sqlite.specs.declared.types.Value.TheVariants.{Int}
-use Rattle.sqlite.specs.Order.{Row, column}
-use Rattle.sqlite.specs.Effect.{Database, Reads}
-use Rattle.sqlite.specs.Listing.{understood, reads_listing, IsSourceOf}
-use Rattle.sqlite_resolve.specs.declared.compiled.Compiled.{Compiled}
-use Rattle.sqlite_resolve.specs.declared.error.CompileError.{CompileError}
-use Rattle.one_table.specs.Columns.{no_schema}
+use Rattle.pawn_opening.specs.Common.{Compiled, CompileError, Database, Reads, IsSourceOf, reads_listing, understood, Row, column, Int, no_schema, READ_SCHEMA}
 use Rattle.pawn_opening.specs.declared.fault.OpenFault.{OpenFault}
 use Rattle.pawn_opening.specs.declared.fault.OpenFault.TheVariants.{NotOurs, OldSchema, Store, Memory}
-use Rattle.pawn_tables.specs.declared.texts.TheConstants.{READ_SCHEMA}
 
 -- the question for the schema's number has these rows as an answer
 pub record AnswersOpening (db : Database) (rows : List Row) : Type 0 where

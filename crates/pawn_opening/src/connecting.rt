@@ -1,10 +1,6 @@
 ghost use Rattle.std.specs.Prelude.{◌≡◌, false, IfErr, IfOk, IsTrue};
-ghost use Rattle.sqlite.specs.Effect.{Database};
-ghost use Rattle.sqlite.specs.Files.{file_state};
-ghost use Rattle.sqlite.specs.State.{HasCleanDisk};
-ghost use Rattle.sqlite_wal.specs.Files.{image_at};
-ghost use Rattle.pawn_opening.specs.FilesStand.{HoldsIn};
-ghost use Rattle.pawn_opening.specs.Refusing.{IsStoreFault};
+ghost use Rattle.pawn_opening.specs.Common.{image_at, Database, file_state, HasCleanDisk};
+ghost use Rattle.pawn_opening.specs.Stores.{HoldsIn, IsStoreFault};
 
 use crate::fault::{OpenFault, refused};
 use crate::finding::{files_at, options};

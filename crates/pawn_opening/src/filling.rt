@@ -1,10 +1,6 @@
 ghost use Rattle.std.specs.Prelude.{is_ok};
-ghost use Rattle.sqlite.specs.Held.{state};
-ghost use Rattle.one_table.specs.Columns.{no_schema};
-ghost use Rattle.one_table.specs.Lending.{Lends};
-ghost use Rattle.pawn_tables.specs.Schema.{keep_schema};
-ghost use Rattle.pawn_opening.specs.Laying.{Makes};
-ghost use Rattle.pawn_opening.specs.Opened.{Fills};
+ghost use Rattle.pawn_opening.specs.Common.{state, no_schema, Lends, keep_schema};
+ghost use Rattle.pawn_opening.specs.Stores.{Makes, Fills};
 
 use crate::indexing::{Lacking, make_indexes};
 use crate::laying::{make_books, make_lists, make_notes};

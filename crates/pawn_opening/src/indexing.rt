@@ -1,8 +1,6 @@
 ghost use Rattle.std.specs.Prelude.{◌≡◌, false, is_ok};
-ghost use Rattle.sqlite.specs.Held.{state};
-ghost use Rattle.one_table.specs.Lending.{Lends};
-ghost use Rattle.pawn_opening.specs.Indexing.{AddsIndexes};
-ghost use Rattle.pawn_opening.specs.Opened.{IndexesStore};
+ghost use Rattle.pawn_opening.specs.Common.{state, Lends};
+ghost use Rattle.pawn_opening.specs.Stores.{AddsIndexes, IndexesStore};
 
 use crate::fault::{OpenFault, refused};
 use one_table::{know_settled, run};

@@ -1,8 +1,5 @@
 ghost use Rattle.std.specs.Prelude.{is_ok};
-ghost use Rattle.sqlite.specs.Held.{state};
-ghost use Rattle.one_table.specs.Columns.{no_schema};
-ghost use Rattle.one_table.specs.Lending.{Lends};
-ghost use Rattle.pawn_tables.specs.Schema.{first_schema, keep_schema, second_schema, extensions_tree, totals_tree};
+ghost use Rattle.pawn_opening.specs.Common.{state, no_schema, Lends, extensions_tree, first_schema, keep_schema, second_schema, totals_tree};
 ghost use Rattle.pawn_opening.specs.Laying.{AddsTable, Makes, first_three, first_six};
 
 use one_table::run;

@@ -1,7 +1,5 @@
 ghost use Rattle.std.specs.Prelude.{is_ok};
-ghost use Rattle.sqlite.specs.Held.{state};
-ghost use Rattle.one_table.specs.Lending.{Lends};
-ghost use Rattle.pawn_tables.specs.Meta.{meta_row};
+ghost use Rattle.pawn_opening.specs.Common.{state, Lends, meta_row};
 ghost use Rattle.pawn_opening.specs.Laying.{Notes};
 
 use one_table::run;

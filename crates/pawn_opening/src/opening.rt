@@ -1,17 +1,8 @@
 ghost use Rattle.std.specs.Prelude.{◌≡◌, ◌≤◌, None, false, true, IfErr, IfOk, IfSome, IsTrue};
-ghost use Rattle.sqlite.specs.Steps.{over_memory};
-ghost use Rattle.sqlite.specs.Held.{state};
-ghost use Rattle.sqlite.specs.State.{HasCleanDisk};
-ghost use Rattle.sqlite.specs.Files.{IsCleanLeft, file_state, image_of};
+ghost use Rattle.pawn_opening.specs.Common.{image_at, IsCleanLeft, file_state, image_of, state, HasCleanDisk, over_memory, Host, most_rows};
 ghost use Rattle.sqlite_std_file.specs.File.{IsFresh};
 ghost use Rattle.sqlite_wal.specs.Reads.{AreClean};
-ghost use Rattle.sqlite_wal.specs.Files.{image_at};
-ghost use Rattle.pawn_book.specs.HostStep.{Host};
-ghost use Rattle.pawn_book.specs.Limits.{most_rows};
-ghost use Rattle.pawn_opening.specs.Closed.{AreClosedFor, HasCommitted, IsLeftUnclosed};
-ghost use Rattle.pawn_opening.specs.FilesStand.{IsBlank, OpensFound, RefusesFiles, RefusesHeld, StandsIn};
-ghost use Rattle.pawn_opening.specs.Opened.{OpensAs, empty_host};
-ghost use Rattle.pawn_opening.specs.Refusing.{IsStoreFault};
+ghost use Rattle.pawn_opening.specs.Stores.{AreClosedFor, HasCommitted, IsLeftUnclosed, IsBlank, OpensFound, RefusesFiles, RefusesHeld, StandsIn, OpensAs, empty_host, IsStoreFault};
 
 use crate::fault::{OpenFault, refused};
 use crate::finding::{files_at, options};

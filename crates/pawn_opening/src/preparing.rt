@@ -1,8 +1,6 @@
 ghost use Rattle.std.specs.Prelude.{◌≡◌, ◌↔◌, ◌≤◌, false, IsTrue};
-ghost use Rattle.sqlite.specs.Held.{state};
-ghost use Rattle.pawn_book.specs.Limits.{most_rows};
-ghost use Rattle.pawn_opening.specs.Opened.{LaysOut, Prepares};
-ghost use Rattle.pawn_opening.specs.Refusing.{IsEmptyStore};
+ghost use Rattle.pawn_opening.specs.Common.{state, most_rows};
+ghost use Rattle.pawn_opening.specs.Stores.{LaysOut, Prepares, IsEmptyStore};
 
 use crate::fault::{OpenFault, refused};
 use crate::filling::fill;

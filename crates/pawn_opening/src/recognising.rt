@@ -1,7 +1,6 @@
 ghost use Rattle.std.specs.Prelude.{◌≡◌, false};
 ghost use Rattle.sqlite.specs.Held.{state};
-ghost use Rattle.pawn_opening.specs.Opened.{Recognises, TellsSchema};
-ghost use Rattle.pawn_opening.specs.Refusing.{IsJudged, IsNumberRead};
+ghost use Rattle.pawn_opening.specs.Stores.{Recognises, TellsSchema, IsJudged, IsNumberRead};
 
 use crate::fault::{OpenFault, refused};
 use one_table::know_settled;

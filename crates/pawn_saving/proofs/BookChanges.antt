@@ -1,26 +1,8 @@
 -- What becomes of the rows of a host where a book is made, and where it gets terms.
 use Rattle.std.proofs.Common.{◌≡◌, ◌≢◌, ◌++◌, ◌==◌, ℕ, suc, ◌+◌, List, [], ◌∷◌, map, filter, flat_map, length, length-append, Bool, true, false, cond, ◌&&◌, Some, None, refl, sym, ap, subst, ◌∙◌, arith, IsPermutation}
-use Rattle.std.specs.FinMap.{entries, get}
-use Rattle.std.proofs.lemmas.Bool.Decides.{nat_tests}
-use Rattle.std.proofs.lemmas.List.Sorted.{IsPermutation-refl, IsPermutation-cons, IsPermutation-trans, IsPermutation-sym, IsPermutation-map, IsPermutation-append, IsPermutation-append_comm, length_permutation}
-use Rattle.sqlite_trees.proofs.ListLemmas.{IsPermutation-flat_map, IsPermutation-filter, IsPermutation-same}
-use Rattle.sqlite.specs.Order.{Row}
-use Rattle.sqlite.specs.Effect.{Database}
-use Rattle.pawn_terms.specs.declared.terms.Rates.{Rates}
-use Rattle.pawn_book.specs.declared.change.Change.TheVariants.{AddTerms, MakeBook}
-use Rattle.pawn_book.specs.declared.request.NewBook.{NewBook}
-use Rattle.pawn_book.specs.BookStep.{BookValue, changed_book, made_book}
-use Rattle.pawn_book.specs.Changes.{with_change}
-use Rattle.pawn_book.specs.HostStep.{Host, book_rows, rows, with_book}
-use Rattle.pawn_book.proofs.RowSums.{part, rows-with_book}
-use Rattle.one_table.specs.Listing.{with_rows}
-use Rattle.pawn_tables.specs.Ours.{ListsOurs}
-use Rattle.pawn_tables.specs.At.{at_book}
-use Rattle.pawn_tables.specs.Rows.{number, placed_from, book_row, terms_cells, terms_listed, pledge_listed, entries_listed, secrets_listed, booking_listed, totals_listed, extensions_listed}
-use Rattle.pawn_tables.specs.StandsFor.{of_books}
-use Rattle.pawn_tables.proofs.RowsUnderKey.{equals, of_one_book, rows_at}
-use Rattle.pawn_saving.specs.Counted.{listed_as, ListsHost, IsWrittenPart}
-use Rattle.pawn_saving.specs.Writing.{IsOnly}
+use Rattle.pawn_saving.specs.Common.{entries, get, Database, Row, Rates, BookValue, changed_book, made_book, with_change, Host, book_rows, rows, with_book, AddTerms, MakeBook, NewBook, with_rows, at_book, ListsOurs, book_row, booking_listed, entries_listed, extensions_listed, number, placed_from, pledge_listed, secrets_listed, terms_cells, terms_listed, totals_listed, of_books}
+use Rattle.pawn_saving.proofs.Lemmas.{nat_tests, IsPermutation-append, IsPermutation-append_comm, IsPermutation-cons, IsPermutation-map, IsPermutation-refl, IsPermutation-sym, IsPermutation-trans, length_permutation, IsPermutation-filter, IsPermutation-flat_map, IsPermutation-same, part, rows-with_book, equals, of_one_book, rows_at}
+use Rattle.pawn_saving.specs.Saving.{IsWrittenPart, ListsHost, listed_as, IsOnly}
 use Rattle.pawn_saving.proofs.Hosting.{AreSame, relisted}
 use Rattle.pawn_saving.proofs.Changing.{joined, replaced}
 

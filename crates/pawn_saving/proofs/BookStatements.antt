@@ -1,28 +1,8 @@
 -- What the statements on the rows of books write.
 use Rattle.std.proofs.Common.{◌≡◌, ℕ, ℤ, List, [], ◌∷◌, ◌&&◌, ◌==◌, true, length, Some, None, Ok, refl, sym, subst, ◌∙◌, arith}
-use Rattle.std.proofs.lemmas.Bool.Decides.{nat_tests}
-use Rattle.sqlite.specs.declared.types.Value.TheVariants.{Null, Int, Text, Blob}
-use Rattle.sqlite.specs.Cast.{cast}
-use Rattle.sqlite.specs.Kind.TheVariants.{Integer, Blob as BlobKind}
-use Rattle.sqlite.specs.Order.{Row, column}
-use Rattle.sqlite.specs.Term.{Term}
-use Rattle.sqlite.specs.State.{State, Executes}
-use Rattle.pawn_terms.specs.declared.terms.Rates.{Rates}
-use Rattle.pawn_pledge.specs.Pledge.{PledgeValue}
-use Rattle.pawn_book.specs.declared.request.NewBook.{NewBook}
-use Rattle.pawn_book.specs.declared.rows.BookRows.{BookRows}
-use Rattle.pawn_book.specs.BookStep.{BookValue, filled_book, made_book}
-use Rattle.one_table.specs.Listing.{Listed, with_rows, columns_of}
-use Rattle.one_table.proofs.OneTable.{over_table, passes, shows_of}
-use Rattle.sqlite_schema.specs.declared.schema.Index.{Index}
-use Rattle.one_table.proofs.Texts.{Sets}
-use Rattle.one_table.proofs.Rowed.{cast_null, cast_int, cast_whole}
-use Rattle.pawn_tables.specs.Ours.{ListsOurs, with_indexes}
-use Rattle.pawn_tables.specs.Schema.{books, books_tree}
-use Rattle.pawn_tables.specs.Rows.{number, word, or_null, book_row, import_key, import_count}
-use Rattle.pawn_tables.specs.At.{at_book}
+use Rattle.pawn_saving.proofs.Lemmas.{nat_tests, over_table, passes, shows_of, cast_int, cast_null, cast_whole, Sets, equals}
+use Rattle.pawn_saving.specs.Common.{Index, cast, BlobKind, Integer, Row, column, Executes, State, Term, Blob, Int, Null, Text, Rates, PledgeValue, BookValue, filled_book, made_book, NewBook, BookRows, Listed, columns_of, with_rows, at_book, ListsOurs, with_indexes, book_row, import_count, import_key, number, or_null, word, books, books_tree}
 use Rattle.pawn_tables.proofs.ReadTexts as read
-use Rattle.pawn_tables.proofs.RowsUnderKey.{equals}
 use Rattle.pawn_saving.specs.Writing.{IsOnly}
 use Rattle.pawn_saving.proofs.OurTables.{row_joins, row_set_by}
 use Rattle.pawn_saving.proofs.WriteTexts as text

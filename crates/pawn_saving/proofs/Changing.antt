@@ -1,14 +1,11 @@
 -- What becomes of the rows of a host where a book is put, or put anew.
 use Rattle.std.proofs.Common.{◌≡◌, ℕ, List, [], ◌∷◌, Bool, true, false, cond, ◌&&◌, Some, None, T, refl, sym, ap, subst, ◌∙◌, arith, IsPermutation, is_lt}
-use Rattle.std.specs.Ordering.{is_eq, nat_cmp}
+use Rattle.pawn_saving.specs.Common.{FinMap, entries, entries-insert, entries_sorted, find, get, get-entries, insert, is_sorted, put, is_eq, nat_cmp}
 use Rattle.std.specs.declared.cmp.Ordering.{Ordering}
 use Rattle.std.specs.declared.cmp.Ordering.TheVariants.{Less, Equal, Greater}
-use Rattle.std.specs.FinMap.{FinMap, entries, entries_sorted, get, get-entries, insert, entries-insert, find, put, is_sorted}
 use Rattle.std.specs.FinMap.Entries.{by_order, below_all}
 use Rattle.std.proofs.lemmas.Cmp.{nat_cmp_total}
-use Rattle.std.proofs.lemmas.Bool.Decides.{nat_tests}
-use Rattle.std.proofs.lemmas.List.Sorted.{IsPermutation-refl, IsPermutation-cons, IsPermutation-trans, IsPermutation-sym}
-use Rattle.one_table.proofs.Rowed.{swapped}
+use Rattle.pawn_saving.proofs.Lemmas.{nat_tests, IsPermutation-cons, IsPermutation-refl, IsPermutation-sym, IsPermutation-trans, swapped}
 
 low : (a b : Bool) → T (a && b) → T a × T b
 low true b h = (tt, h)

@@ -1,36 +1,10 @@
 -- The counter of rows goes up.
 use Rattle.std.proofs.Common.{◌≡◌, ◌++◌, ℕ, ℤ, Option, ◌+◌, ◌<◌, ◌^◌, pos, List, [], ◌∷◌, map, filter, get_or, codes, Bool, true, Some, Result, Ok, Err, IfOk, refl, sym, ap, ap₂, subst, ◌∙◌, arith, IsPermutation, slice_get, nat_lt}
-use Rattle.std.specs.List.{list_all, AllByRecursion}
-use Rattle.std.proofs.lemmas.Bool.Decides.{nat_tests}
-use Rattle.sqlite.specs.declared.types.Value.TheVariants.{Int, Text}
-use Rattle.sqlite.specs.Order.{Row, column, value_cmp}
-use Rattle.sqlite.specs.Table.{Table}
-use Rattle.sqlite.specs.Ops.{binary, is_true}
-use Rattle.sqlite.specs.Collation.TheVariants.{Binary}
-use Rattle.sqlite_sql.specs.declared.ops.BinaryOp.TheVariants.{Compare, Arith}
-use Rattle.sqlite_sql.specs.declared.ops.ArithOp.TheVariants.{Add}
-use Rattle.sqlite_sql.specs.declared.ops.CompareOp.TheVariants.{Eq}
-use Rattle.sqlite.specs.Command.TheVariants.{Update}
-use Rattle.sqlite.specs.Does.{Tally, Does, Concludes, Shows as ShowsEach}
+use Rattle.pawn_saving.specs.Common.{AllByRecursion, list_all, Returning, Index, Enforced, Add, Arith, Compare, Eq, cast_row, Binary, Update, Concludes, Does, ShowsEach, Tally, Database, understood, binary, is_true, Row, column, value_cmp, QueriesRow, Shown, State, mode_of, Table, Trees, Int, Text, Holds, Listed, with_rows, meta_row, meta_rows, other_rows, ListsOurs, with_indexes, keep_schema, meta, meta_tree}
+use Rattle.pawn_saving.proofs.Lemmas.{nat_tests, one_permutation, statement_of, same_value, went, over_table, shows_of, at_place, cast_int, cast_whole, swapped}
 use Rattle.sqlite.specs.Rows.{Task, Written}
-use Rattle.sqlite.specs.Tree.{Trees}
 use Rattle.sqlite.specs.declared.run.Mode.{Mode}
-use Rattle.sqlite_schema.specs.declared.command.Returning.{Returning}
-use Rattle.sqlite.specs.Effect.{Database}
-use Rattle.sqlite.specs.Listing.{understood}
-use Rattle.sqlite.specs.Cast.{cast_row}
-use Rattle.sqlite.specs.State.{State, mode_of, QueriesRow, Shown}
-use Rattle.sqlite.proofs.Callers.{statement_of, one_permutation}
 use Rattle.one_table.proofs.Found.{shown_listed}
-use Rattle.sqlite_schema.specs.declared.schema.Keys.TheVariants.{Enforced}
-use Rattle.sqlite_schema.specs.declared.schema.Index.{Index}
-use Rattle.pawn_tables.specs.Ours.{ListsOurs, with_indexes}
-use Rattle.pawn_tables.specs.Schema.{meta, keep_schema, meta_tree}
-use Rattle.one_table.specs.Listing.{Holds, Listed, with_rows}
-use Rattle.pawn_tables.specs.Meta.{meta_row, meta_rows, other_rows}
-use Rattle.one_table.proofs.OneTable.{over_table, shows_of}
-use Rattle.one_table.proofs.Rowed.{swapped, cast_int, cast_whole, at_place}
-use Rattle.one_table.proofs.Insertion.{went, same_value}
 use Rattle.one_table.proofs.Alteration as alter
 use Rattle.one_table.proofs.Returning.{row_returned}
 use Rattle.pawn_saving.proofs.OurTables.{under_same}

@@ -1,42 +1,11 @@
 -- UPDATE of one row, where a value of it is to differ: a row that has the values stays unwritten.
 use Rattle.std.proofs.Common.{◌≡◌, ℕ, ℤ, pos, List, [], ◌∷◌, map, filter, Bool, true, false, cond, not, ◌&&◌, ◌||◌, Option, Some, None, Ok, refl, sym, ap, subst, ◌∙◌, arith, IsPermutation, int_cmp}
-use Rattle.std.specs.List.{AllByRecursion}
-use Rattle.std.specs.Ordering.{is_eq}
-use Rattle.std.proofs.lemmas.Bool.Decides.{nat_tests}
-use Rattle.std.proofs.lemmas.List.{nil_from_length}
+use Rattle.pawn_saving.specs.Common.{AllByRecursion, is_eq, Enforced, Is, Or, Not, cast_row, Binary, Update, Does, Tally, Applies, edit_of, Database, understood, binary, from_truth, is_true, unary, Row, value_cmp, overlay, Given, Executes, State, mode_of, Table, Term, Trees, rowid, Value, Int, Holds, IsNumbered, Listed, Lists, columns_of, with_rows, number, or_null}
+use Rattle.pawn_saving.proofs.Lemmas.{nat_tests, nil_from_length, IsPermutation-sym, IsPermutation-trans, length_permutation, IsPermutation-filter, filter-map, IsPlain, command_of, runs_as, statement_of, set_one, updated_part, IsPlace, same_value, went, over_table, passes, shows_of, at_place, carried, plainly}
 use Rattle.std.proofs.lemmas.List.Elements.{filter_agree}
-use Rattle.std.proofs.lemmas.List.Sorted.{IsPermutation-trans, IsPermutation-sym, length_permutation}
-use Rattle.sqlite_trees.proofs.ListLemmas.{filter-map, IsPermutation-filter}
-use Rattle.sqlite.specs.declared.types.Value.{Value}
-use Rattle.sqlite.specs.declared.types.Value.TheVariants.{Int}
-use Rattle.sqlite.specs.Order.{Row, value_cmp}
-use Rattle.sqlite.specs.Ops.{unary, binary, is_true, from_truth}
-use Rattle.sqlite.specs.Collation.TheVariants.{Binary}
-use Rattle.sqlite_sql.specs.declared.ops.BinaryOp.TheVariants.{Is, Or}
-use Rattle.sqlite_sql.specs.declared.ops.UnaryOp.TheVariants.{Not}
-use Rattle.sqlite.specs.Table.{Table}
 use Rattle.sqlite.specs.Schema.{Schema}
-use Rattle.sqlite.specs.Term.{Term}
-use Rattle.sqlite.specs.Tree.{Trees, rowid}
-use Rattle.sqlite.specs.Program.{overlay}
-use Rattle.sqlite.specs.Edit.{edit_of, Applies}
-use Rattle.sqlite.specs.Cast.{cast_row}
-use Rattle.sqlite.specs.Rowids.TheVariants.{Given}
 use Rattle.sqlite_rules.specs.Calls.{ids_of}
-use Rattle.sqlite_schema.specs.declared.schema.Keys.TheVariants.{Enforced}
-use Rattle.sqlite.specs.Command.TheVariants.{Update}
-use Rattle.sqlite.specs.Does.{Tally, Does}
-use Rattle.sqlite.specs.Effect.{Database}
-use Rattle.sqlite.specs.Listing.{understood}
-use Rattle.sqlite.specs.State.{State, mode_of, Executes}
-use Rattle.sqlite.proofs.Callers.{IsPlain, command_of, statement_of, runs_as}
 use Rattle.sqlite_value.proofs.OrderLemmas.{value_cmp-Int}
-use Rattle.one_table.specs.Listing.{Holds, IsNumbered, Lists, Listed, with_rows, columns_of}
-use Rattle.one_table.proofs.OneTable.{over_table, passes, shows_of}
-use Rattle.one_table.proofs.Rowed.{plainly, carried, at_place}
-use Rattle.one_table.proofs.Insertion.{IsPlace, went, same_value}
-use Rattle.one_table.proofs.Alteration.{set_one, updated_part}
-use Rattle.pawn_tables.specs.Rows.{number, or_null}
 
 -- ---- SQL's IS NOT, and OR of some
 

@@ -1,23 +1,9 @@
 -- Tables that stand for a host, and tables that list its rows.
 use Rattle.std.proofs.Common.{◌≡◌, ◌≤◌, ℕ, List, [], ◌∷◌, codes, IsPermutation, subst, arith}
-use Rattle.std.proofs.lemmas.List.Sorted.{IsPermutation-trans, IsPermutation-refl}
-use Rattle.sqlite.specs.Order.{Row}
-use Rattle.sqlite.specs.Tree.{Trees}
-use Rattle.sqlite.specs.Table.{Table}
-use Rattle.sqlite.specs.Effect.{Database}
+use Rattle.pawn_saving.proofs.Lemmas.{IsPermutation-refl, IsPermutation-trans, swapped, numbered_rise}
+use Rattle.pawn_saving.specs.Common.{Database, Row, Table, Trees, Each, IsStanding, Host, rows, AreSound, HasTextsAndWords, Holds, Listed, with_rows, RiseFrom, meta_row, other_rows, ListsOurs, bookings_tree, books_tree, entries_tree, extensions_tree, meta_tree, pledges_tree, secrets_tree, terms_tree, totals_tree, AreBooksOrdered, AreStorable, HoldHost, StandsFor}
 use Rattle.pawn_terms.specs.Limits.{first_day}
-use Rattle.pawn_pledge.specs.Replayable.{Each, IsStanding}
-use Rattle.pawn_book.specs.HostStep.{Host, rows}
-use Rattle.pawn_book.specs.Sound.{AreSound, HasTextsAndWords}
 use Rattle.pawn_book.specs.Written.{AreWords}
-use Rattle.one_table.specs.Listing.{Holds, Listed, with_rows}
-use Rattle.one_table.proofs.Rowed.{swapped}
-use Rattle.pawn_tables.specs.Entries.{RiseFrom}
-use Rattle.pawn_tables.specs.Meta.{meta_row, other_rows}
-use Rattle.pawn_tables.specs.Ours.{ListsOurs}
-use Rattle.pawn_tables.specs.Schema.{bookings_tree, books_tree, entries_tree, extensions_tree, meta_tree, pledges_tree, secrets_tree, terms_tree, totals_tree}
-use Rattle.pawn_tables.specs.StandsFor.{StandsFor, HoldHost, AreBooksOrdered, AreStorable}
-use Rattle.pawn_tables.proofs.NextEntries.{numbered_rise}
 use Rattle.pawn_saving.proofs.OurTables.{with_tables}
 use Rattle.pawn_saving.specs.Counted.{listed_as, ListsHost}
 

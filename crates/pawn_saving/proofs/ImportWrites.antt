@@ -1,41 +1,9 @@
 -- What is written where a book is filled: the rows of the changed host.
 use Rattle.std.proofs.Common.{◌≡◌, ◌≢◌, ◌++◌, ◌==◌, ◌&&◌, ℕ, ◌+◌, ◌<◌, ◌≤◌, zero, suc, List, [], ◌∷◌, take, map, filter, flat_map, length, get_or, append_assoc, append-nil, Bool, true, false, cond, Option, Some, None, IsTrue, Result, Ok, Err, IfOk, refl, sym, ap, subst, ◌∙◌, arith, IsPermutation}
-use Rattle.std.specs.Prelude.{if◌then◌else◌, sum_by}
-use Rattle.std.specs.FinMap.{get}
-use Rattle.std.proofs.lemmas.Bool.Decides.{nat_tests}
+use Rattle.pawn_saving.specs.Common.{if◌then◌else◌, sum_by, get, Database, Row, HasCleanDisk, State, PledgeValue, Booking, BookValue, changed_book, filled_book, pledge_from, pledge_in, IsUnfilled, with_change, Host, book_rows, pledge_rows, rows, with_book, AreNumberedFrom, AreSound, ImportBook, BookRows, IsLent, Listed, with_rows, at_book, at_pledge, ListsOurs, at_most_one, book_row, booking_cells, booking_listed, entries_listed, extensions_listed, number, number_in_book, placed_from, pledge_listed, secrets_listed, terms_cells, terms_listed, totals_listed, under, bookings_tree, AreBooksOrdered, of_books, of_pledges}
+use Rattle.pawn_saving.proofs.Lemmas.{nat_tests, take_more, IsPermutation-append, IsPermutation-append_comm, IsPermutation-map, IsPermutation-refl, IsPermutation-sym, IsPermutation-trans, sum_by_push, IsPermutation-flat_map, IsPermutation-same, part, rows-with_book, get-with_book, clean_before, under_booked, equals, filter-append, flat_none, of_one_pledge, rows_at}
 use Rattle.std.proofs.lemmas.Grind.{flat_map-append}
-use Rattle.std.proofs.lemmas.List.{take_more}
-use Rattle.std.proofs.lemmas.List.Sums.{sum_by_push}
-use Rattle.std.proofs.lemmas.List.Sorted.{IsPermutation-refl, IsPermutation-trans, IsPermutation-sym, IsPermutation-map, IsPermutation-append, IsPermutation-append_comm}
-use Rattle.sqlite_trees.proofs.ListLemmas.{IsPermutation-flat_map, IsPermutation-same}
-use Rattle.sqlite.specs.Order.{Row}
-use Rattle.sqlite.specs.Effect.{Database}
-use Rattle.sqlite.specs.State.{State, HasCleanDisk}
-use Rattle.pawn_pledge.specs.declared.record.Booking.{Booking}
-use Rattle.pawn_pledge.specs.Pledge.{PledgeValue}
-use Rattle.pawn_book.specs.declared.change.Change.TheVariants.{ImportBook}
-use Rattle.pawn_book.specs.declared.rows.BookRows.{BookRows}
-use Rattle.pawn_book.specs.BookStep.{BookValue, changed_book, filled_book, pledge_from, pledge_in}
-use Rattle.pawn_book.specs.Changes.{IsUnfilled, with_change}
-use Rattle.pawn_book.specs.HostStep.{Host, book_rows, pledge_rows, rows, with_book}
-use Rattle.pawn_book.specs.Rows.{AreNumberedFrom}
-use Rattle.pawn_book.specs.Sound.{AreSound}
-use Rattle.pawn_book.proofs.RowSums.{part, rows-with_book}
-use Rattle.pawn_book.proofs.Sounds.{get-with_book}
-use Rattle.one_table.specs.Lending.{IsLent}
-use Rattle.one_table.specs.Listing.{Listed, with_rows}
-use Rattle.one_table.proofs.Lent.{clean_before}
-use Rattle.pawn_tables.specs.Ours.{ListsOurs}
-use Rattle.pawn_tables.specs.Schema.{bookings_tree}
-use Rattle.pawn_tables.specs.At.{at_book, at_pledge}
-use Rattle.pawn_tables.specs.Rows.{at_most_one, book_row, booking_cells, booking_listed, entries_listed, extensions_listed, number, number_in_book, placed_from, pledge_listed, secrets_listed, terms_cells, terms_listed, totals_listed, under}
-use Rattle.pawn_tables.specs.StandsFor.{of_books, of_pledges, AreBooksOrdered}
-use Rattle.pawn_tables.proofs.PledgeReads.{under_booked}
-use Rattle.pawn_tables.proofs.RowsUnderKey.{equals, filter-append, flat_none, of_one_pledge, rows_at}
-use Rattle.pawn_saving.specs.Counted.{IsWrittenPart, listed_as, ListsHost}
-use Rattle.pawn_saving.specs.Importing.{whole_pledges}
-use Rattle.pawn_saving.specs.Putting.{beside, booking_under, whole_pledge}
-use Rattle.pawn_saving.specs.Writing.{IsCarried, IsOnly}
+use Rattle.pawn_saving.specs.Saving.{IsWrittenPart, ListsHost, listed_as, whole_pledges, beside, booking_under, whole_pledge, IsCarried, IsOnly}
 use Rattle.pawn_saving.proofs.BookChanges.{books_only}
 use Rattle.pawn_saving.proofs.Changing.{replaced}
 use Rattle.pawn_saving.proofs.Hosting.{AreSame, relisted}

@@ -1,13 +1,6 @@
 -- What tables stand for once a change is written and its rows are counted.
 use Rattle.std.proofs.Common.{◌≡◌, ◌+◌, ◌≤◌, ◌<◌, ◌↔◌, ℕ, Bool, true, false, Option, Some, None, IsTrue, refl, sym, subst, arith}
-use Rattle.sqlite.specs.Effect.{Database}
-use Rattle.pawn_book.specs.BookStep.{BookValue, changed_book}
-use Rattle.pawn_book.specs.HostStep.{Host, rows, with_book}
-use Rattle.pawn_book.specs.Changes.{CanSave, with_change, book_number}
-use Rattle.pawn_book.specs.Sound.{IsSound}
-use Rattle.pawn_book.specs.declared.change.Change.{Change}
-use Rattle.std.specs.FinMap.{get}
-use Rattle.pawn_tables.specs.StandsFor.{StandsFor}
+use Rattle.pawn_saving.specs.Common.{get, Database, BookValue, changed_book, CanSave, book_number, with_change, Host, rows, with_book, IsSound, Change, StandsFor}
 use Rattle.pawn_saving.specs.Counted.{IsWrittenPart, ListsHost}
 use Rattle.pawn_saving.proofs.Hosting.{are_ordered, are_storable, as_stands}
 

@@ -6,6 +6,7 @@ pub mod Differing
 pub mod Hosting
 pub mod ImportWrites
 pub mod Judging
+pub mod Lemmas
 pub mod Lent
 pub mod OurTables
 pub mod Places
@@ -18,3 +19,4 @@ pub mod Saved
 pub mod StatementWrites
 pub mod StoredReads
 pub mod WriteTexts
+pub mod Writing

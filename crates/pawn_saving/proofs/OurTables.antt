@@ -1,27 +1,7 @@
 -- What statements write, whatever indexes the program's tables have.
 use Rattle.std.proofs.Common.{◌≡◌, ◌&&◌, ◌||◌, ◌++◌, ℕ, ℤ, ◌/◌, List, [], ◌∷◌, length, Bool, true, false, Option, Ok, refl, ap, filter, IsPermutation}
-use Rattle.std.specs.List.{AllByRecursion, list_any}
-use Rattle.sqlite.specs.declared.types.Value.TheVariants.{Int}
-use Rattle.sqlite.specs.Cast.{cast_row}
-use Rattle.sqlite.specs.Edit.{with_rowid}
-use Rattle.sqlite.specs.Effect.{Database, value_rows}
-use Rattle.sqlite.specs.Order.{Row}
-use Rattle.sqlite.specs.Program.{overlay}
-use Rattle.sqlite.specs.Rowids.TheVariants.{Chosen}
-use Rattle.sqlite.specs.State.{State, Executes}
-use Rattle.sqlite.specs.Table.{Table}
-use Rattle.sqlite.specs.Term.{Term}
-use Rattle.sqlite.specs.Tree.{Trees, rowid}
-use Rattle.sqlite_schema.specs.declared.schema.Index.{Index}
-use Rattle.sqlite_rules.specs.Keys.{conflicts, shares}
-use Rattle.one_table.specs.Listing.{Holds, Listed, Lists, columns_of, with_rows}
-use Rattle.one_table.proofs.Alteration.{set_one}
-use Rattle.one_table.proofs.Insertion.{IsPlace, inserted}
-use Rattle.one_table.proofs.OneTable.{over_table, passes, shows_of}
-use Rattle.one_table.proofs.Rowed.{plainly}
-use Rattle.one_table.proofs.Texts.{Puts, Sets}
-use Rattle.pawn_tables.specs.Ours.{AreLoose, ListsOurs, with_indexes}
-use Rattle.pawn_tables.specs.Schema.{keep_schema}
+use Rattle.pawn_saving.specs.Common.{AllByRecursion, list_any, conflicts, shares, Index, cast_row, with_rowid, Database, value_rows, Row, overlay, Chosen, Executes, State, Table, Term, Trees, rowid, Int, Holds, Listed, Lists, columns_of, with_rows, AreLoose, ListsOurs, with_indexes, keep_schema}
+use Rattle.pawn_saving.proofs.Lemmas.{set_one, IsPlace, inserted, over_table, passes, shows_of, plainly, Puts, Sets}
 use Rattle.pawn_saving.proofs.Differing.{set_where}
 
 -- the tables list other rows, under the schema that they had

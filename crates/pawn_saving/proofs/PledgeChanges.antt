@@ -1,30 +1,8 @@
 -- What becomes of the rows of a host where a pledge is put.
 use Rattle.std.proofs.Common.{◌≡◌, ◌++◌, ◌==◌, ℕ, ◌+◌, ◌≤◌, List, [], ◌∷◌, map, filter, flat_map, length, length-append, append_assoc, Bool, true, false, Option, Some, None, refl, ap, subst, ◌∙◌, arith, IsPermutation}
-use Rattle.std.specs.Prelude.{if◌then◌else◌, sum_by}
-use Rattle.std.specs.FinMap.{entries, get}
-use Rattle.std.proofs.lemmas.Bool.Decides.{nat_tests}
-use Rattle.std.proofs.lemmas.List.Sums.{sum_by-cons}
-use Rattle.std.proofs.lemmas.List.Sorted.{IsPermutation-refl, IsPermutation-cons, IsPermutation-trans, IsPermutation-sym, IsPermutation-map, IsPermutation-append, IsPermutation-append_comm, length_permutation}
-use Rattle.sqlite_trees.proofs.ListLemmas.{IsPermutation-flat_map, IsPermutation-filter, IsPermutation-same}
-use Rattle.sqlite.specs.declared.types.Value.TheVariants.{Text}
-use Rattle.sqlite.specs.Order.{Row}
-use Rattle.pawn_pledge.specs.Pledge.{PledgeValue}
-use Rattle.pawn_book.specs.declared.change.Change.TheVariants.{PutPledge}
-use Rattle.pawn_book.specs.BookStep.{BookValue, changed_book, pledge_from, pledge_in, put_from}
-use Rattle.pawn_book.specs.Changes.{with_change}
-use Rattle.pawn_book.specs.HostStep.{Host, book_rows, pledge_rows, rows, with_book}
-use Rattle.pawn_book.specs.Rows.{AreNumberedFrom}
-use Rattle.pawn_book.specs.Sound.{AreSound}
-use Rattle.pawn_book.proofs.RowSums.{part, rows-with_book}
-use Rattle.pawn_book.proofs.Sounds.{get-with_book}
-use Rattle.one_table.proofs.Rowed.{swapped}
-use Rattle.pawn_tables.specs.At.{at_book, at_pledge}
-use Rattle.pawn_tables.specs.Rows.{book_row, import_count, import_key, number, or_null, terms_listed, word}
-use Rattle.pawn_tables.specs.StandsFor.{of_books, of_pledges, AreBooksOrdered}
-use Rattle.pawn_tables.proofs.RowsUnderKey.{AreUnder, all_under, filter-append, of_one_pledge, rows_at}
-use Rattle.pawn_tables.proofs.PledgeReads.{number_in}
-use Rattle.pawn_saving.specs.Counted.{listed_as}
-use Rattle.pawn_saving.specs.Writing.{IsOnly}
+use Rattle.pawn_saving.specs.Common.{if◌then◌else◌, sum_by, entries, get, Row, Text, PledgeValue, BookValue, changed_book, pledge_from, pledge_in, put_from, with_change, Host, book_rows, pledge_rows, rows, with_book, AreNumberedFrom, AreSound, PutPledge, at_book, at_pledge, book_row, import_count, import_key, number, or_null, terms_listed, word, AreBooksOrdered, of_books, of_pledges}
+use Rattle.pawn_saving.proofs.Lemmas.{nat_tests, IsPermutation-append, IsPermutation-append_comm, IsPermutation-cons, IsPermutation-map, IsPermutation-refl, IsPermutation-sym, IsPermutation-trans, length_permutation, sum_by-cons, IsPermutation-filter, IsPermutation-flat_map, IsPermutation-same, part, rows-with_book, get-with_book, swapped, number_in, AreUnder, all_under, filter-append, of_one_pledge, rows_at}
+use Rattle.pawn_saving.specs.Saving.{listed_as, IsOnly}
 use Rattle.pawn_saving.proofs.BookChanges.{books_only}
 use Rattle.pawn_saving.proofs.Changing.{replaced}
 

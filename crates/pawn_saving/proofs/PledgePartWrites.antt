@@ -1,16 +1,8 @@
 -- What the parts of a pledge's put write, one after another.
 use Rattle.std.proofs.Common.{◌≡◌, ◌++◌, ◌∷◌, ℕ, List, Option, Some, None, IsPermutation, refl, sym, subst, ◌∙◌}
-use Rattle.std.specs.Prelude.{option_map}
+use Rattle.pawn_saving.specs.Common.{option_map, Database, Row, PledgeValue, Listed, with_rows, ListsOurs, at_most_one, bookings_tree, entries_tree, extensions_tree, pledges_tree, secrets_tree, totals_tree}
 use Rattle.std.proofs.lemmas.List.Sorted.{IsPermutation-sym}
-use Rattle.sqlite.specs.Order.{Row}
-use Rattle.sqlite.specs.Effect.{Database}
-use Rattle.pawn_pledge.specs.Pledge.{PledgeValue}
-use Rattle.one_table.specs.Listing.{Listed, with_rows}
-use Rattle.pawn_tables.specs.Ours.{ListsOurs}
-use Rattle.pawn_tables.specs.Schema.{bookings_tree, entries_tree, extensions_tree, pledges_tree, secrets_tree, totals_tree}
-use Rattle.pawn_tables.specs.Rows.{at_most_one}
-use Rattle.pawn_saving.specs.declared.lengths.Lengths.{Lengths}
-use Rattle.pawn_saving.specs.Putting.{beside, booking_under, entries_past, extensions_past, lists_past, row_under, secrets_past, sides_of, totals_under, whole_pledge, with_sides}
+use Rattle.pawn_saving.specs.Saving.{beside, booking_under, entries_past, extensions_past, lists_past, row_under, secrets_past, sides_of, totals_under, whole_pledge, with_sides, Lengths}
 use Rattle.pawn_saving.proofs.OurTables.{with_tables}
 use Rattle.pawn_saving.proofs.RowsInOrder.{nothing_put, reordered}
 

@@ -1,20 +1,8 @@
 -- What the statements on the rows of pledges write.
 use Rattle.std.proofs.Common.{◌≡◌, ℕ, Bool, List, [], ◌∷◌, Option, Some, None, Ok, refl, ap, subst, ◌∙◌}
-use Rattle.sqlite.specs.declared.types.Value.{Value}
-use Rattle.sqlite.specs.declared.types.Value.TheVariants.{Null, Int, Text}
-use Rattle.sqlite.specs.Cast.{cast}
-use Rattle.sqlite.specs.Kind.TheVariants.{Integer}
-use Rattle.sqlite.specs.Order.{Row, column}
-use Rattle.sqlite.specs.State.{State, Executes}
+use Rattle.pawn_saving.specs.Common.{cast, Integer, Row, column, Executes, State, Value, Int, Null, Text, PledgeValue, end_of, Agreement, Listed, columns_of, with_rows, at_pledge, ListsOurs, closed_amount, closed_day, closed_number, flag, flag_number, kind_number, number, or_null, pledge_cells, under, pledges, pledges_tree}
 use Rattle.pawn_debt.specs.Due.{credit_of}
-use Rattle.pawn_pledge.specs.declared.record.Agreement.{Agreement}
-use Rattle.pawn_pledge.specs.Pledge.{PledgeValue, end_of}
-use Rattle.one_table.specs.Listing.{Listed, with_rows, columns_of}
 use Rattle.one_table.proofs.Rowed.{plainly, cast_null, cast_int, cast_whole}
-use Rattle.pawn_tables.specs.Ours.{ListsOurs}
-use Rattle.pawn_tables.specs.Schema.{pledges, pledges_tree}
-use Rattle.pawn_tables.specs.Rows.{number, or_null, flag, flag_number, under, kind_number, pledge_cells, closed_number, closed_day, closed_amount}
-use Rattle.pawn_tables.specs.At.{at_pledge}
 use Rattle.pawn_saving.specs.Writing.{IsOnly}
 use Rattle.pawn_saving.proofs.OurTables.{row_joins, row_set_where}
 use Rattle.pawn_saving.proofs.WriteTexts as text

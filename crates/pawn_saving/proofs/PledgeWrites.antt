@@ -1,35 +1,10 @@
 -- What is written where a pledge is put: the rows of the changed host.
 use Rattle.std.proofs.Common.{◌≡◌, ◌⊎◌, inl, inr, ◌++◌, ◌==◌, ℕ, ◌+◌, ◌≤◌, List, [], ◌∷◌, map, drop, length, filter, IsPermutation, Some, None, refl, sym, ap, subst, ◌∙◌, arith}
-use Rattle.std.specs.Prelude.{if◌then◌else◌}
+use Rattle.pawn_saving.specs.Common.{if◌then◌else◌, get, Database, Row, Entry, Grows, PledgeValue, Agreement, Extension, Issued, BookValue, pledge_from, pledge_in, Continues, with_change, Host, pledge_rows, rows, AreSound, PutPledge, Listed, with_rows, at_pledge, ListsOurs, book_row, booking_listed, entries_listed, entry_cells, extension_cells, extensions_listed, placed_from, pledge_listed, secret_cells, secrets_listed, totals_listed, under, bookings_tree, pledges_tree, AreBooksOrdered, of_pledges}
 use Rattle.std.proofs.Math.Seq.{drop-append_seam}
-use Rattle.std.proofs.lemmas.List.Sorted.{IsPermutation-refl}
-use Rattle.std.specs.FinMap.{get}
-use Rattle.sqlite.specs.Order.{Row}
-use Rattle.sqlite.specs.Effect.{Database}
-use Rattle.pawn_debt.specs.declared.entry.Entry.{Entry}
-use Rattle.pawn_pledge.specs.declared.record.Agreement.{Agreement}
-use Rattle.pawn_pledge.specs.declared.record.Extension.{Extension}
-use Rattle.pawn_pledge.specs.declared.record.Issued.{Issued}
-use Rattle.pawn_pledge.specs.Growth.{Grows}
-use Rattle.pawn_pledge.specs.Pledge.{PledgeValue}
-use Rattle.pawn_book.specs.declared.change.Change.TheVariants.{PutPledge}
-use Rattle.pawn_book.specs.BookStep.{BookValue, pledge_from, pledge_in}
-use Rattle.pawn_book.specs.Changes.{Continues, with_change}
-use Rattle.pawn_book.specs.HostStep.{Host, pledge_rows, rows}
-use Rattle.pawn_book.specs.Sound.{AreSound}
+use Rattle.pawn_saving.proofs.Lemmas.{IsPermutation-refl, part, number_in, under_booked, rows_at}
 use Rattle.pawn_book.proofs.Places.{pledge_within}
-use Rattle.pawn_book.proofs.RowSums.{part}
-use Rattle.one_table.specs.Listing.{Listed, with_rows}
-use Rattle.pawn_tables.specs.Ours.{ListsOurs}
-use Rattle.pawn_tables.specs.Schema.{bookings_tree, pledges_tree}
-use Rattle.pawn_tables.specs.At.{at_pledge}
-use Rattle.pawn_tables.specs.Rows.{book_row, booking_listed, entries_listed, entry_cells, extension_cells, extensions_listed, placed_from, pledge_listed, secret_cells, secrets_listed, totals_listed, under}
-use Rattle.pawn_tables.specs.StandsFor.{of_pledges, AreBooksOrdered}
-use Rattle.pawn_tables.proofs.RowsUnderKey.{rows_at}
-use Rattle.pawn_tables.proofs.PledgeReads.{number_in, under_booked}
-use Rattle.pawn_saving.specs.Counted.{IsWrittenPart, listed_as, ListsHost}
-use Rattle.pawn_saving.specs.declared.lengths.Lengths.{Lengths}
-use Rattle.pawn_saving.specs.Putting.{AreSidesPut, beside, booking_under, entries_past, extensions_past, lists_past, row_under, secrets_past, totals_under, whole_pledge, with_sides}
+use Rattle.pawn_saving.specs.Saving.{IsWrittenPart, ListsHost, listed_as, AreSidesPut, beside, booking_under, entries_past, extensions_past, lists_past, row_under, secrets_past, totals_under, whole_pledge, with_sides, Lengths}
 use Rattle.pawn_saving.proofs.Hosting.{AreSame, relisted}
 use Rattle.pawn_saving.proofs.PledgeChanges.{after_put, before_put, books_after, books_stay, changed, is_changed, next, none_rest, other_books, put_length, put_named, rest, rows_grown, rows_joined, rows_put, stood, terms_stay}
 

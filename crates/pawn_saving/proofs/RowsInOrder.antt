@@ -1,19 +1,8 @@
 -- Rows that are put one after another.
 use Rattle.std.proofs.Common.{◌≡◌, ◌++◌, ◌==◌, false, ℕ, zero, suc, ◌+◌, ◌<◌, ◌≤◌, List, [], ◌∷◌, map, take, length, get_or, Bool, true, IsTrue, refl, sym, ap, subst, ◌∙◌, arith, append_assoc, IsPermutation, Result, Ok, Err, OnOk}
-use Rattle.std.specs.Prelude.{if◌then◌else◌}
-use Rattle.std.proofs.lemmas.Bool.Decides.{nat_tests}
-use Rattle.std.proofs.lemmas.List.Sorted.{IsPermutation-refl, IsPermutation-append, IsPermutation-append_comm}
-use Rattle.sqlite.specs.Order.{Row}
-use Rattle.sqlite.specs.Effect.{Database}
-use Rattle.sqlite.specs.State.{State, HasCleanDisk}
+use Rattle.pawn_saving.specs.Common.{if◌then◌else◌, Database, Row, HasCleanDisk, State, IsLent, Listed, with_rows, ListsOurs, placed_from, bookings_tree, books_tree, entries_tree, extensions_tree, meta_tree, pledges_tree, secrets_tree, terms_tree, totals_tree}
+use Rattle.pawn_saving.proofs.Lemmas.{nat_tests, IsPermutation-append, IsPermutation-append_comm, IsPermutation-refl, clean_before, kept_then}
 use Rattle.sqlite.proofs.StateLemmas.{survives_then}
-use Rattle.one_table.specs.Lending.{IsLent}
-use Rattle.one_table.specs.Listing.{Listed, with_rows}
-use Rattle.one_table.proofs.Lent.{clean_before}
-use Rattle.one_table.proofs.Parts.{kept_then}
-use Rattle.pawn_tables.specs.Ours.{ListsOurs}
-use Rattle.pawn_tables.specs.Schema.{bookings_tree, books_tree, entries_tree, extensions_tree, meta_tree, pledges_tree, secrets_tree, terms_tree, totals_tree}
-use Rattle.pawn_tables.specs.Rows.{placed_from}
 use Rattle.pawn_saving.specs.Writing.{IsCarried}
 use Rattle.pawn_saving.proofs.Hosting.{relisted}
 

@@ -1,23 +1,11 @@
 -- A change is saved: a transaction that is lent and goes well, and a commit.
 use Rattle.std.proofs.Common.{◌≡◌, ◌≢◌, ◌⊎◌, inl, inr, ◌≤◌, ◌<◌, true, false, Result, Ok, Err, IsTrue, refl, sym, ap, subst, ◌∙◌, arith}
-use Rattle.sqlite.specs.Effect.{Database}
-use Rattle.sqlite.specs.Tree.{Trees}
-use Rattle.sqlite.specs.State.{State, HasCleanDisk, IsRolledBack, Shows, Survives}
+use Rattle.pawn_saving.specs.Common.{Database, HasCleanDisk, IsRolledBack, Shows, State, Survives, Trees, CanSave, with_change, Host, rows, GoesOn, IsFitting, IsLeftBy, Of, Saves, IsSound, Change, SaveError, IsLent, HoldSound, IsWhole, Keeps, Leaves, keeping_by, HoldHost, StandsFor}
 use Rattle.sqlite.specs.Steps.{FailsToCommit}
 use Rattle.sqlite.specs.declared.error.Error.{Error}
-use Rattle.pawn_book.specs.HostStep.{Host, rows}
-use Rattle.pawn_book.specs.Keeping.{IsLeftBy, IsFitting, Of, Saves, GoesOn}
-use Rattle.pawn_book.specs.Sound.{IsSound}
-use Rattle.pawn_book.specs.Changes.{CanSave, with_change}
-use Rattle.pawn_book.specs.declared.change.Change.{Change}
-use Rattle.pawn_book.specs.declared.fault.SaveError.{SaveError}
 use Rattle.pawn_book.specs.declared.fault.SaveError.TheVariants as Save
-use Rattle.one_table.specs.Lending.{IsLent}
-use Rattle.one_table.proofs.Lent.{clean_before}
-use Rattle.one_table.proofs.Parts.{committed_rests, rests_open}
-use Rattle.pawn_tables.specs.StandsFor.{StandsFor, HoldHost}
+use Rattle.pawn_saving.proofs.Lemmas.{clean_before, committed_rests, rests_open}
 use Rattle.pawn_tables.specs.OneHost.{StandForOne}
-use Rattle.pawn_tables.specs.Keeps.{HoldSound, IsWhole, Keeps, Leaves, keeping_by}
 use Rattle.pawn_saving.specs.Counted.{CountJudged, WritesChange}
 use Rattle.pawn_saving.proofs.Hosting.{held}
 use Rattle.pawn_saving.proofs.Judging.{limit_after}

@@ -1,30 +1,10 @@
 -- What the statements of a change write.
 use Rattle.std.proofs.Common.{◌≡◌, inl, inr, ℕ, ℤ, pos, List, [], ◌∷◌, ◌++◌, Bool, true, false, ◌&&◌, ◌||◌, ◌==◌, Option, Some, None, Result, Ok, Err, refl, sym, ap, subst, ◌∙◌, arith, IsPermutation, filter}
-use Rattle.std.specs.Prelude.{OnOk, option_map}
-use Rattle.std.specs.List.{list_all}
-use Rattle.std.proofs.lemmas.Bool.Decides.{nat_tests}
-use Rattle.sqlite.specs.declared.types.Value.{Value}
-use Rattle.sqlite.specs.declared.types.Value.TheVariants.{Null, Int, Blob}
-use Rattle.sqlite.specs.Order.{Row, column}
-use Rattle.sqlite.specs.State.{State, Executes}
-use Rattle.sqlite.specs.Table.{Table}
+use Rattle.pawn_saving.specs.Common.{OnOk, option_map, list_all, conflicts, Index, Row, column, Executes, State, Table, Value, Blob, Int, Null, Rates, Entry, Totals, Booking, Extension, Issued, Listed, columns_of, with_rows, at_pledge, is_at, AreLoose, ListsOurs, with_indexes, at_most_one, booking_cells, entry_cells, extension_cells, issue_number, number, secret_cells, sort_number, state_number, terms_cells, totals_cells, under, word}
+use Rattle.pawn_saving.proofs.Lemmas.{nat_tests, cast_int, cast_null, cast_whole, plainly, equals}
 use Rattle.sqlite_value.specs.Keys.{first_key}
-use Rattle.sqlite_rules.specs.Keys.{conflicts}
-use Rattle.pawn_terms.specs.declared.terms.Rates.{Rates}
-use Rattle.pawn_debt.specs.declared.entry.Entry.{Entry}
-use Rattle.pawn_debt.specs.declared.owing.Totals.{Totals}
-use Rattle.pawn_pledge.specs.declared.record.Booking.{Booking}
-use Rattle.pawn_pledge.specs.declared.record.Extension.{Extension}
-use Rattle.pawn_pledge.specs.declared.record.Issued.{Issued}
-use Rattle.one_table.specs.Listing.{Listed, with_rows, columns_of}
-use Rattle.one_table.proofs.Rowed.{plainly, cast_null, cast_int, cast_whole}
 use Rattle.one_table.proofs.Upsertion.{upserted, Splits}
-use Rattle.sqlite_schema.specs.declared.schema.Index.{Index}
-use Rattle.pawn_tables.specs.Ours.{AreLoose, ListsOurs, with_indexes}
 use Rattle.pawn_tables.specs.Schema.{terms, entries, secrets, bookings, totals, extensions, bookings_tree, entries_tree, extensions_tree, secrets_tree, terms_tree, totals_tree}
-use Rattle.pawn_tables.specs.Rows.{number, word, under, at_most_one, sort_number, issue_number, state_number, terms_cells, entry_cells, secret_cells, extension_cells, booking_cells, totals_cells}
-use Rattle.pawn_tables.specs.At.{at_pledge, is_at}
-use Rattle.pawn_tables.proofs.RowsUnderKey.{equals}
 use Rattle.pawn_saving.specs.Writing.{IsOnly}
 use Rattle.pawn_saving.proofs.Differing.{differ, AreEqual, all_equal, same_number}
 use Rattle.pawn_saving.proofs.OurTables.{meets_same, row_joins, row_set_where, under_same}

@@ -1,30 +1,11 @@
 -- How much of a pledge stands, as it is looked up.
 use Rattle.std.proofs.Common.{◌≡◌, ◌⊎◌, inl, inr, ◌↔◌, ℕ, zero, suc, ◌+◌, ◌-◌, ◌≤◌, ◌<◌, List, [], ◌∷◌, Option, Some, None, Bool, true, false, length, IsTrue, refl, sym, ap, subst, ◌∙◌, arith}
-use Rattle.std.specs.Prelude.{◌++◌, if◌then◌else◌, is_some, slice_get}
+use Rattle.pawn_saving.specs.Common.{if◌then◌else◌, is_some, slice_get, ◌++◌, get, HasCleanDisk, State, Grows, PledgeValue, AreIssued, Booking, Issued, BookValue, pledge_from, pledge_in, CanSave, Continues, Host, booking_rows, pledge_rows, entries_of, IsSound, PutPledge, IsLent, Rests, with_seq, StandsFor}
 use Rattle.std.proofs.Math.Nat.{eq-or-lt_of_le}
-use Rattle.sqlite.specs.State.{State, HasCleanDisk}
-use Rattle.std.specs.FinMap.{get}
-use Rattle.pawn_pledge.specs.declared.record.Booking.{Booking}
-use Rattle.pawn_pledge.specs.declared.record.Issued.{Issued}
-use Rattle.pawn_pledge.specs.Growth.{Grows}
-use Rattle.pawn_pledge.specs.Pledge.{PledgeValue}
-use Rattle.pawn_pledge.specs.Replayable.{AreIssued}
-use Rattle.pawn_book.specs.BookStep.{BookValue, pledge_from, pledge_in}
-use Rattle.pawn_book.specs.declared.change.Change.TheVariants.{PutPledge}
-use Rattle.pawn_book.specs.Changes.{CanSave, Continues}
-use Rattle.pawn_book.specs.HostStep.{Host, booking_rows, pledge_rows}
-use Rattle.pawn_book.specs.Keeping.{entries_of}
-use Rattle.pawn_book.specs.Sound.{IsSound}
-use Rattle.pawn_book.proofs.Sounds.{standing_at}
-use Rattle.one_table.specs.Lending.{IsLent, Rests}
-use Rattle.pawn_tables.specs.Entries.{with_seq}
+use Rattle.pawn_saving.proofs.Lemmas.{standing_at, at_seq}
 use Rattle.pawn_tables.specs.Places.{at_place}
-use Rattle.pawn_tables.specs.StandsFor.{StandsFor}
-use Rattle.pawn_tables.proofs.NextEntries.{at_seq}
-use Rattle.pawn_saving.specs.declared.lengths.Lengths.{Lengths}
+use Rattle.pawn_saving.specs.Saving.{AreLengths, IsLengthWithin, IsStored, IsCarried, Lengths}
 use Rattle.pawn_saving.specs.declared.stored.Stored.{Stored}
-use Rattle.pawn_saving.specs.Stored.{AreLengths, IsStored, IsLengthWithin}
-use Rattle.pawn_saving.specs.Writing.{IsCarried}
 use Rattle.pawn_saving.proofs.Lent.{clean_before, rests_then}
 use Rattle.pawn_saving.proofs.PledgeWrites.{continues_it}
 use Rattle.pawn_saving.proofs.RowsInOrder.{carried_none, carried_then}

@@ -1,26 +1,12 @@
 -- What the texts of the changes mean.
 use Rattle.std.proofs.Common.{◌≡◌, List, [], ◌∷◌, ℕ, pos, codes, Some, refl}
-use Rattle.sqlite.specs.Command.TheVariants.{InsertOr}
+use Rattle.pawn_saving.specs.Common.{Returning, Index, Add, Arith, Compare, Is, Or, Eq, Not, Binary, InsertOr, understood, Term, col, lit, op1, op2, Int, Null, Text, with_indexes, bookings_tree, books_tree, meta_tree, pledges_tree, totals_tree}
 use Rattle.sqlite_tied.specs.Compute.{everything}
-use Rattle.sqlite.specs.Listing.{understood}
-use Rattle.sqlite.specs.Collation.TheVariants.{Binary}
-use Rattle.sqlite.specs.Term.{Term, lit, col, op1, op2}
 use Rattle.sqlite.specs.Source.TheVariants.{Values}
-use Rattle.sqlite_sql.specs.declared.ops.BinaryOp.TheVariants.{Compare, Arith, Is, Or}
-use Rattle.sqlite_sql.specs.declared.ops.UnaryOp.TheVariants.{Not}
-use Rattle.sqlite_sql.specs.declared.ops.ArithOp.TheVariants.{Add}
-use Rattle.sqlite_sql.specs.declared.ops.CompareOp.TheVariants.{Eq}
-use Rattle.sqlite_schema.specs.declared.command.Returning.{Returning}
 use Rattle.sqlite_schema.specs.declared.command.Conflict.TheVariants.{Abort}
 use Rattle.sqlite_schema.specs.declared.command.Upsert.{Upsert}
-use Rattle.sqlite.specs.declared.types.Value.TheVariants.{Null, Int, Text}
-use Rattle.sqlite.proofs.Callers.{IsPlain, command_of}
-use Rattle.pawn_tables.specs.Schema.{bookings_tree, books_tree, meta_tree, pledges_tree, totals_tree}
-use Rattle.one_table.proofs.OneTable.{over_table}
-use Rattle.one_table.proofs.Texts.{Asks, Puts, Sets, Returns, is_param}
+use Rattle.pawn_saving.proofs.Lemmas.{IsPlain, command_of, over_table, Asks, Puts, Returns, Sets, is_param}
 use Rattle.pawn_tables.proofs.ReadTexts.{of_book}
-use Rattle.sqlite_schema.specs.declared.schema.Index.{Index}
-use Rattle.pawn_tables.specs.Ours.{with_indexes}
 pub use Rattle.pawn_tables.specs.declared.texts.TheConstants.{ADD_ROWS, PUT_BOOK, PUT_BOOKING, PUT_ENTRY, PUT_EXTENSION, PUT_PLEDGE, PUT_SECRET, PUT_TERMS, PUT_TOTALS, READ_LIMIT, SET_IMPORT, SET_PLEDGE, SET_PLEDGES_COUNT, SET_TERMS_COUNT, SET_TOTALS}
 
 abbrev pub book_values : List Term

@@ -1,21 +1,7 @@
 -- The tables in the middle of a change: its rows are written, but not yet counted.
 use Rattle.std.specs.Prelude.{◌≡◌, ◌==◌, ◌↔◌, ℕ, ◌+◌, ◌≤◌, ◌<◌, if◌then◌else◌, [], map, Bool, IsTrue, Result, Ok, Err, IfOk}
-use Rattle.std.specs.FinMap.{entries}
-use Rattle.sqlite.specs.Effect.{Database}
-use Rattle.sqlite.specs.State.{State, HasCleanDisk}
-use Rattle.pawn_book.specs.BookStep.{BookValue}
-use Rattle.pawn_book.specs.Changes.{CanSave, with_change}
-use Rattle.pawn_book.specs.declared.change.Change.{Change}
-use Rattle.pawn_book.specs.declared.fault.SaveError.{SaveError}
+use Rattle.pawn_saving.specs.Common.{entries, Database, HasCleanDisk, State, BookValue, CanSave, with_change, Host, rows, IsSound, Change, SaveError, Listed, meta_rows, ListsOurs, book_row, booking_listed, entries_listed, extensions_listed, pledge_listed, secrets_listed, terms_listed, totals_listed, bookings_tree, books_tree, entries_tree, extensions_tree, meta_tree, pledges_tree, secrets_tree, terms_tree, totals_tree, StandsFor, of_books, of_pledges}
 use Rattle.pawn_book.specs.declared.fault.SaveError.TheVariants as Save
-use Rattle.pawn_book.specs.HostStep.{Host, rows}
-use Rattle.pawn_book.specs.Sound.{IsSound}
-use Rattle.one_table.specs.Listing.{Listed}
-use Rattle.pawn_tables.specs.Ours.{ListsOurs}
-use Rattle.pawn_tables.specs.Schema.{bookings_tree, books_tree, entries_tree, extensions_tree, meta_tree, pledges_tree, secrets_tree, terms_tree, totals_tree}
-use Rattle.pawn_tables.specs.Meta.{meta_rows}
-use Rattle.pawn_tables.specs.Rows.{book_row, terms_listed, pledge_listed, entries_listed, secrets_listed, booking_listed, totals_listed, extensions_listed}
-use Rattle.pawn_tables.specs.StandsFor.{StandsFor, of_books, of_pledges}
 
 -- the rows of a host by their tree, where meta notes the given count
 abbrev pub listed_as : Host → ℕ → Listed

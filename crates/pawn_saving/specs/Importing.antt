@@ -1,14 +1,6 @@
 -- What is written when a book is filled by an import.
 use Rattle.std.specs.Prelude.{◌≡◌, ℕ, List, [], filter, flat_map, IsTrue, Result, IfOk, sum_by}
-use Rattle.sqlite.specs.State.{State, HasCleanDisk}
-use Rattle.pawn_pledge.specs.Pledge.{PledgeValue}
-use Rattle.pawn_book.specs.HostStep.{pledge_rows}
-use Rattle.pawn_book.specs.Rows.{AreNumberedFrom}
-use Rattle.one_table.specs.Listing.{Listed}
-use Rattle.pawn_tables.specs.Ours.{ListsOurs}
-use Rattle.pawn_tables.specs.Schema.{bookings_tree}
-use Rattle.pawn_tables.specs.At.{at_pledge}
-use Rattle.pawn_tables.specs.Rows.{number_in_book}
+use Rattle.pawn_saving.specs.Common.{HasCleanDisk, State, PledgeValue, pledge_rows, AreNumberedFrom, Listed, at_pledge, ListsOurs, number_in_book, bookings_tree}
 use Rattle.pawn_saving.specs.Putting.{beside, whole_pledge}
 
 -- all rows of pledges of book b, by their tree

@@ -1,5 +1,7 @@
+pub mod Common
 pub mod Counted
 pub mod Importing
 pub mod Putting
+pub mod Saving
 pub mod Stored
 pub mod Writing

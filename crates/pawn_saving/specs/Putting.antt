@@ -1,15 +1,7 @@
 -- What is written when a pledge is saved.
 use Rattle.std.specs.Prelude.{◌≡◌, ◌==◌, if◌then◌else◌, ℕ, ◌+◌, List, [], ◌∷◌, ◌++◌, map, drop, filter, Bool, IsPermutation, IsTrue, Result, OnOk, IfOk}
-use Rattle.sqlite.specs.Order.{Row}
-use Rattle.sqlite.specs.State.{State, HasCleanDisk}
+use Rattle.pawn_saving.specs.Common.{Row, HasCleanDisk, State, PledgeValue, debt_of, pledge_rows, Listed, with_rows, at_pledge, ListsOurs, at_most_one, booking_cells, entry_cells, extension_cells, placed_from, pledge_cells, secret_cells, totals_cells, under, bookings_tree, entries_tree, extensions_tree, pledges_tree, secrets_tree, totals_tree}
 use Rattle.pawn_debt.specs.Kept.{totals_of}
-use Rattle.pawn_pledge.specs.Pledge.{PledgeValue, debt_of}
-use Rattle.pawn_book.specs.HostStep.{pledge_rows}
-use Rattle.one_table.specs.Listing.{Listed, with_rows}
-use Rattle.pawn_tables.specs.Ours.{ListsOurs}
-use Rattle.pawn_tables.specs.Schema.{bookings_tree, entries_tree, extensions_tree, pledges_tree, secrets_tree, totals_tree}
-use Rattle.pawn_tables.specs.At.{at_pledge}
-use Rattle.pawn_tables.specs.Rows.{at_most_one, booking_cells, entry_cells, extension_cells, placed_from, pledge_cells, secret_cells, totals_cells, under}
 use Rattle.pawn_saving.specs.declared.lengths.Lengths.{Lengths}
 use Rattle.pawn_saving.specs.Writing.{IsOnly}
 

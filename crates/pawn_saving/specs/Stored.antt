@@ -1,12 +1,6 @@
 -- How much of a pledge the tables hold.
 use Rattle.std.specs.Prelude.{◌≡◌, ℕ, ◌≤◌, length, Option, is_some, IsTrue, Result, IfOk}
-use Rattle.sqlite.specs.State.{State, HasCleanDisk}
-use Rattle.pawn_pledge.specs.Pledge.{PledgeValue}
-use Rattle.pawn_book.specs.HostStep.{Host}
-use Rattle.pawn_book.specs.Keeping.{entries_of, extensions_of, secrets_of}
-use Rattle.pawn_book.specs.Sound.{IsSound}
-use Rattle.one_table.specs.Lending.{Rests}
-use Rattle.pawn_tables.specs.StandsFor.{StandsFor}
+use Rattle.pawn_saving.specs.Common.{HasCleanDisk, State, PledgeValue, Host, entries_of, extensions_of, secrets_of, IsSound, Rests, StandsFor}
 use Rattle.pawn_tables.specs.PledgeRows.{booking_of}
 use Rattle.pawn_saving.specs.declared.lengths.Lengths.{Lengths}
 use Rattle.pawn_saving.specs.declared.stored.PledgeList.{PledgeList}

@@ -1,10 +1,6 @@
 -- What a statement writes.
 use Rattle.std.specs.Prelude.{◌≡◌, ℕ, Bool, true, List, [], ◌∷◌, filter, IsPermutation, IsTrue, Option, Result, OnOk, ◌++◌}
-use Rattle.sqlite.specs.Order.{Row}
-use Rattle.sqlite.specs.State.{State, HasCleanDisk, KeepsCommit, Survives}
-use Rattle.one_table.specs.Listing.{Listed, with_rows}
-use Rattle.pawn_tables.specs.Ours.{ListsOurs}
-use Rattle.pawn_tables.specs.Rows.{at_most_one}
+use Rattle.pawn_saving.specs.Common.{Row, HasCleanDisk, KeepsCommit, State, Survives, Listed, with_rows, ListsOurs, at_most_one}
 
 -- the row is added to those of a table
 abbrev pub Joins : {E : Type 0} → State → State → Result (Unit {0}) E → ℕ → Row → Type 0

@@ -1,14 +1,6 @@
 ghost use Rattle.std.specs.Prelude.{◌≡◌, ◌∷◌, List, is_ok, length};
-ghost use Rattle.sqlite.specs.Held.{state};
-ghost use Rattle.pawn_terms.specs.declared.terms.Rates.{Rates};
-ghost use Rattle.pawn_pledge.specs.Pledge.{PledgeValue};
-ghost use Rattle.pawn_book.specs.BookStep.{BookValue, filled_book, made_book};
-ghost use Rattle.pawn_book.specs.declared.rows.BookRows.{BookRows};
-ghost use Rattle.one_table.specs.Lending.{Lends};
-ghost use Rattle.pawn_tables.specs.At.{at_book};
-ghost use Rattle.pawn_tables.specs.Rows.{book_row, number, terms_cells};
+ghost use Rattle.pawn_saving.specs.Common.{state, Rates, PledgeValue, BookValue, filled_book, made_book, BookRows, Lends, at_book, book_row, number, terms_cells, books_tree, terms_tree};
 ghost use Rattle.pawn_saving.specs.Writing.{Joins, Replaces};
-ghost use Rattle.pawn_tables.specs.Schema.{books_tree, terms_tree};
 
 use pawn_book::{KeepError, NewBook, Rates, Secret};
 use pawn_tables::texts::{PUT_BOOK, PUT_TERMS, SET_IMPORT, SET_PLEDGES_COUNT, SET_TERMS_COUNT};

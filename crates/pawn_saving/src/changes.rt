@@ -1,7 +1,5 @@
 ghost use Rattle.std.specs.Prelude.{is_ok};
-ghost use Rattle.sqlite.specs.Held.{state};
-ghost use Rattle.pawn_book.specs.declared.change.Change.TheVariants.{AddTerms, MakeBook, PutPledge};
-ghost use Rattle.one_table.specs.Lending.{Lends};
+ghost use Rattle.pawn_saving.specs.Common.{state, AddTerms, MakeBook, PutPledge, Lends};
 ghost use Rattle.pawn_saving.specs.Counted.{WritesRows};
 
 use crate::books::{put_book, put_terms, set_terms_count};

@@ -1,12 +1,6 @@
 ghost use Rattle.std.specs.Prelude.{◌≡◌, ◌∷◌, ◌+◌, ◌<◌, ◌^◌, ℕ, IfOk, IsTrue, codes, is_ok};
-ghost use Rattle.sqlite.specs.Held.{state};
-ghost use Rattle.sqlite.specs.State.{HasCleanDisk};
-ghost use Rattle.one_table.specs.Lending.{Rests, Lends};
-ghost use Rattle.one_table.specs.Listing.{Listed, with_rows};
-ghost use Rattle.pawn_tables.specs.Ours.{ListsOurs};
-ghost use Rattle.pawn_tables.specs.Schema.{meta_tree};
+ghost use Rattle.pawn_saving.specs.Common.{state, HasCleanDisk, Lends, Rests, Listed, with_rows, meta_row, meta_rows, other_rows, ListsOurs, meta_tree};
 ghost use Rattle.pawn_saving.specs.Counted.{Counts};
-ghost use Rattle.pawn_tables.specs.Meta.{meta_row, meta_rows, other_rows};
 
 use one_table::ask;
 use pawn_book::KeepError;

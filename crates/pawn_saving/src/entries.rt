@@ -1,9 +1,6 @@
 ghost use Rattle.std.specs.Prelude.{is_ok};
-ghost use Rattle.sqlite.specs.Held.{state};
-ghost use Rattle.one_table.specs.Lending.{Lends};
-ghost use Rattle.pawn_tables.specs.Rows.{under, entry_cells, extension_cells, secret_cells};
+ghost use Rattle.pawn_saving.specs.Common.{state, Lends, entry_cells, extension_cells, secret_cells, under, entries_tree, extensions_tree, secrets_tree};
 ghost use Rattle.pawn_saving.specs.Writing.{Joins};
-ghost use Rattle.pawn_tables.specs.Schema.{entries_tree, extensions_tree, secrets_tree};
 
 use pawn_book::{Entry, Extension, Issued, KeepError};
 use pawn_tables::texts::{PUT_ENTRY, PUT_EXTENSION, PUT_SECRET};

@@ -1,12 +1,6 @@
 ghost use Rattle.std.specs.Prelude.{◌≡◌, ◌+◌, IfOk, is_ok};
-ghost use Rattle.sqlite.specs.Held.{state};
-ghost use Rattle.pawn_book.specs.declared.change.Change.TheVariants.{ImportBook};
-ghost use Rattle.one_table.specs.Lending.{Lends};
-ghost use Rattle.pawn_tables.specs.Rows.{number_in_book};
-ghost use Rattle.pawn_saving.specs.Counted.{WritesRows};
-ghost use Rattle.pawn_saving.specs.Importing.{AddsPledges};
-ghost use Rattle.pawn_saving.specs.Putting.{AddsPledge};
-ghost use Rattle.pawn_saving.specs.Writing.{IsCarried};
+ghost use Rattle.pawn_saving.specs.Common.{state, ImportBook, Lends, number_in_book};
+ghost use Rattle.pawn_saving.specs.Saving.{WritesRows, AddsPledges, AddsPledge, IsCarried};
 
 use crate::books::set_import;
 use crate::lengths::length_in_32_bits;

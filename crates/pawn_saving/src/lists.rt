@@ -1,8 +1,6 @@
 ghost use Rattle.std.specs.Prelude.{◌≡◌, ◌+◌, ◌∷◌, IfOk, is_ok, map};
-ghost use Rattle.sqlite.specs.Held.{state};
-ghost use Rattle.pawn_tables.specs.Rows.{under, entry_cells, extension_cells, number, placed_from, secret_cells, terms_cells};
+ghost use Rattle.pawn_saving.specs.Common.{state, entry_cells, extension_cells, number, placed_from, secret_cells, terms_cells, under, entries_tree, extensions_tree, secrets_tree, terms_tree};
 ghost use Rattle.pawn_saving.specs.Writing.{AllJoin, IsCarried};
-ghost use Rattle.pawn_tables.specs.Schema.{entries_tree, extensions_tree, secrets_tree, terms_tree};
 
 use crate::books::put_terms;
 use crate::entries::{put_entry, put_extension, put_secret};

@@ -1,13 +1,6 @@
 ghost use Rattle.std.specs.Prelude.{◌≡◌, IfOk, Option, is_ok, option_map, pos};
-ghost use Rattle.sqlite.specs.Held.{state};
-ghost use Rattle.pawn_debt.specs.declared.owing.Totals.{Totals};
-ghost use Rattle.pawn_pledge.specs.declared.record.Booking.{Booking};
-ghost use Rattle.pawn_pledge.specs.Pledge.{PledgeValue};
-ghost use Rattle.one_table.specs.Lending.{Lends};
-ghost use Rattle.pawn_tables.specs.At.{at_pledge};
-ghost use Rattle.pawn_tables.specs.Rows.{under, booking_cells, pledge_cells, totals_cells};
+ghost use Rattle.pawn_saving.specs.Common.{state, Totals, PledgeValue, Booking, Lends, at_pledge, booking_cells, pledge_cells, totals_cells, under, bookings_tree, pledges_tree, totals_tree};
 ghost use Rattle.pawn_saving.specs.Writing.{Joins, PutsOver, Replaces};
-ghost use Rattle.pawn_tables.specs.Schema.{pledges_tree, totals_tree, bookings_tree};
 
 use pawn_book::{Booking, KeepError, Pledge};
 use pawn_debt::Totals;

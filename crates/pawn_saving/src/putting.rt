@@ -1,13 +1,6 @@
 ghost use Rattle.std.specs.Prelude.{◌≡◌, ◌+◌, if◌then◌else◌, None, Option, IfOk, drop, is_ok};
-ghost use Rattle.sqlite.specs.Held.{state};
-ghost use Rattle.pawn_pledge.specs.declared.record.Booking.{Booking};
-ghost use Rattle.pawn_book.specs.HostStep.{pledge_rows};
-ghost use Rattle.one_table.specs.Lending.{Lends};
-ghost use Rattle.pawn_tables.specs.At.{at_pledge};
-ghost use Rattle.pawn_tables.specs.Rows.{at_most_one, booking_cells, under};
-ghost use Rattle.pawn_saving.specs.Putting.{AddRows, AddSides, AddsPledge, PutsFor, lists_past};
-ghost use Rattle.pawn_saving.specs.Writing.{IsCarried};
-ghost use Rattle.pawn_tables.specs.Schema.{bookings_tree};
+ghost use Rattle.pawn_saving.specs.Common.{state, Booking, pledge_rows, Lends, at_pledge, at_most_one, booking_cells, under, bookings_tree};
+ghost use Rattle.pawn_saving.specs.Saving.{AddRows, AddSides, AddsPledge, PutsFor, lists_past, IsCarried};
 
 use crate::lengths::{Lengths, lengths_of};
 use crate::lists::{next_place, put_entries, put_extensions, put_secrets};

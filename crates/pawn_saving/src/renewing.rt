@@ -1,14 +1,6 @@
 ghost use Rattle.std.specs.Prelude.{◌≡◌, ◌+◌, None, Some, IfOk, is_ok};
-ghost use Rattle.std.specs.FinMap.{get};
-ghost use Rattle.sqlite.specs.Held.{state};
-ghost use Rattle.pawn_pledge.specs.Pledge.{PledgeValue};
-ghost use Rattle.pawn_book.specs.declared.change.Change.TheVariants.{PutPledge};
-ghost use Rattle.pawn_book.specs.BookStep.{pledge_in};
-ghost use Rattle.pawn_book.specs.HostStep.{pledge_rows};
-ghost use Rattle.one_table.specs.Lending.{Lends};
-ghost use Rattle.pawn_saving.specs.Counted.{WritesWhere};
-ghost use Rattle.pawn_saving.specs.Putting.{RenewSides};
-ghost use Rattle.pawn_saving.specs.Stored.{IsStored};
+ghost use Rattle.pawn_saving.specs.Common.{get, state, PledgeValue, pledge_in, pledge_rows, PutPledge, Lends};
+ghost use Rattle.pawn_saving.specs.Saving.{WritesWhere, RenewSides, IsStored};
 
 use crate::books::set_pledges_count;
 use crate::pledges::{set_row, set_totals};

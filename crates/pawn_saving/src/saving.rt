@@ -1,10 +1,6 @@
 ghost use Rattle.std.specs.Prelude.{◌≡◌, ◌≢◌, false, is_ok};
-ghost use Rattle.sqlite.specs.Held.{state};
+ghost use Rattle.pawn_saving.specs.Common.{state, CanSave, Of, Saves, Lends, keeping_by};
 ghost use Rattle.pawn_book.specs.declared.fault.SaveError.TheVariants as Save;
-ghost use Rattle.pawn_book.specs.Changes.{CanSave};
-ghost use Rattle.pawn_book.specs.Keeping.{Of, Saves};
-ghost use Rattle.one_table.specs.Lending.{Lends};
-ghost use Rattle.pawn_tables.specs.Keeps.{keeping_by};
 ghost use Rattle.pawn_saving.specs.Counted.{WritesChange, WritesRows};
 
 use crate::changes::{add_terms, make_book, put_pledge};

@@ -1,11 +1,7 @@
 //! How much of a pledge is stored before it is written.
 ghost use Rattle.std.specs.Prelude.{◌≡◌, ◌≤◌, ◌↔◌, IsTrue, is_ok};
-ghost use Rattle.std.specs.FinMap.{get};
-ghost use Rattle.sqlite.specs.Held.{state};
-ghost use Rattle.pawn_book.specs.BookStep.{pledge_in};
-ghost use Rattle.one_table.specs.Lending.{Lends};
-ghost use Rattle.pawn_saving.specs.Stored.{AreLengths, IsStored, IsLengthWithin, ReadsIn, length_in};
-ghost use Rattle.pawn_saving.specs.Writing.{IsCarried};
+ghost use Rattle.pawn_saving.specs.Common.{get, state, pledge_in, Lends};
+ghost use Rattle.pawn_saving.specs.Saving.{AreLengths, IsLengthWithin, IsStored, ReadsIn, length_in, IsCarried};
 
 use crate::lengths::Lengths;
 use pawn_book::KeepError;

@@ -9,7 +9,7 @@ mod running;
 pub use laws::{empty_host_is_sound, opened_has_answered_nothing, other_rows_stay};
 pub use opening::{close_keep, keep_at_path, keep_in_memory};
 pub use pawn_host::{Answer, Service, Stamp};
-pub use pawn_table_keeper::TableKeep;
 pub use pawn_opening::OpenFault;
+pub use pawn_table_keeper::TableKeep;
 pub use running::{ServedTables, answer_over_tables, run_over_tables, serve_over_tables};
 pub use sqlite::{FileFrom, FileStore, Files, Leftover, MemStore, Start};

@@ -16,8 +16,8 @@ ghost use Rattle.pawn_opening.specs.Opened.{OpensAs, empty_host};
 ghost use Rattle.pawn_opening.specs.Refusing.{IsStoreFault};
 ghost use Rattle.pawn_store.specs.Running.{Reopens};
 
-use pawn_table_keeper::TableKeep;
 use pawn_opening::{OpenFault, close_files, open_memory, open_path};
+use pawn_table_keeper::TableKeep;
 use sqlite::{FileFrom, FileStore, Files, Leftover, MemStore, Start};
 use sqlite_disk::Disk;
 use std::alloc::Global;

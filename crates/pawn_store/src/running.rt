@@ -7,8 +7,8 @@ ghost use Rattle.pawn_view.specs.Ends.{write_failed, written_bytes};
 ghost use Rattle.pawn_store.specs.Running.{HoldsSession, OverTables, RunsItems, ServesConnections, store_of};
 
 use pawn_host::{Answer, Ended, IoFault, Reading, Service, Stamp, Writing};
-use pawn_table_keeper::TableKeep;
 use pawn_program::{ClockStamps, Served, serve_on};
+use pawn_table_keeper::TableKeep;
 use sqlite::Alter;
 use std::alloc::AllocError;
 use std::io::{Read, Write};

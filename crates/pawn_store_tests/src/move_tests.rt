@@ -3,8 +3,8 @@
 //! a migration meets none. The script `tests/store/migration.py` shows it by kills over files, and checks each total.
 use crate::disks::{Disks, Failing, closed, connected, crashed, disks, go_on, store_on};
 use pawn_check::{CheckFault, Counts, check};
-use pawn_table_keeper::TableKeep;
 use pawn_move::{MoveFault, migrate, schema_of};
+use pawn_table_keeper::TableKeep;
 use sqlite::{Alter, Connection};
 use std::alloc::Global;
 use std::process::Abort;

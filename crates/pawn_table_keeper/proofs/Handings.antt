@@ -1,17 +1,8 @@
 -- Calls that hand over one list after another.
 use Rattle.std.proofs.Common.{◌≡◌, ◌++◌, ℕ, suc, ◌+◌, ◌-◌, ◌<◌, ◌≤◌, List, [], ◌∷◌, length, length-append, Result, Ok, Err, inl, inr, refl, sym, ap, subst, ◌∙◌, append_assoc, append-nil, arith}
-use Rattle.std.specs.Prelude.{IfErr}
-use Rattle.std.specs.List.{flat_map}
-use Rattle.pawn_book.specs.declared.fault.KeepError.{KeepError}
+use Rattle.pawn_table_keeper.specs.Common.{IfErr, flat_map, Host, Errs, Keeping, Reads, windows, windows_below, Handed, HandsOver, IsShare, Visits, Whole, call_end, KeepError, NoRecord, Flow, Go, Stop}
 use Rattle.pawn_book.specs.declared.fault.KeepError.TheVariants as Keeper
-use Rattle.pawn_book.specs.declared.fault.StoreFault.TheVariants.{NoRecord}
-use Rattle.pawn_book.specs.declared.visit.Flow.{Flow}
-use Rattle.pawn_book.specs.declared.visit.Flow.TheVariants.{Go, Stop}
-use Rattle.pawn_book.specs.HostStep.{Host}
-use Rattle.pawn_book.specs.Keeping.{Errs, Keeping, Reads}
-use Rattle.pawn_book.specs.Visits.{Handed, HandsOver, IsShare, Visits, Whole, call_end}
 use Rattle.pawn_book.proofs.Reading.{reads_as, reads_none, reads_then}
-use Rattle.pawn_book.specs.Sheet.{windows, windows_below}
 use Rattle.pawn_book.proofs.SheetLemmas.{handed-append, windows_begin, windows_more}
 use Rattle.pawn_table_keeper.specs.Handing.{HandsRows, flow_of}
 use Rattle.pawn_table_keeper.proofs.Walks.{errs_ok}

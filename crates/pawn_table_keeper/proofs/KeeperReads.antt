@@ -1,20 +1,12 @@
 -- A read of a keeper: a transaction that is lent, and rolled back.
 use Rattle.std.proofs.Common.{◌≡◌, ◌⊎◌, inl, inr, true, false, Result, Ok, Err, IsTrue, refl, sym, subst, ◌∙◌, arith}
 use Rattle.std.specs.Borrow.{MutBor}
-use Rattle.std.specs.Prelude.{IfOk, is_ok}
-use Rattle.sqlite.specs.Held.{Held, state}
+use Rattle.pawn_table_keeper.specs.Common.{IfOk, is_ok, Held, state, HasCleanDisk, IsRolledBack, KeepsCommit, State, Survives, Host, Errs, Reads, KeepError, NoRecord, IsWhole, Keeps, keeping_by, StandsFor}
 use Rattle.sqlite_trees.specs.declared.store.Store.{Ghosts}
-use Rattle.sqlite.specs.State.{State, HasCleanDisk, IsRolledBack, KeepsCommit, Survives}
-use Rattle.pawn_book.specs.HostStep.{Host}
-use Rattle.pawn_book.specs.Keeping.{Reads, Errs}
-use Rattle.pawn_book.specs.declared.fault.KeepError.{KeepError}
 use Rattle.pawn_book.specs.declared.fault.KeepError.TheVariants as Keeper
-use Rattle.pawn_book.specs.declared.fault.StoreFault.TheVariants.{NoRecord}
 use Rattle.one_table.specs.Lending.{IsLent, Lends, Rests}
 use Rattle.one_table.proofs.Lent.{clean_before}
 use Rattle.one_table.proofs.Parts.{rests_open, committed_rests}
-use Rattle.pawn_tables.specs.StandsFor.{StandsFor}
-use Rattle.pawn_tables.specs.Keeps.{IsWhole, Keeps, keeping_by}
 use Rattle.pawn_tables.specs.Finding.{Finds, FindsBy, FindsIn}
 
 -- what was found, alone

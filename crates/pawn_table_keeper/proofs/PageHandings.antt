@@ -1,15 +1,9 @@
 -- Pages that are handed over.
 use Rattle.std.proofs.Common.{◌≤◌, ◌≡◌, ◌++◌, ℕ, zero, suc, ◌+◌, ◌*◌, ◌<◌, List, [], ◌∷◌, length, map, take, drop, get_or, Ok, refl, sym, ap, subst, ◌∙◌, append-nil, arith}
 use Rattle.std.proofs.lemmas.List.{drop-drop, map-append, take_all, take_more, take-append-drop}
-use Rattle.pawn_book.specs.declared.visit.Flow.{Flow}
-use Rattle.pawn_book.specs.declared.visit.Flow.TheVariants.{Go, Stop}
-use Rattle.pawn_book.specs.HostStep.{Host}
-use Rattle.pawn_book.specs.Keeping.{Keeping, Reads}
-use Rattle.pawn_book.specs.Visits.{Handed, HandsOver}
+use Rattle.pawn_table_keeper.specs.Common.{Host, Keeping, Reads, Handed, HandsOver, Flow, Go, Stop, most_page_rows, page_behind}
 use Rattle.pawn_book.proofs.Reading.{reads_as}
 use Rattle.pawn_book.proofs.VisitLemmas.{handed-snoc}
-use Rattle.pawn_tables.specs.Pages.{most_page_rows}
-use Rattle.pawn_tables.specs.Places.{page_behind}
 use Rattle.pawn_table_keeper.specs.Handing.{HandsRows}
 use Rattle.pawn_table_keeper.proofs.Handings.{HandedTo, ends_by, goes_by, stops_by}
 

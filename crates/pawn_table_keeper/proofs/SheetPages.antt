@@ -1,14 +1,8 @@
 -- The first page of a part's lines.
 use Rattle.std.proofs.Common.{◌≡◌, ◌≢◌, ◌==◌, ◌∙◌, ◌++◌, ◌<◌, ◌≤◌, ℕ, zero, suc, Bool, true, false, cond, List, [], ◌∷◌, length, map, refl, sym, ap, append-nil, arith}
-use Rattle.std.specs.List.{flat_map, list_any}
-use Rattle.pawn_pledge.specs.Pledge.{PledgeValue}
-use Rattle.pawn_book.specs.declared.sheet.Part.{Part}
-use Rattle.pawn_book.specs.declared.sheet.SheetItem.{SheetItem}
+use Rattle.pawn_table_keeper.specs.Common.{flat_map, list_any, PledgeValue, part_items, window_items, window_sheet, windows_below, windows_sheet, with_head, Part, SheetItem, IsLinesPage, NamesWindows, item_of, items_past, most_page_rows, page_end}
 use Rattle.pawn_book.specs.declared.sheet.Part.TheVariants as part_of
-use Rattle.pawn_book.specs.Sheet.{part_items, window_items, window_sheet, windows_below, windows_sheet, with_head}
 use Rattle.pawn_book.proofs.SheetLemmas.{windows_more}
-use Rattle.pawn_tables.specs.Lines.{IsLinesPage, NamesWindows, item_of, items_past}
-use Rattle.pawn_tables.specs.Pages.{most_page_rows, page_end}
 use Rattle.pawn_tables.specs.declared.line.Line.{Line}
 use Rattle.pawn_table_keeper.specs.Windows.{named_sheet, named_sheets}
 

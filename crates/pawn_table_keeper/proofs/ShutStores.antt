@@ -1,7 +1,7 @@
 -- A store that is asked whether it is shut.
 use Rattle.std.proofs.Common.{◌≡◌, ◌⊎◌, inl, inr, ℕ, Bool, true, false, IsTrue, List, [], Result, Ok, Err, IfOk, IfErr, refl, sym, subst, ◌∙◌, arith}
 use Rattle.std.proofs.lemmas.Bool.{true_from_ne_false}
-use Rattle.sqlite.specs.State.{State, HasCleanDisk, Survives, IsUnchanged, IsRolledBack, HasCause, IsNotRun, IsNoStatement, store_error}
+use Rattle.pawn_table_keeper.specs.Common.{HasCause, HasCleanDisk, IsNoStatement, IsNotRun, IsRolledBack, IsUnchanged, State, Survives, store_error, Host, Reads, Keeps, keeping_by, StandsFor}
 use Rattle.sqlite.specs.declared.error.Error.{Error}
 use Rattle.sqlite.specs.declared.error.Error.TheVariants.{SqliteFailure}
 use Rattle.sqlite.specs.declared.error.ErrorCode.TheVariants.{Closed}
@@ -9,10 +9,6 @@ use Rattle.sqlite_trees.specs.declared.error.StoreError.{StoreError}
 use Rattle.sqlite_trees.specs.declared.error.StoreError.TheVariants.{OutOfMemory, Io, Corrupt, Full, Broken, Unstorable}
 use Rattle.sqlite_trees.proofs.Doubt.{no_doubt}
 use Rattle.sqlite_value.specs.Order.{Row}
-use Rattle.pawn_book.specs.HostStep.{Host}
-use Rattle.pawn_book.specs.Keeping.{Reads}
-use Rattle.pawn_tables.specs.StandsFor.{StandsFor}
-use Rattle.pawn_tables.specs.Keeps.{Keeps, keeping_by}
 
 -- ---- it keeps what it kept
 

@@ -1,18 +1,9 @@
 -- A list that is handed over element by element, each of them read by a call of its own.
 use Rattle.std.proofs.Common.{◌≡◌, ◌≤◌, ◌<◌, ◌++◌, ◌==◌, ℕ, zero, suc, ◌+◌, List, length, length-append, [], ◌∷◌, take, drop, slice_get, true, false, Option, Some, None, Result, Ok, Err, refl, sym, ap, subst, ◌∙◌, arith, append-nil}
-use Rattle.std.specs.Prelude.{IfErr, if◌then◌else◌}
+use Rattle.pawn_table_keeper.specs.Common.{IfErr, if◌then◌else◌, PledgeValue, BookValue, pledge_from, pledge_in, Host, Errs, Keeping, Reads, pledges_of, Front, Handed, IsShare, Visits, Whole, KeepError, Database, NoRecord, Flow, Go, Stop}
 use Rattle.std.proofs.lemmas.Bool.Decides.{nat_tests}
 use Rattle.std.proofs.lemmas.List.{take-append-drop}
-use Rattle.pawn_pledge.specs.Pledge.{PledgeValue}
-use Rattle.pawn_book.specs.declared.visit.Flow.{Flow}
-use Rattle.pawn_book.specs.declared.visit.Flow.TheVariants.{Go, Stop}
-use Rattle.pawn_book.specs.declared.fault.KeepError.{KeepError}
 use Rattle.pawn_book.specs.declared.fault.KeepError.TheVariants as Keeper
-use Rattle.pawn_book.specs.declared.fault.StoreFault.TheVariants.{Database, NoRecord}
-use Rattle.pawn_book.specs.BookStep.{BookValue, pledge_from, pledge_in}
-use Rattle.pawn_book.specs.HostStep.{Host}
-use Rattle.pawn_book.specs.Keeping.{Errs, Keeping, Reads, pledges_of}
-use Rattle.pawn_book.specs.Visits.{Front, Handed, IsShare, Visits, Whole}
 use Rattle.pawn_book.proofs.Reading.{reads_none, reads_then}
 use Rattle.pawn_book.proofs.VisitLemmas.{handed-snoc}
 

@@ -1,11 +1,6 @@
 -- What a call hands to a visitor, and whether the visitor then wants more.
 use Rattle.std.specs.Prelude.{List, Result, Ok, Err}
-use Rattle.pawn_book.specs.declared.fault.KeepError.{KeepError}
-use Rattle.pawn_book.specs.declared.visit.Flow.{Flow}
-use Rattle.pawn_book.specs.declared.visit.Flow.TheVariants.{Go}
-use Rattle.pawn_book.specs.HostStep.{Host}
-use Rattle.pawn_book.specs.Keeping.{Errs, Keeping, Reads}
-use Rattle.pawn_book.specs.Visits.{Handed, IsShare, call_end}
+use Rattle.pawn_table_keeper.specs.Common.{Host, Errs, Keeping, Reads, Handed, IsShare, call_end, KeepError, Flow, Go}
 
 -- what the visitor answered last; if the call ended in an error, the visitor had not stopped
 abbrev pub flow_of : Result Flow KeepError → Flow

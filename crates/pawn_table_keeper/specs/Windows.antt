@@ -1,9 +1,6 @@
 -- The part of a day's sheet that belongs to some of its windows.
 use Rattle.std.specs.Prelude.{ℕ, ◌==◌, if◌then◌else◌, List, []}
-use Rattle.std.specs.List.{flat_map, list_any}
-use Rattle.pawn_pledge.specs.Pledge.{PledgeValue}
-use Rattle.pawn_book.specs.declared.sheet.SheetItem.{SheetItem}
-use Rattle.pawn_book.specs.Sheet.{window_sheet, windows}
+use Rattle.pawn_table_keeper.specs.Common.{flat_map, list_any, PledgeValue, window_sheet, windows, SheetItem}
 
 -- a window's items, if the window is one of these
 abbrev pub named_sheet : List ℕ → List PledgeValue → ℕ → ℕ → List SheetItem

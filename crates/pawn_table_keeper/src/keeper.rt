@@ -1,8 +1,6 @@
 ghost use Rattle.std.specs.Prelude.{◌≡◌, IfErr, IfOk, IsTrue, false, unwrap_or};
 ghost use Rattle.std.proofs.Props.{props};
-ghost use Rattle.sqlite.specs.Held.{state};
-ghost use Rattle.pawn_book.specs.Keeping.{Reads};
-ghost use Rattle.pawn_tables.specs.Keeps.{keeping_by};
+ghost use Rattle.pawn_table_keeper.specs.Common.{state, Reads, keeping_by};
 
 mod handing;
 mod lists;

@@ -1,37 +1,11 @@
 -- What the queries of a book show, where the tables stand for a host.
 use Rattle.std.proofs.Common.{◌≡◌, ◌==◌, ℕ, ◌≤◌, ◌<◌, List, [], ◌∷◌, map, filter, flat_map, take, codes, Bool, true, false, cond, ◌&&◌, Option, Some, None, T, refl, sym, ap, subst, ◌∙◌, arith, IsPermutation, nat_lt, find, option_map}
-use Rattle.std.specs.Prelude.{nat_le}
-use Rattle.std.specs.List.{list_all, AllByRecursion}
-use Rattle.std.specs.Ordering.{is_eq, is_ge, is_gt, is_lt, nat_cmp}
-use Rattle.std.specs.declared.cmp.Ordering.TheVariants.{Less}
-use Rattle.std.specs.FinMap.{entries, entries_sorted, get, get-entries, is_sorted, find as find_key}
-use Rattle.std.specs.FinMap.Entries.{below_all}
-use Rattle.std.proofs.lemmas.Bool.Decides.{nat_tests}
-use Rattle.std.proofs.lemmas.List.Elements.{filter_agree}
+use Rattle.pawn_tables.specs.Common.{nat_le, entries, entries_sorted, find_key, get, get-entries, is_sorted, below_all, AllByRecursion, list_all, is_eq, is_ge, is_gt, is_lt, nat_cmp, Less, binary, from_truth, is_true, Row, column, value_cmp, Shown, State, Table, IsAscending, Text, BookValue, Host, rows, IsNextBook, is_same_text}
+use Rattle.pawn_tables.proofs.Lemmas.{nat_tests, filter_agree, ascending-filter, filter-map, map-map, value_cmp-Int, value_cmp-Text, shown_first, shown_listed, equals, less, of_one_book, rows_at}
 use Rattle.std.specs.Cmp.Lexicographic.{texts_ties}
-use Rattle.sqlite_trees.proofs.ListLemmas.{map-map, filter-map, ascending-filter}
-use Rattle.sqlite.specs.declared.types.Value.TheVariants.{Text}
-use Rattle.sqlite.specs.Order.{Row, column, value_cmp}
-use Rattle.sqlite.specs.Ops.{binary, is_true, from_truth}
-use Rattle.sqlite.specs.Tree.{IsAscending}
-use Rattle.sqlite.specs.Table.{Table}
-use Rattle.sqlite.specs.State.{State, Shown}
-use Rattle.sqlite_value.proofs.OrderLemmas.{value_cmp-Int, value_cmp-Text}
-use Rattle.pawn_book.specs.BookStep.{BookValue}
-use Rattle.pawn_book.specs.HostStep.{Host, rows}
-use Rattle.pawn_book.specs.Keeping.{IsNextBook}
-use Rattle.pawn_book.specs.Rows.{is_same_text}
-use Rattle.pawn_tables.specs.Ours.{with_indexes}
-use Rattle.pawn_tables.specs.Schema.{books, meta, books_tree, meta_tree}
-use Rattle.pawn_tables.specs.Rows.{number, book_row, head_cells, at_most_one}
-use Rattle.pawn_tables.specs.Meta.{meta_row, meta_rows}
-use Rattle.pawn_tables.specs.Heads.{number_cells}
-use Rattle.pawn_tables.specs.At.{is_at, is_above, is_below, is_from, at_book}
-use Rattle.pawn_tables.specs.StandsFor.{StandsFor, ListDebts}
-use Rattle.one_table.proofs.Found.{shown_listed, shown_first}
+use Rattle.pawn_tables.specs.Tables.{at_book, is_above, is_at, is_below, is_from, number_cells, meta_row, meta_rows, with_indexes, at_most_one, book_row, head_cells, number, books, books_tree, meta, meta_tree, ListDebts, StandsFor}
 use Rattle.pawn_tables.proofs.ReadTexts as text
 use Rattle.pawn_tables.proofs.PledgeReads.{short, few}
-use Rattle.pawn_tables.proofs.RowsUnderKey.{rows_at, of_one_book, equals, less}
 
 truth_of : (b : Bool) → is_true (from_truth (Some b)) ≡ b
 truth_of true = refl

@@ -1,30 +1,14 @@
 -- What a query that counts the rows of a table shows.
 use Rattle.std.proofs.Common.{◌≡◌, ◌++◌, ℕ, min, List, [], ◌∷◌, length, map, filter, flat_map, Bool, true, false, cond, refl, sym, ap, ◌∙◌, IsPermutation}
-use Rattle.std.specs.Prelude.{Some}
-use Rattle.std.specs.List.{AllZip}
-use Rattle.std.proofs.lemmas.List.{length-map}
-use Rattle.std.proofs.lemmas.List.Elements.{filter_agree}
-use Rattle.std.proofs.lemmas.List.Sorted.{length_permutation}
-use Rattle.sqlite_trees.proofs.ListLemmas.{filter-map, IsPermutation-filter}
-use Rattle.sqlite.specs.declared.types.Value.TheVariants.{Null}
-use Rattle.sqlite.specs.Collation.TheVariants.{Binary}
-use Rattle.sqlite.specs.Order.{Row}
-use Rattle.sqlite.specs.Tree.{Trees}
-use Rattle.sqlite.specs.Table.{Table}
-use Rattle.sqlite.specs.Term.{Term, Env, lit}
+use Rattle.pawn_tables.specs.Common.{Some, AllZip, Binary, Row, Schema, Shown, State, Table, Env, Term, lit, Trees, Null, Holds, columns_of}
+use Rattle.pawn_tables.proofs.Lemmas.{length-map, filter_agree, length_permutation, IsPermutation-filter, filter-map, reads_as, around, over_table, passes, Asks}
 use Rattle.sqlite.specs.Query.{Query, IsAnswer}
 use Rattle.sqlite.specs.Program.{overlay}
-use Rattle.sqlite.specs.Schema.{Schema}
-use Rattle.sqlite.specs.State.{State, Shown}
-use Rattle.sqlite.proofs.Callers.{reads_as}
 use Rattle.sqlite_sql.specs.declared.aggregate.AggregateOp.TheVariants.{CountRows}
 use Rattle.sqlite_sql.specs.Group.{Grouping, IsSummary, value_over}
 use Rattle.sqlite_sql.specs.Query.{matches}
 use Rattle.sqlite_sql.proofs.AggregateLemmas.{only_one}
 use Rattle.sqlite_tied.specs.Listing.{counting}
-use Rattle.one_table.specs.Listing.{Holds, columns_of}
-use Rattle.one_table.proofs.OneTable.{around, over_table, passes}
-use Rattle.one_table.proofs.Texts.{Asks}
 use Rattle.pawn_tables.specs.Heads.{most_counted, number_cells}
 
 -- how many rows of a table pass

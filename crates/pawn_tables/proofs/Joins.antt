@@ -1,23 +1,8 @@
 -- A pledge of what was read of it.
 use Rattle.std.proofs.Common.{◌≡◌, ◌≤◌, ◌<◌, ◌^◌, ℕ, zero, suc, List, [], ◌∷◌, length, Option, Some, None, Result, Ok, Err, refl, sym, ap, subst, ◌∙◌, arith}
-use Rattle.std.specs.Prelude.{IfSome, option_map, is_ok}
-use Rattle.sqlite.specs.State.{State}
-use Rattle.one_table.specs.Lending.{IsLent, Rests}
-use Rattle.pawn_book.specs.Sound.{IsUnsoundAt}
+use Rattle.pawn_tables.specs.Common.{IfSome, is_ok, option_map, get, State, Rates, totals_of, Totals, PledgeValue, debt_of, end_of, BookValue, pledge_in, Host, entries_of, extensions_of, secrets_of, terms_of, terms_at, IsUnsoundAt, KeepError, IsLent, Rests}
 use Rattle.pawn_tables.proofs.Lent.{unfound}
-use Rattle.std.specs.FinMap.{get}
-use Rattle.pawn_terms.specs.declared.terms.Rates.{Rates}
-use Rattle.pawn_debt.specs.declared.owing.Totals.{Totals}
-use Rattle.pawn_debt.specs.Kept.{totals_of}
-use Rattle.pawn_pledge.specs.Pledge.{PledgeValue, debt_of, end_of}
-use Rattle.pawn_book.specs.Rows.{terms_at}
-use Rattle.pawn_book.specs.Keeping.{entries_of, extensions_of, secrets_of, terms_of}
-use Rattle.pawn_book.specs.BookStep.{BookValue, pledge_in}
-use Rattle.pawn_book.specs.HostStep.{Host}
-use Rattle.pawn_book.specs.declared.fault.KeepError.{KeepError}
-use Rattle.pawn_tables.specs.Finding.{IsRead, FindsIn}
-use Rattle.pawn_tables.specs.StandsFor.{AreBooksOrdered, AreStorable}
-use Rattle.pawn_tables.specs.PledgeRows.{AreLists, AreSides, AreTold, booking_of, totals_in, row_of}
+use Rattle.pawn_tables.specs.Tables.{FindsIn, IsRead, AreLists, AreSides, AreTold, booking_of, row_of, totals_in, AreBooksOrdered, AreStorable}
 use Rattle.pawn_tables.specs.declared.joining.Lists.{Lists}
 use Rattle.pawn_tables.specs.declared.joining.RowsBeside.{RowsBeside}
 use Rattle.pawn_tables.specs.declared.joining.StoredPledge.{StoredPledge}

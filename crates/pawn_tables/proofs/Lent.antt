@@ -1,16 +1,9 @@
 -- One part of a transaction after another, and what they find together.
 use Rattle.std.proofs.Common.{◌≡◌, true, false, Result, Ok, Err, IsTrue, refl, sym, subst}
-use Rattle.sqlite.specs.Effect.{Database as Tables}
-use Rattle.sqlite.specs.State.{State, HasCleanDisk}
-use Rattle.pawn_book.specs.HostStep.{Host}
-use Rattle.pawn_book.specs.Sound.{HasUnsoundBook}
-use Rattle.pawn_book.specs.declared.fault.KeepError.{KeepError}
+use Rattle.pawn_tables.specs.Common.{Tables, HasCleanDisk, State, Host, HasUnsoundBook, KeepError, Database, NoRecord, IsLent, Rests}
 use Rattle.pawn_book.specs.declared.fault.KeepError.TheVariants as Keeper
-use Rattle.pawn_book.specs.declared.fault.StoreFault.TheVariants.{NoRecord, Database}
-use Rattle.one_table.specs.Lending.{IsLent, Rests}
 pub use Rattle.one_table.proofs.Lent.{clean_before, lent_then, rests_then}
-use Rattle.pawn_tables.specs.StandsFor.{StandsFor, ListDebts}
-use Rattle.pawn_tables.specs.Finding.{Finds, FindsIn, Stood}
+use Rattle.pawn_tables.specs.Tables.{Finds, FindsIn, Stood, ListDebts, StandsFor}
 
 -- the tables of a part that found stood for the host, and do after it
 pub stood_then : (a b : State) (h : Host) → IsLent a b true → HasCleanDisk b → IsTrue a.in_transaction → Stood a h → Rests a b → StandsFor b.now h

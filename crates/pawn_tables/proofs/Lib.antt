@@ -1,6 +1,7 @@
 pub mod BookReads
 pub mod Counts
 pub mod Joins
+pub mod Lemmas
 pub mod Lent
 pub mod LineReads
 pub mod ListElementReads
@@ -15,7 +16,9 @@ pub mod PageLemmas
 pub mod PledgeReads
 pub mod PledgeSearches
 pub mod ReadTexts
+pub mod Reading
 pub mod RowCells
+pub mod RowReading
 pub mod RowsUnderKey
 pub mod SameRows
 pub mod SoundBooks

@@ -1,46 +1,19 @@
 -- What the queries for the parts of a day's sheet show, where the tables stand for a host.
 use Rattle.std.proofs.Common.{◌≡◌, ◌==◌, ℕ, ◌+◌, List, [], ◌∷◌, map, filter, filter_map, take, length, nat_lt, Bool, true, false, cond, ◌&&◌, Option, Some, None, refl, sym, ap, ◌∙◌, arith, option_map}
-use Rattle.std.specs.List.{list_all, cons_option}
-use Rattle.std.specs.FinMap.{get}
+use Rattle.pawn_tables.specs.Common.{get, cons_option, list_all, Row, column, Shown, State, Table, PledgeValue, end_of, Booking, BookingState, Closing, confirmed_count, is_asked, is_confirmed, is_confirmed_for, Host, pledges_of, part_item, part_items, Part, SheetItem, Confirmed}
 use Rattle.std.proofs.lemmas.List.Recursion.{is_count_by}
-use Rattle.std.proofs.lemmas.List.{length-map}
-use Rattle.sqlite_trees.proofs.ListLemmas.{map-map}
-use Rattle.sqlite.specs.Order.{Row, column}
-use Rattle.sqlite.specs.Table.{Table}
-use Rattle.sqlite.specs.State.{State, Shown}
-use Rattle.pawn_pledge.specs.declared.record.Booking.{Booking}
-use Rattle.pawn_pledge.specs.declared.record.BookingState.{BookingState}
+use Rattle.pawn_tables.proofs.Lemmas.{length-map, map-map, shown_few, take_map, equals}
 use Rattle.pawn_pledge.specs.declared.record.BookingState.TheVariants as state_is
-use Rattle.pawn_pledge.specs.declared.record.Closing.{Closing}
-use Rattle.pawn_pledge.specs.Pledge.{PledgeValue, end_of}
-use Rattle.pawn_book.specs.declared.sheet.Part.{Part}
 use Rattle.pawn_book.specs.declared.sheet.Part.TheVariants as part_of
-use Rattle.pawn_book.specs.declared.sheet.SheetItem.{SheetItem}
-use Rattle.pawn_book.specs.declared.sheet.SheetItem.TheVariants.{Confirmed}
 use Rattle.pawn_pledge.specs.Words.{is_open}
-use Rattle.pawn_book.specs.Sheet.{part_item, part_items}
-use Rattle.pawn_book.specs.Bookings.{confirmed_count, is_asked, is_confirmed, is_confirmed_for}
-use Rattle.pawn_book.specs.HostStep.{Host}
-use Rattle.pawn_book.specs.Keeping.{pledges_of}
-use Rattle.pawn_tables.specs.Ours.{with_indexes}
-use Rattle.pawn_tables.specs.Schema.{pledges, bookings, bookings_tree, pledges_tree}
-use Rattle.pawn_tables.specs.Rows.{number, number_in_book, under, pledge_cells, pledge_listed, booking_cells, booking_listed, state_number, closed_number}
-use Rattle.pawn_tables.specs.Heads.{number_cells}
-use Rattle.pawn_tables.specs.Lines.{asked_cells, asked_line, confirmed_line, ends_line, item_of, line_cells}
-use Rattle.pawn_tables.specs.Pages.{most_page_rows}
-use Rattle.pawn_tables.specs.At.{is_at, is_above}
-use Rattle.pawn_tables.specs.StandsFor.{StandsFor, of_pledges}
-use Rattle.pawn_tables.specs.declared.line.Line.{Line}
-use Rattle.one_table.proofs.Found.{shown_few}
+use Rattle.pawn_tables.specs.Tables.{is_above, is_at, number_cells, asked_cells, asked_line, confirmed_line, ends_line, item_of, line_cells, with_indexes, most_page_rows, booking_cells, booking_listed, closed_number, number, number_in_book, pledge_cells, pledge_listed, state_number, under, bookings, bookings_tree, pledges, pledges_tree, StandsFor, of_pledges, Line}
 use Rattle.pawn_tables.proofs.ReadTexts as text
 use Rattle.pawn_tables.proofs.BookReads as books
 use Rattle.pawn_tables.proofs.BookReads.{one_test}
-use Rattle.pawn_tables.proofs.RowsUnderKey.{equals}
 use Rattle.pawn_tables.proofs.PledgeSearches.{confirmed_state, together}
 use Rattle.pawn_tables.proofs.OneEach.{rise_each, shown_each, tell_of}
 use Rattle.pawn_tables.proofs.Counts.{count_of, shown_count}
 use Rattle.pawn_tables.proofs.NextLines.{items_are, told_above}
-use Rattle.pawn_tables.proofs.PageLemmas.{take_map}
 
 -- ---- what is told of a pledge
 

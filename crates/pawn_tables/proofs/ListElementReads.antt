@@ -1,40 +1,13 @@
 -- What the queries of a pledge's lists show at a place, where the tables stand for a host.
 use Rattle.std.proofs.Common.{◌≡◌, ◌==◌, ℕ, zero, suc, ◌+◌, ◌<◌, List, [], ◌∷◌, map, filter, take, Bool, true, false, cond, ◌&&◌, Option, Some, None, refl, sym, ap, subst, ◌∙◌, arith, IsPermutation, slice_get}
-use Rattle.std.specs.Prelude.{IfSome, nat_le}
-use Rattle.std.specs.List.{list_all}
-use Rattle.std.specs.declared.cmp.Ordering.TheVariants.{Less}
-use Rattle.std.specs.FinMap.{get}
-use Rattle.std.proofs.lemmas.Bool.Decides.{nat_tests}
-use Rattle.std.proofs.lemmas.List.Elements.{filter_agree}
-use Rattle.sqlite_trees.proofs.ListLemmas.{map-map, filter-map, ascending-filter}
-use Rattle.sqlite.specs.Order.{Row, column, value_cmp}
-use Rattle.sqlite.specs.Tree.{IsAscending}
-use Rattle.sqlite.specs.Table.{Table}
-use Rattle.sqlite.specs.State.{State, Shown}
-use Rattle.pawn_terms.specs.Calendar.{IsDayNumber}
-use Rattle.pawn_debt.specs.declared.entry.Entry.{Entry}
-use Rattle.pawn_pledge.specs.Pledge.{PledgeValue}
-use Rattle.pawn_pledge.specs.Replayable.{Each}
-use Rattle.pawn_book.specs.BookStep.{pledge_in}
-use Rattle.pawn_book.specs.HostStep.{Host}
-use Rattle.pawn_book.specs.Keeping.{entries_of, extensions_of, secrets_of}
-use Rattle.pawn_book.specs.Sound.{IsUnsoundAt}
-use Rattle.pawn_tables.specs.Ours.{with_indexes}
-use Rattle.pawn_tables.specs.Schema.{entries, secrets, extensions, entries_tree, extensions_tree, secrets_tree}
-use Rattle.pawn_tables.specs.Rows.{number, under, at_most_one, placed_from, entry_cells, entries_listed, secret_cells, secrets_listed, extension_cells, extensions_listed}
-use Rattle.pawn_tables.specs.At.{is_at, is_from, at_pledge}
-use Rattle.pawn_tables.specs.Entries.{IsEntryTold, RiseFrom, with_seq, entries_from}
-use Rattle.pawn_tables.specs.Pages.{most_page_rows}
-use Rattle.pawn_tables.specs.Places.{at_place}
-use Rattle.pawn_tables.specs.StandsFor.{StandsFor, of_pledges, AreStorable}
-use Rattle.one_table.proofs.Found.{shown_few, shown_listed}
+use Rattle.pawn_tables.specs.Common.{IfSome, nat_le, get, list_all, Less, Row, column, value_cmp, Shown, State, Table, IsAscending, IsDayNumber, Entry, PledgeValue, Each, pledge_in, Host, entries_of, extensions_of, secrets_of, IsUnsoundAt}
+use Rattle.pawn_tables.proofs.Lemmas.{nat_tests, filter_agree, ascending-filter, filter-map, map-map, shown_few, shown_listed, filter_each, take_each, take_map, AreUnder, entries_rise, equals, of_one_pledge, rows_at}
+use Rattle.pawn_tables.specs.Tables.{at_pledge, is_at, is_from, IsEntryTold, RiseFrom, entries_from, with_seq, with_indexes, most_page_rows, at_place, at_most_one, entries_listed, entry_cells, extension_cells, extensions_listed, number, placed_from, secret_cells, secrets_listed, under, entries, entries_tree, extensions, extensions_tree, secrets, secrets_tree, AreStorable, StandsFor, of_pledges}
 use Rattle.pawn_tables.proofs.ReadTexts as text
 use Rattle.pawn_tables.proofs.BookReads.{at_least}
 use Rattle.pawn_tables.proofs.NextEntries.{one_with, found_each}
-use Rattle.pawn_tables.proofs.PageLemmas.{filter_each, take_each, take_map}
 use Rattle.pawn_tables.proofs.PledgeReads.{short, few, holds_in, rises_at, under_map, under_placed}
 use Rattle.pawn_tables.proofs.SoundReads.{entries_unsound, secrets_unsound, extensions_unsound}
-use Rattle.pawn_tables.proofs.RowsUnderKey.{AreUnder, rows_at, of_one_pledge, entries_rise, equals}
 
 abbrev pub at_third : ℕ → ℕ → ℕ → Row → Bool
 at_third b n s v = list_all (λ (x : Bool). x) (is_at (column v 0) (number b) ∷ is_at (column v 1) (number n) ∷ is_at (column v 2) (number s) ∷ [])

@@ -1,39 +1,14 @@
 -- What the queries for the ends of a pledge's lists show, where the tables stand for a host.
 use Rattle.std.proofs.Common.{◌≡◌, ℕ, suc, ◌+◌, ◌-◌, List, [], ◌∷◌, length, map, Option, Some, None, option_map, refl, sym, ap, subst, ◌∙◌, arith}
-use Rattle.std.specs.Prelude.{IfSome, unwrap_or}
-use Rattle.std.specs.declared.cmp.Ordering.TheVariants.{Less}
-use Rattle.std.specs.FinMap.{get}
-use Rattle.std.proofs.lemmas.List.{length-map}
-use Rattle.sqlite.specs.Order.{Row, column, value_cmp}
-use Rattle.sqlite.specs.Tree.{IsAscending}
-use Rattle.sqlite.specs.Table.{Table}
-use Rattle.sqlite.specs.State.{State, Shown}
-use Rattle.pawn_terms.specs.Calendar.{IsDayNumber}
-use Rattle.pawn_pledge.specs.declared.record.Issued.{Issued}
-use Rattle.pawn_pledge.specs.declared.record.Extension.{Extension}
-use Rattle.pawn_pledge.specs.Pledge.{PledgeValue, last_element}
-use Rattle.pawn_pledge.specs.Replayable.{Each}
-use Rattle.pawn_book.specs.BookStep.{pledge_in}
-use Rattle.pawn_book.specs.HostStep.{Host}
-use Rattle.pawn_book.specs.Keeping.{entries_of, extensions_of, secrets_of}
-use Rattle.pawn_book.specs.Sound.{IsUnsoundAt}
-use Rattle.pawn_book.specs.Written.{AreWords, IsWord}
-use Rattle.one_table.proofs.Found.{last_of, shown_last}
-use Rattle.pawn_tables.specs.Heads.{number_cells}
-use Rattle.pawn_tables.specs.Rows.{number, under, at_most_one, placed_from, entry_cells, entries_listed, secret_cells, secrets_listed, extension_cells, extensions_listed}
-use Rattle.pawn_tables.specs.Ours.{with_indexes}
-use Rattle.pawn_tables.specs.Schema.{entries, secrets, extensions, entries_tree, extensions_tree, secrets_tree}
-use Rattle.pawn_tables.specs.StandsFor.{AreStorable, StandsFor, of_pledges}
-use Rattle.pawn_tables.specs.ListEnds.{AreListEnds, last_cells, last_issued}
-use Rattle.pawn_tables.specs.declared.joining.LastSecret.{LastSecret}
+use Rattle.pawn_tables.specs.Common.{IfSome, unwrap_or, get, Less, Row, column, value_cmp, Shown, State, Table, IsAscending, IsDayNumber, PledgeValue, last_element, Each, Extension, Issued, pledge_in, Host, entries_of, extensions_of, secrets_of, IsUnsoundAt, AreWords, IsWord}
+use Rattle.pawn_tables.proofs.Lemmas.{length-map, last_of, shown_last, last_later, last_some, at_pledge, of_one_pledge, placed_rise, rows_at}
+use Rattle.pawn_tables.specs.Tables.{number_cells, AreListEnds, last_cells, last_issued, with_indexes, at_most_one, entries_listed, entry_cells, extension_cells, extensions_listed, number, placed_from, secret_cells, secrets_listed, under, entries, entries_tree, extensions, extensions_tree, secrets, secrets_tree, AreStorable, StandsFor, of_pledges, LastSecret}
 use Rattle.pawn_tables.specs.declared.joining.ListEnds.{ListEnds}
 use Rattle.pawn_tables.proofs.Counts.{count_of, shown_count}
-use Rattle.pawn_tables.proofs.PageLemmas.{last_later, last_some}
 use Rattle.pawn_tables.proofs.ListElementReads.{at_each}
 use Rattle.pawn_tables.proofs.PledgeReads.{rises_at, under_map, under_placed}
 use Rattle.pawn_tables.proofs.ReadTexts as text
 use Rattle.pawn_tables.proofs.SoundReads.{secrets_unsound}
-use Rattle.pawn_tables.proofs.RowsUnderKey.{at_pledge, rows_at, of_one_pledge, placed_rise}
 
 -- ---- the last of elements with their places
 

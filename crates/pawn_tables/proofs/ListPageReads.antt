@@ -1,38 +1,13 @@
 -- What the queries of a pledge's lists show behind a place, where the tables stand for a host.
 use Rattle.std.proofs.Common.{◌≡◌, ℕ, zero, suc, ◌+◌, ◌<◌, List, [], ◌∷◌, map, filter, drop, take, nat_lt, Bool, true, false, cond, ◌&&◌, Option, Some, None, refl, sym, ap, subst, ◌∙◌, arith}
-use Rattle.std.specs.List.{list_all}
-use Rattle.std.specs.declared.cmp.Ordering.TheVariants.{Less}
-use Rattle.std.specs.FinMap.{get}
-use Rattle.std.proofs.lemmas.Bool.Decides.{nat_tests}
-use Rattle.std.proofs.lemmas.List.Elements.{filter_agree}
-use Rattle.sqlite_trees.proofs.ListLemmas.{ascending-filter}
-use Rattle.sqlite.specs.Order.{Row, column, value_cmp}
-use Rattle.sqlite.specs.Tree.{IsAscending}
-use Rattle.sqlite.specs.Table.{Table}
-use Rattle.sqlite.specs.State.{State, Shown}
-use Rattle.pawn_terms.specs.Calendar.{IsDayNumber}
-use Rattle.pawn_pledge.specs.Pledge.{PledgeValue}
-use Rattle.pawn_pledge.specs.Replayable.{Each}
-use Rattle.pawn_book.specs.BookStep.{pledge_in}
-use Rattle.pawn_book.specs.HostStep.{Host}
-use Rattle.pawn_book.specs.Keeping.{extensions_of, secrets_of}
-use Rattle.pawn_book.specs.Sound.{IsUnsoundAt}
-use Rattle.pawn_book.specs.Written.{AreWords, IsWord}
-use Rattle.one_table.proofs.Found.{shown_few}
-use Rattle.pawn_tables.specs.At.{is_at, is_above, at_pledge}
-use Rattle.pawn_tables.specs.Pages.{most_page_rows}
-use Rattle.pawn_tables.specs.Places.{page_behind}
-use Rattle.pawn_tables.specs.Rows.{number, under, placed_from, secret_cells, secrets_listed, extension_cells, extensions_listed}
-use Rattle.pawn_tables.specs.Ours.{with_indexes}
-use Rattle.pawn_tables.specs.Schema.{secrets, extensions, extensions_tree, secrets_tree}
-use Rattle.pawn_tables.specs.StandsFor.{StandsFor, of_pledges, AreStorable}
+use Rattle.pawn_tables.specs.Common.{get, list_all, Less, Row, column, value_cmp, Shown, State, Table, IsAscending, IsDayNumber, PledgeValue, Each, pledge_in, Host, extensions_of, secrets_of, IsUnsoundAt, AreWords, IsWord}
+use Rattle.pawn_tables.proofs.Lemmas.{nat_tests, filter_agree, ascending-filter, shown_few, take_each, AreUnder, of_one_pledge, placed_rise, rows_at}
+use Rattle.pawn_tables.specs.Tables.{at_pledge, is_above, is_at, with_indexes, most_page_rows, page_behind, extension_cells, extensions_listed, number, placed_from, secret_cells, secrets_listed, under, extensions, extensions_tree, secrets, secrets_tree, AreStorable, StandsFor, of_pledges}
 use Rattle.pawn_tables.proofs.BookReads.{above}
-use Rattle.pawn_tables.proofs.PageLemmas.{take_each}
 use Rattle.pawn_tables.proofs.ListElementReads.{filter_both, regroup}
 use Rattle.pawn_tables.proofs.PledgeReads.{rises_at, placed_cells, under_placed}
 use Rattle.pawn_tables.proofs.ReadTexts as text
 use Rattle.pawn_tables.proofs.SoundReads.{extensions_unsound, secrets_unsound, words_in}
-use Rattle.pawn_tables.proofs.RowsUnderKey.{AreUnder, rows_at, of_one_pledge, placed_rise}
 
 abbrev pub at_behind : ℕ → ℕ → ℕ → Row → Bool
 at_behind b n s v = list_all (λ (x : Bool). x) (is_at (column v 0) (number b) ∷ is_at (column v 1) (number n) ∷ is_above (column v 2) (number s) ∷ [])

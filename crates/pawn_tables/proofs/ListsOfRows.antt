@@ -1,13 +1,8 @@
 -- Lists that are read of rows, one row for each element.
 use Rattle.std.proofs.Common.{◌≡◌, ◌++◌, ℕ, zero, suc, ◌+◌, ◌<◌, List, [], ◌∷◌, length, take, map, get_or, slice_get, Option, Some, None, Ok, Err, refl, sym, ap, subst, ◌∙◌, arith}
-use Rattle.std.specs.Prelude.{IfSome}
-use Rattle.sqlite.specs.Order.{Row}
-use Rattle.pawn_pledge.specs.Replayable.{Each}
-use Rattle.pawn_book.specs.declared.fault.KeepError.{KeepError}
+use Rattle.pawn_tables.specs.Common.{IfSome, Row, Each, KeepError, Database, NoRecord}
 use Rattle.pawn_book.specs.declared.fault.KeepError.TheVariants as Keeper
-use Rattle.pawn_book.specs.declared.fault.StoreFault.TheVariants.{NoRecord, Database}
-use Rattle.pawn_tables.specs.Rows.{placed_from, at_most_one}
-use Rattle.pawn_tables.specs.Finding.{IsRead}
+use Rattle.pawn_tables.specs.Tables.{IsRead, at_most_one, placed_from}
 
 -- the element of a row, with its place
 pub element_at : {A : Type 0} (f : ℕ → A → Row) (k : ℕ) (xs : List A) (rows : List Row) (i : ℕ) (r : Row) → rows ≡ placed_from f k xs → i < length rows → r ≡ get_or rows i r

@@ -1,15 +1,8 @@
 -- The entries of a pledge, whose numbers rise.
 use Rattle.std.proofs.Common.{◌≡◌, ◌==◌, ℕ, zero, suc, ◌+◌, ◌≤◌, ◌<◌, List, [], ◌∷◌, map, filter, find, slice_get, take, Bool, true, false, cond, Some, None, refl, sym, ap, subst, ◌∙◌, arith}
-use Rattle.std.specs.Prelude.{IfSome, nat_le}
-use Rattle.std.proofs.lemmas.Bool.Decides.{nat_tests}
-use Rattle.sqlite.specs.Order.{Row}
-use Rattle.pawn_debt.specs.declared.entry.Entry.{Entry}
-use Rattle.pawn_pledge.specs.Replayable.{Each, AreNumbered}
-use Rattle.pawn_tables.specs.Rows.{at_most_one}
-use Rattle.pawn_tables.specs.Pages.{most_page_rows}
-use Rattle.pawn_tables.specs.Places.{at_place}
-use Rattle.pawn_tables.specs.Entries.{RiseFrom, with_seq, entries_from, behind, IsEntriesPage}
-use Rattle.pawn_tables.proofs.PageLemmas.{is_page}
+use Rattle.pawn_tables.specs.Common.{IfSome, nat_le, Row, Entry, AreNumbered, Each}
+use Rattle.pawn_tables.proofs.Lemmas.{nat_tests, is_page}
+use Rattle.pawn_tables.specs.Tables.{IsEntriesPage, RiseFrom, behind, entries_from, with_seq, most_page_rows, at_place, at_most_one}
 
 -- ---- entries that are numbered 1, 2, ..
 

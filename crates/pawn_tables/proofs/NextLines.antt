@@ -1,29 +1,9 @@
 -- The lines of numbered pledges, one after another.
 use Rattle.std.proofs.Common.{◌≡◌, ℕ, ◌+◌, ◌≤◌, ◌<◌, zero, suc, drop, List, [], ◌∷◌, map, filter, filter_map, length, take, nat_lt, Bool, true, false, cond, Option, Some, None, Result, refl, sym, ap, ◌∙◌, arith, option_map}
-use Rattle.std.specs.List.{cons_option}
-use Rattle.std.specs.FinMap.{get}
-use Rattle.std.proofs.lemmas.Bool.Decides.{nat_tests}
-use Rattle.sqlite_trees.proofs.ListLemmas.{map-map}
-use Rattle.pawn_pledge.specs.Number.{IsNumber}
-use Rattle.pawn_pledge.specs.Pledge.{PledgeValue}
-use Rattle.pawn_pledge.specs.Replayable.{Each}
-use Rattle.pawn_book.specs.declared.sheet.Part.{Part}
-use Rattle.pawn_book.specs.declared.sheet.SheetItem.{SheetItem}
-use Rattle.pawn_book.specs.Sheet.{part_item, part_items}
-use Rattle.pawn_book.specs.BookStep.{BookValue}
-use Rattle.pawn_book.specs.HostStep.{Host}
-use Rattle.pawn_book.specs.Keeping.{pledges_of}
-use Rattle.pawn_book.specs.Rows.{AreNumberedFrom}
-use Rattle.pawn_book.specs.Sound.{IsUnsoundAt}
-use Rattle.pawn_tables.specs.Rows.{number_in_book}
-use Rattle.pawn_tables.specs.StandsFor.{AreBooksOrdered}
-use Rattle.pawn_book.specs.declared.fault.KeepError.{KeepError}
-use Rattle.pawn_tables.specs.Finding.{Finds, IsRead}
-use Rattle.pawn_tables.specs.Lines.{IsLineOf, IsLinesPage, item_of, items_past}
-use Rattle.pawn_tables.specs.Pages.{most_page_rows}
-use Rattle.pawn_tables.specs.declared.line.Line.{Line}
+use Rattle.pawn_tables.specs.Common.{get, cons_option, IsNumber, PledgeValue, Each, BookValue, Host, pledges_of, AreNumberedFrom, part_item, part_items, IsUnsoundAt, KeepError, Part, SheetItem}
+use Rattle.pawn_tables.proofs.Lemmas.{nat_tests, map-map, is_page, map_each, page_as, take_each}
+use Rattle.pawn_tables.specs.Tables.{Finds, IsRead, IsLineOf, IsLinesPage, item_of, items_past, most_page_rows, number_in_book, AreBooksOrdered, Line}
 use Rattle.pawn_tables.proofs.StatementFinds.{found_as}
-use Rattle.pawn_tables.proofs.PageLemmas.{is_page, map_each, page_as, take_each}
 use Rattle.pawn_tables.proofs.SoundBooks.{unsound_book}
 
 -- the pledges above a number

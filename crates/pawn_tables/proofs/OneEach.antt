@@ -1,21 +1,8 @@
 -- What a query shows of a table that has one row of a pledge at most.
 use Rattle.std.proofs.Common.{◌≡◌, ◌≢◌, ◌++◌, ◌==◌, ℕ, ◌+◌, ◌<◌, List, [], ◌∷◌, map, filter, filter_map, flat_map, Bool, true, false, cond, ◌&&◌, Option, Some, None, refl, sym, ap, subst, ◌∙◌, arith}
-use Rattle.std.specs.List.{AllByRecursion, cons_option}
-use Rattle.std.specs.declared.cmp.Ordering.TheVariants.{Less}
-use Rattle.std.specs.FinMap.{get}
-use Rattle.std.proofs.lemmas.Bool.Decides.{nat_tests}
-use Rattle.std.proofs.lemmas.List.{map-append}
-use Rattle.sqlite_trees.proofs.ListLemmas.{ascending-filter}
-use Rattle.sqlite.specs.Order.{Row, column, value_cmp}
-use Rattle.sqlite.specs.Tree.{IsAscending}
-use Rattle.pawn_pledge.specs.Pledge.{PledgeValue}
-use Rattle.pawn_book.specs.BookStep.{BookValue}
-use Rattle.pawn_book.specs.HostStep.{Host}
-use Rattle.pawn_book.specs.Keeping.{pledges_of}
-use Rattle.pawn_book.specs.Rows.{AreNumberedFrom}
-use Rattle.pawn_tables.specs.Rows.{number, number_in_book, under, at_most_one}
-use Rattle.pawn_tables.specs.StandsFor.{of_pledges, AreBooksOrdered}
-use Rattle.pawn_tables.proofs.RowsUnderKey.{rows_at, of_one_book, filter-flat_map, filter-append, flat_none, less}
+use Rattle.pawn_tables.specs.Common.{get, AllByRecursion, cons_option, Less, Row, column, value_cmp, IsAscending, PledgeValue, BookValue, Host, pledges_of, AreNumberedFrom}
+use Rattle.pawn_tables.proofs.Lemmas.{nat_tests, map-append, ascending-filter, filter-append, filter-flat_map, flat_none, less, of_one_book, rows_at}
+use Rattle.pawn_tables.specs.Tables.{at_most_one, number, number_in_book, under, AreBooksOrdered, of_pledges}
 
 -- what is told of what a pledge has, if it has it and it is such
 abbrev pub tell_of : {X A : Type 0} → (X → Bool) → (ℕ → X → A) → ℕ → Option X → Option A

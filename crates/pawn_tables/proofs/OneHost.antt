@@ -1,44 +1,17 @@
 -- Tables stand for one host at most.
 use Rattle.std.proofs.Common.{◌≡◌, ◌==◌, ℕ, suc, ◌+◌, ◌≤◌, List, [], ◌∷◌, map, filter, codes, Bool, true, false, Option, Some, None, refl, sym, ap, subst, ◌∙◌, arith, IsPermutation, slice_get}
-use Rattle.std.specs.Prelude.{IfSome, if◌then◌else◌}
-use Rattle.std.specs.List.{list_all}
-use Rattle.std.specs.Cmp.{nat_cmp_total}
-use Rattle.std.specs.FinMap.{get, same_map, nat_cmp-IsAntisymmetric}
-use Rattle.std.proofs.lemmas.Bool.Decides.{nat_tests}
-use Rattle.std.proofs.lemmas.List.Sorted.{IsPermutation-map}
-use Rattle.sqlite_trees.proofs.ListLemmas.{map-map, IsPermutation-filter}
-use Rattle.sqlite.specs.declared.types.Value.TheVariants.{Text}
-use Rattle.sqlite.specs.Ops.{binary}
-use Rattle.sqlite.specs.Order.{Row, column, value_cmp}
+use Rattle.pawn_tables.specs.Common.{IfSome, if◌then◌else◌, nat_cmp_total, get, nat_cmp-IsAntisymmetric, same_map, list_all, binary, Row, column, value_cmp, State, Trees, Text, Rates, PledgeValue, Booking, BookValue, pledge_from, pledge_in, Host, rows, WholeIsSound, entries_of, extensions_of, secrets_of, terms_of, terms_at, IsSound, AreWords, IsWord}
+use Rattle.pawn_tables.proofs.Lemmas.{nat_tests, IsPermutation-map, IsPermutation-filter, map-map, one_permutation, entries_rise, of_one_pledge, placed_rise, rows_at}
 use Rattle.sqlite.specs.Effect.{Database}
-use Rattle.sqlite.specs.Tree.{Trees}
 use Rattle.sqlite_trees.specs.Objects.{catalog_tree}
 use Rattle.sqlite_catalog.proofs.ReadLemmas.{lists_once}
-use Rattle.sqlite.specs.State.{State}
-use Rattle.sqlite.proofs.Callers.{one_permutation}
-use Rattle.pawn_terms.specs.declared.terms.Rates.{Rates}
-use Rattle.pawn_pledge.specs.declared.record.Booking.{Booking}
-use Rattle.pawn_pledge.specs.Pledge.{PledgeValue}
-use Rattle.pawn_book.specs.BookStep.{BookValue, pledge_from, pledge_in}
-use Rattle.pawn_book.specs.HostStep.{Host, rows}
-use Rattle.pawn_book.specs.Keeping.{WholeIsSound, entries_of, extensions_of, secrets_of, terms_of}
-use Rattle.pawn_book.specs.Rows.{terms_at}
-use Rattle.pawn_book.specs.Written.{IsWord, AreWords}
-use Rattle.pawn_book.specs.Sound.{IsSound}
 use Rattle.pawn_tables.specs.Keeps.{keeping_by}
-use Rattle.pawn_tables.specs.Rows.{under, at_most_one, placed_from, head_cells, terms_cells, pledge_cells, pledge_listed, entry_cells, entries_listed, secret_cells, secrets_listed, extension_cells, extensions_listed, booking_cells, booking_listed}
-use Rattle.pawn_tables.specs.Entries.{RiseFrom}
-use Rattle.pawn_tables.specs.Meta.{meta_row, meta_rows}
-use Rattle.pawn_tables.specs.PledgeRows.{booking_of}
-use Rattle.pawn_tables.specs.At.{is_at, at_book, at_pledge}
-use Rattle.pawn_tables.specs.StandsFor.{StandsFor, HoldHost, of_pledges, AreBooksOrdered}
+use Rattle.pawn_tables.specs.Tables.{at_book, at_pledge, is_at, RiseFrom, meta_row, meta_rows, booking_of, at_most_one, booking_cells, booking_listed, entries_listed, entry_cells, extension_cells, extensions_listed, head_cells, placed_from, pledge_cells, pledge_listed, secret_cells, secrets_listed, terms_cells, under, bookings_tree, books_tree, entries_tree, extensions_tree, meta_tree, pledges_tree, secrets_tree, terms_tree, AreBooksOrdered, HoldHost, StandsFor, of_pledges}
 use Rattle.pawn_tables.proofs.ListsOfRows.{mapped, each_any}
 use Rattle.pawn_tables.proofs.PledgeReads.{short, few, holds_in, number_in, under_in, rises_at, under_map, under_placed, under_booked, placed_cells, one_version}
 use Rattle.pawn_tables.proofs.BookReads.{one_book}
 use Rattle.pawn_tables.proofs.SameRows as SameRows
 use Rattle.pawn_tables.proofs.SoundReads.{words_in}
-use Rattle.pawn_tables.proofs.RowsUnderKey.{rows_at, of_one_pledge, placed_rise, entries_rise}
-use Rattle.pawn_tables.specs.Schema.{bookings_tree, books_tree, entries_tree, extensions_tree, meta_tree, pledges_tree, secrets_tree, terms_tree}
 
 -- ---- what stands of a pledge, by the rows of two hosts
 

@@ -1,9 +1,7 @@
 -- The first elements of a list of which one knows what is left behind each.
 use Rattle.std.proofs.Common.{◌≡◌, ◌++◌, ℕ, zero, suc, ◌-◌, ◌≤◌, ◌<◌, List, [], ◌∷◌, length, map, take, slice_get, Bool, true, false, cond, filter, Some, refl, sym, ap, subst, ◌∙◌, arith, option_map}
-use Rattle.std.specs.Prelude.{unwrap_or}
+use Rattle.pawn_tables.specs.Common.{unwrap_or, last_element, Each}
 use Rattle.std.proofs.lemmas.List.{map-append, map-id}
-use Rattle.pawn_pledge.specs.Pledge.{last_element}
-use Rattle.pawn_pledge.specs.Replayable.{Each}
 use Rattle.pawn_tables.specs.Pages.{IsPage, most_page_rows, page_end}
 
 pub last_later : {A : Type 0} (x y : A) (ys : List A) → last_element (x ∷ y ∷ ys) ≡ last_element (y ∷ ys)

@@ -1,34 +1,9 @@
 -- What the queries of a pledge show, where the tables stand for a host.
 use Rattle.std.proofs.Common.{◌≡◌, ◌≢◌, ◌==◌, ℕ, zero, suc, ◌+◌, ◌≤◌, ◌<◌, List, [], ◌∷◌, map, filter, length, Bool, true, false, cond, ◌&&◌, Option, Some, None, refl, sym, ap, subst, ◌∙◌, arith, IsPermutation, slice_get}
-use Rattle.std.specs.Prelude.{if◌then◌else◌}
-use Rattle.std.specs.FinMap.{get}
-use Rattle.std.proofs.lemmas.Bool.Decides.{nat_tests}
-use Rattle.std.proofs.lemmas.List.Sorted.{length_permutation}
-use Rattle.std.specs.declared.cmp.Ordering.TheVariants.{Less}
-use Rattle.sqlite_trees.proofs.ListLemmas.{map-map}
-use Rattle.sqlite.specs.declared.types.Value.{Value}
-use Rattle.sqlite.specs.Order.{Row, column, value_cmp}
-use Rattle.sqlite.specs.Tree.{IsAscending}
-use Rattle.sqlite.specs.Table.{Table}
-use Rattle.sqlite.specs.State.{State, Shown}
-use Rattle.sqlite.proofs.Callers.{one_permutation}
-use Rattle.pawn_terms.specs.declared.terms.Rates.{Rates}
-use Rattle.pawn_pledge.specs.declared.record.Booking.{Booking}
-use Rattle.pawn_pledge.specs.Pledge.{PledgeValue}
-use Rattle.pawn_pledge.specs.Replayable.{Each}
-use Rattle.pawn_book.specs.BookStep.{BookValue, pledge_from, pledge_in}
-use Rattle.pawn_book.specs.HostStep.{Host}
-use Rattle.pawn_book.specs.Rows.{AreNumberedFrom, IsUnder, terms_at}
-use Rattle.pawn_book.specs.Keeping.{entries_of, extensions_of, secrets_of, terms_of}
-use Rattle.pawn_tables.specs.Entries.{RiseFrom}
-use Rattle.pawn_tables.specs.Ours.{with_indexes}
-use Rattle.pawn_tables.specs.Schema.{terms, pledges, entries, secrets, bookings, totals, extensions, bookings_tree, entries_tree, extensions_tree, pledges_tree, secrets_tree, terms_tree, totals_tree}
-use Rattle.pawn_tables.specs.Rows.{number, under, placed_from, pledge_listed, pledge_cells, credit_cells, entries_listed, entry_cells, secrets_listed, secret_cells, extensions_listed, extension_cells, booking_listed, at_most_one, booking_cells, totals_listed, totals_cells, terms_listed, terms_cells}
-use Rattle.pawn_tables.specs.PledgeRows.{booking_of, totals_in}
-use Rattle.pawn_tables.specs.StandsFor.{StandsFor, ListDebts, of_books, of_pledges, AreBooksOrdered}
-use Rattle.one_table.proofs.Found.{shown_listed, shown_in_order}
+use Rattle.pawn_tables.specs.Common.{if◌then◌else◌, get, Less, Row, column, value_cmp, Shown, State, Table, IsAscending, Value, Rates, PledgeValue, Each, Booking, BookValue, pledge_from, pledge_in, Host, entries_of, extensions_of, secrets_of, terms_of, AreNumberedFrom, IsUnder, terms_at}
+use Rattle.pawn_tables.proofs.Lemmas.{nat_tests, length_permutation, map-map, one_permutation, shown_in_order, shown_listed, AreUnder, at_pledge, entries_rise, equals, of_one_book, of_one_pledge, placed_rise, rows_at}
+use Rattle.pawn_tables.specs.Tables.{RiseFrom, with_indexes, booking_of, totals_in, at_most_one, booking_cells, booking_listed, credit_cells, entries_listed, entry_cells, extension_cells, extensions_listed, number, placed_from, pledge_cells, pledge_listed, secret_cells, secrets_listed, terms_cells, terms_listed, totals_cells, totals_listed, under, bookings, bookings_tree, entries, entries_tree, extensions, extensions_tree, pledges, pledges_tree, secrets, secrets_tree, terms, terms_tree, totals, totals_tree, AreBooksOrdered, ListDebts, StandsFor, of_books, of_pledges}
 use Rattle.pawn_tables.proofs.ReadTexts as text
-use Rattle.pawn_tables.proofs.RowsUnderKey.{at_pledge, AreUnder, rows_at, of_one_pledge, of_one_book, placed_rise, entries_rise, equals}
 
 -- ---- what stands of the pledge at a number
 

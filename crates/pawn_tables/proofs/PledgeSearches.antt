@@ -1,36 +1,12 @@
 -- What the queries for pledges of a book show, where the tables stand for a host.
 use Rattle.std.proofs.Common.{◌≡◌, ◌≢◌, ◌==◌, ℕ, ◌+◌, List, [], ◌∷◌, map, filter, flat_map, take, length, length-append, Bool, true, false, cond, ◌&&◌, Option, Some, None, refl, sym, ap, subst, ◌∙◌, arith}
-use Rattle.std.specs.List.{list_all, AllByRecursion}
-use Rattle.std.specs.declared.cmp.Ordering.TheVariants.{Less}
-use Rattle.std.specs.FinMap.{get}
-use Rattle.std.proofs.lemmas.Bool.Decides.{nat_tests}
-use Rattle.std.proofs.lemmas.List.Elements.{filter_agree}
+use Rattle.pawn_tables.specs.Common.{get, AllByRecursion, list_all, Less, Row, column, value_cmp, Shown, State, Table, IsAscending, Text, PledgeValue, Booking, BookingState, BookValue, confirmed_count, is_confirmed, is_confirmed_for, Host, number_of, pledges_of, AreNumberedFrom, is_same_text}
+use Rattle.pawn_tables.proofs.Lemmas.{nat_tests, filter_agree, ascending-filter, filter-map, map-map, shown_first, equals, filter-append, filter-flat_map, flat_none, less, of_one_book, rows_at}
 use Rattle.std.proofs.lemmas.List.Sums.{sum_by-cons}
-use Rattle.sqlite_trees.proofs.ListLemmas.{map-map, filter-map, ascending-filter}
-use Rattle.sqlite.specs.declared.types.Value.TheVariants.{Text}
-use Rattle.sqlite.specs.Order.{Row, column, value_cmp}
-use Rattle.sqlite.specs.Tree.{IsAscending}
-use Rattle.sqlite.specs.Table.{Table}
-use Rattle.sqlite.specs.State.{State, Shown}
-use Rattle.pawn_pledge.specs.declared.record.Booking.{Booking}
-use Rattle.pawn_pledge.specs.declared.record.BookingState.{BookingState}
 use Rattle.pawn_pledge.specs.declared.record.BookingState.TheVariants.{Asked, Confirmed, Refused, Cancelled}
-use Rattle.pawn_pledge.specs.Pledge.{PledgeValue}
-use Rattle.pawn_book.specs.BookStep.{BookValue}
-use Rattle.pawn_book.specs.Bookings.{confirmed_count, is_confirmed, is_confirmed_for}
-use Rattle.pawn_book.specs.HostStep.{Host}
-use Rattle.pawn_book.specs.Keeping.{number_of, pledges_of}
-use Rattle.pawn_book.specs.Rows.{AreNumberedFrom, is_same_text}
-use Rattle.pawn_tables.specs.Ours.{with_indexes}
-use Rattle.pawn_tables.specs.Schema.{pledges, bookings, bookings_tree, pledges_tree}
-use Rattle.pawn_tables.specs.Rows.{number, under, pledge_cells, pledge_listed, booking_cells, booking_listed, state_number, at_most_one}
-use Rattle.pawn_tables.specs.Heads.{number_cells}
-use Rattle.pawn_tables.specs.At.{is_at}
-use Rattle.pawn_tables.specs.StandsFor.{StandsFor, of_pledges, AreBooksOrdered}
-use Rattle.one_table.proofs.Found.{shown_first}
+use Rattle.pawn_tables.specs.Tables.{is_at, number_cells, with_indexes, at_most_one, booking_cells, booking_listed, number, pledge_cells, pledge_listed, state_number, under, bookings, bookings_tree, pledges, pledges_tree, AreBooksOrdered, StandsFor, of_pledges}
 use Rattle.pawn_tables.proofs.Counts.{count_of, shown_count}
 use Rattle.pawn_tables.proofs.ReadTexts as text
-use Rattle.pawn_tables.proofs.RowsUnderKey.{rows_at, of_one_book, filter-flat_map, filter-append, flat_none, equals, less}
 use Rattle.pawn_tables.proofs.BookReads.{one_test, same_texts, singles, first_one, mapped_one}
 
 -- ---- the pledge with a reference

@@ -1,25 +1,9 @@
 -- The rows of one book, and of one pledge, among those of a host.
 use Rattle.std.proofs.Common.{◌≡◌, ◌≢◌, ◌++◌, ◌==◌, ℕ, ◌+◌, ◌<◌, pos, List, [], ◌∷◌, map, filter, flat_map, Bool, true, false, cond, ◌&&◌, Option, Some, None, T, refl, sym, ap, subst, ◌∙◌, arith, append-nil}
-use Rattle.std.specs.Prelude.{if◌then◌else◌}
-use Rattle.std.specs.List.{AllByRecursion}
-use Rattle.std.specs.Ordering.{is_eq, is_lt, nat_cmp}
-use Rattle.std.specs.declared.cmp.Ordering.TheVariants.{Less}
-use Rattle.std.specs.FinMap.{entries, entries_sorted, get, get-entries, find, is_sorted}
-use Rattle.std.specs.FinMap.Entries.{below_all}
+use Rattle.pawn_tables.specs.Common.{if◌then◌else◌, entries, entries_sorted, find, get, get-entries, is_sorted, below_all, AllByRecursion, is_eq, is_lt, nat_cmp, Less, binary, from_truth, is_true, Row, column, value_cmp, IsAscending, Value, Entry, PledgeValue, BookValue, pledge_from, pledge_in, Host, AreNumberedFrom}
 use Rattle.std.proofs.lemmas.Bool.Decides.{nat_tests}
-use Rattle.sqlite.specs.declared.types.Value.{Value}
-use Rattle.sqlite.specs.Order.{Row, column, value_cmp}
-use Rattle.sqlite.specs.Tree.{IsAscending}
-use Rattle.sqlite.specs.Ops.{binary, is_true, from_truth}
 use Rattle.sqlite_value.proofs.OrderLemmas.{value_cmp-Int}
-use Rattle.pawn_debt.specs.declared.entry.Entry.{Entry}
-use Rattle.pawn_pledge.specs.Pledge.{PledgeValue}
-use Rattle.pawn_book.specs.BookStep.{BookValue, pledge_from, pledge_in}
-use Rattle.pawn_book.specs.HostStep.{Host}
-use Rattle.pawn_book.specs.Rows.{AreNumberedFrom}
-use Rattle.pawn_tables.specs.Entries.{RiseFrom}
-use Rattle.pawn_tables.specs.Rows.{number, placed_from}
-use Rattle.pawn_tables.specs.StandsFor.{of_books, of_pledges, AreBooksOrdered}
+use Rattle.pawn_tables.specs.Tables.{RiseFrom, number, placed_from, AreBooksOrdered, of_books, of_pledges}
 pub use Rattle.pawn_tables.specs.At.{is_at, at_book, at_pledge}
 
 -- ---- SQL's = on numbers

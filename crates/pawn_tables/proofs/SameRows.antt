@@ -1,40 +1,11 @@
 -- What the rows of a table tell, they tell once.
 use Rattle.std.proofs.Common.{◌≡◌, ℕ, zero, suc, ◌+◌, ◌≤◌, ◌<◌, List, [], ◌∷◌, length, Bool, true, false, Option, Some, None, refl, sym, ap, ◌∙◌, arith, IsPermutation, get_or}
-use Rattle.std.specs.Ordering.{is_lt, ordering_reverse}
-use Rattle.std.specs.declared.cmp.Ordering.TheVariants.{Less}
-use Rattle.std.specs.Cmp.{IsTotalOrder, on_total}
-use Rattle.std.specs.Int.{from_be_bytes, to_be_bytes, w128}
-use Rattle.std.proofs.lemmas.List.Sorted.{IsPermutation-trans, IsPermutation-sym}
-use Rattle.sqlite_trees.proofs.ListLemmas.{ascending-get_or}
+use Rattle.pawn_tables.specs.Common.{IfSome, IsTotalOrder, on_total, from_be_bytes, to_be_bytes, w128, is_lt, ordering_reverse, Less, Row, column, value_cmp, Table, IsAscending, Trees, Value, Text, Rates, credit_of, Entry, Kind, Fixed, Running, Sort, Draw, Repay, PledgeValue, Each, Booking, BookingState, Closing, Extension, Issue, Issued, IsWord, Imported, Holds}
+use Rattle.pawn_tables.proofs.Lemmas.{IsPermutation-sym, IsPermutation-trans, ascending-get_or, value_cmp_total}
 use Rattle.sqlite_keyed.proofs.SortLemmas.{sorted_unique}
-use Rattle.sqlite_value.proofs.OrderLemmas.{value_cmp_total}
-use Rattle.sqlite.specs.declared.types.Value.{Value}
-use Rattle.sqlite.specs.declared.types.Value.TheVariants.{Text}
-use Rattle.sqlite.specs.Order.{Row, column, value_cmp}
-use Rattle.sqlite.specs.Tree.{Trees, IsAscending}
-use Rattle.sqlite.specs.Table.{Table}
-use Rattle.one_table.specs.Listing.{Holds}
-use Rattle.pawn_terms.specs.declared.terms.Rates.{Rates}
-use Rattle.pawn_debt.specs.declared.entry.Entry.{Entry}
-use Rattle.pawn_debt.specs.declared.entry.Kind.{Kind}
-use Rattle.pawn_debt.specs.declared.entry.Kind.TheVariants.{Fixed, Running}
-use Rattle.pawn_debt.specs.declared.entry.Sort.{Sort}
-use Rattle.pawn_debt.specs.declared.entry.Sort.TheVariants.{Draw, Repay}
-use Rattle.pawn_debt.specs.Due.{credit_of}
-use Rattle.pawn_pledge.specs.declared.record.Issued.{Issued}
-use Rattle.pawn_pledge.specs.declared.record.Issue.{Issue}
 use Rattle.pawn_pledge.specs.declared.record.Issue.TheVariants as issue
-use Rattle.pawn_pledge.specs.declared.record.Extension.{Extension}
-use Rattle.pawn_pledge.specs.declared.record.Booking.{Booking}
-use Rattle.pawn_pledge.specs.declared.record.BookingState.{BookingState}
 use Rattle.pawn_pledge.specs.declared.record.BookingState.TheVariants as state
-use Rattle.pawn_pledge.specs.declared.record.Closing.{Closing}
 use Rattle.pawn_pledge.specs.declared.record.Closing.TheVariants as closing
-use Rattle.pawn_pledge.specs.Pledge.{PledgeValue}
-use Rattle.pawn_pledge.specs.Replayable.{Each}
-use Rattle.pawn_book.specs.declared.change.Imported.{Imported}
-use Rattle.pawn_book.specs.Written.{IsWord}
-use Rattle.std.specs.Prelude.{IfSome}
 use Rattle.pawn_tables.specs.Rows.{number, flag_number, or_null, word, kind_number, sort_number, issue_number, state_number, closed_number, closed_day, closed_amount, import_key, import_count, at_most_one, placed_from, pledge_cells, entry_cells, secret_cells, extension_cells, booking_cells, terms_cells}
 use Rattle.pawn_tables.proofs.Words.{word_of_bytes}
 

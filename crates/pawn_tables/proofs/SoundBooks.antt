@@ -1,20 +1,8 @@
 -- What is kept of a sound host's books can be read of their rows.
 use Rattle.std.proofs.Common.{◌≡◌, ℕ, ◌+◌, ◌≤◌, List, [], ◌∷◌, length, Bool, true, false, cond, Option, Some, None, Result, Ok, Err, refl, arith, option_map}
-use Rattle.std.specs.Prelude.{IfSome}
-use Rattle.std.specs.FinMap.{get}
-use Rattle.pawn_pledge.specs.Number.{IsNumber}
-use Rattle.pawn_pledge.specs.Pledge.{PledgeValue}
-use Rattle.pawn_book.specs.BookStep.{BookValue, with_reference}
-use Rattle.pawn_book.specs.HostStep.{Host}
-use Rattle.pawn_book.specs.Keeping.{IsNextBook, number_of}
-use Rattle.pawn_book.specs.Rows.{AreNumberedFrom, is_same_text}
-use Rattle.pawn_book.specs.Sound.{IsSoundAt, HasUnsoundBook, IsUnsoundAt}
-use Rattle.pawn_book.specs.declared.fault.KeepError.{KeepError}
+use Rattle.pawn_tables.specs.Common.{IfSome, get, IsNumber, PledgeValue, BookValue, with_reference, Host, IsNextBook, number_of, AreNumberedFrom, is_same_text, HasUnsoundBook, IsSoundAt, IsUnsoundAt, KeepError, Database, NoRecord}
 use Rattle.pawn_book.specs.declared.fault.KeepError.TheVariants as Keeper
-use Rattle.pawn_book.specs.declared.fault.StoreFault.TheVariants.{NoRecord, Database}
-use Rattle.pawn_tables.specs.Heads.{HasKeys, IsHeadTold}
-use Rattle.pawn_tables.specs.StandsFor.{AreStorable}
-use Rattle.pawn_tables.specs.Finding.{Finds}
+use Rattle.pawn_tables.specs.Tables.{Finds, HasKeys, IsHeadTold, AreStorable}
 use Rattle.pawn_tables.proofs.BookReads.{next_of, is_next}
 
 module _ (h : Host) (b : ℕ) where

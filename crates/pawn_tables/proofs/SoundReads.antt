@@ -1,48 +1,19 @@
 -- What is kept of a sound host can be read of its rows.
 use Rattle.std.proofs.Common.{◌≡◌, ℕ, zero, suc, ◌-◌, ◌≤◌, List, [], ◌∷◌, slice_get, Option, Some, None, Result, Ok, Err, refl, sym, subst, arith, length, option_map, ◌++◌, IsOk, false}
-use Rattle.std.specs.Prelude.{IfSome, IsTrue, is_some}
-use Rattle.std.specs.FinMap.{get}
-use Rattle.std.proofs.lemmas.Bool.Decides.{nat_tests}
-use Rattle.pawn_terms.specs.Calendar.{IsDayNumber, IsStampDay, later_of, six_months}
-use Rattle.pawn_terms.specs.Limits.{first_day, last_stamp_day}
-use Rattle.pawn_terms.specs.Terms.{IsChecked}
-use Rattle.pawn_terms.specs.declared.terms.Rates.{Rates}
+use Rattle.pawn_tables.specs.Common.{IfSome, IsTrue, is_some, get, IsDayNumber, IsStampDay, later_of, six_months, first_day, last_stamp_day, IsChecked, Rates, DebtValue, last_of, Entry, Sort, Draw, Repay, PledgeValue, debt_of, end_of, last_element, last_until, AreExtended, AreIssued, Each, IsBooked, IsClosed, IsStanding, Booking, Closing, Open, Redeemed, Sold, Extension, Issued, BookValue, pledge_from, pledge_in, Host, entries_of, extensions_of, secrets_of, terms_of, terms_at, IsSoundBook, IsUnsoundAt, AreWords, HasTextsAndWords, KeepError, Database, NoRecord}
+use Rattle.pawn_tables.proofs.Lemmas.{nat_tests, last_some}
 use Rattle.pawn_terms.specs.Order.{DoNotFall, last_by}
-use Rattle.pawn_debt.specs.declared.entry.Entry.{Entry}
-use Rattle.pawn_debt.specs.declared.entry.Sort.{Sort}
-use Rattle.pawn_debt.specs.declared.entry.Sort.TheVariants.{Draw, Repay}
 use Rattle.pawn_debt.specs.Answers.{draw_rows, is_bad_amount, repay_rows, with_entry}
-use Rattle.pawn_debt.specs.Due.{DebtValue, last_of}
 use Rattle.pawn_debt.specs.Replay.{AreEntriesAccepted, sort_answer}
 use Rattle.pawn_terms.proofs.CalendarLemmas.{page_date}
 use Rattle.pawn_terms.proofs.OrderLemmas.{last_by-le}
 use Rattle.pawn_terms.proofs.RefusalLemmas.{first_of-is_ok}
 use Rattle.pawn_terms.proofs.SixMonths.{six_months_is}
-use Rattle.pawn_pledge.specs.declared.record.Extension.{Extension}
-use Rattle.pawn_pledge.specs.declared.record.Issued.{Issued}
-use Rattle.pawn_pledge.specs.declared.record.Booking.{Booking}
-use Rattle.pawn_pledge.specs.declared.record.Closing.{Closing}
-use Rattle.pawn_pledge.specs.declared.record.Closing.TheVariants.{Open, Redeemed, Sold}
-use Rattle.pawn_pledge.specs.Pledge.{PledgeValue, debt_of, end_of, last_element, last_until}
-use Rattle.pawn_pledge.specs.Replayable.{Each, AreExtended, AreIssued, IsBooked, IsClosed, IsStanding}
 use Rattle.pawn_pledge.proofs.Briefs.{brief_is_within}
 use Rattle.pawn_pledge.proofs.Pushes.{DoNotFall-each}
-use Rattle.pawn_book.specs.BookStep.{BookValue, pledge_from, pledge_in}
-use Rattle.pawn_book.specs.HostStep.{Host}
-use Rattle.pawn_book.specs.Rows.{terms_at}
-use Rattle.pawn_book.specs.Keeping.{entries_of, extensions_of, secrets_of, terms_of}
-use Rattle.pawn_book.specs.Sound.{IsSoundBook, IsUnsoundAt}
-use Rattle.pawn_book.specs.Written.{HasTextsAndWords, AreWords}
-use Rattle.pawn_book.specs.declared.fault.KeepError.{KeepError}
 use Rattle.pawn_book.specs.declared.fault.KeepError.TheVariants as Keeper
-use Rattle.pawn_book.specs.declared.fault.StoreFault.TheVariants.{NoRecord, Database}
 use Rattle.pawn_book.proofs.Sounds.{each_at}
-use Rattle.pawn_tables.specs.Entries.{IsAmount, IsEntryTold}
-use Rattle.pawn_tables.specs.Rows.{closed_day}
-use Rattle.pawn_tables.specs.PledgeRows.{IsBriefTold, IsCreditTold, IsRowTold, booking_of, totals_in}
-use Rattle.pawn_tables.specs.StandsFor.{AreStorable}
-use Rattle.pawn_tables.specs.Finding.{Finds, IsRead}
-use Rattle.pawn_tables.proofs.PageLemmas.{last_some}
+use Rattle.pawn_tables.specs.Tables.{IsAmount, IsEntryTold, Finds, IsRead, IsBriefTold, IsCreditTold, IsRowTold, booking_of, totals_in, closed_day, AreStorable}
 
 -- ---- answers
 

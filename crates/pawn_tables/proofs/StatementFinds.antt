@@ -1,21 +1,10 @@
 -- What a statement that is asked within a transaction finds.
 use Rattle.std.proofs.Common.{◌≡◌, List, ℕ, true, Result, Ok, Err, refl, sym, subst}
-use Rattle.sqlite.specs.Effect.{Database as Tables}
-use Rattle.sqlite.specs.Listing.{understood}
-use Rattle.sqlite.specs.Order.{Row}
-use Rattle.sqlite.specs.Schema.{Schema}
-use Rattle.sqlite.specs.State.{State, HasCleanDisk, Shown}
-use Rattle.sqlite_schema.specs.declared.schema.Index.{Index}
+use Rattle.pawn_tables.specs.Common.{Index, Tables, understood, Row, Schema, HasCleanDisk, Shown, State, Host, KeepError, Database, NoRecord, IsLent, Rests}
 use Rattle.sqlite.proofs.Callers.{IsPlain}
-use Rattle.pawn_book.specs.HostStep.{Host}
-use Rattle.pawn_book.specs.declared.fault.KeepError.{KeepError}
 use Rattle.pawn_book.specs.declared.fault.KeepError.TheVariants as Keeper
-use Rattle.pawn_book.specs.declared.fault.StoreFault.TheVariants.{NoRecord, Database}
-use Rattle.one_table.specs.Lending.{IsLent, Rests}
 use Rattle.one_table.proofs.Parts.{plain_rests}
-use Rattle.pawn_tables.specs.Finding.{Finds, FindsIn, FindsOf, IsRead}
-use Rattle.pawn_tables.specs.Ours.{HasOurTables, with_indexes}
-use Rattle.pawn_tables.specs.StandsFor.{StandsFor, ListDebts}
+use Rattle.pawn_tables.specs.Tables.{Finds, FindsIn, FindsOf, IsRead, HasOurTables, with_indexes, ListDebts, StandsFor}
 
 -- what was read has what holds of what stands, and what can't be kept is of a host that is not sound
 pub found_as : {A : Type 0} (r : Result A KeepError) (x : A) (P : A → Type 0) (Q U : Type 0) → IsRead r x Q → P x → ((Q → ⊥) → U) → Finds r P U

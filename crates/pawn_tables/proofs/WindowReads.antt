@@ -1,43 +1,18 @@
 -- What the query for the windows of a day shows, where the tables stand for a host.
 use Rattle.std.proofs.Common.{◌≡◌, ◌≢◌, ◌==◌, ℕ, ◌<◌, ◌≤◌, pos, List, [], ◌∷◌, map, filter, filter_map, nat_lt, Bool, true, false, cond, ◌&&◌, ◌||◌, Option, Some, None, refl, sym, ap, subst, ◌∙◌, arith, true≢false}
-use Rattle.std.specs.List.{AllByRecursion, IsDistinct, list_all, list_any, cons_option}
-use Rattle.std.specs.FinMap.{get}
-use Rattle.std.specs.Ordering.{eq_by_cmp, is_eq, ordering_then}
+use Rattle.pawn_tables.specs.Common.{get, AllByRecursion, IsDistinct, cons_option, list_all, list_any, eq_by_cmp, is_eq, ordering_then, Equal, Greater, Less, collated_cmp, Binary, Row, column, value_cmp, Shown, State, Table, PledgeValue, Booking, is_confirmed, is_confirmed_for, Host, pledges_of, part_items, Confirmed}
 use Rattle.std.specs.declared.cmp.Ordering.{Ordering}
-use Rattle.std.specs.declared.cmp.Ordering.TheVariants.{Less, Equal, Greater}
-use Rattle.std.proofs.lemmas.Bool.Decides.{nat_tests}
+use Rattle.pawn_tables.proofs.Lemmas.{nat_tests, all-map, all_from_map, all_weaker, value_cmp-Int, each_shown_once, shown_apart, shown_once_each, equals}
 use Rattle.std.proofs.lemmas.Cmp.{alike_right, tied_itself}
-use Rattle.sqlite.specs.Collation.TheVariants.{Binary}
-use Rattle.sqlite.specs.Order.{Row, column, value_cmp}
-use Rattle.sqlite.specs.Table.{Table}
-use Rattle.sqlite.specs.State.{State, Shown}
-use Rattle.sqlite_value.specs.Keys.{collated_cmp}
 use Rattle.sqlite_value.proofs.KeyLemmas.{collated_cmp_total}
-use Rattle.sqlite_value.proofs.OrderLemmas.{value_cmp-Int}
-use Rattle.sqlite_trees.proofs.ListLemmas.{all_from_map, all-map, all_weaker}
-use Rattle.pawn_pledge.specs.declared.record.Booking.{Booking}
-use Rattle.pawn_pledge.specs.Pledge.{PledgeValue}
 use Rattle.pawn_book.specs.declared.sheet.Part.TheVariants as part_of
-use Rattle.pawn_book.specs.declared.sheet.SheetItem.TheVariants.{Confirmed}
-use Rattle.pawn_book.specs.Bookings.{is_confirmed, is_confirmed_for}
-use Rattle.pawn_book.specs.Sheet.{part_items}
-use Rattle.pawn_book.specs.HostStep.{Host}
-use Rattle.pawn_book.specs.Keeping.{pledges_of}
-use Rattle.pawn_tables.specs.At.{is_at, is_below}
-use Rattle.pawn_tables.specs.Heads.{number_cells}
-use Rattle.pawn_tables.specs.Lines.{NamesWindows}
-use Rattle.pawn_tables.specs.Rows.{number, number_in_book, under, booking_cells, booking_listed, state_number}
-use Rattle.pawn_tables.specs.Ours.{with_indexes}
-use Rattle.pawn_tables.specs.Schema.{bookings, bookings_tree}
-use Rattle.pawn_tables.specs.StandsFor.{StandsFor, of_pledges}
-use Rattle.one_table.proofs.Distinct.{each_shown_once, shown_apart, shown_once_each}
+use Rattle.pawn_tables.specs.Tables.{is_at, is_below, number_cells, NamesWindows, with_indexes, booking_cells, booking_listed, number, number_in_book, state_number, under, bookings, bookings_tree, StandsFor, of_pledges}
 use Rattle.pawn_tables.proofs.ReadTexts as text
 use Rattle.pawn_tables.proofs.BookReads as books
 use Rattle.pawn_tables.proofs.BookReads.{one_test}
 use Rattle.pawn_tables.proofs.LineReads.{all_kept, booking_in}
 use Rattle.pawn_tables.proofs.OneEach.{shown_each, tell_of}
 use Rattle.pawn_tables.proofs.PledgeSearches.{confirmed_state}
-use Rattle.pawn_tables.proofs.RowsUnderKey.{equals}
 
 -- a booking that is confirmed for one of the windows of the day
 abbrev comes_on : ℕ → Booking → Bool

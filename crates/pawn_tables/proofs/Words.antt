@@ -1,9 +1,6 @@
 -- A word of 128 bits and its sixteen bytes.
 use Rattle.std.proofs.Common.{◌≡◌, ℕ, List, arith, ap, sym, ◌∙◌}
-use Rattle.std.specs.Int.{from_be_bytes, to_be_bytes, w128}
-use Rattle.sqlite.specs.declared.types.Value.{Value}
-use Rattle.sqlite.specs.declared.types.Value.TheVariants.{Blob}
-use Rattle.pawn_book.specs.Written.{IsWord}
+use Rattle.pawn_tables.specs.Common.{from_be_bytes, to_be_bytes, w128, Value, Blob, IsWord}
 use Rattle.pawn_tables.specs.Rows.{word}
 
 pub word_of_bytes : (n : ℕ) → IsWord n → from_be_bytes w128 (to_be_bytes w128 n) ≡ n

@@ -1,12 +1,6 @@
 -- Which rows a query finds.
 use Rattle.std.specs.Prelude.{ℕ, Bool, [], ◌∷◌}
-use Rattle.std.specs.List.{list_all}
-use Rattle.sqlite.specs.declared.types.Value.{Value}
-use Rattle.sqlite.specs.Order.{Row, column}
-use Rattle.sqlite.specs.Ops.{binary, is_true}
-use Rattle.sqlite.specs.Collation.TheVariants.{Binary}
-use Rattle.sqlite_sql.specs.declared.ops.BinaryOp.TheVariants.{Compare}
-use Rattle.sqlite_sql.specs.declared.ops.CompareOp.TheVariants.{Eq, Ge, Gt, Lt}
+use Rattle.pawn_tables.specs.Common.{list_all, Compare, Eq, Ge, Gt, Lt, Binary, binary, is_true, Row, column, Value}
 use Rattle.pawn_tables.specs.Rows.{number}
 
 -- SQL's =

@@ -1,7 +1,6 @@
 -- The entries of a pledge, by their numbers.
 use Rattle.std.specs.Prelude.{ℕ, ◌+◌, ◌≤◌, ◌==◌, nat_le, List, [], ◌∷◌, filter, find, Option}
-use Rattle.pawn_terms.specs.Calendar.{IsDayNumber}
-use Rattle.pawn_debt.specs.declared.entry.Entry.{Entry}
+use Rattle.pawn_tables.specs.Common.{IsDayNumber, Entry}
 use Rattle.pawn_debt.specs.Limits.{most_pence}
 use Rattle.pawn_tables.specs.Pages.{IsPage}
 

@@ -1,15 +1,9 @@
 -- What is read of the tables, and when a row is no record.
 use Rattle.std.specs.Prelude.{◌≡◌, IsTrue, Result, Ok, Err}
 use Rattle.std.specs.Borrow.{MutBor}
-use Rattle.sqlite.specs.State.{State, HasCleanDisk}
-use Rattle.sqlite.specs.Held.{Held, state}
+use Rattle.pawn_tables.specs.Common.{Tables, Held, state, HasCleanDisk, State, Host, KeepError, Database, NoRecord, Rests}
 use Rattle.sqlite_trees.specs.declared.store.Store.{Ghosts}
-use Rattle.pawn_book.specs.HostStep.{Host}
-use Rattle.pawn_book.specs.declared.fault.KeepError.{KeepError}
 use Rattle.pawn_book.specs.declared.fault.KeepError.TheVariants as Keeper
-use Rattle.pawn_book.specs.declared.fault.StoreFault.TheVariants.{NoRecord, Database}
-use Rattle.one_table.specs.Lending.{Rests}
-use Rattle.sqlite.specs.Effect.{Database as Tables}
 use Rattle.pawn_tables.specs.StandsFor.{StandsFor}
 
 -- P holds of what was read; if the error is `NoRecord`, Q holds; of other errors nothing is said

@@ -1,11 +1,6 @@
 -- What the row of a book holds.
 use Rattle.std.specs.Prelude.{ℕ, [], ◌∷◌, IfSome}
-use Rattle.std.specs.Str.{IsUtf8}
-use Rattle.sqlite.specs.Order.{Row}
-use Rattle.pawn_pledge.specs.Text.{IsText}
-use Rattle.pawn_book.specs.BookStep.{BookValue}
-use Rattle.pawn_book.specs.Limits.{IsCapacity, most_name_bytes}
-use Rattle.pawn_book.specs.Written.{IsWord}
+use Rattle.pawn_tables.specs.Common.{IsUtf8, Row, IsText, BookValue, IsCapacity, most_name_bytes, IsWord}
 use Rattle.pawn_tables.specs.Rows.{number}
 
 -- its keys are words

@@ -1,10 +1,6 @@
 -- What a keeper over a connection keeps.
 use Rattle.std.specs.Prelude.{◌≡◌, false, IsTrue}
-use Rattle.sqlite.specs.Tree.{Trees}
-use Rattle.sqlite.specs.State.{State, HasCleanDisk}
-use Rattle.pawn_book.specs.HostStep.{Host}
-use Rattle.pawn_book.specs.Keeping.{Keeping}
-use Rattle.pawn_book.specs.Sound.{IsSound}
+use Rattle.pawn_tables.specs.Common.{HasCleanDisk, State, Trees, Host, Keeping, IsSound}
 use Rattle.pawn_tables.specs.StandsFor.{StandsFor, HoldHost}
 
 -- no transaction is under way, and what is committed stands for the host; a store that a fault has shut stands for any

@@ -1,4 +1,5 @@
 pub mod At
+pub mod Common
 pub mod Entries
 pub mod Finding
 pub mod Heads
@@ -14,4 +15,5 @@ pub mod PledgeRows
 pub mod Rows
 pub mod Schema
 pub mod StandsFor
+pub mod Tables
 pub mod WorkedTables

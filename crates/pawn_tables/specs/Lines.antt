@@ -1,14 +1,8 @@
 -- The lines of a day's sheet, page by page.
 use Rattle.std.specs.Prelude.{ℕ, ◌≡◌, ◌≢◌, ◌≤◌, ◌==◌, false, List, [], ◌∷◌, drop}
-use Rattle.std.specs.List.{AllByRecursion, IsDistinct, list_any}
-use Rattle.sqlite.specs.Order.{Row}
-use Rattle.pawn_pledge.specs.Pledge.{PledgeValue}
-use Rattle.pawn_pledge.specs.Limits.{last_window}
-use Rattle.pawn_book.specs.declared.sheet.Part.{Part}
+use Rattle.pawn_tables.specs.Common.{AllByRecursion, IsDistinct, list_any, Row, last_window, PledgeValue, part_items, Part, SheetItem}
 use Rattle.pawn_book.specs.declared.sheet.Part.TheVariants as part
-use Rattle.pawn_book.specs.declared.sheet.SheetItem.{SheetItem}
 use Rattle.pawn_book.specs.declared.sheet.SheetItem.TheVariants.{Confirmed, Asked, Ends}
-use Rattle.pawn_book.specs.Sheet.{part_items}
 use Rattle.pawn_tables.specs.Heads.{number_cells}
 use Rattle.pawn_tables.specs.Pages.{IsPage}
 use Rattle.pawn_tables.specs.Rows.{number}

@@ -1,8 +1,6 @@
 -- What the ends of a pledge's lists show: how long the lists are, and the last secret.
 use Rattle.std.specs.Prelude.{◌≡◌, List, length, Option, option_map}
-use Rattle.sqlite.specs.Order.{Row}
-use Rattle.pawn_pledge.specs.declared.record.Issued.{Issued}
-use Rattle.pawn_pledge.specs.Pledge.{PledgeValue, last_element}
+use Rattle.pawn_tables.specs.Common.{Row, PledgeValue, last_element, Issued}
 use Rattle.pawn_tables.specs.Rows.{secret_cells}
 use Rattle.pawn_tables.specs.declared.joining.LastSecret.{LastSecret}
 use Rattle.pawn_tables.specs.declared.joining.ListEnds.{ListEnds}

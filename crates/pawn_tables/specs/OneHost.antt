@@ -1,7 +1,6 @@
 -- Tables stand for one host at most.
 use Rattle.std.specs.Prelude.{◌≡◌}
-use Rattle.sqlite.specs.Tree.{Trees}
-use Rattle.pawn_book.specs.HostStep.{Host}
+use Rattle.pawn_tables.specs.Common.{Trees, Host}
 use Rattle.pawn_tables.specs.StandsFor.{HoldHost}
 
 -- trees hold one host at most

@@ -1,10 +1,7 @@
 -- A database of the program's tables, whatever indexes it has beside those of their keys.
 use Rattle.std.specs.Prelude.{◌≡◌, ◌++◌, false, List}
-use Rattle.std.specs.List.{AllByRecursion}
+use Rattle.pawn_tables.specs.Common.{AllByRecursion, Index, Schema, Listed, Lists}
 use Rattle.sqlite.specs.Effect.{Database}
-use Rattle.sqlite.specs.Schema.{Schema}
-use Rattle.sqlite_schema.specs.declared.schema.Index.{Index}
-use Rattle.one_table.specs.Listing.{Listed, Lists}
 use Rattle.pawn_tables.specs.Schema.{keep_schema}
 
 -- the program's tables, with these indexes beside those of their keys

@@ -1,15 +1,7 @@
 -- What the row of a pledge holds, and what the tables beside it hold.
 use Rattle.std.specs.Prelude.{◌≡◌, Option, Some, None, IfSome, IsTrue, is_some}
-use Rattle.std.specs.Str.{IsUtf8}
-use Rattle.pawn_terms.specs.Calendar.{IsDayNumber, IsStampDay}
-use Rattle.pawn_debt.specs.declared.owing.Totals.{Totals}
-use Rattle.pawn_debt.specs.Kept.{totals_of}
-use Rattle.pawn_pledge.specs.declared.record.Booking.{Booking}
+use Rattle.pawn_tables.specs.Common.{IsUtf8, IsDayNumber, IsStampDay, totals_of, Totals, IsBriefWithin, brief_of, most_article_bytes, most_reference_bytes, PledgeValue, debt_of, end_of, last_element, IsText, Booking}
 use Rattle.pawn_pledge.specs.declared.record.Opening.{Opening}
-use Rattle.pawn_pledge.specs.Text.{IsText}
-use Rattle.pawn_pledge.specs.Limits.{most_article_bytes, most_reference_bytes}
-use Rattle.pawn_pledge.specs.Brief.{IsBriefWithin, brief_of}
-use Rattle.pawn_pledge.specs.Pledge.{PledgeValue, end_of, debt_of, last_element}
 use Rattle.pawn_tables.specs.Rows.{closed_day}
 use Rattle.pawn_tables.specs.declared.credits.Credit.{Credit}
 use Rattle.pawn_tables.specs.declared.joining.Lists.{Lists}

@@ -1,10 +1,8 @@
 -- The tables: of the books, of their pledges, and of what the store notes of itself.
 use Rattle.std.specs.Prelude.{ℕ, [], ◌∷◌, Some, codes}
-use Rattle.sqlite.specs.Table.{Table}
-use Rattle.sqlite.specs.Schema.{Schema}
+use Rattle.pawn_tables.specs.Common.{plain, Schema, Table}
 use Rattle.sqlite.specs.Change.{created}
 use Rattle.sqlite.specs.Kind.TheVariants.{Integer, Text, Blob}
-use Rattle.sqlite_value.specs.Keys.{plain}
 use Rattle.one_table.specs.Columns.{filled, blank, refers, keyed, no_schema}
 
 -- a book, by its number; the counts of its terms and pledges; the key of the import that filled it, and how many

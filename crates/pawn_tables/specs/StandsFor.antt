@@ -1,18 +1,7 @@
 -- When tables stand for a host.
 use Rattle.std.specs.Prelude.{ℕ, ◌≡◌, ◌≤◌, ◌<◌, ◌^◌, List, length, map, flat_map, Some, IfSome}
-use Rattle.std.specs.FinMap.{entries, get}
-use Rattle.sqlite.specs.Order.{Row}
-use Rattle.sqlite.specs.Schema.{Schema}
-use Rattle.sqlite.specs.Tree.{Trees}
+use Rattle.pawn_tables.specs.Common.{entries, get, Row, Schema, Trees, first_day, PledgeValue, Each, BookValue, Host, rows, AreNumberedFrom, IsUnder, AreWords, IsWord, Holds}
 use Rattle.sqlite.specs.Effect.{Database, IsDatabase}
-use Rattle.pawn_terms.specs.Limits.{first_day}
-use Rattle.pawn_pledge.specs.Pledge.{PledgeValue}
-use Rattle.pawn_pledge.specs.Replayable.{Each}
-use Rattle.pawn_book.specs.Rows.{AreNumberedFrom, IsUnder}
-use Rattle.pawn_book.specs.Written.{IsWord, AreWords}
-use Rattle.pawn_book.specs.BookStep.{BookValue}
-use Rattle.pawn_book.specs.HostStep.{Host, rows}
-use Rattle.one_table.specs.Listing.{Holds}
 use Rattle.pawn_tables.specs.Schema.{books, terms, pledges, entries as entries_table, secrets, bookings, meta, totals, extensions, bookings_tree, books_tree, entries_tree, extensions_tree, meta_tree, pledges_tree, secrets_tree, terms_tree, totals_tree}
 use Rattle.pawn_tables.specs.Entries.{RiseFrom}
 use Rattle.pawn_tables.specs.Ours.{HasOurTables}

@@ -1,22 +1,9 @@
 -- Tables worked out: those of a host with one book, in which a ring is pawned.
 use Rattle.std.specs.Prelude.{◌≡◌, ℕ, false, [], ◌∷◌, Some, None, length, map, pos, replicate, codes}
-use Rattle.std.specs.FinMap.{empty, entries, insert}
-use Rattle.sqlite.specs.declared.types.Value.{Value}
-use Rattle.sqlite.specs.declared.types.Value.TheVariants.{Null, Int, Text, Blob}
+use Rattle.pawn_tables.specs.Common.{empty, entries, insert, Value, Blob, Int, Null, Text, rates_of, Entry, Fixed, Repay, PledgeValue, AreNumbered, Open, Redeemed, Issue, Issued, BookValue, Host, rows}
 use Rattle.pawn_terms.specs.Worked.{date}
-use Rattle.pawn_debt.specs.declared.entry.Entry.{Entry}
-use Rattle.pawn_debt.specs.declared.entry.Kind.TheVariants.{Fixed}
-use Rattle.pawn_debt.specs.declared.entry.Sort.TheVariants.{Repay}
-use Rattle.pawn_terms.specs.Terms.{rates_of}
 use Rattle.pawn_pledge.specs.declared.record.BookingState.TheVariants.{Confirmed}
-use Rattle.pawn_pledge.specs.declared.record.Closing.TheVariants.{Open, Redeemed}
-use Rattle.pawn_pledge.specs.declared.record.Issue.{Issue}
-use Rattle.pawn_pledge.specs.declared.record.Issued.{Issued}
-use Rattle.pawn_pledge.specs.Pledge.{PledgeValue}
-use Rattle.pawn_pledge.specs.Replayable.{AreNumbered}
 use Rattle.pawn_pledge.specs.Worked.{ring, ring_opening}
-use Rattle.pawn_book.specs.BookStep.{BookValue}
-use Rattle.pawn_book.specs.HostStep.{Host, rows}
 use Rattle.pawn_tables.specs.Entries.{IsEntriesPage, RiseFrom}
 use Rattle.pawn_tables.specs.Meta.{meta_rows}
 use Rattle.pawn_tables.specs.Places.{page_behind}

@@ -1,16 +1,8 @@
 #![tactic(auto, using(crate::proofs::StatementFinds::unread))]
 
 ghost use Rattle.std.specs.Prelude.{◌≡◌, is_ok, option_map};
-ghost use Rattle.std.specs.FinMap.{get};
-ghost use Rattle.sqlite.specs.Held.{state};
-ghost use Rattle.pawn_book.specs.Bookings.{confirmed_count};
-ghost use Rattle.pawn_book.specs.BookStep.{book_head};
-ghost use Rattle.pawn_book.specs.HostStep.{rows};
-ghost use Rattle.pawn_book.specs.Keeping.{IsNextBook, number_of, pledges_of};
-ghost use Rattle.pawn_book.specs.Sound.{HasUnsoundBook, IsUnsoundAt};
-ghost use Rattle.one_table.specs.Lending.{Lends};
-ghost use Rattle.pawn_tables.specs.Finding.{FindsOf, FindsBy};
-ghost use Rattle.pawn_tables.specs.StandsFor.{ListDebts};
+ghost use Rattle.pawn_tables.specs.Common.{get, state, book_head, confirmed_count, rows, IsNextBook, number_of, pledges_of, HasUnsoundBook, IsUnsoundAt, Lends};
+ghost use Rattle.pawn_tables.specs.Tables.{FindsBy, FindsOf, ListDebts};
 
 use crate::heads::{first_head, first_number, only_count, only_number};
 use crate::queries::rows_of;

@@ -1,9 +1,5 @@
 ghost use Rattle.std.specs.Prelude.{◌≡◌, is_ok, option_map};
-ghost use Rattle.std.specs.FinMap.{get};
-ghost use Rattle.pawn_pledge.specs.Brief.{brief_of};
-ghost use Rattle.pawn_book.specs.BookStep.{pledge_in};
-ghost use Rattle.pawn_book.specs.Sound.{IsUnsoundAt};
-ghost use Rattle.one_table.specs.Lending.{Lends};
+ghost use Rattle.pawn_tables.specs.Common.{get, brief_of, pledge_in, IsUnsoundAt, Lends};
 ghost use Rattle.pawn_tables.specs.Finding.{FindsBy};
 
 use crate::joining::briefs::join;

@@ -1,20 +1,8 @@
 ghost use Rattle.std.specs.Prelude.{◌≡◌, ◌≢◌, ◌<◌, ℕ, List, Bool, Option, IfSome, length, ⊤};
-ghost use Rattle.std.specs.Int.{to_be_bytes, w128};
-ghost use Rattle.std.specs.Str.{IsUtf8};
-ghost use Rattle.sqlite.specs.declared.types.Value.TheVariants.{Text as Words};
-ghost use Rattle.sqlite.specs.Order.{column};
-ghost use Rattle.pawn_terms.specs.Calendar.{IsDayNumber, IsStampDay};
-ghost use Rattle.pawn_pledge.specs.Text.{IsText};
-ghost use Rattle.pawn_debt.specs.declared.entry.Sort.{Sort};
-ghost use Rattle.pawn_pledge.specs.declared.record.Issue.{Issue};
-ghost use Rattle.pawn_pledge.specs.declared.record.BookingState.{BookingState};
-ghost use Rattle.pawn_book.specs.Written.{IsWord};
-ghost use Rattle.pawn_tables.specs.Rows.{number, flag, flag_number, or_null, word, sort_number, issue_number, state_number};
-ghost use Rattle.pawn_tables.specs.Entries.{IsAmount};
-ghost use Rattle.pawn_tables.specs.Finding.{IsRead};
+ghost use Rattle.pawn_tables.specs.Common.{to_be_bytes, w128, IsUtf8, column, Words, IsDayNumber, IsStampDay, Sort, IsText, BookingState, Issue, IsWord, Database, NoRecord};
+ghost use Rattle.pawn_tables.specs.Tables.{IsAmount, IsRead, flag, flag_number, issue_number, number, or_null, sort_number, state_number, word};
 ghost use Rattle.sqlite.specs.declared.error.Error.TheVariants as SqlError;
 ghost use Rattle.sqlite.specs.declared.error.ErrorCode.TheVariants.{OutOfMemory};
-ghost use Rattle.pawn_book.specs.declared.fault.StoreFault.TheVariants.{Database, NoRecord};
 ghost use Rattle.pawn_book.specs.declared.fault.KeepError.TheVariants as Keeper;
 
 use pawn_book::{BookingState, Day, Issue, KeepError, RequestDay, Secret, Sort, StoreFault};

@@ -1,15 +1,6 @@
 ghost use Rattle.std.specs.Prelude.{◌≡◌, Option, IfSome, is_ok, option_map};
-ghost use Rattle.std.specs.FinMap.{get};
-ghost use Rattle.sqlite.specs.Held.{state};
-ghost use Rattle.pawn_terms.specs.Calendar.{IsStampDay};
-ghost use Rattle.pawn_pledge.specs.Pledge.{PledgeValue};
-ghost use Rattle.pawn_book.specs.BookStep.{pledge_in};
-ghost use Rattle.pawn_book.specs.Sound.{IsUnsoundAt};
-ghost use Rattle.one_table.specs.Lending.{Lends};
-ghost use Rattle.pawn_tables.specs.Rows.{at_most_one, credit_cells};
-ghost use Rattle.pawn_tables.specs.Finding.{FindsOf, IsRead};
-ghost use Rattle.pawn_tables.specs.StandsFor.{ListDebts};
-ghost use Rattle.pawn_tables.specs.PledgeRows.{IsCreditTold, credit_told};
+ghost use Rattle.pawn_tables.specs.Common.{get, state, IsStampDay, PledgeValue, pledge_in, IsUnsoundAt, Lends};
+ghost use Rattle.pawn_tables.specs.Tables.{FindsOf, IsRead, IsCreditTold, credit_told, at_most_one, credit_cells, ListDebts};
 
 use crate::cells::{NO_RECORD, day_of, number_at, optional_at, request_day};
 use crate::queries::rows_of;

@@ -1,11 +1,6 @@
 ghost use Rattle.std.specs.Prelude.{[], ◌∷◌, ◌≡◌, ℕ, Option, IfSome, min, option_map, ⊤};
-ghost use Rattle.pawn_pledge.specs.Number.{IsNumber};
-ghost use Rattle.pawn_book.specs.declared.change.Imported.{Imported};
-ghost use Rattle.pawn_book.specs.BookStep.{BookValue, book_head};
-ghost use Rattle.pawn_book.specs.Limits.{IsCapacity};
-ghost use Rattle.pawn_tables.specs.Rows.{at_most_one, head_cells, import_count, import_key};
-ghost use Rattle.pawn_tables.specs.Heads.{HasKeys, IsHeadTold, most_counted, number_cells};
-ghost use Rattle.pawn_tables.specs.Finding.{IsRead};
+ghost use Rattle.pawn_tables.specs.Common.{IsNumber, BookValue, book_head, IsCapacity, Imported};
+ghost use Rattle.pawn_tables.specs.Tables.{IsRead, HasKeys, IsHeadTold, most_counted, number_cells, at_most_one, head_cells, import_count, import_key};
 
 use crate::cells::{NO_RECORD, number_at, optional_at, optional_word_at, text_at, word_at};
 use pawn_book::{BookHead, Capacity, Imported, KeepError, Number, Secret, StoreFault};

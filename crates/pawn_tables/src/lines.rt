@@ -1,10 +1,6 @@
 ghost use Rattle.std.specs.Prelude.{◌≡◌, ℕ, List, map, ⊤};
-ghost use Rattle.pawn_pledge.specs.Number.{IsNumber};
-ghost use Rattle.pawn_pledge.specs.Replayable.{Each};
-ghost use Rattle.pawn_tables.specs.declared.line.Line.{Line};
-ghost use Rattle.pawn_tables.specs.Heads.{number_cells};
-ghost use Rattle.pawn_tables.specs.Lines.{IsLineOf, line_cells};
-ghost use Rattle.pawn_tables.specs.Finding.{IsRead};
+ghost use Rattle.pawn_tables.specs.Common.{IsNumber, Each};
+ghost use Rattle.pawn_tables.specs.Tables.{IsRead, number_cells, IsLineOf, line_cells, Line};
 
 use crate::cells::number_at;
 use crate::heads::number_of;

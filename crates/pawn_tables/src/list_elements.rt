@@ -1,14 +1,8 @@
 #![tactic(auto, using(crate::proofs::StatementFinds::unread))]
 
 ghost use Rattle.std.specs.Prelude.{◌≡◌, is_ok};
-ghost use Rattle.std.specs.FinMap.{get};
-ghost use Rattle.pawn_book.specs.BookStep.{pledge_in};
-ghost use Rattle.pawn_book.specs.Keeping.{entries_of, extensions_of, secrets_of};
-ghost use Rattle.pawn_book.specs.Sound.{IsUnsoundAt};
-ghost use Rattle.one_table.specs.Lending.{Lends};
-ghost use Rattle.pawn_tables.specs.Entries.{with_seq};
-ghost use Rattle.pawn_tables.specs.Finding.{FindsBy};
-ghost use Rattle.pawn_tables.specs.Places.{at_place};
+ghost use Rattle.pawn_tables.specs.Common.{get, pledge_in, entries_of, extensions_of, secrets_of, IsUnsoundAt, Lends};
+ghost use Rattle.pawn_tables.specs.Tables.{with_seq, FindsBy, at_place};
 
 use crate::lists::{first_entry, first_extension, first_issued};
 use crate::queries::rows_of;

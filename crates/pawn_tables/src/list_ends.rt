@@ -2,18 +2,8 @@
 #![tactic(auto, using(crate::proofs::StatementFinds::unread))]
 
 ghost use Rattle.std.specs.Prelude.{◌≡◌, ℕ, IfSome, Option, is_ok, length, unwrap_or, ⊤};
-ghost use Rattle.std.specs.FinMap.{get};
-ghost use Rattle.pawn_terms.specs.Calendar.{IsDayNumber};
-ghost use Rattle.pawn_book.specs.BookStep.{pledge_in};
-ghost use Rattle.pawn_book.specs.Keeping.{entries_of, extensions_of, secrets_of};
-ghost use Rattle.pawn_book.specs.Sound.{IsUnsoundAt};
-ghost use Rattle.pawn_book.specs.Written.{IsWord};
-ghost use Rattle.one_table.specs.Lending.{Lends};
-ghost use Rattle.pawn_tables.specs.declared.joining.LastSecret.{LastSecret};
-ghost use Rattle.pawn_tables.specs.Finding.{IsRead, FindsBy};
-ghost use Rattle.pawn_tables.specs.Heads.{number_cells};
-ghost use Rattle.pawn_tables.specs.Rows.{at_most_one};
-ghost use Rattle.pawn_tables.specs.ListEnds.{AreListEnds, last_cells, last_issued};
+ghost use Rattle.pawn_tables.specs.Common.{get, IsDayNumber, pledge_in, entries_of, extensions_of, secrets_of, IsUnsoundAt, IsWord, Lends};
+ghost use Rattle.pawn_tables.specs.Tables.{FindsBy, IsRead, number_cells, AreListEnds, last_cells, last_issued, at_most_one, LastSecret};
 
 use crate::cells::number_at;
 use crate::heads::only_count;

@@ -1,13 +1,6 @@
 ghost use Rattle.std.specs.Prelude.{◌≡◌, ℕ, IfSome, List, Option, map};
-ghost use Rattle.pawn_terms.specs.Calendar.{IsDayNumber};
-ghost use Rattle.pawn_debt.specs.declared.entry.Entry.{Entry};
-ghost use Rattle.pawn_pledge.specs.declared.record.Issued.{Issued};
-ghost use Rattle.pawn_pledge.specs.declared.record.Extension.{Extension};
-ghost use Rattle.pawn_pledge.specs.Replayable.{Each};
-ghost use Rattle.pawn_book.specs.Written.{IsWord, AreWords};
-ghost use Rattle.pawn_tables.specs.Entries.{IsEntryTold};
-ghost use Rattle.pawn_tables.specs.Rows.{at_most_one, entry_cells, secret_cells, extension_cells, placed_from};
-ghost use Rattle.pawn_tables.specs.Finding.{IsRead};
+ghost use Rattle.pawn_tables.specs.Common.{IsDayNumber, Entry, Each, Extension, Issued, AreWords, IsWord};
+ghost use Rattle.pawn_tables.specs.Tables.{IsEntryTold, IsRead, at_most_one, entry_cells, extension_cells, placed_from, secret_cells};
 
 use crate::cells::{amount_of, day_at, issue_of, number_at, sort_of, word_at};
 use pawn_book::{Entry, Extension, Issued, KeepError};

@@ -2,14 +2,8 @@
 #![tactic(auto, using(crate::proofs::StatementFinds::unread))]
 
 ghost use Rattle.std.specs.Prelude.{◌≡◌, is_ok};
-ghost use Rattle.std.specs.FinMap.{get};
-ghost use Rattle.pawn_book.specs.BookStep.{pledge_in};
-ghost use Rattle.pawn_book.specs.Keeping.{entries_of, extensions_of, secrets_of};
-ghost use Rattle.pawn_book.specs.Sound.{IsUnsoundAt};
-ghost use Rattle.one_table.specs.Lending.{Lends};
-ghost use Rattle.pawn_tables.specs.Entries.{IsEntriesPage};
-ghost use Rattle.pawn_tables.specs.Finding.{FindsBy};
-ghost use Rattle.pawn_tables.specs.Places.{page_behind};
+ghost use Rattle.pawn_tables.specs.Common.{get, pledge_in, entries_of, extensions_of, secrets_of, IsUnsoundAt, Lends};
+ghost use Rattle.pawn_tables.specs.Tables.{IsEntriesPage, FindsBy, page_behind};
 
 use crate::lists::{read_entries, read_extensions, read_secrets};
 use crate::queries::rows_of;

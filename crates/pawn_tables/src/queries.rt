@@ -1,20 +1,9 @@
 #![tactic(auto, using(crate::proofs::StatementFinds::unread))]
 
 ghost use Rattle.std.specs.Prelude.{◌≡◌, Err, IfOk, is_ok, option_map};
-ghost use Rattle.std.specs.FinMap.{get};
-ghost use Rattle.sqlite.specs.Held.{state};
-ghost use Rattle.sqlite.specs.Values.{bound};
-ghost use Rattle.sqlite.specs.State.{HasCleanDisk, Shown};
+ghost use Rattle.pawn_tables.specs.Common.{get, state, HasCleanDisk, Shown, bound, pledge_in, entries_of, extensions_of, secrets_of, terms_of, terms_at, IsUnsoundAt, NoRecord, Lends};
 ghost use Rattle.pawn_book.specs.declared.fault.KeepError.TheVariants as Keeper;
-ghost use Rattle.pawn_book.specs.declared.fault.StoreFault.TheVariants.{NoRecord};
-ghost use Rattle.pawn_book.specs.Rows.{terms_at};
-ghost use Rattle.pawn_book.specs.BookStep.{pledge_in};
-ghost use Rattle.pawn_book.specs.Keeping.{entries_of, extensions_of, secrets_of, terms_of};
-ghost use Rattle.pawn_book.specs.Sound.{IsUnsoundAt};
-ghost use Rattle.one_table.specs.Lending.{Lends};
-ghost use Rattle.pawn_tables.specs.Finding.{FindsOf, FindsBy};
-ghost use Rattle.pawn_tables.specs.StandsFor.{ListDebts};
-ghost use Rattle.pawn_tables.specs.PledgeRows.{row_of, booking_of, totals_in};
+ghost use Rattle.pawn_tables.specs.Tables.{FindsBy, FindsOf, booking_of, row_of, totals_in, ListDebts};
 
 use crate::cells::refused;
 use crate::lists::{read_entries, read_extensions, read_secrets};

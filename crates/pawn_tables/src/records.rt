@@ -1,14 +1,6 @@
 ghost use Rattle.std.specs.Prelude.{◌≡◌, Option, IfSome, ⊤};
-ghost use Rattle.pawn_terms.specs.Calendar.{IsDayNumber};
-ghost use Rattle.pawn_terms.specs.Terms.{IsChecked};
-ghost use Rattle.pawn_terms.specs.declared.terms.Rates.{Rates};
-ghost use Rattle.pawn_debt.specs.declared.entry.Kind.{Kind};
-ghost use Rattle.pawn_debt.specs.declared.owing.Totals.{Totals};
-ghost use Rattle.pawn_debt.specs.Due.{credit_of};
-ghost use Rattle.pawn_pledge.specs.declared.record.Booking.{Booking};
-ghost use Rattle.pawn_pledge.specs.declared.record.Closing.{Closing};
-ghost use Rattle.pawn_tables.specs.Rows.{kind_number, closed_number, closed_day, closed_amount, booking_cells, totals_cells, terms_cells, at_most_one};
-ghost use Rattle.pawn_tables.specs.Finding.{IsRead};
+ghost use Rattle.pawn_tables.specs.Common.{IsDayNumber, IsChecked, Rates, credit_of, Kind, Totals, Booking, Closing};
+ghost use Rattle.pawn_tables.specs.Tables.{IsRead, at_most_one, booking_cells, closed_amount, closed_day, closed_number, kind_number, terms_cells, totals_cells};
 
 use crate::cells::{NO_RECORD, day_at, day_of, number_at, state_of};
 use pawn_book::{Booking, Closing, Day, KeepError, Kind, Opening, Rates, Terms};

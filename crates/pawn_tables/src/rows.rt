@@ -1,9 +1,6 @@
 ghost use Rattle.std.specs.Prelude.{◌≡◌, Option, IfSome, option_map};
-ghost use Rattle.pawn_terms.specs.Calendar.{IsDayNumber};
-ghost use Rattle.pawn_pledge.specs.Pledge.{PledgeValue};
-ghost use Rattle.pawn_tables.specs.Rows.{pledge_cells, closed_day, at_most_one};
-ghost use Rattle.pawn_tables.specs.Finding.{IsRead};
-ghost use Rattle.pawn_tables.specs.PledgeRows.{IsTold, IsRowTold, row_of};
+ghost use Rattle.pawn_tables.specs.Common.{IsDayNumber, PledgeValue};
+ghost use Rattle.pawn_tables.specs.Tables.{IsRead, IsRowTold, IsTold, row_of, at_most_one, closed_day, pledge_cells};
 
 use crate::cells::{day_at, flag_at, number_at, optional_at, request_day, text_at};
 use crate::records::{PledgeRow, closing_of, kind_of, optional_day};

@@ -1,14 +1,9 @@
 #![tactic(auto, using(crate::proofs::StatementFinds::unread))]
 
 ghost use Rattle.std.specs.Prelude.{◌≡◌, is_ok, length};
-ghost use Rattle.std.specs.FinMap.{get};
+ghost use Rattle.pawn_tables.specs.Common.{get, pledges_of, part_items, IsUnsoundAt, Lends};
 ghost use Rattle.pawn_book.specs.declared.sheet.Part.TheVariants as part_of;
-ghost use Rattle.pawn_book.specs.Keeping.{pledges_of};
-ghost use Rattle.pawn_book.specs.Sheet.{part_items};
-ghost use Rattle.pawn_book.specs.Sound.{IsUnsoundAt};
-ghost use Rattle.one_table.specs.Lending.{Lends};
-ghost use Rattle.pawn_tables.specs.Finding.{FindsBy};
-ghost use Rattle.pawn_tables.specs.Lines.{IsLinesPage, NamesWindows};
+ghost use Rattle.pawn_tables.specs.Tables.{FindsBy, IsLinesPage, NamesWindows};
 
 use crate::books::confirmed_in;
 use crate::heads::only_count;

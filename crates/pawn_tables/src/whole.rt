@@ -1,12 +1,6 @@
 ghost use Rattle.std.specs.Prelude.{◌≡◌, IfSome, is_ok};
-ghost use Rattle.std.specs.FinMap.{get};
-ghost use Rattle.pawn_book.specs.Rows.{terms_at};
-ghost use Rattle.pawn_book.specs.BookStep.{pledge_in};
-ghost use Rattle.pawn_book.specs.Keeping.{terms_of};
-ghost use Rattle.pawn_book.specs.Sound.{IsUnsoundAt};
-ghost use Rattle.one_table.specs.Lending.{Lends};
-ghost use Rattle.pawn_tables.specs.Finding.{FindsBy};
-ghost use Rattle.pawn_tables.specs.PledgeRows.{AreLists, AreSides, AreTold};
+ghost use Rattle.pawn_tables.specs.Common.{get, pledge_in, terms_of, terms_at, IsUnsoundAt, Lends};
+ghost use Rattle.pawn_tables.specs.Tables.{FindsBy, AreLists, AreSides, AreTold};
 
 use crate::cells::NO_RECORD;
 use crate::joining::pledges::join;

@@ -1,10 +1,6 @@
 ghost use Rattle.std.specs.Prelude.{◌≢◌, ℕ, IsTrue, OnOk, Ok, Err, is_ok};
-ghost use Rattle.sqlite.specs.Values.{bound};
-ghost use Rattle.sqlite.specs.Held.{state};
-ghost use Rattle.sqlite.specs.State.{Executes, HasCleanDisk};
+ghost use Rattle.pawn_tables.specs.Common.{state, Executes, HasCleanDisk, bound, NoRecord, Lends};
 ghost use Rattle.pawn_book.specs.declared.fault.KeepError.TheVariants as Keeper;
-ghost use Rattle.pawn_book.specs.declared.fault.StoreFault.TheVariants.{NoRecord};
-ghost use Rattle.one_table.specs.Lending.{Lends};
 
 use crate::cells::refused;
 use one_table::run;

@@ -1,7 +1,5 @@
 ghost use Rattle.std.specs.Prelude.{map};
-ghost use Rattle.pawn_book.specs.Sheet.{with_head};
-ghost use Rattle.pawn_book.specs.Visits.{HandsOver};
-ghost use Rattle.pawn_tables.specs.Lines.{item_of};
+ghost use Rattle.pawn_table_keeper.specs.Common.{with_head, HandsOver, item_of};
 
 use pawn_book::{Flow, Part, SheetItem, Visitor};
 use pawn_tables::Line;

@@ -1,15 +1,7 @@
 ghost use Rattle.std.specs.Prelude.{◌≡◌, IfErr, IfOk};
-ghost use Rattle.std.specs.FinMap.{get};
-ghost use Rattle.sqlite.specs.Held.{state};
+ghost use Rattle.pawn_table_keeper.specs.Common.{get, state, pledge_in, Errs, Reads, entries_of, extensions_of, secrets_of, IsUnsoundAt, Database, keeping_by, page_end, page_behind};
 ghost use Rattle.pawn_book.specs.declared.fault.KeepError.TheVariants as Keeper;
-ghost use Rattle.pawn_book.specs.declared.fault.StoreFault.TheVariants.{Database};
-ghost use Rattle.pawn_book.specs.BookStep.{pledge_in};
-ghost use Rattle.pawn_book.specs.Keeping.{Errs, Reads, entries_of, extensions_of, secrets_of};
-ghost use Rattle.pawn_book.specs.Sound.{IsUnsoundAt};
 ghost use Rattle.pawn_tables.specs.Entries.{IsEntriesPage, behind};
-ghost use Rattle.pawn_tables.specs.Keeps.{keeping_by};
-ghost use Rattle.pawn_tables.specs.Pages.{page_end};
-ghost use Rattle.pawn_tables.specs.Places.{page_behind};
 ghost use Rattle.pawn_table_keeper.specs.Handing.{HandsRows};
 
 use super::handing::hand_all;

@@ -1,12 +1,5 @@
 ghost use Rattle.std.specs.Prelude.{◌∷◌, ◌≡◌, IfOk, length};
-ghost use Rattle.std.specs.FinMap.{get};
-ghost use Rattle.sqlite.specs.Held.{state};
-ghost use Rattle.pawn_book.specs.Keeping.{Errs, Reads, pledges_of};
-ghost use Rattle.pawn_book.specs.Sheet.{part_head, part_items, window_sheet, windows_sheet, with_head, day_sheet};
-ghost use Rattle.pawn_book.specs.Sound.{IsUnsoundAt};
-ghost use Rattle.pawn_tables.specs.Keeps.{keeping_by};
-ghost use Rattle.pawn_tables.specs.Lines.{IsLinesPage, NamesWindows};
-ghost use Rattle.pawn_tables.specs.Pages.{page_end};
+ghost use Rattle.pawn_table_keeper.specs.Common.{get, state, Errs, Reads, pledges_of, day_sheet, part_head, part_items, window_sheet, windows_sheet, with_head, IsUnsoundAt, keeping_by, IsLinesPage, NamesWindows, page_end};
 ghost use Rattle.pawn_table_keeper.specs.Handing.{HandsRows};
 ghost use Rattle.pawn_table_keeper.specs.Windows.{named_sheet, named_sheets};
 

@@ -1,11 +1,6 @@
 ghost use Rattle.std.specs.Prelude.{◌≡◌, List, length};
-ghost use Rattle.pawn_terms.specs.Calendar.{IsDayNumber};
-ghost use Rattle.pawn_pledge.specs.declared.record.Issued.{Issued};
-ghost use Rattle.pawn_pledge.specs.Brief.{brief_of};
-ghost use Rattle.pawn_pledge.specs.Pledge.{PledgeValue, end_of, last_secret, live_under};
-ghost use Rattle.pawn_tables.specs.Finding.{IsRead};
-ghost use Rattle.pawn_tables.specs.ListEnds.{AreListEnds, last_issued};
-ghost use Rattle.pawn_tables.specs.PledgeRows.{AreSides, HasSecret, IsBriefTold, row_of};
+ghost use Rattle.pawn_tables.specs.Common.{IsDayNumber, brief_of, PledgeValue, end_of, last_secret, live_under, Issued};
+ghost use Rattle.pawn_tables.specs.Tables.{IsRead, AreListEnds, last_issued, AreSides, HasSecret, IsBriefTold, row_of};
 
 use super::pledges::{ends_of, record_of};
 use crate::cells::{NO_RECORD, day_of};

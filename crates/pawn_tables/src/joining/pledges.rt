@@ -1,9 +1,6 @@
 ghost use Rattle.std.specs.Prelude.{◌≡◌, ◌↔◌, IfOk, IsTrue, Some};
-ghost use Rattle.pawn_debt.specs.Kept.{totals_of};
-ghost use Rattle.pawn_pledge.specs.Pledge.{PledgeValue, debt_of, end_of};
-ghost use Rattle.pawn_pledge.specs.Replayable.{IsStanding};
-ghost use Rattle.pawn_tables.specs.PledgeRows.{AreLists, AreSides, row_of};
-ghost use Rattle.pawn_tables.specs.Finding.{IsRead};
+ghost use Rattle.pawn_tables.specs.Common.{totals_of, PledgeValue, debt_of, end_of, IsStanding};
+ghost use Rattle.pawn_tables.specs.Tables.{IsRead, AreLists, AreSides, row_of};
 
 use crate::cells::NO_RECORD;
 use crate::joining::{Lists, RowsBeside};

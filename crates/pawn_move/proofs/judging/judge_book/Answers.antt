@@ -1,10 +1,4 @@
-use Rattle.std.proofs.Common.{rules, ◌≡◌, ◌+◌, ◌∙◌, Err, Bool, true, false, refl}
-use Rattle.sqlite.specs.Held.{state}
-use Rattle.pawn_book.specs.HostStep.{Host}
-use Rattle.pawn_book.specs.Sound.{IsUnsoundAt}
-use Rattle.pawn_move.specs.Moving.{AreOwedIn, IsJudgedAt}
-use Rattle.pawn_move.proofs.JudgedUpto.{AreOwedTo, all_judged, one_judged}
-use Rattle.pawn_move.proofs.Judged.{none_walked, walk_ends, walk_fails, walk_on}
+use Rattle.pawn_move.proofs.Answering.{Bool, Err, false, refl, rules, true, ◌+◌, ◌∙◌, ◌≡◌, state, Host, IsUnsoundAt, AreOwedIn, IsJudgedAt, none_walked, walk_ends, walk_fails, walk_on, AreOwedTo, all_judged, one_judged}
 use Rattle.pawn_move.proofs.judging.judge_book.Goals as goal
 
 pub loop-place-init : goal.loop-place-init

@@ -1,7 +1,4 @@
-use Rattle.std.proofs.Common.{◌≡◌}
-use Rattle.sqlite.specs.Held.{state}
-use Rattle.pawn_move.proofs.JudgedUpto.{AreOwedTo}
-use Rattle.pawn_move.proofs.Judged.{HasWalked}
+use Rattle.pawn_move.proofs.Answering.{◌≡◌, state, HasWalked, AreOwedTo}
 use Rattle.pawn_move.proofs.judging.judge_book.Given as goal
 
 abbrev pub invariant-loop-place : goal.invariant-loop-place

@@ -1,11 +1,4 @@
-use Rattle.std.proofs.Common.{rules, ◌≡◌, ◌∙◌, ℕ, Option, Some, None, Err, false, refl}
-use Rattle.std.specs.FinMap.{get}
-use Rattle.sqlite.specs.Held.{state}
-use Rattle.pawn_book.specs.HostStep.{Host}
-use Rattle.pawn_book.specs.Sound.{HasUnsoundBook}
-use Rattle.pawn_move.specs.Moving.{AreAllOwed, IsNextJudged}
-use Rattle.pawn_move.proofs.JudgedUpto.{AreOwedUpto, all_upto, none_judged, upto_next}
-use Rattle.pawn_move.proofs.Judged.{none_walked, walk_ends, walk_fails, walk_on}
+use Rattle.pawn_move.proofs.Answering.{Err, None, Option, Some, false, refl, rules, ℕ, ◌∙◌, ◌≡◌, get, state, Host, HasUnsoundBook, AreAllOwed, IsNextJudged, none_walked, walk_ends, walk_fails, walk_on, AreOwedUpto, all_upto, none_judged, upto_next}
 use Rattle.pawn_move.proofs.judging.judge_books.Goals as goal
 
 pub loop-init : goal.loop-init

@@ -1,7 +1,4 @@
-use Rattle.std.proofs.Common.{◌≡◌}
-use Rattle.sqlite.specs.Held.{state}
-use Rattle.pawn_move.proofs.JudgedUpto.{AreOwedUpto}
-use Rattle.pawn_move.proofs.Judged.{HasWalked}
+use Rattle.pawn_move.proofs.Answering.{◌≡◌, state, HasWalked, AreOwedUpto}
 use Rattle.pawn_move.proofs.judging.judge_books.Given as goal
 
 abbrev pub invariant-loop : goal.invariant-loop

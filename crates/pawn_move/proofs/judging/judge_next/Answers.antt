@@ -1,11 +1,4 @@
-use Rattle.std.proofs.Common.{rules, ℕ, Option, Err, false}
-use Rattle.sqlite.specs.Held.{state}
-use Rattle.pawn_book.specs.HostStep.{Host}
-use Rattle.pawn_book.specs.Keeping.{IsNextBook}
-use Rattle.pawn_book.specs.Sound.{HasUnsoundBook}
-use Rattle.pawn_move.specs.Moving.{IsNextJudged, ListFirstDebts}
-use Rattle.pawn_move.proofs.Judged.{next_judged, next_not_judged}
-use Rattle.pawn_move.proofs.Reading.{first_unfound, of_first}
+use Rattle.pawn_move.proofs.Answering.{Err, Option, false, rules, ℕ, state, Host, IsNextBook, HasUnsoundBook, IsNextJudged, ListFirstDebts, next_judged, next_not_judged, first_unfound, of_first}
 use Rattle.pawn_move.proofs.judging.judge_next.Goals as goal
 
 pub returns-in-Ok-clause-judges : goal.returns-in-Ok-clause-judges

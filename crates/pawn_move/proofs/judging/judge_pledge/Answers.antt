@@ -1,10 +1,4 @@
-use Rattle.std.proofs.Common.{Bool, Option, Err, refl}
-use Rattle.sqlite.specs.Held.{state}
-use Rattle.pawn_debt.specs.declared.owing.Totals.{Totals}
-use Rattle.pawn_book.specs.HostStep.{Host}
-use Rattle.pawn_book.specs.Sound.{IsUnsoundAt}
-use Rattle.pawn_move.specs.Moving.{AreTotalsAt, IsJudgedAt, ListFirstDebts}
-use Rattle.pawn_move.proofs.Reading.{first_unfound}
+use Rattle.pawn_move.proofs.Answering.{Bool, Err, Option, refl, state, Totals, Host, IsUnsoundAt, AreTotalsAt, IsJudgedAt, ListFirstDebts, first_unfound}
 use Rattle.pawn_move.proofs.judging.judge_pledge.Goals as goal
 
 pub returns-in-Err-clause-judges : goal.returns-in-Err-clause-judges

@@ -1,6 +1,4 @@
-use Rattle.std.specs.Prelude.{is_ok}
-use Rattle.sqlite.specs.Held.{state}
-use Rattle.pawn_move.proofs.Made.{noted_then}
+use Rattle.pawn_move.proofs.Answering.{is_ok, state, noted_then}
 use Rattle.pawn_move.proofs.making.finish.Goals as goal
 
 pub returns-clause-noted : goal.returns-clause-noted

@@ -1,12 +1,4 @@
-use Rattle.std.proofs.Common.{true, Ok}
-use Rattle.std.specs.Prelude.{is_ok}
-use Rattle.sqlite.specs.declared.error.Error.{Error}
-use Rattle.sqlite.specs.Held.{state}
-use Rattle.one_table.specs.Columns.{no_schema}
-use Rattle.one_table.proofs.Lent.{lent_then}
-use Rattle.pawn_tables.specs.Schema.{keep_schema}
-use Rattle.pawn_opening.specs.Laying.{first_three, first_six}
-use Rattle.pawn_opening.proofs.Creating.{makes_then}
+use Rattle.pawn_opening.proofs.Answering.{Ok, is_ok, true, state, Error, no_schema, keep_schema, lent_then, first_six, first_three, makes_then}
 use Rattle.pawn_opening.proofs.filling.make_tables.Goals as goal
 
 pub returns-clause-made : goal.returns-clause-made

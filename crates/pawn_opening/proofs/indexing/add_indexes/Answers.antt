@@ -1,7 +1,4 @@
-use Rattle.std.proofs.Common.{rules, ◌≡◌, Ok, Err, subst}
-use Rattle.sqlite.specs.Held.{state}
-use Rattle.pawn_opening.specs.Opened.{IndexesStore}
-use Rattle.pawn_opening.proofs.Begun.{is_begun}
+use Rattle.pawn_opening.proofs.Answering.{Err, Ok, rules, subst, ◌≡◌, state, IndexesStore, is_begun}
 use Rattle.pawn_opening.proofs.IndexedStore.{indexed, not_committed, not_indexed, not_lacking}
 use Rattle.pawn_opening.proofs.indexing.add_indexes.Goals as goal
 

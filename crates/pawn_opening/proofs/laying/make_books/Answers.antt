@@ -1,14 +1,4 @@
-use Rattle.std.proofs.Common.{true, Ok}
-use Rattle.sqlite.specs.Change.{created}
-use Rattle.sqlite.specs.declared.error.Error.{Error}
-use Rattle.sqlite.specs.Held.{state}
-use Rattle.std.specs.Prelude.{is_ok}
-use Rattle.one_table.specs.Columns.{no_schema}
-use Rattle.pawn_tables.specs.Schema.{books, terms, pledges}
-use Rattle.pawn_opening.specs.Laying.{first_three}
-use Rattle.one_table.proofs.Lent.{lent_then}
-use Rattle.pawn_opening.proofs.Creating.{makes_one, makes_then}
-use Rattle.pawn_opening.proofs.TableTexts.{MAKE_BOOKS, MAKE_TERMS, MAKE_PLEDGES, books_is, terms_is, pledges_is}
+use Rattle.pawn_opening.proofs.Answering.{Ok, is_ok, true, created, state, Error, no_schema, books, pledges, terms, lent_then, first_three, makes_one, makes_then, MAKE_BOOKS, MAKE_PLEDGES, MAKE_TERMS, books_is, pledges_is, terms_is}
 use Rattle.pawn_opening.proofs.laying.make_books.Goals as goal
 
 pub returns-clause-made : goal.returns-clause-made

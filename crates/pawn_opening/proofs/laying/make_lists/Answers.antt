@@ -1,13 +1,4 @@
-use Rattle.std.proofs.Common.{true, Ok}
-use Rattle.sqlite.specs.Change.{created}
-use Rattle.sqlite.specs.declared.error.Error.{Error}
-use Rattle.sqlite.specs.Held.{state}
-use Rattle.std.specs.Prelude.{is_ok}
-use Rattle.pawn_tables.specs.Schema.{entries, secrets, bookings}
-use Rattle.pawn_opening.specs.Laying.{first_three, first_six}
-use Rattle.one_table.proofs.Lent.{lent_then}
-use Rattle.pawn_opening.proofs.Creating.{makes_one, makes_then}
-use Rattle.pawn_opening.proofs.TableTexts.{MAKE_ENTRIES, MAKE_SECRETS, MAKE_BOOKINGS, entries_is, secrets_is, bookings_is}
+use Rattle.pawn_opening.proofs.Answering.{Ok, is_ok, true, created, state, Error, bookings, entries, secrets, lent_then, first_six, first_three, makes_one, makes_then, MAKE_BOOKINGS, MAKE_ENTRIES, MAKE_SECRETS, bookings_is, entries_is, secrets_is}
 use Rattle.pawn_opening.proofs.laying.make_lists.Goals as goal
 
 pub returns-clause-made : goal.returns-clause-made

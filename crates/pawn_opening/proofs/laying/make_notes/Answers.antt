@@ -1,12 +1,4 @@
-use Rattle.std.proofs.Common.{true, Ok}
-use Rattle.sqlite.specs.declared.error.Error.{Error}
-use Rattle.sqlite.specs.Held.{state}
-use Rattle.std.specs.Prelude.{is_ok}
-use Rattle.pawn_tables.specs.Schema.{first_schema, keep_schema, meta, second_schema}
-use Rattle.pawn_opening.specs.Laying.{first_six}
-use Rattle.one_table.proofs.Lent.{lent_then}
-use Rattle.pawn_opening.proofs.Creating.{makes_extensions, makes_one, makes_then, makes_totals}
-use Rattle.pawn_opening.proofs.TableTexts.{MAKE_META, meta_is}
+use Rattle.pawn_opening.proofs.Answering.{Ok, is_ok, true, state, Error, first_schema, keep_schema, meta, second_schema, lent_then, first_six, makes_extensions, makes_one, makes_then, makes_totals, MAKE_META, meta_is}
 use Rattle.pawn_opening.proofs.laying.make_notes.Goals as goal
 
 pub returns-clause-made : goal.returns-clause-made

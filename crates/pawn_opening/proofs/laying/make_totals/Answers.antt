@@ -1,5 +1,4 @@
-use Rattle.sqlite.specs.Held.{state}
-use Rattle.pawn_opening.proofs.Creating.{adds_totals}
+use Rattle.pawn_opening.proofs.Answering.{state, adds_totals}
 use Rattle.pawn_opening.proofs.laying.make_totals.Goals as goal
 
 pub returns-clause-made : goal.returns-clause-made

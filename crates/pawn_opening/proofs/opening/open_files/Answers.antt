@@ -1,8 +1,6 @@
-use Rattle.std.proofs.Common.{inr, arith}
+use Rattle.pawn_opening.proofs.Answering.{arith, inr, file_state, image_of, accepted, as_found, finds_host, finds_none, refused}
 use Rattle.sqlite_trees.proofs.Doubt.{no_doubt}
-use Rattle.sqlite.specs.Files.{file_state, image_of}
 use Rattle.sqlite.specs.State.{HasCleanDisk}
-use Rattle.pawn_opening.proofs.Found.{accepted, as_found, finds_host, finds_none, refused}
 use Rattle.pawn_opening.proofs.opening.open_files.Goals as goal
 
 pub returns-in-Ok-prepare-clause-blank : goal.returns-in-Ok-prepare-clause-blank

@@ -1,7 +1,4 @@
-use Rattle.std.proofs.Common.{inl, inr, subst, sym}
-use Rattle.sqlite.specs.Files.{file_state}
-use Rattle.pawn_opening.specs.FilesStand.{IsBlank, IsRefusedStore, OpensFound, StandsIn}
-use Rattle.pawn_opening.proofs.Seen.{untouched}
+use Rattle.pawn_opening.proofs.Answering.{inl, inr, subst, sym, file_state, IsBlank, IsRefusedStore, OpensFound, StandsIn, untouched}
 use Rattle.pawn_opening.proofs.opening.open_path.Goals as goal
 
 pub returns-in-Ok-open_files-clause-blank : goal.returns-in-Ok-open_files-clause-blank

@@ -1,8 +1,4 @@
-use Rattle.std.proofs.Common.{rules, ◌≡◌, Ok, Err, subst}
-use Rattle.sqlite.specs.Held.{state}
-use Rattle.pawn_tables.proofs.OneHost.{tables_stand_for_one_host}
-use Rattle.pawn_opening.specs.Opened.{LaysOut}
-use Rattle.pawn_opening.proofs.Begun.{is_begun}
+use Rattle.pawn_opening.proofs.Answering.{Err, Ok, rules, subst, ◌≡◌, state, tables_stand_for_one_host, LaysOut, is_begun}
 use Rattle.pawn_opening.proofs.LaidOut.{laid_out, not_committed, not_filled}
 use Rattle.pawn_opening.proofs.preparing.lay_out.Goals as goal
 

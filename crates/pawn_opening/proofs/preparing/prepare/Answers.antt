@@ -1,7 +1,4 @@
-use Rattle.std.proofs.Common.{rules, ◌≡◌, Err, sym, subst}
-use Rattle.sqlite.specs.Held.{state}
-use Rattle.pawn_tables.proofs.OneHost.{tables_stand_for_one_host}
-use Rattle.pawn_opening.specs.Opened.{Recognises}
+use Rattle.pawn_opening.proofs.Answering.{Err, rules, subst, sym, ◌≡◌, state, tables_stand_for_one_host, Recognises}
 use Rattle.pawn_opening.proofs.Prepared.{when_empty, when_other, when_ours}
 use Rattle.pawn_opening.proofs.preparing.prepare.Goals as goal
 

@@ -1,5 +1,4 @@
-use Rattle.sqlite.specs.Held.{state}
-use Rattle.pawn_opening.proofs.Recognised.{judged, unjudged}
+use Rattle.pawn_opening.proofs.Answering.{state, judged, unjudged}
 use Rattle.pawn_opening.proofs.recognising.recognise.Goals as goal
 
 pub returns-in-Ok : goal.returns-in-Ok

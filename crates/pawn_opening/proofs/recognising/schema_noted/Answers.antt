@@ -1,7 +1,5 @@
-use Rattle.std.proofs.Common.{rules, subst}
-use Rattle.sqlite.specs.Held.{state}
+use Rattle.pawn_opening.proofs.Answering.{rules, subst, state, failed, told, untold}
 use Rattle.pawn_opening.specs.Refusing.{IsNumberRead}
-use Rattle.pawn_opening.proofs.Recognised.{failed, told, untold}
 use Rattle.pawn_opening.proofs.recognising.schema_noted.Goals as goal
 
 pub returns-in-Ok : goal.returns-in-Ok

@@ -1,7 +1,4 @@
-use Rattle.std.proofs.Common.{rules}
-use Rattle.sqlite.specs.Held.{state}
-use Rattle.pawn_saving.proofs.StatementWrites.{on_ran}
-use Rattle.pawn_saving.proofs.BookStatements.{book_wrote}
+use Rattle.pawn_saving.proofs.Writing.{rules, state, book_wrote, on_ran}
 use Rattle.pawn_saving.proofs.books.put_book.Goals as goal
 
 pub returns-clause-wrote : goal.returns-clause-wrote

@@ -1,5 +1,4 @@
-use Rattle.sqlite.specs.Held.{state}
-use Rattle.pawn_saving.proofs.StatementWrites.{on_ran, terms_wrote}
+use Rattle.pawn_saving.proofs.Writing.{state, on_ran, terms_wrote}
 use Rattle.pawn_saving.proofs.books.put_terms.Goals as goal
 
 pub returns-clause-wrote : goal.returns-clause-wrote

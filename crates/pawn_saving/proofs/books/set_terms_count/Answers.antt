@@ -1,6 +1,4 @@
-use Rattle.sqlite.specs.Held.{state}
-use Rattle.pawn_saving.proofs.StatementWrites.{on_ran}
-use Rattle.pawn_saving.proofs.BookStatements.{terms_count_wrote}
+use Rattle.pawn_saving.proofs.Writing.{state, terms_count_wrote, on_ran}
 use Rattle.pawn_saving.proofs.books.set_terms_count.Goals as goal
 
 pub returns-clause-wrote : goal.returns-clause-wrote

@@ -1,14 +1,5 @@
-use Rattle.std.proofs.Common.{◌≡◌, ◌+◌, ◌∙◌, ◌++◌, ◌∷◌, [], ℕ, length, length-append, refl, subst, true, arith}
-use Rattle.sqlite.specs.Held.{state}
-use Rattle.pawn_terms.specs.declared.terms.Rates.{Rates}
-use Rattle.pawn_book.specs.HostStep.{rows}
-use Rattle.pawn_book.specs.Changes.{with_change}
+use Rattle.pawn_saving.proofs.Writing.{[], arith, length, length-append, refl, subst, true, ℕ, ◌++◌, ◌+◌, ◌∙◌, ◌∷◌, ◌≡◌, state, Rates, with_change, rows, with_rows, number, terms_cells, IsWrittenPart, listed_as, as_lists, clean_before}
 use Rattle.pawn_book.specs.declared.change.Change.TheVariants.{AddTerms}
-use Rattle.one_table.specs.Listing.{with_rows}
-use Rattle.pawn_tables.specs.Rows.{number, terms_cells}
-use Rattle.pawn_saving.specs.Counted.{IsWrittenPart, listed_as}
-use Rattle.pawn_saving.proofs.Lent.{clean_before}
-use Rattle.pawn_saving.proofs.Hosting.{as_lists}
 use Rattle.pawn_saving.proofs.BookChanges.{longer_written, other_books, others}
 use Rattle.pawn_saving.proofs.changes.add_terms.Goals as goal
 

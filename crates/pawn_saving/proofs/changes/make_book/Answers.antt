@@ -1,8 +1,4 @@
-use Rattle.std.proofs.Common.{refl}
-use Rattle.sqlite.specs.Held.{state}
-use Rattle.pawn_book.specs.HostStep.{rows}
-use Rattle.pawn_saving.specs.Counted.{listed_as}
-use Rattle.pawn_saving.proofs.Hosting.{as_lists}
+use Rattle.pawn_saving.proofs.Writing.{refl, state, rows, listed_as, as_lists}
 use Rattle.pawn_saving.proofs.BookChanges.{made_written}
 use Rattle.pawn_saving.proofs.changes.make_book.Goals as goal
 

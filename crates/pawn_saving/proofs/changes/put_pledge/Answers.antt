@@ -1,8 +1,5 @@
-use Rattle.std.proofs.Common.{rules, sym, subst, is_ok}
-use Rattle.sqlite.specs.Held.{state}
+use Rattle.pawn_saving.proofs.Writing.{is_ok, rules, subst, sym, state, clean_before, can_within, none_stored, some_stored}
 use Rattle.pawn_tables.specs.StandsFor.{StandsFor}
-use Rattle.pawn_saving.proofs.Lent.{clean_before}
-use Rattle.pawn_saving.proofs.StoredReads.{can_within, none_stored, some_stored}
 use Rattle.pawn_saving.proofs.changes.put_pledge.Goals as goal
 
 pub returns-then-stored-eq0-clause-wrote : goal.returns-then-stored-eq0-clause-wrote

@@ -1,6 +1,4 @@
-use Rattle.sqlite.specs.Held.{state}
-use Rattle.one_table.proofs.Parts.{kept_by_row, inside_after_row, open_by_row}
-use Rattle.pawn_saving.proofs.Counter.{counts, count_told}
+use Rattle.pawn_saving.proofs.Writing.{state, inside_after_row, kept_by_row, open_by_row, count_told, counts}
 use Rattle.pawn_saving.proofs.counting.count_up.Goals as goal
 
 pub returns-in-Ok-get-clause-wrote : goal.returns-in-Ok-get-clause-wrote

@@ -1,8 +1,4 @@
-use Rattle.std.proofs.Common.{rules, ◌+◌, ◌<◌, ◌^◌, refl, sym, subst, arith}
-use Rattle.sqlite.specs.Held.{state}
-use Rattle.pawn_saving.specs.Counted.{listed_as, ListsHost}
-use Rattle.pawn_saving.proofs.Lent.{clean_before}
-use Rattle.pawn_saving.proofs.Hosting.{recounted}
+use Rattle.pawn_saving.proofs.Writing.{arith, refl, rules, subst, sym, ◌+◌, ◌<◌, ◌^◌, state, ListsHost, listed_as, recounted, clean_before}
 use Rattle.pawn_saving.proofs.counting.count_within.Goals as goal
 
 pub returns-clause-counts : goal.returns-clause-counts

@@ -1,9 +1,6 @@
-use Rattle.std.proofs.Common.{sym, subst, ◌∙◌}
-use Rattle.sqlite.specs.Held.{state}
+use Rattle.pawn_saving.proofs.Writing.{subst, sym, ◌∙◌, state, plain_rests, if_small, limit_shown, limit_told}
 use Rattle.sqlite.specs.Listing.{understood}
 use Rattle.sqlite.proofs.Callers.{IsPlain}
-use Rattle.one_table.proofs.Parts.{plain_rests}
-use Rattle.pawn_saving.proofs.Counter.{if_small, limit_shown, limit_told}
 use Rattle.pawn_saving.proofs.WriteTexts.{READ_LIMIT, limit_is}
 use Rattle.pawn_saving.proofs.counting.limit_in.Goals as goal
 

@@ -1,5 +1,4 @@
-use Rattle.sqlite.specs.Held.{state}
-use Rattle.pawn_saving.proofs.StatementWrites.{on_ran, entry_wrote}
+use Rattle.pawn_saving.proofs.Writing.{state, entry_wrote, on_ran}
 use Rattle.pawn_saving.proofs.entries.put_entry.Goals as goal
 
 pub returns-clause-wrote : goal.returns-clause-wrote

@@ -1,5 +1,4 @@
-use Rattle.sqlite.specs.Held.{state}
-use Rattle.pawn_saving.proofs.StatementWrites.{on_ran, extension_wrote}
+use Rattle.pawn_saving.proofs.Writing.{state, extension_wrote, on_ran}
 use Rattle.pawn_saving.proofs.entries.put_extension.Goals as goal
 
 pub returns-clause-wrote : goal.returns-clause-wrote

@@ -1,6 +1,4 @@
-use Rattle.std.proofs.Common.{rules}
-use Rattle.sqlite.specs.Held.{state}
-use Rattle.pawn_saving.proofs.StatementWrites.{on_ran, secret_wrote}
+use Rattle.pawn_saving.proofs.Writing.{rules, state, on_ran, secret_wrote}
 use Rattle.pawn_saving.proofs.entries.put_secret.Goals as goal
 
 pub returns-clause-wrote : goal.returns-clause-wrote

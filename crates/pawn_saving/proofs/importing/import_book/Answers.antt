@@ -1,13 +1,5 @@
-use Rattle.std.proofs.Common.{◌∷◌, ◌∙◌, ◌++◌, refl, subst, sym, true}
-use Rattle.sqlite.specs.Held.{state}
-use Rattle.pawn_book.specs.HostStep.{rows}
-use Rattle.one_table.specs.Listing.{with_rows}
+use Rattle.pawn_saving.proofs.Writing.{refl, subst, sym, true, ◌++◌, ◌∙◌, ◌∷◌, state, rows, with_rows, number, placed_from, terms_cells, terms_tree, listed_as, as_lists, lent_anyway, lent_carried, past}
 use Rattle.pawn_tables.specs.Ours.{ListsOurs}
-use Rattle.pawn_tables.specs.Schema.{terms_tree}
-use Rattle.pawn_tables.specs.Rows.{number, placed_from, terms_cells}
-use Rattle.pawn_saving.specs.Counted.{listed_as}
-use Rattle.pawn_saving.proofs.Hosting.{as_lists}
-use Rattle.pawn_saving.proofs.RowsInOrder.{lent_anyway, lent_carried, past}
 use Rattle.pawn_saving.proofs.ImportWrites.{brought_numbered, filled_counted, only_book, other_books, unbooked, with_own_row, with_terms}
 use Rattle.pawn_saving.proofs.importing.import_book.Goals as goal
 

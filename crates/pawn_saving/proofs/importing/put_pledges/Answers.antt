@@ -1,9 +1,4 @@
-use Rattle.std.proofs.Common.{rules, ◌≡◌, ◌≤◌, ◌∙◌, length, refl, sym, subst, false, Result, Err, is_ok, ℕ}
-use Rattle.sqlite.specs.Held.{state}
-use Rattle.pawn_book.specs.declared.fault.KeepError.{KeepError}
-use Rattle.pawn_saving.specs.Writing.{IsCarried}
-use Rattle.pawn_saving.proofs.RowsInOrder.{carried_then}
-use Rattle.pawn_saving.proofs.ImportWrites.{all_pledges_put, no_pledge_put, one_pledge_put}
+use Rattle.pawn_saving.proofs.Writing.{Err, Result, false, is_ok, length, refl, rules, subst, sym, ℕ, ◌∙◌, ◌≡◌, ◌≤◌, state, KeepError, IsCarried, all_pledges_put, no_pledge_put, one_pledge_put, carried_then}
 use Rattle.pawn_saving.proofs.importing.put_pledges.Goals as goal
 
 pub loop-parts-init : goal.loop-parts-init

@@ -1,6 +1,4 @@
-use Rattle.std.proofs.Common.{◌≡◌}
-use Rattle.sqlite.specs.Held.{state}
-use Rattle.pawn_saving.proofs.ImportWrites.{ArePledgesPut}
+use Rattle.pawn_saving.proofs.Writing.{◌≡◌, state, ArePledgesPut}
 use Rattle.pawn_saving.proofs.importing.put_pledges.Given as goal
 
 abbrev pub invariant-loop-parts : goal.invariant-loop-parts

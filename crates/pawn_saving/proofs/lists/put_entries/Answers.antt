@@ -1,11 +1,5 @@
-use Rattle.std.proofs.Common.{rules, ◌≡◌, ◌≤◌, ◌∙◌, map, length, refl, sym, ap, subst, false, Result, Err, is_ok}
-use Rattle.sqlite.specs.Held.{state}
-use Rattle.pawn_tables.specs.Rows.{under, entry_cells}
-use Rattle.pawn_book.specs.declared.fault.KeepError.{KeepError}
-use Rattle.pawn_saving.specs.Writing.{IsCarried}
+use Rattle.pawn_saving.proofs.Writing.{Err, Result, ap, false, is_ok, length, map, refl, rules, subst, sym, ◌∙◌, ◌≡◌, ◌≤◌, state, KeepError, entry_cells, under, entries_tree, IsCarried, carried_then, none_put, one_put, take_all, take_map}
 use Rattle.pawn_debt.specs.declared.entry.Entry.{Entry}
-use Rattle.pawn_saving.proofs.RowsInOrder.{carried_then, none_put, one_put, take_all, take_map}
-use Rattle.pawn_tables.specs.Schema.{entries_tree}
 use Rattle.pawn_saving.proofs.lists.put_entries.Goals as goal
 
 pub loop-entry-init : goal.loop-entry-init

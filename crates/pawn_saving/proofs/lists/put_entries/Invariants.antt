@@ -1,7 +1,4 @@
-use Rattle.std.proofs.Common.{◌≡◌, map, take}
-use Rattle.sqlite.specs.Held.{state}
-use Rattle.pawn_tables.specs.Rows.{under, entry_cells}
-use Rattle.pawn_saving.proofs.RowsInOrder.{ArePut}
+use Rattle.pawn_saving.proofs.Writing.{map, take, ◌≡◌, state, entry_cells, under, ArePut}
 use Rattle.pawn_saving.proofs.lists.put_entries.Given as goal
 
 abbrev pub invariant-loop-entry : goal.invariant-loop-entry

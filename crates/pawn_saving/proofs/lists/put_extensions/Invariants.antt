@@ -1,7 +1,4 @@
-use Rattle.std.proofs.Common.{◌≡◌, ◌+◌, take}
-use Rattle.sqlite.specs.Held.{state}
-use Rattle.pawn_tables.specs.Rows.{under, placed_from, extension_cells}
-use Rattle.pawn_saving.proofs.RowsInOrder.{ArePut}
+use Rattle.pawn_saving.proofs.Writing.{take, ◌+◌, ◌≡◌, state, extension_cells, placed_from, under, ArePut}
 use Rattle.pawn_saving.proofs.lists.put_extensions.Given as goal
 
 abbrev pub invariant-loop-extension : goal.invariant-loop-extension

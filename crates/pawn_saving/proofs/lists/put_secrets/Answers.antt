@@ -1,8 +1,5 @@
-use Rattle.std.proofs.Common.{rules, ◌≤◌, ◌∙◌, ℕ, length, ap, arith}
-use Rattle.sqlite.specs.Held.{state}
-use Rattle.pawn_tables.specs.Rows.{under, placed_from, secret_cells}
+use Rattle.pawn_saving.proofs.Writing.{ap, arith, length, rules, ℕ, ◌∙◌, ◌≤◌, state, placed_from, secret_cells, under, one_put, take_all, take_placed}
 use Rattle.pawn_pledge.specs.declared.record.Issued.{Issued}
-use Rattle.pawn_saving.proofs.RowsInOrder.{one_put, take_all, take_placed}
 use Rattle.pawn_saving.proofs.lists.put_secrets.Goals as goal
 
 pub loop-issued-preserved : goal.loop-issued-preserved

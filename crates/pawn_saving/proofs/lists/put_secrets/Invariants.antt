@@ -1,7 +1,4 @@
-use Rattle.std.proofs.Common.{◌≡◌, ◌+◌, take}
-use Rattle.sqlite.specs.Held.{state}
-use Rattle.pawn_tables.specs.Rows.{under, placed_from, secret_cells}
-use Rattle.pawn_saving.proofs.RowsInOrder.{ArePut}
+use Rattle.pawn_saving.proofs.Writing.{take, ◌+◌, ◌≡◌, state, placed_from, secret_cells, under, ArePut}
 use Rattle.pawn_saving.proofs.lists.put_secrets.Given as goal
 
 abbrev pub invariant-loop-issued : goal.invariant-loop-issued

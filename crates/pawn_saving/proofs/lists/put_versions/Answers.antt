@@ -1,8 +1,4 @@
-use Rattle.std.proofs.Common.{rules, ◌≤◌, ◌∷◌, ◌∙◌, ℕ, length, ap, arith}
-use Rattle.sqlite.specs.Held.{state}
-use Rattle.pawn_terms.specs.declared.terms.Rates.{Rates}
-use Rattle.pawn_tables.specs.Rows.{number, placed_from, terms_cells}
-use Rattle.pawn_saving.proofs.RowsInOrder.{one_put, take_all, take_placed}
+use Rattle.pawn_saving.proofs.Writing.{ap, arith, length, rules, ℕ, ◌∙◌, ◌∷◌, ◌≤◌, state, Rates, number, placed_from, terms_cells, one_put, take_all, take_placed}
 use Rattle.pawn_saving.proofs.lists.put_versions.Goals as goal
 
 pub loop-rates-preserved : goal.loop-rates-preserved

@@ -1,7 +1,4 @@
-use Rattle.std.proofs.Common.{◌≡◌, ◌+◌, ◌∷◌, take}
-use Rattle.sqlite.specs.Held.{state}
-use Rattle.pawn_tables.specs.Rows.{number, placed_from, terms_cells}
-use Rattle.pawn_saving.proofs.RowsInOrder.{ArePut}
+use Rattle.pawn_saving.proofs.Writing.{take, ◌+◌, ◌∷◌, ◌≡◌, state, number, placed_from, terms_cells, ArePut}
 use Rattle.pawn_saving.proofs.lists.put_versions.Given as goal
 
 abbrev pub invariant-loop-rates : goal.invariant-loop-rates

@@ -1,5 +1,4 @@
-use Rattle.sqlite.specs.Held.{state}
-use Rattle.pawn_saving.proofs.StatementWrites.{on_ran, booking_wrote}
+use Rattle.pawn_saving.proofs.Writing.{state, booking_wrote, on_ran}
 use Rattle.pawn_saving.proofs.pledges.put_booking.Goals as goal
 
 pub returns-clause-wrote : goal.returns-clause-wrote

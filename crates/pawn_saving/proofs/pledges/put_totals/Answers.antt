@@ -1,6 +1,4 @@
-use Rattle.std.proofs.Common.{rules}
-use Rattle.sqlite.specs.Held.{state}
-use Rattle.pawn_saving.proofs.StatementWrites.{on_ran, new_totals_wrote}
+use Rattle.pawn_saving.proofs.Writing.{rules, state, new_totals_wrote, on_ran}
 use Rattle.pawn_saving.proofs.pledges.put_totals.Goals as goal
 
 pub returns-clause-wrote : goal.returns-clause-wrote

@@ -1,7 +1,4 @@
-use Rattle.std.proofs.Common.{rules}
-use Rattle.sqlite.specs.Held.{state}
-use Rattle.pawn_saving.proofs.StatementWrites.{on_ran}
-use Rattle.pawn_saving.proofs.PledgeStatements.{row_set}
+use Rattle.pawn_saving.proofs.Writing.{rules, state, row_set, on_ran}
 use Rattle.pawn_saving.proofs.pledges.set_row.Goals as goal
 
 pub returns-clause-wrote : goal.returns-clause-wrote

@@ -1,6 +1,4 @@
-use Rattle.std.proofs.Common.{rules}
-use Rattle.sqlite.specs.Held.{state}
-use Rattle.pawn_saving.proofs.StatementWrites.{on_ran, totals_wrote}
+use Rattle.pawn_saving.proofs.Writing.{rules, state, on_ran, totals_wrote}
 use Rattle.pawn_saving.proofs.pledges.set_totals.Goals as goal
 
 pub returns-clause-wrote : goal.returns-clause-wrote

@@ -1,10 +1,6 @@
-use Rattle.sqlite.specs.Held.{state}
+use Rattle.pawn_saving.proofs.Writing.{state, booking_cells, under, bookings_tree, none_stands, now_stands, stood_before, on_done}
 use Rattle.pawn_pledge.specs.declared.record.Booking.{Booking}
-use Rattle.pawn_tables.specs.Rows.{booking_cells, under}
-use Rattle.pawn_saving.proofs.RowsInOrder.{on_done}
-use Rattle.pawn_saving.proofs.PledgePartWrites.{none_stands, now_stands, stood_before}
 use Rattle.pawn_saving.proofs.putting.put_any_booking.Goals as goal
-use Rattle.pawn_tables.specs.Schema.{bookings_tree}
 
 pub returns-in-Some-clause-wrote : goal.returns-in-Some-clause-wrote
 returns-in-Some-clause-wrote g c before none_before clean within listed others same none l =

@@ -1,11 +1,5 @@
-use Rattle.std.proofs.Common.{◌++◌, refl, true, is_ok}
-use Rattle.sqlite.specs.Held.{state}
-use Rattle.one_table.specs.Listing.{with_rows}
-use Rattle.pawn_saving.specs.Putting.{entries_past, secrets_past}
-use Rattle.pawn_saving.proofs.RowsInOrder.{past, on_done}
-use Rattle.pawn_saving.proofs.PledgePartWrites.{lists_put}
+use Rattle.pawn_saving.proofs.Writing.{is_ok, refl, true, ◌++◌, state, with_rows, entries_tree, secrets_tree, entries_past, secrets_past, lists_put, on_done, past}
 use Rattle.pawn_saving.proofs.putting.put_lists.Goals as goal
-use Rattle.pawn_tables.specs.Schema.{entries_tree, secrets_tree}
 
 pub returns-clause-wrote : goal.returns-clause-wrote
 returns-clause-wrote g c clean within listed l =

@@ -1,13 +1,6 @@
-use Rattle.std.proofs.Common.{◌∷◌, None, refl, true, is_ok}
+use Rattle.pawn_saving.proofs.Writing.{None, is_ok, refl, true, ◌∷◌, state, with_rows, bookings_tree, pledges_tree, totals_tree, row_under, totals_under, clean_before, sides_put, on_done, past}
 use Rattle.std.proofs.lemmas.List.Sorted.{IsPermutation-refl}
-use Rattle.sqlite.specs.Held.{state}
-use Rattle.one_table.specs.Listing.{with_rows}
-use Rattle.pawn_saving.specs.Putting.{row_under, totals_under}
-use Rattle.pawn_saving.proofs.Lent.{clean_before}
-use Rattle.pawn_saving.proofs.RowsInOrder.{past, on_done}
-use Rattle.pawn_saving.proofs.PledgePartWrites.{sides_put}
 use Rattle.pawn_saving.proofs.putting.put_sides.Goals as goal
-use Rattle.pawn_tables.specs.Schema.{bookings_tree, pledges_tree, totals_tree}
 
 pub returns-clause-wrote : goal.returns-clause-wrote
 returns-clause-wrote g c clean within listed none l =

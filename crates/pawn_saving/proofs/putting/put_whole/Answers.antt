@@ -1,8 +1,4 @@
-use Rattle.std.proofs.Common.{refl, true}
-use Rattle.sqlite.specs.Held.{state}
-use Rattle.pawn_saving.specs.Putting.{beside, sides_of}
-use Rattle.pawn_saving.proofs.RowsInOrder.{past}
-use Rattle.pawn_saving.proofs.PledgePartWrites.{whole_put}
+use Rattle.pawn_saving.proofs.Writing.{refl, true, state, beside, sides_of, whole_put, past}
 use Rattle.pawn_saving.proofs.putting.put_whole.Goals as goal
 
 pub returns-clause-wrote : goal.returns-clause-wrote

@@ -1,13 +1,4 @@
-use Rattle.std.proofs.Common.{◌≡◌, ◌+◌, ◌∙◌, None, length, refl, ap, sym, subst, true, arith}
-use Rattle.sqlite.specs.Held.{state}
-use Rattle.pawn_book.specs.HostStep.{rows}
-use Rattle.pawn_book.specs.BookStep.{pledge_in, put_from}
-use Rattle.pawn_saving.specs.Counted.{listed_as}
-use Rattle.pawn_saving.specs.Putting.{beside, whole_pledge}
-use Rattle.pawn_saving.proofs.Lent.{clean_before}
-use Rattle.pawn_saving.proofs.Hosting.{as_lists}
-use Rattle.pawn_saving.proofs.PledgeChanges.{only_book, other_books, put_length, stood}
-use Rattle.pawn_saving.proofs.PledgeWrites.{next_number, next_written, none_booked}
+use Rattle.pawn_saving.proofs.Writing.{None, ap, arith, length, refl, subst, sym, true, ◌+◌, ◌∙◌, ◌≡◌, state, pledge_in, put_from, rows, listed_as, beside, whole_pledge, as_lists, clean_before, only_book, other_books, put_length, stood, next_number, next_written, none_booked}
 use Rattle.pawn_saving.proofs.renewing.add_pledge.Goals as goal
 
 pub returns-clause-wrote : goal.returns-clause-wrote

@@ -1,13 +1,4 @@
-use Rattle.std.proofs.Common.{◌≡◌, ◌∙◌, Some, refl, ap, sym, true}
-use Rattle.sqlite.specs.Held.{state}
-use Rattle.pawn_book.specs.HostStep.{rows}
-use Rattle.pawn_book.specs.BookStep.{pledge_in}
-use Rattle.pawn_saving.specs.Counted.{listed_as}
-use Rattle.pawn_saving.specs.Putting.{with_sides}
-use Rattle.pawn_saving.proofs.Hosting.{as_lists}
-use Rattle.pawn_saving.proofs.RowsInOrder.{past}
-use Rattle.pawn_saving.proofs.PledgeChanges.{stood}
-use Rattle.pawn_saving.proofs.PledgeWrites.{continues_it, old_sides, others, renewed_written}
+use Rattle.pawn_saving.proofs.Writing.{Some, ap, refl, sym, true, ◌∙◌, ◌≡◌, state, pledge_in, rows, listed_as, with_sides, as_lists, stood, continues_it, old_sides, others, renewed_written, past}
 use Rattle.pawn_saving.proofs.renewing.renew_pledge.Goals as goal
 
 pub returns-clause-wrote : goal.returns-clause-wrote

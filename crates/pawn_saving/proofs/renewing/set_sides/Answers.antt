@@ -1,14 +1,7 @@
-use Rattle.std.proofs.Common.{◌∷◌, refl, true, is_ok}
-use Rattle.sqlite.specs.Held.{state}
+use Rattle.pawn_saving.proofs.Writing.{is_ok, refl, true, ◌∷◌, state, with_rows, bookings_tree, pledges_tree, totals_tree, row_under, totals_under, clean_before, sides_set, on_done, past}
 use Rattle.pawn_debt.specs.Kept.{totals_of}
 use Rattle.pawn_pledge.specs.Pledge.{debt_of}
-use Rattle.one_table.specs.Listing.{with_rows}
-use Rattle.pawn_saving.specs.Putting.{row_under, totals_under}
-use Rattle.pawn_saving.proofs.Lent.{clean_before}
-use Rattle.pawn_saving.proofs.RowsInOrder.{past, on_done}
-use Rattle.pawn_saving.proofs.PledgePartWrites.{sides_set}
 use Rattle.pawn_saving.proofs.renewing.set_sides.Goals as goal
-use Rattle.pawn_tables.specs.Schema.{pledges_tree, bookings_tree, totals_tree}
 
 pub returns-clause-wrote : goal.returns-clause-wrote
 returns-clause-wrote g c before agreed booked clean within listed others sides l =

@@ -1,5 +1,4 @@
-use Rattle.std.proofs.Common.{rules, Ok, Err, refl}
-use Rattle.sqlite.specs.Held.{state}
+use Rattle.pawn_saving.proofs.Writing.{Err, Ok, refl, rules, state}
 use Rattle.pawn_tables.proofs.OneHost.{tables_stand_for_one_host}
 use Rattle.pawn_saving.proofs.Saved.{given_back, IsBegun, saves_committed, saves_refused, saves_undone}
 use Rattle.pawn_saving.proofs.saving.save.Goals as goal

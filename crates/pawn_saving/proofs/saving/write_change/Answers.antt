@@ -1,9 +1,5 @@
-use Rattle.std.proofs.Common.{refl, true}
-use Rattle.sqlite.specs.Held.{state}
-use Rattle.pawn_book.specs.Changes.{with_change}
-use Rattle.pawn_book.specs.HostStep.{rows}
+use Rattle.pawn_saving.proofs.Writing.{refl, true, state, with_change, rows, clean_before}
 use Rattle.pawn_saving.proofs.Judging.{few_before, full_after, stands_after}
-use Rattle.pawn_saving.proofs.Lent.{clean_before}
 use Rattle.pawn_saving.proofs.saving.write_change.Goals as goal
 
 pub returns-in-Ok-true-clause-wrote : goal.returns-in-Ok-true-clause-wrote

@@ -1,9 +1,4 @@
-use Rattle.std.proofs.Common.{◌≡◌}
-use Rattle.std.specs.FinMap.{get}
-use Rattle.sqlite.specs.Held.{state}
-use Rattle.pawn_book.specs.BookStep.{pledge_in}
-use Rattle.pawn_saving.specs.Stored.{length_in}
-use Rattle.pawn_saving.proofs.StoredReads.{IsSoFar}
+use Rattle.pawn_saving.proofs.Writing.{◌≡◌, get, state, pledge_in, length_in, IsSoFar}
 use Rattle.pawn_saving.proofs.stored.length_within.Given as goal
 
 abbrev pub invariant-loop-length : goal.invariant-loop-length

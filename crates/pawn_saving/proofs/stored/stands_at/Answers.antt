@@ -1,10 +1,6 @@
-use Rattle.std.proofs.Common.{◌∙◌, ◌↔◌, ◌≤◌, IsTrue, subst, sym}
-use Rattle.std.specs.FinMap.{get}
-use Rattle.pawn_book.specs.BookStep.{pledge_in}
+use Rattle.pawn_saving.proofs.Writing.{IsTrue, subst, sym, ◌↔◌, ◌∙◌, ◌≤◌, get, pledge_in, length_in, entry_placed, tells_place}
 use Rattle.pawn_book.specs.Keeping.{entries_of, extensions_of, secrets_of}
-use Rattle.pawn_saving.specs.Stored.{length_in}
 use Rattle.pawn_saving.specs.declared.stored.PledgeList.{PledgeList}
-use Rattle.pawn_saving.proofs.StoredReads.{entry_placed, tells_place}
 use Rattle.pawn_saving.proofs.stored.stands_at.Goals as goal
 
 pub returns-in_ok-entry_in-in-Entries-clause-reads : goal.returns-in_ok-entry_in-in-Entries-clause-reads

@@ -1,17 +1,6 @@
-use Rattle.std.proofs.Common.{rules, ◌≡◌, Some, Ok, Err, sym, ap, subst, ◌∙◌}
-use Rattle.std.specs.FinMap.{get}
-use Rattle.std.specs.Prelude.{Option, IfSome, option_map}
-use Rattle.sqlite.specs.Held.{state}
+use Rattle.pawn_tables.proofs.Reading.{Err, IfSome, Ok, Option, Some, ap, option_map, rules, subst, sym, ◌∙◌, ◌≡◌, get, state, pledge_in, Host, AreListEnds, AreTold, IsBriefTold, StoredPledge, joined_told, told_is, first_unfound, two_found, brief_unsound, unjoined}
 use Rattle.pawn_pledge.specs.Brief.{brief_of}
-use Rattle.pawn_book.specs.BookStep.{pledge_in}
-use Rattle.pawn_book.specs.HostStep.{Host}
-use Rattle.pawn_tables.specs.ListEnds.{AreListEnds}
-use Rattle.pawn_tables.specs.PledgeRows.{AreTold, IsBriefTold}
 use Rattle.pawn_tables.specs.declared.joining.ListEnds.{ListEnds}
-use Rattle.pawn_tables.specs.declared.joining.StoredPledge.{StoredPledge}
-use Rattle.pawn_tables.proofs.Joins.{joined_told, told_is}
-use Rattle.pawn_tables.proofs.Lent.{first_unfound, two_found}
-use Rattle.pawn_tables.proofs.SoundReads.{brief_unsound, unjoined}
 use Rattle.pawn_tables.proofs.briefs.brief_in.Goals as goal
 
 pub returns-in_err-told-clause-finds : goal.returns-in_err-told-clause-finds

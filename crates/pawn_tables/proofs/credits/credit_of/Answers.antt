@@ -1,7 +1,4 @@
-use Rattle.std.proofs.Common.{rules, refl, arith}
-use Rattle.pawn_debt.specs.Due.{credit_of}
-use Rattle.pawn_tables.specs.Rows.{number, kind_number}
-use Rattle.pawn_tables.proofs.RowCells.{cell_at}
+use Rattle.pawn_tables.proofs.RowReading.{arith, refl, rules, credit_of, kind_number, number, cell_at}
 use Rattle.pawn_tables.proofs.credits.credit_of.Goals as goal
 
 pub returns-in_err-number : goal.returns-in_err-number

@@ -1,10 +1,4 @@
-use Rattle.std.proofs.Common.{rules, arith}
-use Rattle.pawn_tables.specs.Heads.{number_cells}
-use Rattle.pawn_tables.proofs.ListsOfRows.{first_err, always_read}
-use Rattle.pawn_pledge.specs.Number.{IsNumber}
-use Rattle.pawn_tables.proofs.RowCells.{cell_at}
-use Rattle.std.proofs.Common.{refl}
-use Rattle.pawn_tables.specs.Rows.{number}
+use Rattle.pawn_tables.proofs.RowReading.{arith, refl, rules, IsNumber, number_cells, number, always_read, first_err, cell_at}
 use Rattle.pawn_tables.proofs.heads.first_number.Goals as goal
 
 pub returns-in_err-number_at : goal.returns-in_err-number_at

@@ -1,7 +1,4 @@
-use Rattle.std.proofs.Common.{rules, refl, arith, length}
-use Rattle.sqlite.specs.declared.types.Value.TheVariants.{Text}
-use Rattle.pawn_tables.specs.Rows.{number}
-use Rattle.pawn_tables.proofs.RowCells.{cell_at}
+use Rattle.pawn_tables.proofs.RowReading.{arith, length, refl, rules, Text, number, cell_at}
 use Rattle.pawn_tables.proofs.heads.head_of.Goals as goal
 
 pub returns-in_err-name : goal.returns-in_err-name

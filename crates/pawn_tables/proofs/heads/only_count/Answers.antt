@@ -1,7 +1,4 @@
-use Rattle.std.proofs.Common.{rules, min}
-use Rattle.std.specs.Prelude.{⊤}
-use Rattle.pawn_tables.specs.Heads.{most_counted}
-use Rattle.pawn_tables.proofs.ListsOfRows.{always_read}
+use Rattle.pawn_tables.proofs.RowReading.{min, rules, ⊤, most_counted, always_read}
 use Rattle.pawn_tables.proofs.heads.only_count.Goals as goal
 
 pub returns-in_err-count : goal.returns-in_err-count

@@ -1,13 +1,7 @@
-use Rattle.std.proofs.Common.{rules, ◌≡◌, ◌<◌, length, refl, ap, ◌∙◌, arith}
+use Rattle.pawn_tables.proofs.RowReading.{ap, arith, length, refl, rules, ◌<◌, ◌∙◌, ◌≡◌, IsNumber, line_cells, number, Line, always_read, cell_at}
 use Rattle.sqlite.specs.Order.{Row, column}
-use Rattle.pawn_pledge.specs.Number.{IsNumber}
 use Rattle.pawn_book.specs.declared.sheet.Part.{Part}
 use Rattle.pawn_book.specs.declared.sheet.Part.TheVariants as part_of
-use Rattle.pawn_tables.specs.Rows.{number}
-use Rattle.pawn_tables.specs.Lines.{line_cells}
-use Rattle.pawn_tables.specs.declared.line.Line.{Line}
-use Rattle.pawn_tables.proofs.ListsOfRows.{always_read}
-use Rattle.pawn_tables.proofs.RowCells.{cell_at}
 use Rattle.pawn_tables.proofs.lines.line_of.Goals as goal
 
 -- the number of a line stands first in its row

@@ -1,8 +1,4 @@
-use Rattle.std.proofs.Common.{rules, ℕ, ◌∙◌}
-use Rattle.pawn_pledge.specs.Number.{IsNumber}
-use Rattle.pawn_tables.specs.Lines.{IsLineOf, line_cells}
-use Rattle.pawn_tables.specs.declared.line.Line.{Line}
-use Rattle.pawn_tables.proofs.ListsOfRows.{mapped, placed_err, placed_more, placed_whole}
+use Rattle.pawn_tables.proofs.RowReading.{rules, ℕ, ◌∙◌, IsNumber, IsLineOf, line_cells, Line, mapped, placed_err, placed_more, placed_whole}
 use Rattle.pawn_tables.proofs.lines.read_lines.Goals as goal
 
 pub loop-row-preserved : goal.loop-row-preserved

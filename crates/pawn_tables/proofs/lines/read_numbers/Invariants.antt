@@ -1,6 +1,4 @@
-use Rattle.std.specs.Prelude.{ℕ}
-use Rattle.pawn_tables.specs.Heads.{number_cells}
-use Rattle.pawn_tables.proofs.ListsOfRows.{AreReadTo}
+use Rattle.pawn_tables.proofs.RowReading.{ℕ, number_cells, AreReadTo}
 use Rattle.pawn_tables.proofs.lines.read_numbers.Given as goal
 
 abbrev pub invariant-loop-row : goal.invariant-loop-row

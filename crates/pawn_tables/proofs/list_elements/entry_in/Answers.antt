@@ -1,11 +1,8 @@
-use Rattle.std.proofs.Common.{◌∙◌}
-use Rattle.pawn_tables.proofs.StatementFinds.{found, found_is}
-use Rattle.pawn_tables.proofs.ReadTexts as text
-use Rattle.pawn_tables.proofs.ListElementReads as reads
+use Rattle.pawn_tables.proofs.Reading.{◌∙◌, entry_shown, entry_unsound, READ_ENTRY, entry_is, found, found_is}
 use Rattle.pawn_tables.proofs.list_elements.entry_in.Goals as goal
 
 pub returns-clause-finds : goal.returns-clause-finds
 returns-clause-finds g c =
-    found _ _ _ _ _ c.first_entry.result _ text.READ_ENTRY.now (λ more. (text.entry_is more).2) c.in_ok-rows.ensures.lent.leaves
+    found _ _ _ _ _ c.first_entry.result _ READ_ENTRY.now (λ more. (entry_is more).2) c.in_ok-rows.ensures.lent.leaves
     (λ clean. rw (c.params-to_sql.ensures, c.params-to_sql-2.ensures, c.params-to_sql-3.ensures) at (c.in_ok-rows.ensures.shown clean))
-    (λ h st shown. found_is c.first_entry.result _ _ _ (c.first_entry.ensures.read _ (c.deref.ensures.value ∙ reads.entry_shown _ _ h c.args.book c.args.number c.args.seq _ st shown)) (reads.entry_unsound h st.storable c.args.book c.args.number c.args.seq))
+    (λ h st shown. found_is c.first_entry.result _ _ _ (c.first_entry.ensures.read _ (c.deref.ensures.value ∙ entry_shown _ _ h c.args.book c.args.number c.args.seq _ st shown)) (entry_unsound h st.storable c.args.book c.args.number c.args.seq))

@@ -1,18 +1,12 @@
-use Rattle.std.proofs.Common.{◌≡◌, ℕ, length, ◌∙◌}
-use Rattle.std.specs.FinMap.{get}
-use Rattle.pawn_book.specs.BookStep.{pledge_in}
-use Rattle.pawn_book.specs.Keeping.{extensions_of}
-use Rattle.pawn_tables.proofs.StatementFinds.{found, found_as}
-use Rattle.pawn_tables.proofs.ReadTexts as text
-use Rattle.pawn_tables.proofs.ListEndReads as reads
+use Rattle.pawn_tables.proofs.Reading.{length, ℕ, ◌∙◌, ◌≡◌, get, pledge_in, extensions_of, place_count, place_shown, READ_LAST_PLACE, last_place_is, found, found_as}
 use Rattle.pawn_tables.proofs.list_ends.extension_count.Goals as goal
 
 pub returns-clause-finds : goal.returns-clause-finds
 returns-clause-finds g c =
-    found _ _ _ _ _ c.first_place.result _ text.READ_LAST_PLACE.now (λ more. (text.last_place_is more).2) c.in_ok-rows.ensures.lent.leaves
+    found _ _ _ _ _ c.first_place.result _ READ_LAST_PLACE.now (λ more. (last_place_is more).2) c.in_ok-rows.ensures.lent.leaves
     (λ clean. rw (c.params-to_sql.ensures, c.params-to_sql-2.ensures) at (c.in_ok-rows.ensures.shown clean))
     (λ h st shown.
-    let are = c.deref.ensures.value ∙ reads.place_shown _ _ h c.args.book c.args.number _ st shown in
+    let are = c.deref.ensures.value ∙ place_shown _ _ h c.args.book c.args.number _ st shown in
     let es = extensions_of (pledge_in (get h.books c.args.book) c.args.number) in
     let counted : ℕ → Type 0 = λ count. count ≡ length es in
-    found_as c.first_place.result _ counted _ _ (c.first_place.ensures.read _ are) (reads.place_count es) (λ bad. absurd (bad tt)))
+    found_as c.first_place.result _ counted _ _ (c.first_place.ensures.read _ are) (place_count es) (λ bad. absurd (bad tt)))

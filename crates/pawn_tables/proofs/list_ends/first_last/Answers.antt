@@ -1,8 +1,5 @@
-use Rattle.std.proofs.Common.{rules, arith}
+use Rattle.pawn_tables.proofs.Reading.{arith, rules, IsWord, last_cells, LastSecret}
 use Rattle.pawn_terms.specs.Calendar.{IsDayNumber}
-use Rattle.pawn_book.specs.Written.{IsWord}
-use Rattle.pawn_tables.specs.ListEnds.{last_cells}
-use Rattle.pawn_tables.specs.declared.joining.LastSecret.{LastSecret}
 use Rattle.pawn_tables.proofs.ListsOfRows.{first_err_of, first_of}
 use Rattle.pawn_tables.proofs.list_ends.first_last.Goals as goal
 

@@ -1,14 +1,4 @@
-use Rattle.std.proofs.Common.{rules, ◌≡◌, ℕ, length}
-use Rattle.std.specs.FinMap.{get}
-use Rattle.std.specs.Prelude.{Option}
-use Rattle.sqlite.specs.Held.{state}
-use Rattle.pawn_book.specs.BookStep.{pledge_in}
-use Rattle.pawn_book.specs.HostStep.{Host}
-use Rattle.pawn_book.specs.Keeping.{entries_of, extensions_of, secrets_of}
-use Rattle.pawn_tables.specs.ListEnds.{last_issued}
-use Rattle.pawn_tables.specs.declared.joining.LastSecret.{LastSecret}
-use Rattle.pawn_tables.proofs.Lent.{first_unfound, second_unfound, third_unfound, three_found}
-use Rattle.pawn_tables.proofs.ListEndReads.{list_ends_told}
+use Rattle.pawn_tables.proofs.Reading.{Option, length, rules, ℕ, ◌≡◌, get, state, pledge_in, Host, entries_of, extensions_of, secrets_of, last_issued, LastSecret, first_unfound, second_unfound, third_unfound, three_found, list_ends_told}
 use Rattle.pawn_tables.proofs.list_ends.list_ends_in.Goals as goal
 
 pub returns-in_err-entries-clause-finds : goal.returns-in_err-entries-clause-finds

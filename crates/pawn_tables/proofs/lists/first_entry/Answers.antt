@@ -1,7 +1,4 @@
-use Rattle.std.proofs.Common.{rules, arith}
-use Rattle.pawn_tables.specs.Entries.{IsEntryTold}
-use Rattle.pawn_tables.specs.Rows.{entry_cells}
-use Rattle.pawn_tables.proofs.ListsOfRows.{first_err}
+use Rattle.pawn_tables.proofs.RowReading.{arith, rules, IsEntryTold, entry_cells, first_err}
 use Rattle.pawn_tables.proofs.lists.first_entry.Goals as goal
 
 pub returns-in_err-entry_of : goal.returns-in_err-entry_of

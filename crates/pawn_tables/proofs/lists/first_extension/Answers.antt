@@ -1,8 +1,4 @@
-use Rattle.std.proofs.Common.{rules, arith}
-use Rattle.pawn_terms.specs.Calendar.{IsDayNumber}
-use Rattle.pawn_pledge.specs.declared.record.Extension.{Extension}
-use Rattle.pawn_tables.specs.Rows.{extension_cells}
-use Rattle.pawn_tables.proofs.ListsOfRows.{first_err}
+use Rattle.pawn_tables.proofs.RowReading.{arith, rules, IsDayNumber, Extension, extension_cells, first_err}
 use Rattle.pawn_tables.proofs.lists.first_extension.Goals as goal
 
 pub returns-in_err-extension_of : goal.returns-in_err-extension_of

@@ -1,9 +1,4 @@
-use Rattle.std.proofs.Common.{rules, arith}
-use Rattle.pawn_terms.specs.Calendar.{IsDayNumber}
-use Rattle.pawn_pledge.specs.declared.record.Issued.{Issued}
-use Rattle.pawn_book.specs.Written.{IsWord}
-use Rattle.pawn_tables.specs.Rows.{secret_cells}
-use Rattle.pawn_tables.proofs.ListsOfRows.{first_err_of, first_of}
+use Rattle.pawn_tables.proofs.RowReading.{arith, rules, IsDayNumber, Issued, IsWord, secret_cells, first_err_of, first_of}
 use Rattle.pawn_tables.proofs.lists.first_issued.Goals as goal
 
 pub returns-in_err-issued_of : goal.returns-in_err-issued_of

@@ -1,6 +1,4 @@
-use Rattle.std.proofs.Common.{rules, refl, arith}
-use Rattle.pawn_tables.specs.Rows.{number, issue_number}
-use Rattle.pawn_tables.proofs.RowCells.{cell_at}
+use Rattle.pawn_tables.proofs.RowReading.{arith, refl, rules, issue_number, number, cell_at}
 use Rattle.pawn_tables.proofs.lists.issued_of.Goals as goal
 
 pub returns-in_err-day : goal.returns-in_err-day

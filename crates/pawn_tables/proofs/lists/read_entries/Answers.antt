@@ -1,8 +1,4 @@
-use Rattle.std.proofs.Common.{rules, ℕ, ◌∙◌}
-use Rattle.pawn_debt.specs.declared.entry.Entry.{Entry}
-use Rattle.pawn_tables.specs.Entries.{IsEntryTold}
-use Rattle.pawn_tables.specs.Rows.{entry_cells}
-use Rattle.pawn_tables.proofs.ListsOfRows.{placed_more, placed_err, placed_whole, mapped, each_any}
+use Rattle.pawn_tables.proofs.RowReading.{rules, ℕ, ◌∙◌, Entry, IsEntryTold, entry_cells, each_any, mapped, placed_err, placed_more, placed_whole}
 use Rattle.pawn_tables.proofs.lists.read_entries.Goals as goal
 
 pub loop-row-preserved : goal.loop-row-preserved

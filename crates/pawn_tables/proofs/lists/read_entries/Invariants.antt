@@ -1,7 +1,4 @@
-use Rattle.std.specs.Prelude.{ℕ}
-use Rattle.pawn_debt.specs.declared.entry.Entry.{Entry}
-use Rattle.pawn_tables.specs.Rows.{entry_cells}
-use Rattle.pawn_tables.proofs.ListsOfRows.{AreReadTo}
+use Rattle.pawn_tables.proofs.RowReading.{ℕ, Entry, entry_cells, AreReadTo}
 use Rattle.pawn_tables.proofs.lists.read_entries.Given as goal
 
 abbrev pub invariant-loop-row : goal.invariant-loop-row

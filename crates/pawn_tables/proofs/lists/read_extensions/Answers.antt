@@ -1,8 +1,4 @@
-use Rattle.std.proofs.Common.{rules}
-use Rattle.pawn_pledge.specs.declared.record.Extension.{Extension}
-use Rattle.pawn_terms.specs.Calendar.{IsDayNumber}
-use Rattle.pawn_tables.specs.Rows.{extension_cells}
-use Rattle.pawn_tables.proofs.ListsOfRows.{placed_more, placed_err, placed_whole, each_any}
+use Rattle.pawn_tables.proofs.RowReading.{rules, IsDayNumber, Extension, extension_cells, each_any, placed_err, placed_more, placed_whole}
 use Rattle.pawn_tables.proofs.lists.read_extensions.Goals as goal
 
 pub loop-row-preserved : goal.loop-row-preserved

@@ -1,6 +1,4 @@
-use Rattle.pawn_pledge.specs.declared.record.Extension.{Extension}
-use Rattle.pawn_tables.specs.Rows.{extension_cells}
-use Rattle.pawn_tables.proofs.ListsOfRows.{AreReadTo}
+use Rattle.pawn_tables.proofs.RowReading.{Extension, extension_cells, AreReadTo}
 use Rattle.pawn_tables.proofs.lists.read_extensions.Given as goal
 
 abbrev pub invariant-loop-row : goal.invariant-loop-row

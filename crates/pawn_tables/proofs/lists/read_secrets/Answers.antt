@@ -1,9 +1,4 @@
-use Rattle.std.proofs.Common.{rules}
-use Rattle.pawn_pledge.specs.declared.record.Issued.{Issued}
-use Rattle.pawn_terms.specs.Calendar.{IsDayNumber}
-use Rattle.pawn_book.specs.Written.{IsWord}
-use Rattle.pawn_tables.specs.Rows.{secret_cells}
-use Rattle.pawn_tables.proofs.ListsOfRows.{placed_more, placed_err, placed_whole}
+use Rattle.pawn_tables.proofs.RowReading.{rules, IsDayNumber, Issued, IsWord, secret_cells, placed_err, placed_more, placed_whole}
 use Rattle.pawn_tables.proofs.lists.read_secrets.Goals as goal
 
 pub loop-row-preserved : goal.loop-row-preserved

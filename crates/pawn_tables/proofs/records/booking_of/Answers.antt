@@ -1,6 +1,4 @@
-use Rattle.std.proofs.Common.{rules, refl, arith}
-use Rattle.pawn_tables.specs.Rows.{number, state_number}
-use Rattle.pawn_tables.proofs.RowCells.{cell_at}
+use Rattle.pawn_tables.proofs.RowReading.{arith, refl, rules, number, state_number, cell_at}
 use Rattle.pawn_tables.proofs.records.booking_of.Goals as goal
 
 pub returns-in_err-day : goal.returns-in_err-day

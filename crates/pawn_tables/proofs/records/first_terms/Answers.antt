@@ -1,7 +1,5 @@
-use Rattle.std.proofs.Common.{rules, arith}
+use Rattle.pawn_tables.proofs.RowReading.{arith, rules, terms_cells, first_err}
 use Rattle.pawn_terms.specs.Terms.{IsChecked}
-use Rattle.pawn_tables.specs.Rows.{terms_cells}
-use Rattle.pawn_tables.proofs.ListsOfRows.{first_err}
 use Rattle.pawn_tables.proofs.records.first_terms.Goals as goal
 
 pub returns-in_err-terms_of : goal.returns-in_err-terms_of

@@ -1,8 +1,5 @@
-use Rattle.std.proofs.Common.{rules, arith}
-use Rattle.pawn_terms.specs.Calendar.{IsDayNumber}
+use Rattle.pawn_tables.proofs.RowReading.{arith, rules, IsDayNumber, totals_cells, first_err}
 use Rattle.pawn_debt.specs.declared.owing.Totals.{Totals}
-use Rattle.pawn_tables.specs.Rows.{totals_cells}
-use Rattle.pawn_tables.proofs.ListsOfRows.{first_err}
 use Rattle.pawn_tables.proofs.records.first_totals.Goals as goal
 
 pub returns-in_err-totals_of : goal.returns-in_err-totals_of

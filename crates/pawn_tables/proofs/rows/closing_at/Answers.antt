@@ -1,6 +1,4 @@
-use Rattle.std.proofs.Common.{rules, refl, arith}
-use Rattle.pawn_tables.specs.Rows.{number, closed_number}
-use Rattle.pawn_tables.proofs.RowCells.{cell_at}
+use Rattle.pawn_tables.proofs.RowReading.{arith, refl, rules, closed_number, number, cell_at}
 use Rattle.pawn_tables.proofs.rows.closing_at.Goals as goal
 
 pub returns-in_err-closed : goal.returns-in_err-closed

@@ -1,8 +1,4 @@
-use Rattle.std.proofs.Common.{rules, refl, arith}
-use Rattle.sqlite.specs.declared.types.Value.TheVariants.{Text}
-use Rattle.pawn_debt.specs.Due.{credit_of}
-use Rattle.pawn_tables.specs.Rows.{number, kind_number}
-use Rattle.pawn_tables.proofs.RowCells.{cell_at}
+use Rattle.pawn_tables.proofs.RowReading.{arith, refl, rules, Text, credit_of, kind_number, number, cell_at}
 use Rattle.pawn_tables.proofs.rows.opening_at.Goals as goal
 
 pub returns-in_err-reference : goal.returns-in_err-reference

@@ -1,7 +1,4 @@
-use Rattle.std.proofs.Common.{rules, refl, arith}
-use Rattle.pawn_pledge.specs.Pledge.{end_of}
-use Rattle.pawn_tables.specs.Rows.{number}
-use Rattle.pawn_tables.proofs.RowCells.{cell_at}
+use Rattle.pawn_tables.proofs.RowReading.{arith, refl, rules, end_of, number, cell_at}
 use Rattle.pawn_tables.proofs.rows.pledge_row.Goals as goal
 
 pub returns-in_err-taken : goal.returns-in_err-taken

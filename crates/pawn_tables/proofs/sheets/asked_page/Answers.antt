@@ -1,15 +1,10 @@
-use Rattle.std.proofs.Common.{map, sym, ap, ◌∙◌}
+use Rattle.pawn_tables.proofs.Reading.{ap, map, sym, ◌∙◌, asked_line, line_cells, asked_numbers, asked_page_shown, asked_says, asked_told, lines_found, READ_ASKED_PAGE, asked_page_is, found}
 use Rattle.pawn_book.specs.declared.sheet.Part.TheVariants as part_of
-use Rattle.pawn_tables.specs.Lines.{asked_line, line_cells}
-use Rattle.pawn_tables.proofs.NextLines.{lines_found}
-use Rattle.pawn_tables.proofs.StatementFinds.{found}
-use Rattle.pawn_tables.proofs.ReadTexts as text
-use Rattle.pawn_tables.proofs.LineReads as reads
 use Rattle.pawn_tables.proofs.sheets.asked_page.Goals as goal
 
 pub returns-clause-finds : goal.returns-clause-finds
 returns-clause-finds g c =
-    found _ _ _ _ _ c.read_lines.result _ text.READ_ASKED_PAGE.now (λ more. (text.asked_page_is more).2) c.in_ok-rows.ensures.lent.leaves
+    found _ _ _ _ _ c.read_lines.result _ READ_ASKED_PAGE.now (λ more. (asked_page_is more).2) c.in_ok-rows.ensures.lent.leaves
     (λ clean. rw (c.params-to_sql.ensures, c.params-to_sql-2.ensures, c.params-to_sql-3.ensures, c.count-day.ensures.value) at (c.in_ok-rows.ensures.shown clean))
-    (λ h st shown. lines_found part_of.Asked c.args.day (reads.asked_told c.args.day) asked_line (reads.asked_says c.args.day) (reads.asked_numbers c.args.day) h c.args.book c.args.above st.ordered (λ a. tt) c.read_lines.result
-    (λ lines are each. c.read_lines.ensures.read lines each (c.deref.ensures.value ∙ reads.asked_page_shown c.args.book c.args.above c.args.day _ _ h _ st shown ∙ sym (ap (map (line_cells part_of.Asked)) are))))
+    (λ h st shown. lines_found part_of.Asked c.args.day (asked_told c.args.day) asked_line (asked_says c.args.day) (asked_numbers c.args.day) h c.args.book c.args.above st.ordered (λ a. tt) c.read_lines.result
+    (λ lines are each. c.read_lines.ensures.read lines each (c.deref.ensures.value ∙ asked_page_shown c.args.book c.args.above c.args.day _ _ h _ st shown ∙ sym (ap (map (line_cells part_of.Asked)) are))))

@@ -1,15 +1,7 @@
-use Rattle.std.proofs.Common.{rules}
-use Rattle.std.specs.FinMap.{get}
-use Rattle.pawn_book.specs.BookStep.{pledge_in}
-use Rattle.pawn_tables.proofs.Joins.{lists_told}
-use Rattle.pawn_book.specs.HostStep.{Host}
-use Rattle.std.specs.Prelude.{◌≡◌, List}
+use Rattle.pawn_tables.proofs.Reading.{List, rules, ◌≡◌, get, state, pledge_in, Host, entries_of, extensions_of, secrets_of, lists_told, first_unfound, second_unfound, third_unfound, three_found}
 use Rattle.pawn_debt.specs.declared.entry.Entry.{Entry}
 use Rattle.pawn_pledge.specs.declared.record.Issued.{Issued}
 use Rattle.pawn_pledge.specs.declared.record.Extension.{Extension}
-use Rattle.pawn_book.specs.Keeping.{entries_of, secrets_of, extensions_of}
-use Rattle.sqlite.specs.Held.{state}
-use Rattle.pawn_tables.proofs.Lent.{first_unfound, second_unfound, third_unfound, three_found}
 use Rattle.pawn_tables.proofs.whole.lists_in.Goals as goal
 
 pub returns-in_err-entries-clause-finds : goal.returns-in_err-entries-clause-finds

@@ -1,17 +1,7 @@
-use Rattle.std.proofs.Common.{rules, ◌≡◌, Some, Ok, Err, sym, ap, subst, ◌∙◌}
-use Rattle.std.specs.FinMap.{get}
-use Rattle.std.specs.Prelude.{Option, IfSome}
-use Rattle.sqlite.specs.Held.{state}
+use Rattle.pawn_tables.proofs.Reading.{Err, IfSome, Ok, Option, Some, ap, rules, subst, sym, ◌∙◌, ◌≡◌, get, state, pledge_in, Host, AreLists, AreTold, StoredPledge, joined_told, told_is, first_unfound, two_found, standing_unsound, unjoined}
 use Rattle.pawn_pledge.specs.Pledge.{PledgeValue}
 use Rattle.pawn_pledge.specs.Replayable.{IsStanding}
-use Rattle.pawn_book.specs.BookStep.{pledge_in}
-use Rattle.pawn_book.specs.HostStep.{Host}
-use Rattle.pawn_tables.specs.PledgeRows.{AreLists, AreTold}
 use Rattle.pawn_tables.specs.declared.joining.Lists.{Lists}
-use Rattle.pawn_tables.specs.declared.joining.StoredPledge.{StoredPledge}
-use Rattle.pawn_tables.proofs.Joins.{joined_told, told_is}
-use Rattle.pawn_tables.proofs.Lent.{first_unfound, two_found}
-use Rattle.pawn_tables.proofs.SoundReads.{standing_unsound, unjoined}
 use Rattle.pawn_tables.proofs.whole.pledge_of.Goals as goal
 
 pub returns-in_err-told-clause-finds : goal.returns-in_err-told-clause-finds

@@ -1,14 +1,6 @@
-use Rattle.std.proofs.Common.{rules, ◌≡◌, sym, ap, ◌∙◌, arith, refl}
-use Rattle.std.specs.FinMap.{get}
-use Rattle.std.specs.Prelude.{Option, IfSome, option_map}
-use Rattle.sqlite.specs.Held.{state}
-use Rattle.pawn_book.specs.BookStep.{pledge_in}
-use Rattle.pawn_book.specs.HostStep.{Host}
-use Rattle.pawn_tables.specs.PledgeRows.{AreSides, row_of}
+use Rattle.pawn_tables.proofs.Reading.{IfSome, Option, ap, arith, option_map, refl, rules, sym, ◌∙◌, ◌≡◌, get, state, pledge_in, Host, AreSides, row_of, row_is, told_of, version_fits, first_unfound, two_found}
 use Rattle.pawn_tables.specs.declared.joining.RowsBeside.{RowsBeside}
 use Rattle.pawn_tables.specs.declared.records.PledgeRow.{PledgeRow}
-use Rattle.pawn_tables.proofs.Joins.{row_is, told_of, version_fits}
-use Rattle.pawn_tables.proofs.Lent.{first_unfound, two_found}
 use Rattle.pawn_tables.proofs.whole.stored_pledge_in.Goals as goal
 
 pub returns-in_err-row-clause-finds : goal.returns-in_err-row-clause-finds

@@ -1,6 +1,4 @@
-use Rattle.std.proofs.Common.{rules, ◌≡◌, arith}
-use Rattle.sqlite.specs.Held.{state}
-use Rattle.pawn_tables.proofs.Joins.{none_under}
+use Rattle.pawn_tables.proofs.Reading.{arith, rules, ◌≡◌, state, none_under}
 use Rattle.pawn_tables.proofs.whole.terms_under.Goals as goal
 
 pub returns-in_default-clause-finds : goal.returns-in_default-clause-finds

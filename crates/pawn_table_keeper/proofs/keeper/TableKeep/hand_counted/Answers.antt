@@ -1,11 +1,4 @@
-use Rattle.std.proofs.Common.{rules, ◌≡◌, ◌∷◌, Err, length, refl, ap}
-use Rattle.std.specs.FinMap.{get}
-use Rattle.sqlite.specs.Held.{state}
-use Rattle.pawn_book.specs.HostStep.{Host}
-use Rattle.pawn_book.specs.Keeping.{pledges_of}
-use Rattle.pawn_book.specs.Sheet.{part_head, part_items, with_head}
-use Rattle.pawn_tables.specs.Keeps.{keeping_by}
-use Rattle.pawn_table_keeper.proofs.Handings.{hands_after, hands_unread}
+use Rattle.pawn_table_keeper.proofs.Calls.{Err, ap, length, refl, rules, ◌∷◌, ◌≡◌, get, state, Host, pledges_of, part_head, part_items, with_head, keeping_by, hands_after, hands_unread}
 use Rattle.pawn_table_keeper.proofs.keeper.TableKeep.hand_counted.Goals as goal
 
 pub returns-in_err-count : goal.returns-in_err-count

@@ -1,21 +1,7 @@
-use Rattle.std.proofs.Common.{rules, ◌≡◌, ◌++◌, ◌+◌, ◌<◌, ◌≤◌, ℕ, List, [], Err, length, refl, ap, ◌∙◌, arith}
-use Rattle.std.proofs.lemmas.List.{map-id}
-use Rattle.std.proofs.lemmas.Bool.Decides.{nat_tests}
-use Rattle.std.specs.FinMap.{get}
-use Rattle.sqlite.specs.Held.{state}
-use Rattle.pawn_book.proofs.Reading.{reads_as, reads_none}
-use Rattle.pawn_book.specs.BookStep.{pledge_in}
-use Rattle.pawn_book.specs.HostStep.{Host}
-use Rattle.pawn_book.specs.Keeping.{Keeping, Reads, entries_of}
+use Rattle.pawn_table_keeper.proofs.Calls.{Err, List, [], ap, arith, length, refl, rules, ℕ, ◌++◌, ◌+◌, ◌<◌, ◌∙◌, ◌≡◌, ◌≤◌, nat_tests, map-id, get, state, pledge_in, Host, Keeping, Reads, entries_of, IsEntriesPage, behind, entries_from, keeping_by, most_page_rows, page_end, reads_as, reads_none, begins_at, ends_by, fails_at, goes_by, handed_past, stops_by, too_many_entries, errs_database}
 use Rattle.pawn_debt.specs.declared.entry.Entry.{Entry}
 use Rattle.pawn_debt.specs.Limits.{most_entries}
-use Rattle.pawn_tables.specs.Keeps.{keeping_by}
-use Rattle.pawn_tables.specs.Entries.{IsEntriesPage, behind, entries_from}
-use Rattle.pawn_tables.specs.Pages.{most_page_rows, page_end}
 use Rattle.pawn_tables.proofs.NextEntries.{from_zero}
-use Rattle.pawn_table_keeper.proofs.Handings.{begins_at, ends_by, fails_at, goes_by, handed_past, stops_by}
-use Rattle.pawn_table_keeper.proofs.Walks.{errs_database}
-use Rattle.pawn_table_keeper.proofs.TooMany.{too_many_entries}
 use Rattle.pawn_table_keeper.proofs.keeper.TableKeep.hand_entries.Goals as goal
 
 abbrev listed : ℕ → ℕ → Host → List Entry

@@ -1,10 +1,4 @@
-use Rattle.std.specs.FinMap.{get}
-use Rattle.sqlite.specs.Held.{state}
-use Rattle.pawn_book.specs.BookStep.{pledge_in}
-use Rattle.pawn_book.specs.Keeping.{entries_of}
-use Rattle.pawn_tables.specs.Keeps.{keeping_by}
-use Rattle.pawn_tables.specs.Entries.{entries_from}
-use Rattle.pawn_table_keeper.proofs.Handings.{HandedTo}
+use Rattle.pawn_table_keeper.proofs.Calls.{get, state, pledge_in, entries_of, entries_from, keeping_by, HandedTo}
 use Rattle.pawn_table_keeper.proofs.keeper.TableKeep.hand_entries.Given as goal
 
 abbrev pub invariant-loop-turn : goal.invariant-loop-turn

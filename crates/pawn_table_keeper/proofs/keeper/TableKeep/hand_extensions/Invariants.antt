@@ -1,9 +1,4 @@
-use Rattle.std.specs.FinMap.{get}
-use Rattle.sqlite.specs.Held.{state}
-use Rattle.pawn_book.specs.BookStep.{pledge_in}
-use Rattle.pawn_book.specs.Keeping.{extensions_of}
-use Rattle.pawn_tables.specs.Keeps.{keeping_by}
-use Rattle.pawn_table_keeper.proofs.PageHandings.{HandedPages}
+use Rattle.pawn_table_keeper.proofs.Calls.{get, state, pledge_in, extensions_of, keeping_by, HandedPages}
 use Rattle.pawn_table_keeper.proofs.keeper.TableKeep.hand_extensions.Given as goal
 
 abbrev pub invariant-loop-turn : goal.invariant-loop-turn

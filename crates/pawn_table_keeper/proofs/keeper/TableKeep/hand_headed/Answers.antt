@@ -1,15 +1,4 @@
-use Rattle.std.proofs.Common.{rules, length, ◌<◌, map, Ok, Err, refl, sym, ap, arith}
-use Rattle.std.proofs.lemmas.Bool.Decides.{nat_tests}
-use Rattle.std.specs.FinMap.{get}
-use Rattle.sqlite.specs.Held.{state}
-use Rattle.pawn_book.specs.HostStep.{Host}
-use Rattle.pawn_book.specs.Keeping.{pledges_of}
-use Rattle.pawn_book.specs.Sheet.{part_items, with_head}
-use Rattle.pawn_tables.specs.Keeps.{keeping_by}
-use Rattle.pawn_tables.specs.Pages.{most_page_rows}
-use Rattle.pawn_tables.specs.Lines.{IsLinesPage, item_of}
-use Rattle.pawn_table_keeper.proofs.Handings.{hands_after, hands_over, hands_unread}
-use Rattle.pawn_table_keeper.proofs.SheetPages.{whole_page}
+use Rattle.pawn_table_keeper.proofs.Calls.{Err, Ok, ap, arith, length, map, refl, rules, sym, ◌<◌, nat_tests, get, state, Host, pledges_of, part_items, with_head, keeping_by, IsLinesPage, item_of, most_page_rows, hands_after, hands_over, hands_unread, whole_page}
 use Rattle.pawn_table_keeper.proofs.keeper.TableKeep.hand_headed.Goals as goal
 
 pub returns-in_err-page : goal.returns-in_err-page

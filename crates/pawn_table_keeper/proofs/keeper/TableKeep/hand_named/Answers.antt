@@ -1,14 +1,4 @@
-use Rattle.std.proofs.Common.{◌≡◌, ◌==◌, ◌∙◌, true, false, sym}
-use Rattle.std.specs.List.{list_any}
-use Rattle.std.specs.FinMap.{get}
-use Rattle.sqlite.specs.Held.{state}
-use Rattle.pawn_book.specs.Keeping.{pledges_of}
-use Rattle.pawn_book.specs.Sheet.{window_sheet}
-use Rattle.pawn_tables.specs.Keeps.{keeping_by}
-use Rattle.pawn_table_keeper.specs.Windows.{named_sheet}
-use Rattle.pawn_table_keeper.proofs.Handings.{hands_as, hands_nothing}
-use Rattle.pawn_book.proofs.Reading.{reads_none}
-use Rattle.pawn_table_keeper.proofs.SheetPages.{is_named, not_named}
+use Rattle.pawn_table_keeper.proofs.Calls.{false, sym, true, ◌==◌, ◌∙◌, ◌≡◌, get, list_any, state, pledges_of, window_sheet, keeping_by, reads_none, named_sheet, hands_as, hands_nothing, is_named, not_named}
 use Rattle.pawn_table_keeper.proofs.keeper.TableKeep.hand_named.Goals as goal
 
 pub returns-then-contains : goal.returns-then-contains

@@ -1,21 +1,4 @@
-use Rattle.std.proofs.Common.{rules, ◌≡◌, ◌++◌, length, ◌<◌, ◌≤◌, ℕ, List, [], map, Err, refl, arith}
-use Rattle.std.proofs.lemmas.List.{length-map}
-use Rattle.std.proofs.lemmas.Bool.Decides.{nat_tests}
-use Rattle.std.specs.FinMap.{get}
-use Rattle.sqlite.specs.Held.{state}
-use Rattle.pawn_book.proofs.Reading.{reads_as}
-use Rattle.pawn_book.specs.HostStep.{Host}
-use Rattle.pawn_book.specs.Keeping.{Keeping, Reads, pledges_of}
-use Rattle.pawn_book.specs.Sheet.{part_items}
-use Rattle.pawn_book.specs.declared.sheet.Part.{Part}
-use Rattle.pawn_book.specs.declared.sheet.SheetItem.{SheetItem}
-use Rattle.pawn_book.specs.Limits.{most_pledges}
-use Rattle.pawn_tables.specs.Keeps.{keeping_by}
-use Rattle.pawn_tables.specs.Lines.{IsLinesPage, item_of, items_past}
-use Rattle.pawn_tables.specs.Pages.{most_page_rows, page_end}
-use Rattle.pawn_tables.specs.declared.line.Line.{Line}
-use Rattle.pawn_table_keeper.proofs.Handings.{ends_by, fails_at, goes_by, handed_past, stops_by}
-use Rattle.pawn_table_keeper.proofs.TooMany.{too_many_lines}
+use Rattle.pawn_table_keeper.proofs.Calls.{Err, List, [], arith, length, map, refl, rules, ℕ, ◌++◌, ◌<◌, ◌≡◌, ◌≤◌, nat_tests, length-map, get, state, Host, Keeping, Reads, pledges_of, most_pledges, part_items, Part, SheetItem, keeping_by, IsLinesPage, item_of, items_past, most_page_rows, page_end, Line, reads_as, ends_by, fails_at, goes_by, handed_past, stops_by, too_many_lines}
 use Rattle.pawn_table_keeper.proofs.keeper.TableKeep.hand_part.Goals as goal
 
 abbrev listed : ℕ → ℕ → Part → Host → List SheetItem

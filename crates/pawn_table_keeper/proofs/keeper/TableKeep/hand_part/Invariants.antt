@@ -1,10 +1,4 @@
-use Rattle.std.specs.FinMap.{get}
-use Rattle.sqlite.specs.Held.{state}
-use Rattle.pawn_book.specs.Keeping.{pledges_of}
-use Rattle.pawn_book.specs.Sheet.{part_items}
-use Rattle.pawn_tables.specs.Keeps.{keeping_by}
-use Rattle.pawn_tables.specs.Lines.{items_past}
-use Rattle.pawn_table_keeper.proofs.Handings.{HandedTo}
+use Rattle.pawn_table_keeper.proofs.Calls.{get, state, pledges_of, part_items, keeping_by, items_past, HandedTo}
 use Rattle.pawn_table_keeper.proofs.keeper.TableKeep.hand_part.Given as goal
 
 abbrev pub invariant-loop-turn : goal.invariant-loop-turn

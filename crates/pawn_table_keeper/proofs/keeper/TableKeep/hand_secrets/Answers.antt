@@ -1,17 +1,5 @@
-use Rattle.std.proofs.Common.{rules, ◌*◌, ◌<◌, ◌≤◌, ℕ, List, Err, drop, length, refl, arith}
-use Rattle.std.proofs.lemmas.Bool.Decides.{nat_tests}
-use Rattle.std.specs.FinMap.{get}
-use Rattle.sqlite.specs.Held.{state}
+use Rattle.pawn_table_keeper.proofs.Calls.{Err, List, arith, drop, length, refl, rules, ℕ, ◌*◌, ◌<◌, ◌≤◌, nat_tests, get, state, most_secrets, pledge_in, Host, secrets_of, keeping_by, most_page_rows, fails_at, handed_past, pages_end, pages_go, pages_stop, too_many_secrets}
 use Rattle.pawn_pledge.specs.declared.record.Issued.{Issued}
-use Rattle.pawn_book.specs.BookStep.{pledge_in}
-use Rattle.pawn_book.specs.HostStep.{Host}
-use Rattle.pawn_book.specs.Keeping.{secrets_of}
-use Rattle.pawn_pledge.specs.Limits.{most_secrets}
-use Rattle.pawn_tables.specs.Keeps.{keeping_by}
-use Rattle.pawn_tables.specs.Pages.{most_page_rows}
-use Rattle.pawn_table_keeper.proofs.Handings.{fails_at, handed_past}
-use Rattle.pawn_table_keeper.proofs.PageHandings.{pages_end, pages_go, pages_stop}
-use Rattle.pawn_table_keeper.proofs.TooMany.{too_many_secrets}
 use Rattle.pawn_table_keeper.proofs.keeper.TableKeep.hand_secrets.Goals as goal
 
 abbrev listed : ℕ → ℕ → Host → List Issued

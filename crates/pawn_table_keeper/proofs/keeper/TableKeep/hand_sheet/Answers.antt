@@ -1,15 +1,5 @@
-use Rattle.std.proofs.Common.{rules, ◌++◌, ℕ, List, Ok, Err, refl}
-use Rattle.std.specs.FinMap.{get}
-use Rattle.sqlite.specs.Held.{state}
-use Rattle.pawn_book.specs.declared.sheet.Part.{Part}
+use Rattle.pawn_table_keeper.proofs.Calls.{Err, List, Ok, refl, rules, ℕ, ◌++◌, get, state, Host, pledges_of, part_items, windows_sheet, with_head, Part, SheetItem, Stop, keeping_by, hands_ended, hands_then}
 use Rattle.pawn_book.specs.declared.sheet.Part.TheVariants as part_of
-use Rattle.pawn_book.specs.declared.sheet.SheetItem.{SheetItem}
-use Rattle.pawn_book.specs.declared.visit.Flow.TheVariants.{Stop}
-use Rattle.pawn_book.specs.HostStep.{Host}
-use Rattle.pawn_book.specs.Keeping.{pledges_of}
-use Rattle.pawn_book.specs.Sheet.{part_items, windows_sheet, with_head}
-use Rattle.pawn_tables.specs.Keeps.{keeping_by}
-use Rattle.pawn_table_keeper.proofs.Handings.{hands_ended, hands_then}
 use Rattle.pawn_table_keeper.proofs.keeper.TableKeep.hand_sheet.Goals as goal
 
 abbrev comes : ℕ → ℕ → Host → List SheetItem

@@ -1,11 +1,4 @@
-use Rattle.std.proofs.Common.{rules, Ok, Err, refl, arith}
-use Rattle.std.specs.FinMap.{get}
-use Rattle.sqlite.specs.Held.{state}
-use Rattle.pawn_book.specs.declared.visit.Flow.TheVariants.{Stop}
-use Rattle.pawn_book.specs.Keeping.{pledges_of}
-use Rattle.pawn_tables.specs.Keeps.{keeping_by}
-use Rattle.pawn_table_keeper.proofs.Handings.{windows_end, windows_go}
-use Rattle.pawn_table_keeper.specs.Windows.{named_sheet}
+use Rattle.pawn_table_keeper.proofs.Calls.{Err, Ok, arith, refl, rules, get, state, pledges_of, Stop, keeping_by, named_sheet, windows_end, windows_go}
 use Rattle.pawn_table_keeper.proofs.keeper.TableKeep.hand_these.Goals as goal
 
 pub returns-in_err-hand_named : goal.returns-in_err-hand_named

@@ -1,13 +1,4 @@
-use Rattle.std.proofs.Common.{◌∷◌, [], List, Ok, refl, ap}
-use Rattle.std.specs.FinMap.{get}
-use Rattle.sqlite.specs.Held.{state}
-use Rattle.pawn_book.specs.declared.sheet.SheetItem.{SheetItem}
-use Rattle.pawn_book.specs.declared.visit.Flow.TheVariants.{Go, Stop}
-use Rattle.pawn_book.specs.HostStep.{Host}
-use Rattle.pawn_book.specs.Keeping.{pledges_of}
-use Rattle.pawn_book.specs.Sheet.{part_head, part_items}
-use Rattle.pawn_tables.specs.Keeps.{keeping_by}
-use Rattle.pawn_table_keeper.proofs.Handings.{hands_as, hands_ended, hands_item, hands_then}
+use Rattle.pawn_table_keeper.proofs.Calls.{List, Ok, [], ap, refl, ◌∷◌, get, state, Host, pledges_of, part_head, part_items, SheetItem, Go, Stop, keeping_by, hands_as, hands_ended, hands_item, hands_then}
 use Rattle.pawn_table_keeper.proofs.keeper.TableKeep.hand_under.Goals as goal
 
 pub returns-in-Go : goal.returns-in-Go

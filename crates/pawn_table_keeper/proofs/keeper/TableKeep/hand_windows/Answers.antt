@@ -1,14 +1,4 @@
-use Rattle.std.proofs.Common.{rules, Err, refl}
-use Rattle.std.specs.FinMap.{get}
-use Rattle.sqlite.specs.Held.{state}
-use Rattle.pawn_book.specs.HostStep.{Host}
-use Rattle.pawn_book.specs.Keeping.{pledges_of}
-use Rattle.pawn_book.specs.Sheet.{windows_sheet}
-use Rattle.pawn_tables.specs.Keeps.{keeping_by}
-use Rattle.pawn_tables.specs.Lines.{NamesWindows}
-use Rattle.pawn_table_keeper.specs.Windows.{named_sheets}
-use Rattle.pawn_table_keeper.proofs.Handings.{hands_after, hands_unread}
-use Rattle.pawn_table_keeper.proofs.SheetPages.{named_all}
+use Rattle.pawn_table_keeper.proofs.Calls.{Err, refl, rules, get, state, Host, pledges_of, windows_sheet, keeping_by, NamesWindows, named_sheets, hands_after, hands_unread, named_all}
 use Rattle.pawn_table_keeper.proofs.keeper.TableKeep.hand_windows.Goals as goal
 
 pub returns-in_err-windows : goal.returns-in_err-windows

@@ -1,5 +1,4 @@
-use Rattle.std.proofs.Common.{rules, ◌≡◌, Err}
-use Rattle.sqlite.specs.Held.{state}
+use Rattle.pawn_table_keeper.proofs.Calls.{Err, rules, ◌≡◌, state}
 use Rattle.sqlite.specs.Outline.{Outline}
 use Rattle.sqlite.specs.declared.error.Error.TheVariants.{SqliteFailure}
 use Rattle.sqlite.specs.declared.error.ErrorCode.TheVariants.{Closed}

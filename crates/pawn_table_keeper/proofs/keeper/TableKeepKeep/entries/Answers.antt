@@ -1,11 +1,4 @@
-use Rattle.std.proofs.Common.{rules, ◌≡◌, Err, ap}
-use Rattle.std.specs.FinMap.{get}
-use Rattle.sqlite.specs.Held.{state}
-use Rattle.pawn_book.specs.BookStep.{pledge_in}
-use Rattle.pawn_book.specs.Keeping.{entries_of}
-use Rattle.pawn_book.specs.Visits.{call_end}
-use Rattle.pawn_tables.specs.Keeps.{keeping_by}
-use Rattle.pawn_table_keeper.proofs.Handings.{visits_of}
+use Rattle.pawn_table_keeper.proofs.Calls.{Err, ap, rules, ◌≡◌, get, state, pledge_in, entries_of, call_end, keeping_by, visits_of}
 use Rattle.pawn_table_keeper.proofs.keeper.TableKeepKeep.entries.Goals as goal
 
 pub returns-in_err-hand_entries-clause-reads : goal.returns-in_err-hand_entries-clause-reads

@@ -1,15 +1,5 @@
-use Rattle.std.proofs.Common.{rules, ◌≡◌, ◌+◌, ◌<◌, ℕ, slice_get, Option, Some, None, Err, refl, sym, ◌∙◌, arith}
-use Rattle.std.proofs.lemmas.Bool.Decides.{nat_tests}
-use Rattle.std.specs.FinMap.{get}
-use Rattle.sqlite.specs.Held.{state}
+use Rattle.pawn_table_keeper.proofs.Calls.{Err, None, Option, Some, arith, refl, rules, slice_get, sym, ℕ, ◌+◌, ◌<◌, ◌∙◌, ◌≡◌, nat_tests, get, state, pledge_in, Keeping, Reads, pledges_of, most_pledges, keeping_by, reads_as, reads_none, too_many_pledges, ended, failed, more, pledge_at, stopped, walked_past}
 use Rattle.pawn_pledge.specs.Pledge.{PledgeValue}
-use Rattle.pawn_book.specs.BookStep.{pledge_in}
-use Rattle.pawn_book.specs.Keeping.{Keeping, Reads, pledges_of}
-use Rattle.pawn_book.proofs.Reading.{reads_as, reads_none}
-use Rattle.pawn_book.specs.Limits.{most_pledges}
-use Rattle.pawn_tables.specs.Keeps.{keeping_by}
-use Rattle.pawn_table_keeper.proofs.TooMany.{too_many_pledges}
-use Rattle.pawn_table_keeper.proofs.Walks.{ended, failed, more, pledge_at, stopped, walked_past}
 use Rattle.pawn_table_keeper.proofs.keeper.TableKeepKeep.walk.Goals as goal
 
 -- the pledge that was read stands at the place

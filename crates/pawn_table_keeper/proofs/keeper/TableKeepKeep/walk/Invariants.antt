@@ -1,8 +1,4 @@
-use Rattle.std.specs.FinMap.{get}
-use Rattle.sqlite.specs.Held.{state}
-use Rattle.pawn_book.specs.Keeping.{pledges_of}
-use Rattle.pawn_tables.specs.Keeps.{keeping_by}
-use Rattle.pawn_table_keeper.proofs.Walks.{Walked}
+use Rattle.pawn_table_keeper.proofs.Calls.{get, state, pledges_of, keeping_by, Walked}
 use Rattle.pawn_table_keeper.proofs.keeper.TableKeepKeep.walk.Given as goal
 
 abbrev pub invariant-loop-place : goal.invariant-loop-place

@@ -1,8 +1,4 @@
-use Rattle.std.proofs.Common.{rules, subst}
-use Rattle.std.proofs.lemmas.List.{map-id}
-use Rattle.pawn_book.specs.declared.visit.Flow.TheVariants.{Go, Stop}
-use Rattle.pawn_book.specs.Visits.{HandsOver}
-use Rattle.pawn_table_keeper.proofs.PageHandings.{page_goes, page_stops, page_whole}
+use Rattle.pawn_table_keeper.proofs.Calls.{rules, subst, map-id, HandsOver, Go, Stop, page_goes, page_stops, page_whole}
 use Rattle.pawn_table_keeper.proofs.keeper.handing.hand_all.Goals as goal
 
 pub returns-in-Stop : goal.returns-in-Stop

@@ -1,6 +1,4 @@
-use Rattle.std.proofs.Common.{map, take}
-use Rattle.pawn_book.specs.declared.visit.Flow.TheVariants.{Go}
-use Rattle.pawn_book.specs.Visits.{Handed}
+use Rattle.pawn_table_keeper.proofs.Calls.{map, take, Handed, Go}
 use Rattle.pawn_table_keeper.proofs.keeper.handing.hand_all.Given as goal
 
 abbrev pub invariant-loop-item : goal.invariant-loop-item

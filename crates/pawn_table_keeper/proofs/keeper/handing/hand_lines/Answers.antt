@@ -1,6 +1,4 @@
-use Rattle.std.proofs.Common.{rules}
-use Rattle.pawn_tables.specs.Lines.{item_of}
-use Rattle.pawn_table_keeper.proofs.PageHandings.{page_goes, page_stops, page_whole}
+use Rattle.pawn_table_keeper.proofs.Calls.{rules, item_of, page_goes, page_stops, page_whole}
 use Rattle.pawn_table_keeper.proofs.keeper.handing.hand_lines.Goals as goal
 
 pub returns-in-Stop : goal.returns-in-Stop

@@ -1,7 +1,4 @@
-use Rattle.std.proofs.Common.{map, take}
-use Rattle.pawn_book.specs.declared.visit.Flow.TheVariants.{Go}
-use Rattle.pawn_book.specs.Visits.{Handed}
-use Rattle.pawn_tables.specs.Lines.{item_of}
+use Rattle.pawn_table_keeper.proofs.Calls.{map, take, Handed, Go, item_of}
 use Rattle.pawn_table_keeper.proofs.keeper.handing.hand_lines.Given as goal
 
 abbrev pub invariant-loop-line : goal.invariant-loop-line

@@ -1,13 +1,5 @@
-use Rattle.std.proofs.Common.{◌≡◌, ◌∙◌, ◌∷◌, [], List, length, map, ap, sym, subst}
-use Rattle.std.proofs.lemmas.List.{length-map}
-use Rattle.pawn_book.specs.declared.sheet.Part.{Part}
-use Rattle.pawn_book.specs.declared.sheet.SheetItem.{SheetItem}
-use Rattle.pawn_book.specs.declared.visit.Flow.TheVariants.{Go, Stop}
-use Rattle.pawn_book.specs.Sheet.{part_head, with_head}
-use Rattle.pawn_book.specs.Visits.{HandsOver}
+use Rattle.pawn_table_keeper.proofs.Calls.{List, [], ap, length, map, subst, sym, ◌∙◌, ◌∷◌, ◌≡◌, length-map, part_head, with_head, HandsOver, Part, SheetItem, Go, Stop, item_of, Line}
 use Rattle.pawn_book.proofs.SheetLemmas.{hands_one, hands_then, hands_stop}
-use Rattle.pawn_tables.specs.Lines.{item_of}
-use Rattle.pawn_tables.specs.declared.line.Line.{Line}
 use Rattle.pawn_table_keeper.proofs.keeper.handing.hand_whole.Goals as goal
 
 headed : (part : Part) (lines : List Line) (heading : SheetItem) → heading ≡ part_head part (length lines) → heading ∷ map (item_of part) lines ≡ with_head part (map (item_of part) lines)

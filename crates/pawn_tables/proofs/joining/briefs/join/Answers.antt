@@ -1,9 +1,6 @@
-use Rattle.std.proofs.Common.{rules}
-use Rattle.pawn_terms.specs.Calendar.{IsDayNumber}
+use Rattle.pawn_tables.proofs.RowReading.{rules, IsDayNumber, end_of, read_part}
 use Rattle.pawn_pledge.specs.Brief.{brief_of}
-use Rattle.pawn_pledge.specs.Pledge.{end_of}
 use Rattle.pawn_tables.specs.PledgeRows.{HasSecret, IsBriefTold}
-use Rattle.pawn_tables.proofs.ListsOfRows.{read_part}
 use Rattle.pawn_tables.proofs.joining.briefs.join.Goals as goal
 
 pub returns-in_err-fields : goal.returns-in_err-fields

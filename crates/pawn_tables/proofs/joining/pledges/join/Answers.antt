@@ -1,7 +1,5 @@
-use Rattle.std.proofs.Common.{rules, ap, sym, ◌≡◌, ◌∙◌}
+use Rattle.pawn_tables.proofs.RowReading.{ap, rules, sym, ◌∙◌, ◌≡◌, debt_of, ends_joined, joined}
 use Rattle.pawn_debt.specs.Kept.{totals_of}
-use Rattle.pawn_pledge.specs.Pledge.{debt_of}
-use Rattle.pawn_tables.proofs.Joins.{joined, ends_joined}
 use Rattle.pawn_tables.proofs.joining.pledges.join.Goals as goal
 
 pub returns-then-not-agrees-clause-read : goal.returns-then-not-agrees-clause-read
