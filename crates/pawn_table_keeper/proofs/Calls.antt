@@ -3,8 +3,9 @@ pub use Rattle.std.proofs.Common.{Err, List, None, Ok, Option, Some, [], ap, ari
 pub use Rattle.std.proofs.lemmas.List.{map-id}
 pub use Rattle.pawn_pledge.specs.Limits.{most_extensions, most_secrets}
 pub use Rattle.pawn_book.specs.Limits.{most_pledges}
+pub use Rattle.pawn_tables.specs.declared.line.Line.{Line}
 pub use Rattle.pawn_tables.specs.Common.{Keeping, Part, SheetItem, part_items, pledges_of}
-pub use Rattle.pawn_tables.specs.Tables.{IsEntriesPage, IsLinesPage, Line, NamesWindows, behind, entries_from, item_of, items_past, most_page_rows}
+pub use Rattle.pawn_tables.specs.Tables.{IsEntriesPage, IsLinesPage, NamesWindows, behind, entries_from, item_of, items_past, most_page_rows}
 pub use Rattle.pawn_saving.specs.Common.{Host, entries_of, extensions_of, get, keeping_by, list_any, pledge_in, secrets_of, state}
 pub use Rattle.pawn_book.proofs.Reading.{reads_as, reads_none}
 pub use Rattle.pawn_tables.proofs.Lemmas.{length-map}
