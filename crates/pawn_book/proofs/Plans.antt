@@ -13,8 +13,9 @@ use Rattle.pawn_pledge.specs.Pledge.{PledgeValue}
 use Rattle.pawn_debt.specs.Answers.{is_bad_amount}
 use Rattle.pawn_debt.specs.Due.{credit_of}
 use Rattle.pawn_pledge.specs.declared.refusal.Refusal.{Refusal as PledgeRefusal}
-use Rattle.pawn_pledge.specs.Replayable.{Each, IsStanding}
-use Rattle.pawn_pledge.specs.Text.{IsText}
+use Rattle.pawn_base.specs.Lists.{Each}
+use Rattle.pawn_pledge.specs.Replayable.{IsStanding}
+use Rattle.pawn_base.specs.Text.{IsText}
 use Rattle.pawn_pledge.specs.Step.{pledge_start}
 use Rattle.std.specs.Result.{result_unwrap_or}
 use Rattle.pawn_pledge.specs.declared.record.Opening.{Opening}

@@ -7,7 +7,7 @@ use Rattle.std.proofs.lemmas.Bool.Decides.{nat_tests}
 use Rattle.pawn_pledge.specs.declared.command.Stamp.{Stamp}
 use Rattle.pawn_pledge.specs.declared.receipt.Receipt.{Receipt}
 use Rattle.pawn_pledge.specs.Laws.{IsSpent}
-use Rattle.pawn_pledge.specs.Replayable.{Each}
+use Rattle.pawn_base.specs.Lists.{Each}
 use Rattle.pawn_pledge.specs.Pledge.{PledgeValue, live_of}
 use Rattle.pawn_pledge.proofs.Receipts.{earlier_are_spent, spent-changed}
 use Rattle.pawn_book.specs.declared.change.Change.{Change}

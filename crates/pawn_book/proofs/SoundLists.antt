@@ -6,9 +6,8 @@ use Rattle.std.proofs.lemmas.List.Folds.{list_any-append}
 use Rattle.pawn_terms.specs.declared.terms.Rates.{Rates}
 use Rattle.pawn_pledge.specs.Pledge.{PledgeValue}
 use Rattle.pawn_book.specs.BookStep.{pledge_from, put_from, with_reference}
-use Rattle.pawn_terms.specs.Order.{DoNotFall}
+use Rattle.pawn_base.specs.Lists.{DoNotFall, Each}
 use Rattle.pawn_book.specs.Rows.{AreDistinct, IsUnder, references_of, version_of, is_same_text, terms_at}
-use Rattle.pawn_pledge.specs.Replayable.{Each}
 
 pub some_is : {A : Type 0} (x y : A) → Some x ≡ Some y → x ≡ y
 some_is {A} x y is = ap (λ (o : Option A). unwrap_or o x) is

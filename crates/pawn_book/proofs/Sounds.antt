@@ -6,13 +6,14 @@ use Rattle.std.specs.FinMap.{get, get-insert}
 use Rattle.std.specs.Str.{IsUtf8}
 use Rattle.std.proofs.lemmas.Cmp.{nat_cmp_total}
 use Rattle.std.proofs.lemmas.Bool.Decides.{nat_tests}
+use Rattle.pawn_base.proofs.ListLemmas.{Each-push}
 use Rattle.pawn_terms.specs.declared.terms.Rates.{Rates}
-use Rattle.pawn_terms.specs.Order.{DoNotFall}
+use Rattle.pawn_base.specs.Lists.{DoNotFall, Each}
 use Rattle.pawn_terms.specs.Terms.{IsChecked}
 use Rattle.pawn_pledge.specs.Number.{IsNumber}
 use Rattle.pawn_pledge.specs.Pledge.{PledgeValue}
-use Rattle.pawn_pledge.specs.Replayable.{Each, IsStanding}
-use Rattle.pawn_pledge.specs.Text.{IsText}
+use Rattle.pawn_pledge.specs.Replayable.{IsStanding}
+use Rattle.pawn_base.specs.Text.{IsText}
 use Rattle.pawn_book.specs.declared.request.NewBook.{NewBook}
 use Rattle.pawn_book.specs.BookStep.{BookValue, filled_book, made_book, pledge_from, pledge_in, put_from, with_reference}
 use Rattle.pawn_book.specs.HostStep.{Host, with_book}
@@ -69,10 +70,6 @@ sound_filled book key rows sound word written replayable = record {
   written = written;
 }
 
-pub each_push : {A : Type 0} (P : A → Type 0) (xs : List A) (x : A) → Each P xs → P x → Each P (xs ++ x ∷ [])
-each_push P [] x all one = (one, tt)
-each_push P (y ∷ ys) x all one = (all.0, each_push P ys x all.1 one)
-
 pub sound_terms : (book : BookValue) (terms : Rates) → IsSoundBook book → IsChecked terms → length book.terms < most_terms
     → IsSoundBook (record book { terms = book.terms ++ terms ∷ [] })
 sound_terms book terms sound checked few = record {
@@ -87,7 +84,7 @@ sound_terms book terms sound checked few = record {
     references = sound.rows.references;
     under = each_under_more book.terms terms book.pledges sound.rows.under;
     versions = sound.rows.versions;
-    checked = each_push IsChecked book.terms terms sound.rows.checked checked;
+    checked = Each-push IsChecked book.terms terms sound.rows.checked checked;
     few_terms = omega (arith, few, length-append book.terms (terms ∷ []));
     few_pledges = sound.rows.few_pledges;
   };

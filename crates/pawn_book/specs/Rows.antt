@@ -3,10 +3,10 @@ use Rattle.std.specs.Prelude.{◌≡◌, ℕ, zero, suc, ◌+◌, ◌≤◌, Boo
 use Rattle.std.specs.Cmp.Lexicographic.{pointwise}
 use Rattle.std.specs.List.{list_any}
 use Rattle.pawn_terms.specs.declared.terms.Rates.{Rates}
-use Rattle.pawn_terms.specs.Order.{DoNotFall}
+use Rattle.pawn_base.specs.Lists.{DoNotFall, Each}
 use Rattle.pawn_terms.specs.Terms.{IsChecked}
 use Rattle.pawn_pledge.specs.Pledge.{PledgeValue}
-use Rattle.pawn_pledge.specs.Replayable.{Each, IsStanding}
+use Rattle.pawn_pledge.specs.Replayable.{IsStanding}
 use Rattle.pawn_book.specs.Limits.{most_pledges, most_terms}
 
 -- two texts are the same

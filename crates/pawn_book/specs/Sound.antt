@@ -3,8 +3,8 @@ use Rattle.std.specs.Prelude.{◌≡◌, ℕ, ◌≤◌, Some, IfSome}
 use Rattle.std.specs.Str.{IsUtf8}
 use Rattle.std.specs.FinMap.{get}
 use Rattle.pawn_pledge.specs.Number.{IsNumber}
-use Rattle.pawn_pledge.specs.Replayable.{Each}
-use Rattle.pawn_pledge.specs.Text.{IsText}
+use Rattle.pawn_base.specs.Lists.{Each}
+use Rattle.pawn_base.specs.Text.{IsText}
 pub use Rattle.pawn_book.specs.Written.{IsWord, AreWords, HasTextsAndWords}
 use Rattle.pawn_book.specs.BookStep.{BookValue}
 use Rattle.pawn_book.specs.HostStep.{Host, rows}

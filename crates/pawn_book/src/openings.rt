@@ -3,7 +3,7 @@ ghost use Rattle.std.specs.Prelude.{◌≡◌, Err, IfOk, Some};
 ghost use Rattle.std.specs.FinMap.{get};
 ghost use Rattle.std.specs.Str.{IsUtf8};
 ghost use Rattle.pawn_terms.specs.Calendar.{IsDayNumber};
-ghost use Rattle.pawn_terms.specs.Refusals.{IsSaid};
+ghost use Rattle.pawn_base.specs.Refusals.{IsSaid};
 ghost use Rattle.pawn_pledge.specs.Replayable.{IsStanding};
 ghost use Rattle.pawn_book.specs.BookStep.{BookValue, first_receipt, book_head, is_same_opening, newest, take_pledge, next_pledge, with_reference};
 ghost use Rattle.pawn_book.specs.Sound.{IsSound, IsWord};

@@ -1,5 +1,5 @@
 ghost use Rattle.std.specs.Prelude.{◌≡◌, ◌↔◌, IfOk, IsTrue};
-ghost use Rattle.pawn_pledge.specs.Text.{IsText};
+ghost use Rattle.pawn_base.specs.Text.{IsText};
 ghost use Rattle.std.specs.Str.{IsUtf8};
 ghost use Rattle.pawn_book.specs.Limits.{IsCapacity};
 ghost use Rattle.pawn_book.specs.Sound.{IsWord};

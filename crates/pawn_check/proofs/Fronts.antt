@@ -5,15 +5,16 @@ use Rattle.std.specs.FinMap.{get}
 use Rattle.std.specs.List.{list_any}
 use Rattle.std.proofs.lemmas.Bool.Decides.{nat_tests}
 use Rattle.std.proofs.lemmas.List.Sums.{sum_by_push}
+use Rattle.pawn_base.proofs.ListLemmas.{Each-push}
 use Rattle.pawn_terms.specs.declared.terms.Rates.{Rates}
-use Rattle.pawn_terms.specs.Order.{DoNotFall, last_by}
+use Rattle.pawn_base.specs.Lists.{DoNotFall, last_by, Each}
 use Rattle.pawn_terms.specs.Terms.{IsChecked}
 use Rattle.pawn_pledge.specs.Pledge.{PledgeValue}
-use Rattle.pawn_pledge.specs.Replayable.{Each, IsStanding}
+use Rattle.pawn_pledge.specs.Replayable.{IsStanding}
 use Rattle.pawn_book.specs.BookStep.{BookValue, book_head, pledge_from, pledge_in, with_reference}
 use Rattle.std.specs.Prelude.{IfSome}
 use Rattle.std.specs.Str.{IsUtf8}
-use Rattle.pawn_pledge.specs.Text.{IsText}
+use Rattle.pawn_base.specs.Text.{IsText}
 use Rattle.pawn_book.specs.declared.change.BookHead.{BookHead}
 use Rattle.pawn_book.specs.Limits.{IsCapacity, most_name_bytes, most_pledges, most_terms}
 use Rattle.pawn_book.specs.HostStep.{pledge_rows}
@@ -22,7 +23,7 @@ use Rattle.pawn_book.proofs.Reading.{reads_then}
 use Rattle.pawn_book.specs.Rows.{AreDistinct, AreNumberedFrom, IsUnder, references_of, version_of, is_same_text, terms_at}
 use Rattle.pawn_book.specs.Sound.{HasTextsAndWords, HasUnsoundBook, IsSoundBook, IsWord}
 use Rattle.pawn_book.proofs.SoundLists.{absurd_none, some_is, references_push}
-use Rattle.pawn_book.proofs.Sounds.{each_at, each_push, numbered_at}
+use Rattle.pawn_book.proofs.Sounds.{each_at, numbered_at}
 use Rattle.pawn_book.specs.HostStep.{Host}
 use Rattle.std.specs.Prelude.{IsTrue, Result, Err}
 use Rattle.pawn_check.specs.declared.fault.CheckFault.{CheckFault}
@@ -164,11 +165,11 @@ front_more k i version rows next more p less at fits rise is few front =
     let none = none_before 1 (take i k.pledges) rest.0 p.agreement.opening.reference first.0 front.numbered found far in
     subst (λ qs. IsFront k qs next (rows + more)) (sym (ap (λ n. take n k.pledges) one_more ∙ take_pledge 1 k.pledges i p at)) (record {
       numbered = numbered_push 1 (take i k.pledges) p front.numbered (omega (arith, fits.number, long));
-      standing = each_push IsStanding (take i k.pledges) p front.standing fits.standing;
+      standing = Each-push IsStanding (take i k.pledges) p front.standing fits.standing;
       references = references_push (take i k.pledges) p front.references none;
-      under = each_push (IsUnder k.terms) (take i k.pledges) p front.under fits.under;
+      under = Each-push (IsUnder k.terms) (take i k.pledges) p front.under fits.under;
       versions = falls_push 0 (take i k.pledges) p front.versions (omega (arith, front.last, rise, is));
-      written = each_push HasTextsAndWords (take i k.pledges) p front.written fits.written;
+      written = Each-push HasTextsAndWords (take i k.pledges) p front.written fits.written;
       last = is ∙ sym (last_push 0 (take i k.pledges) p);
       counted = let sums = sum_by_push pledge_rows (take i k.pledges) p in omega (arith, sums, few, front.counted);
     })

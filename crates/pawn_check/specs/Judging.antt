@@ -2,8 +2,8 @@
 use Rattle.std.specs.Prelude.{◌≡◌, ℕ, List, length, Result, Ok, Err, sum_by, IsErrOf, Some}
 use Rattle.std.specs.FinMap.{entries, get}
 use Rattle.pawn_pledge.specs.Pledge.{PledgeValue}
-use Rattle.pawn_pledge.specs.Replayable.{Each, IsStanding}
-use Rattle.pawn_terms.specs.Order.{DoNotFall, last_by}
+use Rattle.pawn_base.specs.Lists.{Each, DoNotFall, last_by}
+use Rattle.pawn_pledge.specs.Replayable.{IsStanding}
 use Rattle.pawn_book.specs.declared.fault.KeepError.{KeepError}
 use Rattle.pawn_book.specs.declared.fault.KeepError.TheVariants as Keeper
 use Rattle.pawn_book.specs.declared.fault.StoreFault.TheVariants.{NoRecord, Database}

@@ -3,8 +3,8 @@ ghost use Rattle.std.specs.Prelude.{◌≡◌, ◌≤◌, IfOk, IfSome, Some, le
 ghost use Rattle.std.specs.Str.{IsUtf8};
 ghost use Rattle.std.specs.FinMap.{get};
 ghost use Rattle.pawn_terms.specs.Terms.{IsChecked};
-ghost use Rattle.pawn_pledge.specs.Replayable.{Each};
-ghost use Rattle.pawn_pledge.specs.Text.{IsText};
+ghost use Rattle.pawn_base.specs.Lists.{Each};
+ghost use Rattle.pawn_base.specs.Text.{IsText};
 ghost use Rattle.pawn_book.specs.BookStep.{BookValue, book_head};
 ghost use Rattle.pawn_book.specs.HostStep.{rows};
 ghost use Rattle.pawn_book.specs.Keeping.{IsNextBook, Reads, terms_of};

@@ -1,7 +1,7 @@
 //! The pledges of a book, judged one after the other.
 ghost use Rattle.std.specs.Prelude.{◌≡◌, ◌≤◌, ◌+◌, ◌*◌, ◌↔◌, ℕ, Some, IsTrue, IfOk, length, take};
 ghost use Rattle.std.specs.FinMap.{get};
-ghost use Rattle.pawn_terms.specs.Order.{last_by};
+ghost use Rattle.pawn_base.specs.Lists.{last_by};
 ghost use Rattle.pawn_pledge.specs.Pledge.{PledgeValue};
 ghost use Rattle.pawn_pledge.specs.Replayable.{IsStanding};
 ghost use Rattle.pawn_book.specs.BookStep.{BookValue, pledge_from};

@@ -6,9 +6,10 @@ use Rattle.std.proofs.lemmas.Bool.Decides.{nat_tests}
 use Rattle.std.proofs.lemmas.List.{append-nil}
 use Rattle.csv.specs.Reading.{AreRecords, default_config, strip_bom}
 use Rattle.csv.specs.declared.parser.State.TheVariants as st
+use Rattle.pawn_base.proofs.ListLemmas.{Each-push}
 use Rattle.pawn_terms.specs.declared.terms.Rates.{Rates}
 use Rattle.pawn_pledge.specs.Pledge.{PledgeValue}
-use Rattle.pawn_pledge.specs.Replayable.{Each}
+use Rattle.pawn_base.specs.Lists.{Each}
 use Rattle.pawn_book.specs.Limits.{most_pledges, most_terms}
 use Rattle.pawn_book.specs.declared.rows.BookRows.{BookRows}
 use Rattle.pawn_csv.specs.declared.fault.Cause.{Cause}
@@ -61,10 +62,6 @@ flat_map-push (q ∷ ps) p = ap (λ (rs : List Row). raw_rows q ++ rs) (flat_map
 each_last : (ps : List RawPledge) (p q : RawPledge) → Each HasNone (ps ++ p ∷ []) → (HasNone p → HasNone q) → Each HasNone (ps ++ q ∷ [])
 each_last [] p q h f = (f h.0, tt)
 each_last (x ∷ ps) p q h f = (h.0, each_last ps p q h.1 f)
-
-each_push : (ps : List RawPledge) (q : RawPledge) → Each HasNone ps → HasNone q → Each HasNone (ps ++ q ∷ [])
-each_push [] q h f = (f, tt)
-each_push (x ∷ ps) q h f = (h.0, each_push ps q h.1 f)
 
 -- a row that the pledge at hand takes
 hand_shown : (first : Row) (ts : List Row) (ps : List RawPledge) (p q : RawPledge) (row : Row) → Shows p q row
@@ -131,7 +128,7 @@ pledge_grows b c x h plain =
     let rows : shown (Some new) ≡ shown (Some b) ++ Row.Pledge x ∷ [] =
     ap (λ (rs : List Row). head ∷ (terms_rows 1 b.terms ++ rs)) (flat_map-push (pledges_begun b) (raw_pledge x))
     ∙ ap (λ (rs : List Row). head ∷ rs) (sym (append_assoc (terms_rows 1 b.terms) (flat_map raw_rows (pledges_begun b)) (Row.Pledge x ∷ []))) in
-    subst (λ (d : Begun). Grows (Some b) (Row.Pledge x) d) guard.1 (rows, λ one. each_push (pledges_begun b) (raw_pledge x) (plain one) refl)
+    subst (λ (d : Begun). Grows (Some b) (Row.Pledge x) d) guard.1 (rows, λ one. Each-push HasNone (pledges_begun b) (raw_pledge x) (plain one) refl)
 
 pub second_only : (v : Version) (x : Result Begun Cause) (c : Begun) → on_second v x ≡ Ok c → (v ≡ version.Two) × (x ≡ Ok c)
 second_only version.One x c h = cc

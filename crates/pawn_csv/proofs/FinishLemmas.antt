@@ -3,7 +3,7 @@ use Rattle.std.proofs.Common.{◌≡◌, ℕ, List, [], ◌∷◌, ◌++◌, map
 use Rattle.pawn_terms.specs.declared.terms.Rates.{Rates}
 use Rattle.pawn_pledge.specs.Pledge.{PledgeValue}
 use Rattle.pawn_csv.specs.declared.order.RawPledge.{RawPledge}
-use Rattle.pawn_pledge.specs.Replayable.{Each}
+use Rattle.pawn_base.specs.Lists.{Each}
 use Rattle.pawn_pledge.specs.declared.record.Closing.{Closing}
 use Rattle.pawn_pledge.specs.declared.record.Closing.TheVariants as closed
 use Rattle.pawn_book.specs.Rows.{AreReplayable, IsUnder, terms_at}

@@ -4,11 +4,11 @@ use Rattle.std.specs.Prelude.{IfSome}
 use Rattle.std.specs.List.{flat_map}
 use Rattle.std.proofs.lemmas.Bool.Decides.{nat_tests}
 use Rattle.std.proofs.lemmas.Nat.{mul-le}
-use Rattle.pawn_terms.proofs.OrderLemmas.{last_by-le}
-use Rattle.pawn_terms.proofs.RefusalLemmas.{first_of-is_ok}
+use Rattle.pawn_base.proofs.ListLemmas.{last_by-le}
+use Rattle.pawn_base.proofs.RefusalLemmas.{first_of-is_ok}
 use Rattle.pawn_terms.specs.Calendar.{IsStampDay}
 use Rattle.pawn_terms.specs.Limits.{first_day, last_stamp_day}
-use Rattle.pawn_terms.specs.Order.{DoNotFall, last_by}
+use Rattle.pawn_base.specs.Lists.{DoNotFall, last_by, Each}
 use Rattle.pawn_terms.specs.Terms.{IsChecked}
 use Rattle.pawn_terms.specs.declared.terms.Rates.{Rates}
 use Rattle.pawn_debt.proofs.Bounds.{accepted-bounded}
@@ -22,7 +22,7 @@ use Rattle.pawn_debt.specs.declared.entry.Entry.{Entry}
 use Rattle.pawn_debt.specs.declared.entry.Sort.{Sort}
 use Rattle.pawn_debt.specs.declared.entry.Sort.TheVariants.{Draw, Repay}
 use Rattle.pawn_pledge.specs.Pledge.{PledgeValue, debt_of, end_with, total_on}
-use Rattle.pawn_pledge.specs.Replayable.{AreExtended, AreNumbered, Each, IsBooked, IsClosed, IsStanding}
+use Rattle.pawn_pledge.specs.Replayable.{AreExtended, AreNumbered, IsBooked, IsClosed, IsStanding}
 use Rattle.pawn_pledge.specs.declared.record.Booking.{Booking}
 use Rattle.pawn_pledge.specs.declared.record.Closing.{Closing}
 use Rattle.pawn_pledge.specs.declared.record.Closing.TheVariants as closed

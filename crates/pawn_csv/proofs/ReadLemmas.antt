@@ -8,6 +8,7 @@ use Rattle.csv.specs.declared.parser.State.{State}
 use Rattle.csv.specs.Reading.{Reached, ReadRecord, ExplainsRead, ReadsNext, NextIs, default_config, source_of, pending_of}
 use Rattle.csv.specs.declared.error.ErrorKind.{ErrorKind}
 use Rattle.csv.specs.declared.error.ErrorKind.TheVariants as kind
+use Rattle.pawn_base.proofs.ListLemmas.{Each-push}
 use Rattle.pawn_csv.specs.declared.fault.Cause.TheVariants as cause
 use Rattle.csv.specs.declared.reader.Reader.{Reader}
 use Rattle.csv.specs.declared.parser.State.TheVariants as st
@@ -16,7 +17,7 @@ use Rattle.pawn_csv.specs.declared.row.Row.{Row}
 use Rattle.pawn_csv.specs.declared.fault.Cause.{Cause}
 use Rattle.pawn_csv.specs.Order.{Begun, place, run, then_run}
 use Rattle.pawn_csv.specs.Finishing.{Ends, IsFinishedAs}
-use Rattle.pawn_pledge.specs.Replayable.{Each}
+use Rattle.pawn_base.specs.Lists.{Each}
 use Rattle.pawn_book.specs.declared.rows.BookRows.{BookRows}
 use Rattle.pawn_csv.specs.Rows.{FitsColumns, row_fields}
 use Rattle.pawn_csv.specs.Reading.{AreTaken, AreTakenBefore, CauseOf, EndsReadingAs, IsFaultOf, IsFirstCause, IsReadAs, IsSpelled, RefusesRow, Taking}
@@ -40,10 +41,6 @@ run-push (q ∷ rows) r s t b ran placed =
       | Err e ↦ λ rest. cc
     ] ran
 
-each-push : (rows : List Row) (r : Row) → Each FitsColumns rows → FitsColumns r → Each FitsColumns (rows ++ r ∷ [])
-each-push [] r h f = (f, tt)
-each-push (q ∷ rows) r h f = (h.0, each-push rows r h.1 f)
-
 taken_more : {U : Type 0} (u : U) (records : List (List (List ℕ))) (rows : List Row) (i : ℕ) (f : List (List ℕ)) (raw new : Option Begun)
     → length records ≡ i → AreTaken records rows raw → Taking (nat_eq i 0) f raw (let r : Result U Cause = Ok u in r) new → (more : List Row) × AreTaken (records ++ f ∷ []) more new
 taken_more u [] rows i f raw new count taken step =
@@ -57,7 +54,7 @@ taken_more u (h ∷ rs) rows i f raw new count taken step =
       (
         taken.0,
         ap (λ xs. xs ++ f ∷ []) taken.1 ∙ ap (λ x. map row_fields rows ++ x ∷ []) spelled.1 ∙ sym (map-append row_fields rows (r ∷ [])),
-        each-push rows r taken.2 spelled.0,
+        Each-push FitsColumns rows r taken.2 spelled.0,
         run-push rows r None raw b taken.3 placed ∙ ap Ok (sym is),
       ),
     )

@@ -10,7 +10,8 @@ use Rattle.pawn_debt.specs.declared.entry.Entry.{Entry}
 use Rattle.pawn_pledge.specs.Limits.{most_extensions, most_secrets}
 use Rattle.pawn_pledge.specs.Number.{IsNumber}
 use Rattle.pawn_pledge.specs.Pledge.{PledgeValue}
-use Rattle.pawn_pledge.specs.Replayable.{AreIssued, AreNumbered, Each, IsStanding}
+use Rattle.pawn_base.specs.Lists.{Each}
+use Rattle.pawn_pledge.specs.Replayable.{AreIssued, AreNumbered, IsStanding}
 use Rattle.pawn_pledge.specs.declared.record.Booking.{Booking}
 use Rattle.pawn_pledge.specs.declared.record.Extension.{Extension}
 use Rattle.pawn_pledge.specs.declared.record.Issued.{Issued}

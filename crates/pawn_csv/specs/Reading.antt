@@ -6,7 +6,7 @@ use Rattle.csv.specs.declared.error.ErrorKind.{ErrorKind}
 use Rattle.csv.specs.declared.error.ErrorKind.TheVariants as kind
 use Rattle.csv.specs.declared.parser.State.{State}
 use Rattle.csv.specs.declared.parser.State.TheVariants as st
-use Rattle.pawn_pledge.specs.Replayable.{Each}
+use Rattle.pawn_base.specs.Lists.{Each}
 use Rattle.pawn_book.specs.Rows.{AreReplayable}
 use Rattle.pawn_book.specs.Written.{HasTextsAndWords}
 use Rattle.pawn_book.specs.declared.rows.BookRows.{BookRows}

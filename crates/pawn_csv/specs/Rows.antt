@@ -8,7 +8,8 @@ use Rattle.pawn_terms.specs.declared.terms.Rates.{Rates}
 use Rattle.pawn_debt.specs.Due.{credit_of}
 use Rattle.pawn_debt.specs.declared.entry.Entry.{Entry}
 use Rattle.pawn_pledge.specs.Pledge.{PledgeValue}
-use Rattle.pawn_pledge.specs.Replayable.{Each, IsOpening}
+use Rattle.pawn_base.specs.Lists.{Each}
+use Rattle.pawn_pledge.specs.Replayable.{IsOpening}
 use Rattle.pawn_pledge.specs.Secret.{secret_text}
 use Rattle.pawn_pledge.specs.declared.record.Agreement.{Agreement}
 use Rattle.pawn_pledge.specs.declared.record.Booking.{Booking}

@@ -2,7 +2,7 @@
 use Rattle.std.specs.Prelude.{◌≡◌, ℕ, ◌≤◌, ◌<◌, List, [], Option, None, Some, IfSome, decimal, get_or}
 use Rattle.std.specs.Str.{IsUtf8}
 use Rattle.pawn_terms.specs.Calendar.{IsStampDay, day_text}
-use Rattle.pawn_pledge.specs.Text.{IsText}
+use Rattle.pawn_base.specs.Text.{IsText}
 use Rattle.pawn_debt.specs.Due.{credit_of}
 use Rattle.pawn_pledge.specs.Replayable.{IsOpening}
 use Rattle.pawn_pledge.specs.declared.record.Opening.{Opening}

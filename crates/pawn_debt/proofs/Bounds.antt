@@ -5,8 +5,8 @@ use Rattle.std.proofs.lemmas.List.{append-nil}
 use Rattle.std.proofs.lemmas.Bool.Decides.{nat_tests}
 use Rattle.pawn_terms.specs.declared.terms.Rates.{Rates}
 use Rattle.pawn_terms.specs.Terms.{IsChecked}
-use Rattle.pawn_terms.proofs.RefusalLemmas.{first_of-is_ok}
-use Rattle.pawn_terms.proofs.OrderLemmas.{last_by-le, DoNotFall-push, last_by-push}
+use Rattle.pawn_base.proofs.RefusalLemmas.{first_of-is_ok}
+use Rattle.pawn_base.proofs.ListLemmas.{last_by-le, DoNotFall-push, last_by-push}
 use Rattle.pawn_debt.specs.declared.entry.Entry.{Entry}
 use Rattle.pawn_debt.specs.declared.entry.Kind.{Kind}
 use Rattle.pawn_debt.specs.declared.entry.Kind.TheVariants.{Fixed, Running}

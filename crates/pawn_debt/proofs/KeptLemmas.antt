@@ -1,7 +1,7 @@
 -- What a debt keeps beside its entries stays true.
 use Rattle.std.proofs.Common.{◌≡◌, ℕ, ◌+◌, ◌-◌, ◌*◌, ◌<◌, ◌≤◌, List, [], ◌∷◌, ◌++◌, length, refl, sym, ap, subst, ◌∙◌, arith, length-append}
 use Rattle.pawn_terms.specs.Calendar.{IsDayNumber}
-use Rattle.pawn_terms.proofs.OrderLemmas.{last_by-le, DoNotFall-push, last_by-push}
+use Rattle.pawn_base.proofs.ListLemmas.{last_by-le, DoNotFall-push, last_by-push}
 use Rattle.pawn_debt.specs.declared.entry.Entry.{Entry}
 use Rattle.pawn_debt.specs.declared.owing.Totals.{Totals}
 use Rattle.pawn_debt.specs.declared.entry.Sort.{Sort}

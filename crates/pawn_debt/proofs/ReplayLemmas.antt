@@ -2,11 +2,11 @@
 use Rattle.std.proofs.Common.{◌≡◌, ℕ, ◌+◌, ◌<◌, ◌≤◌, List, [], ◌∷◌, ◌++◌, take, drop, get_or, length, Ok, IsOk, sym, ap, subst, ◌∙◌, arith, false, nat_lt, nat_le}
 use Rattle.std.proofs.lemmas.Bool.Decides.{nat_tests}
 use Rattle.std.proofs.lemmas.List.{append-nil, append_assoc, take_more, take-append-drop, drop_more}
-use Rattle.pawn_terms.proofs.OrderLemmas.{last_by-le}
+use Rattle.pawn_base.proofs.ListLemmas.{last_by-le}
 use Rattle.pawn_debt.specs.declared.entry.Entry.{Entry}
 use Rattle.pawn_debt.specs.declared.entry.Sort.{Sort}
 use Rattle.pawn_debt.specs.declared.entry.Sort.TheVariants.{Draw, Repay}
-use Rattle.pawn_terms.proofs.RefusalLemmas.{first_of-ok, first_of-is_ok, first_of-accepts}
+use Rattle.pawn_base.proofs.RefusalLemmas.{first_of-ok, first_of-is_ok, first_of-accepts}
 use Rattle.pawn_debt.specs.Due.{Due, DebtValue, due, credit_of, last_of, AreOrdered}
 use Rattle.pawn_debt.specs.Owing.{total_of}
 use Rattle.pawn_debt.proofs.EntryLemmas.{due-extended}

@@ -1,6 +1,6 @@
 -- What the calls on a debt answer: the first refusal that applies, or the new debt.
 use Rattle.std.specs.Prelude.{◌≡◌, ℕ, ◌+◌, nat_lt, nat_le, Bool, true, false, ◌||◌, ◌==◌, List, [], ◌∷◌, ◌++◌, length, Result, Ok, Err}
-use Rattle.pawn_terms.specs.Refusals.{first_of, IsSaid, IsWant}
+use Rattle.pawn_base.specs.Refusals.{first_of, IsSaid, IsWant}
 use Rattle.pawn_terms.specs.declared.terms.Rates.{Rates}
 use Rattle.pawn_debt.specs.declared.entry.Sort.{Sort}
 use Rattle.pawn_debt.specs.declared.entry.Sort.TheVariants.{Draw, Repay}

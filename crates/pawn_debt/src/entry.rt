@@ -2,7 +2,7 @@ ghost use Rattle.std.specs.Prelude.{find, ◌==◌, ◌≡◌, ◌≤◌};
 ghost use Rattle.pawn_debt.specs.Due.{credit_of, first_principal};
 ghost use Rattle.pawn_debt.specs.Words.{sort_text};
 
-use crate::rows::Rows;
+use pawn_base::Rows;
 use pawn_terms::Day;
 
 /// The kind of a credit, with its sum or limit in pence.

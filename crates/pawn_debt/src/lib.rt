@@ -7,7 +7,6 @@ mod fault;
 mod limits;
 mod owing;
 mod replay;
-mod rows;
 mod worked;
 
 pub use debt::Debt;
@@ -15,7 +14,7 @@ pub use entry::{Entries, Entry, Kind, Sort};
 pub use fault::DebtFault;
 pub use limits::{MOST_ENTRIES, MOST_MILLIONTHS, MOST_PENCE};
 pub use owing::{Owing, Totals, owing_from};
+pub use pawn_base::Rows;
 pub use pawn_terms::{Day, Rates, Terms};
 pub use replay::{owing_at, replay_entries};
-pub use rows::Rows;
 pub use worked::{worked_debts, worked_entries};

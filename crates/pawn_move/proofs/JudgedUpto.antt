@@ -1,5 +1,6 @@
 -- Which debts were judged so far.
 use Rattle.std.proofs.Common.{◌≡◌, ◌≢◌, ◌==◌, ◌+◌, ◌++◌, ◌<◌, ◌≤◌, ℕ, zero, suc, [], ◌∷◌, List, Bool, true, false, Option, Some, None, nat_le, take, slice_get, refl, sym, ap, subst, ◌∙◌, arith}
+use Rattle.pawn_base.proofs.ListLemmas.{Each-push}
 use Rattle.pawn_move.specs.Common.{IfSome, if◌then◌else◌, is_some, get, Totals, PledgeValue, Each, BookValue, pledge_from, pledge_in, Host, pledges_of, totals_in}
 use Rattle.std.proofs.lemmas.Bool.Decides.{nat_tests}
 use Rattle.pawn_move.specs.Moving.{AreAllOwed, AreOwedIn, AreTotalsAt, CanBeOwed, IsJudgedAt, IsNextJudged}
@@ -45,10 +46,6 @@ stands_if h b n totals are = (ap is_some are.0 ∙ same (pledge_in (get h.books 
 abbrev pub AreOwedTo : ℕ → ℕ → Host → Type 0
 AreOwedTo b i h = Each CanBeOwed (take i (pledges_of (get h.books b)))
 
-each_more : (ps : List PledgeValue) (p : PledgeValue) → Each CanBeOwed ps → CanBeOwed p → Each CanBeOwed (ps ++ p ∷ [])
-each_more [] p all it = (it, tt)
-each_more (q ∷ ps) p all it = (all.0, each_more ps p all.1 it)
-
 pub one_judged : (b i m : ℕ) → m ≡ i + 1 → (h : Host) → AreOwedTo b i h → IsJudgedAt h b m true → AreOwedTo b m h
 one_judged b i m next h so_far is = go (pledge_in (get h.books b) m) (pledge_at (get h.books b) i m next) is.0 is.1
   where
@@ -57,7 +54,7 @@ one_judged b i m next h so_far is = go (pledge_in (get h.books b) m) (pledge_at 
     go (Some p) at some it =
         let ps = pledges_of (get h.books b) in
         let count : m ≡ suc i = omega (arith, next) in
-        subst (Each CanBeOwed) (sym (ap (λ k. take k ps) count ∙ one_taken ps i p (sym at))) (each_more (take i ps) p so_far it)
+        subst (Each CanBeOwed) (sym (ap (λ k. take k ps) count ∙ one_taken ps i p (sym at))) (Each-push CanBeOwed (take i ps) p so_far it)
 
 pub all_judged : (b i m : ℕ) → m ≡ i + 1 → (h : Host) → AreOwedTo b i h → IsJudgedAt h b m false → AreOwedIn h b
 all_judged b i m next h so_far is = go (pledge_in (get h.books b) m) (pledge_at (get h.books b) i m next) is.0

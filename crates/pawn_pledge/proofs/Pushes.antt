@@ -6,13 +6,13 @@ use Rattle.std.proofs.lemmas.Bool.Decides.{nat_tests}
 use Rattle.std.proofs.lemmas.List.{drop_more, take_rest}
 use Rattle.std.proofs.lemmas.List.Folds.{list_any-append}
 use Rattle.pawn_terms.specs.Calendar.{later_of}
-use Rattle.pawn_terms.proofs.OrderLemmas.{last_by-le}
+use Rattle.pawn_base.proofs.ListLemmas.{last_by-le}
 use Rattle.pawn_debt.specs.declared.entry.Entry.{Entry}
-use Rattle.pawn_terms.specs.Order.{DoNotFall, last_by}
+use Rattle.pawn_base.specs.Lists.{DoNotFall, last_by, Each}
 use Rattle.pawn_pledge.specs.declared.record.Issued.{Issued}
 use Rattle.pawn_pledge.specs.declared.record.Extension.{Extension}
 use Rattle.pawn_pledge.specs.Pledge.{last_element, last_until}
-use Rattle.pawn_pledge.specs.Replayable.{Each, IsLaterIssue, AreIssued, AreDistinctSecrets, AreNumbered, AreExtended}
+use Rattle.pawn_pledge.specs.Replayable.{IsLaterIssue, AreIssued, AreDistinctSecrets, AreNumbered, AreExtended}
 
 last-push : {A : Type 0} (xs : List A) (x : A) → slice_get (xs ++ x ∷ []) (length xs) ≡ Some x
 last-push [] x = refl
@@ -21,25 +21,6 @@ last-push (y ∷ ys) x = last-push ys x
 -- the last of a list that one was put on
 pub last_element-push : {A : Type 0} (xs : List A) (x : A) → last_element (xs ++ x ∷ []) ≡ Some x
 last_element-push xs x = let n : length (xs ++ x ∷ []) - 1 ≡ length xs = omega (arith, length-append xs (x ∷ [])) in rw n (last-push xs x)
-
-pub Each-push : {A : Type 0} (P : A → Type 0) (xs : List A) (x : A) → Each P xs → P x → Each P (xs ++ x ∷ [])
-Each-push P [] x h last = (last, tt)
-Each-push P (y ∷ ys) x h last = (h.0, Each-push P ys x h.1 last)
-
-pub Each-map : {A : Type 0} (P Q : A → Type 0) (xs : List A) → ((x : A) → P x → Q x) → Each P xs → Each Q xs
-Each-map P Q [] f h = tt
-Each-map P Q (x ∷ xs) f h = (f x h.0, Each-map P Q xs f h.1)
-
--- what holds of all, holds of each
-pub Each-all : {A : Type 0} (P : A → Type 0) (xs : List A) → ((x : A) → P x) → Each P xs
-Each-all P [] f = tt
-Each-all P (x ∷ xs) f = (f x, Each-all P xs f)
-
--- what does not fall lies between the first and the last
-pub DoNotFall-each : {A : Type 0} (f : A → ℕ) (low n high : ℕ) (xs : List A) → low ≤ n → DoNotFall f n xs → last_by f n xs ≤ high → Each (λ x. (low ≤ f x) × (f x ≤ high)) xs
-DoNotFall-each f low n high [] after h before = tt
-DoNotFall-each f low n high (x ∷ xs) after h before =
-    ((omega (arith, after, h.0), omega (arith, last_by-le f (f x) xs h.1, before)), DoNotFall-each f low (f x) high xs (omega (arith, after, h.0)) h.1 before)
 
 -- secrets
 pub AreIssued-push : (taken credit : ℕ) (is : List Issued) (j : Issued) → AreIssued taken credit is → IsLaterIssue credit j.sort → AreIssued taken credit (is ++ j ∷ [])

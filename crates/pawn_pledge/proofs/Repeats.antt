@@ -2,8 +2,8 @@
 use Rattle.std.proofs.Common.{◌≡◌, ◌≢◌, ℕ, ◌+◌, ◌≤◌, List, [], ◌∷◌, ◌++◌, length, Some, None, Ok, Err, refl, ◌∙◌, ap, sym, arith, ◌==◌, nat_lt, not, true, false, Bool, Option, Result, if◌then◌else◌, ◌&&◌}
 use Rattle.std.specs.Prelude.{find}
 use Rattle.std.proofs.lemmas.Bool.Decides.{nat_tests}
-use Rattle.pawn_terms.specs.Refusals.{NoneApplies}
-use Rattle.pawn_terms.proofs.RefusalLemmas.{first_of-past}
+use Rattle.pawn_base.specs.Refusals.{NoneApplies}
+use Rattle.pawn_base.proofs.RefusalLemmas.{first_of-past}
 use Rattle.pawn_debt.specs.declared.entry.Entry.{Entry}
 use Rattle.pawn_debt.specs.declared.entry.Sort.{Sort}
 use Rattle.pawn_debt.specs.declared.entry.Sort.TheVariants.{Draw, Repay}

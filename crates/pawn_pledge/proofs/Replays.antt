@@ -3,9 +3,9 @@ use Rattle.std.proofs.Common.{◌≡◌, ℕ, ◌+◌, ◌<◌, ◌≤◌, ◌==
 use Rattle.std.proofs.lemmas.Bool.{true≢false}
 use Rattle.std.proofs.lemmas.Bool.Decides.{nat_tests}
 use Rattle.pawn_terms.specs.Calendar.{later_of, period_end, six_months}
-use Rattle.pawn_terms.specs.Refusals.{NoneApplies}
+use Rattle.pawn_base.specs.Refusals.{NoneApplies}
 use Rattle.pawn_terms.specs.Limits.{last_stamp_day}
-use Rattle.pawn_terms.proofs.OrderLemmas.{last_by-push, DoNotFall-push}
+use Rattle.pawn_base.proofs.ListLemmas.{last_by-push, DoNotFall-push, Each-push, Each-map, Each-all, DoNotFall-each}
 use Rattle.pawn_debt.specs.declared.entry.Entry.{Entry}
 use Rattle.pawn_debt.specs.declared.entry.Sort.{Sort}
 use Rattle.pawn_debt.specs.declared.entry.Sort.TheVariants.{Draw, Repay}
@@ -28,7 +28,7 @@ use Rattle.pawn_pledge.specs.Replayable.{IsNotPassed, IsLaterIssue, IsDrawnBy, I
 use Rattle.pawn_pledge.specs.Commands.{IsCommand}
 use Rattle.pawn_pledge.proofs.Moves.{not_most, Move, Entering, Declaring, Extending, Settling}
 use Rattle.pawn_pledge.proofs.Settled.{IsGated, still-open}
-use Rattle.pawn_pledge.proofs.Pushes.{Each-push, Each-map, Each-all, AreIssued-push, AreDistinct-push, AreNumbered-push, DoNotFall-each, later_of-le, later_of-push, AreExtended-push}
+use Rattle.pawn_pledge.proofs.Pushes.{AreIssued-push, AreDistinct-push, AreNumbered-push, later_of-le, later_of-push, AreExtended-push}
 use Rattle.pawn_pledge.specs.Limits.{small_credit, most_secrets}
 
 -- not passed, where the last case is not

@@ -5,7 +5,7 @@ use Rattle.std.proofs.lemmas.Bool.Decides.{nat_tests}
 use Rattle.pawn_pledge.specs.Parts.{IsTyped, IsLimited, AreIssuedIn}
 use Rattle.pawn_terms.specs.Calendar.{six_months}
 use Rattle.pawn_terms.specs.Terms.{IsChecked}
-use Rattle.pawn_terms.specs.Order.{last_by}
+use Rattle.pawn_base.specs.Lists.{last_by, Each}
 use Rattle.pawn_debt.specs.declared.entry.Entry.{Entry}
 use Rattle.pawn_debt.specs.declared.owing.Totals.{Totals}
 use Rattle.pawn_debt.specs.Due.{DebtValue, credit_of, last_of}
@@ -14,8 +14,8 @@ use Rattle.pawn_debt.specs.Replay.{AreEntriesAccepted}
 use Rattle.pawn_pledge.specs.declared.record.Issued.{Issued}
 use Rattle.pawn_pledge.specs.declared.record.Status.TheVariants as Status
 use Rattle.pawn_pledge.specs.Pledge.{PledgeValue, end_of, is_small, debt_of, end_with, is_passed}
-use Rattle.pawn_pledge.specs.Replayable.{Each, IsNotPassed, AreNumbered, IsDrawnBy, AreExtended, IsClosed, IsBooked, IsStanding}
-use Rattle.pawn_pledge.proofs.Pushes.{Each-map, DoNotFall-each}
+use Rattle.pawn_pledge.specs.Replayable.{IsNotPassed, AreNumbered, IsDrawnBy, AreExtended, IsClosed, IsBooked, IsStanding}
+use Rattle.pawn_base.proofs.ListLemmas.{Each-map, DoNotFall-each}
 
 -- what is not passed on a day was not passed before
 early : (a b c d s : Bool) → (a ≡ true → c ≡ true) → (b ≡ true → d ≡ true)

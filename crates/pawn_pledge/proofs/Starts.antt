@@ -4,7 +4,7 @@ use Rattle.std.specs.Prelude.{IfOk}
 use Rattle.std.proofs.lemmas.Bool.Decides.{nat_tests}
 use Rattle.std.proofs.lemmas.Bool.{or_parts}
 use Rattle.pawn_terms.proofs.SixMonths.{six_months-later}
-use Rattle.pawn_terms.proofs.RefusalLemmas.{first_of-ok}
+use Rattle.pawn_base.proofs.RefusalLemmas.{first_of-ok}
 use Rattle.pawn_debt.specs.declared.fault.DebtFault.TheVariants.{BadAmount}
 use Rattle.pawn_debt.specs.Due.{credit_of}
 use Rattle.pawn_debt.specs.Answers.{is_bad_amount}

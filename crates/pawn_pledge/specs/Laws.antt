@@ -4,7 +4,7 @@ use Rattle.std.specs.List.{list_any}
 use Rattle.pawn_terms.specs.Calendar.{IsStampDay}
 use Rattle.pawn_terms.specs.declared.terms.Rates.{Rates}
 use Rattle.pawn_terms.specs.Terms.{IsChecked}
-use Rattle.pawn_terms.specs.Refusals.{NoneApplies}
+use Rattle.pawn_base.specs.Refusals.{NoneApplies}
 use Rattle.pawn_debt.specs.declared.entry.Sort.{Sort}
 use Rattle.pawn_debt.specs.declared.entry.Sort.TheVariants.{Draw, Repay}
 use Rattle.pawn_debt.specs.Due.{due, last_of}

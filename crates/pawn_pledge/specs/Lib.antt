@@ -1,6 +1,5 @@
 pub mod Limits
 pub mod Number
-pub mod Text
 pub mod Secret
 pub mod Receipt
 pub mod Refusal

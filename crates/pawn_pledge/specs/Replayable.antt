@@ -4,7 +4,7 @@ use Rattle.std.specs.List.{list_any}
 use Rattle.pawn_terms.specs.Calendar.{IsStampDay}
 use Rattle.pawn_terms.specs.Terms.{IsChecked}
 use Rattle.pawn_terms.specs.Limits.{last_stamp_day}
-use Rattle.pawn_terms.specs.Order.{DoNotFall, last_by}
+use Rattle.pawn_base.specs.Lists.{DoNotFall, Each, last_by}
 use Rattle.pawn_debt.specs.declared.entry.Entry.{Entry}
 use Rattle.pawn_debt.specs.declared.entry.Sort.{Sort}
 use Rattle.pawn_debt.specs.declared.entry.Sort.TheVariants.{Draw, Repay}
@@ -20,14 +20,9 @@ use Rattle.pawn_pledge.specs.declared.record.Closing.{Closing}
 use Rattle.pawn_pledge.specs.declared.record.Status.TheVariants as Status
 use Rattle.pawn_pledge.specs.declared.record.Opening.{Opening}
 use Rattle.pawn_pledge.specs.Number.{IsNumber}
-use Rattle.pawn_pledge.specs.Text.{IsText}
+use Rattle.pawn_base.specs.Text.{IsText}
 use Rattle.pawn_pledge.specs.Pledge.{PledgeValue, end_with, end_of, total_on, debt_of, open_status, is_passed}
 use Rattle.pawn_pledge.specs.Limits.{small_credit, most_secrets, most_extensions, last_window, most_article_bytes, most_reference_bytes}
-
--- P holds of each element of a list
-abbrev pub Each : {A : Type 0} → (A → Type 0) → List A → Type 0
-Each P [] = Unit {0}
-Each P (x ∷ xs) = P x × Each P xs
 
 -- the property has not passed on a day, the closing aside
 abbrev pub IsNotPassed : PledgeValue → ℕ → Type 0

@@ -13,7 +13,6 @@ mod record;
 mod refusal;
 mod secret;
 mod status;
-mod text;
 mod worked;
 
 pub use brief::{Brief, BriefFields, Counts};
@@ -26,6 +25,7 @@ pub use limits::{
 };
 pub use number::Number;
 pub use parts::Parts;
+pub use pawn_base::Text;
 pub use pawn_debt::{
     Day, DebtFault, Entries, Entry, Kind, Owing, Rates, Rows, Sort, Terms, Totals,
 };
@@ -38,7 +38,6 @@ pub use record::{
 };
 pub use refusal::Refusal;
 pub use secret::Secret;
-pub use text::Text;
 pub use worked::{
     worked_bookings, worked_closings, worked_entries, worked_extensions, worked_pledges,
     worked_receipts, worked_texts,

@@ -1,10 +1,10 @@
 ghost use Rattle.std.specs.Prelude.{◌≡◌, ◌≤◌, ◌↔◌, IsTrue, IfSome, IfNone, IfOk};
 ghost use Rattle.pawn_terms.specs.Limits.{last_stamp_day};
-ghost use Rattle.pawn_terms.specs.Order.{DoNotFall, last_by};
+ghost use Rattle.pawn_base.specs.Lists.{DoNotFall, last_by, Each};
 ghost use Rattle.pawn_debt.specs.Kept.{IsDebtKept as IsOwed};
 ghost use Rattle.pawn_pledge.specs.Pledge.{debt_of, last_until, end_of, open_status, is_passed};
 ghost use Rattle.pawn_pledge.specs.Parts.{IsTyped, IsLimited, AreIssuedIn};
-ghost use Rattle.pawn_pledge.specs.Replayable.{Each, IsLaterIssue, AreIssued, AreDistinctSecrets, IsDrawnBy, AreExtended, IsOverUnder, IsBooked, IsClosed, IsStanding};
+ghost use Rattle.pawn_pledge.specs.Replayable.{IsLaterIssue, AreIssued, AreDistinctSecrets, IsDrawnBy, AreExtended, IsOverUnder, IsBooked, IsClosed, IsStanding};
 
 use crate::limits::{LAST_WINDOW, MOST_EXTENSIONS, MOST_SECRETS};
 use crate::record::{

@@ -4,7 +4,7 @@ ghost use Rattle.pawn_pledge.specs.Words.{state_text};
 use crate::limits::{MOST_ARTICLE_BYTES, MOST_REFERENCE_BYTES};
 use crate::number::Number;
 use crate::secret::Secret;
-use crate::text::Text;
+use pawn_base::Text;
 use pawn_debt::{Day, Kind, Rates, Rows};
 use pawn_terms::{RequestDay, last_day};
 use std::alloc::AllocError;

@@ -31,8 +31,9 @@ pub use Rattle.pawn_pledge.specs.Brief.{IsBriefWithin, brief_of}
 pub use Rattle.pawn_pledge.specs.Limits.{last_window, most_article_bytes, most_reference_bytes}
 pub use Rattle.pawn_pledge.specs.Number.{IsNumber}
 pub use Rattle.pawn_pledge.specs.Pledge.{PledgeValue, debt_of, end_of, last_element, last_secret, last_until, live_under}
-pub use Rattle.pawn_pledge.specs.Replayable.{AreExtended, AreIssued, AreNumbered, Each, IsBooked, IsClosed, IsStanding}
-pub use Rattle.pawn_pledge.specs.Text.{IsText}
+pub use Rattle.pawn_base.specs.Lists.{Each}
+pub use Rattle.pawn_pledge.specs.Replayable.{AreExtended, AreIssued, AreNumbered, IsBooked, IsClosed, IsStanding}
+pub use Rattle.pawn_base.specs.Text.{IsText}
 pub use Rattle.pawn_pledge.specs.declared.record.Booking.{Booking}
 pub use Rattle.pawn_pledge.specs.declared.record.BookingState.{BookingState}
 pub use Rattle.pawn_pledge.specs.declared.record.Closing.{Closing}

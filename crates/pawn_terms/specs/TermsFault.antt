@@ -1,6 +1,6 @@
 -- Why three numbers are refused as terms.
 use Rattle.std.specs.Prelude.{ℕ, List, [], ◌∷◌, nat_lt, ◌||◌, Result, Ok, codes}
-use Rattle.pawn_terms.specs.Refusals.{first_of}
+use Rattle.pawn_base.specs.Refusals.{first_of}
 use Rattle.pawn_terms.specs.declared.terms.Rates.{Rates}
 use Rattle.pawn_terms.specs.Terms.{most_rate, most_keep}
 use Rattle.pawn_terms.specs.declared.terms.TermsFault.{TermsFault}

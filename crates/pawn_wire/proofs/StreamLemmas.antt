@@ -7,7 +7,7 @@ use Rattle.std.proofs.Math.Seq.{take-append-add}
 use Rattle.httparse.specs.Grammar.{RequestHead, IsRequestHead, print_request, is_token_byte, is_uri_byte, lf}
 use Rattle.httparse.specs.Spans.{RequestOverflows}
 use Rattle.httparse.proofs.GrammarLemmas.{ReadsRequest-append, print_request-append}
-use Rattle.pawn_terms.specs.Refusals.{first_of}
+use Rattle.pawn_base.specs.Refusals.{first_of}
 use Rattle.pawn_wire.specs.Fields.{Pair}
 use Rattle.pawn_wire.specs.Head.{ReadsHead, NeverHasHead, IsBadHead, IsHead, fields_of, length_by, body_length}
 use Rattle.pawn_wire.specs.Limits.{max_fields, max_head, max_body}

@@ -1,7 +1,7 @@
 -- The targets of the table are found, a few at a time, since each is computed.
 use Rattle.std.proofs.Common.{ℕ, List, [], ◌∷◌, take, drop, zero, suc, refl}
 use Rattle.matchit.proofs.OnLiterals.{matchit_on_literals}
-use Rattle.pawn_pledge.specs.Replayable.{Each}
+use Rattle.pawn_base.specs.Lists.{Each}
 use Rattle.pawn_wire.specs.Laws.{IsTargetFound}
 use Rattle.pawn_wire.specs.Route.{table_rows, table}
 

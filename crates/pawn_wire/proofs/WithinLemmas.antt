@@ -8,12 +8,12 @@ use Rattle.serde_json.specs.Find.{get, as_number, as_u64, as_str, as_null}
 use Rattle.pawn_terms.specs.Calendar.{IsStampDay}
 use Rattle.pawn_pledge.specs.Number.{IsNumber}
 use Rattle.pawn_pledge.specs.Secret.{secret_of_text}
-use Rattle.pawn_pledge.specs.Text.{is_text, IsText}
+use Rattle.pawn_base.specs.Text.{is_text, IsText}
 use Rattle.pawn_pledge.specs.Replayable.{IsOpening}
 use Rattle.pawn_pledge.specs.declared.limits.TheConstants.{MOST_ARTICLE_BYTES, MOST_REFERENCE_BYTES}
 use Rattle.pawn_pledge.specs.declared.record.Opening.{Opening}
 use Rattle.pawn_pledge.specs.declared.receipt.Receipt.{Receipt}
-use Rattle.pawn_terms.specs.Refusals.{first_of}
+use Rattle.pawn_base.specs.Refusals.{first_of}
 use Rattle.pawn_pledge.specs.declared.command.Command.{Command}
 use Rattle.pawn_pledge.specs.Commands.{is_brokers, is_bearers}
 use Rattle.pawn_book.specs.Limits.{IsCapacity, AreFew}

@@ -1,6 +1,6 @@
 -- Steps one after the other, each of which may end in a fault.
 use Rattle.std.specs.Prelude.{◌≡◌, ◌⊎◌, Option, Some, None, Result, Ok, Err, MatchResult}
-use Rattle.pawn_terms.specs.Refusals.{IsSaid}
+use Rattle.pawn_base.specs.Refusals.{IsSaid}
 use Rattle.pawn_wire.specs.declared.fault.WireFault.{WireFault}
 use Rattle.pawn_wire.specs.declared.fault.WireFault.TheVariants.{Memory}
 

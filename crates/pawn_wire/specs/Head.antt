@@ -4,7 +4,7 @@ use Rattle.std.specs.List.{list_any}
 use Rattle.std.specs.Str.{str_eq_ignore_ascii_case}
 use Rattle.httparse.specs.Grammar.{RequestHead, ReadsRequest, print_request, HasNoRequest, MayBecomeRequest}
 use Rattle.httparse.specs.Spans.{name_and_value, RequestOverflows}
-use Rattle.pawn_terms.specs.Refusals.{first_of}
+use Rattle.pawn_base.specs.Refusals.{first_of}
 use Rattle.pawn_wire.specs.Fields.{Pair, values_of}
 use Rattle.pawn_wire.specs.Limits.{max_head, max_fields, max_body}
 use Rattle.pawn_wire.specs.Numeral.{decimal_of}

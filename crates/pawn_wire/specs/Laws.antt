@@ -8,8 +8,9 @@ use Rattle.pawn_debt.specs.declared.entry.Entry.{Entry}
 use Rattle.pawn_pledge.specs.Number.{IsNumber}
 use Rattle.pawn_pledge.specs.declared.command.Command.{Command}
 use Rattle.pawn_pledge.specs.declared.record.Booking.{Booking}
-use Rattle.pawn_pledge.specs.Text.{IsText}
-use Rattle.pawn_pledge.specs.Replayable.{IsOpening, Each}
+use Rattle.pawn_base.specs.Text.{IsText}
+use Rattle.pawn_base.specs.Lists.{Each}
+use Rattle.pawn_pledge.specs.Replayable.{IsOpening}
 use Rattle.pawn_book.specs.Limits.{IsCapacity, AreFew}
 use Rattle.pawn_book.specs.declared.limits.TheConstants.{MOST_NAME_BYTES}
 use Rattle.pawn_book.specs.declared.request.Request.{Request}

@@ -6,7 +6,7 @@ use Rattle.serde_json.specs.Find.{get, as_number, as_u64, as_str, as_bool}
 use Rattle.serde_json.specs.Read.{read}
 use Rattle.serde_json.specs.View.{view}
 use Rattle.serde_json.specs.declared.value.Value.{Value}
-use Rattle.pawn_pledge.specs.Text.{is_text}
+use Rattle.pawn_base.specs.Text.{is_text}
 use Rattle.pawn_pledge.specs.Secret.{secret_of_text}
 use Rattle.pawn_wire.specs.Chain.{and_then}
 use Rattle.pawn_wire.specs.Limits.{max_number}

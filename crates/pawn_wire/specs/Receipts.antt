@@ -3,7 +3,7 @@ use Rattle.std.specs.Prelude.{ℕ, ◌==◌, Bool, List, [], ◌∷◌, length, 
 use Rattle.std.specs.List.{before_first, after_first}
 use Rattle.pawn_pledge.specs.Secret.{secret_of_text}
 use Rattle.pawn_pledge.specs.declared.receipt.Receipt.{Receipt}
-use Rattle.pawn_terms.specs.Refusals.{first_of}
+use Rattle.pawn_base.specs.Refusals.{first_of}
 use Rattle.pawn_wire.specs.Chain.{and_then, or_fault}
 use Rattle.pawn_wire.specs.Fields.{Pair, values_of}
 use Rattle.pawn_book.specs.declared.limits.TheConstants.{MOST_RECEIPTS}

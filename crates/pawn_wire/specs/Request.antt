@@ -2,7 +2,7 @@
 use Rattle.std.specs.Prelude.{◌≡◌, ◌≢◌, ℕ, ◌⊎◌, ◌==◌, Bool, not, List, [], ◌∷◌, ◌++◌, map, length, bytes_eq, unwrap_or, Result, Ok, Err}
 use Rattle.csv.specs.Reading.{strip_bom}
 use Rattle.httparse.specs.Grammar.{RequestHead}
-use Rattle.pawn_terms.specs.Refusals.{first_of}
+use Rattle.pawn_base.specs.Refusals.{first_of}
 use Rattle.pawn_book.specs.declared.request.Request.{Request}
 use Rattle.pawn_book.specs.declared.request.Caller.TheVariants.{Broker}
 use Rattle.pawn_book.specs.declared.request.BrokerRequest.TheVariants.{Import}

@@ -1,5 +1,5 @@
 ghost use Rattle.std.specs.Prelude.{◌≡◌, ◌≤◌, ◌<◌, length, Ok, OnOk};
-ghost use Rattle.pawn_terms.specs.Refusals.{first_of};
+ghost use Rattle.pawn_base.specs.Refusals.{first_of};
 ghost use Rattle.pawn_debt.specs.declared.entry.Entry.{Entry};
 ghost use Rattle.pawn_pledge.specs.Pledge.{end_of};
 ghost use Rattle.pawn_pledge.specs.Words.{in_state, is_standing, after_closing, booking_after, with_secret, with_extension, issue_of, new_entry, is_ahead, is_repeat};

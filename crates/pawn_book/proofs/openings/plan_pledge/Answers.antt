@@ -1,5 +1,5 @@
 use Rattle.std.proofs.Common.{◌∙◌, ap, Ok, Some, subst, sym}
-use Rattle.pawn_terms.specs.Refusals.{IsSaid}
+use Rattle.pawn_base.specs.Refusals.{IsSaid}
 use Rattle.pawn_pledge.specs.declared.record.Agreement.{Agreement}
 use Rattle.pawn_book.specs.declared.change.Change.TheVariants.{PutPledge}
 use Rattle.pawn_book.specs.declared.reply.Reply.TheVariants.{Opened}

@@ -1,5 +1,5 @@
 use Rattle.std.proofs.Common.{drop}
-use Rattle.pawn_pledge.specs.Replayable.{Each}
+use Rattle.pawn_base.specs.Lists.{Each}
 use Rattle.pawn_pledge.specs.Pledge.{PledgeValue}
 use Rattle.pawn_book.specs.Rows.{IsUnder}
 use Rattle.pawn_book.proofs.replaying.are_under.Given as goal

@@ -1,6 +1,7 @@
 use Rattle.std.proofs.Common.{drop}
 use Rattle.pawn_pledge.specs.Pledge.{PledgeValue}
-use Rattle.pawn_pledge.specs.Replayable.{Each, IsStanding}
+use Rattle.pawn_base.specs.Lists.{Each}
+use Rattle.pawn_pledge.specs.Replayable.{IsStanding}
 use Rattle.pawn_book.proofs.replaying.can_stand.Given as goal
 
 abbrev pub invariant-loop-parts : goal.invariant-loop-parts

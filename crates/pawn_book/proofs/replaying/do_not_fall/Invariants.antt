@@ -1,5 +1,5 @@
 use Rattle.std.proofs.Common.{drop}
-use Rattle.pawn_terms.specs.Order.{DoNotFall}
+use Rattle.pawn_base.specs.Lists.{DoNotFall}
 use Rattle.pawn_book.specs.Rows.{version_of}
 use Rattle.pawn_book.proofs.replaying.do_not_fall.Given as goal
 

@@ -1,6 +1,7 @@
 use Rattle.std.proofs.Common.{drop}
 use Rattle.pawn_debt.specs.declared.entry.Entry.{Entry}
-use Rattle.pawn_pledge.specs.Replayable.{Each, IsDrawnBy}
+use Rattle.pawn_base.specs.Lists.{Each}
+use Rattle.pawn_pledge.specs.Replayable.{IsDrawnBy}
 use Rattle.pawn_pledge.proofs.parts.are_drawn.Given as goal
 
 abbrev pub invariant-loop-e : goal.invariant-loop-e

@@ -1,6 +1,7 @@
 use Rattle.std.proofs.Common.{drop}
 use Rattle.pawn_pledge.specs.declared.record.Issued.{Issued}
-use Rattle.pawn_pledge.specs.Replayable.{Each, IsLaterIssue}
+use Rattle.pawn_base.specs.Lists.{Each}
+use Rattle.pawn_pledge.specs.Replayable.{IsLaterIssue}
 use Rattle.pawn_pledge.proofs.parts.are_later_issues.Given as goal
 
 abbrev pub invariant-loop-i : goal.invariant-loop-i

@@ -1,7 +1,7 @@
 use Rattle.std.proofs.Common.{◌≤◌, drop}
 use Rattle.pawn_terms.specs.Limits.{last_stamp_day}
 use Rattle.pawn_pledge.specs.declared.record.Extension.{Extension}
-use Rattle.pawn_pledge.specs.Replayable.{Each}
+use Rattle.pawn_base.specs.Lists.{Each}
 use Rattle.pawn_pledge.proofs.parts.are_named.Given as goal
 
 abbrev pub invariant-loop-extension : goal.invariant-loop-extension

@@ -1,4 +1,4 @@
--- The texts that a record keeps.
+-- Texts within limits, as a record keeps them.
 use Rattle.std.specs.Prelude.{ℕ, Bool, nat_le, ◌&&◌, ◌==◌, not, List, length, IsTrue}
 use Rattle.std.specs.List.{list_all}
 

@@ -1,7 +1,7 @@
 -- What an answer after a list of refusals says.
 use Rattle.std.proofs.Common.{◌≡◌, Bool, true, false, if◌then◌else◌, List, [], ◌∷◌, Result, Ok, Err, IsOk, refl}
 use Rattle.std.proofs.lemmas.Bool.{false≢true}
-use Rattle.pawn_terms.specs.Refusals.{first_of, NoneApplies}
+use Rattle.pawn_base.specs.Refusals.{first_of, NoneApplies}
 
 -- an answer past one row
 past_row-ok : {V E : Type 0} (b : Bool) (why : E) (answer : Result V E) (v : V) → (if b then Err why else answer) ≡ Ok v → (b ≡ false) × (answer ≡ Ok v)
