@@ -1,2 +1,3 @@
 pub mod ListLemmas
 pub mod RefusalLemmas
+pub mod TestLemmas

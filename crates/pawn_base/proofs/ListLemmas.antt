@@ -1,5 +1,5 @@
 -- Properties of each element of a list, and lists along which a number does not fall.
-use Rattle.std.proofs.Common.{◌≡◌, ℕ, ◌≤◌, List, [], ◌∷◌, ◌++◌, refl, arith}
+use Rattle.std.proofs.Common.{◌≡◌, ◌∙◌, ℕ, zero, suc, ◌+◌, ◌≤◌, List, [], ◌∷◌, ◌++◌, length, length-append, take, slice_get, Option, Some, None, refl, ap, arith}
 use Rattle.pawn_base.specs.Lists.{DoNotFall, Each, last_by}
 
 pub last_by-le : {A : Type 0} (f : A → ℕ) (n : ℕ) (xs : List A) → DoNotFall f n xs → n ≤ last_by f n xs
@@ -32,3 +32,31 @@ pub DoNotFall-each : {A : Type 0} (f : A → ℕ) (low n high : ℕ) (xs : List 
 DoNotFall-each f low n high [] after h before = tt
 DoNotFall-each f low n high (x ∷ xs) after h before =
     ((omega (arith, after, h.0), omega (arith, last_by-le f (f x) xs h.1, before)), DoNotFall-each f low (f x) high xs (omega (arith, after, h.0)) h.1 before)
+
+pub take_whole : {T : Type 0} (xs : List T) → take (length xs) xs ≡ xs
+take_whole [] = refl
+take_whole (x ∷ xs) = ap (λ (ys : List _). x ∷ ys) (take_whole xs)
+
+pub take_each : {T : Type 0} (xs : List T) (i : ℕ) → i ≡ length xs → take i xs ≡ xs
+take_each xs i all = ap (λ (k : ℕ). take k xs) all ∙ take_whole xs
+
+pub take_next : {A : Type 0} (xs : List A) (i : ℕ) (x : A) → slice_get xs i ≡ Some x → take (suc i) xs ≡ take i xs ++ x ∷ []
+take_next [] i x at = absurd (let e = at in cc)
+take_next (y ∷ xs) zero x at = let same : y ≡ x = (let e = at in cc) in ap (λ z. z ∷ []) same
+take_next (y ∷ xs) (suc i) x at = ap (λ l. y ∷ l) (take_next xs i x at)
+
+take_nothing : {A : Type 0} (n : ℕ) → ◌≡◌ {A = List A} (take n []) []
+take_nothing zero = refl
+take_nothing (suc n) = refl
+
+pub take_past : {A : Type 0} (xs : List A) (i : ℕ) → slice_get xs i ≡ None → take i xs ≡ xs
+take_past [] i none = take_nothing i
+take_past (y ∷ xs) zero none = absurd (let e = none in cc)
+take_past (y ∷ xs) (suc i) none = ap (λ l. y ∷ l) (take_past xs i none)
+
+pub no_elements : {A : Type 0} (xs : List A) → length xs ≡ 0 → xs ≡ []
+no_elements [] h = refl
+no_elements (x ∷ xs) h = absurd (omega (arith, h))
+
+pub longer : {A : Type 0} (xs : List A) (x : A) → xs ++ x ∷ [] ≡ xs → ⊥
+longer xs x is = let long = ap length is in let more = length-append xs (x ∷ []) in absurd (omega (arith, long, more))

@@ -3,6 +3,9 @@ use Rattle.std.proofs.Common.{◌≡◌, ℕ, ◌+◌, zero, suc, List, [], ◌�
 use Rattle.std.specs.Prelude.{if◌then◌else◌, is_some, Option, Result, ◌==◌, ◌&&◌, ◌||◌, Bool, true, false, nat_lt, nat_le, unwrap_or, slice_get}
 use Rattle.std.specs.Result.{result_unwrap_or}
 use Rattle.std.proofs.lemmas.Bool.Decides.{nat_tests}
+use Rattle.pawn_base.proofs.RefusalLemmas.{past_row-ok}
+use Rattle.pawn_base.proofs.TestLemmas.{equal_itself}
+use Rattle.pawn_base.proofs.ListLemmas.{longer}
 use Rattle.pawn_terms.specs.declared.terms.Rates.{Rates}
 use Rattle.pawn_terms.specs.Terms.{most_keep, most_rate}
 use Rattle.pawn_terms.specs.TermsFault.{terms_answer}
@@ -37,23 +40,15 @@ use Rattle.pawn_book.specs.Laws.{Asks, BookChangesDiffer, IsMaking, RepeatsActOn
 use Rattle.pawn_book.proofs.Sounds.{absurd_none, each_at, some_is}
 use Rattle.pawn_book.specs.Changes.{Continues}
 use Rattle.pawn_book.proofs.KeptLemmas.{number_kept, put_there, reference_kept}
-use Rattle.pawn_book.proofs.Plans.{next_is, not_standing, past_row, taken_is}
+use Rattle.pawn_book.proofs.Plans.{next_is, not_standing, taken_is}
 use Rattle.pawn_book.proofs.GrowLemmas.{Grown, grown_same, next_pledges, run_grows}
 use Rattle.pawn_book.proofs.MadeLemmas.{BookIs, CommandIs, DidOn, MadeBy, PledgeIs, RowsAre, TermsAre, made_by}
+use Rattle.std.proofs.lemmas.Bool.{and_from}
 
 -- a text is itself
 text_same : (xs : List ℕ) → is_same_text xs xs ≡ true
 text_same [] = refl
 text_same (x ∷ xs) = let here : (x == x) ≡ true = grind (arith, nat_tests) in ap (λ v. v && is_same_text xs xs) here ∙ text_same xs
-
-both : (a b : Bool) → a ≡ true → b ≡ true → (a && b) ≡ true
-both a b e f = ap (λ v. v && b) e ∙ f
-
-number_same : (n : ℕ) → (n == n) ≡ true
-number_same n = grind (arith, nat_tests)
-
-longer : {A : Type 0} (xs : List A) (x : A) → xs ++ x ∷ [] ≡ xs → ⊥
-longer xs x is = let long = ap length is in let more = length-append xs (x ∷ []) in absurd (omega (arith, long, more))
 
 -- a change makes a book that differs
 pub change_differs : BookChangesDiffer
@@ -96,19 +91,19 @@ version_at ts (suc n) t more is = added_at ts n t more (omega (arith, is))
 -- checked terms are the three numbers
 rates_same : (rates t : Rates) → terms_answer rates ≡ Ok t → are_same_rates t rates ≡ true
 rates_same rates t at =
-    let one = past_row (nat_lt most_rate rates.rate) RateTooHigh _ t at in
-    let two = past_row (nat_lt most_keep rates.keep_before || nat_lt most_keep rates.keep_after) KeepTooHigh _ t one.1 in
-    let three = past_row (nat_lt rates.keep_before rates.keep_after) KeepingRate _ t two.1 in
+    let one = past_row-ok (nat_lt most_rate rates.rate) RateTooHigh _ t at in
+    let two = past_row-ok (nat_lt most_keep rates.keep_before || nat_lt most_keep rates.keep_after) KeepTooHigh _ t one.1 in
+    let three = past_row-ok (nat_lt rates.keep_before rates.keep_after) KeepingRate _ t two.1 in
     let same : rates ≡ t = ap (λ (r : Result Rates TermsFault). result_unwrap_or r t) three.1 in
     subst (λ (x : Rates). are_same_rates x rates ≡ true) same
-    (both _ _ (both _ _ (number_same rates.rate) (number_same rates.keep_before)) (number_same rates.keep_after))
+    (and_from _ _ (and_from _ _ (equal_itself rates.rate) (equal_itself rates.keep_before)) (equal_itself rates.keep_after))
 
 -- .. and the terms that were added are those that were asked for
 terms_asked : (standing : ℕ) (new : NewTerms) (t : Rates) → next_terms standing new ≡ Ok t → are_same_rates t new.rates ≡ true
 terms_asked standing new t is =
-    let one = past_row (new.version == 0) TermsSeq _ t is in
-    let two = past_row (nat_lt (standing + 1) new.version) TermsSeq _ t one.1 in
-    let three = past_row (nat_le most_terms standing) TermsFull _ t two.1 in
+    let one = past_row-ok (new.version == 0) TermsSeq _ t is in
+    let two = past_row-ok (nat_lt (standing + 1) new.version) TermsSeq _ t one.1 in
+    let three = past_row-ok (nat_le most_terms standing) TermsFull _ t two.1 in
     under (terms_answer new.rates) refl three.1
   where
     under : (r : Result Rates TermsFault) → terms_answer new.rates ≡ r → under_terms r ≡ Ok t → are_same_rates t new.rates ≡ true
@@ -117,19 +112,19 @@ terms_asked standing new t is =
         subst (λ (x : Rates). are_same_rates x new.rates ≡ true) same (rates_same new.rates q at)
 
 kind_same : (kind : Kind) → is_same_kind kind kind ≡ true
-kind_same (Fixed sum) = number_same sum
-kind_same (Running limit) = number_same limit
+kind_same (Fixed sum) = equal_itself sum
+kind_same (Running limit) = equal_itself limit
 
 agreed_same : (agreed : Option ℕ) → is_same_end agreed agreed ≡ true
 agreed_same None = refl
-agreed_same (Some day) = number_same day
+agreed_same (Some day) = equal_itself day
 
 flag_same : (flag : Bool) → is_same_flag flag flag ≡ true
 flag_same true = refl
 flag_same false = refl
 
 opening_same : (o : Opening) → is_same_opening o o ≡ true
-opening_same o = both _ _ (both _ _ (both _ _ (text_same o.article) (kind_same o.kind)) (agreed_same o.agreed)) (flag_same o.five_days)
+opening_same o = and_from _ _ (and_from _ _ (and_from _ _ (text_same o.article) (kind_same o.kind)) (agreed_same o.agreed)) (flag_same o.five_days)
 
 -- the pledge that was taken is the one with its reference
 reference_added : (ps : List PledgeValue) (p : PledgeValue) (reference : List ℕ) → with_reference ps reference ≡ None → is_same_text p.agreement.opening.reference reference ≡ true
@@ -182,8 +177,8 @@ repeat_told before operator b stamp again caller change reply later making is = 
     from : MadeBy before operator b stamp caller change reply → book_step (book_run (changed_book before change) operator b later) operator b again caller ≡ Says (Told reply)
     from (BookIs key new asks passes none makes says) = told (made_book new) (ap (changed_book before) makes) (λ next grown.
         let same : is_same_book (book_head next) new ≡ true =
-        both _ _ (both _ _ (ap (λ k. k == new.key) grown.key ∙ number_same new.key) (ap (λ t. is_same_text t new.name) grown.name ∙ text_same new.name))
-        (ap (λ n. n == new.capacity) grown.capacity ∙ number_same new.capacity) in
+        and_from _ _ (and_from _ _ (ap (λ k. k == new.key) grown.key ∙ equal_itself new.key) (ap (λ t. is_same_text t new.name) grown.name ∙ text_same new.name))
+        (ap (λ n. n == new.capacity) grown.capacity ∙ equal_itself new.capacity) in
         ap (book_step (Some next) operator b again) asks
         ∙ ap (λ v. if v then make_book (Some next) b new else Refuses NotOperator) passes
         ∙ ap (λ v. if v then Says (Told (BookMade b)) else Refuses BookTaken) same ∙ ap (λ r. Says (Told r)) (sym says))
@@ -220,7 +215,7 @@ repeat_told before operator b stamp again caller change reply later making is = 
         ap (book_step (Some next) operator b again) asks
         ∙ ap (λ v. if v then import_rows (book_head next) b importing rows next.imported else Refuses NoSuchBook) (opens book next key grown.key passes)
         ∙ ap (import_rows (book_head next) b importing rows) own
-        ∙ ap (λ v. if v then Says (Told (BookFilled (length rows.pledges))) else Refuses BookNotEmpty) (number_same importing)
+        ∙ ap (λ v. if v then Says (Told (BookFilled (length rows.pledges))) else Refuses BookNotEmpty) (equal_itself importing)
         ∙ ap (λ r. Says (Told r)) (sym says))
     from (CommandIs book n command stands asks did) = absurd (asks_not_making caller n command asks making)
 

@@ -1,9 +1,12 @@
--- where a list's records stand
-use Rattle.std.proofs.Common.{◌≡◌, ◌≢◌, ℕ, ◌+◌, ◌<◌, ◌≤◌, List, [], ◌∷◌, length, Some, None, eqb, refl, arith}
-use Rattle.std.specs.Prelude.{if◌then◌else◌, ◌==◌, true, false}
+-- Where a book's pledges and terms stand in its lists.
+use Rattle.std.proofs.Common.{◌≡◌, ◌≢◌, ◌∙◌, ℕ, zero, suc, ◌+◌, ◌<◌, ◌≤◌, List, [], ◌∷◌, length, Option, Some, None, eqb, refl, ap, arith}
+use Rattle.std.specs.Prelude.{if◌then◌else◌, ◌==◌, true, false, slice_get}
 use Rattle.std.proofs.lemmas.Bool.Decides.{nat_tests}
+use Rattle.pawn_terms.specs.declared.terms.Rates.{Rates}
 use Rattle.pawn_pledge.specs.Pledge.{PledgeValue}
-use Rattle.pawn_book.specs.BookStep.{pledge_from, put_from}
+use Rattle.pawn_book.specs.BookStep.{BookValue, pledge_from, pledge_in, put_from}
+use Rattle.pawn_book.specs.Keeping.{pledges_of}
+use Rattle.pawn_book.specs.Rows.{terms_at}
 
 pub pledge_below : (k : ℕ) (ps : List PledgeValue) (n : ℕ) → n < k → pledge_from k ps n ≡ None
 pledge_below k [] n lt = refl
@@ -24,3 +27,20 @@ pledge_from-put k (r ∷ ps) n p q low high =
       | true ↦ λ e. grind (arith, nat_tests, e)
       | false ↦ λ e. let more : (k ≢ n) → k + 1 ≤ n = λ ne. omega arith in let less : n ≤ (k + 1) + length ps = omega arith in grind (arith, nat_tests, e, pledge_from-put (k + 1) ps n p q)
     ] refl
+
+-- the pledge of a number is the one at its place
+pub pledge_at_place : (k : ℕ) (ps : List PledgeValue) (i n : ℕ) → n ≡ k + i → pledge_from k ps n ≡ slice_get ps i
+pledge_at_place k [] i n is = refl
+pledge_at_place k (p ∷ ps) zero n is =
+    let here : (n == k) ≡ true = grind (arith, nat_tests, is) in
+    ap (λ c. if c then Some p else pledge_from (k + 1) ps n) here
+pledge_at_place k (p ∷ ps) (suc i) n is =
+    let other : (n == k) ≡ false = grind (arith, nat_tests, is) in
+    ap (λ c. if c then Some p else pledge_from (k + 1) ps n) other ∙ pledge_at_place (k + 1) ps i n (omega (arith, is))
+
+pub pledge_at : (o : Option BookValue) (i n : ℕ) → n ≡ i + 1 → pledge_in o n ≡ slice_get (pledges_of o) i
+pledge_at None i n is = refl
+pledge_at (Some b) i n is = pledge_at_place 1 b.pledges i n (omega (arith, is))
+
+pub terms_at_place : (terms : List Rates) (i : ℕ) → terms_at terms (i + 1) ≡ slice_get terms i
+terms_at_place terms i = let next : i + 1 ≡ suc i = omega arith in ap (terms_at terms) next

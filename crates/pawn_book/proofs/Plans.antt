@@ -4,6 +4,7 @@ use Rattle.std.specs.Prelude.{if◌then◌else◌, Option, Result, ◌==◌, Boo
 use Rattle.std.specs.FinMap.{get}
 use Rattle.std.specs.Str.{IsUtf8}
 use Rattle.std.proofs.lemmas.Bool.Decides.{nat_tests}
+use Rattle.pawn_base.proofs.RefusalLemmas.{past_row-ok}
 use Rattle.pawn_terms.specs.declared.terms.Rates.{Rates}
 use Rattle.pawn_terms.specs.Terms.{IsChecked}
 use Rattle.pawn_terms.specs.Calendar.{IsDayNumber}
@@ -39,15 +40,11 @@ use Rattle.pawn_book.specs.Changes.{CanSave, IsUnfilled, book_number, with_chang
 use Rattle.pawn_book.specs.Keeping.{number_of, pledges_of, terms_of}
 use Rattle.pawn_book.specs.Plans.{Plans}
 use Rattle.pawn_book.proofs.Sounds.{IsNext, absurd_none, some_is, sound_filled, sound_made, sound_next, sound_terms, sound_with}
+use Rattle.std.proofs.lemmas.Bool.{and_parts}
 
 -- the book of a change, set in the host
 pub changed_is : (h : Host) (b : ℕ) (change : Change) (book : BookValue) → book_number change ≡ b → changed_book (get h.books b) change ≡ Some book → with_change h change ≡ with_book h b (Some book)
 changed_is h b change book named is = ap (λ (c : ℕ). with_book h c (changed_book (get h.books c) change)) named ∙ ap (with_book h b) is
-
--- a row that did not apply
-pub past_row : {V E : Type 0} (test : Bool) (why : E) (rest : Result V E) (v : V) → (if test then Err why else rest) ≡ Ok v → (test ≡ false) × (rest ≡ Ok v)
-past_row true why rest v is = cc is
-past_row false why rest v is = (refl, is)
 
 -- a book that doesn't stand is made
 pub book_plans : (h : Host) (b : ℕ) (new : NewBook) → IsNumber b → IsWord new.key → IsUtf8 new.name → IsText most_name_bytes new.name → IsCapacity new.capacity → IsSound h → get h.books b ≡ None
@@ -60,14 +57,9 @@ no_elements : {A : Type 0} (xs : List A) → (length xs == 0) ≡ true → xs �
 no_elements [] is = refl
 no_elements (x ∷ xs) is = let none : length (x ∷ xs) ≡ 0 = grind (arith, nat_tests, is) in absurd (omega (arith, none))
 
-both_are : (a b : Bool) → (a && b) ≡ true → (a ≡ true) × (b ≡ true)
-both_are true true is = (refl, refl)
-both_are true false is = cc is
-both_are false b is = cc is
-
 -- the lists of an empty book
 pub empty_lists : (book : BookValue) → is_empty (book_head book) ≡ true → (book.terms ≡ []) × (book.pledges ≡ [])
-empty_lists book is = let each = both_are (length book.terms == 0) (length book.pledges == 0) is in (no_elements book.terms each.0, no_elements book.pledges each.1)
+empty_lists book is = let each = and_parts (length book.terms == 0) (length book.pledges == 0) is in (no_elements book.terms each.0, no_elements book.pledges each.1)
 
 pub without_lists : (book : BookValue) → book.terms ≡ [] → book.pledges ≡ [] → book ≡ record book { terms = []; pledges = [] }
 without_lists book no_terms no_pledges = ap (λ ts. record book { terms = ts }) no_terms ∙ ap (λ ps. record book { terms = []; pledges = ps }) no_pledges
@@ -185,9 +177,9 @@ no_number h b reference is = from (with_reference (pledges_of (get h.books b)) r
 pub next_is : (standing : ℕ) (new : NewTerms) (terms : Rates) → next_terms standing new ≡ Ok terms
     → (1 ≤ new.version) × (new.version ≤ standing + 1) × (standing < most_terms)
 next_is standing new terms is =
-    let zero_free = past_row (new.version == 0) TermsSeq _ terms is in
-    let not_ahead = past_row (nat_lt (standing + 1) new.version) TermsSeq _ terms zero_free.1 in
-    let not_full = past_row (nat_le most_terms standing) TermsFull _ terms not_ahead.1 in
+    let zero_free = past_row-ok (new.version == 0) TermsSeq _ terms is in
+    let not_ahead = past_row-ok (nat_lt (standing + 1) new.version) TermsSeq _ terms zero_free.1 in
+    let not_full = past_row-ok (nat_le most_terms standing) TermsFull _ terms not_ahead.1 in
     (grind (arith, nat_tests, zero_free.0), grind (arith, nat_tests, not_ahead.0), grind (arith, nat_tests, not_full.0))
 
 -- a version that doesn't stand is past those that do
@@ -232,10 +224,10 @@ taken_is head opening stamp (Some terms) p is = from (pledge_start (head.pledges
         → IsTakenAs head opening stamp (Some terms) p
     from (Err why) at is = cc is
     from (Ok q) at is =
-        let row = past_row (nat_le most_pledges head.pledges) PledgesFull _ p is in
+        let row = past_row-ok (nat_le most_pledges head.pledges) PledgesFull _ p is in
         let few : head.pledges < most_pledges = grind (arith, nat_tests, row.0) in
         let same : q ≡ p = ap (λ (r : Result PledgeValue Refusal). result_unwrap_or r q) row.1 in
-        let start = past_row (is_bad_amount (credit_of opening.kind)) _ _ q at in
+        let start = past_row-ok (is_bad_amount (credit_of opening.kind)) _ _ q at in
         subst (IsTakenAs head opening stamp (Some terms)) (ap (λ (r : Result PledgeValue PledgeRefusal). result_unwrap_or r q) start.1 ∙ same)
         (record { number = refl; asked = refl; version = refl; under = refl; first = (_, refl, refl); day = refl; few = few })
 

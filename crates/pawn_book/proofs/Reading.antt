@@ -41,3 +41,6 @@ reads_as f as_q = record { on = f.on; same = f.same; back = f.back; tells = λ h
 -- what an Ok holds is what was told of it
 pub ok_is : {T E : Type 0} {r : Result T E} {v x : T} → r ≡ Ok v → IfOk r (λ p. p ≡ x) → v ≡ x
 ok_is {T = T} {E = E} {v = v} {x = x} is told = let P : Result T E → Type 0 = λ r. IfOk r (λ p. p ≡ x) in subst P is told
+
+pub reads_both : {K : Type 0} {k : Keeping K} {a b c : K} {P Q : Host → Type 0} → Reads k a b P → Reads k b c Q → Reads k a c (λ h. P h × Q h)
+reads_both f s = reads_then f s (λ h p q. (p, q))

@@ -7,6 +7,7 @@ use Rattle.std.specs.Cmp.{ranked}
 use Rattle.std.specs.FinMap.{get, entries, find, put, is_sorted, entries_sorted, entries-insert, get-entries}
 use Rattle.std.proofs.lemmas.Cmp.{nat_cmp_total}
 use Rattle.std.proofs.lemmas.List.Sums.{sum_by-cons}
+use Rattle.pawn_base.proofs.TestLemmas.{both_told, below}
 use Rattle.pawn_book.specs.BookStep.{BookValue}
 use Rattle.pawn_book.specs.HostStep.{Host, rows, book_rows, with_book}
 
@@ -17,18 +18,6 @@ part f (Some x) = f x
 
 less_than : (a b : ℕ) → nat_cmp a b ≡ Less → a < b
 less_than a b e = ranked a b Less (sym e)
-
-less_is : (a b : ℕ) → T (is_lt (nat_cmp a b)) → a < b
-less_is a b h = from (nat_cmp a b) refl h
-  where
-    from : (o : Ordering) → nat_cmp a b ≡ o → T (is_lt o) → a < b
-    from Less e t = less_than a b e
-    from Equal e t = absurd t
-    from Greater e t = absurd t
-
-parts : (a b : Bool) → T (a && b) → T a × T b
-parts true b h = (tt, h)
-parts false b h = absurd h
 
 untied : (a b : ℕ) → a < b → eq_by_cmp nat_cmp a b ≡ false
 untied a b lt = from (nat_cmp a b) refl
@@ -41,14 +30,14 @@ untied a b lt = from (nat_cmp a b) refl
 find_below : {X : Type 0} (k : ℕ) (e : ℕ × X) (es : List (ℕ × X)) → k < e.0 → T (is_sorted nat_cmp (e ∷ es)) → find nat_cmp k (e ∷ es) ≡ None
 find_below k e [] lt h = ap (λ b. if b then Some e.1 else None) (untied k e.0 lt)
 find_below k e (d ∷ ds) lt h =
-    let both = parts _ (is_sorted nat_cmp (d ∷ ds)) h in
-    let next = less_is e.0 d.0 (parts (is_lt (nat_cmp e.0 d.0)) _ both.0).0 in
+    let both = both_told _ (is_sorted nat_cmp (d ∷ ds)) h in
+    let next = below e.0 d.0 (both_told (is_lt (nat_cmp e.0 d.0)) _ both.0).0 in
     let apart : k < d.0 = omega (arith, next) in
     ap (λ b. if b then Some e.1 else find nat_cmp k (d ∷ ds)) (untied k e.0 lt) ∙ find_below k d ds apart both.1
 
 sum_put : {X : Type 0} (f : X → ℕ) (k : ℕ) (v : X) (es : List (ℕ × X)) → T (is_sorted nat_cmp es) → sum_by f (map (λ e. e.1) (put nat_cmp k v es)) + part f (find nat_cmp k es) ≡ sum_by f (map (λ e. e.1) es) + f v
 sum_put f k v [] h = omega (arith, sum_by-cons f v [])
-sum_put f k v (e ∷ es) h = from (sum_put f k v es (parts _ (is_sorted nat_cmp es) h).1) (nat_cmp k e.0) refl
+sum_put f k v (e ∷ es) h = from (sum_put f k v es (both_told _ (is_sorted nat_cmp es) h).1) (nat_cmp k e.0) refl
   where
     from : sum_by f (map (λ e. e.1) (put nat_cmp k v es)) + part f (find nat_cmp k es) ≡ sum_by f (map (λ e. e.1) es) + f v → (o : Ordering) → nat_cmp k e.0 ≡ o → sum_by f (map (λ x. x.1) (put nat_cmp k v (e ∷ es))) + part f (find nat_cmp k (e ∷ es)) ≡ sum_by f (map (λ x. x.1) (e ∷ es)) + f v
     from rest Less is = let none = ap (part f) (find_below k e es (less_than k e.0 is) h) in rw is (let n : part f (find nat_cmp k es) ≡ 0 = rw is at none in omega (arith, n, sum_by-cons f e.1 (map (λ x. x.1) es), sum_by-cons f v (e.1 ∷ map (λ x. x.1) es)))

@@ -29,6 +29,7 @@ use Rattle.pawn_book.specs.Machines.{is_in, is_slots, no_pledge, reply_alone, so
 use Rattle.pawn_book.specs.Slots.{BearersJoin, BooksAnswerAlone, EqualBookTracesAnswerAlike, EqualTracesAnswerAlike, OtherBooksStay, SlotsAnswerAlone, SlotsAreHeld, joins}
 use Rattle.pawn_book.proofs.Sounds.{get-with_book}
 use Rattle.pawn_book.proofs.SlotMachine.{Follows, enter_book, solo_from-append, step_follows}
+use Rattle.std.proofs.lemmas.Bool.{and_parts}
 
 -- where a book is set
 set_get : (h : Host) (c b : ℕ) (book : Option BookValue) → (book ≡ None → get h.books c ≡ None) → get (with_book h c book).books b ≡ (if c == b then book else get h.books b)
@@ -137,10 +138,6 @@ live_in_slot slot r (Some p) e =
       | true ↦ λ live. rw (in_live slot r p e live, live) refl
       | false ↦ λ dead. elim (is_live_in slot r.number p) as (λ w. None ≡ only_live r.secret (if w then Some p else None)) [ true ↦ rw dead refl | false ↦ refl ]
     ] refl
-
-and_parts : (a b : Bool) → (a && b) ≡ true → (a ≡ true) × (b ≡ true)
-and_parts true b e = (refl, e)
-and_parts false b e = cc e
 
 all_live_in_slot : (slot : List Receipt) (before : Option BookValue) (rs : List Receipt) → list_all (is_in slot) rs ≡ true → map (live_at (pledge_in before)) rs ≡ map (live_at (slot_of slot before)) rs
 all_live_in_slot slot before [] e = refl

@@ -8,6 +8,7 @@ use Rattle.pawn_pledge.specs.Pledge.{PledgeValue}
 use Rattle.pawn_book.specs.BookStep.{pledge_from, put_from, with_reference}
 use Rattle.pawn_base.specs.Lists.{DoNotFall, Each}
 use Rattle.pawn_book.specs.Rows.{AreDistinct, IsUnder, references_of, version_of, is_same_text, terms_at}
+use Rattle.std.proofs.lemmas.Bool.{or_parts, or_from}
 
 pub some_is : {A : Type 0} (x y : A) → Some x ≡ Some y → x ≡ y
 some_is {A} x y is = ap (λ (o : Option A). unwrap_or o x) is
@@ -33,19 +34,12 @@ new_reference (p ∷ ps) reference none =
       | false ↦ λ rest. new_reference ps reference rest
     ] none
 
-neither : (a b : Bool) → (a || b) ≡ false → (a ≡ false) × (b ≡ false)
-neither true b is = cc is
-neither false b is = (refl, is)
-
-both_false : (a b : Bool) → a ≡ false → b ≡ false → (a || b) ≡ false
-both_false a b f g = ap (λ v. v || b) f ∙ g
-
 -- .. may stand behind the others
 distinct_push : (ts : List (List ℕ)) (t : List ℕ) → AreDistinct ts → list_any (λ s. is_same_text s t) ts ≡ false → AreDistinct (ts ++ t ∷ [])
 distinct_push [] t all new = (refl, tt)
 distinct_push (s ∷ ts) t all new =
-    let apart = neither (is_same_text s t) (list_any (λ s. is_same_text s t) ts) new in
-    (list_any-append (is_same_text s) ts (t ∷ []) ∙ both_false _ _ all.0 (both_false _ _ apart.0 refl), distinct_push ts t all.1 apart.1)
+    let apart = or_parts (is_same_text s t) (list_any (λ s. is_same_text s t) ts) new in
+    (list_any-append (is_same_text s) ts (t ∷ []) ∙ or_from _ _ all.0 (or_from _ _ apart.0 refl), distinct_push ts t all.1 apart.1)
 
 map_push : {A : Type 0} (f : PledgeValue → A) (ps : List PledgeValue) (p : PledgeValue) → map f (ps ++ p ∷ []) ≡ map f ps ++ f p ∷ []
 map_push f [] p = refl

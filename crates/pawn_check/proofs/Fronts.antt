@@ -5,7 +5,7 @@ use Rattle.std.specs.FinMap.{get}
 use Rattle.std.specs.List.{list_any}
 use Rattle.std.proofs.lemmas.Bool.Decides.{nat_tests}
 use Rattle.std.proofs.lemmas.List.Sums.{sum_by_push}
-use Rattle.pawn_base.proofs.ListLemmas.{Each-push}
+use Rattle.pawn_base.proofs.ListLemmas.{Each-push, take_whole, take_each}
 use Rattle.pawn_terms.specs.declared.terms.Rates.{Rates}
 use Rattle.pawn_base.specs.Lists.{DoNotFall, last_by, Each}
 use Rattle.pawn_terms.specs.Terms.{IsChecked}
@@ -28,6 +28,8 @@ use Rattle.pawn_book.specs.HostStep.{Host}
 use Rattle.std.specs.Prelude.{IsTrue, Result, Err}
 use Rattle.pawn_check.specs.declared.fault.CheckFault.{CheckFault}
 use Rattle.pawn_check.specs.Judging.{AreOfBook, Blames, FindsSound, FitsAt, IsFront}
+use Rattle.pawn_book.proofs.LawLemmas.{text_same}
+use Rattle.pawn_book.proofs.Places.{terms_at_place}
 
 -- ---- terms
 
@@ -37,11 +39,8 @@ stands [] i less none = absurd (omega (arith, less))
 stands (t ∷ terms) zero less none = cc
 stands (t ∷ terms) (suc i) less none = stands terms i (omega (arith, less)) none
 
-at_place : (terms : List Rates) (i : ℕ) → terms_at terms (i + 1) ≡ slice_get terms i
-at_place terms i = let next : i + 1 ≡ suc i = omega arith in ap (terms_at terms) next
-
 pub version_there : (terms : List Rates) (i : ℕ) → i < length terms → terms_at terms (i + 1) ≡ None → ⊥
-version_there terms i less none = stands terms i less (sym (at_place terms i) ∙ none)
+version_there terms i less none = stands terms i less (sym (terms_at_place terms i) ∙ none)
 
 more_checked : (terms : List Rates) (i : ℕ) (t : Rates) → slice_get terms i ≡ Some t → IsChecked t → Each {A = Rates} IsChecked (take i terms) → Each {A = Rates} IsChecked (take (suc i) terms)
 more_checked [] i t at is all = absurd_none at
@@ -51,14 +50,7 @@ more_checked (u ∷ terms) (suc i) t at is all = (all.0, more_checked terms i t 
 pub checked_more : (terms : List Rates) (i : ℕ) (t : Rates) → terms_at terms (i + 1) ≡ Some t → IsChecked t → Each {A = Rates} IsChecked (take i terms) → Each {A = Rates} IsChecked (take (i + 1) terms)
 checked_more terms i t at is all =
     let next : suc i ≡ i + 1 = omega arith in
-    subst (λ (n : ℕ). Each {A = Rates} IsChecked (take n terms)) next (more_checked terms i t (sym (at_place terms i) ∙ at) is all)
-
-take_whole : {T : Type 0} (xs : List T) → take (length xs) xs ≡ xs
-take_whole [] = refl
-take_whole (x ∷ xs) = ap (λ (ys : List _). x ∷ ys) (take_whole xs)
-
-pub take_each : {T : Type 0} (xs : List T) (i : ℕ) → i ≡ length xs → take i xs ≡ xs
-take_each xs i all = ap (λ (k : ℕ). take k xs) all ∙ take_whole xs
+    subst (λ (n : ℕ). Each {A = Rates} IsChecked (take n terms)) next (more_checked terms i t (sym (terms_at_place terms i) ∙ at) is all)
 
 -- ---- pledges
 
@@ -96,10 +88,6 @@ apart_at t k (q ∷ ps) n p none is =
     neither true b is = cc is
     neither false b is = (refl, is)
 
-same_as_itself : (t : List ℕ) → is_same_text t t ≡ true
-same_as_itself [] = refl
-same_as_itself (x ∷ t) = let here : (x == x) ≡ true = grind (arith, nat_tests) in grind (arith, nat_tests, here, same_as_itself t)
-
 pub first_is : (k : ℕ) (ps : List PledgeValue) (n : ℕ) (p : PledgeValue) → AreDistinct (references_of ps) → pledge_from k ps n ≡ Some p → with_reference ps p.agreement.opening.reference ≡ Some p
 first_is k [] n p all is = absurd_none is
 first_is k (q ∷ ps) n p all is =
@@ -107,7 +95,7 @@ first_is k (q ∷ ps) n p all is =
       | true ↦ λ here.
           let same : q ≡ p = some_is q p here in
           subst (λ (r : PledgeValue). with_reference (q ∷ ps) r.agreement.opening.reference ≡ Some r) same
-          (ap (λ v. if v then Some q else with_reference ps q.agreement.opening.reference) (same_as_itself q.agreement.opening.reference))
+          (ap (λ v. if v then Some q else with_reference ps q.agreement.opening.reference) (text_same q.agreement.opening.reference))
       | false ↦ λ past.
           ap (λ v. if v then Some q else with_reference ps p.agreement.opening.reference) (apart_at q.agreement.opening.reference (k + 1) ps n p all.0 past) ∙ first_is (k + 1) ps n p all.1 past
     ] is
@@ -241,10 +229,6 @@ falls_below h b place n version k p is next at last falls =
     let same : n ≡ 1 + place = omega (arith, next) in
     let low = sound_versions k place p sound (subst (λ (m : ℕ). pledge_from 1 k.pledges m ≡ Some p) same at) in
     omega (arith, low, last, falls))
-
--- what two reads tell
-pub reads_both : {K : Type 0} {k : Keeping K} {a b c : K} {P Q : Host → Type 0} → Reads k a b P → Reads k b c Q → Reads k a c (λ h. P h × Q h)
-reads_both f s = reads_then f s (λ h p q. (p, q))
 
 -- ---- what was tested
 

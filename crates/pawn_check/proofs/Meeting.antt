@@ -8,6 +8,7 @@ use Rattle.std.specs.FinMap.{entries, entries_sorted, get, get-entries, find, is
 use Rattle.std.specs.FinMap.Entries.{below_all}
 use Rattle.std.proofs.lemmas.Bool.Decides.{nat_tests}
 use Rattle.std.proofs.lemmas.List.Sums.{sum_by-cons}
+use Rattle.pawn_base.proofs.TestLemmas.{both_told, below}
 use Rattle.pawn_book.specs.BookStep.{BookValue}
 use Rattle.pawn_book.specs.HostStep.{Host, book_rows, rows}
 use Rattle.pawn_book.specs.Keeping.{IsNextBook}
@@ -41,18 +42,6 @@ not_zero a = refl
 
 -- ---- keys in order
 
-parts : (a b : Bool) → T (a && b) → T a × T b
-parts true b h = (tt, h)
-parts false b h = absurd h
-
-less_is : (a b : ℕ) → T (is_lt (nat_cmp a b)) → a < b
-less_is a b h = from (nat_cmp a b) refl h
-  where
-    from : (o : Ordering) → nat_cmp a b ≡ o → T (is_lt o) → a < b
-    from Less e t = ranked a b Less (sym e)
-    from Equal e t = absurd t
-    from Greater e t = absurd t
-
 same_key : (a b : ℕ) → is_eq (nat_cmp a b) ≡ true → a ≡ b
 same_key a b h = from (nat_cmp a b) refl h
   where
@@ -82,8 +71,8 @@ past : (m n : ℕ) (es : Books) (k : BookValue) → T (below_all nat_cmp m es) �
 past m n [] k up is = absurd_none is
 past m n (e ∷ es) k up is =
     elim (is_eq (nat_cmp n e.0)) as (λ v. is_eq (nat_cmp n e.0) ≡ v → cond v (Some e.1) (find nat_cmp n es) ≡ Some k → m < n) [
-      | true ↦ λ same here. let key = same_key n e.0 same in let less = less_is m e.0 (parts _ _ up).0 in omega (arith, key, less)
-      | false ↦ λ other there. past m n es k (parts _ _ up).1 there
+      | true ↦ λ same here. let key = same_key n e.0 same in let less = below m e.0 (both_told _ _ up).0 in omega (arith, key, less)
+      | false ↦ λ other there. past m n es k (both_told _ _ up).1 there
     ] refl is
 
 behind : (b : ℕ) (e : ℕ × BookValue) (es : Books) (x : BookValue) → T (below_all nat_cmp e.0 es) → find nat_cmp b es ≡ Some x → find nat_cmp b (e ∷ es) ≡ Some x
@@ -97,9 +86,9 @@ at_front e es = ap (λ v. cond v (Some e.1) (find nat_cmp e.0 es)) (own_key e.0)
 none_met : (f : BookValue → ℕ) (a m : ℕ) (es : Books) → T (below_all nat_cmp m es) → a ≤ m → up_to f a es ≡ 0
 none_met f a m [] up low = refl
 none_met f a m (e ∷ es) up low =
-    let less = less_is m e.0 (parts _ _ up).0 in
+    let less = below m e.0 (both_told _ _ up).0 in
     let is = up_to-cons f a e es false (not_met a e.0 (omega (arith, less, low))) in
-    let rest = none_met f a m es (parts _ _ up).1 low in
+    let rest = none_met f a m es (both_told _ _ up).1 low in
     omega (arith, is, rest)
 
 pub none_yet : (f : BookValue → ℕ) (es : Books) → up_to f 0 es ≡ 0
@@ -117,7 +106,7 @@ none_yet f (e ∷ es) =
 next_met : (f : BookValue → ℕ) (a n : ℕ) (k : BookValue) (es : Books) → T (is_sorted nat_cmp es) → find nat_cmp n es ≡ Some k → a < n
     → ((b : ℕ) (x : BookValue) → find nat_cmp b es ≡ Some x → a < b → n ≤ b) → up_to f n es ≡ up_to f a es + f k
 next_met f a n k [] up is low least = absurd_none is
-next_met f a n k (e ∷ es) up is low least = go (is_eq (nat_cmp n e.0)) refl is (next_met f a n k es (parts _ _ up).1)
+next_met f a n k (e ∷ es) up is low least = go (is_eq (nat_cmp n e.0)) refl is (next_met f a n k es (both_told _ _ up).1)
   where
     go : (v : Bool) → is_eq (nat_cmp n e.0) ≡ v → cond v (Some e.1) (find nat_cmp n es) ≡ Some k
         → (find nat_cmp n es ≡ Some k → a < n → ((b : ℕ) (x : BookValue) → find nat_cmp b es ≡ Some x → a < b → n ≤ b) → up_to f n es ≡ up_to f a es + f k)
@@ -127,17 +116,17 @@ next_met f a n k (e ∷ es) up is low least = go (is_eq (nat_cmp n e.0)) refl is
         let value : e.1 ≡ k = some_is e.1 k here in
         let new = up_to-cons f n e es true (met n e.0 (omega (arith, key, low)) (omega (arith, key))) in
         let old = up_to-cons f a e es false (not_met a e.0 (omega (arith, key, low))) in
-        let rest_new = none_met f n e.0 es (parts _ _ up).0 (omega (arith, key)) in
-        let rest_old = none_met f a e.0 es (parts _ _ up).0 (omega (arith, key, low)) in
+        let rest_new = none_met f n e.0 es (both_told _ _ up).0 (omega (arith, key)) in
+        let rest_old = none_met f a e.0 es (both_told _ _ up).0 (omega (arith, key, low)) in
         let worth : f e.1 ≡ f k = ap f value in
         omega (arith, new, old, rest_new, rest_old, worth)
     go false other there more =
-        let before : e.0 < n = past e.0 n es k (parts _ _ up).0 there in
+        let before : e.0 < n = past e.0 n es k (both_told _ _ up).0 there in
         let within : e.0 ≤ a = not_far (nat_le e.0 a) refl before in
         let same : is_met n e.0 ≡ is_met a e.0 = grind (arith, nat_tests, before, within) in
         let new = up_to-cons f n e es (is_met a e.0) same in
         let old = up_to-cons f a e es (is_met a e.0) refl in
-        let rest = more there low (λ b x at far. least b x (behind b e es x (parts _ _ up).0 at) far) in
+        let rest = more there low (λ b x at far. least b x (behind b e es x (both_told _ _ up).0 at) far) in
         omega (arith, new, old, rest)
       where
         not_far : (v : Bool) → nat_le e.0 a ≡ v → e.0 < n → e.0 ≤ a
@@ -155,7 +144,7 @@ all_met f a (e ∷ es) up high none =
     let some = at_front e es in
     let low : 1 ≤ e.0 = lowest e.0 some none in
     let is = up_to-cons f a e es true (met a e.0 low (high e.0 e.1 some)) in
-    let rest = all_met f a es (parts _ _ up).1 (λ b x at. high b x (behind b e es x (parts _ _ up).0 at)) (ap (λ v. cond v (Some e.1) (find nat_cmp 0 es)) (sym (away e.0 low)) ∙ none) in
+    let rest = all_met f a es (both_told _ _ up).1 (λ b x at. high b x (behind b e es x (both_told _ _ up).0 at)) (ap (λ v. cond v (Some e.1) (find nat_cmp 0 es)) (sym (away e.0 low)) ∙ none) in
     is ∙ ap (λ n. f e.1 + n) rest ∙ sym (sum_by-cons (λ (e : ℕ × BookValue). f e.1) e es)
   where
     lowest : (b : ℕ) → find nat_cmp b (e ∷ es) ≡ Some e.1 → find nat_cmp 0 (e ∷ es) ≡ None → 1 ≤ b

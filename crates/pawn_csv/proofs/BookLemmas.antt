@@ -24,7 +24,8 @@ use Rattle.pawn_csv.specs.Layout.{raw_rows}
 use Rattle.pawn_csv.specs.Order.{Begun, hand, is_whole, may_end, on_hand, on_second, place, place_booking, place_entry, place_extension, place_pledge, place_secret, place_terms, pledges_begun, put_hand, raw_pledge, run, then_run}
 use Rattle.pawn_csv.specs.Reading.{AreTaken, IsHeldBy, IsReadAs, IsTextOf}
 use Rattle.pawn_csv.specs.Rows.{FitsColumns, Knows, header, pledge_csv_rows, row_fields, rows_of_csv, terms_rows, version_rows}
-use Rattle.pawn_csv.proofs.OrderLemmas.{Shows, booking_shown, both, entry_shown, extension_shown, guard_err, guard_ok, ok_same, secret_shown}
+use Rattle.pawn_csv.proofs.OrderLemmas.{Shows, booking_shown, entry_shown, extension_shown, guard_err, guard_ok, ok_same, secret_shown}
+use Rattle.std.proofs.lemmas.Bool.{and_parts}
 
 -- the rows that were taken
 abbrev pub shown : Option Begun → List Row
@@ -106,8 +107,8 @@ terms_grows : (b c : Begun) (v : ℕ) (x : Rates) → place_terms b v x ≡ Ok c
 terms_grows b c v x h plain =
     let new : Begun = record b { terms = b.terms ++ x ∷ [] } in
     let guard = guard_ok ((v == length b.terms + 1) && nat_le v b.terms_due && (length (pledges_begun b) == 0)) new c cause.Order h in
-    let w = both ((v == length b.terms + 1) && nat_le v b.terms_due) (length (pledges_begun b) == 0) guard.0 in
-    let u = both (v == length b.terms + 1) (nat_le v b.terms_due) w.0 in
+    let w = and_parts ((v == length b.terms + 1) && nat_le v b.terms_due) (length (pledges_begun b) == 0) guard.0 in
+    let u = and_parts (v == length b.terms + 1) (nat_le v b.terms_due) w.0 in
     let first = u.0 in
     let last = w.1 in
     let at : 1 + length b.terms ≡ v = grind (arith, nat_tests, first) in
@@ -194,8 +195,8 @@ knows version.Two k h = tt
 -- what is shown once all is there
 pub whole_rows : (b : Begun) (k : BookRows) → is_whole (Some b) ≡ true → b.terms ≡ k.terms → pledges_begun b ≡ map raw_of k.pledges → shown (Some b) ≡ rows_of_csv b.version k
 whole_rows b k whole terms pledges =
-    let w = both ((length b.terms == b.terms_due) && (length (pledges_begun b) == b.pledges_due)) (may_end b.at_hand) whole in
-    let u = both (length b.terms == b.terms_due) (length (pledges_begun b) == b.pledges_due) w.0 in
+    let w = and_parts ((length b.terms == b.terms_due) && (length (pledges_begun b) == b.pledges_due)) (may_end b.at_hand) whole in
+    let u = and_parts (length b.terms == b.terms_due) (length (pledges_begun b) == b.pledges_due) w.0 in
     let first = u.0 in
     let second = u.1 in
     let m : b.terms_due ≡ length b.terms = grind (arith, nat_tests, first) in

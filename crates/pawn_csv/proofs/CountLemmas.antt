@@ -6,6 +6,7 @@ use Rattle.std.specs.FinMap.{get}
 use Rattle.std.proofs.lemmas.Bool.Decides.{nat_tests}
 use Rattle.std.proofs.lemmas.Grind.{flat_map-append}
 use Rattle.std.proofs.lemmas.List.{append-nil}
+use Rattle.pawn_base.proofs.ListLemmas.{take_whole, take_each}
 use Rattle.pawn_terms.specs.declared.terms.Rates.{Rates}
 use Rattle.pawn_pledge.specs.Brief.{brief_of}
 use Rattle.pawn_pledge.specs.declared.brief.BriefFields.{BriefFields}
@@ -25,6 +26,7 @@ use Rattle.pawn_csv.specs.declared.writing.Sink.{Sink}
 use Rattle.pawn_csv.proofs.ListLemmas.{lines_from}
 use Rattle.pawn_view.proofs.ShareLemmas.{share_front, share_more, share_puts, share_then}
 use Rattle.pawn_csv.proofs.SentLemmas.{rows_in_turn}
+use Rattle.pawn_book.proofs.Places.{terms_at_place}
 
 -- ---- as many as are asked for one by one
 
@@ -51,14 +53,6 @@ lines_cut line number place (y ∷ xs) zero = (lines_from line number place (y �
 lines_cut line number place (y ∷ xs) (suc i) =
     let more = lines_cut line number (place + 1) xs i in
     (more.0, append_assoc (line number place y) (lines_from line number (place + 1) (take i xs)) more.0 ∙ ap (λ (t : List ℕ). line number place y ++ t) more.1)
-
-take_whole : {T : Type 0} (xs : List T) → take (length xs) xs ≡ xs
-take_whole [] = refl
-take_whole (x ∷ xs) = ap (λ (ys : List _). x ∷ ys) (take_whole xs)
-
--- each of them
-pub take_each : {T : Type 0} (xs : List T) (i : ℕ) → i ≡ length xs → take i xs ≡ xs
-take_each xs i all = ap (λ (k : ℕ). take k xs) all ∙ take_whole xs
 
 -- one that is asked for stands
 pub stands_there : {T : Type 0} (xs : List T) (i : ℕ) → i < length xs → slice_get xs i ≡ None → ⊥
@@ -115,9 +109,6 @@ all_records place (p ∷ ps) =
     ap (λ (x : List ℕ). flat_map text_of_row (pledge_csv_rows p) ++ x) (all_records (place + 1) ps)
     ∙ sym (flat_map-append text_of_row (pledge_csv_rows p) (flat_map pledge_csv_rows ps))
 
-pub terms_there : (ts : List Rates) (i : ℕ) → terms_at ts (i + 1) ≡ slice_get ts i
-terms_there ts i = let next : i + 1 ≡ suc i = omega arith in ap (terms_at ts) next
-
 pledge_there : (k : ℕ) (ps : List PledgeValue) (n i : ℕ) → n ≡ k + i → pledge_from k ps n ≡ slice_get ps i
 pledge_there k [] n i is = refl
 pledge_there k (q ∷ ps) n zero is =
@@ -156,7 +147,7 @@ pub versions_next : {W : Type 0} {contents : W → Option (List ℕ)} {a b c : S
     → PutsRowsShare contents a (lines_from version_line 0 1 (take (i + 1) ts)) Whole c
 versions_next {contents = contents} {b = b} {c = c} ts i rates at before puts =
     let next : i + 1 ≡ 1 + i = omega arith in
-    next_share version_line 0 1 ts i rates (sym (at ∙ terms_there ts i)) before
+    next_share version_line 0 1 ts i rates (sym (at ∙ terms_at_place ts i)) before
     (share_puts rows_in_turn (subst (λ (k : ℕ). PutsRow contents b (text_of_row (Row.Terms k rates)) c) next puts))
 
 pub versions_all : {W : Type 0} {contents : W → Option (List ℕ)} {a b : Sink W} (ts : List Rates) (i : ℕ) → i ≡ length ts

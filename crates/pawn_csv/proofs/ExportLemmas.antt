@@ -21,6 +21,7 @@ use Rattle.pawn_csv.specs.declared.writing.Sink.{Sink}
 use Rattle.pawn_view.proofs.ShareLemmas.{share_all, share_more, share_puts, share_then}
 use Rattle.pawn_csv.proofs.SentLemmas.{rows_in_turn}
 use Rattle.pawn_view.proofs.PutLemmas.{front-more, now_by}
+use Rattle.std.proofs.lemmas.Bool.{or_from}
 
 -- the rows below the first
 abbrev pub below_text : BookValue → List ℕ
@@ -60,9 +61,6 @@ book_is at =
 
 -- ---- how an export ends
 
-or_none : (a b : Bool) → a ≡ false → b ≡ false → (a || b) ≡ false
-or_none a b first second = ap (λ (v : Bool). v || b) first ∙ second
-
 -- however it ends, a front of the text went out
 front_sent : {W : Type 0} (contents : W → Option (List ℕ)) (a w : Sink W) (text : List ℕ) (end : End) → has_ended a ≡ false → PutsRowsShare contents a text end w → PutFront contents (seen a) text (seen w)
 front_sent contents a w text end fine share = from (has_ended w) refl (share.3.fine fine)
@@ -84,7 +82,7 @@ exports_by : {W : Type 0} (contents : W → Option (List ℕ)) (a w : Sink W) (t
 exports_by contents a w text done true starved fine now fed share = (text, refl, front_sent contents a w text (call_end done) fine share, now)
 exports_by contents a w text done false true fine now fed share = (front_sent contents a w text (call_end done) fine share, now)
 exports_by contents a w text (Ok u) false false fine now fed share =
-    let sent = whole_sent contents a w text fine (or_none (write_failed w.writer) w.is_starved now fed) share in (text, refl, sent)
+    let sent = whole_sent contents a w text fine (or_from (write_failed w.writer) w.is_starved now fed) share in (text, refl, sent)
 exports_by contents a w text (Err error.Memory) false false fine now fed share = (front_sent contents a w text Front fine share, now)
 exports_by contents a w text (Err (error.Store why)) false false fine now fed share = (front_sent contents a w text Front fine share, now)
 

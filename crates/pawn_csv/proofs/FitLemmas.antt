@@ -11,7 +11,7 @@ use Rattle.pawn_terms.specs.Limits.{first_day, last_stamp_day}
 use Rattle.pawn_base.specs.Lists.{DoNotFall, last_by, Each}
 use Rattle.pawn_terms.specs.Terms.{IsChecked}
 use Rattle.pawn_terms.specs.declared.terms.Rates.{Rates}
-use Rattle.pawn_debt.proofs.Bounds.{accepted-bounded}
+use Rattle.pawn_debt.proofs.Bounds.{accepted-bounded, keep-small, after_days-small}
 use Rattle.pawn_debt.proofs.DueLemmas.{after_days-principal}
 use Rattle.pawn_debt.proofs.EntryLemmas.{due-from-last}
 use Rattle.pawn_debt.specs.Answers.{draw_rows, is_bad_amount, repay_rows, with_entry}
@@ -35,6 +35,7 @@ use Rattle.pawn_csv.specs.Rows.{AreColumns, FitsColumns, IsColumnNumber, booking
 use Rattle.pawn_csv.specs.declared.row.Row.{Row}
 use Rattle.pawn_csv.specs.declared.row.Version.TheVariants as version
 use Rattle.pawn_csv.proofs.RoundLemmas.{held_texts_are_read}
+use Rattle.pawn_book.proofs.SoundLists.{under_length}
 
 each_both : (xs ys : List Row) → Each FitsColumns xs → Each FitsColumns ys → Each FitsColumns (xs ++ ys)
 each_both [] ys hx hy = hy
@@ -54,24 +55,6 @@ all_pence : (d : DebtValue) (prior es : List Entry) → AreEntriesAccepted d pri
 all_pence d prior [] h = tt
 all_pence d prior (e ∷ es) h = (accepted_pence e.sort (record d { entries = prior }) e.day e.pence h.0.1, all_pence d (prior ++ e ∷ []) es h.1)
 
-keep_small : (t : Rates) (ends x : ℕ) → IsChecked t → keep_on t ends x ≤ 10000000
-keep_small t ends x h = from (nat_le x ends)
-  where
-    from : (b : Bool) → (if b then t.keep_before else t.keep_after) ≤ 10000000
-    from true = h.1
-    from false = omega (arith, h.1, h.2)
-
--- days without entries add no more than the most a day
-days_small : (t : Rates) (ends x n : ℕ) (o : Due) → IsChecked t → o.principal ≤ most_pence → (after_days t ends x n o).millionths ≤ o.millionths + n * most_a_day
-unfolding after_days
-days_small t ends x zero o h small = omega arith
-days_small t ends x (suc n) o h small =
-    let less = days_small t ends x n o h small in
-    let same = after_days-principal t ends x n o in
-    let interest : (after_days t ends x n o).principal * t.rate ≤ 100000000 * 20000 = mul-le _ _ 100000000 20000 (omega (arith, same, small)) h.0 in
-    let keep = keep_small t ends (x + suc n) h in
-    omega (arith, less, interest, keep)
-
 -- what is owing on a pledge's last day has twelve digits
 total_fits : (p : PledgeValue) → IsStanding p → IsColumnNumber (total_on p p.standing.last)
 total_fits p h =
@@ -84,7 +67,7 @@ total_fits p h =
     let low = last_by-le (λ (e : Entry). e.day) d.taken d.entries entered.ordered in
     let same = due-from-last d x entered.ordered entered.before in
     let principal = after_days-principal d.terms d.ends last (x - last) (due d last) in
-    let small = days_small d.terms d.ends last (x - last) (due d last) h.terms bounded.principal in
+    let small = after_days-small d.terms d.ends last (x - last) (due d last) h.terms bounded.principal in
     let millionths : (due d x).millionths ≤ 84005 * 2000010000000 = omega (arith, ap (λ (o : Due). o.millionths) same, small, bounded.millionths, low, entered.before, h.within.last) in
     let pence : (due d x).principal ≤ most_pence = omega (arith, ap (λ (o : Due). o.principal) same, principal, bounded.principal) in
     omega (arith, millionths, pence)
@@ -129,16 +112,6 @@ fit_booking p n (Some b) hn from booked before = ((hn, (omega (arith, from, book
 
 -- ---- the row of a pledge
 
--- the version of terms that stand
-few_versions : (terms : List Rates) (v : ℕ) (t : Rates) → terms_at terms v ≡ Some t → v ≤ length terms
-few_versions terms zero t h = omega arith
-few_versions terms (suc n) t h = let there = at terms n h in omega (arith, there)
-  where
-    at : (ts : List Rates) (n : ℕ) → slice_get ts n ≡ Some t → n < length ts
-    at [] n h = cc
-    at (x ∷ ts) zero h = omega arith
-    at (x ∷ ts) (suc n) h = let less = at ts n h in omega (arith, less)
-
 fit_closing_day : (p : PledgeValue) (c : Closing) → IsClosed p c → IsStampDay p.standing.last → IfSome (closing_day c) IsStampDay
 fit_closing_day p closed.Open h last = tt
 fit_closing_day p (closed.Redeemed day paid) h last = subst IsStampDay (sym h.0) last
@@ -154,7 +127,7 @@ fit_columns terms p few under h written =
     let from = written.taken.0 in
     let r = h.replayable in
     let last : IsStampDay p.standing.last = (omega (arith, from, r.last_in), h.within.last) in
-    let version = few_versions terms p.agreement.version p.agreement.terms under in
+    let version = under_length terms p.agreement.version p.agreement.terms under in
     record {
       number = omega (arith, h.within.number.1);
       opening = h.within.opening;

@@ -29,8 +29,9 @@ use Rattle.pawn_csv.specs.Order.{Begun, hand, has_secret, in_order, is_nil, is_n
 use Rattle.pawn_csv.specs.Reading.{RefusesEnd}
 use Rattle.pawn_csv.specs.Rows.{Knows, rows_of_csv, terms_rows}
 use Rattle.pawn_csv.proofs.BookLemmas.{guard_then, run_grows, second_only, whole_rows}
-use Rattle.pawn_csv.proofs.OrderLemmas.{both, guard_err, guard_ok, ok_same}
+use Rattle.pawn_csv.proofs.OrderLemmas.{guard_err, guard_ok, ok_same}
 use Rattle.pawn_csv.proofs.TakenLemmas.{book_rows_are, layouts_are_taken, longer, run_book}
+use Rattle.std.proofs.lemmas.Bool.{and_parts}
 
 -- ---- what holds of a book of which some rows were taken
 
@@ -85,9 +86,9 @@ entry_within v p q x h within =
     let few = not_full (length p.entries) most_entries _ q h in
     let new : RawPledge = record p { entries = p.entries ++ x ∷ [] } in
     let g = guard_ok ((x.seq == length p.entries + 1) && has_secret p && is_nil p.extensions && is_none p.booking) new q cause.Order (guard_err (nat_le most_entries (length p.entries)) _ q cause.TooMany h) in
-    let w = both ((x.seq == length p.entries + 1) && has_secret p && is_nil p.extensions) (is_none p.booking) g.0 in
-    let u = both ((x.seq == length p.entries + 1) && has_secret p) (is_nil p.extensions) w.0 in
-    let first = (both (x.seq == length p.entries + 1) (has_secret p) u.0).0 in
+    let w = and_parts ((x.seq == length p.entries + 1) && has_secret p && is_nil p.extensions) (is_none p.booking) g.0 in
+    let u = and_parts ((x.seq == length p.entries + 1) && has_secret p) (is_nil p.extensions) w.0 in
+    let first = (and_parts (x.seq == length p.entries + 1) (has_secret p) u.0).0 in
     let next : x.seq ≡ length p.entries + 1 = grind (arith, nat_tests, first) in
     subst (λ (r : RawPledge). (r.columns ≡ p.columns) × IsWithin v r) g.1
     (refl, record { secrets = within.secrets; entries = (let more = longer p.entries x in omega (arith, more, few)); extensions = within.extensions; numbered = numbered_push 1 p.entries x within.numbered next; known = within.known })
@@ -129,9 +130,9 @@ pledge_kept : (b c : Begun) (x : PledgeColumns) → place_pledge b x ≡ Ok c �
 pledge_kept b c x h laid =
     let new : Begun = record b { pledges = pledges_begun b; at_hand = Some (raw_pledge x) } in
     let g = guard_ok ((length b.terms == b.terms_due) && may_end b.at_hand && (x.number == length (pledges_begun b) + 1) && nat_le x.number b.pledges_due) new c cause.Order h in
-    let w = both ((length b.terms == b.terms_due) && may_end b.at_hand && (x.number == length (pledges_begun b) + 1)) (nat_le x.number b.pledges_due) g.0 in
-    let u = both ((length b.terms == b.terms_due) && may_end b.at_hand) (x.number == length (pledges_begun b) + 1) w.0 in
-    let over = (both (length b.terms == b.terms_due) (may_end b.at_hand) u.0).1 in
+    let w = and_parts ((length b.terms == b.terms_due) && may_end b.at_hand && (x.number == length (pledges_begun b) + 1)) (nat_le x.number b.pledges_due) g.0 in
+    let u = and_parts ((length b.terms == b.terms_due) && may_end b.at_hand) (x.number == length (pledges_begun b) + 1) w.0 in
+    let over = (and_parts (length b.terms == b.terms_due) (may_end b.at_hand) u.0).1 in
     let next = u.1 in
     subst IsLaidSoFar g.1 (record {
       few_terms = laid.few_terms;
@@ -184,8 +185,8 @@ run_kept (r ∷ rows) s t h laid =
 
 pub taken_are_laid_out : TakenAreLaidOut
 taken_are_laid_out rows b ran whole =
-    let w = both ((length b.terms == b.terms_due) && (length (pledges_begun b) == b.pledges_due)) (may_end b.at_hand) whole in
-    let u = both (length b.terms == b.terms_due) (length (pledges_begun b) == b.pledges_due) w.0 in
+    let w = and_parts ((length b.terms == b.terms_due) && (length (pledges_begun b) == b.pledges_due)) (may_end b.at_hand) whole in
+    let u = and_parts (length b.terms == b.terms_due) (length (pledges_begun b) == b.pledges_due) w.0 in
     let first = u.0 in
     let second = u.1 in
     let terms : b.terms_due ≡ length b.terms = grind (arith, nat_tests, first) in

@@ -24,6 +24,7 @@ use Rattle.pawn_csv.specs.Reading.{AreTaken, IsReadAs}
 use Rattle.pawn_csv.specs.Rows.{closing_amount, closing_day, closing_word}
 use Rattle.pawn_csv.proofs.OneReading.{no_further, reached_on, taken_same}
 use Rattle.pawn_csv.proofs.TakenLemmas.{texts_are_read_as}
+use Rattle.pawn_csv.proofs.FinishLemmas.{same_closing, same_rates}
 
 abbrev word_place : ClosingWord → ℕ
 word_place closing.Open = 0
@@ -32,18 +33,6 @@ word_place closing.Sold = 2
 
 some_same : (a b : ℕ) → Some a ≡ Some b → a ≡ b
 some_same a b e = cc
-
--- a closing is told by its word, its day and its amount
-one_closing : (a b : Closing) → closing_word a ≡ closing_word b → closing_day a ≡ closing_day b → closing_amount a ≡ closing_amount b → a ≡ b
-one_closing closed.Open closed.Open e f g = refl
-one_closing closed.Open (closed.Redeemed day paid) e f g = let n : 0 ≡ 1 = ap word_place e in absurd (omega (arith, n))
-one_closing closed.Open (closed.Sold day net) e f g = let n : 0 ≡ 2 = ap word_place e in absurd (omega (arith, n))
-one_closing (closed.Redeemed day paid) closed.Open e f g = let n : 1 ≡ 0 = ap word_place e in absurd (omega (arith, n))
-one_closing (closed.Redeemed day paid) (closed.Redeemed day2 paid2) e f g = rw (some_same day day2 f, some_same paid paid2 g) refl
-one_closing (closed.Redeemed day paid) (closed.Sold day2 net) e f g = let n : 1 ≡ 2 = ap word_place e in absurd (omega (arith, n))
-one_closing (closed.Sold day net) closed.Open e f g = let n : 2 ≡ 0 = ap word_place e in absurd (omega (arith, n))
-one_closing (closed.Sold day net) (closed.Redeemed day2 paid) e f g = let n : 2 ≡ 1 = ap word_place e in absurd (omega (arith, n))
-one_closing (closed.Sold day net) (closed.Sold day2 net2) e f g = rw (some_same day day2 f, some_same net net2 g) refl
 
 same_agreement : (a b : Agreement) → a.number ≡ b.number → a.opening ≡ b.opening → a.taken ≡ b.taken → a.version ≡ b.version → a.terms ≡ b.terms → a ≡ b
 same_agreement a b e f g h i = rw (e, f, g, h, i) refl
@@ -54,9 +43,6 @@ same_standing a b e f g h = rw (e, f, g, h) refl
 same_pledge : (p q : PledgeValue) → p.agreement ≡ q.agreement → p.standing ≡ q.standing → p.entries ≡ q.entries → p.secrets ≡ q.secrets → p.extensions ≡ q.extensions → p ≡ q
 same_pledge p q e f g h i = rw (e, f, g, h, i) refl
 
-same_terms : (terms : List Rates) (v w : ℕ) (a b : Rates) → v ≡ w → terms_at terms v ≡ Some a → terms_at terms w ≡ Some b → a ≡ b
-same_terms terms v w a b e x y = let z = sym x ∙ ap (terms_at terms) e ∙ y in cc
-
 -- a pledge is told by its rows, under its book's terms
 one_pledge : (terms : List Rates) (p q : PledgeValue) → IsUnder terms p → IsUnder terms q → raw_of p ≡ raw_of q → p ≡ q
 one_pledge terms p q hp hq e =
@@ -64,9 +50,9 @@ one_pledge terms p q hp hq e =
     let version = ap (λ (r : RawPledge). r.columns.version) e in
     same_pledge p q
     (same_agreement p.agreement q.agreement (ap (λ (r : RawPledge). r.columns.number) e) (ap (λ (r : RawPledge). r.columns.opening) e) (ap (λ (r : RawPledge). r.columns.taken) e) version
-    (same_terms terms p.agreement.version q.agreement.version p.agreement.terms q.agreement.terms version hp hq))
+    (same_rates terms p.agreement.version q.agreement.version p.agreement.terms q.agreement.terms version hp hq))
     (same_standing p.standing q.standing (ap (λ (r : RawPledge). r.columns.held) e) (ap (λ (r : RawPledge). r.booking) e) (ap (λ (r : RawPledge). r.columns.last) e)
-    (one_closing p.standing.closing q.standing.closing (ap (λ (r : RawPledge). r.columns.closing) e) (ap (λ (r : RawPledge). r.columns.closing_day) e) (ap (λ (r : RawPledge). r.columns.amount) e)))
+    (same_closing p.standing.closing q.standing.closing (ap (λ (r : RawPledge). r.columns.closing) e) (ap (λ (r : RawPledge). r.columns.closing_day) e) (ap (λ (r : RawPledge). r.columns.amount) e)))
     (ap (λ (r : RawPledge). r.entries) e) (ap (λ (r : RawPledge). r.secrets) e) (ap (λ (r : RawPledge). r.extensions) e)
 
 one_list : (terms : List Rates) (ps qs : List PledgeValue) → Each (IsUnder terms) ps → Each (IsUnder terms) qs → map raw_of ps ≡ map raw_of qs → ps ≡ qs

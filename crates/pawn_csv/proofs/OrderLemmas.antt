@@ -16,6 +16,7 @@ use Rattle.pawn_csv.specs.declared.row.Row.{Row}
 use Rattle.pawn_csv.specs.Order.{has_secret, is_nil, is_none, place_booking, place_entry, place_extension, place_secret}
 use Rattle.pawn_csv.specs.Layout.{list_rows, raw_rows}
 use Rattle.pawn_csv.specs.Rows.{booking_csv_rows, entry_rows, extension_rows, secret_rows}
+use Rattle.std.proofs.lemmas.Bool.{and_parts}
 
 pub ok_same : {A : Type 0} (x y : A) → (let r : Result A Cause = Ok x in r ≡ Ok y) → x ≡ y
 ok_same x y h = cc
@@ -35,10 +36,6 @@ no_items (x ∷ xs) h = cc
 pub no_item : {A : Type 0} (o : Option A) → is_none o ≡ true → o ≡ None
 no_item None h = refl
 no_item (Some x) h = cc
-
-pub both : (a b : Bool) → (a && b) ≡ true → (a ≡ true) × (b ≡ true)
-both true b h = (refl, h)
-both false b h = cc
 
 secret_rows-snoc : (k n : ℕ) (is : List Issued) (x : Issued) → secret_rows k n (is ++ x ∷ []) ≡ secret_rows k n is ++ Row.Secret k (n + length is) x ∷ []
 secret_rows-snoc k n [] x = ap (λ (m : ℕ). Row.Secret k m x ∷ []) (omega arith)
@@ -88,9 +85,9 @@ pub secret_shown : (p q : RawPledge) (at : ℕ) (x : Issued) → place_secret p 
 secret_shown p q at x h =
     let new : RawPledge = record p { secrets = p.secrets ++ x ∷ [] } in
     let guard = guard_ok ((at == length p.secrets + 1) && is_nil p.entries && is_nil p.extensions && is_none p.booking) new q cause.Order (guard_err (nat_le most_secrets (length p.secrets)) _ q cause.TooMany h) in
-    let w = both ((at == length p.secrets + 1) && is_nil p.entries && is_nil p.extensions) (is_none p.booking) guard.0 in
-    let v = both ((at == length p.secrets + 1) && is_nil p.entries) (is_nil p.extensions) w.0 in
-    let u = both (at == length p.secrets + 1) (is_nil p.entries) v.0 in
+    let w = and_parts ((at == length p.secrets + 1) && is_nil p.entries && is_nil p.extensions) (is_none p.booking) guard.0 in
+    let v = and_parts ((at == length p.secrets + 1) && is_nil p.entries) (is_nil p.extensions) w.0 in
+    let u = and_parts (at == length p.secrets + 1) (is_nil p.entries) v.0 in
     let first = u.0 in
     let place : at ≡ 1 + length p.secrets = grind (arith, nat_tests, first) in
     let n = p.columns.number in
@@ -102,8 +99,8 @@ pub entry_shown : (p q : RawPledge) (x : Entry) → place_entry p x ≡ Ok q →
 entry_shown p q x h =
     let new : RawPledge = record p { entries = p.entries ++ x ∷ [] } in
     let guard = guard_ok ((x.seq == length p.entries + 1) && has_secret p && is_nil p.extensions && is_none p.booking) new q cause.Order (guard_err (nat_le most_entries (length p.entries)) _ q cause.TooMany h) in
-    let w = both ((x.seq == length p.entries + 1) && has_secret p && is_nil p.extensions) (is_none p.booking) guard.0 in
-    let v = both ((x.seq == length p.entries + 1) && has_secret p) (is_nil p.extensions) w.0 in
+    let w = and_parts ((x.seq == length p.entries + 1) && has_secret p && is_nil p.extensions) (is_none p.booking) guard.0 in
+    let v = and_parts ((x.seq == length p.entries + 1) && has_secret p) (is_nil p.extensions) w.0 in
     let n = p.columns.number in
     let rows : raw_rows new ≡ raw_rows p ++ Row.Entry n x ∷ [] =
     rw (no_items p.extensions v.1, no_item p.booking w.1) (ap (λ (rs : List Row). Row.Pledge p.columns ∷ rs) (entry_more n p.secrets p.entries x)) in
@@ -113,8 +110,8 @@ pub extension_shown : (p q : RawPledge) (at : ℕ) (x : Extension) → place_ext
 extension_shown p q at x h =
     let new : RawPledge = record p { extensions = p.extensions ++ x ∷ [] } in
     let guard = guard_ok ((at == length p.extensions + 1) && has_secret p && is_none p.booking) new q cause.Order (guard_err (nat_le most_extensions (length p.extensions)) _ q cause.TooMany h) in
-    let w = both ((at == length p.extensions + 1) && has_secret p) (is_none p.booking) guard.0 in
-    let v = both (at == length p.extensions + 1) (has_secret p) w.0 in
+    let w = and_parts ((at == length p.extensions + 1) && has_secret p) (is_none p.booking) guard.0 in
+    let v = and_parts (at == length p.extensions + 1) (has_secret p) w.0 in
     let first = v.0 in
     let place : at ≡ 1 + length p.extensions = grind (arith, nat_tests, first) in
     let n = p.columns.number in
@@ -126,7 +123,7 @@ pub booking_shown : (p q : RawPledge) (x : Booking) → place_booking p x ≡ Ok
 booking_shown p q x h =
     let new : RawPledge = record p { booking = Some x } in
     let guard = guard_ok (has_secret p && is_none p.booking) new q cause.Order h in
-    let t = both (has_secret p) (is_none p.booking) guard.0 in
+    let t = and_parts (has_secret p) (is_none p.booking) guard.0 in
     let n = p.columns.number in
     let rows : raw_rows new ≡ raw_rows p ++ Row.Booking n x ∷ [] =
     rw (no_item p.booking t.1) (ap (λ (rs : List Row). Row.Pledge p.columns ∷ rs) (booking_more n p.secrets p.entries p.extensions x)) in

@@ -20,10 +20,6 @@ use Rattle.pawn_csv.specs.declared.writing.Sink.{Sink}
 use Rattle.pawn_view.proofs.ShareLemmas.{share_more, share_puts, share_then}
 use Rattle.pawn_csv.proofs.SentLemmas.{rows_in_turn}
 
--- what two reads tell
-pub reads_both : {K : Type 0} {k : Keeping K} {a b c : K} {P Q : Host → Type 0} → Reads k a b P → Reads k b c Q → Reads k a c (λ h. P h × Q h)
-reads_both f s = reads_then f s (λ h p q. (p, q))
-
 -- the parts of a pledge's text
 abbrev pub own_text : PledgeValue → List ℕ
 own_text p = text_of_row (Row.Pledge (pledge_columns p))

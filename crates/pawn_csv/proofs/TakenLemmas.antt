@@ -4,6 +4,7 @@ use Rattle.std.specs.Prelude.{◌==◌, ◌&&◌, ◌||◌, not}
 use Rattle.std.specs.List.{flat_map}
 use Rattle.std.proofs.lemmas.Bool.Decides.{nat_tests}
 use Rattle.std.proofs.lemmas.List.{append-nil}
+use Rattle.pawn_base.proofs.TestLemmas.{equal}
 use Rattle.pawn_terms.specs.declared.terms.Rates.{Rates}
 use Rattle.pawn_debt.specs.Limits.{most_entries}
 use Rattle.pawn_debt.specs.declared.entry.Entry.{Entry}
@@ -31,13 +32,9 @@ use Rattle.pawn_csv.specs.Layout.{AreLaidFrom, IsLaidOut, IsWithin, LayoutsAreTa
 use Rattle.pawn_csv.proofs.BookLemmas.{flat_map-raw, length-raw}
 use Rattle.pawn_csv.specs.Order.{Begun, hand, has_secret, in_order, is_nil, is_whole, may_end, on_hand, place, place_booking, place_entry, place_extension, place_secret, put_hand, raw_pledge, run, then_run, unless_full}
 use Rattle.pawn_csv.specs.Rows.{Knows, booking_csv_rows, pledge_columns, entry_rows, extension_rows, pledge_csv_rows, rows_of_csv, secret_rows, terms_rows, version_rows}
+use Rattle.std.proofs.lemmas.Bool.{and_from}
 
 -- ---- tests that hold, and rows one after the other
-
-both_hold : (a b : Bool) → a ≡ true → b ≡ true → (a && b) ≡ true
-both_hold true true e f = refl
-both_hold true false e f = cc
-both_hold false b e f = cc
 
 ordered : {A : Type 0} (test : Bool) (x : A) → test ≡ true → in_order test x ≡ Ok x
 ordered true x e = refl
@@ -47,9 +44,6 @@ not_full : {A : Type 0} (count most : ℕ) (answer : Result A Cause) → count <
 not_full count most answer few =
     let test : nat_le most count ≡ false = grind (arith, nat_tests, few) in
     ap (λ (v : Bool). cond v (Err cause.TooMany) answer) test
-
-pub equal : (n m : ℕ) → n ≡ m → (n == m) ≡ true
-equal n m e = grind (arith, nat_tests, e)
 
 at_most : (n m : ℕ) → n ≤ m → nat_le n m ≡ true
 at_most n m e = grind (arith, nat_tests, e)
@@ -83,8 +77,8 @@ run_terms : (v : Version) (m n k : ℕ) (done ts : List Rates) → k ≡ length 
     → run (Some (begun v m n done [] None)) (terms_rows k ts) ≡ Ok (Some (begun v m n (done ++ ts) [] None))
 run_terms v m n k done [] at due = ap (λ (ts : List Rates). let r : Result (Option Begun) Cause = Ok (Some (begun v m n ts [] None)) in r) (sym (append-nil done))
 run_terms v m n k done (t ∷ ts) at due =
-    let test = both_hold ((k == length done + 1) && nat_le k m) (length (let none : List RawPledge = [] in none) == 0)
-    (both_hold (k == length done + 1) (nat_le k m) (equal k (length done + 1) at) (at_most k m (omega (arith, at, due)))) refl in
+    let test = and_from ((k == length done + 1) && nat_le k m) (length (let none : List RawPledge = [] in none) == 0)
+    (and_from (k == length done + 1) (nat_le k m) (equal k (length done + 1) at) (at_most k m (omega (arith, at, due)))) refl in
     step (Some (begun v m n done [] None)) (Row.Terms k t) (terms_rows (k + 1) ts) (begun v m n (done ++ t ∷ []) [] None) (ordered _ (begun v m n (done ++ t ∷ []) [] None) test)
     ∙ run_terms v m n (k + 1) (done ++ t ∷ []) ts (omega (arith, at, longer done t)) (omega (arith, due, longer done t))
     ∙ ap (λ (x : List Rates). let r : Result (Option Begun) Cause = Ok (Some (begun v m n x [] None)) in r) (append_assoc done (t ∷ []) ts)
@@ -107,7 +101,7 @@ run_secrets v m n k terms pledges c done (i ∷ is) at few =
     let old = raw c done [] [] None in
     let new = raw c (done ++ i ∷ []) [] [] None in
     let b = begun v m n terms pledges (Some old) in
-    let test = both_hold ((k == length done + 1) && true && true) true (both_hold ((k == length done + 1) && true) true (both_hold (k == length done + 1) true (equal k (length done + 1) at) refl) refl) refl in
+    let test = and_from ((k == length done + 1) && true && true) true (and_from ((k == length done + 1) && true) true (and_from (k == length done + 1) true (equal k (length done + 1) at) refl) refl) refl in
     let taken : place_secret old k i ≡ Ok new = not_full (length done) most_secrets _ (omega (arith, few)) ∙ ordered _ new test in
     step (Some b) (Row.Secret c.number k i) (secret_rows c.number (k + 1) is) (record b { at_hand = Some new }) (put b b.at_hand c.number old new (λ p. place_secret p k i) refl refl taken)
     ∙ run_secrets v m n (k + 1) terms pledges c (done ++ i ∷ []) is (omega (arith, at, longer done i)) (omega (arith, few, longer done i))
@@ -122,7 +116,7 @@ run_entries v m n k terms pledges c i is done (e ∷ es) numbered at few =
     let old = raw c (i ∷ is) done [] None in
     let new = raw c (i ∷ is) (done ++ e ∷ []) [] None in
     let b = begun v m n terms pledges (Some old) in
-    let test = both_hold ((e.seq == length done + 1) && true && true) true (both_hold ((e.seq == length done + 1) && true) true (both_hold (e.seq == length done + 1) true (equal e.seq (length done + 1) (numbered.0 ∙ at)) refl) refl) refl in
+    let test = and_from ((e.seq == length done + 1) && true && true) true (and_from ((e.seq == length done + 1) && true) true (and_from (e.seq == length done + 1) true (equal e.seq (length done + 1) (numbered.0 ∙ at)) refl) refl) refl in
     let taken : place_entry old e ≡ Ok new = not_full (length done) most_entries _ (omega (arith, few)) ∙ ordered _ new test in
     step (Some b) (Row.Entry c.number e) (entry_rows c.number es) (record b { at_hand = Some new }) (put b b.at_hand c.number old new (λ p. place_entry p e) refl refl taken)
     ∙ run_entries v m n (k + 1) terms pledges c i is (done ++ e ∷ []) es numbered.1 (omega (arith, at, longer done e)) (omega (arith, few, longer done e))
@@ -138,7 +132,7 @@ run_extensions m n k terms pledges c i is entries done (x ∷ xs) at few =
     let old = raw c (i ∷ is) entries done None in
     let new = raw c (i ∷ is) entries (done ++ x ∷ []) None in
     let b = begun version.Two m n terms pledges (Some old) in
-    let test = both_hold ((k == length done + 1) && true) true (both_hold (k == length done + 1) true (equal k (length done + 1) at) refl) refl in
+    let test = and_from ((k == length done + 1) && true) true (and_from (k == length done + 1) true (equal k (length done + 1) at) refl) refl in
     let taken : place_extension old k x ≡ Ok new = not_full (length done) most_extensions _ (omega (arith, few)) ∙ ordered _ new test in
     step (Some b) (Row.Extension c.number k x) (extension_rows c.number (k + 1) xs) (record b { at_hand = Some new }) (put b b.at_hand c.number old new (λ p. place_extension p k x) refl refl taken)
     ∙ run_extensions m n (k + 1) terms pledges c i is entries (done ++ x ∷ []) xs (omega (arith, at, longer done x)) (omega (arith, few, longer done x))
@@ -198,9 +192,9 @@ run_pledge v m n terms done at_hand p all over at due first within = from p.secr
     begins : place (Some (begun v m n terms done at_hand)) (Row.Pledge c) ≡ Ok (begun v m n terms (done ++ hand at_hand) (Some (raw_pledge c)))
     begins =
         ordered _ (begun v m n terms (done ++ hand at_hand) (Some (raw_pledge c)))
-        (both_hold ((length terms == m) && may_end at_hand && (c.number == length (done ++ hand at_hand) + 1)) (nat_le c.number n)
-        (both_hold ((length terms == m) && may_end at_hand) (c.number == length (done ++ hand at_hand) + 1)
-        (both_hold (length terms == m) (may_end at_hand) (equal (length terms) m all) over) (equal c.number (length (done ++ hand at_hand) + 1) at)) (at_most c.number n due))
+        (and_from ((length terms == m) && may_end at_hand && (c.number == length (done ++ hand at_hand) + 1)) (nat_le c.number n)
+        (and_from ((length terms == m) && may_end at_hand) (c.number == length (done ++ hand at_hand) + 1)
+        (and_from (length terms == m) (may_end at_hand) (equal (length terms) m all) over) (equal c.number (length (done ++ hand at_hand) + 1) at)) (at_most c.number n due))
 
     from : (is : List Issued) → p.secrets ≡ is → not (is_nil is) ≡ true → run (Some (begun v m n terms done at_hand)) (raw_rows p) ≡ Ok (Some (begun v m n terms (done ++ hand at_hand) (Some p)))
     from [] e none = cc
@@ -261,7 +255,7 @@ layouts_are_taken v terms pledges laid =
       step None (Row.Book v m n) (terms_rows 1 terms ++ flat_map raw_rows pledges) (begun v m n [] [] None) (begins v m n laid.few_terms laid.few_pledges)
           ∙ run_on (terms_rows 1 terms) (flat_map raw_rows pledges) (Some (begun v m n [] [] None)) (Some (begun v m n terms [] None)) (run_terms v m n 1 [] terms refl (omega arith))
           ∙ ran,
-      both_hold ((m == m) && (length (now ++ hand last) == n)) (may_end last) (both_hold (m == m) (length (now ++ hand last) == n) (equal m m refl) (equal (length (now ++ hand last)) n count)) ends,
+      and_from ((m == m) && (length (now ++ hand last) == n)) (may_end last) (and_from (m == m) (length (now ++ hand last) == n) (equal m m refl) (equal (length (now ++ hand last)) n count)) ends,
       refl,
       same,
     )

@@ -2,6 +2,7 @@
 use Rattle.std.proofs.Common.{◌≡◌, ℕ, ◌+◌, ◌<◌, ◌≤◌, List, [], ◌∷◌, ◌++◌, take, drop, get_or, length, Ok, IsOk, sym, ap, subst, ◌∙◌, arith, false, nat_lt, nat_le}
 use Rattle.std.proofs.lemmas.Bool.Decides.{nat_tests}
 use Rattle.std.proofs.lemmas.List.{append-nil, append_assoc, take_more, take-append-drop, drop_more}
+use Rattle.pawn_base.proofs.TestLemmas.{not_below, not_most}
 use Rattle.pawn_base.proofs.ListLemmas.{last_by-le}
 use Rattle.pawn_debt.specs.declared.entry.Entry.{Entry}
 use Rattle.pawn_debt.specs.declared.entry.Sort.{Sort}
@@ -13,13 +14,6 @@ use Rattle.pawn_debt.proofs.EntryLemmas.{due-extended}
 use Rattle.pawn_debt.specs.Answers.{draw_rows, repay_rows, with_entry}
 use Rattle.pawn_debt.specs.Replay.{sort_answer, IsEntryAccepted, AreEntriesAccepted}
 use Rattle.pawn_debt.specs.Limits.{most_entries}
-
--- tests on numbers
-not_below : (a b : ℕ) → nat_lt a b ≡ false → b ≤ a
-not_below a b h = grind (arith, nat_tests, h)
-
-not_most : (a b : ℕ) → nat_le a b ≡ false → b < a
-not_most a b h = grind (arith, nat_tests, h)
 
 -- what the rules accept is one more entry
 pub sort_answer-ok : (s : Sort) (p v : DebtValue) (x pence : ℕ) → sort_answer s p x pence ≡ Ok v → (last_of p.taken p.entries ≤ x) × (length p.entries < most_entries) × (v ≡ with_entry p x s pence)

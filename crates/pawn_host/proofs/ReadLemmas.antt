@@ -17,10 +17,8 @@ use Rattle.pawn_host.specs.Split.{IsRequest, PassesOver, HasNoWhole, AreWanted, 
 use Rattle.pawn_host.specs.Finding.{FindsHead, HasHead, AreMissing, IsFetched}
 use Rattle.pawn_host.specs.Session.{IsReadWhileWanted}
 use Rattle.pawn_host.specs.declared.session.Rest.{Rest}
-use Rattle.pawn_host.proofs.SplitLemmas.{passes-snoc, front_request, length_snoc}
-
-ok_same : (m n : ℕ) → ◌≡◌ {A = Result ℕ HeadFault} (Ok m) (Ok n) → m ≡ n
-ok_same m n e = cc
+use Rattle.pawn_host.proofs.SplitLemmas.{passes-snoc, front_request}
+use Rattle.pawn_host.proofs.LawLemmas.{ok_same, length_snoc}
 
 -- ---- no whole request stands in the buffer
 

@@ -9,6 +9,7 @@ use Rattle.pawn_host.specs.Split.{PassesOver}
 use Rattle.pawn_host.specs.Run.{Item, input_of}
 use Rattle.pawn_host.specs.Shards.{HandsToShards, HandedSplits, IsFor, IsPlaced, RequestsArePlaced, ShardsReplyAsOne, bytes_of, inputs}
 use Rattle.pawn_host.proofs.HeadlineLemmas.{equal_book_traces_answer_alike}
+use Rattle.pawn_host.proofs.LawLemmas.{cons_head, cons_tail}
 
 -- what is handed of whole requests is a stream of whole requests
 pub handed_splits : HandedSplits
@@ -19,12 +20,6 @@ handed_splits shard k (came ∷ all) part stream rest passes (inl (mine, (more, 
     (concat (bytes_of more), refl, passes.2, handed_splits shard k all more passes.0 rest passes.3 hands)
 handed_splits shard k (came ∷ all) part stream rest passes (inr (other, hands)) =
     handed_splits shard k all part passes.0 rest passes.3 hands
-
-cons_head : {A : Type 0} (x y : A) (xs ys : List A) → x ∷ xs ≡ y ∷ ys → x ≡ y
-cons_head x y xs ys e = cc
-
-cons_tail : {A : Type 0} (x y : A) (xs ys : List A) → x ∷ xs ≡ y ∷ ys → xs ≡ ys
-cons_tail x y xs ys e = cc
 
 -- the item after the first
 next : (shard : ℕ → ℕ) (k : ℕ) (x t : Item) (all part : List Item) (i : ℕ) (item : Item) → IsFor shard k x.bytes → input_of t ≡ input_of x

@@ -10,6 +10,7 @@ use Rattle.pawn_wire.proofs.StreamLemmas.{whole_front}
 use Rattle.pawn_host.specs.Split.{Ending, at_end, cut, closed, faulted, at_limit, IsRequest, PassesOver, StopsAt, Splits, Begins, BeginsAndGoesOn, IsUnderWay}
 use Rattle.pawn_host.specs.Finding.{FindsHead, FindsRest}
 use Rattle.pawn_host.specs.declared.session.Rest.TheVariants.{AtEnd, CutOff, Faulty}
+use Rattle.pawn_host.proofs.LawLemmas.{length_snoc}
 
 -- the stream from its start is these requests and then what is left
 abbrev pub SplitsOn : Option (List ℕ) → Option (List ℕ) → List (List ℕ) → Type 0
@@ -37,9 +38,6 @@ front_request s f closes c x =
 pub splits_start : (s : Option (List ℕ)) → SplitsOn s (prepend_known [] s) []
 splits_start None = tt
 splits_start (Some s) = refl
-
-pub length_snoc : (requests : List (List ℕ)) (x : List ℕ) → length (requests ++ x ∷ []) ≡ suc (length requests)
-length_snoc requests x = length-append requests (x ∷ []) ∙ (omega arith)
 
 -- a request was taken, and the stream goes on
 pub splits_more : (s rest left : Option (List ℕ)) (requests : List (List ℕ)) (buffer : List ℕ) (f : HeadFacts) → SplitsOn s rest requests → IfSome rest (λ r. FindsHead r (Ok f)) → f.closes ≡ false

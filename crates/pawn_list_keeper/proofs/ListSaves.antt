@@ -7,6 +7,7 @@ use Rattle.std.proofs.lemmas.Cmp.{nat_cmp_total}
 use Rattle.std.proofs.lemmas.List.{map-set}
 use Rattle.std.proofs.lemmas.Bool.Decides.{nat_tests}
 use Rattle.std.proofs.lemmas.List.Sums.{sum_by-cons}
+use Rattle.pawn_base.proofs.ListLemmas.{no_elements}
 use Rattle.pawn_pledge.specs.Pledge.{PledgeValue}
 use Rattle.pawn_book.specs.declared.request.NewBook.{NewBook}
 use Rattle.pawn_book.specs.declared.change.Change.{Change}
@@ -26,10 +27,6 @@ use Rattle.pawn_list_keeper.specs.Books.{Books}
 use Rattle.pawn_list_keeper.specs.Listed.{Fits, HasChange, IsListed, IsPlace, SavesListed, added_rows, book_at, listed_book, host_of, replaced_rows, standing_rows}
 use Rattle.pawn_list_keeper.specs.declared.kept.Kept.{Kept}
 use Rattle.pawn_list_keeper.proofs.ListReads.{book_at-set, get-book_at, kept_is, kept_number, pushed}
-
-no_elements : {A : Type 0} (xs : List A) → length xs ≡ 0 → xs ≡ []
-no_elements [] e = refl
-no_elements (x ∷ xs) e = absurd (omega (arith, e))
 
 -- no books have no rows
 no_rows : (limit : ℕ) → rows (record { books = empty {X = BookValue} {R = nat_cmp}; limit = limit }) ≡ 0

@@ -12,14 +12,11 @@ use Rattle.pawn_book.specs.declared.sheet.SheetItem.{SheetItem}
 use Rattle.pawn_book.specs.Sheet.{part_head, part_item, part_items, window_items, windows_below, with_head}
 use Rattle.pawn_book.specs.Visits.{HandsOver}
 use Rattle.pawn_book.proofs.SheetLemmas.{hands_one, hands_stop, hands_then, windows_begin, windows_more}
+use Rattle.std.proofs.lemmas.List.Elements.{filter_map-append}
 
 put_before : {Y : Type 0} (o : Option Y) (xs ys : List Y) → cons_option o (xs ++ ys) ≡ cons_option o xs ++ ys
 put_before None xs ys = refl
 put_before (Some y) xs ys = refl
-
-filter_map-append : {X Y : Type 0} (h : X → Option Y) (xs ys : List X) → filter_map h (xs ++ ys) ≡ filter_map h xs ++ filter_map h ys
-filter_map-append h [] ys = refl
-filter_map-append h (x ∷ xs) ys = ap (cons_option (h x)) (filter_map-append h xs ys) ∙ put_before (h x) (filter_map h xs) (filter_map h ys)
 
 -- of one element more
 pub filter_map_more : {X Y : Type 0} (h : X → Option Y) (xs : List X) (i : ℕ) (d : X) (o : Option Y) → i < length xs → h (get_or xs i d) ≡ o

@@ -1,5 +1,6 @@
 -- The books of a host up to a number.
 use Rattle.std.proofs.Common.{◌≡◌, ◌≢◌, ◌==◌, ◌≤◌, ◌<◌, ◌++◌, ℕ, [], ◌∷◌, List, Bool, true, false, cond, ◌&&◌, Some, None, T, filter, flat_map, nat_le, refl, sym, ap, subst, ◌∙◌, arith, append_assoc, append-nil}
+use Rattle.pawn_base.proofs.TestLemmas.{both_told, told, below, same_key}
 use Rattle.pawn_move.specs.Common.{entries, entries_sorted, find_key, get, get-entries, is_sorted, is_eq, is_lt, nat_cmp, Row, BookValue, Host, IsNextBook, of_books}
 use Rattle.std.specs.FinMap.Entries.{below_all}
 use Rattle.std.proofs.lemmas.Bool.Decides.{nat_tests}
@@ -7,27 +8,13 @@ use Rattle.std.proofs.lemmas.Bool.Decides.{nat_tests}
 abbrev pub Entry : Type 0
 Entry = ℕ × BookValue
 
-pub low : (a b : Bool) → T (a && b) → T a × T b
-low true b h = (tt, h)
-low false b h = absurd h
-
-told : (b : Bool) → T b → b ≡ true
-told true h = refl
-told false h = absurd h
-
-below : (m n : ℕ) → T (is_lt (nat_cmp m n)) → m < n
-below m n h = let e = told _ h in grind (arith, nat_tests, e)
-
-same_key : (m n : ℕ) → is_eq (nat_cmp n m) ≡ true → n ≡ m
-same_key m n h = grind (arith, nat_tests, h)
-
 -- a key that is found behind a lower bound
 pub below_key : (n : ℕ) (es : List Entry) → T (below_all nat_cmp n es) → (b : ℕ) (k : BookValue) → find_key nat_cmp b es ≡ Some k → n < b
 below_key n [] low' b k at = absurd (let e = at in cc)
-below_key n (e ∷ es) low' b k at = go (λ at. below_key n es (low _ _ low').1 b k at) (is_eq (nat_cmp b e.0)) refl at
+below_key n (e ∷ es) low' b k at = go (λ at. below_key n es (both_told _ _ low').1 b k at) (is_eq (nat_cmp b e.0)) refl at
   where
     go : (find_key nat_cmp b es ≡ Some k → n < b) → (d : Bool) → is_eq (nat_cmp b e.0) ≡ d → cond d (Some e.1) (find_key nat_cmp b es) ≡ Some k → n < b
-    go rest true here at = let same = same_key e.0 b here in let under = below n e.0 (low _ _ low').0 in omega (arith, same, under)
+    go rest true here at = let same = same_key e.0 b here in let under = below n e.0 (both_told _ _ low').0 in omega (arith, same, under)
     go rest false here at = rest at
 
 -- of a list of entries, the one at its head
@@ -54,7 +41,7 @@ module _ (f : ℕ → BookValue → List Row) where
 
   none_to : (m a : ℕ) (es : List Entry) → T (below_all nat_cmp m es) → a ≤ m → rows_to a es ≡ []
   none_to m a [] up le = refl
-  none_to m a (e ∷ es) up le = let b = below m e.0 (low _ _ up).0 in left_out a e es (omega (arith, b, le)) ∙ none_to m a es (low _ _ up).1 le
+  none_to m a (e ∷ es) up le = let b = below m e.0 (both_told _ _ up).0 in left_out a e es (omega (arith, b, le)) ∙ none_to m a es (both_told _ _ up).1 le
 
   -- where no book is numbered 0
   none_first : (es : List Entry) → find_key nat_cmp 0 es ≡ None → rows_to 0 es ≡ []
@@ -78,7 +65,7 @@ module _ (f : ℕ → BookValue → List Row) where
           let same : b ≡ e.0 = grind (arith, nat_tests, same') in
           let value : Some e.1 ≡ Some k = sym (here_found e es) ∙ ap (λ c. find_key nat_cmp c (e ∷ es)) (sym same) ∙ at in
           let value' : e.1 ≡ k = (let x = value in cc) in
-          let rest = (low _ _ sorted).0 in
+          let rest = (both_told _ _ sorted).0 in
           kept b e es (omega (arith, same)) ∙ ap (λ l. f e.0 e.1 ++ l) (none_to e.0 b es rest (omega (arith, same))) ∙ append-nil _ ∙ (λ i. f (sym same i) (value' i))
           ∙ ap (λ l. l ++ f b k) (sym (left_out a e es lt ∙ none_to e.0 a es rest (omega (arith, lt))))
 
@@ -86,7 +73,7 @@ module _ (f : ℕ → BookValue → List Row) where
       by_key lt high true same = later lt same
       by_key lt high false other =
           let apart : b ≢ e.0 = λ same. absurd (let x : (b == e.0) ≡ true = grind (arith, nat_tests, same) in let y = sym x ∙ other in cc) in
-          let behind = below_key e.0 es (low _ _ sorted).0 b k (sym (past_head e es b apart) ∙ at) in
+          let behind = below_key e.0 es (both_told _ _ sorted).0 b k (sym (past_head e es b apart) ∙ at) in
           absurd (omega (arith, behind, high))
 
       go : (T (is_sorted nat_cmp es) → a < b → find_key nat_cmp b es ≡ Some k → ((c : ℕ) (x : BookValue) → find_key nat_cmp c es ≡ Some x → a < c → b ≤ c) → rows_to b es ≡ rows_to a es ++ f b k)
@@ -94,7 +81,7 @@ module _ (f : ℕ → BookValue → List Row) where
       go more true is =
           let le : e.0 ≤ a = grind (arith, nat_tests, is) in
           let apart : b ≢ e.0 = λ same. absurd (omega (arith, same, le, up)) in
-          let rest = more (low _ _ sorted).1 up (sym (past_head e es b apart) ∙ at)
+          let rest = more (both_told _ _ sorted).1 up (sym (past_head e es b apart) ∙ at)
           (λ c x there lt. least c x (past_head e es c (λ same. absurd (omega (arith, same, le, lt))) ∙ there) lt) in
           kept b e es (omega (arith, le, up)) ∙ ap (λ l. f e.0 e.1 ++ l) rest ∙ sym (append_assoc (f e.0 e.1) (rows_to a es) (f b k)) ∙ ap (λ l. l ++ f b k) (sym (kept a e es le))
       go more false is =
@@ -107,8 +94,8 @@ module _ (f : ℕ → BookValue → List Row) where
   all_to a [] sorted last = refl
   all_to a (e ∷ es) sorted last =
       let le = last e.0 e.1 (here_found e es) in
-      kept a e es le ∙ ap (λ l. f e.0 e.1 ++ l) (all_to a es (low _ _ sorted).1
-      (λ c x there. let behind = below_key e.0 es (low _ _ sorted).0 c x there in last c x (past_head e es c (λ same. absurd (omega (arith, same, behind))) ∙ there)))
+      kept a e es le ∙ ap (λ l. f e.0 e.1 ++ l) (all_to a es (both_told _ _ sorted).1
+      (λ c x there. let behind = below_key e.0 es (both_told _ _ sorted).0 c x there in last c x (past_head e es c (λ same. absurd (omega (arith, same, behind))) ∙ there)))
 
   abbrev pub books_to : Host → ℕ → List Row
   books_to h a = rows_to a (entries h.books)

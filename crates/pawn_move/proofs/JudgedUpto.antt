@@ -1,35 +1,12 @@
 -- Which debts were judged so far.
 use Rattle.std.proofs.Common.{◌≡◌, ◌≢◌, ◌==◌, ◌+◌, ◌++◌, ◌<◌, ◌≤◌, ℕ, zero, suc, [], ◌∷◌, List, Bool, true, false, Option, Some, None, nat_le, take, slice_get, refl, sym, ap, subst, ◌∙◌, arith}
-use Rattle.pawn_base.proofs.ListLemmas.{Each-push}
+use Rattle.pawn_base.proofs.ListLemmas.{Each-push, take_next, take_past}
 use Rattle.pawn_move.specs.Common.{IfSome, if◌then◌else◌, is_some, get, Totals, PledgeValue, Each, BookValue, pledge_from, pledge_in, Host, pledges_of, totals_in}
 use Rattle.std.proofs.lemmas.Bool.Decides.{nat_tests}
 use Rattle.pawn_move.specs.Moving.{AreAllOwed, AreOwedIn, AreTotalsAt, CanBeOwed, IsJudgedAt, IsNextJudged}
+use Rattle.pawn_book.proofs.Places.{pledge_at_place, pledge_at}
 
 -- ---- the place of a pledge in its book
-
-pledge_at_place : (k : ℕ) (ps : List PledgeValue) (i n : ℕ) → n ≡ k + i → pledge_from k ps n ≡ slice_get ps i
-pledge_at_place k [] i n is = refl
-pledge_at_place k (p ∷ ps) zero n is =
-    let here : (n == k) ≡ true = grind (arith, nat_tests, is) in
-    ap (λ c. if c then Some p else pledge_from (k + 1) ps n) here
-pledge_at_place k (p ∷ ps) (suc i) n is =
-    let other : (n == k) ≡ false = grind (arith, nat_tests, is) in
-    ap (λ c. if c then Some p else pledge_from (k + 1) ps n) other ∙ pledge_at_place (k + 1) ps i n (omega (arith, is))
-
-pub pledge_at : (o : Option BookValue) (i n : ℕ) → n ≡ i + 1 → pledge_in o n ≡ slice_get (pledges_of o) i
-pledge_at None i n is = refl
-pledge_at (Some b) i n is = pledge_at_place 1 b.pledges i n (omega (arith, is))
-
-pub all_taken : {A : Type 0} (xs : List A) (i : ℕ) → slice_get xs i ≡ None → take i xs ≡ xs
-all_taken [] zero is = refl
-all_taken [] (suc i) is = refl
-all_taken (x ∷ xs) zero is = absurd (let e = is in cc)
-all_taken (x ∷ xs) (suc i) is = ap (λ l. x ∷ l) (all_taken xs i is)
-
-pub one_taken : {A : Type 0} (xs : List A) (i : ℕ) (x : A) → slice_get xs i ≡ Some x → take (suc i) xs ≡ take i xs ++ x ∷ []
-one_taken [] i x is = absurd (let e = is in cc)
-one_taken (y ∷ ys) zero x is = let same : y ≡ x = (let e = is in cc) in ap (λ z. z ∷ []) same
-one_taken (y ∷ ys) (suc i) x is = ap (λ l. y ∷ l) (one_taken ys i x is)
 
 -- ---- a pledge
 
@@ -54,13 +31,13 @@ one_judged b i m next h so_far is = go (pledge_in (get h.books b) m) (pledge_at 
     go (Some p) at some it =
         let ps = pledges_of (get h.books b) in
         let count : m ≡ suc i = omega (arith, next) in
-        subst (Each CanBeOwed) (sym (ap (λ k. take k ps) count ∙ one_taken ps i p (sym at))) (Each-push CanBeOwed (take i ps) p so_far it)
+        subst (Each CanBeOwed) (sym (ap (λ k. take k ps) count ∙ take_next ps i p (sym at))) (Each-push CanBeOwed (take i ps) p so_far it)
 
 pub all_judged : (b i m : ℕ) → m ≡ i + 1 → (h : Host) → AreOwedTo b i h → IsJudgedAt h b m false → AreOwedIn h b
 all_judged b i m next h so_far is = go (pledge_in (get h.books b) m) (pledge_at (get h.books b) i m next) is.0
   where
     go : (o : Option PledgeValue) → o ≡ slice_get (pledges_of (get h.books b)) i → false ≡ is_some o → AreOwedIn h b
-    go None at none = subst (Each CanBeOwed) (all_taken (pledges_of (get h.books b)) i (sym at)) so_far
+    go None at none = subst (Each CanBeOwed) (take_past (pledges_of (get h.books b)) i (sym at)) so_far
     go (Some p) at none = absurd (let e = none in cc)
 
 -- ---- all books

@@ -1,9 +1,10 @@
 -- Tables of an older schema, moved to the program's.
 use Rattle.std.proofs.Common.{◌≡◌, ◌++◌, ℕ, List, [], Some, None, Result, Ok, Err, OnOk, Bool, true, false, IsTrue, refl, sym, ap, subst, ◌∙◌, arith, append-nil, T, flat_map, ◌∷◌}
+use Rattle.pawn_base.proofs.TestLemmas.{both_told}
 use Rattle.pawn_move.specs.Common.{◌≢◌, entries, entries_sorted, find_key, get, get-entries, is_sorted, nat_cmp, Tables, Row, HasCleanDisk, State, PledgeValue, Each, BookValue, Host, HasUnsoundBook, KeepError, NoRecord, IsLent, Rests, Holds, Lists, with_rows, Finds, FindsOf, extension_cells, extensions_listed, number_in_book, placed_from, totals_listed, under, extensions, extensions_tree, first_schema, keep_schema, second_schema, StandsFor, of_pledges, IsCarried, AddsTable}
 use Rattle.pawn_move.proofs.Filled.{firsts, untold}
 use Rattle.pawn_move.proofs.Reading.{handed}
-use Rattle.pawn_move.proofs.BooksUpTo.{Entry, below_key, here_found, low, past_head}
+use Rattle.pawn_move.proofs.BooksUpTo.{Entry, below_key, here_found, past_head}
 use Rattle.pawn_book.specs.declared.fault.KeepError.TheVariants as Keeper
 use Rattle.one_table.proofs.Lent.{clean_before}
 use Rattle.pawn_saving.proofs.RowsInOrder.{past}
@@ -29,7 +30,7 @@ none_of_books : (f : ℕ → BookValue → List Row) (es : List Entry) → T (is
 none_of_books f [] sorted none = refl
 none_of_books f (e ∷ es) sorted none =
     ap (λ l. l ++ flat_map (λ (e : Entry). f e.0 e.1) es) (none e.0 e.1 (here_found e es))
-    ∙ none_of_books f es (low _ _ sorted).1 (λ c x there. let behind = below_key e.0 es (low _ _ sorted).0 c x there in none c x (past_head e es c (λ same. absurd (omega (arith, same, behind))) ∙ there))
+    ∙ none_of_books f es (both_told _ _ sorted).1 (λ c x there. let behind = below_key e.0 es (both_told _ _ sorted).0 c x there in none c x (past_head e es c (λ same. absurd (omega (arith, same, behind))) ∙ there))
 
 no_rows : (h : Host) → HasNoExtension h → of_pledges h extensions_listed ≡ []
 no_rows h none = none_of_books (λ b k. flat_map (extensions_listed b) k.pledges) (entries h.books) (entries_sorted h.books) (λ c x there. none_of_pledges c x.pledges (none c x (get-entries h.books c ∙ there)))

@@ -2,6 +2,7 @@
 use Rattle.std.proofs.Common.{◌≡◌, ℕ, ◌<◌, ◌≤◌, ◌==◌, nat_lt, nat_le, Bool, true, false, not, if◌then◌else◌, List, [], ◌∷◌, ◌++◌, length, Option, Some, None, Result, Ok, Err, refl, sym, ap, subst, ◌∙◌, arith}
 use Rattle.std.proofs.lemmas.Bool.{true≢false}
 use Rattle.std.proofs.lemmas.Bool.Decides.{nat_tests}
+use Rattle.pawn_base.proofs.TestLemmas.{not_below, not_most}
 use Rattle.pawn_base.specs.Refusals.{first_of, NoneApplies}
 use Rattle.pawn_base.proofs.RefusalLemmas.{first_of-ok}
 use Rattle.pawn_terms.specs.Limits.{last_stamp_day}
@@ -51,13 +52,6 @@ if-unanswered false a own q d h = (refl, h)
 
 pub changed-is : (p q : PledgeValue) (d e : Done) → Changed p d ≡ Changed q e → q ≡ p
 changed-is p q d e h = cc
-
--- tests on numbers
-pub not_below : (a b : ℕ) → nat_lt a b ≡ false → b ≤ a
-not_below a b h = grind (arith, nat_tests, h)
-
-pub not_most : (a b : ℕ) → nat_le a b ≡ false → b < a
-not_most a b h = grind (arith, nat_tests, h)
 
 not_other : (a b : ℕ) → not (a == b) ≡ false → a ≡ b
 not_other a b h = by (a == b) refl h

@@ -2,10 +2,11 @@
 use Rattle.std.proofs.Common.{◌≡◌, ℕ, ◌+◌, ◌<◌, ◌≤◌, ◌==◌, nat_le, Bool, true, false, not, ◌&&◌, if◌then◌else◌, List, [], ◌∷◌, ◌++◌, length, Option, Some, None, Ok, refl, sym, ap, subst, ◌∙◌, arith, length-append}
 use Rattle.std.proofs.lemmas.Bool.{true≢false}
 use Rattle.std.proofs.lemmas.Bool.Decides.{nat_tests}
+use Rattle.pawn_base.proofs.TestLemmas.{not_most, unequal}
 use Rattle.pawn_terms.specs.Calendar.{later_of, period_end, six_months}
 use Rattle.pawn_base.specs.Refusals.{NoneApplies}
 use Rattle.pawn_terms.specs.Limits.{last_stamp_day}
-use Rattle.pawn_base.proofs.ListLemmas.{last_by-push, DoNotFall-push, Each-push, Each-map, Each-all, DoNotFall-each}
+use Rattle.pawn_base.proofs.ListLemmas.{last_by-push, DoNotFall-push, Each-push, Each-map, Each-all, DoNotFall-each, longer}
 use Rattle.pawn_debt.specs.declared.entry.Entry.{Entry}
 use Rattle.pawn_debt.specs.declared.entry.Sort.{Sort}
 use Rattle.pawn_debt.specs.declared.entry.Sort.TheVariants.{Draw, Repay}
@@ -26,7 +27,7 @@ use Rattle.pawn_pledge.specs.Pledge.{PledgeValue, end_with, last_until, end_of, 
 use Rattle.pawn_pledge.specs.Step.{declare_bars}
 use Rattle.pawn_pledge.specs.Replayable.{IsNotPassed, IsLaterIssue, IsDrawnBy, IsClosed, IsOverUnder, IsBooked, IsReplayable, IsWithinLimits}
 use Rattle.pawn_pledge.specs.Commands.{IsCommand}
-use Rattle.pawn_pledge.proofs.Moves.{not_most, Move, Entering, Declaring, Extending, Settling}
+use Rattle.pawn_pledge.proofs.Moves.{Move, Entering, Declaring, Extending, Settling}
 use Rattle.pawn_pledge.proofs.Settled.{IsGated, still-open}
 use Rattle.pawn_pledge.proofs.Pushes.{AreIssued-push, AreDistinct-push, AreNumbered-push, later_of-le, later_of-push, AreExtended-push}
 use Rattle.pawn_pledge.specs.Limits.{small_credit, most_secrets}
@@ -118,9 +119,6 @@ stays-declared p x word paper h g ok =
 -- a longer period
 pub period_end-late : (taken : ℕ) (agreed extended : Option ℕ) → six_months taken ≤ period_end taken agreed extended
 period_end-late taken agreed extended = omega (arith, later_of-le (six_months taken) agreed, later_of-le (later_of (six_months taken) agreed) extended)
-
-unequal : (a b : ℕ) → b < a → (a == b) ≡ false
-unequal a b h = grind (arith, nat_tests)
 
 booked-longer : (p q : PledgeValue) (o : Option Booking) → q.agreement.taken ≡ p.agreement.taken → q.standing.closing ≡ p.standing.closing → ((x : ℕ) → IsNotPassed q x) → IsBooked p o → IsBooked q o
 booked-longer p q None taken closing any h = tt
@@ -220,15 +218,11 @@ within-moved p q c w x stamped given h (Extending until inside longer few named 
       last = stamped;
     })
 
--- a list with one more element is another
-grown : {A : Type 0} (xs : List A) (x : A) → xs ++ x ∷ [] ≡ xs → ⊥
-grown xs x h = let n : length (xs ++ x ∷ []) ≡ length xs = ap length h in omega (arith, n, length-append xs (x ∷ []))
-
 -- and something is another
 pub differs-moved : (p q : PledgeValue) (c : Command) (w x : ℕ) → IsGated p x → Move p x w c q → q ≡ p → ⊥
 differs-moved p q c w x g (Entering sort pence ok late few drawn is) same =
-    grown p.entries (record { seq = length p.entries + 1; day = x; sort = sort; pence = pence }) (ap (λ (v : PledgeValue). v.entries) (sym is ∙ same))
+    longer p.entries (record { seq = length p.entries + 1; day = x; sort = sort; pence = pence }) (ap (λ (v : PledgeValue). v.entries) (sym is ∙ same))
 differs-moved p q c w x g (Declaring paper ok is) same =
-    grown p.secrets (record { day = x; sort = issue_of paper; secret = w }) (ap (λ (v : PledgeValue). v.secrets) (sym is ∙ same))
+    longer p.secrets (record { day = x; sort = issue_of paper; secret = w }) (ap (λ (v : PledgeValue). v.secrets) (sym is ∙ same))
 differs-moved p q c w x g (Settling s to is) same = to.differs (ap (λ (v : PledgeValue). v.standing) (sym is ∙ same))
-differs-moved p q c w x g (Extending until inside longer few named is) same = grown p.extensions (record { day = x; until = until }) (ap (λ (v : PledgeValue). v.extensions) (sym is ∙ same))
+differs-moved p q c w x g (Extending until inside longer few named is) same = longer p.extensions (record { day = x; until = until }) (ap (λ (v : PledgeValue). v.extensions) (sym is ∙ same))

@@ -3,6 +3,7 @@ use Rattle.std.proofs.Common.{◌≡◌, ℕ, ◌≤◌, ◌==◌, nat_lt, nat_l
 use Rattle.std.specs.Prelude.{IfOk}
 use Rattle.std.proofs.lemmas.Bool.Decides.{nat_tests}
 use Rattle.std.proofs.lemmas.Bool.{or_parts}
+use Rattle.pawn_base.proofs.TestLemmas.{not_below}
 use Rattle.pawn_terms.proofs.SixMonths.{six_months-later}
 use Rattle.pawn_base.proofs.RefusalLemmas.{first_of-ok}
 use Rattle.pawn_debt.specs.declared.fault.DebtFault.TheVariants.{BadAmount}
@@ -16,7 +17,7 @@ use Rattle.pawn_pledge.specs.declared.refusal.Refusal.{Refusal}
 use Rattle.pawn_pledge.specs.Step.{IsStarted}
 use Rattle.pawn_pledge.specs.Replayable.{IsNotPassed, IsStanding}
 use Rattle.pawn_pledge.specs.Laws.{StartsStanding}
-use Rattle.pawn_pledge.proofs.Moves.{not_below}
+
 use Rattle.pawn_pledge.proofs.Replays.{period_end-late}
 
 inside-not_passed : (p : PledgeValue) (x : ℕ) → x ≤ end_of p → IsNotPassed p x

@@ -16,4 +16,5 @@ pub use Rattle.pawn_table_keeper.proofs.Handings.{HandedTo, begins_at, ends_by, 
 pub use Rattle.pawn_table_keeper.proofs.PageHandings.{HandedPages, page_goes, page_stops, page_whole, pages_end, pages_go, pages_stop}
 pub use Rattle.pawn_table_keeper.proofs.SheetPages.{is_named, named_all, not_named, some_items, some_page, whole_page}
 pub use Rattle.pawn_table_keeper.proofs.TooMany.{too_many_entries, too_many_extensions, too_many_lines, too_many_pledges, too_many_secrets}
-pub use Rattle.pawn_table_keeper.proofs.Walks.{Walked, ended, errs_database, failed, more, pledge_at, stopped, walked_past}
+pub use Rattle.pawn_table_keeper.proofs.Walks.{Walked, ended, errs_database, failed, more, stopped, walked_past}
+pub use Rattle.pawn_book.proofs.Places.{pledge_at}

@@ -1,25 +1,13 @@
 -- A list that is handed over element by element, each of them read by a call of its own.
 use Rattle.std.proofs.Common.{◌≡◌, ◌≤◌, ◌<◌, ◌++◌, ◌==◌, ℕ, zero, suc, ◌+◌, List, length, length-append, [], ◌∷◌, take, drop, slice_get, true, false, Option, Some, None, Result, Ok, Err, refl, sym, ap, subst, ◌∙◌, arith, append-nil}
+use Rattle.pawn_base.proofs.ListLemmas.{take_next, take_past}
 use Rattle.pawn_table_keeper.specs.Common.{IfErr, if◌then◌else◌, PledgeValue, BookValue, pledge_from, pledge_in, Host, Errs, Keeping, Reads, pledges_of, Front, Handed, IsShare, Visits, Whole, KeepError, Database, NoRecord, Flow, Go, Stop}
 use Rattle.std.proofs.lemmas.Bool.Decides.{nat_tests}
 use Rattle.std.proofs.lemmas.List.{take-append-drop}
 use Rattle.pawn_book.specs.declared.fault.KeepError.TheVariants as Keeper
 use Rattle.pawn_book.proofs.Reading.{reads_none, reads_then}
 use Rattle.pawn_book.proofs.VisitLemmas.{handed-snoc}
-
-take_next : {A : Type 0} (xs : List A) (i : ℕ) (x : A) → slice_get xs i ≡ Some x → take (suc i) xs ≡ take i xs ++ x ∷ []
-take_next [] i x at = absurd (let e = at in cc)
-take_next (y ∷ xs) zero x at = let same : y ≡ x = (let e = at in cc) in ap (λ z. z ∷ []) same
-take_next (y ∷ xs) (suc i) x at = ap (λ l. y ∷ l) (take_next xs i x at)
-
-take_nothing : {A : Type 0} (n : ℕ) → ◌≡◌ {A = List A} (take n []) []
-take_nothing zero = refl
-take_nothing (suc n) = refl
-
-take_past : {A : Type 0} (xs : List A) (i : ℕ) → slice_get xs i ≡ None → take i xs ≡ xs
-take_past [] i none = take_nothing i
-take_past (y ∷ xs) zero none = absurd (let e = none in cc)
-take_past (y ∷ xs) (suc i) none = ap (λ l. y ∷ l) (take_past xs i none)
+use Rattle.pawn_book.proofs.Places.{pledge_at_place}
 
 take_at_most : {A : Type 0} (n : ℕ) (xs : List A) → length (take n xs) ≤ length xs
 take_at_most zero xs = omega arith
@@ -102,16 +90,3 @@ errs_database k old new r may is = record {
 }
 
 -- ---- the pledge at a number
-
-pledge_at_place : (k : ℕ) (ps : List PledgeValue) (i n : ℕ) → n ≡ k + i → pledge_from k ps n ≡ slice_get ps i
-pledge_at_place k [] i n is = refl
-pledge_at_place k (p ∷ ps) zero n is =
-    let here : (n == k) ≡ true = grind (arith, nat_tests, is) in
-    ap (λ c. if c then Some p else pledge_from (k + 1) ps n) here
-pledge_at_place k (p ∷ ps) (suc i) n is =
-    let other : (n == k) ≡ false = grind (arith, nat_tests, is) in
-    ap (λ c. if c then Some p else pledge_from (k + 1) ps n) other ∙ pledge_at_place (k + 1) ps i n (omega (arith, is))
-
-pub pledge_at : (o : Option BookValue) (i n : ℕ) → n ≡ i + 1 → pledge_in o n ≡ slice_get (pledges_of o) i
-pledge_at None i n is = refl
-pledge_at (Some b) i n is = pledge_at_place 1 b.pledges i n (omega (arith, is))

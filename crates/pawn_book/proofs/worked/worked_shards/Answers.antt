@@ -3,6 +3,7 @@ use Rattle.std.specs.Prelude.{if◌then◌else◌, Option, None, Some, nat_lt}
 use Rattle.std.specs.FinMap.{FinMap, empty, entries, entries-insert, find, get, get-entries, insert, len-empty, len-entries, put}
 use Rattle.std.specs.Ordering.{nat_cmp}
 use Rattle.std.proofs.lemmas.Cmp.{nat_cmp_total}
+use Rattle.pawn_base.proofs.ListLemmas.{no_elements}
 use Rattle.pawn_terms.specs.Calendar.{civil_after, days_of_years, days_of_months}
 use Rattle.pawn_debt.specs.Due.{due_after}
 use Rattle.pawn_pledge.specs.declared.command.Stamp.{Stamp}
@@ -103,12 +104,8 @@ told_listed h es (a ∷ asked) is =
 
 -- the hosts' books
 
-none_of_none : {A : Type 0} (xs : List A) → length xs ≡ 0 → xs ≡ []
-none_of_none [] h = refl
-none_of_none (x ∷ xs) h = absurd (omega (arith, h))
-
 no_entries : entries (empty {X = BookValue} {R = nat_cmp}) ≡ []
-no_entries = none_of_none _ (sym (len-entries (empty {X = BookValue} {R = nat_cmp})) ∙ len-empty nat_cmp BookValue)
+no_entries = no_elements _ (sym (len-entries (empty {X = BookValue} {R = nat_cmp})) ∙ len-empty nat_cmp BookValue)
 
 only : (b : ℕ) (book : BookValue) → entries (insert (empty {X = BookValue} {R = nat_cmp}) b book) ≡ (b, book) ∷ []
 only b book = entries-insert nat_cmp_total empty b book ∙ ap (put nat_cmp b book) no_entries
