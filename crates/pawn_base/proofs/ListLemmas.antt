@@ -1,5 +1,5 @@
 -- Properties of each element of a list, and lists along which a number does not fall.
-use Rattle.std.proofs.Common.{◌≡◌, ◌∙◌, ℕ, zero, suc, ◌+◌, ◌≤◌, List, [], ◌∷◌, ◌++◌, length, length-append, take, slice_get, Option, Some, None, refl, ap, arith}
+use Rattle.std.proofs.Common.{◌≡◌, ◌∙◌, ℕ, zero, suc, ◌≤◌, List, [], ◌∷◌, ◌++◌, length, length-append, take, slice_get, Some, None, refl, ap, arith}
 use Rattle.pawn_base.specs.Lists.{DoNotFall, Each, last_by}
 
 pub last_by-le : {A : Type 0} (f : A → ℕ) (n : ℕ) (xs : List A) → DoNotFall f n xs → n ≤ last_by f n xs
@@ -58,5 +58,5 @@ pub no_elements : {A : Type 0} (xs : List A) → length xs ≡ 0 → xs ≡ []
 no_elements [] h = refl
 no_elements (x ∷ xs) h = absurd (omega (arith, h))
 
-pub longer : {A : Type 0} (xs : List A) (x : A) → xs ++ x ∷ [] ≡ xs → ⊥
-longer xs x is = let long = ap length is in let more = length-append xs (x ∷ []) in absurd (omega (arith, long, more))
+pub grown : {A : Type 0} (xs : List A) (x : A) → xs ++ x ∷ [] ≡ xs → ⊥
+grown xs x is = let long = ap length is in let more = length-append xs (x ∷ []) in absurd (omega (arith, long, more))

@@ -1,22 +1,11 @@
 -- What is planned and made is the host's step.
 use Rattle.std.proofs.Common.{◌≡◌, ℕ, ◌<◌, ◌≤◌, Some, None, Ok, Err, refl, ◌∙◌, ap, sym, subst, arith, inl, inr}
 use Rattle.std.specs.Prelude.{Result, if◌then◌else◌, Option, true, false, nat_lt, ◌⊎◌}
-use Rattle.std.specs.FinMap.{get}
+use Rattle.pawn_book.specs.Common.{Stamp, get}
 use Rattle.std.proofs.lemmas.Bool.Decides.{nat_tests}
-use Rattle.pawn_pledge.specs.declared.command.Stamp.{Stamp}
-use Rattle.pawn_book.specs.declared.request.Request.{Request}
-use Rattle.pawn_book.specs.declared.reply.Reply.{Reply}
-use Rattle.pawn_book.specs.declared.refusal.Refusal.{Refusal}
-use Rattle.pawn_book.specs.declared.refusal.Refusal.TheVariants.{Full}
-use Rattle.pawn_book.specs.declared.change.Change.{Change}
-use Rattle.pawn_book.specs.BookStep.{BookValue, Outcome, Refuses, Says, Makes, Told, out_of, changed_book, book_step}
-use Rattle.pawn_book.specs.HostStep.{Host, within_limit, host_step, host_after, with_book, rows}
-use Rattle.pawn_book.specs.Sound.{IsSound}
-use Rattle.pawn_book.specs.Changes.{book_number, with_change}
+use Rattle.pawn_book.specs.Books.{Acts, BookValue, Change, Commits, Full, Host, IsLeftBy, IsLeftByAct, IsLeftByCommit, IsLeftByStep, IsSound, IsUnwell, Makes, Outcome, Plans, Refusal, Refuses, Reply, Request, Says, Told, book_number, book_step, changed_book, host_after, host_step, next_host, out_of, rows, with_book, with_change, within_limit}
 use Rattle.pawn_book.specs.declared.fault.SaveError.{SaveError}
 use Rattle.pawn_book.specs.declared.fault.SaveError.TheVariants as Save
-use Rattle.pawn_book.specs.Keeping.{IsLeftBy}
-use Rattle.pawn_book.specs.Plans.{IsLeftByAct, IsLeftByCommit, IsLeftByStep, IsUnwell, Plans, Acts, Commits, next_host}
 
 -- the step of the request's book
 abbrev pub step_of : Host → ℕ → Stamp → Request → Outcome

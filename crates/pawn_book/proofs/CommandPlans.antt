@@ -1,30 +1,9 @@
 -- A plan of a command is the book's step.
 use Rattle.std.proofs.Common.{◌≡◌, ℕ, Some, None, Ok, Err, refl, ◌∙◌, ap, sym, subst, arith, inl, inr}
 use Rattle.std.specs.Prelude.{if◌then◌else◌, Option, Result, Bool, true, false, IfSome, IfOk}
-use Rattle.std.specs.FinMap.{get}
-use Rattle.std.specs.Str.{IsUtf8}
-use Rattle.pawn_terms.specs.Calendar.{IsDayNumber, IsStampDay}
-use Rattle.pawn_pledge.specs.declared.command.Command.{Command}
-use Rattle.pawn_pledge.specs.declared.command.Done.{Done}
-use Rattle.pawn_pledge.specs.declared.command.Stamp.{Stamp}
-use Rattle.pawn_pledge.specs.declared.receipt.Receipt.{Receipt}
-use Rattle.pawn_pledge.specs.declared.record.Agreement.{Agreement}
-use Rattle.pawn_pledge.specs.Pledge.{PledgeValue}
-use Rattle.pawn_pledge.specs.Commands.{IsCommand}
-use Rattle.pawn_pledge.specs.Replayable.{IsStanding}
-use Rattle.pawn_pledge.specs.Step.{Answered, Changed, Judged, Refused, pledge_step}
+use Rattle.pawn_book.specs.Common.{Agreement, Answered, Changed, Command, Done, IsCommand, IsDayNumber, IsStampDay, IsStanding, IsUtf8, Judged, PledgeValue, Receipt, Refused, Stamp, get, pledge_step}
 use Rattle.pawn_pledge.proofs.Steps.{stays_standing}
-use Rattle.pawn_book.specs.declared.change.Change.{Change}
-use Rattle.pawn_book.specs.declared.change.Change.TheVariants.{PutPledge}
-use Rattle.pawn_book.specs.declared.change.Planned.{Planned}
-use Rattle.pawn_book.specs.declared.refusal.Refusal.{Refusal}
-use Rattle.pawn_book.specs.declared.reply.Reply.{Reply}
-use Rattle.pawn_book.specs.BookStep.{BookValue, Makes, Outcome, Refuses, Says, bearer_commands, broker_commands, changed_book, is_live, judged_outcome, live_at, only_live, pledge_from, pledge_in, put_from, within_window}
-use Rattle.pawn_book.specs.HostStep.{Host, with_book}
-use Rattle.pawn_book.specs.Rows.{AreDistinct, IsUnder, terms_at}
-use Rattle.pawn_book.specs.Sound.{AreSound, AreWords, HasTextsAndWords, IsSound, IsSoundBook, IsWord}
-use Rattle.pawn_book.specs.Changes.{CanSave, Continues, book_number, with_change}
-use Rattle.pawn_book.specs.Plans.{IsOutcome, Plans, outcome_of}
+use Rattle.pawn_book.specs.Books.{AreDistinct, AreSound, AreWords, BookValue, CanSave, Change, Continues, HasTextsAndWords, Host, IsOutcome, IsSound, IsSoundBook, IsUnder, IsWord, Makes, Outcome, Planned, Plans, PutPledge, Refusal, Refuses, Reply, Says, bearer_commands, book_number, broker_commands, changed_book, is_live, judged_outcome, live_at, only_live, outcome_of, pledge_from, pledge_in, put_from, terms_at, with_book, with_change, within_window}
 use Rattle.pawn_book.proofs.KeptLemmas.{kept_moved}
 use Rattle.pawn_book.proofs.Places.{pledge_within}
 use Rattle.pawn_book.proofs.Words.{words_moved}

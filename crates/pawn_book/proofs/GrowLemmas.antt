@@ -2,28 +2,8 @@
 use Rattle.std.proofs.Common.{◌≡◌, ℕ, List, [], ◌∷◌, ◌++◌, length, Some, None, Ok, Err, refl, ◌∙◌, ap, sym, subst, arith, append_assoc}
 use Rattle.std.specs.Prelude.{if◌then◌else◌, Option, Result, ◌==◌, Bool, true, false, map}
 use Rattle.std.proofs.lemmas.List.{append-nil}
-use Rattle.pawn_terms.specs.declared.terms.Rates.{Rates}
-use Rattle.pawn_pledge.specs.declared.command.Stamp.{Stamp}
-use Rattle.pawn_pledge.specs.declared.record.Opening.{Opening}
-use Rattle.pawn_pledge.specs.Pledge.{PledgeValue}
-use Rattle.pawn_pledge.specs.Step.{Answered, Changed, Judged, Refused, pledge_step}
-use Rattle.pawn_pledge.specs.declared.command.Command.{Command}
-use Rattle.pawn_pledge.specs.declared.command.Done.{Done}
-use Rattle.pawn_pledge.specs.declared.receipt.Receipt.{Receipt}
-use Rattle.pawn_book.specs.declared.request.Caller.{Caller}
-use Rattle.pawn_book.specs.declared.request.Caller.TheVariants.{Operator, Broker, Bearer}
-use Rattle.pawn_book.specs.declared.request.BrokerRequest.TheVariants.{PutTerms, TakePledge, OnPledge, Import, Show, SheetOf, Export}
-use Rattle.pawn_book.specs.declared.request.BearerRequest.TheVariants.{Present, OnPledge as OnReceipt}
-use Rattle.pawn_book.specs.declared.request.NewTerms.{NewTerms}
-use Rattle.pawn_book.specs.declared.refusal.Refusal.{Refusal}
-use Rattle.pawn_book.specs.declared.refusal.Refusal.TheVariants.{BookNotEmpty, NoSuchReceipt, WindowFull}
-use Rattle.pawn_book.specs.declared.reply.Reply.TheVariants.{TermsPut, BookFilled, Opened}
-use Rattle.pawn_book.specs.declared.change.Change.TheVariants.{AddTerms, PutPledge, ImportBook}
-use Rattle.pawn_book.specs.declared.change.Imported.{Imported}
-use Rattle.pawn_book.specs.declared.rows.BookRows.{BookRows}
-use Rattle.pawn_book.specs.BookStep.{BookValue, Shown, Outcome, Refuses, Says, Makes, are_same_rates, are_unknown, bearer_commands, book_after, broker_commands, confirmed_booking, filled_book, import_rows, is_empty, is_window_full, judged_outcome, show_pledge, within_window, book_step, first_receipt, book_head, present_receipts, is_same_book, is_same_opening, make_or_refuse, newest, next_terms, pledge_from, put_from, put_terms, take_pledge, next_pledge, with_reference, live_at, pledge_in}
-use Rattle.pawn_book.specs.Rows.{terms_at}
-use Rattle.pawn_book.specs.Laws.{book_run}
+use Rattle.pawn_book.specs.Common.{Answered, Changed, Command, Done, Judged, Opening, PledgeValue, Rates, Receipt, Refused, Stamp, pledge_step}
+use Rattle.pawn_book.specs.Books.{AddTerms, Bearer, BookFilled, BookNotEmpty, BookRows, BookValue, Broker, Caller, Export, Import, ImportBook, Imported, Makes, NewTerms, NoSuchReceipt, OnPledge, OnReceipt, Opened, Operator, Outcome, Present, PutPledge, PutTerms, Refusal, Refuses, Says, SheetOf, Show, Shown, TakePledge, TermsPut, WindowFull, are_same_rates, are_unknown, bearer_commands, book_after, book_head, book_run, book_step, broker_commands, confirmed_booking, filled_book, first_receipt, import_rows, is_empty, is_same_book, is_same_opening, is_window_full, judged_outcome, live_at, make_or_refuse, newest, next_pledge, next_terms, pledge_from, pledge_in, present_receipts, put_from, put_terms, show_pledge, take_pledge, terms_at, with_reference, within_window}
 use Rattle.pawn_book.proofs.Sounds.{absurd_none, put_next}
 use Rattle.pawn_book.proofs.KeptLemmas.{AreKept, are_kept_on, are_kept_push, are_kept_put, are_kept_same, kept_moved}
 use Rattle.pawn_book.proofs.CommandPlans.{live_is}

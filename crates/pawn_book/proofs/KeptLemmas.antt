@@ -1,17 +1,10 @@
 -- What every change keeps of the pledges that stand.
 use Rattle.std.proofs.Common.{◌≡◌, ℕ, ◌+◌, List, [], ◌∷◌, ◌++◌, Some, refl, ◌∙◌, ap, sym, subst}
 use Rattle.std.specs.Prelude.{if◌then◌else◌, true, false, ◌==◌}
-use Rattle.pawn_pledge.specs.declared.command.Command.{Command}
-use Rattle.pawn_pledge.specs.declared.command.Done.{Done}
-use Rattle.pawn_pledge.specs.declared.command.Stamp.{Stamp}
-use Rattle.pawn_pledge.specs.declared.record.Agreement.{Agreement}
-use Rattle.pawn_pledge.specs.Pledge.{PledgeValue}
-use Rattle.pawn_pledge.specs.Step.{Changed, pledge_step}
+use Rattle.pawn_book.specs.Common.{Agreement, Changed, Command, Done, PledgeValue, Stamp, pledge_step}
 use Rattle.pawn_pledge.proofs.Growth.{grows-moved, grows-same, grows-then}
 use Rattle.pawn_pledge.proofs.Steps.{agreement_stays, lists_of_step}
-use Rattle.pawn_book.specs.BookStep.{pledge_from, put_from, with_reference}
-use Rattle.pawn_book.specs.Rows.{is_same_text}
-use Rattle.pawn_book.specs.Changes.{Continues}
+use Rattle.pawn_book.specs.Books.{Continues, is_same_text, pledge_from, put_from, with_reference}
 use Rattle.pawn_book.proofs.Sounds.{absurd_none, some_is}
 
 pub kept_same : (p : PledgeValue) → Continues p p

@@ -1,49 +1,15 @@
 -- The laws of books.
 use Rattle.std.proofs.Common.{◌≡◌, ℕ, ◌+◌, zero, suc, List, [], ◌∷◌, ◌++◌, length, Some, None, Ok, Err, refl, ◌∙◌, ap, sym, subst, arith, length-append}
 use Rattle.std.specs.Prelude.{if◌then◌else◌, is_some, Option, Result, ◌==◌, ◌&&◌, ◌||◌, Bool, true, false, nat_lt, nat_le, unwrap_or, slice_get}
-use Rattle.std.specs.Result.{result_unwrap_or}
-use Rattle.std.proofs.lemmas.Bool.Decides.{nat_tests}
-use Rattle.pawn_base.proofs.RefusalLemmas.{past_row-ok}
-use Rattle.pawn_base.proofs.TestLemmas.{equal_itself}
-use Rattle.pawn_base.proofs.ListLemmas.{longer}
-use Rattle.pawn_terms.specs.declared.terms.Rates.{Rates}
-use Rattle.pawn_terms.specs.Terms.{most_keep, most_rate}
-use Rattle.pawn_terms.specs.TermsFault.{terms_answer}
-use Rattle.pawn_terms.specs.declared.terms.TermsFault.{TermsFault}
+use Rattle.pawn_book.specs.Common.{Agreement, AreNumbered, Command, Fixed, IsStanding, Issued, Kind, Opening, PledgeValue, Rates, Receipt, Running, Stamp, TermsFault, most_keep, most_rate, result_unwrap_or, terms_answer}
+use Rattle.pawn_book.proofs.Lemmas.{and_from, changes_differ, equal_itself, grown, nat_tests, past_row-ok}
 use Rattle.pawn_terms.specs.declared.terms.TermsFault.TheVariants.{KeepTooHigh, KeepingRate, RateTooHigh}
-use Rattle.pawn_book.specs.Limits.{most_terms}
-use Rattle.pawn_debt.specs.declared.entry.Kind.{Kind}
-use Rattle.pawn_debt.specs.declared.entry.Kind.TheVariants.{Fixed, Running}
-use Rattle.pawn_pledge.specs.declared.command.Stamp.{Stamp}
-use Rattle.pawn_pledge.specs.declared.record.Agreement.{Agreement}
-use Rattle.pawn_pledge.specs.declared.record.Opening.{Opening}
-use Rattle.pawn_pledge.specs.Pledge.{PledgeValue}
-use Rattle.pawn_pledge.specs.Replayable.{AreNumbered, IsStanding}
-use Rattle.pawn_pledge.specs.declared.command.Command.{Command}
-use Rattle.pawn_pledge.specs.declared.receipt.Receipt.{Receipt}
-use Rattle.pawn_pledge.specs.declared.record.Issued.{Issued}
-use Rattle.pawn_book.specs.Sound.{IsSoundBook}
-use Rattle.pawn_pledge.proofs.Steps.{changes_differ}
-use Rattle.pawn_book.specs.declared.request.Caller.{Caller}
-use Rattle.pawn_book.specs.declared.request.NewTerms.{NewTerms}
-use Rattle.pawn_book.specs.declared.refusal.Refusal.{Refusal}
-use Rattle.pawn_book.specs.declared.refusal.Refusal.TheVariants.{BookNotEmpty, BookTaken, NoSuchBook, NotOperator, RefTaken, TermsFull, TermsSeq}
-use Rattle.pawn_book.specs.declared.reply.Reply.{Reply}
-use Rattle.pawn_book.specs.declared.reply.Reply.TheVariants.{BookMade, TermsPut, BookFilled, Opened}
-use Rattle.pawn_book.specs.declared.change.Change.{Change}
-use Rattle.pawn_book.specs.declared.change.Change.TheVariants.{AddTerms, PutPledge, ImportBook}
-use Rattle.pawn_book.specs.BookStep.{BookValue, Told, Refuses, Says, are_same_rates, first_secret, is_live, only_live, book_step, changed_book, filled_book, import_rows, make_book, first_receipt, book_head, is_same_end, is_same_book, is_same_flag, is_same_kind, is_same_opening, made_book, newest, next_terms, pledge_from, put_from, put_terms, take_pledge, with_reference, under_terms}
-use Rattle.pawn_book.specs.Rows.{is_same_text, terms_at}
-use Rattle.pawn_book.specs.declared.request.Caller.TheVariants.{Operator, Broker, Bearer}
-use Rattle.pawn_book.specs.declared.request.BrokerRequest.TheVariants.{PutTerms, TakePledge, OnPledge, Import, Show, SheetOf, Export}
-use Rattle.pawn_book.specs.Laws.{Asks, BookChangesDiffer, IsMaking, RepeatsActOnce, book_run}
+use Rattle.pawn_book.specs.Books.{AddTerms, Asks, Bearer, BookChangesDiffer, BookFilled, BookMade, BookNotEmpty, BookTaken, BookValue, Broker, Caller, Change, Continues, Export, Import, ImportBook, IsMaking, IsSoundBook, NewTerms, NoSuchBook, NotOperator, OnPledge, Opened, Operator, PutPledge, PutTerms, RefTaken, Refusal, Refuses, RepeatsActOnce, Reply, Says, SheetOf, Show, TakePledge, TermsFull, TermsPut, TermsSeq, Told, are_same_rates, book_head, book_run, book_step, changed_book, filled_book, first_receipt, first_secret, import_rows, is_live, is_same_book, is_same_end, is_same_flag, is_same_kind, is_same_opening, is_same_text, made_book, make_book, most_terms, newest, next_terms, only_live, pledge_from, put_from, put_terms, take_pledge, terms_at, under_terms, with_reference}
 use Rattle.pawn_book.proofs.Sounds.{absurd_none, each_at, some_is}
-use Rattle.pawn_book.specs.Changes.{Continues}
 use Rattle.pawn_book.proofs.KeptLemmas.{number_kept, put_there, reference_kept}
 use Rattle.pawn_book.proofs.Plans.{next_is, not_standing, taken_is}
 use Rattle.pawn_book.proofs.GrowLemmas.{Grown, grown_same, next_pledges, run_grows}
 use Rattle.pawn_book.proofs.MadeLemmas.{BookIs, CommandIs, DidOn, MadeBy, PledgeIs, RowsAre, TermsAre, made_by}
-use Rattle.std.proofs.lemmas.Bool.{and_from}
 
 -- a text is itself
 text_same : (xs : List ℕ) → is_same_text xs xs ≡ true
@@ -60,11 +26,11 @@ change_differs before operator b stamp caller change reply is same = from (made_
     from (TermsAre key new book terms asks stands passes absent answer makes says) =
         let after : Some (record book { terms = book.terms ++ terms ∷ [] }) ≡ Some book =
         ap (λ o. changed_book o (AddTerms b new.version terms)) (sym stands) ∙ ap (changed_book before) (sym makes) ∙ same ∙ stands in
-        longer book.terms terms (ap (λ (o : Option BookValue). (unwrap_or o book).terms) after)
+        grown book.terms terms (ap (λ (o : Option BookValue). (unwrap_or o book).terms) after)
     from (PledgeIs key opening book p asks stands passes absent answer makes says) =
         let after : Some (record book { pledges = put_from 1 book.pledges p.agreement.number p }) ≡ Some book =
         ap (λ o. changed_book o (PutPledge b p.agreement.number p)) (sym stands) ∙ ap (changed_book before) (sym makes) ∙ same ∙ stands in
-        longer book.pledges p (sym (next_pledges book opening stamp p answer) ∙ ap (λ (o : Option BookValue). (unwrap_or o book).pledges) after)
+        grown book.pledges p (sym (next_pledges book opening stamp p answer) ∙ ap (λ (o : Option BookValue). (unwrap_or o book).pledges) after)
     from (RowsAre key importing rows book asks stands passes unfilled makes says) =
         let after : Some (filled_book book importing rows) ≡ Some book =
         ap (λ o. changed_book o (ImportBook b importing rows)) (sym stands) ∙ ap (changed_book before) (sym makes) ∙ same ∙ stands in

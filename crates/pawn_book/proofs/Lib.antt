@@ -20,3 +20,4 @@ pub mod SlotRuns
 pub mod SlotAccepted
 pub mod SlotSpent
 pub mod ShardLemmas
+pub mod Lemmas

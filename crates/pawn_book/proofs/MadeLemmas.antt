@@ -1,32 +1,8 @@
 -- How a change came about.
 use Rattle.std.proofs.Common.{◌≡◌, ℕ, List, length, Some, None, Ok, Err, refl, ap, sym}
 use Rattle.std.specs.Prelude.{if◌then◌else◌, Option, Result, ◌==◌, Bool, true, false, map}
-use Rattle.pawn_terms.specs.declared.terms.Rates.{Rates}
-use Rattle.pawn_pledge.specs.declared.command.Stamp.{Stamp}
-use Rattle.pawn_pledge.specs.declared.record.Opening.{Opening}
-use Rattle.pawn_pledge.specs.Pledge.{PledgeValue}
-use Rattle.pawn_pledge.specs.Step.{Answered, Changed, Judged, Refused, pledge_step}
-use Rattle.pawn_pledge.specs.declared.command.Command.{Command}
-use Rattle.pawn_pledge.specs.declared.command.Done.{Done}
-use Rattle.pawn_pledge.specs.declared.receipt.Receipt.{Receipt}
-use Rattle.pawn_book.specs.declared.request.Caller.{Caller}
-use Rattle.pawn_book.specs.declared.request.Caller.TheVariants.{Operator, Broker, Bearer}
-use Rattle.pawn_book.specs.declared.request.BrokerRequest.TheVariants.{PutTerms, TakePledge, OnPledge, Import, Show, SheetOf, Export}
-use Rattle.pawn_book.specs.declared.request.BearerRequest.TheVariants.{Present, OnPledge as OnReceipt}
-use Rattle.pawn_book.specs.declared.request.NewBook.{NewBook}
-use Rattle.pawn_book.specs.declared.request.NewTerms.{NewTerms}
-use Rattle.pawn_book.specs.declared.refusal.Refusal.{Refusal}
-use Rattle.pawn_book.specs.declared.refusal.Refusal.TheVariants.{NoSuchReceipt, WindowFull}
-use Rattle.pawn_book.specs.declared.reply.Reply.{Reply}
-use Rattle.pawn_book.specs.declared.reply.Reply.TheVariants.{BookMade, TermsPut, BookFilled, Opened, Commanded}
-use Rattle.pawn_book.specs.declared.change.Change.{Change}
-use Rattle.pawn_book.specs.declared.change.Change.TheVariants.{MakeBook, AddTerms, PutPledge, ImportBook}
-use Rattle.pawn_book.specs.declared.change.Imported.{Imported}
-use Rattle.pawn_book.specs.declared.rows.BookRows.{BookRows}
-use Rattle.pawn_book.specs.BookStep.{BookValue, Out, Shown, Outcome, Refuses, Says, Makes, are_same_rates, are_unknown, bearer_commands, broker_commands, confirmed_booking, import_rows, is_empty, is_window_full, judged_outcome, show_pledge, within_window, book_step, first_receipt, book_head, present_receipts, is_same_book, is_same_opening, make_or_refuse, newest, next_terms, pledge_from, put_terms, take_pledge, next_pledge, with_reference, live_at, pledge_in}
-use Rattle.pawn_book.specs.Rows.{terms_at}
-use Rattle.pawn_book.specs.Changes.{IsUnfilled}
-use Rattle.pawn_book.specs.Laws.{Asks}
+use Rattle.pawn_book.specs.Common.{Answered, Changed, Command, Done, Judged, Opening, PledgeValue, Rates, Receipt, Refused, Stamp, pledge_step}
+use Rattle.pawn_book.specs.Books.{AddTerms, Asks, Bearer, BookFilled, BookMade, BookRows, BookValue, Broker, Caller, Change, Commanded, Export, Import, ImportBook, Imported, IsUnfilled, MakeBook, Makes, NewBook, NewTerms, NoSuchReceipt, OnPledge, OnReceipt, Opened, Operator, Out, Outcome, Present, PutPledge, PutTerms, Refusal, Refuses, Reply, Says, SheetOf, Show, Shown, TakePledge, TermsPut, WindowFull, are_same_rates, are_unknown, bearer_commands, book_head, book_step, broker_commands, confirmed_booking, first_receipt, import_rows, is_empty, is_same_book, is_same_opening, is_window_full, judged_outcome, live_at, make_or_refuse, newest, next_pledge, next_terms, pledge_from, pledge_in, present_receipts, put_terms, show_pledge, take_pledge, terms_at, with_reference, within_window}
 use Rattle.pawn_book.proofs.CommandPlans.{live_is}
 use Rattle.pawn_book.proofs.Plans.{empty_lists}
 

@@ -1,46 +1,12 @@
 -- A plan by a keeper's answers is the book's step.
 use Rattle.std.proofs.Common.{◌≡◌, ◌≢◌, ℕ, ◌+◌, ◌<◌, ◌≤◌, zero, suc, List, [], ◌∷◌, ◌++◌, length, Some, None, Ok, Err, refl, ◌∙◌, ap, sym, subst, arith, inl}
 use Rattle.std.specs.Prelude.{if◌then◌else◌, Option, Result, ◌==◌, Bool, true, false, nat_lt, nat_le, option_map, ◌&&◌, IfErr, IfOk}
-use Rattle.std.specs.FinMap.{get}
-use Rattle.std.specs.Str.{IsUtf8}
-use Rattle.std.proofs.lemmas.Bool.Decides.{nat_tests}
-use Rattle.pawn_base.proofs.RefusalLemmas.{past_row-ok}
-use Rattle.pawn_terms.specs.declared.terms.Rates.{Rates}
-use Rattle.pawn_terms.specs.Terms.{IsChecked}
-use Rattle.pawn_terms.specs.Calendar.{IsDayNumber}
-use Rattle.pawn_pledge.specs.Number.{IsNumber}
-use Rattle.pawn_pledge.specs.declared.record.Issued.{Issued}
-use Rattle.pawn_pledge.specs.Pledge.{PledgeValue}
+use Rattle.pawn_book.specs.Common.{Each, IsChecked, IsDayNumber, IsNumber, IsStanding, IsText, IsUtf8, Issued, Opening, PledgeRefusal, PledgeValue, Rates, Stamp, credit_of, get, pledge_start, result_unwrap_or}
+use Rattle.pawn_book.proofs.Lemmas.{and_parts, nat_tests, past_row-ok}
 use Rattle.pawn_debt.specs.Answers.{is_bad_amount}
-use Rattle.pawn_debt.specs.Due.{credit_of}
-use Rattle.pawn_pledge.specs.declared.refusal.Refusal.{Refusal as PledgeRefusal}
-use Rattle.pawn_base.specs.Lists.{Each}
-use Rattle.pawn_pledge.specs.Replayable.{IsStanding}
-use Rattle.pawn_base.specs.Text.{IsText}
-use Rattle.pawn_pledge.specs.Step.{pledge_start}
-use Rattle.std.specs.Result.{result_unwrap_or}
-use Rattle.pawn_pledge.specs.declared.record.Opening.{Opening}
-use Rattle.pawn_pledge.specs.declared.command.Stamp.{Stamp}
-use Rattle.pawn_book.specs.declared.request.NewBook.{NewBook}
-use Rattle.pawn_book.specs.declared.request.NewTerms.{NewTerms}
-use Rattle.pawn_book.specs.declared.reply.Reply.TheVariants.{BookMade, TermsPut, BookFilled, Opened}
-use Rattle.pawn_book.specs.declared.refusal.Refusal.{Refusal}
-use Rattle.pawn_book.specs.declared.refusal.Refusal.TheVariants.{BookNotEmpty, Memory, PledgesFull, TermsFull, TermsSeq}
-use Rattle.pawn_book.specs.declared.change.Change.{Change}
-use Rattle.pawn_book.specs.declared.change.Change.TheVariants.{MakeBook, AddTerms, PutPledge, ImportBook}
-use Rattle.pawn_book.specs.declared.rows.BookRows.{BookRows}
+use Rattle.pawn_book.specs.Books.{AddTerms, AreNumberedFrom, AreReplayable, AreSound, AreWords, BookFilled, BookMade, BookNotEmpty, BookRows, BookValue, CanSave, Change, HasTextsAndWords, Host, ImportBook, IsCapacity, IsSound, IsUnfilled, IsWord, MakeBook, Makes, Memory, NewBook, NewTerms, Opened, Outcome, Planned, Plans, PledgesFull, PutPledge, Refusal, Refuses, TermsFull, TermsPut, TermsSeq, book_head, book_number, changed_book, filled_book, first_receipt, import_rows, is_empty, is_same_text, made_book, make_book, make_or_refuse, most_name_bytes, most_pledges, most_terms, newest, next_pledge, next_terms, number_of, pledge_from, pledge_in, pledges_of, put_from, put_terms, take_pledge, terms_at, terms_of, under_pledge, with_book, with_change, with_reference, with_room}
 use Rattle.pawn_book.specs.declared.change.BookHead.{BookHead}
-use Rattle.pawn_book.specs.declared.change.Planned.{Planned}
-use Rattle.pawn_book.specs.BookStep.{BookValue, Outcome, Makes, Refuses, import_rows, is_empty, make_book, make_or_refuse, made_book, next_terms, put_terms, take_pledge, next_pledge, under_pledge, with_room, newest, with_reference, book_head, first_receipt, changed_book, filled_book, pledge_from, pledge_in, put_from}
-use Rattle.pawn_book.specs.HostStep.{Host, with_book}
-use Rattle.pawn_book.specs.Limits.{IsCapacity, most_name_bytes, most_pledges, most_terms}
-use Rattle.pawn_book.specs.Rows.{AreNumberedFrom, AreReplayable, terms_at, is_same_text}
-use Rattle.pawn_book.specs.Sound.{AreSound, AreWords, HasTextsAndWords, IsSound, IsWord}
-use Rattle.pawn_book.specs.Changes.{CanSave, IsUnfilled, book_number, with_change}
-use Rattle.pawn_book.specs.Keeping.{number_of, pledges_of, terms_of}
-use Rattle.pawn_book.specs.Plans.{Plans}
 use Rattle.pawn_book.proofs.Sounds.{IsNext, absurd_none, some_is, sound_filled, sound_made, sound_next, sound_terms, sound_with}
-use Rattle.std.proofs.lemmas.Bool.{and_parts}
 
 -- the book of a change, set in the host
 pub changed_is : (h : Host) (b : ℕ) (change : Change) (book : BookValue) → book_number change ≡ b → changed_book (get h.books b) change ≡ Some book → with_change h change ≡ with_book h b (Some book)

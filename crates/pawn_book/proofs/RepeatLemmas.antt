@@ -2,23 +2,9 @@
 use Rattle.std.proofs.Common.{◌≡◌, ℕ, List, Some, refl, ◌∙◌, ap, sym, subst, arith}
 use Rattle.std.specs.Prelude.{if◌then◌else◌, is_some, Option, ◌==◌, true}
 use Rattle.std.proofs.lemmas.Bool.Decides.{nat_tests}
-use Rattle.pawn_pledge.specs.declared.command.Command.{Command}
-use Rattle.pawn_pledge.specs.declared.command.Done.{Done}
-use Rattle.pawn_pledge.specs.declared.command.Stamp.{Stamp}
-use Rattle.pawn_pledge.specs.Laws.{entry_command}
-use Rattle.pawn_pledge.specs.Pledge.{PledgeValue, end_of}
-use Rattle.pawn_pledge.specs.Step.{Answered, pledge_step}
+use Rattle.pawn_book.specs.Common.{Answered, Command, Done, PledgeValue, Stamp, end_of, entry_command, pledge_step}
 use Rattle.pawn_pledge.proofs.Repeats.{entered_again, extended-made, standing_end_is_answered}
-use Rattle.pawn_book.specs.declared.change.Change.{Change}
-use Rattle.pawn_book.specs.declared.refusal.Refusal.TheVariants.{NoSuchBook}
-use Rattle.pawn_book.specs.declared.reply.Reply.{Reply}
-use Rattle.pawn_book.specs.declared.reply.Reply.TheVariants.{Commanded}
-use Rattle.pawn_book.specs.declared.request.BrokerRequest.TheVariants.{PutTerms, TakePledge, OnPledge, Import, Show, SheetOf, Export}
-use Rattle.pawn_book.specs.declared.request.BearerRequest.TheVariants.{Present, OnPledge as OnReceipt}
-use Rattle.pawn_book.specs.declared.request.Caller.{Caller}
-use Rattle.pawn_book.specs.declared.request.Caller.TheVariants.{Operator, Broker, Bearer}
-use Rattle.pawn_book.specs.BookStep.{BookValue, Makes, Refuses, Says, Told, bearer_commands, book_step, broker_commands, changed_book, judged_outcome, live_at, only_live, pledge_from, pledge_in, within_window}
-use Rattle.pawn_book.specs.Laws.{Asks, BookEntriesActOnce, EntriesActOnceForAll, BookExtensionsActOnce, Passes, StandingEndIsTold, StillPasses, book_run}
+use Rattle.pawn_book.specs.Books.{Asks, Bearer, BookEntriesActOnce, BookExtensionsActOnce, BookValue, Broker, Caller, Change, Commanded, EntriesActOnceForAll, Export, Import, Makes, NoSuchBook, OnPledge, OnReceipt, Operator, Passes, Present, PutTerms, Refuses, Reply, Says, SheetOf, Show, StandingEndIsTold, StillPasses, TakePledge, Told, bearer_commands, book_run, book_step, broker_commands, changed_book, judged_outcome, live_at, only_live, pledge_from, pledge_in, within_window}
 use Rattle.pawn_book.proofs.LawLemmas.{live_found, numbered_in, stands_after}
 use Rattle.pawn_book.proofs.MadeLemmas.{DidOn, if_makes, number_made, receipt_made}
 use Rattle.pawn_book.proofs.Sounds.{some_is}

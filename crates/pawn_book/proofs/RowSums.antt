@@ -2,14 +2,10 @@
 use Rattle.std.proofs.Common.{◌≡◌, ℕ, ◌+◌, ◌<◌, List, [], ◌∷◌, map, Some, None, refl, ◌∙◌, ap, sym, arith, T, Ordering}
 use Rattle.std.specs.Prelude.{if◌then◌else◌, Option, Bool, true, false, ◌&&◌, sum_by}
 use Rattle.std.specs.declared.cmp.Ordering.TheVariants.{Less, Equal, Greater}
-use Rattle.std.specs.Ordering.{nat_cmp, is_eq, is_lt, eq_by_cmp}
-use Rattle.std.specs.Cmp.{ranked}
-use Rattle.std.specs.FinMap.{get, entries, find, put, is_sorted, entries_sorted, entries-insert, get-entries}
-use Rattle.std.proofs.lemmas.Cmp.{nat_cmp_total}
+use Rattle.pawn_book.specs.Common.{entries, entries-insert, entries_sorted, eq_by_cmp, find, get, get-entries, is_eq, is_lt, is_sorted, nat_cmp, put, ranked}
+use Rattle.pawn_book.proofs.Lemmas.{below, both_told, nat_cmp_total}
 use Rattle.std.proofs.lemmas.List.Sums.{sum_by-cons}
-use Rattle.pawn_base.proofs.TestLemmas.{both_told, below}
-use Rattle.pawn_book.specs.BookStep.{BookValue}
-use Rattle.pawn_book.specs.HostStep.{Host, rows, book_rows, with_book}
+use Rattle.pawn_book.specs.Books.{BookValue, Host, book_rows, rows, with_book}
 
 -- f of the value, if there is one
 abbrev pub part : {X : Type 0} → (X → ℕ) → Option X → ℕ

@@ -1,13 +1,9 @@
 -- The law of shards.
 use Rattle.std.proofs.Common.{◌≡◌, ℕ, List, [], ◌∷◌, ◌++◌, refl, ◌∙◌, ap, sym, arith}
 use Rattle.std.specs.Prelude.{◌≢◌, ◌==◌, Bool, true, false, if◌then◌else◌, cond}
-use Rattle.std.specs.FinMap.{get}
+use Rattle.pawn_book.specs.Common.{Stamp, get}
 use Rattle.std.proofs.lemmas.Bool.Decides.{nat_tests}
-use Rattle.pawn_pledge.specs.declared.command.Stamp.{Stamp}
-use Rattle.pawn_book.specs.declared.request.Request.{Request}
-use Rattle.pawn_book.specs.Laws.{book_run}
-use Rattle.pawn_book.specs.Traces.{book_trace}
-use Rattle.pawn_book.specs.Shards.{HandedOutAnswersAsOne, HandsAll, ShardsAnswerAsOne, by_callers, handed, on_book, taken}
+use Rattle.pawn_book.specs.Books.{HandedOutAnswersAsOne, HandsAll, Request, ShardsAnswerAsOne, book_run, book_trace, by_callers, handed, on_book, taken}
 use Rattle.pawn_book.proofs.SlotRuns.{book_is_alone, equal_book_traces_answer_alike}
 
 -- what is handed, where it is known whether the first goes to the shard and whether it is on the book

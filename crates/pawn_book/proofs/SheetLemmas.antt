@@ -2,10 +2,8 @@
 use Rattle.std.proofs.Common.{◌≡◌, ◌∙◌, ℕ, ◌+◌, zero, suc, List, [], ◌∷◌, ◌++◌, refl, sym, ap, subst, inl, inr, arith, append_assoc, append-nil}
 use Rattle.std.specs.List.{flat_map}
 use Rattle.std.proofs.lemmas.Grind.{flat_map-append}
-use Rattle.pawn_book.specs.declared.visit.Flow.{Flow}
-use Rattle.pawn_book.specs.declared.visit.Flow.TheVariants.{Go, Stop}
+use Rattle.pawn_book.specs.Books.{Flow, Go, Handed, HandsOver, Stop}
 use Rattle.pawn_book.specs.Sheet.{windows_below}
-use Rattle.pawn_book.specs.Visits.{Handed, HandsOver}
 
 -- items at none of which it stopped, and then further ones
 pub handed-append : {V T : Type 0} (step : V → T → Flow → V → Type 0) (v u w : V) (xs ys : List T) (flow : Flow)

@@ -1,27 +1,10 @@
 -- Each command of a slot's trace is accepted where its turn comes.
 use Rattle.std.proofs.Common.{◌≡◌, ℕ, ◌+◌, List, [], ◌∷◌, ◌++◌, Some, None, Ok, Err, refl, ◌∙◌, ap, sym, subst, arith}
 use Rattle.std.specs.Prelude.{if◌then◌else◌, Option, ◌==◌, Bool, true, false, is_some, nat_lt}
-use Rattle.std.specs.List.{flat_map}
-use Rattle.std.specs.FinMap.{get}
+use Rattle.pawn_book.specs.Common.{PledgeValue, Receipt, Stamp, flat_map, get}
 use Rattle.std.proofs.lemmas.Bool.Decides.{nat_tests}
-use Rattle.pawn_pledge.specs.declared.command.Stamp.{Stamp}
-use Rattle.pawn_pledge.specs.declared.receipt.Receipt.{Receipt}
-use Rattle.pawn_pledge.specs.Pledge.{PledgeValue}
-use Rattle.pawn_book.specs.declared.change.Change.{Change}
-use Rattle.pawn_book.specs.declared.change.Change.TheVariants.{PutPledge, ImportBook}
-use Rattle.pawn_book.specs.declared.refusal.Refusal.TheVariants.{Full}
-use Rattle.pawn_book.specs.declared.reply.Reply.{Reply}
-use Rattle.pawn_book.specs.declared.request.Caller.{Caller}
-use Rattle.pawn_book.specs.BookStep.{BookValue, Outcome, Refuses, Says, Makes, book_step, changed_book, book_head, pledge_from}
-use Rattle.pawn_book.specs.HostStep.{Host, host_step, within_limit, rows, with_book}
-use Rattle.pawn_book.specs.Keeping.{pledges_of}
-use Rattle.pawn_book.specs.Runs.{Mark, read_as, no_memory, no_store, Event, host_after_event, request_in}
-use Rattle.pawn_book.specs.Traces.{SlotEvent, Entered, Did, did, enters, is_live_in, slot_events, slot_of, within_slot}
+use Rattle.pawn_book.specs.Books.{AreAccepted, BookValue, Caller, Change, Did, Entered, Event, Full, Host, ImportBook, IsAccepted, Makes, Mark, Outcome, PutPledge, Refuses, Reply, Says, SlotEvent, TracesAreAccepted, book_head, book_step, changed_book, command_of, did, enters, host_after_event, host_step, is_live_in, no_memory, no_pledge, no_store, numbered_pledges, pledge_from, pledges_of, read_as, request_in, rows, slot_events, slot_of, solo_from, solo_step, with_book, within_limit, within_slot}
 use Rattle.pawn_book.proofs.SlotMoments.{run_slot, slot_on, slot_step}
-use Rattle.pawn_book.specs.Changes.{numbered_pledges}
-use Rattle.pawn_book.specs.Laws.{command_of}
-use Rattle.pawn_book.specs.Machines.{no_pledge, solo_from, solo_step}
-use Rattle.pawn_book.specs.Slots.{AreAccepted, IsAccepted, TracesAreAccepted}
 use Rattle.pawn_book.proofs.MadeLemmas.{BookIs, CommandIs, MadeBy, PledgeIs, RowsAre, TermsAre, made_by}
 use Rattle.pawn_book.proofs.Places.{pledge_past}
 use Rattle.pawn_book.proofs.Plans.{taken_is, without_lists}

@@ -1,24 +1,9 @@
 -- What one step of a book does to the machine of a slot.
 use Rattle.std.proofs.Common.{◌≡◌, ℕ, ◌+◌, ◌<◌, ◌≤◌, List, [], ◌∷◌, ◌++◌, length, Some, None, refl, ◌∙◌, ap, sym, subst, arith}
 use Rattle.std.specs.Prelude.{if◌then◌else◌, Option, ◌==◌, true, false, is_some, nat_lt}
-use Rattle.std.specs.List.{flat_map}
+use Rattle.pawn_book.specs.Common.{Command, PledgeValue, Receipt, Stamp, flat_map}
 use Rattle.std.proofs.lemmas.Bool.Decides.{nat_tests}
-use Rattle.pawn_pledge.specs.declared.command.Command.{Command}
-use Rattle.pawn_pledge.specs.declared.command.Stamp.{Stamp}
-use Rattle.pawn_pledge.specs.declared.receipt.Receipt.{Receipt}
-use Rattle.pawn_pledge.specs.Pledge.{PledgeValue}
-use Rattle.pawn_book.specs.declared.change.Change.{Change}
-use Rattle.pawn_book.specs.declared.change.Change.TheVariants.{PutPledge, ImportBook}
-use Rattle.pawn_book.specs.declared.reply.Reply.{Reply}
-use Rattle.pawn_book.specs.declared.request.BearerRequest.TheVariants.{Present, OnPledge as OnReceipt}
-use Rattle.pawn_book.specs.declared.request.BrokerRequest.TheVariants.{PutTerms, TakePledge, OnPledge, Import, Show, SheetOf, Export}
-use Rattle.pawn_book.specs.declared.request.Caller.{Caller}
-use Rattle.pawn_book.specs.declared.request.Caller.TheVariants.{Operator, Broker, Bearer}
-use Rattle.pawn_book.specs.BookStep.{BookValue, Outcome, Refuses, Says, Makes, book_after, book_step, book_head, pledge_from}
-use Rattle.pawn_book.specs.Laws.{Asks, command_of}
-use Rattle.pawn_book.specs.Traces.{SlotEvent, Entered, Did, did, enters, is_live_in, slot_events, slot_of, touches, within_slot}
-use Rattle.pawn_book.specs.Changes.{numbered_pledges}
-use Rattle.pawn_book.specs.Machines.{after_command, after_judgement, no_pledge, with_pledge, solo_from, solo_step}
+use Rattle.pawn_book.specs.Books.{Asks, Bearer, BookValue, Broker, Caller, Change, Did, Entered, Export, Import, ImportBook, Makes, OnPledge, OnReceipt, Operator, Outcome, Present, PutPledge, PutTerms, Refuses, Reply, Says, SheetOf, Show, SlotEvent, TakePledge, after_command, after_judgement, book_after, book_head, book_step, command_of, did, enters, is_live_in, no_pledge, numbered_pledges, pledge_from, slot_events, slot_of, solo_from, solo_step, touches, with_pledge, within_slot}
 use Rattle.pawn_book.proofs.MadeLemmas.{BookIs, CommandIs, MadeBy, PledgeIs, RowsAre, TermsAre, made_by}
 use Rattle.pawn_book.proofs.Places.{pledge_below, pledge_from-put, pledge_past, pledge_within}
 use Rattle.pawn_book.proofs.Plans.{taken_is, without_lists}

@@ -1,13 +1,7 @@
 -- Runs request by request.
 use Rattle.std.proofs.Common.{◌≡◌, ℕ, List, [], ◌∷◌, ◌++◌, Option, None, Some, refl}
-use Rattle.std.specs.List.{flat_map}
-use Rattle.pawn_pledge.specs.declared.command.Stamp.{Stamp}
-use Rattle.pawn_pledge.specs.declared.receipt.Receipt.{Receipt}
-use Rattle.pawn_book.specs.declared.request.Caller.{Caller}
-use Rattle.pawn_book.specs.declared.request.Request.{Request}
-use Rattle.pawn_book.specs.HostStep.{Host}
-use Rattle.pawn_book.specs.Runs.{Event, Moment, host_after_event, moment_of, moments, request_in}
-use Rattle.pawn_book.specs.Traces.{SlotEvent, asked_of, seen_by}
+use Rattle.pawn_book.specs.Common.{Receipt, Stamp, flat_map}
+use Rattle.pawn_book.specs.Books.{Caller, Event, Host, Moment, Request, SlotEvent, asked_of, host_after_event, moment_of, moments, request_in, seen_by}
 
 -- what a request is to a slot, if there is one
 abbrev pub slot_on : ℕ → List Receipt → Host → ℕ → Stamp → Option Request → List SlotEvent

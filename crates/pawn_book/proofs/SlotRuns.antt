@@ -1,35 +1,12 @@
 -- What a run does to each book, and to the machine of a slot.
 use Rattle.std.proofs.Common.{◌≡◌, ℕ, List, [], ◌∷◌, ◌++◌, Some, None, Ok, Err, refl, ◌∙◌, ap, sym, subst, arith}
 use Rattle.std.specs.Prelude.{if◌then◌else◌, Option, ◌==◌, Bool, true, false, nat_lt, ◌&&◌, map}
-use Rattle.std.specs.List.{flat_map, list_all}
-use Rattle.std.specs.FinMap.{get}
-use Rattle.std.proofs.lemmas.Bool.Decides.{nat_tests}
-use Rattle.pawn_pledge.specs.declared.command.Command.{Command}
-use Rattle.pawn_pledge.specs.declared.command.Stamp.{Stamp}
-use Rattle.pawn_pledge.specs.declared.receipt.Receipt.{Receipt}
-use Rattle.pawn_pledge.specs.Pledge.{PledgeValue}
-use Rattle.pawn_pledge.specs.Step.{Answered, Changed, Judged, Refused, pledge_step}
-use Rattle.pawn_book.specs.declared.change.Change.{Change}
-use Rattle.pawn_book.specs.declared.change.Change.TheVariants.{MakeBook, AddTerms, PutPledge, ImportBook}
-use Rattle.pawn_book.specs.declared.refusal.Refusal.TheVariants.{Full}
-use Rattle.pawn_book.specs.declared.request.BearerRequest.{BearerRequest}
-use Rattle.pawn_book.specs.declared.request.BearerRequest.TheVariants.{Present, OnPledge as OnReceipt}
-use Rattle.pawn_book.specs.declared.request.Caller.{Caller}
-use Rattle.pawn_book.specs.declared.request.Caller.TheVariants.{Bearer}
-use Rattle.pawn_book.specs.declared.request.Request.{Request}
-use Rattle.pawn_book.specs.BookStep.{BookValue, Outcome, Refuses, Says, Makes, bearer_commands, bearer_step, book_after, book_step, changed_book, present_receipts, judged_outcome, is_live, live_at, only_live, out_of, pledge_in}
-use Rattle.pawn_book.specs.HostStep.{Host, host_after, host_step, within_limit, rows, with_book}
-use Rattle.pawn_book.specs.Keeping.{pledges_of}
-use Rattle.pawn_book.specs.Laws.{book_run}
-use Rattle.pawn_book.specs.Runs.{Mark, read_as, no_memory, no_store, Event, host_after_event, host_after_mark, run_host, is_settled, request_in}
-use Rattle.pawn_book.specs.Traces.{book_trace, enters, is_live_in, slot_events, slot_of, slot_trace, within_slot}
+use Rattle.pawn_book.specs.Common.{Answered, Changed, Command, Judged, PledgeValue, Receipt, Refused, Stamp, flat_map, get, list_all, pledge_step}
+use Rattle.pawn_book.proofs.Lemmas.{and_parts, nat_tests}
+use Rattle.pawn_book.specs.Books.{AddTerms, Bearer, BearerRequest, BearersJoin, BookValue, BooksAnswerAlone, Caller, Change, EqualBookTracesAnswerAlike, EqualTracesAnswerAlike, Event, Full, Host, ImportBook, MakeBook, Makes, Mark, OnReceipt, OtherBooksStay, Outcome, Present, PutPledge, Refuses, Request, Says, SlotsAnswerAlone, SlotsAreHeld, bearer_commands, bearer_step, book_after, book_run, book_step, book_trace, changed_book, enters, host_after, host_after_event, host_after_mark, host_step, is_in, is_live, is_live_in, is_settled, is_slots, joins, judged_outcome, live_at, no_memory, no_pledge, no_store, numbered_pledges, only_live, out_of, pledge_in, pledges_of, present_receipts, read_as, reply_alone, request_in, rows, run_host, slot_events, slot_of, slot_trace, solo, solo_from, solo_reply, with_book, within_limit, within_slot}
 use Rattle.pawn_book.proofs.SlotMoments.{book_trace_step, request_on, run_slot, slot_on, slot_step}
-use Rattle.pawn_book.specs.Changes.{numbered_pledges}
-use Rattle.pawn_book.specs.Machines.{is_in, is_slots, no_pledge, reply_alone, solo, solo_from, solo_reply}
-use Rattle.pawn_book.specs.Slots.{BearersJoin, BooksAnswerAlone, EqualBookTracesAnswerAlike, EqualTracesAnswerAlike, OtherBooksStay, SlotsAnswerAlone, SlotsAreHeld, joins}
 use Rattle.pawn_book.proofs.Sounds.{get-with_book}
 use Rattle.pawn_book.proofs.SlotMachine.{Follows, enter_book, solo_from-append, step_follows}
-use Rattle.std.proofs.lemmas.Bool.{and_parts}
 
 -- where a book is set
 set_get : (h : Host) (c b : ℕ) (book : Option BookValue) → (book ≡ None → get h.books c ≡ None) → get (with_book h c book).books b ≡ (if c == b then book else get h.books b)

@@ -1,13 +1,9 @@
 -- References that differ, and terms that stand, in a list of pledges.
 use Rattle.std.proofs.Common.{◌≡◌, ℕ, ◌+◌, ◌≤◌, zero, suc, List, [], ◌∷◌, ◌++◌, length, map, Some, None, refl, ◌∙◌, ap, sym, subst, arith}
 use Rattle.std.specs.Prelude.{if◌then◌else◌, Option, Bool, true, false, ◌==◌, ◌||◌, unwrap_or}
-use Rattle.std.specs.List.{list_any}
+use Rattle.pawn_book.specs.Common.{DoNotFall, Each, PledgeValue, Rates, list_any}
 use Rattle.std.proofs.lemmas.List.Folds.{list_any-append}
-use Rattle.pawn_terms.specs.declared.terms.Rates.{Rates}
-use Rattle.pawn_pledge.specs.Pledge.{PledgeValue}
-use Rattle.pawn_book.specs.BookStep.{pledge_from, put_from, with_reference}
-use Rattle.pawn_base.specs.Lists.{DoNotFall, Each}
-use Rattle.pawn_book.specs.Rows.{AreDistinct, IsUnder, references_of, version_of, is_same_text, terms_at}
+use Rattle.pawn_book.specs.Books.{AreDistinct, IsUnder, is_same_text, pledge_from, put_from, references_of, terms_at, version_of, with_reference}
 use Rattle.std.proofs.lemmas.Bool.{or_parts, or_from}
 
 pub some_is : {A : Type 0} (x y : A) → Some x ≡ Some y → x ≡ y

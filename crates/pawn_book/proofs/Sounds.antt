@@ -1,26 +1,9 @@
 -- A host stays sound with a book that is.
 use Rattle.std.proofs.Common.{◌≡◌, ◌≢◌, ℕ, ◌+◌, ◌<◌, ◌≤◌, List, [], ◌∷◌, ◌++◌, length, Some, None, suc, refl, ◌∙◌, ap, sym, subst, arith, length-append}
 use Rattle.std.specs.Prelude.{if◌then◌else◌, Option, Bool, true, false, ◌==◌}
-use Rattle.std.specs.Cmp.{unsigned_tied}
-use Rattle.std.specs.FinMap.{get, get-insert}
-use Rattle.std.specs.Str.{IsUtf8}
-use Rattle.std.proofs.lemmas.Cmp.{nat_cmp_total}
-use Rattle.std.proofs.lemmas.Bool.Decides.{nat_tests}
-use Rattle.pawn_base.proofs.ListLemmas.{Each-push}
-use Rattle.pawn_terms.specs.declared.terms.Rates.{Rates}
-use Rattle.pawn_base.specs.Lists.{DoNotFall, Each}
-use Rattle.pawn_terms.specs.Terms.{IsChecked}
-use Rattle.pawn_pledge.specs.Number.{IsNumber}
-use Rattle.pawn_pledge.specs.Pledge.{PledgeValue}
-use Rattle.pawn_pledge.specs.Replayable.{IsStanding}
-use Rattle.pawn_base.specs.Text.{IsText}
-use Rattle.pawn_book.specs.declared.request.NewBook.{NewBook}
-use Rattle.pawn_book.specs.BookStep.{BookValue, filled_book, made_book, pledge_from, pledge_in, put_from, with_reference}
-use Rattle.pawn_book.specs.HostStep.{Host, with_book}
-use Rattle.pawn_book.specs.Limits.{IsCapacity, most_name_bytes, most_pledges, most_terms}
-use Rattle.pawn_book.specs.declared.rows.BookRows.{BookRows}
-use Rattle.pawn_book.specs.Rows.{AreDistinct, AreNumberedFrom, AreReplayable, IsUnder, references_of, version_of}
-use Rattle.pawn_book.specs.Sound.{AreSound, HasTextsAndWords, IsSound, IsSoundAt, IsSoundBook, IsWord}
+use Rattle.pawn_book.specs.Common.{DoNotFall, Each, IsChecked, IsNumber, IsStanding, IsText, IsUtf8, PledgeValue, Rates, get, get-insert, unsigned_tied}
+use Rattle.pawn_book.proofs.Lemmas.{Each-push, nat_cmp_total, nat_tests}
+use Rattle.pawn_book.specs.Books.{AreDistinct, AreNumberedFrom, AreReplayable, AreSound, BookRows, BookValue, HasTextsAndWords, Host, IsCapacity, IsSound, IsSoundAt, IsSoundBook, IsUnder, IsWord, NewBook, filled_book, made_book, most_name_bytes, most_pledges, most_terms, pledge_from, pledge_in, put_from, references_of, version_of, with_book, with_reference}
 pub use Rattle.pawn_book.proofs.SoundLists.{absurd_none, some_is}
 use Rattle.pawn_book.proofs.SoundLists.{each_under_more, references_push, versions_push}
 

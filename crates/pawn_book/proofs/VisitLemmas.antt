@@ -1,12 +1,10 @@
 -- What a visitor was handed, item by item.
 use Rattle.std.proofs.Common.{◌≡◌, ◌∙◌, ℕ, List, [], ◌∷◌, ◌++◌, refl, sym, ap, subst, inl, inr, ◌<◌, ◌+◌, length, take, drop, get_or, append_assoc, append-nil}
 use Rattle.std.proofs.lemmas.List.{drop_more, take-append-drop}
-use Rattle.pawn_book.specs.declared.visit.Flow.{Flow}
-use Rattle.pawn_book.specs.declared.visit.Flow.TheVariants.{Go, Stop}
+use Rattle.pawn_book.specs.Books.{Flow, Go, Handed, Stop}
 use Rattle.std.specs.Prelude.{false}
 use Rattle.pawn_book.specs.declared.gather.Gathering.{Gathering}
 use Rattle.pawn_book.specs.Gathering.{Gathers}
-use Rattle.pawn_book.specs.Visits.{Handed}
 
 -- a list, cut at a place
 pub cut_at : {X : Type 0} (xs : List X) (i : ℕ) (d : X) → i < length xs → take i xs ++ get_or xs i d ∷ drop (i + 1) xs ≡ xs

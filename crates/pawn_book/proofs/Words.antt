@@ -1,15 +1,7 @@
 -- The secrets of a pledge stay words.
 use Rattle.std.proofs.Common.{◌≡◌, ℕ, ◌==◌, List, false, subst, sym, inl, inr}
-use Rattle.std.specs.List.{list_any}
-use Rattle.pawn_base.proofs.ListLemmas.{Each-push}
-use Rattle.pawn_pledge.specs.declared.command.Command.{Command}
-use Rattle.pawn_pledge.specs.declared.command.Done.{Done}
-use Rattle.pawn_pledge.specs.declared.command.Stamp.{Stamp}
-use Rattle.pawn_pledge.specs.declared.record.Issued.{Issued}
-use Rattle.pawn_pledge.specs.Growth.{StaysOrGrows}
-use Rattle.pawn_pledge.specs.Pledge.{PledgeValue}
-use Rattle.pawn_pledge.specs.Step.{Changed, pledge_step}
-use Rattle.pawn_pledge.proofs.Steps.{lists_of_step}
+use Rattle.pawn_book.specs.Common.{Changed, Command, Done, Issued, PledgeValue, Stamp, StaysOrGrows, list_any, pledge_step}
+use Rattle.pawn_book.proofs.Lemmas.{Each-push, lists_of_step}
 use Rattle.pawn_book.specs.Sound.{AreWords, IsWord}
 
 -- a secret that is added is the stamp's word

@@ -1,21 +1,6 @@
 -- One step of a book: what comes of a request.
 use Rattle.std.specs.Prelude.{ℕ, ◌+◌, List, [], ◌∷◌, ◌++◌, Bool, true, false, ◌&&◌, Option, Some, None, Result, Ok, Err, if◌then◌else◌, ◌==◌, nat_le, nat_lt, length, map, find}
-use Rattle.pawn_base.specs.Refusals.{first_of}
-use Rattle.pawn_terms.specs.declared.terms.Rates.{Rates}
-use Rattle.pawn_terms.specs.TermsFault.{terms_answer}
-use Rattle.pawn_terms.specs.declared.terms.TermsFault.{TermsFault}
-use Rattle.pawn_debt.specs.declared.entry.Kind.{Kind}
-use Rattle.pawn_debt.specs.declared.entry.Kind.TheVariants.{Fixed, Running}
-use Rattle.pawn_pledge.specs.declared.command.Stamp.{Stamp}
-use Rattle.pawn_pledge.specs.declared.command.Command.{Command}
-use Rattle.pawn_pledge.specs.declared.command.Done.{Done}
-use Rattle.pawn_pledge.specs.declared.record.Booking.{Booking}
-use Rattle.pawn_pledge.specs.declared.record.Opening.{Opening}
-use Rattle.pawn_pledge.specs.declared.receipt.Receipt.{Receipt}
-use Rattle.pawn_pledge.specs.declared.record.Issued.{Issued}
-use Rattle.pawn_pledge.specs.Pledge.{PledgeValue, live_of}
-use Rattle.pawn_pledge.specs.Step.{Judged, Refused, Answered, Changed, pledge_start, pledge_step}
-use Rattle.pawn_pledge.specs.declared.refusal.Refusal.{Refusal as PledgeRefusal}
+use Rattle.pawn_book.specs.Common.{Answered, Booking, Changed, Command, Done, Fixed, Issued, Judged, Kind, Opening, PledgeRefusal, PledgeValue, Rates, Receipt, Refused, Running, Stamp, TermsFault, first_of, live_of, pledge_start, pledge_step, terms_answer}
 use Rattle.pawn_book.specs.declared.refusal.Refusal.{Refusal}
 use Rattle.pawn_book.specs.declared.refusal.Refusal.TheVariants.{Pledge, Terms, NoSuchBook, NoSuchReceipt, NoSuchPledge, BookTaken, NoTerms, TermsSeq, RefTaken, WindowFull, BookNotEmpty, NotOperator, TermsFull, PledgesFull}
 use Rattle.pawn_book.specs.declared.reply.Reply.{Reply}

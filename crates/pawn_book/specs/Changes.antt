@@ -1,8 +1,6 @@
 -- What a change makes of a host, and which changes may be saved.
 use Rattle.std.specs.Prelude.{◌≡◌, ◌⊎◌, ℕ, ◌+◌, [], None, Some, length, List, ◌∷◌}
-use Rattle.std.specs.FinMap.{get}
-use Rattle.pawn_pledge.specs.Pledge.{PledgeValue}
-use Rattle.pawn_pledge.specs.Growth.{Grows}
+use Rattle.pawn_book.specs.Common.{Grows, PledgeValue, get}
 use Rattle.pawn_book.specs.declared.change.Change.{Change}
 use Rattle.pawn_book.specs.declared.change.Change.TheVariants.{MakeBook, AddTerms, PutPledge, ImportBook}
 use Rattle.pawn_book.specs.BookStep.{BookValue, changed_book, pledge_from}

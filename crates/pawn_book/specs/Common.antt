@@ -1,18 +1,38 @@
--- The names with which the theorem of slots is stated, gathered in one place.
-pub use Rattle.std.specs.List.{list_any, list_all, flat_map}
-pub use Rattle.std.specs.FinMap.{get}
-pub use Rattle.pawn_pledge.specs.declared.command.Stamp.{Stamp}
+-- The words of the crates below that many files of this crate use, gathered in one place.
+pub use Rattle.std.specs.Cmp.{ranked, unsigned_tied}
+pub use Rattle.std.specs.FinMap.{FinMap, empty, entries, entries-insert, entries_sorted, find, get, get-entries, get-insert, insert, is_sorted, len-empty, len-entries, put, values}
+pub use Rattle.std.specs.List.{filter, flat_map, list_all, list_any}
+pub use Rattle.std.specs.Ordering.{eq_by_cmp, is_eq, is_lt, nat_cmp}
+pub use Rattle.std.specs.Result.{result_unwrap_or}
+pub use Rattle.std.specs.Str.{IsUtf8}
+pub use Rattle.pawn_base.specs.Lists.{DoNotFall, Each}
+pub use Rattle.pawn_base.specs.Refusals.{IsSaid, first_of}
+pub use Rattle.pawn_base.specs.Text.{IsText}
+pub use Rattle.pawn_terms.specs.Calendar.{IsDayNumber, IsStampDay}
+unfoldable pub use Rattle.pawn_terms.specs.Calendar.{civil_after, days_of_months, days_of_years}
+pub use Rattle.pawn_terms.specs.Terms.{IsChecked, most_keep, most_rate}
+pub use Rattle.pawn_terms.specs.TermsFault.{terms_answer}
+pub use Rattle.pawn_terms.specs.declared.terms.Rates.{Rates}
+pub use Rattle.pawn_terms.specs.declared.terms.TermsFault.{TermsFault}
+pub use Rattle.pawn_debt.specs.Due.{credit_of}
+unfoldable pub use Rattle.pawn_debt.specs.Due.{due_after}
+pub use Rattle.pawn_debt.specs.Worked.{free}
+pub use Rattle.pawn_debt.specs.declared.entry.Kind.{Kind}
+pub use Rattle.pawn_debt.specs.declared.entry.Kind.TheVariants.{Fixed, Running}
+pub use Rattle.pawn_pledge.specs.Commands.{IsCommand}
+pub use Rattle.pawn_pledge.specs.Growth.{Grows, StaysOrGrows}
+pub use Rattle.pawn_pledge.specs.Laws.{IsReplacing, IsSpent, MayExtend, entry_command}
+pub use Rattle.pawn_pledge.specs.Number.{IsNumber}
+pub use Rattle.pawn_pledge.specs.Pledge.{PledgeValue, end_of, live_of}
+pub use Rattle.pawn_pledge.specs.Replayable.{AreNumbered, IsStanding}
+pub use Rattle.pawn_pledge.specs.Step.{Answered, Changed, Judged, Refused, pledge_start, pledge_step}
+pub use Rattle.pawn_pledge.specs.Worked.{ring, ring_opening}
 pub use Rattle.pawn_pledge.specs.declared.command.Command.{Command}
+pub use Rattle.pawn_pledge.specs.declared.command.Done.{Done}
+pub use Rattle.pawn_pledge.specs.declared.command.Stamp.{Stamp}
 pub use Rattle.pawn_pledge.specs.declared.receipt.Receipt.{Receipt}
-pub use Rattle.pawn_pledge.specs.Pledge.{PledgeValue}
-pub use Rattle.pawn_pledge.specs.Step.{Judged, Changed, pledge_step}
-pub use Rattle.pawn_book.specs.declared.request.Request.{Request}
-pub use Rattle.pawn_book.specs.declared.request.Caller.{Caller}
-pub use Rattle.pawn_book.specs.declared.request.BearerRequest.{BearerRequest}
-pub use Rattle.pawn_book.specs.declared.request.BearerRequest.TheVariants.{Present, OnPledge as OnReceipt}
-pub use Rattle.pawn_book.specs.BookStep.{BookValue, Denied, Out, Outcome, Refuses, Says, Makes, bearer_step, book_step, is_live, out_of, pledge_in}
-pub use Rattle.pawn_book.specs.HostStep.{Host, host_step}
-pub use Rattle.pawn_book.specs.Changes.{numbered_pledges, touched_pledges}
-pub use Rattle.pawn_book.specs.Keeping.{pledges_of}
-pub use Rattle.pawn_book.specs.Laws.{book_run, command_of}
-pub use Rattle.pawn_book.specs.Runs.{Event, Moment, is_settled, moments}
+pub use Rattle.pawn_pledge.specs.declared.record.Agreement.{Agreement}
+pub use Rattle.pawn_pledge.specs.declared.record.Booking.{Booking}
+pub use Rattle.pawn_pledge.specs.declared.record.Issued.{Issued}
+pub use Rattle.pawn_pledge.specs.declared.record.Opening.{Opening}
+pub use Rattle.pawn_pledge.specs.declared.refusal.Refusal.{Refusal as PledgeRefusal}

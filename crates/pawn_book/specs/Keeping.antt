@@ -1,11 +1,8 @@
 -- What a keeper's calls say of the host that it stands for.
 use Rattle.std.specs.Prelude.{◌≡◌, ◌⊎◌, ℕ, ◌≤◌, ◌<◌, List, [], Option, Some, None, Result, Ok, Err, option_map, IfErr, OnErr, OnOk}
-use Rattle.std.specs.FinMap.{get}
-use Rattle.pawn_terms.specs.declared.terms.Rates.{Rates}
+use Rattle.pawn_book.specs.Common.{Issued, PledgeValue, Rates, get}
 use Rattle.pawn_debt.specs.declared.entry.Entry.{Entry}
 use Rattle.pawn_pledge.specs.declared.record.Extension.{Extension}
-use Rattle.pawn_pledge.specs.declared.record.Issued.{Issued}
-use Rattle.pawn_pledge.specs.Pledge.{PledgeValue}
 use Rattle.pawn_book.specs.declared.refusal.Refusal.{Refusal}
 use Rattle.pawn_book.specs.declared.refusal.Refusal.TheVariants as No
 use Rattle.pawn_book.specs.declared.change.Change.{Change}
@@ -72,8 +69,8 @@ abbrev pub IsQuiet : {K T : Type 0} → Keeping K → K → Result T Refusal →
 IsQuiet k old result = k.steady old → result ≡ Err No.Store → ⊥
 
 -- P holds of each sound host that the keeper stood for, if it is honest now
-abbrev pub Of : {K : Type 0} → Keeping K → K → K → (Host → Type 0) → Type 0
-Of k old new P = k.honest new → (h : Host) → IsSound h → k.stands old h → P h
+abbrev pub OfHost : {K : Type 0} → Keeping K → K → K → (Host → Type 0) → Type 0
+OfHost k old new P = k.honest new → (h : Host) → IsSound h → k.stands old h → P h
 
 -- the changed host, with its rows within the limit
 abbrev pub IsFitting : Host → Change → Host → Type 0
@@ -98,10 +95,10 @@ IsLeftBy h change before (Err (Save.Store fault)) left = before left ⊎ IsFitti
 -- keeper refuses only for rows or for memory
 pub record Saves {K T : Type 0} (k : Keeping K) (old new : K) (change : Change) (result : Result T SaveError) : Type 0 where
   pub on : GoesOn k old new
-  pub ok : OnOk result (Of k old new (λ h. k.stands new (with_change h change) × (rows (with_change h change) ≤ h.limit)))
-  pub full : result ≡ Err Save.Full → Of k old new (λ h. h.limit < rows (with_change h change))
-  pub err : OnErr result (Of k old new (λ h. k.stands new h))
-  pub crash : Of k old new (λ h. (left : Host) → k.leaves new left → IsLeftBy h change (k.leaves old) result left)
+  pub ok : OnOk result (OfHost k old new (λ h. k.stands new (with_change h change) × (rows (with_change h change) ≤ h.limit)))
+  pub full : result ≡ Err Save.Full → OfHost k old new (λ h. h.limit < rows (with_change h change))
+  pub err : OnErr result (OfHost k old new (λ h. k.stands new h))
+  pub crash : OfHost k old new (λ h. (left : Host) → k.leaves new left → IsLeftBy h change (k.leaves old) result left)
   pub never : k.steady old → IfErr result (λ e. IsSteadyError e)
 
 abbrev pub terms_of : Option BookValue → List Rates

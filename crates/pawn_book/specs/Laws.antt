@@ -1,11 +1,7 @@
 -- What holds of every book, whatever is asked.
 use Rattle.std.specs.Prelude.{◌≡◌, ℕ, List, [], ◌∷◌, Option, None, Some, is_some, true}
 use Rattle.pawn_debt.specs.declared.entry.Sort.{Sort}
-use Rattle.pawn_pledge.specs.declared.command.Command.{Command}
-use Rattle.pawn_pledge.specs.declared.command.Done.{Done}
-use Rattle.pawn_pledge.specs.declared.command.Stamp.{Stamp}
-use Rattle.pawn_pledge.specs.Laws.{MayExtend, entry_command}
-use Rattle.pawn_pledge.specs.Pledge.{PledgeValue, end_of}
+use Rattle.pawn_book.specs.Common.{Command, Done, MayExtend, PledgeValue, Stamp, end_of, entry_command}
 use Rattle.pawn_book.specs.declared.request.Caller.{Caller}
 use Rattle.pawn_book.specs.declared.request.Caller.TheVariants.{Operator, Broker, Bearer}
 use Rattle.pawn_book.specs.declared.request.BrokerRequest.{BrokerRequest}

@@ -8,7 +8,7 @@ pub mod Runs
 pub mod Visits
 pub mod Gathering
 pub mod Changes
-pub mod Common
+pub mod SlotNames
 pub mod Keeping
 pub mod Plans
 pub mod Written
@@ -23,3 +23,5 @@ pub mod Shards
 pub mod WorkedSlots
 pub mod WorkedShards
 pub mod WorkedImports
+pub mod Common
+pub mod Books

@@ -1,7 +1,7 @@
 -- The plain machines: a book that is fed its trace alone, and a slot that is fed its own.
 use Rattle.std.specs.Prelude.{ℕ, List, [], ◌∷◌, ◌==◌, Bool, ◌&&◌, Option, None, Some, if◌then◌else◌}
-use Rattle.pawn_book.specs.Common.{list_any, list_all, Stamp, Command, Receipt, PledgeValue, Judged, Changed, pledge_step, Caller}
-use Rattle.pawn_book.specs.Common.{BearerRequest, Present, OnReceipt, BookValue, Out, out_of, book_step, bearer_step, book_run}
+use Rattle.pawn_book.specs.SlotNames.{list_any, list_all, Stamp, Command, Receipt, PledgeValue, Judged, Changed, pledge_step, Caller}
+use Rattle.pawn_book.specs.SlotNames.{BearerRequest, Present, OnReceipt, BookValue, Out, out_of, book_step, bearer_step, book_run}
 use Rattle.pawn_book.specs.Traces.{SlotEvent, Entered, Did, within_slot}
 
 -- book b's reply to a request after a trace, without a limit on rows

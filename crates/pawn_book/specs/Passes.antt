@@ -1,10 +1,6 @@
 -- The laws of slots pass by pass: first of slots of one receipt, and of runs that have only some sorts of requests.
 use Rattle.std.specs.Prelude.{◌≡◌, ℕ, List, [], ◌∷◌, true, Ok}
-use Rattle.std.specs.FinMap.{get}
-use Rattle.pawn_pledge.specs.declared.command.Stamp.{Stamp}
-use Rattle.pawn_pledge.specs.declared.command.Command.{Command}
-use Rattle.pawn_pledge.specs.declared.receipt.Receipt.{Receipt}
-use Rattle.pawn_pledge.specs.Laws.{IsReplacing}
+use Rattle.pawn_book.specs.Common.{Command, IsReplacing, Receipt, Stamp, get}
 use Rattle.pawn_book.specs.declared.request.Request.{Request}
 use Rattle.pawn_book.specs.declared.request.Caller.{Caller}
 use Rattle.pawn_book.specs.declared.request.Caller.TheVariants.{Broker, Bearer}

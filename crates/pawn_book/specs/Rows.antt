@@ -1,12 +1,7 @@
 -- Which rows make a book.
 use Rattle.std.specs.Prelude.{◌≡◌, ℕ, zero, suc, ◌+◌, ◌≤◌, Bool, false, List, [], ◌∷◌, Option, None, Some, length, map, nat_eq, slice_get}
 use Rattle.std.specs.Cmp.Lexicographic.{pointwise}
-use Rattle.std.specs.List.{list_any}
-use Rattle.pawn_terms.specs.declared.terms.Rates.{Rates}
-use Rattle.pawn_base.specs.Lists.{DoNotFall, Each}
-use Rattle.pawn_terms.specs.Terms.{IsChecked}
-use Rattle.pawn_pledge.specs.Pledge.{PledgeValue}
-use Rattle.pawn_pledge.specs.Replayable.{IsStanding}
+use Rattle.pawn_book.specs.Common.{DoNotFall, Each, IsChecked, IsStanding, PledgeValue, Rates, list_any}
 use Rattle.pawn_book.specs.Limits.{most_pledges, most_terms}
 
 -- two texts are the same

@@ -1,9 +1,7 @@
 -- Shards: each book's requests are handed to one of several hosts. Each settled reply is that of one host that was
 -- asked everything.
 use Rattle.std.specs.Prelude.{◌≡◌, ◌≢◌, ℕ, List, [], ◌∷◌, ◌==◌, true, Ok, if◌then◌else◌, map}
-use Rattle.std.specs.List.{filter, flat_map}
-use Rattle.std.specs.FinMap.{get}
-use Rattle.pawn_pledge.specs.declared.command.Stamp.{Stamp}
+use Rattle.pawn_book.specs.Common.{Stamp, filter, flat_map, get}
 use Rattle.pawn_book.specs.declared.request.Caller.{Caller}
 use Rattle.pawn_book.specs.declared.request.Request.{Request}
 use Rattle.pawn_book.specs.HostStep.{Host}

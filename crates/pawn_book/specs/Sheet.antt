@@ -1,8 +1,6 @@
 -- A book's day: who comes in which window, who asked to, and whose period ends.
 use Rattle.std.specs.Prelude.{ℕ, zero, suc, ◌+◌, List, [], ◌∷◌, ◌++◌, Bool, true, false, ◌&&◌, Option, Some, None, if◌then◌else◌, ◌==◌, length, filter_map}
-use Rattle.std.specs.List.{flat_map}
-use Rattle.pawn_pledge.specs.declared.record.Booking.{Booking}
-use Rattle.pawn_pledge.specs.Pledge.{PledgeValue, end_of}
+use Rattle.pawn_book.specs.Common.{Booking, PledgeValue, end_of, flat_map}
 use Rattle.pawn_pledge.specs.Limits.{last_window}
 use Rattle.pawn_pledge.specs.Words.{is_open}
 use Rattle.pawn_book.specs.declared.sheet.Part.{Part}

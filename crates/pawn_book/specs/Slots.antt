@@ -1,15 +1,6 @@
 -- The laws of slots: what other callers do shows in no reply to a slot's own request.
 use Rattle.std.specs.Prelude.{◌≡◌, ℕ, List, [], ◌∷◌, ◌==◌, true, Option, None, Some}
-use Rattle.std.specs.List.{list_any}
-use Rattle.std.specs.FinMap.{get}
-use Rattle.pawn_pledge.specs.declared.command.Stamp.{Stamp}
-use Rattle.pawn_pledge.specs.declared.command.Command.{Command}
-use Rattle.pawn_pledge.specs.declared.command.Done.{Done}
-use Rattle.pawn_pledge.specs.declared.receipt.Receipt.{Receipt}
-use Rattle.pawn_pledge.specs.Pledge.{PledgeValue}
-use Rattle.pawn_pledge.specs.Step.{Changed, pledge_step}
-use Rattle.pawn_pledge.specs.Laws.{IsReplacing, IsSpent}
-use Rattle.pawn_base.specs.Lists.{Each}
+use Rattle.pawn_book.specs.Common.{Changed, Command, Done, Each, IsReplacing, IsSpent, PledgeValue, Receipt, Stamp, get, list_any, pledge_step}
 use Rattle.pawn_book.specs.declared.change.Change.{Change}
 use Rattle.pawn_book.specs.declared.refusal.Refusal.TheVariants.{NoSuchReceipt}
 use Rattle.pawn_book.specs.declared.reply.Reply.{Reply}

@@ -1,10 +1,6 @@
 -- Hosts that can have come about.
 use Rattle.std.specs.Prelude.{◌≡◌, ℕ, ◌≤◌, Some, IfSome}
-use Rattle.std.specs.Str.{IsUtf8}
-use Rattle.std.specs.FinMap.{get}
-use Rattle.pawn_pledge.specs.Number.{IsNumber}
-use Rattle.pawn_base.specs.Lists.{Each}
-use Rattle.pawn_base.specs.Text.{IsText}
+use Rattle.pawn_book.specs.Common.{Each, IsNumber, IsText, IsUtf8, get}
 pub use Rattle.pawn_book.specs.Written.{IsWord, AreWords, HasTextsAndWords}
 use Rattle.pawn_book.specs.BookStep.{BookValue}
 use Rattle.pawn_book.specs.HostStep.{Host, rows}

@@ -1,8 +1,8 @@
 -- What a run of requests leaves of one book, and of a slot: a list of receipts of one book.
 use Rattle.std.specs.Prelude.{ℕ, List, [], ◌∷◌, ◌++◌, ◌==◌, Bool, ◌&&◌, Option, None, Some, is_some, if◌then◌else◌}
-use Rattle.pawn_book.specs.Common.{list_any, flat_map, get, Stamp, Command, Receipt, PledgeValue, Caller, BookValue, Outcome, Makes, out_of}
-use Rattle.pawn_book.specs.Common.{is_live, pledge_in, Host, host_step, numbered_pledges, touched_pledges, pledges_of, command_of, Event}
-use Rattle.pawn_book.specs.Common.{Moment, is_settled, moments}
+use Rattle.pawn_book.specs.SlotNames.{list_any, flat_map, get, Stamp, Command, Receipt, PledgeValue, Caller, BookValue, Outcome, Makes, out_of}
+use Rattle.pawn_book.specs.SlotNames.{is_live, pledge_in, Host, host_step, numbered_pledges, touched_pledges, pledges_of, command_of, Event}
+use Rattle.pawn_book.specs.SlotNames.{Moment, is_settled, moments}
 
 -- what comes of a request on the host that it met
 abbrev pub outcome_alone : ℕ → Moment → Outcome

@@ -1,7 +1,6 @@
 -- Imports worked out: a book is filled once.
 use Rattle.std.specs.Prelude.{◌≡◌, ℕ, [], ◌∷◌, Option, Some, None, codes}
-use Rattle.pawn_debt.specs.Worked.{free}
-use Rattle.pawn_pledge.specs.Worked.{ring}
+use Rattle.pawn_book.specs.Common.{free, ring}
 use Rattle.pawn_book.specs.declared.change.Change.TheVariants.{ImportBook}
 use Rattle.pawn_book.specs.declared.refusal.Refusal.TheVariants.{BookNotEmpty, NoSuchBook}
 use Rattle.pawn_book.specs.declared.reply.Reply.TheVariants.{BookFilled}

@@ -1,12 +1,6 @@
 -- Two books on two shards, worked out beside one host that has both.
 use Rattle.std.specs.Prelude.{◌≡◌, ℕ, true, false, List, [], ◌∷◌, ◌==◌, if◌then◌else◌, None, codes}
-use Rattle.std.specs.FinMap.{empty, insert}
-use Rattle.pawn_debt.specs.declared.entry.Kind.TheVariants.{Fixed}
-use Rattle.pawn_debt.specs.Worked.{free}
-use Rattle.pawn_pledge.specs.declared.command.Command.{Command}
-use Rattle.pawn_pledge.specs.declared.command.Done.{Done}
-use Rattle.pawn_pledge.specs.declared.command.Stamp.{Stamp}
-use Rattle.pawn_pledge.specs.Worked.{ring_opening}
+use Rattle.pawn_book.specs.Common.{Command, Done, Fixed, Stamp, empty, free, insert, ring_opening}
 use Rattle.pawn_book.specs.declared.refusal.Refusal.TheVariants.{Full}
 use Rattle.pawn_book.specs.declared.reply.Reply.TheVariants.{Opened, Commanded}
 use Rattle.pawn_book.specs.declared.request.BrokerRequest.{BrokerRequest}

@@ -1,16 +1,9 @@
 -- A pledge whose receipt changes hands, worked out: what each slot's trace is.
 use Rattle.std.specs.Prelude.{◌≡◌, ℕ, true, false, List, [], ◌∷◌, ◌++◌, Option, Some, None, codes}
 use Rattle.pawn_terms.specs.Worked.{date}
-use Rattle.pawn_debt.specs.declared.entry.Kind.TheVariants.{Fixed}
-use Rattle.pawn_debt.specs.Worked.{free}
-use Rattle.pawn_pledge.specs.declared.command.Command.{Command}
+use Rattle.pawn_book.specs.Common.{Command, Fixed, Issued, PledgeValue, Receipt, Stamp, free, ring, ring_opening}
 use Rattle.pawn_pledge.specs.declared.command.Paper.{Paper}
-use Rattle.pawn_pledge.specs.declared.command.Stamp.{Stamp}
-use Rattle.pawn_pledge.specs.declared.receipt.Receipt.{Receipt}
 use Rattle.pawn_pledge.specs.declared.record.Issue.{Issue}
-use Rattle.pawn_pledge.specs.declared.record.Issued.{Issued}
-use Rattle.pawn_pledge.specs.Pledge.{PledgeValue}
-use Rattle.pawn_pledge.specs.Worked.{ring_opening, ring}
 use Rattle.pawn_book.specs.declared.refusal.Refusal.TheVariants.{NoSuchReceipt}
 use Rattle.pawn_book.specs.declared.request.BearerRequest.TheVariants.{OnPledge as OnReceipt}
 use Rattle.pawn_book.specs.declared.request.BrokerRequest.TheVariants.{TakePledge, OnPledge}

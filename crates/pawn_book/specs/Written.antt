@@ -1,10 +1,6 @@
 -- The limits that the types of a record's texts, secrets and days keep.
 use Rattle.std.specs.Prelude.{ℕ, ◌^◌, ◌<◌, List}
-use Rattle.std.specs.Str.{IsUtf8}
-use Rattle.pawn_terms.specs.Calendar.{IsDayNumber}
-use Rattle.pawn_pledge.specs.declared.record.Issued.{Issued}
-use Rattle.pawn_pledge.specs.Pledge.{PledgeValue}
-use Rattle.pawn_base.specs.Lists.{Each}
+use Rattle.pawn_book.specs.Common.{Each, IsDayNumber, IsUtf8, Issued, PledgeValue}
 
 -- a key or a secret: a word of 128 bits
 abbrev pub IsWord : ℕ → Type 0

@@ -1,13 +1,7 @@
 //! Plans of commands on a pledge that the book has.
 ghost use Rattle.std.specs.Prelude.{◌≡◌, Err, IfOk};
-ghost use Rattle.std.specs.FinMap.{get};
-ghost use Rattle.pawn_terms.specs.Calendar.{IsStampDay};
-ghost use Rattle.pawn_pledge.specs.Commands.{IsCommand};
-ghost use Rattle.pawn_pledge.specs.Step.{pledge_step};
-ghost use Rattle.pawn_book.specs.BookStep.{BookValue, bearer_commands, broker_commands, confirmed_booking, book_head, judged_outcome, live_at, pledge_from, pledge_in, within_window};
-ghost use Rattle.pawn_book.specs.Sound.{IsSound, IsWord};
-ghost use Rattle.pawn_book.specs.Keeping.{IsQuiet, Reads};
-ghost use Rattle.pawn_book.specs.Plans.{IsOutcome, Plans, outcome_of};
+ghost use Rattle.pawn_book.specs.Common.{IsCommand, IsStampDay, get, pledge_step};
+ghost use Rattle.pawn_book.specs.Books.{BookValue, IsOutcome, IsQuiet, IsSound, IsWord, Plans, Reads, bearer_commands, book_head, broker_commands, confirmed_booking, judged_outcome, live_at, outcome_of, pledge_from, pledge_in, within_window};
 
 use crate::change::{BookHead, Change, Planned};
 use crate::gates::{find_live, know_word, unwell_refusal};

@@ -1,10 +1,7 @@
 //! Who is let in, and to what.
 ghost use Rattle.std.specs.Prelude.{◌≡◌, IfOk};
 ghost use Rattle.std.specs.FinMap.{get};
-ghost use Rattle.pawn_book.specs.BookStep.{live_at, pledge_in};
-ghost use Rattle.pawn_book.specs.Sound.{IsWord};
-ghost use Rattle.pawn_book.specs.Keeping.{IsQuiet, IsSteady, Reads};
-ghost use Rattle.pawn_book.specs.Plans.{Gates, IsUnwell};
+ghost use Rattle.pawn_book.specs.Books.{Gates, IsQuiet, IsSteady, IsUnwell, IsWord, Reads, live_at, pledge_in};
 
 use crate::change::BookHead;
 use crate::fault::KeepError;

@@ -1,7 +1,6 @@
 //! Plans of imports.
 ghost use Rattle.std.specs.Prelude.{◌≡◌, IfErr, IfOk, Err, Some, length};
-ghost use Rattle.std.specs.FinMap.{get};
-ghost use Rattle.pawn_base.specs.Lists.{Each};
+ghost use Rattle.pawn_book.specs.Common.{Each, get};
 ghost use Rattle.pawn_book.specs.BookStep.{BookValue, book_head, import_rows, is_empty};
 ghost use Rattle.pawn_book.specs.HostStep.{Host};
 ghost use Rattle.pawn_book.specs.Plans.{Plans};

@@ -6,7 +6,7 @@ ghost use Rattle.pawn_book.specs.BookStep.{book_head, pledge_in};
 ghost use Rattle.pawn_book.specs.Rows.{terms_at};
 ghost use Rattle.pawn_book.specs.HostStep.{rows};
 ghost use Rattle.pawn_book.specs.Changes.{CanSave};
-ghost use Rattle.pawn_book.specs.Keeping.{Errs, IsNextBook, Keeping, Of, Reads, Saves, WholeIsSound, entries_of, extensions_of, number_of, pledges_of, secrets_of, terms_of};
+ghost use Rattle.pawn_book.specs.Keeping.{Errs, IsNextBook, Keeping, OfHost, Reads, Saves, WholeIsSound, entries_of, extensions_of, number_of, pledges_of, secrets_of, terms_of};
 ghost use Rattle.pawn_book.specs.Sheet.{day_sheet};
 ghost use Rattle.pawn_book.specs.Sound.{HasUnsoundBook, IsUnsoundAt};
 ghost use Rattle.pawn_book.specs.Visits.{IsShare, Visits, call_end};
@@ -141,7 +141,7 @@ pub trait Keep {
     /// Makes a change, or answers `Full` if the rows would be above the limit. After any error the books are as before,
     /// though a crash may then leave the change made, unless the error is `Full`.
     fn save(&mut self, change: &Change) -> Result<(), SaveError>
-        requires can_save { keeping.serves self.old → Of keeping self.old self.old
+        requires can_save { keeping.serves self.old → OfHost keeping self.old self.old
             (λ h. CanSave h change.now) }
         ensures saves { Saves keeping self.old self.new change.now result };
 

@@ -55,7 +55,7 @@ pub use refusal::Refusal;
 pub use replaying::replayable;
 pub use reply::Reply;
 pub use request::{BearerRequest, BrokerRequest, Caller, Name, NewBook, NewTerms, Request};
-pub use rows::{BookRows, PledgeRows};
+pub use rows::{BookRows, PledgeRows, know_written};
 pub use sheet::{Part, SheetItem};
 pub use visit::{Flow, Visitor};
 pub use worked::{worked_imports, worked_shards, worked_slots};

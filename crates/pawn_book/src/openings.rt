@@ -1,14 +1,7 @@
 //! Plans of new pledges.
 ghost use Rattle.std.specs.Prelude.{◌≡◌, Err, IfOk, Some};
-ghost use Rattle.std.specs.FinMap.{get};
-ghost use Rattle.std.specs.Str.{IsUtf8};
-ghost use Rattle.pawn_terms.specs.Calendar.{IsDayNumber};
-ghost use Rattle.pawn_base.specs.Refusals.{IsSaid};
-ghost use Rattle.pawn_pledge.specs.Replayable.{IsStanding};
-ghost use Rattle.pawn_book.specs.BookStep.{BookValue, first_receipt, book_head, is_same_opening, newest, take_pledge, next_pledge, with_reference};
-ghost use Rattle.pawn_book.specs.Sound.{IsSound, IsWord};
-ghost use Rattle.pawn_book.specs.Keeping.{IsQuiet, IsSteady, Reads, pledges_of};
-ghost use Rattle.pawn_book.specs.Plans.{IsUnwell, Plans};
+ghost use Rattle.pawn_book.specs.Common.{IsDayNumber, IsSaid, IsStanding, IsUtf8, get};
+ghost use Rattle.pawn_book.specs.Books.{BookValue, IsQuiet, IsSound, IsSteady, IsUnwell, IsWord, Plans, Reads, book_head, first_receipt, is_same_opening, newest, next_pledge, pledges_of, take_pledge, with_reference};
 
 use crate::change::{BookHead, Change, Planned};
 use crate::fault::KeepError;
@@ -50,7 +43,7 @@ pub(crate) fn plan_pledge<K: Keep>(
                 reply: Reply::Opened(first_receipt(&pledge)),
             })
         }
-        Ok(None) => match take(alloc, keep, book, head, opening, stamp) {
+        Ok(None) => match new_pledge(alloc, keep, book, head, opening, stamp) {
             Err(refusal) => Err(refusal),
             Ok(pledge) => {
                 let reply = Reply::Opened(first_receipt(&pledge));
@@ -102,7 +95,7 @@ fn find_reference<K: Keep>(
 }
 
 // A new pledge, one past the book's last, under its newest terms.
-fn take<K: Keep>(
+fn new_pledge<K: Keep>(
     alloc: Global,
     keep: &mut K,
     book: Number,

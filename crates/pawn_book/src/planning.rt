@@ -1,9 +1,6 @@
 //! Plans of requests.
 ghost use Rattle.std.specs.FinMap.{get};
-ghost use Rattle.pawn_book.specs.BookStep.{book_step};
-ghost use Rattle.pawn_book.specs.Sound.{IsSound};
-ghost use Rattle.pawn_book.specs.Keeping.{IsQuiet, Reads};
-ghost use Rattle.pawn_book.specs.Plans.{IsWritten, Plans};
+ghost use Rattle.pawn_book.specs.Books.{IsQuiet, IsSound, IsWritten, Plans, Reads, book_step};
 
 use crate::change::Planned;
 use crate::commands::{plan_number, plan_receipt};

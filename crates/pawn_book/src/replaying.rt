@@ -1,13 +1,7 @@
 //! Which rows make a book.
 ghost use Rattle.std.specs.Prelude.{◌≡◌, ◌≤◌, ◌↔◌, ℕ, IsTrue, length};
-ghost use Rattle.std.specs.List.{list_any};
-ghost use Rattle.pawn_base.specs.Lists.{DoNotFall, Each};
-ghost use Rattle.pawn_terms.specs.Terms.{IsChecked};
-ghost use Rattle.pawn_pledge.specs.Replayable.{IsStanding};
-ghost use Rattle.pawn_book.specs.BookStep.{BookValue, filled_book};
-ghost use Rattle.pawn_book.specs.Limits.{most_pledges, most_terms};
-ghost use Rattle.pawn_book.specs.Rows.{AreDistinct, AreNumberedFrom, AreReplayable, IsUnder, references_of, version_of, is_same_text};
-ghost use Rattle.pawn_book.specs.Sound.{IsSoundBook, IsWord};
+ghost use Rattle.pawn_book.specs.Common.{DoNotFall, Each, IsChecked, IsStanding, list_any};
+ghost use Rattle.pawn_book.specs.Books.{AreDistinct, AreNumberedFrom, AreReplayable, BookValue, IsSoundBook, IsUnder, IsWord, filled_book, is_same_text, most_pledges, most_terms, references_of, version_of};
 
 use crate::limits::{MOST_PLEDGES, MOST_TERMS};
 use crate::rows::BookRows;

@@ -1,9 +1,6 @@
 ghost use Rattle.std.specs.Prelude.{◌≡◌, ◌↔◌, IfOk, IsTrue};
-ghost use Rattle.pawn_base.specs.Text.{IsText};
-ghost use Rattle.std.specs.Str.{IsUtf8};
-ghost use Rattle.pawn_book.specs.Limits.{IsCapacity};
-ghost use Rattle.pawn_book.specs.Sound.{IsWord};
-ghost use Rattle.pawn_book.specs.Plans.{IsBearerWrite, IsBrokerWrite, IsWritten};
+ghost use Rattle.pawn_book.specs.Common.{IsText, IsUtf8};
+ghost use Rattle.pawn_book.specs.Books.{IsBearerWrite, IsBrokerWrite, IsCapacity, IsWord, IsWritten};
 
 use crate::capacity::Capacity;
 use crate::importing::ReplayableRows;

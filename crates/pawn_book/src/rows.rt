@@ -56,17 +56,18 @@ impl PledgeRows {
     }
 }
 
-// Gives a proof that the texts of records are UTF-8, their secrets have 128 bits, and the days on which they were taken
-// are days of the calendar.
+// Gives the proof of `know_written` for each record.
 fn know_records(records: &[Parts])
     ensures written { Each HasTextsAndWords records.now }
 {
     for parts in records {
-        know_record(parts);
+        know_written(parts);
     }
 }
 
-fn know_record(parts: &Parts)
+/// Reads the texts, the secrets and the day of a record, which gives a proof that the texts are UTF-8, that the secrets
+/// have 128 bits, and that the day is one of the calendar.
+pub fn know_written(parts: &Parts)
     ensures written { HasTextsAndWords parts.now }
 {
     let _ = parts.agreement.opening.reference.as_str();

@@ -1,12 +1,7 @@
 //! Plans of books and of their terms.
 ghost use Rattle.std.specs.Prelude.{◌≡◌, IfOk};
-ghost use Rattle.std.specs.FinMap.{get};
-ghost use Rattle.pawn_terms.specs.Terms.{IsChecked};
-ghost use Rattle.pawn_book.specs.BookStep.{BookValue, are_same_rates, make_book, book_head, is_same_book, next_terms, put_terms};
-ghost use Rattle.pawn_book.specs.Rows.{terms_at};
-ghost use Rattle.pawn_book.specs.Sound.{IsSound};
-ghost use Rattle.pawn_book.specs.Keeping.{IsQuiet, Reads};
-ghost use Rattle.pawn_book.specs.Plans.{Plans};
+ghost use Rattle.pawn_book.specs.Common.{IsChecked, get};
+ghost use Rattle.pawn_book.specs.Books.{BookValue, IsQuiet, IsSound, Plans, Reads, are_same_rates, book_head, is_same_book, make_book, next_terms, put_terms, terms_at};
 
 use crate::change::{BookHead, Change, Planned};
 use crate::gates::unwell_refusal;

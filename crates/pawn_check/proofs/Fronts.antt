@@ -1,31 +1,12 @@
 -- The terms and the pledges of a book, judged one after the other.
 use Rattle.std.proofs.Common.{◌≡◌, ◌∙◌, ℕ, ◌+◌, ◌<◌, ◌≤◌, zero, suc, true, false, List, [], ◌∷◌, ◌++◌, length, take, Some, None, refl, sym, ap, subst, arith}
 use Rattle.std.specs.Prelude.{◌==◌, ◌||◌, if◌then◌else◌, Bool, Option, option_map, slice_get}
-use Rattle.std.specs.FinMap.{get}
+use Rattle.pawn_check.specs.Common.{AreDistinct, AreNumberedFrom, BookValue, DoNotFall, Each, Err, HasTextsAndWords, HasUnsoundBook, Host, IfSome, IsCapacity, IsChecked, IsSoundBook, IsStanding, IsText, IsTrue, IsUnder, IsUtf8, IsWord, Keeping, PledgeValue, Rates, Reads, Result, book_head, get, is_same_text, last_by, most_name_bytes, most_pledges, most_terms, pledge_from, pledge_in, pledge_rows, references_of, terms_at, terms_of, version_of, with_reference}
 use Rattle.std.specs.List.{list_any}
-use Rattle.std.proofs.lemmas.Bool.Decides.{nat_tests}
-use Rattle.std.proofs.lemmas.List.Sums.{sum_by_push}
+use Rattle.pawn_check.proofs.Lemmas.{absurd_none, nat_tests, reads_then, references_push, some_is, sum_by_push}
 use Rattle.pawn_base.proofs.ListLemmas.{Each-push, take_whole, take_each}
-use Rattle.pawn_terms.specs.declared.terms.Rates.{Rates}
-use Rattle.pawn_base.specs.Lists.{DoNotFall, last_by, Each}
-use Rattle.pawn_terms.specs.Terms.{IsChecked}
-use Rattle.pawn_pledge.specs.Pledge.{PledgeValue}
-use Rattle.pawn_pledge.specs.Replayable.{IsStanding}
-use Rattle.pawn_book.specs.BookStep.{BookValue, book_head, pledge_from, pledge_in, with_reference}
-use Rattle.std.specs.Prelude.{IfSome}
-use Rattle.std.specs.Str.{IsUtf8}
-use Rattle.pawn_base.specs.Text.{IsText}
 use Rattle.pawn_book.specs.declared.change.BookHead.{BookHead}
-use Rattle.pawn_book.specs.Limits.{IsCapacity, most_name_bytes, most_pledges, most_terms}
-use Rattle.pawn_book.specs.HostStep.{pledge_rows}
-use Rattle.pawn_book.specs.Keeping.{Keeping, Reads, terms_of}
-use Rattle.pawn_book.proofs.Reading.{reads_then}
-use Rattle.pawn_book.specs.Rows.{AreDistinct, AreNumberedFrom, IsUnder, references_of, version_of, is_same_text, terms_at}
-use Rattle.pawn_book.specs.Sound.{HasTextsAndWords, HasUnsoundBook, IsSoundBook, IsWord}
-use Rattle.pawn_book.proofs.SoundLists.{absurd_none, some_is, references_push}
 use Rattle.pawn_book.proofs.Sounds.{each_at, numbered_at}
-use Rattle.pawn_book.specs.HostStep.{Host}
-use Rattle.std.specs.Prelude.{IsTrue, Result, Err}
 use Rattle.pawn_check.specs.declared.fault.CheckFault.{CheckFault}
 use Rattle.pawn_check.specs.Judging.{AreOfBook, Blames, FindsSound, FitsAt, IsFront}
 use Rattle.pawn_book.proofs.LawLemmas.{text_same}
@@ -42,15 +23,15 @@ stands (t ∷ terms) (suc i) less none = stands terms i (omega (arith, less)) no
 pub version_there : (terms : List Rates) (i : ℕ) → i < length terms → terms_at terms (i + 1) ≡ None → ⊥
 version_there terms i less none = stands terms i less (sym (terms_at_place terms i) ∙ none)
 
-more_checked : (terms : List Rates) (i : ℕ) (t : Rates) → slice_get terms i ≡ Some t → IsChecked t → Each {A = Rates} IsChecked (take i terms) → Each {A = Rates} IsChecked (take (suc i) terms)
+more_checked : (terms : List Rates) (i : ℕ) (t : Rates) → slice_get terms i ≡ Some t → IsChecked t → Each {X = Rates} IsChecked (take i terms) → Each {X = Rates} IsChecked (take (suc i) terms)
 more_checked [] i t at is all = absurd_none at
 more_checked (u ∷ terms) zero t at is all = (subst IsChecked (sym (some_is u t at)) is, tt)
 more_checked (u ∷ terms) (suc i) t at is all = (all.0, more_checked terms i t at is all.1)
 
-pub checked_more : (terms : List Rates) (i : ℕ) (t : Rates) → terms_at terms (i + 1) ≡ Some t → IsChecked t → Each {A = Rates} IsChecked (take i terms) → Each {A = Rates} IsChecked (take (i + 1) terms)
+pub checked_more : (terms : List Rates) (i : ℕ) (t : Rates) → terms_at terms (i + 1) ≡ Some t → IsChecked t → Each {X = Rates} IsChecked (take i terms) → Each {X = Rates} IsChecked (take (i + 1) terms)
 checked_more terms i t at is all =
     let next : suc i ≡ i + 1 = omega arith in
-    subst (λ (n : ℕ). Each {A = Rates} IsChecked (take n terms)) next (more_checked terms i t (sym (terms_at_place terms i) ∙ at) is all)
+    subst (λ (n : ℕ). Each {X = Rates} IsChecked (take n terms)) next (more_checked terms i t (sym (terms_at_place terms i) ∙ at) is all)
 
 -- ---- pledges
 
@@ -241,18 +222,18 @@ both_ways false holds not' = cc holds
 pub unlisted : (h : Host) (b i : ℕ) (k : BookValue) → get h.books b ≡ Some k → i < length k.terms → None ≡ terms_at (terms_of (get h.books b)) (i + 1) → ⊥
 unlisted h b i k is less none = version_there k.terms i less (ap (λ o. terms_at (terms_of o) (i + 1)) (sym is) ∙ sym none)
 
-pub next_checked : (h : Host) (b i : ℕ) (k : BookValue) (t : Rates) → get h.books b ≡ Some k → Some t ≡ terms_at (terms_of (get h.books b)) (i + 1) → IsChecked t → Each {A = Rates} IsChecked (take i k.terms)
-    → Each {A = Rates} IsChecked (take (i + 1) k.terms)
+pub next_checked : (h : Host) (b i : ℕ) (k : BookValue) (t : Rates) → get h.books b ≡ Some k → Some t ≡ terms_at (terms_of (get h.books b)) (i + 1) → IsChecked t → Each {X = Rates} IsChecked (take i k.terms)
+    → Each {X = Rates} IsChecked (take (i + 1) k.terms)
 next_checked h b i k t is at checked all = checked_more k.terms i t (ap (λ o. terms_at (terms_of o) (i + 1)) (sym is) ∙ sym at) checked all
 
-pub all_checked : (k : BookValue) (i : ℕ) → i ≡ length k.terms → Each {A = Rates} IsChecked (take i k.terms) → Each {A = Rates} IsChecked k.terms
-all_checked k i all each = subst (Each {A = Rates} IsChecked) (take_each k.terms i all) each
+pub all_checked : (k : BookValue) (i : ℕ) → i ≡ length k.terms → Each {X = Rates} IsChecked (take i k.terms) → Each {X = Rates} IsChecked k.terms
+all_checked k i all each = subst (Each {X = Rates} IsChecked) (take_each k.terms i all) each
 
 -- ---- a whole book
 
 module _ (k : BookValue) (head : BookHead) (is : head ≡ book_head k) (rows : ℕ) where
   pub sound_book : IsWord head.key → IfSome head.imported (λ i. IsWord i.key) → IsUtf8 head.name → IsText most_name_bytes head.name → IsCapacity head.capacity → head.terms ≤ most_terms → head.pledges ≤ most_pledges
-      → Each {A = Rates} IsChecked k.terms → ((version : ℕ) × IsFront k k.pledges version rows) → IsSoundBook k
+      → Each {X = Rates} IsChecked k.terms → ((version : ℕ) × IsFront k k.pledges version rows) → IsSoundBook k
   sound_book key imported utf8 name capacity few_terms few_pledges checked front = record {
     key = subst (λ (x : BookHead). IsWord x.key) is key;
     imported = subst (λ (x : BookHead). IfSome x.imported (λ i. IsWord i.key)) is imported;

@@ -4,16 +4,10 @@ use Rattle.std.specs.Prelude.{if◌then◌else◌, Bool, true, false, ◌&&◌, 
 use Rattle.std.specs.declared.cmp.Ordering.TheVariants.{Less, Equal, Greater}
 use Rattle.std.specs.Cmp.{ranked}
 use Rattle.std.specs.Ordering.{nat_cmp, is_eq, is_lt}
-use Rattle.std.specs.FinMap.{entries, entries_sorted, get, get-entries, find, is_sorted}
+use Rattle.pawn_check.specs.Common.{AreSound, BookValue, HasUnsoundBook, Host, IsNextBook, IsSoundAt, book_rows, entries, entries_sorted, find, get, get-entries, is_sorted, rows}
 use Rattle.std.specs.FinMap.Entries.{below_all}
-use Rattle.std.proofs.lemmas.Bool.Decides.{nat_tests}
-use Rattle.std.proofs.lemmas.List.Sums.{sum_by-cons}
+use Rattle.pawn_check.proofs.Lemmas.{absurd_none, nat_tests, some_is, sum_by-cons}
 use Rattle.pawn_base.proofs.TestLemmas.{both_told, below}
-use Rattle.pawn_book.specs.BookStep.{BookValue}
-use Rattle.pawn_book.specs.HostStep.{Host, book_rows, rows}
-use Rattle.pawn_book.specs.Keeping.{IsNextBook}
-use Rattle.pawn_book.specs.Sound.{AreSound, HasUnsoundBook, IsSoundAt}
-use Rattle.pawn_book.proofs.SoundLists.{absurd_none, some_is}
 use Rattle.pawn_check.specs.declared.counts.BookCounts.{BookCounts}
 use Rattle.pawn_check.specs.Judging.{AreCounted, AreOfBook}
 

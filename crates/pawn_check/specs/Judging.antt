@@ -1,17 +1,9 @@
 -- What the result of a check says of a host.
 use Rattle.std.specs.Prelude.{◌≡◌, ℕ, List, length, Result, Ok, Err, sum_by, IsErrOf, Some}
-use Rattle.std.specs.FinMap.{entries, get}
-use Rattle.pawn_pledge.specs.Pledge.{PledgeValue}
-use Rattle.pawn_base.specs.Lists.{Each, DoNotFall, last_by}
-use Rattle.pawn_pledge.specs.Replayable.{IsStanding}
+use Rattle.pawn_check.specs.Common.{AreDistinct, AreNumberedFrom, AreSound, BookValue, DoNotFall, Each, HasTextsAndWords, HasUnsoundBook, Host, IsSoundAt, IsStanding, IsUnder, Keeping, PledgeValue, book_rows, entries, get, last_by, number_of, pledge_rows, references_of, rows, version_of}
 use Rattle.pawn_book.specs.declared.fault.KeepError.{KeepError}
 use Rattle.pawn_book.specs.declared.fault.KeepError.TheVariants as Keeper
 use Rattle.pawn_book.specs.declared.fault.StoreFault.TheVariants.{NoRecord, Database}
-use Rattle.pawn_book.specs.BookStep.{BookValue}
-use Rattle.pawn_book.specs.HostStep.{Host, rows, book_rows, pledge_rows}
-use Rattle.pawn_book.specs.Keeping.{Keeping, number_of}
-use Rattle.pawn_book.specs.Rows.{AreDistinct, AreNumberedFrom, IsUnder, references_of, version_of}
-use Rattle.pawn_book.specs.Sound.{AreSound, HasTextsAndWords, HasUnsoundBook, IsSoundAt}
 use Rattle.pawn_check.specs.declared.counts.Counts.{Counts}
 use Rattle.pawn_check.specs.declared.counts.BookCounts.{BookCounts}
 use Rattle.pawn_check.specs.declared.fault.CheckFault.{CheckFault}

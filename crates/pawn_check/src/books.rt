@@ -1,16 +1,6 @@
 //! The books of a store, judged one after the other.
 ghost use Rattle.std.specs.Prelude.{◌≡◌, ◌≤◌, IfOk, IfSome, Some, length, unwrap_or};
-ghost use Rattle.std.specs.Str.{IsUtf8};
-ghost use Rattle.std.specs.FinMap.{get};
-ghost use Rattle.pawn_terms.specs.Terms.{IsChecked};
-ghost use Rattle.pawn_base.specs.Lists.{Each};
-ghost use Rattle.pawn_base.specs.Text.{IsText};
-ghost use Rattle.pawn_book.specs.BookStep.{BookValue, book_head};
-ghost use Rattle.pawn_book.specs.HostStep.{rows};
-ghost use Rattle.pawn_book.specs.Keeping.{IsNextBook, Reads, terms_of};
-ghost use Rattle.pawn_book.specs.Rows.{terms_at};
-ghost use Rattle.pawn_book.specs.Limits.{IsCapacity, most_name_bytes, most_pledges};
-ghost use Rattle.pawn_book.specs.Sound.{IsWord};
+ghost use Rattle.pawn_check.specs.Common.{BookValue, Each, IsCapacity, IsChecked, IsNextBook, IsText, IsUtf8, IsWord, Reads, book_head, get, most_name_bytes, most_pledges, rows, terms_at, terms_of};
 ghost use Rattle.pawn_check.specs.Judging.{FindsSound, IsQuietCheck, Judges, JudgesBook};
 
 use crate::counts::{BookCounts, Counts};

@@ -1,19 +1,10 @@
 //! The pledges of a book, judged one after the other.
 ghost use Rattle.std.specs.Prelude.{◌≡◌, ◌≤◌, ◌+◌, ◌*◌, ◌↔◌, ℕ, Some, IsTrue, IfOk, length, take};
-ghost use Rattle.std.specs.FinMap.{get};
-ghost use Rattle.pawn_base.specs.Lists.{last_by};
-ghost use Rattle.pawn_pledge.specs.Pledge.{PledgeValue};
-ghost use Rattle.pawn_pledge.specs.Replayable.{IsStanding};
-ghost use Rattle.pawn_book.specs.BookStep.{BookValue, pledge_from};
-ghost use Rattle.pawn_book.specs.HostStep.{pledge_rows};
-ghost use Rattle.pawn_book.specs.Keeping.{Reads, number_of};
-ghost use Rattle.pawn_book.specs.Limits.{most_pledges};
-ghost use Rattle.pawn_book.specs.Rows.{IsUnder, version_of};
-ghost use Rattle.pawn_book.specs.Sound.{HasTextsAndWords};
+ghost use Rattle.pawn_check.specs.Common.{BookValue, IsStanding, IsUnder, PledgeValue, Reads, get, last_by, most_pledges, number_of, pledge_from, pledge_rows, version_of};
 ghost use Rattle.pawn_check.specs.Judging.{FindsSound, FitsAt, IsFront, IsQuietCheck};
 
 use crate::fault::CheckFault;
-use pawn_book::{Keep, Number, Reference};
+use pawn_book::{Keep, Number, Reference, know_written};
 use pawn_pledge::Parts;
 
 // What is noted of a pledge that was judged: the version of its terms, and how many rows it has.
@@ -21,18 +12,6 @@ use pawn_pledge::Parts;
 pub struct Step {
     pub version: u64,
     pub rows: u64,
-}
-
-// Reads the texts, the secrets and the day of a pledge, so that the proof knows that they are within their limits.
-fn know_parts(parts: &Parts)
-    ensures written { HasTextsAndWords parts.now }
-{
-    let _ = parts.agreement.opening.reference.as_str();
-    let _ = parts.agreement.opening.article.as_str();
-    let _ = parts.agreement.taken.count();
-    for issued in parts.secrets.as_slice() {
-        let _word = issued.secret.word();
-    }
 }
 
 // How many counted rows a pledge has.
@@ -114,7 +93,7 @@ fn next_step<K: Keep>(
     ensures quiet { IsQuietCheck K.keeping keep.old result }
 {
     let parts = parts_of(keep, book, number)?;
-    know_parts(&parts);
+    know_written(&parts);
     let next = parts.agreement.version;
     if parts.agreement.number != number || next < version || !parts.can_stand() {
         return Err(CheckFault::Damaged);

@@ -1,31 +1,13 @@
 -- Rows that were taken to their end are those of the book.
 use Rattle.std.proofs.Common.{◌≡◌, ◌∙◌, ◌+◌, ℕ, Bool, true, false, List, [], ◌∷◌, ◌++◌, length, map, Option, Some, None, Result, Ok, Err, refl, sym, ap, subst, append_assoc, arith, cond, nat_lt, nat_le}
 use Rattle.std.specs.Prelude.{◌==◌, ◌&&◌, ◌||◌, IfOk, IfSome}
-use Rattle.std.specs.List.{flat_map}
-use Rattle.std.proofs.lemmas.Bool.Decides.{nat_tests}
-use Rattle.std.proofs.lemmas.List.{append-nil}
-use Rattle.csv.specs.Reading.{AreRecords, default_config, strip_bom}
+use Rattle.pawn_csv.specs.Common.{AreRecords, BookRows, Each, PledgeValue, Rates, default_config, flat_map, most_pledges, most_terms, strip_bom}
+use Rattle.pawn_csv.proofs.Lemmas.{Each-push, and_parts, append-nil, nat_tests}
 use Rattle.csv.specs.declared.parser.State.TheVariants as st
-use Rattle.pawn_base.proofs.ListLemmas.{Each-push}
-use Rattle.pawn_terms.specs.declared.terms.Rates.{Rates}
-use Rattle.pawn_pledge.specs.Pledge.{PledgeValue}
-use Rattle.pawn_base.specs.Lists.{Each}
-use Rattle.pawn_book.specs.Limits.{most_pledges, most_terms}
-use Rattle.pawn_book.specs.declared.rows.BookRows.{BookRows}
-use Rattle.pawn_csv.specs.declared.fault.Cause.{Cause}
+use Rattle.pawn_csv.specs.Csv.{AreTaken, Begun, Cause, FitsColumns, IsFinishedAs, IsHeldBy, IsReadAs, IsTextOf, Knows, PledgeColumns, RawPledge, Row, Version, hand, header, is_whole, may_end, on_hand, on_second, place, place_booking, place_entry, place_extension, place_pledge, place_secret, place_terms, pledge_csv_rows, pledges_begun, put_hand, raw_of, raw_pledge, raw_rows, row_fields, rows_of_csv, run, terms_rows, then_run, version_rows}
 use Rattle.pawn_csv.specs.declared.fault.Cause.TheVariants as cause
-use Rattle.pawn_csv.specs.declared.order.RawPledge.{RawPledge}
-use Rattle.pawn_csv.specs.declared.row.PledgeColumns.{PledgeColumns}
-use Rattle.pawn_csv.specs.declared.row.Row.{Row}
-use Rattle.pawn_csv.specs.declared.row.Version.{Version}
 use Rattle.pawn_csv.specs.declared.row.Version.TheVariants as version
-use Rattle.pawn_csv.specs.Finishing.{IsFinishedAs, raw_of}
-use Rattle.pawn_csv.specs.Layout.{raw_rows}
-use Rattle.pawn_csv.specs.Order.{Begun, hand, is_whole, may_end, on_hand, on_second, place, place_booking, place_entry, place_extension, place_pledge, place_secret, place_terms, pledges_begun, put_hand, raw_pledge, run, then_run}
-use Rattle.pawn_csv.specs.Reading.{AreTaken, IsHeldBy, IsReadAs, IsTextOf}
-use Rattle.pawn_csv.specs.Rows.{FitsColumns, Knows, header, pledge_csv_rows, row_fields, rows_of_csv, terms_rows, version_rows}
 use Rattle.pawn_csv.proofs.OrderLemmas.{Shows, booking_shown, entry_shown, extension_shown, guard_err, guard_ok, ok_same, secret_shown}
-use Rattle.std.proofs.lemmas.Bool.{and_parts}
 
 -- the rows that were taken
 abbrev pub shown : Option Begun → List Row

@@ -1,7 +1,6 @@
 -- One column.
 use Rattle.std.proofs.Common.{◌≡◌, ◌∙◌, ◌^◌, ◌<◌, ℕ, zero, suc, List, [], ◌∷◌, None, Some, refl, ap, get_or}
-use Rattle.csv.specs.Records.{field_at}
-use Rattle.pawn_pledge.specs.Secret.{secret_of_text, secret_text}
+use Rattle.pawn_csv.specs.Common.{field_at, secret_of_text, secret_text}
 use Rattle.pawn_pledge.proofs.TextLemmas.{secret_texts_read_back}
 
 -- the text of a secret is read as that secret

@@ -1,30 +1,10 @@
 -- Rows that are asked for one by one: the terms and the pledges of a book.
 use Rattle.std.proofs.Common.{◌≡◌, ◌∙◌, ℕ, ◌+◌, ◌<◌, ◌≤◌, zero, suc, true, false, List, [], ◌∷◌, ◌++◌, length, take, Option, Some, None, refl, sym, ap, subst, arith, append_assoc}
 use Rattle.std.specs.Prelude.{◌==◌, if◌then◌else◌, option_map, slice_get, unwrap_or}
-use Rattle.std.specs.List.{flat_map}
-use Rattle.std.specs.FinMap.{get}
-use Rattle.std.proofs.lemmas.Bool.Decides.{nat_tests}
-use Rattle.std.proofs.lemmas.Grind.{flat_map-append}
-use Rattle.std.proofs.lemmas.List.{append-nil}
-use Rattle.pawn_base.proofs.ListLemmas.{take_whole, take_each}
-use Rattle.pawn_terms.specs.declared.terms.Rates.{Rates}
-use Rattle.pawn_pledge.specs.Brief.{brief_of}
-use Rattle.pawn_pledge.specs.declared.brief.BriefFields.{BriefFields}
-use Rattle.pawn_pledge.specs.Number.{IsNumber}
-use Rattle.pawn_pledge.specs.Pledge.{PledgeValue}
-use Rattle.pawn_book.specs.BookStep.{BookValue, pledge_from, pledge_in}
-use Rattle.pawn_book.specs.HostStep.{Host}
-use Rattle.pawn_book.specs.Keeping.{pledges_of}
-use Rattle.pawn_book.specs.Limits.{most_pledges}
-use Rattle.pawn_book.specs.Rows.{terms_at}
-use Rattle.pawn_book.specs.Sound.{IsSound}
-use Rattle.pawn_book.specs.Visits.{Front, Whole}
-use Rattle.pawn_csv.specs.Rows.{pledge_csv_rows, terms_rows}
-use Rattle.pawn_csv.specs.Sent.{PutsRow, PutsRowsShare, text_of_row}
-use Rattle.pawn_csv.specs.declared.row.Row.{Row}
-use Rattle.pawn_csv.specs.declared.writing.Sink.{Sink}
+use Rattle.pawn_csv.specs.Common.{BookValue, BriefFields, Front, Host, IsNumber, IsSound, PledgeValue, Rates, Whole, brief_of, flat_map, get, most_pledges, pledge_from, pledge_in, pledges_of, terms_at}
+use Rattle.pawn_csv.proofs.Lemmas.{append-nil, flat_map-append, nat_tests, share_front, share_more, share_puts, share_then, take_each, take_whole}
+use Rattle.pawn_csv.specs.Csv.{PutsRow, PutsRowsShare, Row, Sink, pledge_csv_rows, terms_rows, text_of_row}
 use Rattle.pawn_csv.proofs.ListLemmas.{lines_from}
-use Rattle.pawn_view.proofs.ShareLemmas.{share_front, share_more, share_puts, share_then}
 use Rattle.pawn_csv.proofs.SentLemmas.{rows_in_turn}
 use Rattle.pawn_book.proofs.Places.{terms_at_place}
 

@@ -1,27 +1,14 @@
 -- A book's text, put part by part, and how it ends.
 use Rattle.std.proofs.Common.{◌≡◌, ◌∙◌, ℕ, Bool, true, false, List, [], ◌∷◌, ◌++◌, length, Option, Some, None, Result, Ok, Err, refl, sym, ap, subst}
 use Rattle.std.specs.Prelude.{◌||◌, map, option_map, unwrap_or}
-use Rattle.std.specs.List.{flat_map}
-use Rattle.std.proofs.lemmas.Grind.{flat_map-append}
-use Rattle.csv.specs.Writing.{default_writer, row_text}
-use Rattle.pawn_book.specs.BookStep.{BookValue, book_head, rows_of_book}
-use Rattle.pawn_book.specs.Keeping.{pledges_of, terms_of}
-use Rattle.pawn_book.specs.Visits.{End, Front, Whole, call_end}
+use Rattle.pawn_csv.specs.Common.{BookValue, End, Front, KeepError, PutFront, ViewFault, Whole, Written, book_head, call_end, default_writer, end_by, flat_map, pledges_of, row_text, rows_of_book, terms_of, write_failed}
+use Rattle.pawn_csv.proofs.Lemmas.{flat_map-append, or_from, share_all, share_more, share_puts, share_then}
 use Rattle.pawn_book.specs.declared.change.BookHead.{BookHead}
-use Rattle.pawn_book.specs.declared.fault.KeepError.{KeepError}
 use Rattle.pawn_book.specs.declared.fault.KeepError.TheVariants as error
-use Rattle.pawn_view.specs.Ends.{PutFront, Written, end_by, write_failed}
-use Rattle.pawn_view.specs.declared.fault.ViewFault.{ViewFault}
-use Rattle.pawn_csv.specs.Exports.{Exports, ending_by, sink_ending}
-use Rattle.pawn_csv.specs.Rows.{csv_of, header, pledge_csv_rows, row_fields, terms_rows}
-use Rattle.pawn_csv.specs.Sent.{PutsRow, PutsRowsShare, has_ended, text_of_row, seen}
-use Rattle.pawn_csv.specs.declared.row.Row.{Row}
+use Rattle.pawn_csv.specs.Csv.{Exports, PutsRow, PutsRowsShare, Row, Sink, csv_of, ending_by, has_ended, header, pledge_csv_rows, row_fields, seen, sink_ending, terms_rows, text_of_row}
 use Rattle.pawn_csv.specs.declared.row.Version.TheVariants as version
-use Rattle.pawn_csv.specs.declared.writing.Sink.{Sink}
-use Rattle.pawn_view.proofs.ShareLemmas.{share_all, share_more, share_puts, share_then}
 use Rattle.pawn_csv.proofs.SentLemmas.{rows_in_turn}
-use Rattle.pawn_view.proofs.PutLemmas.{front-more, now_by}
-use Rattle.std.proofs.lemmas.Bool.{or_from}
+use Rattle.pawn_writing.proofs.PutLemmas.{front-more, now_by}
 
 -- the rows below the first
 abbrev pub below_text : BookValue → List ℕ

@@ -1,19 +1,9 @@
 -- The records of pledges whose rows are read.
 use Rattle.std.proofs.Common.{◌≡◌, ℕ, List, [], ◌∷◌, ◌++◌, map, Option, None, Some, Result, Ok, Err, true, sym, ◌∙◌, subst, refl, ap}
-use Rattle.pawn_terms.specs.declared.terms.Rates.{Rates}
-use Rattle.pawn_pledge.specs.Pledge.{PledgeValue}
-use Rattle.pawn_csv.specs.declared.order.RawPledge.{RawPledge}
-use Rattle.pawn_base.specs.Lists.{Each}
-use Rattle.pawn_pledge.specs.declared.record.Closing.{Closing}
+use Rattle.pawn_csv.specs.Common.{AreReplayable, BookRows, Closing, Each, IfErr, IfNone, IfOk, IfSome, IsUnder, PledgeValue, Rates, terms_at}
+use Rattle.pawn_csv.specs.Csv.{AreRawOf, Begun, Cause, Ends, IsBegunOf, IsRawOf, RawPledge, closing_amount, closing_day, closing_word, is_whole, raw_of}
 use Rattle.pawn_pledge.specs.declared.record.Closing.TheVariants as closed
-use Rattle.pawn_book.specs.Rows.{AreReplayable, IsUnder, terms_at}
-use Rattle.pawn_book.specs.declared.rows.BookRows.{BookRows}
-use Rattle.std.specs.Prelude.{IfErr, IfNone, IfOk, IfSome}
-use Rattle.pawn_csv.specs.declared.fault.Cause.{Cause}
 use Rattle.pawn_csv.specs.declared.fault.Cause.TheVariants as cause
-use Rattle.pawn_csv.specs.Order.{Begun, is_whole}
-use Rattle.pawn_csv.specs.Rows.{closing_amount, closing_day, closing_word}
-use Rattle.pawn_csv.specs.Finishing.{AreRawOf, Ends, IsBegunOf, IsRawOf, raw_of}
 
 same_first : (x y : RawPledge) (xs ys : List RawPledge) → x ∷ xs ≡ y ∷ ys → x ≡ y
 same_first x y xs ys e = cc

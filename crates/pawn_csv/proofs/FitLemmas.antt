@@ -1,38 +1,18 @@
 -- The rows of a book that can have come about can be spelled.
 use Rattle.std.proofs.Common.{◌≡◌, ◌∙◌, ◌+◌, ◌-◌, ◌*◌, ◌≤◌, ◌<◌, ℕ, zero, suc, Bool, true, false, List, [], ◌∷◌, ◌++◌, length, Option, Some, None, if◌then◌else◌, IsOk, Ok, sym, ap, subst, arith, nat_le, slice_get}
-use Rattle.std.specs.Prelude.{IfSome}
-use Rattle.std.specs.List.{flat_map}
-use Rattle.std.proofs.lemmas.Bool.Decides.{nat_tests}
+use Rattle.pawn_csv.specs.Common.{AreExtended, AreNumbered, AreOrdered, AreWords, Booking, Closing, DebtValue, DoNotFall, Draw, Due, Each, Entry, Extension, HasTextsAndWords, IfSome, IsBooked, IsClosed, IsStampDay, IsStanding, IsUnder, Issued, PledgeValue, Rates, Repay, Sort, after_days, debt_of, due, end_with, flat_map, keep_on, last_by, last_of, most_a_day, most_pence, terms_at, total_on}
+use Rattle.pawn_csv.proofs.Lemmas.{last_by-le, nat_tests}
 use Rattle.std.proofs.lemmas.Nat.{mul-le}
-use Rattle.pawn_base.proofs.ListLemmas.{last_by-le}
 use Rattle.pawn_base.proofs.RefusalLemmas.{first_of-is_ok}
-use Rattle.pawn_terms.specs.Calendar.{IsStampDay}
 use Rattle.pawn_terms.specs.Limits.{first_day, last_stamp_day}
-use Rattle.pawn_base.specs.Lists.{DoNotFall, last_by, Each}
 use Rattle.pawn_terms.specs.Terms.{IsChecked}
-use Rattle.pawn_terms.specs.declared.terms.Rates.{Rates}
 use Rattle.pawn_debt.proofs.Bounds.{accepted-bounded, keep-small, after_days-small}
 use Rattle.pawn_debt.proofs.DueLemmas.{after_days-principal}
 use Rattle.pawn_debt.proofs.EntryLemmas.{due-from-last}
 use Rattle.pawn_debt.specs.Answers.{draw_rows, is_bad_amount, repay_rows, with_entry}
-use Rattle.pawn_debt.specs.Due.{AreOrdered, DebtValue, Due, after_days, due, keep_on, last_of}
-use Rattle.pawn_debt.specs.Limits.{most_a_day, most_pence}
 use Rattle.pawn_debt.specs.Replay.{AreEntriesAccepted, sort_answer}
-use Rattle.pawn_debt.specs.declared.entry.Entry.{Entry}
-use Rattle.pawn_debt.specs.declared.entry.Sort.{Sort}
-use Rattle.pawn_debt.specs.declared.entry.Sort.TheVariants.{Draw, Repay}
-use Rattle.pawn_pledge.specs.Pledge.{PledgeValue, debt_of, end_with, total_on}
-use Rattle.pawn_pledge.specs.Replayable.{AreExtended, AreNumbered, IsBooked, IsClosed, IsStanding}
-use Rattle.pawn_pledge.specs.declared.record.Booking.{Booking}
-use Rattle.pawn_pledge.specs.declared.record.Closing.{Closing}
 use Rattle.pawn_pledge.specs.declared.record.Closing.TheVariants as closed
-use Rattle.pawn_pledge.specs.declared.record.Extension.{Extension}
-use Rattle.pawn_pledge.specs.declared.record.Issued.{Issued}
-use Rattle.pawn_book.specs.Rows.{IsUnder, terms_at}
-use Rattle.pawn_book.specs.Written.{AreWords, HasTextsAndWords}
-use Rattle.pawn_csv.specs.Laws.{BooksAreHeld, TextsAreRead, TextsOfHostsAreRead}
-use Rattle.pawn_csv.specs.Rows.{AreColumns, FitsColumns, IsColumnNumber, booking_csv_rows, closing_amount, closing_day, pledge_columns, entry_rows, extension_rows, pledge_csv_rows, secret_rows, terms_rows}
-use Rattle.pawn_csv.specs.declared.row.Row.{Row}
+use Rattle.pawn_csv.specs.Csv.{AreColumns, BooksAreHeld, FitsColumns, IsColumnNumber, Row, TextsAreRead, TextsOfHostsAreRead, booking_csv_rows, closing_amount, closing_day, entry_rows, extension_rows, pledge_columns, pledge_csv_rows, secret_rows, terms_rows}
 use Rattle.pawn_csv.specs.declared.row.Version.TheVariants as version
 use Rattle.pawn_csv.proofs.RoundLemmas.{held_texts_are_read}
 use Rattle.pawn_book.proofs.SoundLists.{under_length}

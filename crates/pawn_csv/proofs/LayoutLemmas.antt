@@ -1,37 +1,14 @@
 -- Only rows that are laid out are taken, and why others are refused.
 use Rattle.std.proofs.Common.{◌≡◌, ◌≢◌, ◌∙◌, ◌⊎◌, inl, inr, ◌+◌, ◌≤◌, ◌<◌, ℕ, Bool, true, false, List, [], ◌∷◌, ◌++◌, length, map, Option, Some, None, Result, Ok, Err, refl, sym, ap, subst, append_assoc, arith, cond, nat_lt, nat_le}
 use Rattle.std.specs.Prelude.{◌==◌, ◌&&◌, ◌||◌, ◌↔◌}
-use Rattle.std.specs.List.{flat_map}
-use Rattle.std.proofs.lemmas.Bool.Decides.{nat_tests}
-use Rattle.pawn_terms.specs.declared.terms.Rates.{Rates}
-use Rattle.pawn_debt.specs.Limits.{most_entries}
-use Rattle.pawn_debt.specs.declared.entry.Entry.{Entry}
-use Rattle.pawn_pledge.specs.Limits.{most_extensions, most_secrets}
-use Rattle.pawn_pledge.specs.Pledge.{PledgeValue}
-use Rattle.pawn_base.specs.Lists.{Each}
-use Rattle.pawn_pledge.specs.Replayable.{AreNumbered}
-use Rattle.pawn_pledge.specs.declared.record.Booking.{Booking}
-use Rattle.pawn_pledge.specs.declared.record.Extension.{Extension}
-use Rattle.pawn_pledge.specs.declared.record.Issued.{Issued}
-use Rattle.pawn_book.specs.Limits.{most_pledges, most_terms}
-use Rattle.pawn_book.specs.Rows.{AreReplayable}
-use Rattle.pawn_book.specs.declared.rows.BookRows.{BookRows}
-use Rattle.pawn_csv.specs.declared.fault.Cause.{Cause}
+use Rattle.pawn_csv.specs.Common.{AreNumbered, AreReplayable, BookRows, Booking, Each, Entry, Extension, Issued, PledgeValue, Rates, flat_map, most_entries, most_extensions, most_pledges, most_secrets, most_terms}
+use Rattle.pawn_csv.proofs.Lemmas.{and_parts, nat_tests}
+use Rattle.pawn_csv.specs.Csv.{AreLaidFrom, Begun, Cause, IsAboveALimit, IsBegunOf, IsLaidOut, IsOfNoBook, IsWithin, Knows, NotReplayableIsOfNoBook, PledgeColumns, RawPledge, RefusedAreNoFront, RefusesEnd, Row, TakenAreLaidOut, TooManyIsAboveALimit, Version, hand, has_secret, in_order, is_nil, is_none, is_whole, laid_rows, may_end, on_hand, on_second, place, place_book, place_booking, place_entry, place_extension, place_first, place_pledge, place_secret, place_terms, pledges_begun, put_hand, raw_of, raw_pledge, raw_rows, rows_of_csv, run, terms_rows, then_run, unless_full}
 use Rattle.pawn_csv.specs.declared.fault.Cause.TheVariants as cause
-use Rattle.pawn_csv.specs.declared.order.RawPledge.{RawPledge}
-use Rattle.pawn_csv.specs.declared.row.PledgeColumns.{PledgeColumns}
-use Rattle.pawn_csv.specs.declared.row.Row.{Row}
-use Rattle.pawn_csv.specs.declared.row.Version.{Version}
 use Rattle.pawn_csv.specs.declared.row.Version.TheVariants as version
-use Rattle.pawn_csv.specs.Finishing.{IsBegunOf, IsOfNoBook, raw_of}
-use Rattle.pawn_csv.specs.Layout.{AreLaidFrom, IsAboveALimit, IsLaidOut, IsWithin, NotReplayableIsOfNoBook, RefusedAreNoFront, TakenAreLaidOut, TooManyIsAboveALimit, laid_rows, raw_rows}
-use Rattle.pawn_csv.specs.Order.{Begun, hand, has_secret, in_order, is_nil, is_none, is_whole, may_end, on_hand, on_second, place, place_book, place_booking, place_entry, place_extension, place_first, place_pledge, place_secret, place_terms, pledges_begun, put_hand, raw_pledge, run, then_run, unless_full}
-use Rattle.pawn_csv.specs.Reading.{RefusesEnd}
-use Rattle.pawn_csv.specs.Rows.{Knows, rows_of_csv, terms_rows}
 use Rattle.pawn_csv.proofs.BookLemmas.{guard_then, run_grows, second_only, whole_rows}
 use Rattle.pawn_csv.proofs.OrderLemmas.{guard_err, guard_ok, ok_same}
 use Rattle.pawn_csv.proofs.TakenLemmas.{book_rows_are, layouts_are_taken, longer, run_book}
-use Rattle.std.proofs.lemmas.Bool.{and_parts}
 
 -- ---- what holds of a book of which some rows were taken
 

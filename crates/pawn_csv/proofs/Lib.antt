@@ -17,3 +17,4 @@ pub mod RecordLemmas
 pub mod CountLemmas
 pub mod ExportLemmas
 pub mod PadLemmas
+pub mod Lemmas

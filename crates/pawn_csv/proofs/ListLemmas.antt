@@ -1,24 +1,9 @@
 -- The rows of a list that is handed out, put one by one.
 use Rattle.std.proofs.Common.{◌≡◌, ◌∙◌, ℕ, ◌+◌, ◌-◌, ◌^◌, ◌≤◌, suc, Bool, false, List, [], ◌∷◌, ◌++◌, length, Option, Some, None, refl, sym, ap, subst, inl, inr, arith, length-append, append_assoc}
 use Rattle.std.specs.Prelude.{if◌then◌else◌}
-use Rattle.std.specs.List.{flat_map}
-use Rattle.std.specs.FinMap.{get}
-use Rattle.std.proofs.lemmas.List.{append-nil}
-use Rattle.pawn_debt.specs.declared.entry.Entry.{Entry}
-use Rattle.pawn_pledge.specs.Pledge.{PledgeValue}
-use Rattle.pawn_pledge.specs.declared.record.Extension.{Extension}
-use Rattle.pawn_pledge.specs.declared.record.Issued.{Issued}
-use Rattle.pawn_book.specs.BookStep.{pledge_in}
-use Rattle.pawn_book.specs.HostStep.{Host}
-use Rattle.pawn_book.specs.Keeping.{entries_of, extensions_of, secrets_of}
-use Rattle.pawn_book.specs.Sound.{IsSound}
-use Rattle.pawn_book.specs.Visits.{End, Handed, IsShare}
-use Rattle.pawn_book.specs.declared.visit.Flow.{Flow}
-use Rattle.pawn_book.specs.declared.visit.Flow.TheVariants.{Go, Stop}
-use Rattle.pawn_book.proofs.Sounds.{standing_at}
-use Rattle.pawn_csv.specs.Exports.{PutsAt, entry_row_text, extension_line, secret_line}
-use Rattle.pawn_csv.specs.Rows.{entry_rows, extension_rows, secret_rows}
-use Rattle.pawn_csv.specs.Sent.{PutsRow, PutsRowsShare, has_ended, text_of_row}
+use Rattle.pawn_csv.specs.Common.{End, Entry, Extension, Flow, Go, Handed, Host, IsShare, IsSound, Issued, PledgeValue, Stop, entries_of, extensions_of, flat_map, get, pledge_in, secrets_of}
+use Rattle.pawn_csv.proofs.Lemmas.{append-nil, standing_at}
+use Rattle.pawn_csv.specs.Csv.{PutsAt, PutsRow, PutsRowsShare, entry_row_text, entry_rows, extension_line, extension_rows, has_ended, secret_line, secret_rows, text_of_row}
 use Rattle.pawn_csv.specs.declared.exporting.RowWriter.{RowWriter}
 use Rattle.pawn_csv.proofs.SentLemmas.{puts_nil, puts_then}
 

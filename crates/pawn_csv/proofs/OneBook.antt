@@ -1,27 +1,11 @@
 -- A text holds one book.
 use Rattle.std.proofs.Common.{◌≡◌, ◌∙◌, ◌++◌, ◌∷◌, ◌≤◌, ℕ, [], Bool, true, false, List, length, Option, Some, refl, sym, ap, subst, arith, nat_le}
-use Rattle.std.specs.Prelude.{map}
-use Rattle.std.proofs.lemmas.Bool.Decides.{nat_tests}
-use Rattle.std.proofs.lemmas.List.{append-nil}
+use Rattle.pawn_csv.specs.Common.{Agreement, BookRows, Closing, Each, IsUnder, PledgeValue, Rates, Standing, default_config, map, terms_at}
+use Rattle.pawn_csv.proofs.Lemmas.{append-nil, nat_tests}
 use Rattle.csv.specs.declared.parser.State.TheVariants as st
-use Rattle.csv.specs.Reading.{default_config}
-use Rattle.pawn_terms.specs.declared.terms.Rates.{Rates}
-use Rattle.pawn_pledge.specs.Pledge.{PledgeValue}
-use Rattle.pawn_base.specs.Lists.{Each}
-use Rattle.pawn_pledge.specs.declared.record.Agreement.{Agreement}
-use Rattle.pawn_pledge.specs.declared.record.Closing.{Closing}
 use Rattle.pawn_pledge.specs.declared.record.Closing.TheVariants as closed
-use Rattle.pawn_pledge.specs.declared.record.Standing.{Standing}
-use Rattle.pawn_book.specs.Rows.{IsUnder, terms_at}
-use Rattle.pawn_book.specs.declared.rows.BookRows.{BookRows}
-use Rattle.pawn_csv.specs.declared.order.RawPledge.{RawPledge}
-use Rattle.pawn_csv.specs.declared.row.ClosingWord.{ClosingWord}
+use Rattle.pawn_csv.specs.Csv.{AreTaken, Begun, ClosingWord, IsBegunOf, IsFinishedAs, IsReadAs, RawPledge, TextsHoldOneBook, closing_amount, closing_day, closing_word, raw_of}
 use Rattle.pawn_csv.specs.declared.row.ClosingWord.TheVariants as closing
-use Rattle.pawn_csv.specs.Finishing.{IsBegunOf, IsFinishedAs, raw_of}
-use Rattle.pawn_csv.specs.Laws.{TextsHoldOneBook}
-use Rattle.pawn_csv.specs.Order.{Begun}
-use Rattle.pawn_csv.specs.Reading.{AreTaken, IsReadAs}
-use Rattle.pawn_csv.specs.Rows.{closing_amount, closing_day, closing_word}
 use Rattle.pawn_csv.proofs.OneReading.{no_further, reached_on, taken_same}
 use Rattle.pawn_csv.proofs.TakenLemmas.{texts_are_read_as}
 use Rattle.pawn_csv.proofs.FinishLemmas.{same_closing, same_rates}

@@ -1,23 +1,11 @@
 -- A text has one reading.
 use Rattle.std.proofs.Common.{◌≡◌, ◌≢◌, ◌⊎◌, ◌∙◌, ◌++◌, ◌∷◌, ◌+◌, ◌<◌, ◌≤◌, [], ℕ, Bool, true, false, List, length, Option, Some, None, Result, Ok, Err, refl, sym, ap, subst, inl, inr, arith, nat_le}
-use Rattle.std.specs.Prelude.{map, nat_eq}
-use Rattle.std.proofs.lemmas.Bool.Decides.{nat_tests}
-use Rattle.std.proofs.lemmas.List.{append-nil}
-use Rattle.csv.specs.Machine.{Read, next_record}
-use Rattle.csv.specs.declared.parser.State.{State}
+use Rattle.pawn_csv.specs.Common.{BookRows, Each, Reached, Read, State, default_config, map, nat_eq, next_record}
+use Rattle.pawn_csv.proofs.Lemmas.{append-nil, nat_tests}
 use Rattle.csv.specs.declared.parser.State.TheVariants as st
 use Rattle.csv.specs.declared.parser.Config.{Config}
-use Rattle.csv.specs.Reading.{Reached, default_config}
-use Rattle.pawn_base.specs.Lists.{Each}
-use Rattle.pawn_book.specs.declared.rows.BookRows.{BookRows}
-use Rattle.pawn_csv.specs.declared.fault.Cause.{Cause}
+use Rattle.pawn_csv.specs.Csv.{AreTaken, Begun, Cause, EndsReadingAs, FirstFaultsAreOne, FirstFaultsExcludeBooks, FitsColumns, IsBegunOf, IsFinishedAs, IsFirstCause, IsNoRow, IsOfNoBook, IsReadAs, IsRowRefused, RefusesEnd, RefusesRow, Row, Taking, header, is_whole, place, row_fields, run, then_run}
 use Rattle.pawn_csv.specs.declared.fault.Cause.TheVariants as cause
-use Rattle.pawn_csv.specs.declared.row.Row.{Row}
-use Rattle.pawn_csv.specs.Finishing.{IsBegunOf, IsFinishedAs, IsOfNoBook}
-use Rattle.pawn_csv.specs.Laws.{FirstFaultsAreOne, FirstFaultsExcludeBooks}
-use Rattle.pawn_csv.specs.Order.{Begun, is_whole, place, run, then_run}
-use Rattle.pawn_csv.specs.Reading.{AreTaken, EndsReadingAs, IsFirstCause, IsNoRow, IsReadAs, IsRowRefused, RefusesEnd, RefusesRow, Taking}
-use Rattle.pawn_csv.specs.Rows.{FitsColumns, header, row_fields}
 use Rattle.pawn_csv.proofs.OneSpelling.{one_row}
 use Rattle.pawn_csv.proofs.TakenLemmas.{texts_are_read_as}
 

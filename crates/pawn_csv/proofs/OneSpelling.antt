@@ -1,37 +1,17 @@
 -- A row has one spelling: columns that two rows have are the columns of one row.
 use Rattle.std.proofs.Common.{◌≡◌, ◌∙◌, ◌^◌, ◌<◌, ◌-◌, ℕ, Bool, true, false, List, [], length, Option, None, Some, refl, sym, ap, arith, get_or}
-use Rattle.std.specs.Prelude.{IfSome, decimal}
+use Rattle.pawn_csv.specs.Common.{Booking, Draw, Entry, Extension, Fixed, IfSome, Issue, Issued, Kind, Opening, Rates, Repay, Running, Sort, credit_of, decimal, secret_of_text, secret_text, sort_text, state_text}
 use Rattle.std.proofs.lemmas.Fmt.{decimal_injective, decimal_nonempty}
 use Rattle.pawn_terms.specs.Calendar.{IsStampDay, civil_of, day_text, first_day}
 use Rattle.pawn_terms.proofs.CalendarLemmas.{civil_after_is, count_of}
 use Rattle.pawn_terms.proofs.TextLemmas.{civil_of-stamp, civil_text-injective}
-use Rattle.pawn_terms.specs.declared.terms.Rates.{Rates}
-use Rattle.pawn_debt.specs.Due.{credit_of}
-use Rattle.pawn_debt.specs.declared.entry.Entry.{Entry}
-use Rattle.pawn_debt.specs.declared.entry.Kind.{Kind}
-use Rattle.pawn_debt.specs.declared.entry.Kind.TheVariants.{Fixed, Running}
-use Rattle.pawn_debt.specs.declared.entry.Sort.{Sort}
-use Rattle.pawn_debt.specs.declared.entry.Sort.TheVariants.{Draw, Repay}
-use Rattle.pawn_pledge.specs.Secret.{secret_of_text, secret_text}
 use Rattle.pawn_pledge.proofs.TextLemmas.{secret_texts_read_back}
-use Rattle.pawn_pledge.specs.declared.record.Booking.{Booking}
 use Rattle.pawn_pledge.specs.declared.record.BookingState.{BookingState}
 use Rattle.pawn_pledge.specs.declared.record.BookingState.TheVariants as state
-use Rattle.pawn_pledge.specs.declared.record.Extension.{Extension}
-use Rattle.pawn_pledge.specs.declared.record.Issue.{Issue}
 use Rattle.pawn_pledge.specs.declared.record.Issue.TheVariants as issue
-use Rattle.pawn_pledge.specs.declared.record.Issued.{Issued}
-use Rattle.pawn_pledge.specs.declared.record.Opening.{Opening}
-use Rattle.pawn_debt.specs.Words.{sort_text}
-use Rattle.pawn_pledge.specs.Words.{state_text}
-use Rattle.pawn_csv.specs.Columns.{closing_text, issue_text, kind_text, text_if_any, form_text, yes_text}
-use Rattle.pawn_csv.specs.declared.row.ClosingWord.{ClosingWord}
+use Rattle.pawn_csv.specs.Csv.{AreColumns, ClosingWord, FitsColumns, IsColumnNumber, PledgeColumns, Row, Version, closing_text, form_text, issue_text, kind_text, pledge_fields, row_fields, text_if_any, yes_text}
 use Rattle.pawn_csv.specs.declared.row.ClosingWord.TheVariants as closing
-use Rattle.pawn_csv.specs.declared.row.PledgeColumns.{PledgeColumns}
-use Rattle.pawn_csv.specs.declared.row.Row.{Row}
-use Rattle.pawn_csv.specs.declared.row.Version.{Version}
 use Rattle.pawn_csv.specs.declared.row.Version.TheVariants as version
-use Rattle.pawn_csv.specs.Rows.{AreColumns, FitsColumns, IsColumnNumber, pledge_fields, row_fields}
 
 -- columns
 

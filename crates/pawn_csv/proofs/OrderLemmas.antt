@@ -1,22 +1,10 @@
 -- Rows that were taken are shown by what they made.
 use Rattle.std.proofs.Common.{◌≡◌, ◌∙◌, ◌+◌, ℕ, Bool, true, false, List, [], ◌∷◌, ◌++◌, length, Option, Some, None, Result, Ok, Err, refl, sym, ap, subst, append_assoc, arith, cond, nat_le}
 use Rattle.std.specs.Prelude.{◌==◌, ◌&&◌}
-use Rattle.std.proofs.lemmas.Bool.Decides.{nat_tests}
-use Rattle.std.proofs.lemmas.List.{append-nil, map-append}
-use Rattle.pawn_debt.specs.Limits.{most_entries}
-use Rattle.pawn_debt.specs.declared.entry.Entry.{Entry}
-use Rattle.pawn_pledge.specs.Limits.{most_extensions, most_secrets}
-use Rattle.pawn_pledge.specs.declared.record.Booking.{Booking}
-use Rattle.pawn_pledge.specs.declared.record.Extension.{Extension}
-use Rattle.pawn_pledge.specs.declared.record.Issued.{Issued}
-use Rattle.pawn_csv.specs.declared.fault.Cause.{Cause}
+use Rattle.pawn_csv.proofs.Lemmas.{and_parts, append-nil, map-append, nat_tests}
+use Rattle.pawn_csv.specs.Common.{Booking, Entry, Extension, Issued, most_entries, most_extensions, most_secrets}
+use Rattle.pawn_csv.specs.Csv.{Cause, RawPledge, Row, booking_csv_rows, entry_rows, extension_rows, has_secret, is_nil, is_none, list_rows, place_booking, place_entry, place_extension, place_secret, raw_rows, secret_rows}
 use Rattle.pawn_csv.specs.declared.fault.Cause.TheVariants as cause
-use Rattle.pawn_csv.specs.declared.order.RawPledge.{RawPledge}
-use Rattle.pawn_csv.specs.declared.row.Row.{Row}
-use Rattle.pawn_csv.specs.Order.{has_secret, is_nil, is_none, place_booking, place_entry, place_extension, place_secret}
-use Rattle.pawn_csv.specs.Layout.{list_rows, raw_rows}
-use Rattle.pawn_csv.specs.Rows.{booking_csv_rows, entry_rows, extension_rows, secret_rows}
-use Rattle.std.proofs.lemmas.Bool.{and_parts}
 
 pub ok_same : {A : Type 0} (x y : A) → (let r : Result A Cause = Ok x in r ≡ Ok y) → x ≡ y
 ok_same x y h = cc

@@ -1,27 +1,13 @@
 -- The records so far, and what they make.
 use Rattle.std.proofs.Common.{◌≡◌, ◌≢◌, ◌∙◌, ◌+◌, ℕ, Bool, true, false, List, [], ◌∷◌, ◌++◌, length, map, Option, Some, None, Result, Ok, Err, refl, sym, ap, subst, arith, nat_eq, inl, inr}
-use Rattle.std.specs.Prelude.{IfSome}
-use Rattle.std.proofs.lemmas.List.{map-append, length-append}
-use Rattle.std.proofs.lemmas.Bool.Decides.{nat_tests}
-use Rattle.csv.specs.Machine.{Read, next_record}
-use Rattle.csv.specs.declared.parser.State.{State}
-use Rattle.csv.specs.Reading.{Reached, ReadRecord, ExplainsRead, ReadsNext, NextIs, default_config, source_of, pending_of}
-use Rattle.csv.specs.declared.error.ErrorKind.{ErrorKind}
+use Rattle.pawn_csv.specs.Common.{BookRows, Each, ErrorKind, ExplainsRead, IfSome, NextIs, Reached, Read, ReadRecord, ReadsNext, State, default_config, next_record, pending_of, source_of}
+use Rattle.pawn_csv.proofs.Lemmas.{Each-push, length-append, map-append, nat_tests}
 use Rattle.csv.specs.declared.error.ErrorKind.TheVariants as kind
-use Rattle.pawn_base.proofs.ListLemmas.{Each-push}
 use Rattle.pawn_csv.specs.declared.fault.Cause.TheVariants as cause
 use Rattle.csv.specs.declared.reader.Reader.{Reader}
 use Rattle.csv.specs.declared.parser.State.TheVariants as st
 use Rattle.csv.proofs.ReadFacts.{rows-end, rows-more}
-use Rattle.pawn_csv.specs.declared.row.Row.{Row}
-use Rattle.pawn_csv.specs.declared.fault.Cause.{Cause}
-use Rattle.pawn_csv.specs.Order.{Begun, place, run, then_run}
-use Rattle.pawn_csv.specs.Finishing.{Ends, IsFinishedAs}
-use Rattle.pawn_base.specs.Lists.{Each}
-use Rattle.pawn_book.specs.declared.rows.BookRows.{BookRows}
-use Rattle.pawn_csv.specs.Rows.{FitsColumns, row_fields}
-use Rattle.pawn_csv.specs.Reading.{AreTaken, AreTakenBefore, CauseOf, EndsReadingAs, IsFaultOf, IsFirstCause, IsReadAs, IsSpelled, RefusesRow, Taking}
-use Rattle.pawn_csv.specs.Answers.{AnswersBegun, Fails}
+use Rattle.pawn_csv.specs.Csv.{AnswersBegun, AreTaken, AreTakenBefore, Begun, Cause, CauseOf, Ends, EndsReadingAs, Fails, FitsColumns, IsFaultOf, IsFinishedAs, IsFirstCause, IsReadAs, IsSpelled, RefusesRow, Row, Taking, place, row_fields, run, then_run}
 
 pub record SoFar {R : Type 0} (rem : R → Option (List ℕ)) (text : List ℕ) (reader : Reader R) (index : ℕ) (raw : Option Begun) : Type 0 where
   pub rest : List ℕ

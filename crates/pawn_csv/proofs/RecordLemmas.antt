@@ -1,23 +1,8 @@
 -- The rows of a pledge, put part by part.
 use Rattle.std.proofs.Common.{◌≡◌, ◌∙◌, ℕ, List, ◌++◌, Option, Some, sym, ap, subst}
-use Rattle.std.specs.List.{flat_map}
-use Rattle.std.specs.FinMap.{get}
-use Rattle.std.proofs.lemmas.Grind.{flat_map-append}
-use Rattle.pawn_pledge.specs.declared.brief.BriefFields.{BriefFields}
-use Rattle.pawn_pledge.specs.Brief.{brief_of}
-use Rattle.pawn_pledge.specs.Pledge.{PledgeValue}
-use Rattle.pawn_book.specs.BookStep.{pledge_in}
-use Rattle.pawn_book.specs.HostStep.{Host}
-use Rattle.pawn_book.proofs.Reading.{reads_then}
-use Rattle.pawn_book.specs.Keeping.{Keeping, Reads, entries_of, extensions_of, secrets_of}
-use Rattle.pawn_book.specs.Sound.{IsSound}
-use Rattle.pawn_book.specs.Visits.{End, Front, Whole}
-use Rattle.pawn_book.proofs.Sounds.{standing_at}
-use Rattle.pawn_csv.specs.Rows.{booking_csv_rows, pledge_columns, entry_rows, extension_rows, pledge_csv_rows, secret_rows}
-use Rattle.pawn_csv.specs.Sent.{PutsRow, PutsRowsShare, brief_columns, text_of_row}
-use Rattle.pawn_csv.specs.declared.row.Row.{Row}
-use Rattle.pawn_csv.specs.declared.writing.Sink.{Sink}
-use Rattle.pawn_view.proofs.ShareLemmas.{share_more, share_puts, share_then}
+use Rattle.pawn_csv.specs.Common.{BriefFields, End, Front, Host, IsSound, Keeping, PledgeValue, Reads, Whole, brief_of, entries_of, extensions_of, flat_map, get, pledge_in, secrets_of}
+use Rattle.pawn_csv.proofs.Lemmas.{flat_map-append, reads_then, share_more, share_puts, share_then, standing_at}
+use Rattle.pawn_csv.specs.Csv.{PutsRow, PutsRowsShare, Row, Sink, booking_csv_rows, brief_columns, entry_rows, extension_rows, pledge_columns, pledge_csv_rows, secret_rows, text_of_row}
 use Rattle.pawn_csv.proofs.SentLemmas.{rows_in_turn}
 
 -- the parts of a pledge's text

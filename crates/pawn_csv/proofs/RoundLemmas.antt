@@ -1,17 +1,11 @@
 -- The text of a book, read back.
 use Rattle.std.proofs.Common.{◌≡◌, ◌++◌, ◌∷◌, [], List, refl, map}
-use Rattle.std.specs.List.{flat_map}
-use Rattle.csv.specs.Machine.{next_record}
-use Rattle.csv.specs.Reading.{Reached, default_config, strip_bom}
-use Rattle.csv.specs.Writing.{default_writer, read_back, row_text, escaped, fields_text, is_blank}
+use Rattle.pawn_csv.specs.Common.{BookRows, Reached, default_config, default_writer, escaped, fields_text, flat_map, is_blank, next_record, read_back, row_text, strip_bom}
 use Rattle.csv.specs.declared.parser.State.TheVariants as st
 use Rattle.csv.proofs.RoundTrip.{read-write}
 use Rattle.std.proofs.Common.{ℕ, None}
-use Rattle.pawn_csv.specs.declared.row.Row.{Row}
+use Rattle.pawn_csv.specs.Csv.{IsHeldBy, IsTextOf, Row, csv_of, header, row_fields, rows_of_csv}
 use Rattle.pawn_csv.specs.declared.row.Version.TheVariants as version
-use Rattle.pawn_book.specs.declared.rows.BookRows.{BookRows}
-use Rattle.pawn_csv.specs.Reading.{IsHeldBy, IsTextOf}
-use Rattle.pawn_csv.specs.Rows.{csv_of, header, row_fields, rows_of_csv}
 
 -- a record of more than one column is read as it is
 row_back : (r : Row) → read_back (row_fields r) ≡ row_fields r

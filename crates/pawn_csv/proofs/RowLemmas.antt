@@ -3,8 +3,7 @@ use Rattle.std.proofs.Common.{◌≡◌, ◌∙◌, ◌≤◌, ◌+◌, ℕ, zer
 use Rattle.std.specs.Prelude.{replicate}
 use Rattle.std.proofs.Math.Seq.{drop-cons}
 use Rattle.std.proofs.lemmas.List.{drop_all}
-use Rattle.pawn_csv.specs.declared.row.TheConstants.{COLUMNS}
-use Rattle.pawn_csv.specs.Spelling.{AreBlankFrom, column_at}
+use Rattle.pawn_csv.specs.Csv.{AreBlankFrom, COLUMNS, column_at}
 
 -- the columns from a place on are these
 abbrev pub Follow : List (List ℕ) → ℕ → List (List ℕ) → Type 0

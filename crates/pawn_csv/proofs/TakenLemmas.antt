@@ -1,38 +1,13 @@
 -- The rows of a book are taken to their end.
 use Rattle.std.proofs.Common.{◌≡◌, ◌∙◌, ◌+◌, ◌≤◌, ◌<◌, ℕ, Bool, true, false, List, [], ◌∷◌, ◌++◌, length, map, Option, Some, None, Result, Ok, Err, refl, sym, ap, subst, append_assoc, arith, cond, nat_lt, nat_le}
 use Rattle.std.specs.Prelude.{◌==◌, ◌&&◌, ◌||◌, not}
-use Rattle.std.specs.List.{flat_map}
-use Rattle.std.proofs.lemmas.Bool.Decides.{nat_tests}
-use Rattle.std.proofs.lemmas.List.{append-nil}
+use Rattle.pawn_csv.specs.Common.{AreIssued, AreNumbered, AreNumberedFrom, AreReplayable, BookRows, Booking, Each, Entry, Extension, IsNumber, IsStanding, IsUnder, Issued, PledgeValue, Rates, flat_map, most_entries, most_extensions, most_pledges, most_secrets, most_terms}
+use Rattle.pawn_csv.proofs.Lemmas.{and_from, append-nil, nat_tests}
 use Rattle.pawn_base.proofs.TestLemmas.{equal}
-use Rattle.pawn_terms.specs.declared.terms.Rates.{Rates}
-use Rattle.pawn_debt.specs.Limits.{most_entries}
-use Rattle.pawn_debt.specs.declared.entry.Entry.{Entry}
-use Rattle.pawn_pledge.specs.Limits.{most_extensions, most_secrets}
-use Rattle.pawn_pledge.specs.Number.{IsNumber}
-use Rattle.pawn_pledge.specs.Pledge.{PledgeValue}
-use Rattle.pawn_base.specs.Lists.{Each}
-use Rattle.pawn_pledge.specs.Replayable.{AreIssued, AreNumbered, IsStanding}
-use Rattle.pawn_pledge.specs.declared.record.Booking.{Booking}
-use Rattle.pawn_pledge.specs.declared.record.Extension.{Extension}
-use Rattle.pawn_pledge.specs.declared.record.Issued.{Issued}
-use Rattle.pawn_book.specs.Limits.{most_pledges, most_terms}
-use Rattle.pawn_book.specs.Rows.{AreNumberedFrom, AreReplayable, IsUnder}
-use Rattle.pawn_book.specs.declared.rows.BookRows.{BookRows}
-use Rattle.pawn_csv.specs.declared.fault.Cause.{Cause}
+use Rattle.pawn_csv.specs.Csv.{AreLaidFrom, Begun, Cause, IsBegunOf, IsLaidOut, IsWithin, Knows, LayoutsAreTaken, PledgeColumns, RawPledge, Row, TextsAreReadAs, Version, booking_csv_rows, entry_rows, extension_rows, hand, has_secret, in_order, is_nil, is_whole, laid_rows, list_rows, may_end, on_hand, place, place_booking, place_entry, place_extension, place_secret, pledge_columns, pledge_csv_rows, put_hand, raw_of, raw_pledge, raw_rows, rows_of_csv, run, secret_rows, terms_rows, then_run, unless_full, version_rows}
 use Rattle.pawn_csv.specs.declared.fault.Cause.TheVariants as cause
-use Rattle.pawn_csv.specs.declared.order.RawPledge.{RawPledge}
-use Rattle.pawn_csv.specs.declared.row.PledgeColumns.{PledgeColumns}
-use Rattle.pawn_csv.specs.declared.row.Row.{Row}
-use Rattle.pawn_csv.specs.declared.row.Version.{Version}
 use Rattle.pawn_csv.specs.declared.row.Version.TheVariants as version
-use Rattle.pawn_csv.specs.Finishing.{IsBegunOf, raw_of}
-use Rattle.pawn_csv.specs.Laws.{TextsAreReadAs}
-use Rattle.pawn_csv.specs.Layout.{AreLaidFrom, IsLaidOut, IsWithin, LayoutsAreTaken, laid_rows, list_rows, raw_rows}
 use Rattle.pawn_csv.proofs.BookLemmas.{flat_map-raw, length-raw}
-use Rattle.pawn_csv.specs.Order.{Begun, hand, has_secret, in_order, is_nil, is_whole, may_end, on_hand, place, place_booking, place_entry, place_extension, place_secret, put_hand, raw_pledge, run, then_run, unless_full}
-use Rattle.pawn_csv.specs.Rows.{Knows, booking_csv_rows, pledge_columns, entry_rows, extension_rows, pledge_csv_rows, rows_of_csv, secret_rows, terms_rows, version_rows}
-use Rattle.std.proofs.lemmas.Bool.{and_from}
 
 -- ---- tests that hold, and rows one after the other
 

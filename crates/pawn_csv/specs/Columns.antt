@@ -1,8 +1,6 @@
 -- How a column is spelled. Numbers are decimal, days `2024-01-31`, secrets hyphenated with small letters.
 use Rattle.std.specs.Prelude.{ℕ, Bool, true, false, List, [], Option, Some, None, codes}
-use Rattle.pawn_debt.specs.declared.entry.Kind.{Kind}
-use Rattle.pawn_debt.specs.declared.entry.Kind.TheVariants.{Fixed, Running}
-use Rattle.pawn_pledge.specs.declared.record.Issue.{Issue}
+use Rattle.pawn_csv.specs.Common.{Fixed, Issue, Kind, Running}
 use Rattle.pawn_pledge.specs.declared.record.Issue.TheVariants as issue
 use Rattle.pawn_csv.specs.declared.row.Version.{Version}
 use Rattle.pawn_csv.specs.declared.row.Version.TheVariants as version

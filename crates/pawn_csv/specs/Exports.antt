@@ -1,19 +1,8 @@
 -- What an export writes and answers.
 use Rattle.std.specs.Prelude.{◌≡◌, ℕ, ◌+◌, ◌-◌, ◌^◌, min, Bool, true, false, if◌then◌else◌, List, [], Option, Some, None, option_map, unwrap_or, Result, Ok, Err}
-use Rattle.std.specs.FinMap.{get}
-use Rattle.pawn_debt.specs.declared.entry.Entry.{Entry}
-use Rattle.pawn_pledge.specs.declared.record.Extension.{Extension}
-use Rattle.pawn_pledge.specs.declared.record.Issued.{Issued}
-use Rattle.pawn_book.specs.BookStep.{rows_of_book}
-use Rattle.pawn_book.specs.HostStep.{Host}
-use Rattle.pawn_book.specs.declared.fault.KeepError.{KeepError}
-use Rattle.pawn_book.specs.declared.visit.Flow.{Flow}
-use Rattle.pawn_book.specs.declared.visit.Flow.TheVariants.{Go, Stop}
-use Rattle.pawn_book.specs.Visits.{Whole}
-use Rattle.pawn_view.specs.Ends.{PutFront, Written, write_failed}
-use Rattle.pawn_view.specs.Fault.{view_fault}
-use Rattle.pawn_view.specs.declared.fault.ViewFault.{ViewFault}
-use Rattle.pawn_view.specs.declared.fault.ViewFault.TheVariants as fault
+use Rattle.pawn_csv.specs.Common.{Entry, Extension, Flow, Go, Host, Issued, KeepError, PutFront, Stop, ViewFault, Whole, Written, get, rows_of_book, write_failed}
+use Rattle.pawn_writing.specs.Fault.{view_fault}
+use Rattle.pawn_writing.specs.declared.fault.ViewFault.TheVariants as fault
 use Rattle.pawn_csv.specs.Rows.{csv_of}
 use Rattle.pawn_csv.specs.Sent.{PutsRow, has_ended, text_of_row, seen}
 use Rattle.pawn_csv.specs.declared.exporting.RowWriter.{RowWriter}

@@ -1,12 +1,6 @@
 -- The book that rows make once all of them are read.
 use Rattle.std.specs.Prelude.{◌≡◌, true, false, List, map, Option, Some, Result, Ok, Err}
-use Rattle.pawn_terms.specs.declared.terms.Rates.{Rates}
-use Rattle.pawn_pledge.specs.Number.{IsNumber}
-use Rattle.pawn_pledge.specs.Pledge.{PledgeValue}
-use Rattle.pawn_base.specs.Lists.{Each}
-use Rattle.pawn_pledge.specs.declared.record.Closing.{Closing}
-use Rattle.pawn_book.specs.Rows.{AreReplayable, IsUnder}
-use Rattle.pawn_book.specs.declared.rows.BookRows.{BookRows}
+use Rattle.pawn_csv.specs.Common.{AreReplayable, BookRows, Closing, Each, IsNumber, IsUnder, PledgeValue, Rates}
 use Rattle.pawn_csv.specs.declared.fault.Cause.{Cause}
 use Rattle.pawn_csv.specs.declared.fault.Cause.TheVariants as cause
 use Rattle.pawn_csv.specs.declared.order.RawPledge.{RawPledge}

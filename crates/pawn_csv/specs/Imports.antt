@@ -1,9 +1,8 @@
 -- What an import asks of a book.
-use Rattle.std.specs.Prelude.{ℕ}
+use Rattle.pawn_csv.specs.Common.{BookRows, ℕ}
 use Rattle.pawn_book.specs.declared.request.BrokerRequest.TheVariants.{Import}
 use Rattle.pawn_book.specs.declared.request.Caller.TheVariants.{Broker}
 use Rattle.pawn_book.specs.declared.request.Request.{Request}
-use Rattle.pawn_book.specs.declared.rows.BookRows.{BookRows}
 
 -- the request to fill a book with these terms and pledges, by the book's key and under the import's own key
 abbrev pub import_of : ℕ → ℕ → ℕ → BookRows → Request

@@ -1,11 +1,6 @@
 -- Laws of texts and of their rows.
 use Rattle.std.specs.Prelude.{◌≡◌, ◌≢◌, ℕ, List, Some}
-use Rattle.std.specs.FinMap.{get}
-use Rattle.csv.specs.Reading.{strip_bom}
-use Rattle.pawn_book.specs.BookStep.{BookValue, rows_of_book}
-use Rattle.pawn_book.specs.HostStep.{Host}
-use Rattle.pawn_book.specs.Sound.{IsSound}
-use Rattle.pawn_book.specs.declared.rows.BookRows.{BookRows}
+use Rattle.pawn_csv.specs.Common.{BookRows, BookValue, Host, IsSound, get, rows_of_book, strip_bom}
 use Rattle.pawn_csv.specs.declared.fault.Cause.{Cause}
 use Rattle.pawn_csv.specs.declared.fault.Cause.TheVariants as cause
 use Rattle.pawn_csv.specs.declared.row.Row.{Row}

@@ -12,3 +12,5 @@ pub mod Sent
 pub mod Exports
 pub mod Imports
 pub mod WorkedTexts
+pub mod Common
+pub mod Csv

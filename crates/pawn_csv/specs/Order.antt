@@ -1,13 +1,6 @@
 -- The order of rows: what each row does to what was read so far.
 use Rattle.std.specs.Prelude.{ℕ, ◌+◌, nat_le, nat_lt, Bool, true, false, ◌==◌, ◌&&◌, ◌||◌, not, if◌then◌else◌, List, [], ◌∷◌, ◌++◌, length, Option, None, Some, Result, Ok, Err}
-use Rattle.pawn_terms.specs.declared.terms.Rates.{Rates}
-use Rattle.pawn_debt.specs.Limits.{most_entries}
-use Rattle.pawn_debt.specs.declared.entry.Entry.{Entry}
-use Rattle.pawn_pledge.specs.Limits.{most_extensions, most_secrets}
-use Rattle.pawn_pledge.specs.declared.record.Booking.{Booking}
-use Rattle.pawn_pledge.specs.declared.record.Extension.{Extension}
-use Rattle.pawn_pledge.specs.declared.record.Issued.{Issued}
-use Rattle.pawn_book.specs.Limits.{most_pledges, most_terms}
+use Rattle.pawn_csv.specs.Common.{Booking, Entry, Extension, Issued, Rates, most_entries, most_extensions, most_pledges, most_secrets, most_terms}
 use Rattle.pawn_csv.specs.declared.fault.Cause.{Cause}
 use Rattle.pawn_csv.specs.declared.fault.Cause.TheVariants as cause
 use Rattle.pawn_csv.specs.declared.order.BegunBook.{BegunBook}

@@ -1,15 +1,8 @@
 -- What a text holds, and why it holds no book.
 use Rattle.std.specs.Prelude.{◌≡◌, ◌≢◌, ◌⊎◌, ℕ, ◌+◌, nat_eq, Bool, true, false, List, [], ◌∷◌, length, map, Option, None, Some, Result, Ok, Err}
-use Rattle.csv.specs.Machine.{Read, next_record}
-use Rattle.csv.specs.Reading.{AreRecords, Reached, default_config}
-use Rattle.csv.specs.declared.error.ErrorKind.{ErrorKind}
+use Rattle.pawn_csv.specs.Common.{AreRecords, AreReplayable, BookRows, Each, ErrorKind, HasTextsAndWords, Reached, Read, State, default_config, next_record}
 use Rattle.csv.specs.declared.error.ErrorKind.TheVariants as kind
-use Rattle.csv.specs.declared.parser.State.{State}
 use Rattle.csv.specs.declared.parser.State.TheVariants as st
-use Rattle.pawn_base.specs.Lists.{Each}
-use Rattle.pawn_book.specs.Rows.{AreReplayable}
-use Rattle.pawn_book.specs.Written.{HasTextsAndWords}
-use Rattle.pawn_book.specs.declared.rows.BookRows.{BookRows}
 use Rattle.pawn_csv.specs.declared.fault.Cause.{Cause}
 use Rattle.pawn_csv.specs.declared.fault.Cause.TheVariants as cause
 use Rattle.pawn_csv.specs.declared.row.Row.{Row}

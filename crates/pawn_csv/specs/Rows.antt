@@ -1,27 +1,7 @@
 -- A book as rows, and a row as columns.
 use Rattle.std.specs.Prelude.{◌≡◌, ℕ, ◌+◌, ◌-◌, ◌<◌, List, [], ◌∷◌, ◌++◌, length, map, replicate, Option, Some, None, IfSome, codes, decimal}
-use Rattle.std.specs.List.{flat_map}
-use Rattle.std.specs.Str.{IsUtf8}
-use Rattle.csv.specs.Writing.{default_writer, row_text}
-use Rattle.pawn_terms.specs.Calendar.{day_text, IsStampDay}
-use Rattle.pawn_terms.specs.declared.terms.Rates.{Rates}
-use Rattle.pawn_debt.specs.Due.{credit_of}
-use Rattle.pawn_debt.specs.declared.entry.Entry.{Entry}
-use Rattle.pawn_pledge.specs.Pledge.{PledgeValue}
-use Rattle.pawn_base.specs.Lists.{Each}
-use Rattle.pawn_pledge.specs.Replayable.{IsOpening}
-use Rattle.pawn_pledge.specs.Secret.{secret_text}
-use Rattle.pawn_pledge.specs.declared.record.Agreement.{Agreement}
-use Rattle.pawn_pledge.specs.declared.record.Booking.{Booking}
-use Rattle.pawn_pledge.specs.declared.record.Closing.{Closing}
+use Rattle.pawn_csv.specs.Common.{Agreement, BookRows, Booking, Closing, Each, Entry, Extension, IsOpening, IsStampDay, IsUtf8, IsWord, Issued, PledgeValue, Rates, Standing, credit_of, day_text, default_writer, flat_map, row_text, secret_text, sort_text, state_text}
 use Rattle.pawn_pledge.specs.declared.record.Closing.TheVariants as closed
-use Rattle.pawn_pledge.specs.declared.record.Extension.{Extension}
-use Rattle.pawn_pledge.specs.declared.record.Issued.{Issued}
-use Rattle.pawn_pledge.specs.declared.record.Standing.{Standing}
-use Rattle.pawn_book.specs.Written.{IsWord}
-use Rattle.pawn_book.specs.declared.rows.BookRows.{BookRows}
-use Rattle.pawn_debt.specs.Words.{sort_text}
-use Rattle.pawn_pledge.specs.Words.{state_text}
 use Rattle.pawn_csv.specs.Columns.{form_text, yes_text, kind_text, closing_text, issue_text, text_if_any}
 use Rattle.pawn_csv.specs.declared.row.ClosingWord.{ClosingWord}
 use Rattle.pawn_csv.specs.declared.row.ClosingWord.TheVariants as closing

@@ -1,10 +1,7 @@
 -- What contracts say of a writer of rows, and what it means that a text was written.
 use Rattle.std.specs.Prelude.{ℕ, Bool, true, false, List, ◌||◌, ◌≡◌, Option}
-use Rattle.pawn_book.specs.Visits.{End}
-use Rattle.pawn_view.specs.Ends.{Share, Written, end_by, write_failed}
-use Rattle.pawn_view.specs.declared.writing.Writing.{Writing}
-use Rattle.csv.specs.Writing.{default_writer, row_text}
-use Rattle.pawn_pledge.specs.declared.brief.BriefFields.{BriefFields}
+use Rattle.pawn_csv.specs.Common.{BriefFields, End, Share, Written, default_writer, end_by, row_text, write_failed}
+use Rattle.pawn_writing.specs.declared.writing.Writing.{Writing}
 use Rattle.pawn_csv.specs.Rows.{own_columns, row_fields}
 use Rattle.pawn_csv.specs.declared.row.PledgeColumns.{PledgeColumns}
 use Rattle.pawn_csv.specs.declared.row.Row.{Row}

@@ -1,11 +1,7 @@
 -- What it means to read a column.
 use Rattle.std.specs.Prelude.{◌≡◌, ℕ, ◌≤◌, ◌<◌, List, [], Option, None, Some, IfSome, decimal, get_or}
-use Rattle.std.specs.Str.{IsUtf8}
-use Rattle.pawn_terms.specs.Calendar.{IsStampDay, day_text}
+use Rattle.pawn_csv.specs.Common.{IsOpening, IsStampDay, IsUtf8, Opening, credit_of, day_text}
 use Rattle.pawn_base.specs.Text.{IsText}
-use Rattle.pawn_debt.specs.Due.{credit_of}
-use Rattle.pawn_pledge.specs.Replayable.{IsOpening}
-use Rattle.pawn_pledge.specs.declared.record.Opening.{Opening}
 use Rattle.pawn_csv.specs.Columns.{kind_text, text_if_any, yes_text}
 use Rattle.pawn_csv.specs.declared.row.TheConstants.{COLUMNS}
 use Rattle.pawn_csv.specs.Rows.{IsColumnNumber}

@@ -1,13 +1,10 @@
 -- Examples of rows, worked out: which are taken, and for which cause others are refused.
 use Rattle.std.specs.Prelude.{◌≡◌, Bool, true, false, ℕ, List, [], ◌∷◌, map, Option, None, Some, Result, Ok, Err, codes}
-use Rattle.csv.specs.Writing.{default_writer, row_text}
+use Rattle.pawn_csv.specs.Common.{BookRows, Issue, PledgeValue, default_writer, row_text}
 use Rattle.pawn_terms.specs.Worked.{date}
 use Rattle.pawn_debt.specs.Worked.{free}
-use Rattle.pawn_pledge.specs.Pledge.{PledgeValue}
 use Rattle.pawn_pledge.specs.Worked.{ring}
 use Rattle.pawn_pledge.specs.declared.record.BookingState.TheVariants.{Asked}
-use Rattle.pawn_pledge.specs.declared.record.Issue.{Issue}
-use Rattle.pawn_book.specs.declared.rows.BookRows.{BookRows}
 use Rattle.pawn_csv.specs.declared.fault.Cause.{Cause}
 use Rattle.pawn_csv.specs.declared.fault.Cause.TheVariants as cause
 use Rattle.pawn_csv.specs.declared.row.Row.{Row}

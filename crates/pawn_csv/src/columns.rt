@@ -1,15 +1,7 @@
 //! Reading one column.
 ghost use Rattle.std.specs.Prelude.{◌≡◌, ℕ, ◌↔◌, List, IfOk, IfNone, IfSome, IsTrue, decimal};
-ghost use Rattle.csv.specs.Records.{fields_of};
-ghost use Rattle.pawn_terms.specs.Calendar.{day_text, IsStampDay};
-ghost use Rattle.pawn_debt.specs.Due.{credit_of};
-ghost use Rattle.pawn_pledge.specs.Secret.{secret_text};
-ghost use Rattle.pawn_book.specs.Written.{IsWord};
-ghost use Rattle.pawn_debt.specs.Words.{sort_text};
-ghost use Rattle.pawn_pledge.specs.Words.{state_text};
-ghost use Rattle.pawn_csv.specs.Columns.{form_text, yes_text, kind_text, closing_text, issue_text, text_if_any, IsAny};
-ghost use Rattle.pawn_csv.specs.Rows.{IsColumnNumber};
-ghost use Rattle.pawn_csv.specs.Spelling.{ReadsAs, column_at, AreBlankFrom, IsTextColumn, IsColumnNumberIfAny, IsStampDayIfAny};
+ghost use Rattle.pawn_csv.specs.Common.{IsStampDay, IsWord, credit_of, day_text, fields_of, secret_text, sort_text, state_text};
+ghost use Rattle.pawn_csv.specs.Csv.{AreBlankFrom, IsAny, IsColumnNumber, IsColumnNumberIfAny, IsStampDayIfAny, IsTextColumn, ReadsAs, closing_text, column_at, form_text, issue_text, kind_text, text_if_any, yes_text};
 
 use crate::row::{COLUMNS, ClosingWord, NUMBERS_END, Version};
 use csv::ByteRecord;

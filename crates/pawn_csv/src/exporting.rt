@@ -1,16 +1,7 @@
 //! Writing a book's text.
 ghost use Rattle.std.specs.Prelude.{◌≡◌, ◌++◌, ◌+◌, ◌-◌, ◌^◌, min, if◌then◌else◌, false, true, Some, length, IsErrOf};
-ghost use Rattle.pawn_book.specs.declared.visit.Flow.TheVariants.{Go, Stop};
-ghost use Rattle.std.specs.FinMap.{get};
-ghost use Rattle.std.specs.List.{flat_map};
-ghost use Rattle.pawn_pledge.specs.Pledge.{PledgeValue};
-ghost use Rattle.pawn_pledge.specs.Brief.{brief_of};
-ghost use Rattle.pawn_book.specs.BookStep.{BookValue, book_head, pledge_in};
-ghost use Rattle.pawn_book.specs.Sound.{IsSound};
-ghost use Rattle.pawn_book.specs.Keeping.{Reads, IsSteady, entries_of, extensions_of, pledges_of, secrets_of, terms_of};
-ghost use Rattle.pawn_book.specs.Visits.{call_end};
-ghost use Rattle.pawn_view.specs.Ends.{write_failed, writing_inner};
-ghost use Rattle.pawn_view.specs.Shown.{IsQuietView};
+ghost use Rattle.pawn_csv.specs.Common.{BookValue, Go, IsSound, IsSteady, PledgeValue, Reads, Stop, book_head, brief_of, call_end, entries_of, extensions_of, flat_map, get, pledge_in, pledges_of, secrets_of, terms_of, write_failed, writing_inner};
+ghost use Rattle.pawn_writing.specs.Fault.{IsQuietView};
 ghost use Rattle.pawn_csv.specs.Rows.{booking_csv_rows, entry_rows, extension_rows, pledge_csv_rows, secret_rows, terms_rows};
 ghost use Rattle.pawn_csv.specs.Sent.{PutsRow, PutsRowsShare, has_ended, text_of_row};
 ghost use Rattle.pawn_csv.specs.Exports.{Exports, PutsAt, sink_ending, entry_row_text, extension_line, secret_line, text_of};
@@ -22,7 +13,7 @@ use crate::writing::{
 use pawn_book::{
     BookHead, Booking, Brief, Entry, Extension, Flow, Issued, Keep, KeepError, Number, Visitor,
 };
-use pawn_view::{ViewFault, visit_entries, visit_extensions};
+use pawn_writing::{ViewFault, visit_entries, visit_extensions};
 use std::alloc::Global;
 use std::io::Write;
 

@@ -1,12 +1,8 @@
 //! The end of a book's rows.
 ghost use Rattle.std.specs.Prelude.{◌≡◌, ◌++◌, IfErr, IfNone, IfOk, IfSome, Some};
-ghost use Rattle.pawn_book.specs.declared.rows.BookRows.{BookRows};
-ghost use Rattle.pawn_book.specs.Rows.{AreReplayable, terms_at};
+ghost use Rattle.pawn_csv.specs.Common.{AreReplayable, BookRows, Closing, PledgeValue, terms_at};
 ghost use Rattle.pawn_csv.specs.declared.fault.Cause.TheVariants as Cause;
-ghost use Rattle.pawn_csv.specs.Finishing.{AreRawOf, Ends, IsBegunOf, IsClosingOf, IsRawOf};
-ghost use Rattle.pawn_csv.specs.Order.{begun_of, hand, view_begun};
-ghost use Rattle.pawn_pledge.specs.Pledge.{PledgeValue};
-ghost use Rattle.pawn_pledge.specs.declared.record.Closing.{Closing};
+ghost use Rattle.pawn_csv.specs.Csv.{AreRawOf, Ends, IsBegunOf, IsClosingOf, IsRawOf, begun_of, hand, view_begun};
 
 use crate::fault::Cause;
 use crate::order::{BegunBook, RawBook, RawPledge};

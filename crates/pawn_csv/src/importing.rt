@@ -1,7 +1,5 @@
 //! Filling an empty book with rows.
-ghost use Rattle.std.specs.Prelude.{ℕ};
-ghost use Rattle.pawn_book.specs.HostStep.{Host};
-ghost use Rattle.pawn_book.specs.Keeping.{GoesOn, IsQuiet, Of};
+ghost use Rattle.pawn_csv.specs.Common.{GoesOn, Host, IsQuiet, OfHost, ℕ};
 ghost use Rattle.pawn_book.specs.Plans.{Acts, IsLeftByAct};
 ghost use Rattle.pawn_csv.specs.Imports.{import_of};
 
@@ -27,10 +25,10 @@ pub fn import<K: Keep>(
     rows: ReplayableRows,
 ) -> Result<Reply, Refusal>
     ensures on { GoesOn K.keeping keep.old keep.new }
-    ensures acts { (operator : ℕ) → Of K.keeping keep.old keep.new
+    ensures acts { (operator : ℕ) → OfHost K.keeping keep.old keep.new
         (λ h. Acts h operator stamp.now (import_of book broker key rows) result
         (K.keeping.stands keep.new)) }
-    ensures crash { (operator : ℕ) → Of K.keeping keep.old keep.new
+    ensures crash { (operator : ℕ) → OfHost K.keeping keep.old keep.new
         (λ h. (left : Host) → K.keeping.leaves keep.new left
         → IsLeftByAct h operator stamp.now (import_of book broker key rows)
         (K.keeping.leaves keep.old) result left) }

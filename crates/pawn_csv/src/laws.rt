@@ -1,6 +1,5 @@
 //! Laws of texts and of their rows.
-ghost use Rattle.pawn_csv.specs.Layout.{LayoutsAreTaken, NotReplayableIsOfNoBook, RefusedAreNoFront, TakenAreLaidOut, TooManyIsAboveALimit};
-ghost use Rattle.pawn_csv.specs.Laws.{BooksAreHeld, FirstFaultsAreOne, FirstFaultsExcludeBooks, RowsHaveOneSpelling, TextsAreRead, TextsAreReadAs, TextsHoldOneBook, TextsOfHostsAreRead};
+ghost use Rattle.pawn_csv.specs.Csv.{BooksAreHeld, FirstFaultsAreOne, FirstFaultsExcludeBooks, LayoutsAreTaken, NotReplayableIsOfNoBook, RefusedAreNoFront, RowsHaveOneSpelling, TakenAreLaidOut, TextsAreRead, TextsAreReadAs, TextsHoldOneBook, TextsOfHostsAreRead, TooManyIsAboveALimit};
 
 /// The text that is written for a book holds that book, and so it is for each book of a sound host. A text that holds a
 /// book is read to its end as that book.

@@ -25,7 +25,7 @@ pub use pawn_book::{
     BookRows, Booking, Day, Entry, Extension, Issued, Keep, Number, Opening, Rates, Refusal,
     ReplayableRows, Reply, Secret, Stamp,
 };
-pub use pawn_view::ViewFault;
+pub use pawn_writing::ViewFault;
 pub use reading::read_book;
 pub use row::{ClosingWord, PledgeColumns, Row, Version};
 pub use worked::worked_texts;

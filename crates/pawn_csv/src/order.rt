@@ -1,7 +1,6 @@
 //! The order of a book's rows.
 ghost use Rattle.std.specs.Prelude.{◌≡◌, Some, length};
-ghost use Rattle.pawn_csv.specs.Order.{begun_of, has_secret, is_whole, may_end, on_hand, on_second, place, place_after, place_before, place_booking, place_entry, place_extension, place_pledge, place_secret, place_terms, pledges_begun, raw_pledge, view_begun};
-ghost use Rattle.pawn_csv.specs.Answers.{AnswersBegun, GivesAs, Places};
+ghost use Rattle.pawn_csv.specs.Csv.{AnswersBegun, GivesAs, Places, begun_of, has_secret, is_whole, may_end, on_hand, on_second, place, place_after, place_before, place_booking, place_entry, place_extension, place_pledge, place_secret, place_terms, pledges_begun, raw_pledge, view_begun};
 
 use crate::fault::Cause;
 use crate::row::{PledgeColumns, Row, Version};

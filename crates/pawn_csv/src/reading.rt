@@ -1,9 +1,6 @@
 //! Reading a book's text.
-ghost use Rattle.std.specs.Prelude.{IfErr, IfOk, IfSome};
-ghost use Rattle.csv.specs.Reading.{error_kind, strip_bom};
-ghost use Rattle.csv.specs.Records.{fields_of};
-ghost use Rattle.pawn_csv.specs.Order.{begun_of};
-ghost use Rattle.pawn_csv.specs.Reading.{CauseOf, IsFaultOf, IsReadAs, IsTextOf, Taking};
+ghost use Rattle.pawn_csv.specs.Common.{IfErr, IfOk, IfSome, error_kind, fields_of, strip_bom};
+ghost use Rattle.pawn_csv.specs.Csv.{CauseOf, IsFaultOf, IsReadAs, IsTextOf, Taking, begun_of};
 
 use crate::fault::{Cause, CsvFault};
 use crate::order::RawBook;

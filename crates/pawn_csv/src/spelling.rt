@@ -1,8 +1,7 @@
 //! Rows from their columns.
 ghost use Rattle.std.specs.Prelude.{◌≡◌, ◌↔◌, IfOk, IfNone, IfSome, IsTrue, codes, length};
 ghost use Rattle.csv.specs.Records.{fields_of};
-ghost use Rattle.pawn_csv.specs.Rows.{AreColumns, FitsColumns, header, pledge_fields, row_fields};
-ghost use Rattle.pawn_csv.specs.Spelling.{IsOpeningOf, ReadsAs, column_at};
+ghost use Rattle.pawn_csv.specs.Csv.{AreColumns, FitsColumns, IsOpeningOf, ReadsAs, column_at, header, pledge_fields, row_fields};
 
 use crate::columns::{
     are_blank, column, read_agreed, read_closing, read_day, read_day_if_any, read_issue, read_kind,

@@ -1,9 +1,7 @@
 //! The words of columns.
 ghost use Rattle.std.specs.Prelude.{◌≡◌, decimal};
-ghost use Rattle.pawn_terms.specs.Calendar.{day_text};
-ghost use Rattle.pawn_pledge.specs.Secret.{secret_text};
-ghost use Rattle.pawn_csv.specs.Columns.{yes_text, kind_text, closing_text, issue_text, text_if_any};
-ghost use Rattle.pawn_csv.specs.Rows.{closing_word, closing_day, closing_amount};
+ghost use Rattle.pawn_csv.specs.Common.{day_text, secret_text};
+ghost use Rattle.pawn_csv.specs.Csv.{closing_amount, closing_day, closing_text, closing_word, issue_text, kind_text, text_if_any, yes_text};
 
 use itoa::Buffer;
 use pawn_book::{Closing, Day, Issue, Kind, Secret};

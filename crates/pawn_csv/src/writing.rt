@@ -1,12 +1,7 @@
 //! Writing the rows of a book's text.
 ghost use Rattle.std.specs.Prelude.{◌≡◌, ◌≤◌, ◌-◌, ◌∷◌, ◌++◌, [], IfOk, true, false, codes, decimal, length, map};
-ghost use Rattle.pawn_terms.specs.Calendar.{day_text};
-ghost use Rattle.pawn_debt.specs.Due.{credit_of};
-ghost use Rattle.csv.specs.Writing.{default_writer, row_text};
-ghost use Rattle.pawn_view.specs.Ends.{writing_inner, write_failed};
-ghost use Rattle.pawn_csv.specs.Rows.{empty_columns, header};
-ghost use Rattle.pawn_csv.specs.Sent.{PutsRow, brief_columns, has_ended, text_of_row};
-ghost use Rattle.pawn_csv.specs.declared.row.Row.{Row};
+ghost use Rattle.pawn_csv.specs.Common.{credit_of, day_text, default_writer, row_text, write_failed, writing_inner};
+ghost use Rattle.pawn_csv.specs.Csv.{PutsRow, Row, brief_columns, empty_columns, has_ended, header, text_of_row};
 ghost use Rattle.pawn_csv.specs.declared.row.Version.TheVariants as version;
 
 use crate::row::{COLUMNS, HEADER};
@@ -17,7 +12,7 @@ use crate::words::{
 use csv::Writer;
 use itoa::Buffer;
 use pawn_book::{Booking, BriefFields, Day, Entry, Extension, Issued, Rates, RequestDay};
-use pawn_view::{Writing, put};
+use pawn_writing::{Writing, put};
 use std::alloc::{AllocError, Global};
 use std::io::Write;
 use uuid::Uuid;

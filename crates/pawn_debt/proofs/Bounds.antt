@@ -1,23 +1,13 @@
 -- What accepted entries leave owing is within its bounds.
 use Rattle.std.proofs.Common.{◌≡◌, ℕ, zero, suc, ◌+◌, ◌-◌, ◌*◌, ◌≤◌, nat_lt, nat_le, Bool, true, false, if◌then◌else◌, List, [], ◌∷◌, ◌++◌, Ok, IsOk, refl, sym, ap, subst, ◌∙◌, arith, append_assoc}
 use Rattle.std.proofs.lemmas.Nat.{mul-le}
-use Rattle.std.proofs.lemmas.List.{append-nil}
-use Rattle.std.proofs.lemmas.Bool.Decides.{nat_tests}
-use Rattle.pawn_terms.specs.declared.terms.Rates.{Rates}
-use Rattle.pawn_terms.specs.Terms.{IsChecked}
-use Rattle.pawn_base.proofs.RefusalLemmas.{first_of-is_ok}
-use Rattle.pawn_base.proofs.ListLemmas.{last_by-le, DoNotFall-push, last_by-push}
-use Rattle.pawn_debt.specs.declared.entry.Entry.{Entry}
+use Rattle.pawn_debt.proofs.Lemmas.{DoNotFall-push, append-nil, first_of-is_ok, last_by-le, last_by-push, nat_tests}
+use Rattle.pawn_debt.specs.Common.{IsChecked, Rates}
+use Rattle.pawn_debt.specs.Debts.{AreEntriesAccepted, AreOrdered, DebtValue, Draw, Due, Entry, IsEntryAccepted, Repay, Sort, after_days, after_sort, credit_of, draw_rows, due, due_after, first_principal, keep_on, last_of, most_a_day, most_pence, repay_rows, sort_answer, with_entry}
 use Rattle.pawn_debt.specs.declared.entry.Kind.{Kind}
 use Rattle.pawn_debt.specs.declared.entry.Kind.TheVariants.{Fixed, Running}
-use Rattle.pawn_debt.specs.declared.entry.Sort.{Sort}
-use Rattle.pawn_debt.specs.declared.entry.Sort.TheVariants.{Draw, Repay}
-use Rattle.pawn_debt.specs.Due.{Due, DebtValue, due, due_after, after_days, keep_on, last_of, AreOrdered, after_sort, first_principal, credit_of}
-use Rattle.pawn_debt.specs.Answers.{draw_rows, repay_rows, with_entry}
-use Rattle.pawn_debt.specs.Replay.{IsEntryAccepted, AreEntriesAccepted, sort_answer}
 use Rattle.pawn_debt.proofs.DueLemmas.{after_days-principal}
 use Rattle.pawn_debt.proofs.EntryLemmas.{due-from-last, due-pushed, due-start, pushed}
-use Rattle.pawn_debt.specs.Limits.{most_pence, most_a_day}
 
 keep-small : (t : Rates) (ends x : ℕ) → IsChecked t → keep_on t ends x ≤ 10000000
 keep-small t ends x h = from (nat_le x ends)

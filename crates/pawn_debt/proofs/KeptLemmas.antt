@@ -2,14 +2,9 @@
 use Rattle.std.proofs.Common.{◌≡◌, ℕ, ◌+◌, ◌-◌, ◌*◌, ◌<◌, ◌≤◌, List, [], ◌∷◌, ◌++◌, length, refl, sym, ap, subst, ◌∙◌, arith, length-append}
 use Rattle.pawn_terms.specs.Calendar.{IsDayNumber}
 use Rattle.pawn_base.proofs.ListLemmas.{last_by-le, DoNotFall-push, last_by-push}
-use Rattle.pawn_debt.specs.declared.entry.Entry.{Entry}
+use Rattle.pawn_debt.specs.Debts.{DebtValue, Due, Entry, IsDebtKept, Sort, after_days, after_sort, credit_of, due, due_after, first_principal, last_of, most_a_day, most_entries, most_pence, sums_of, with_entry}
 use Rattle.pawn_debt.specs.declared.owing.Totals.{Totals}
-use Rattle.pawn_debt.specs.declared.entry.Sort.{Sort}
-use Rattle.pawn_debt.specs.Due.{Due, DebtValue, due, after_days, last_of, after_sort, due_after, first_principal, credit_of}
-use Rattle.pawn_debt.specs.Kept.{IsDebtKept, sums_of}
-use Rattle.pawn_debt.specs.Answers.{with_entry}
 use Rattle.pawn_debt.proofs.EntryLemmas.{due-from-last, due-pushed, due-start, due-extended}
-use Rattle.pawn_debt.specs.Limits.{most_pence, most_entries, most_a_day}
 
 -- what is owed on a later day; v is the value that a contract sees, and p what the fields hold
 pub owed-later : (p v : DebtValue) (t : Totals) (x : ℕ) → IsDebtKept p t → p ≡ v → last_of v.taken v.entries ≤ x → after_days p.terms p.ends t.day (x - t.day) (sums_of t) ≡ due v x

@@ -1,19 +1,8 @@
 -- Entries that the rules accept in turn.
-use Rattle.std.proofs.Common.{◌≡◌, ℕ, ◌+◌, ◌<◌, ◌≤◌, List, [], ◌∷◌, ◌++◌, take, drop, get_or, length, Ok, IsOk, sym, ap, subst, ◌∙◌, arith, false, nat_lt, nat_le}
-use Rattle.std.proofs.lemmas.Bool.Decides.{nat_tests}
-use Rattle.std.proofs.lemmas.List.{append-nil, append_assoc, take_more, take-append-drop, drop_more}
-use Rattle.pawn_base.proofs.TestLemmas.{not_below, not_most}
-use Rattle.pawn_base.proofs.ListLemmas.{last_by-le}
-use Rattle.pawn_debt.specs.declared.entry.Entry.{Entry}
-use Rattle.pawn_debt.specs.declared.entry.Sort.{Sort}
-use Rattle.pawn_debt.specs.declared.entry.Sort.TheVariants.{Draw, Repay}
-use Rattle.pawn_base.proofs.RefusalLemmas.{first_of-ok, first_of-is_ok, first_of-accepts}
-use Rattle.pawn_debt.specs.Due.{Due, DebtValue, due, credit_of, last_of, AreOrdered}
-use Rattle.pawn_debt.specs.Owing.{total_of}
+use Rattle.std.proofs.Common.{◌≡◌, ℕ, ◌+◌, ◌<◌, ◌≤◌, List, [], ◌∷◌, ◌++◌, take, drop, get_or, length, Ok, IsOk, sym, ap, subst, ◌∙◌, arith, false, nat_lt}
+use Rattle.pawn_debt.proofs.Lemmas.{append-nil, append_assoc, drop_more, first_of-accepts, first_of-is_ok, first_of-ok, last_by-le, not_below, not_most, take-append-drop, take_more}
+use Rattle.pawn_debt.specs.Debts.{AreEntriesAccepted, AreOrdered, DebtValue, Draw, Due, Entry, IsEntryAccepted, Repay, Sort, credit_of, draw_rows, due, last_of, most_entries, repay_rows, sort_answer, total_of, with_entry}
 use Rattle.pawn_debt.proofs.EntryLemmas.{due-extended}
-use Rattle.pawn_debt.specs.Answers.{draw_rows, repay_rows, with_entry}
-use Rattle.pawn_debt.specs.Replay.{sort_answer, IsEntryAccepted, AreEntriesAccepted}
-use Rattle.pawn_debt.specs.Limits.{most_entries}
 
 -- what the rules accept is one more entry
 pub sort_answer-ok : (s : Sort) (p v : DebtValue) (x pence : ℕ) → sort_answer s p x pence ≡ Ok v → (last_of p.taken p.entries ≤ x) × (length p.entries < most_entries) × (v ≡ with_entry p x s pence)

@@ -7,3 +7,5 @@ pub mod Answers
 pub mod Kept
 pub mod Replay
 pub mod Worked
+pub mod Common
+pub mod Debts

@@ -2,8 +2,7 @@
 use Rattle.std.specs.Prelude.{◌≡◌, ℕ, ◌-◌, [], ◌∷◌, Ok, Err}
 use Rattle.std.specs.List.{repeat}
 use Rattle.pawn_terms.specs.Calendar.{six_months}
-use Rattle.pawn_terms.specs.declared.terms.Rates.{Rates}
-use Rattle.pawn_terms.specs.Terms.{rates_of}
+use Rattle.pawn_debt.specs.Common.{Rates, rates_of}
 use Rattle.pawn_terms.specs.Worked.{date}
 use Rattle.pawn_debt.specs.declared.entry.Kind.{Kind}
 use Rattle.pawn_debt.specs.declared.entry.Kind.TheVariants.{Fixed, Running}

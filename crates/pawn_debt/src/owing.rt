@@ -1,10 +1,6 @@
 ghost use Rattle.std.specs.Prelude.{◌≡◌, ◌+◌, ◌-◌, ◌*◌, ◌≤◌};
 ghost use Rattle.pawn_terms.specs.Calendar.{IsDayNumber};
-ghost use Rattle.pawn_debt.specs.declared.entry.Sort.TheVariants.{Draw, Repay};
-ghost use Rattle.pawn_debt.specs.Due.{after_days, after_sort};
-ghost use Rattle.pawn_debt.specs.Owing.{total_of, owing_of};
-ghost use Rattle.pawn_debt.specs.Kept.{sums_of};
-ghost use Rattle.pawn_debt.specs.Limits.{most_pence, most_a_day, most_millionths};
+ghost use Rattle.pawn_debt.specs.Debts.{Draw, Repay, after_days, after_sort, most_a_day, most_millionths, most_pence, owing_of, sums_of, total_of};
 
 use crate::limits::PENNY;
 use pawn_terms::{Day, Terms};

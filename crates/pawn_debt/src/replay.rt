@@ -1,10 +1,6 @@
 ghost use Rattle.std.specs.Prelude.{◌≡◌, ◌-◌, ◌*◌, ◌≤◌, [], ◌∷◌, ◌++◌, IfSome, IfNone};
 ghost use Rattle.pawn_terms.specs.Calendar.{IsDayNumber};
-ghost use Rattle.pawn_debt.specs.Due.{credit_of, due};
-ghost use Rattle.pawn_debt.specs.Owing.{owing_of};
-ghost use Rattle.pawn_debt.specs.Kept.{IsDebtKept, sums_of};
-ghost use Rattle.pawn_debt.specs.Replay.{IsEntryAccepted, AreEntriesAccepted};
-ghost use Rattle.pawn_debt.specs.Limits.{most_pence, most_a_day};
+ghost use Rattle.pawn_debt.specs.Debts.{AreEntriesAccepted, IsDebtKept, IsEntryAccepted, credit_of, due, most_a_day, most_pence, owing_of, sums_of};
 
 use crate::entry::{Entry, Kind, Sort};
 use crate::limits::{MOST_ENTRIES, MOST_PENCE};

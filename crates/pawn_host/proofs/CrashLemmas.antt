@@ -1,17 +1,8 @@
 -- What a crash may leave: in wider words, over two runs in turn, and as whole requests.
 use Rattle.std.proofs.Common.{◌≡◌, ◌∙◌, ◌⊎◌, ℕ, suc, List, [], ◌∷◌, ◌++◌, inl, inr, refl, ap, sym, subst, Ok, Err}
-use Rattle.pawn_pledge.specs.declared.command.Stamp.{Stamp}
-use Rattle.pawn_book.specs.BookStep.{Outcome, Refuses, Says, Makes}
+use Rattle.pawn_host.specs.Common.{Host, IsLeftByStep, IsSound, Keeping, Makes, Mark, Outcome, Reads, Refuses, Says, Stamp, WireFault, host_after_event, host_after_mark, host_step, next_host, no_memory, no_store, read_as}
 use Rattle.pawn_book.specs.HostStep as book
-use Rattle.pawn_book.specs.HostStep.{Host, host_step}
-use Rattle.pawn_book.specs.Sound.{IsSound}
-use Rattle.pawn_book.specs.Keeping.{Keeping, Reads}
-use Rattle.pawn_book.specs.Plans.{IsLeftByStep, next_host}
-use Rattle.pawn_book.specs.Runs.{Mark, read_as, no_memory, no_store, host_after_event, host_after_mark}
-use Rattle.pawn_wire.specs.declared.fault.WireFault.{WireFault}
-use Rattle.pawn_host.specs.Run.{Item, event_of, host_after_run}
-use Rattle.pawn_host.specs.Crashes.{IsDone, IsLeftByMark, IsLeftByRun, IsLeftWhole, IsOneMore}
-use Rattle.pawn_host.specs.Keeps.{Start, Kept, GoesTo, GoesBy, start_after}
+use Rattle.pawn_host.specs.Sessions.{GoesBy, GoesTo, IsDone, IsLeftByMark, IsLeftByRun, IsLeftWhole, IsOneMore, Item, Kept, Start, event_of, host_after_run, start_after}
 
 -- ---- where a crash might have left more before
 

@@ -1,21 +1,10 @@
 -- What was found in the buffer stands on the stream.
 use Rattle.std.proofs.Common.{◌≡◌, ◌≢◌, ℕ, ◌+◌, ◌<◌, ◌≤◌, Bool, true, false, List, [], ◌∷◌, ◌++◌, length, inl, inr, refl, arith, Option, Some, None, Result, Ok, sym, ◌∙◌, ap, subst, append_assoc, append-nil, length-append, IfSome}
 use Rattle.std.specs.Prelude.{◌==◌}
-use Rattle.std.proofs.lemmas.Bool.Decides.{nat_tests}
-use Rattle.std.specs.Io.KnownBytes.{Keeps, Consumes, IsAtEnd, prepend_known}
-use Rattle.httparse.specs.Grammar.{RequestHead, print_request}
-use Rattle.pawn_wire.specs.Head.{ReadsHead, IsHeadRead}
-use Rattle.pawn_wire.specs.declared.fault.HeadFault.{HeadFault}
+use Rattle.pawn_host.proofs.Lemmas.{bad_head_stays, nat_tests, reads_more}
+use Rattle.pawn_host.specs.Common.{Consumes, Fault, HeadFacts, HeadFault, IsAtEnd, IsHeadRead, Keeps, Partial, ReadsHead, RequestHead, prepend_known, print_request}
 use Rattle.pawn_wire.specs.declared.head.HeadRead.{HeadRead}
-use Rattle.pawn_wire.specs.declared.head.HeadRead.TheVariants.{Partial, Fault}
-use Rattle.pawn_wire.specs.declared.head.HeadFacts.{HeadFacts}
-use Rattle.pawn_wire.proofs.StreamLemmas.{reads_more, bad_head_stays}
-use Rattle.pawn_host.specs.Split.{IsCut, HasFault}
-use Rattle.pawn_host.specs.Finding.{FindsHead, FindsRest, HasHead, IsCausedBy}
-use Rattle.pawn_host.specs.declared.session.Cause.{Cause}
-use Rattle.pawn_host.specs.declared.session.Cause.TheVariants.{Read, Write, Reads}
-use Rattle.pawn_host.specs.declared.session.Rest.{Rest}
-use Rattle.pawn_host.specs.declared.session.Rest.TheVariants.{AtEnd, CutOff, Faulty}
+use Rattle.pawn_host.specs.Sessions.{AtEnd, Cause, CutOff, Faulty, FindsHead, FindsRest, HasFault, HasHead, IsCausedBy, IsCut, Read, Reads, Rest, Write}
 
 -- the buffer grew by what was read
 pub kept_more : (a b c : Option (List ℕ)) (old new piece : List ℕ) → Keeps a (prepend_known old b) → new ≡ old ++ piece → Consumes b c piece → Keeps a (prepend_known new c)

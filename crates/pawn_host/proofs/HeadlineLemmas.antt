@@ -1,26 +1,11 @@
 -- Each answer of a run is that of a machine alone.
 use Rattle.std.proofs.Common.{◌≡◌, ℕ, zero, suc, List, [], ◌∷◌, take, true, Some, Ok, refl, ◌∙◌, ap, sym, subst}
-use Rattle.std.specs.Prelude.{All, Result, slice_get}
-use Rattle.std.specs.FinMap.{get}
-use Rattle.std.proofs.lemmas.List.Elements.{All-head, All-tail}
-use Rattle.pawn_pledge.specs.declared.command.Stamp.{Stamp}
-use Rattle.pawn_book.specs.declared.refusal.Refusal.{Refusal}
+use Rattle.pawn_host.specs.Common.{All, Denied, Exported, Host, Listed, Mark, Out, Refusal, Request, Result, SaysRequest, Shown, Stamp, Told, WireFault, book_trace, get, host_after_event, host_step, is_settled, mark_reply, no_memory, no_store, out_of, read_as, reply_alone, slice_get, slot_trace, solo_reply}
+use Rattle.pawn_host.proofs.Lemmas.{All-head, All-tail, reads_unique}
 use Rattle.pawn_book.specs.declared.refusal.Refusal.TheVariants as no
-use Rattle.pawn_book.specs.declared.request.Request.{Request}
-use Rattle.pawn_book.specs.BookStep.{Out, Told, Denied, Shown, Listed, Exported, out_of}
-use Rattle.pawn_book.specs.HostStep.{Host, host_step}
-use Rattle.pawn_book.specs.Runs.{Mark, read_as, no_memory, no_store, host_after_event, mark_reply, is_settled}
-use Rattle.pawn_book.specs.Traces.{book_trace, slot_trace}
-use Rattle.pawn_book.specs.Machines.{reply_alone, solo_reply}
 use Rattle.pawn_book.proofs.Sounds.{absurd_none, some_is}
 use Rattle.pawn_book.proofs.SlotRuns.{books_answer_alone, slots_answer_alone}
-use Rattle.pawn_wire.specs.Request.{SaysRequest}
-use Rattle.pawn_wire.specs.declared.fault.WireFault.{WireFault}
-use Rattle.pawn_wire.proofs.RequestLemmas.{reads_unique}
-use Rattle.pawn_host.specs.Run.{Item, IsMarkOf, IsMarked, event_of, events, host_after_run, replies, said_text}
-use Rattle.pawn_host.specs.Keeps.{Start, Kept, IsRun}
-use Rattle.pawn_host.specs.Headline.{AnswerAlone, IsRunOfSlots, IsSettled, by_bearer, reply_bytes}
-use Rattle.pawn_host.specs.Laws.{EqualBookTracesReplyAlike, EqualTracesReplyAlike, RunsAnswerAlone}
+use Rattle.pawn_host.specs.Sessions.{AnswerAlone, EqualBookTracesReplyAlike, EqualTracesReplyAlike, IsMarkOf, IsMarked, IsRun, IsRunOfSlots, IsSettled, Item, Kept, RunsAnswerAlone, Start, by_bearer, event_of, events, host_after_run, replies, reply_bytes, said_text}
 use Rattle.pawn_host.proofs.RunMore.{marked_all}
 
 -- the answer at a place is what its item was told

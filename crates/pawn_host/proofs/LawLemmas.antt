@@ -1,30 +1,8 @@
 -- A stream has one split.
 use Rattle.std.proofs.Common.{◌≡◌, ℕ, suc, ◌+◌, ◌<◌, ◌≤◌, Bool, true, false, List, [], ◌∷◌, ◌++◌, length, take, map, ◌⊎◌, inl, inr, refl, arith, sym, ◌∙◌, ap, subst, append_assoc, append-nil, length-append, Result, Ok, Err}
-use Rattle.std.specs.Prelude.{All}
-use Rattle.httparse.specs.Grammar.{EndsInTarget}
-use Rattle.pawn_pledge.specs.declared.command.Stamp.{Stamp}
-use Rattle.pawn_book.specs.HostStep.{Host}
-use Rattle.pawn_book.specs.Runs.{Mark, read_as, no_memory, no_store, Event, run_host, run_replies}
-use Rattle.pawn_host.specs.Run.{Item, IsMarked, IsMarkOf, input_of, events, said_text, host_after_run, replies}
-use Rattle.pawn_host.specs.Laws.{refusal_of_mark, refusals, MayGoOn}
-use Rattle.std.specs.Prelude.{nat_le}
-use Rattle.std.proofs.lemmas.Bool.Decides.{nat_tests}
-use Rattle.httparse.specs.Grammar.{HasNoRequest}
-use Rattle.pawn_wire.specs.Limits.{max_head}
-use Rattle.std.specs.List.{concat}
-use Rattle.std.proofs.lemmas.List.{take-append-le, take_all, append_cancel_left}
-use Rattle.std.proofs.lemmas.List.Elements.{All-head, All-tail}
-use Rattle.httparse.specs.Grammar.{RequestHead, ReadsRequest, print_request}
-use Rattle.httparse.proofs.GrammarLemmas.{request_unique}
-use Rattle.pawn_wire.specs.Head.{ReadsHead, IsBadHead, fields_of, body_length, closes_by}
-use Rattle.pawn_wire.specs.Limits.{max_fields}
-use Rattle.pawn_wire.specs.declared.fault.WireFault.{WireFault}
-use Rattle.pawn_wire.specs.declared.fault.HeadFault.{HeadFault}
-use Rattle.pawn_wire.specs.declared.fault.HeadFault.TheVariants.{BadHead}
-use Rattle.pawn_wire.proofs.StreamLemmas.{reads_more, bad_head_never, head_some, nil_is_no_bad_head}
-use Rattle.pawn_wire.proofs.RequestLemmas.{reads_unique}
-use Rattle.pawn_host.specs.Split.{Ending, at_end, cut, closed, faulted, at_limit, IsRequest, IsCut, HasFault, PassesOver, StopsAt, ClosesAfter, Splits, Begins, BeginsAndGoesOn, HasNoWhole, IsWanting}
-use Rattle.pawn_host.specs.Laws.{IsOpen, AreCutAndFault, IsLeftOpen}
+use Rattle.pawn_host.specs.Common.{All, BadHead, EndsInTarget, Event, HasNoRequest, HeadFault, Host, IsBadHead, Mark, ReadsHead, ReadsRequest, RequestHead, Stamp, WireFault, body_length, closes_by, concat, fields_of, max_fields, max_head, nat_le, no_memory, no_store, print_request, read_as, run_host, run_replies}
+use Rattle.pawn_host.specs.Sessions.{AreCutAndFault, Begins, BeginsAndGoesOn, ClosesAfter, Ending, HasFault, HasNoWhole, IsCut, IsLeftOpen, IsMarkOf, IsMarked, IsOpen, IsRequest, IsWanting, Item, MayGoOn, PassesOver, Splits, StopsAt, at_end, at_limit, closed, cut, events, faulted, host_after_run, input_of, refusal_of_mark, refusals, replies, said_text}
+use Rattle.pawn_host.proofs.Lemmas.{All-head, All-tail, append_cancel_left, bad_head_never, head_some, nat_tests, nil_is_no_bad_head, reads_more, reads_unique, request_unique, take-append-le, take_all}
 use Rattle.pawn_host.proofs.SplitLemmas.{passes-snoc}
 
 -- ---- fronts

@@ -11,3 +11,4 @@ pub mod ShardLemmas
 pub mod ViewLemmas
 pub mod SheetLemmas
 pub mod RowsLemmas
+pub mod Lemmas

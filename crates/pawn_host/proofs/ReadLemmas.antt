@@ -1,22 +1,9 @@
 -- What was read while a request was looked for.
 use Rattle.std.proofs.Common.{◌≡◌, ℕ, ◌+◌, ◌<◌, ◌≤◌, Bool, false, List, [], ◌∷◌, ◌++◌, length, take, drop, refl, arith, Option, Some, None, Result, Ok, Err, sym, ◌∙◌, ap, subst, append_assoc, append-nil, length-append}
-use Rattle.std.specs.Prelude.{IfOk}
-use Rattle.std.specs.List.{concat}
+use Rattle.pawn_host.specs.Common.{Consumes, HeadFacts, HeadFault, IfOk, IsHeadRead, Keeps, Partial, ReadsHead, body_length, concat, fields_of, print_request}
 use Rattle.std.proofs.lemmas.List.Folds.{concat-append}
-use Rattle.std.specs.Io.KnownBytes.{Keeps, Consumes}
-use Rattle.std.proofs.KnownBytes.{Consumes-nil, Consumes-trans, Consumes-kept}
-use Rattle.std.proofs.lemmas.List.{take-append-drop}
-use Rattle.httparse.specs.Grammar.{print_request}
-use Rattle.httparse.proofs.GrammarLemmas.{request_unique}
-use Rattle.pawn_wire.specs.Head.{ReadsHead, IsHeadRead, fields_of, body_length}
-use Rattle.pawn_wire.specs.declared.head.HeadRead.TheVariants.{Partial}
-use Rattle.pawn_wire.specs.declared.fault.HeadFault.{HeadFault}
-use Rattle.pawn_wire.specs.declared.head.HeadFacts.{HeadFacts}
-use Rattle.pawn_wire.proofs.StreamLemmas.{reads_more}
-use Rattle.pawn_host.specs.Split.{IsRequest, PassesOver, HasNoWhole, AreWanted, most_requests}
-use Rattle.pawn_host.specs.Finding.{FindsHead, HasHead, AreMissing, IsFetched}
-use Rattle.pawn_host.specs.Session.{IsReadWhileWanted}
-use Rattle.pawn_host.specs.declared.session.Rest.{Rest}
+use Rattle.pawn_host.proofs.Lemmas.{Consumes-kept, Consumes-nil, Consumes-trans, reads_more, request_unique, take-append-drop}
+use Rattle.pawn_host.specs.Sessions.{AreMissing, AreWanted, FindsHead, HasHead, HasNoWhole, IsFetched, IsReadWhileWanted, IsRequest, PassesOver, Rest, most_requests}
 use Rattle.pawn_host.proofs.SplitLemmas.{passes-snoc, front_request}
 use Rattle.pawn_host.proofs.LawLemmas.{ok_same, length_snoc}
 

@@ -1,17 +1,8 @@
 -- Lemmas on a request for the rows of a book.
 use Rattle.std.proofs.Common.{◌≡◌, ◌∙◌, ℕ, List, ap, sym, Some, None, Ok, codes}
-use Rattle.std.specs.Prelude.{option_map}
-use Rattle.pawn_pledge.specs.declared.command.Stamp.{Stamp}
-use Rattle.pawn_book.specs.declared.request.Request.{Request}
-use Rattle.pawn_book.specs.declared.request.BrokerRequest.TheVariants.{Export}
-use Rattle.pawn_book.specs.BookStep.{BookValue, Exported, Says, rows_of_book}
-use Rattle.pawn_book.specs.HostStep.{Host, host_step}
+use Rattle.pawn_host.specs.Common.{BookValue, Export, Exported, Host, Request, Says, SaysRequest, Stamp, csv_of, host_step, option_map, reply_text, rows_of_book}
 use Rattle.pawn_csv.specs.Exports.{text_of}
-use Rattle.pawn_csv.specs.Rows.{csv_of}
-use Rattle.pawn_wire.specs.Request.{SaysRequest}
-use Rattle.pawn_wire.specs.Reply.{reply_text}
-use Rattle.pawn_host.specs.declared.service.Answer.{Answer}
-use Rattle.pawn_host.specs.Keeps.{Start, Kept, GoesTo, answer_bytes, IsKeyOf, Tells, IsActed}
+use Rattle.pawn_host.specs.Sessions.{Answer, GoesTo, IsActed, IsKeyOf, Kept, Start, Tells, answer_bytes}
 use Rattle.pawn_host.proofs.RunLemmas.{acted_text, broker_request, some_same, step_past_gate}
 
 abbrev pub rows_request : ℕ → ℕ → Request

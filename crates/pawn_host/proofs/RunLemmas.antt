@@ -1,41 +1,19 @@
 -- Lemmas on one item of a run.
 use Rattle.std.proofs.Common.{◌≡◌, ◌∙◌, ℕ, Bool, true, false, List, [], ◌∷◌, ◌++◌, ◌⊎◌, ◌<◌, arith, inl, inr, refl, ap, sym, subst, Option, Some, None, Result, Ok, Err, codes, if◌then◌else◌}
 use Rattle.std.specs.Prelude.{unwrap_or, option_map, ◌==◌}
-use Rattle.std.specs.FinMap.{get}
-use Rattle.std.proofs.lemmas.Bool.Decides.{nat_tests}
-use Rattle.std.proofs.lemmas.List.{append-nil}
+use Rattle.pawn_host.specs.Common.{Acts, Answered, Bearer, BearerRequest, BookValue, Broker, BrokerRequest, Commits, Denied, Gates, Host, IsLeftByAct, IsLeftByStep, IsRefused, IsSound, IsUnwell, Out, Outcome, Present, Receipt, Refusal, Refuses, Request, Says, SaysRequest, Show, Shown, Stamp, Told, WireFault, are_unknown, broker_step, fault_text, gate_step, get, host_after, host_step, memory_text, next_host, no_memory, no_store, out_of, out_text, pledge_in, presented_text, read_as, reply_text, rows, show_pledge, statement_text, within_limit}
+use Rattle.pawn_host.proofs.Lemmas.{append-nil, nat_tests}
 use Rattle.pawn_pledge.specs.Pledge.{PledgeValue}
-use Rattle.pawn_pledge.specs.declared.command.Stamp.{Stamp}
-use Rattle.pawn_pledge.specs.declared.receipt.Receipt.{Receipt}
-use Rattle.pawn_book.specs.declared.request.Request.{Request}
 use Rattle.pawn_book.specs.declared.request.Caller.{Caller}
-use Rattle.pawn_book.specs.declared.request.Caller.TheVariants.{Bearer, Broker}
-use Rattle.pawn_book.specs.declared.request.BearerRequest.{BearerRequest}
-use Rattle.pawn_book.specs.declared.request.BearerRequest.TheVariants.{Present}
-use Rattle.pawn_book.specs.declared.request.BrokerRequest.{BrokerRequest}
-use Rattle.pawn_book.specs.declared.request.BrokerRequest.TheVariants.{Show}
 use Rattle.pawn_book.specs.declared.reply.Reply.{Reply}
-use Rattle.pawn_book.specs.declared.refusal.Refusal.{Refusal}
 use Rattle.pawn_book.specs.declared.refusal.Refusal.TheVariants as No
-use Rattle.pawn_book.specs.BookStep.{BookValue, Out, Told, Denied, Shown, Outcome, Refuses, Says, out_of, are_unknown, broker_step, gate_step, pledge_in, show_pledge}
-use Rattle.pawn_book.specs.HostStep.{Host, rows, within_limit, host_step, host_after}
-use Rattle.pawn_book.specs.Sound.{IsSound}
-use Rattle.pawn_book.specs.Runs.{read_as, no_memory, no_store, Answered}
-use Rattle.pawn_book.specs.Plans.{Acts, Commits, Gates, IsLeftByAct, IsLeftByStep, IsRefused, IsUnwell, next_host}
 use Rattle.pawn_book.specs.Changes.{with_change}
 use Rattle.pawn_book.specs.declared.change.Change.{Change}
-use Rattle.pawn_view.specs.Text.{presented_text, statement_text}
 use Rattle.pawn_view.specs.Shown.{live_pledges, presentation_of, pledge_at, statement_of}
-use Rattle.pawn_wire.specs.Request.{SaysRequest}
-use Rattle.pawn_wire.specs.Reply.{out_text, reply_text, fault_text, memory_text}
 use Rattle.pawn_wire.specs.declared.reply.Out.TheVariants as wire
-use Rattle.pawn_wire.specs.declared.fault.WireFault.{WireFault}
 use Rattle.pawn_wire.specs.declared.fault.WireFault.TheVariants as f
-use Rattle.pawn_host.specs.declared.service.Answer.{Answer}
+use Rattle.pawn_host.specs.Sessions.{Answer, GoesTo, IsActed, IsDone, IsKeyOf, Kept, Start, Tells, answer_bytes, said_text}
 use Rattle.pawn_host.specs.declared.service.Answer.TheVariants.{Bytes, Memory}
-use Rattle.pawn_host.specs.Run.{said_text}
-use Rattle.pawn_host.specs.Crashes.{IsDone}
-use Rattle.pawn_host.specs.Keeps.{Start, Kept, GoesTo, answer_bytes, IsKeyOf, Tells, IsActed}
 use Rattle.pawn_host.proofs.CrashLemmas.{goes_wider}
 
 -- memory was wanting, and nothing changed

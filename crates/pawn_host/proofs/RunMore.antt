@@ -1,14 +1,8 @@
 -- A run goes on by one item.
 use Rattle.std.proofs.Common.{◌≡◌, ℕ, ◌+◌, ◌<◌, List, [], ◌∷◌, ◌++◌, length, map, take, get_or, refl, ap, sym, ◌∙◌, subst, Vec, Global}
-use Rattle.std.specs.Prelude.{All}
-use Rattle.std.proofs.lemmas.List.{map_more}
-use Rattle.std.proofs.lemmas.List.Elements.{All-append, All-cons, All-nil, All-head, All-tail}
-use Rattle.pawn_pledge.specs.declared.command.Stamp.{Stamp}
-use Rattle.pawn_book.specs.HostStep.{Host}
-use Rattle.pawn_book.specs.Runs.{host_after_event, event_reply}
-use Rattle.pawn_host.specs.declared.service.Answer.{Answer}
-use Rattle.pawn_host.specs.Run.{Item, IsMarked, input_of, event_of, said_text, host_after_run, replies}
-use Rattle.pawn_host.specs.Keeps.{Start, Kept, start_after, replies_by, IsActed, IsRun, answer_bytes}
+use Rattle.pawn_host.specs.Common.{All, Host, Stamp, event_reply, host_after_event}
+use Rattle.pawn_host.proofs.Lemmas.{All-append, All-cons, All-head, All-nil, All-tail, map_more}
+use Rattle.pawn_host.specs.Sessions.{Answer, IsActed, IsMarked, IsRun, Item, Kept, Start, answer_bytes, event_of, host_after_run, input_of, replies, replies_by, said_text, start_after}
 use Rattle.pawn_host.proofs.CrashLemmas.{goes-append}
 use Rattle.pawn_host.proofs.SessionLemmas.{map-snoc, marked_since}
 

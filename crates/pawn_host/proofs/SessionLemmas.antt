@@ -1,35 +1,15 @@
 -- A session so far, and how it ends.
 use Rattle.std.proofs.Common.{◌≡◌, ◌≢◌, ℕ, suc, ◌+◌, ◌<◌, ◌≤◌, true, false, List, [], ◌∷◌, ◌++◌, length, take, drop, map, inl, inr, refl, arith, Option, Some, None, Result, Ok, Err, sym, ◌∙◌, ap, subst, append_assoc, append-nil, length-append, IfSome, Bool}
-use Rattle.std.specs.Prelude.{OnOk, IfErr}
-use Rattle.std.specs.Iterator.{Yields}
-use Rattle.std.proofs.lemmas.List.{take_all}
+use Rattle.pawn_host.specs.Common.{Appends, HeadFacts, Host, IfErr, Keeping, Keeps, Mark, OnOk, Stamp, WireFault, Yields, event_reply, fault_text, mark_reply, memory_text, no_memory, no_store, prepend_known, read_as, wire_fault}
+use Rattle.pawn_host.proofs.Lemmas.{All-append, All-cons, All-nil, Appends-nil, Appends-trans, take_all}
 use Rattle.std.proofs.Math.Seq.{take-append-add}
-use Rattle.std.proofs.KnownBytes.{Appends-nil, Appends-trans}
-use Rattle.std.specs.Io.KnownBytes.{Keeps, Appends, prepend_known}
-use Rattle.std.proofs.lemmas.List.Elements.{All-append, All-cons, All-nil}
-use Rattle.pawn_host.specs.Split.{Ending, at_end, cut, faulted, at_limit, closed, Splits, StopsAt, Begins, IsUnderWay, most_requests}
-use Rattle.pawn_pledge.specs.declared.command.Stamp.{Stamp}
-use Rattle.pawn_book.specs.HostStep.{Host}
-use Rattle.pawn_book.specs.Runs.{read_as, no_memory, no_store, Mark, mark_reply, event_reply}
-use Rattle.pawn_wire.specs.Fault.{wire_fault}
-use Rattle.pawn_wire.specs.Reply.{memory_text, fault_text}
-use Rattle.pawn_host.specs.Run.{Item, IsMarked, IsMarkOf, event_of, said_text}
+use Rattle.pawn_host.specs.Sessions.{AreTaken, AtEnd, Begins, Cause, CutOff, DueAfter, Ending, EndsAs, Faulty, FindsHead, FindsRest, Given, GoesTo, HadRoom, HasRoom, IsActed, IsCausedBy, IsFinished, IsLeft, IsLeftBy, IsMarkOf, IsMarked, IsOver, IsServed, IsSession, IsUnderWay, IsWithinMost, Item, Kept, NoMemory, Read, Reads, Rest, Splits, Start, StaysOpen, Stopped, StopsAt, StopsBy, Write, acted_count, answer_text, at_end, at_limit, closed, cut, event_of, faulted, host_by, most_requests, requests_of, said_text, stamps_of, start_after, start_of}
 use Rattle.pawn_book.proofs.Reading.{on_then}
-use Rattle.pawn_book.specs.Keeping.{Keeping}
 use Rattle.pawn_host.specs.declared.service.Service.{Service}
-use Rattle.pawn_host.specs.Keeps.{Start, Kept, GoesTo, start_of, start_after, host_by, StaysOpen, IsActed}
 use Rattle.pawn_host.proofs.CrashLemmas.{seen_from, goes_from, goes-append}
-use Rattle.pawn_host.specs.Finding.{FindsHead, FindsRest, StopsBy, IsCausedBy}
 use Rattle.pawn_host.proofs.FindLemmas.{not_by_writer}
-use Rattle.pawn_host.specs.Session.{Given, IsServed, IsSession, HasRoom, HadRoom, IsWithinMost, EndsAs, DueAfter, IsFinished, IsLeftBy, IsLeft, IsOver, AreTaken, acted_count, answer_text, requests_of, stamps_of}
-use Rattle.pawn_wire.specs.declared.fault.WireFault.{WireFault}
-use Rattle.pawn_wire.specs.declared.head.HeadFacts.{HeadFacts}
-use Rattle.pawn_host.specs.declared.session.How.{How}
-use Rattle.pawn_host.specs.declared.session.How.TheVariants.{End, Cut, Closed, Faulted, Limit, NoStamp, Memory}
-use Rattle.pawn_host.specs.declared.session.Rest.{Rest}
-use Rattle.pawn_host.specs.declared.session.Rest.TheVariants.{AtEnd, CutOff, Faulty, NoMemory, Stopped}
-use Rattle.pawn_host.specs.declared.session.Cause.{Cause}
-use Rattle.pawn_host.specs.declared.session.Cause.TheVariants.{Read, Write, Reads}
+use Rattle.pawn_host.specs.declared.session.Ending.{Ending}
+use Rattle.pawn_host.specs.declared.session.Ending.TheVariants.{End, Cut, Closed, Faulted, Limit, NoStamp, Memory}
 use Rattle.pawn_host.specs.declared.session.Ended.{Ended}
 use Rattle.pawn_host.specs.declared.session.IoFault.{IoFault}
 use Rattle.pawn_host.proofs.SplitLemmas.{SplitsOn, splits_start, splits_more, splits_closed, splits_begun, splits_under_way, splits_goes_on, splits_ending, stops_end, stops_cut, stops_fault, stops_limit}
@@ -78,12 +58,12 @@ pub record Leaves {S : Type 0} (steps : S → Option Stamp → S → Type 0) (to
   pub cause : IfErr result (λ fault. IsCausedBy fault.cause read_failed reads failed)
 
 module _ {S : Type 0} (steps : S → Option Stamp → S → Type 0) (to : S) (acted sent reads : ℕ) (old new : Option (List ℕ)) (read_failed failed : Bool) where
-  finished_leaves : (how : How) (text : List ℕ) (result : Result Ended IoFault) → IsLeftBy steps how to to → HasRoom how acted → acted < 1000 → read_failed ≡ false
+  finished_leaves : (how : Ending) (text : List ℕ) (result : Result Ended IoFault) → IsLeftBy steps how to to → HasRoom how acted → acted < 1000 → read_failed ≡ false
       → IsFinished how acted sent text old new failed result → Leaves steps to acted reads read_failed failed result
   finished_leaves how text (Ok ended) left room few readable is = record {
     count = sym is.1;
-    left = subst (λ (h : How). IsLeftBy steps h to to) (sym is.0) left;
-    room = subst (λ (h : How). HasRoom h ended.acted) (sym is.0) (subst (HasRoom how) (sym is.1) room);
+    left = subst (λ (h : Ending). IsLeftBy steps h to to) (sym is.0) left;
+    room = subst (λ (h : Ending). HasRoom h ended.acted) (sym is.0) (subst (HasRoom how) (sym is.1) room);
     whole = (readable, is.3);
     cause = tt;
   }
@@ -203,7 +183,7 @@ wrote_more old new new' before text after count is wrote send =
 
 module _ {S : Type 0} {steps : S → Option Stamp → S → Type 0} {given : Given S} where
   -- an end without a last text
-  pub ended : {to : S} {kept : Kept} {rest new : Option (List ℕ)} {acted sent : ℕ} (how : How) (so : SoFar steps given to kept rest new acted sent)
+  pub ended : {to : S} {kept : Kept} {rest new : Option (List ℕ)} {acted sent : ℕ} (how : Ending) (so : SoFar steps given to kept rest new acted sent)
       → (last : S) → IsLeftBy steps how to last → EndsAs how given.stream (requests_of so.items) [] → IsSession steps given last new (Ok (record { how = how; acted = acted })) kept
   ended {to} {kept} {rest} {new} {acted} {sent} how so last stamps ends = record {
     items = so.items;
@@ -253,17 +233,17 @@ module _ {S : Type 0} {steps : S → Option Stamp → S → Type 0} {given : Giv
       due Write by_reader = absurd (by_reader refl)
 
   -- a last text was written, or a part of it
-  finished : {to : S} {kept : Kept} {rest new : Option (List ℕ)} {acted sent : ℕ} (new' : Option (List ℕ)) (failed : Bool) (how : How) (text : List ℕ) (result : Result Ended IoFault) (so : SoFar steps given to kept rest new acted sent)
+  finished : {to : S} {kept : Kept} {rest new : Option (List ℕ)} {acted sent : ℕ} (new' : Option (List ℕ)) (failed : Bool) (how : Ending) (text : List ℕ) (result : Result Ended IoFault) (so : SoFar steps given to kept rest new acted sent)
       → IsLeftBy steps how to to → EndsAs how given.stream (requests_of so.items) text → DueAfter Write given.stream (requests_of so.items) text → IsFinished how acted sent text new new' failed result → IsSession steps given to new' result kept
   finished {to} {kept} {rest} {new} {acted} {sent} new' failed how text (Ok ended) so stamps ends due fin = record {
     items = so.items;
     to = to;
     last = text;
     served = so.served;
-    left = subst (λ (h : How). IsLeftBy steps h to to) (sym fin.0) stamps;
+    left = subst (λ (h : Ending). IsLeftBy steps h to to) (sym fin.0) stamps;
     count = so.count ∙ sym fin.1;
     wrote = Appends-trans given.written new new' (answer_text given.start so.items) text so.wrote fin.2;
-    ends = subst (λ (h : How). EndsAs h given.stream (requests_of so.items) text) (sym fin.0) ends;
+    ends = subst (λ (h : Ending). EndsAs h given.stream (requests_of so.items) text) (sym fin.0) ends;
   }
   finished {to} {kept} {rest} {new} {acted} {sent} new' failed how text (Err fault) so stamps ends due fin =
       let n : ℕ = fin.0 in
@@ -399,7 +379,7 @@ module _ {S : Type 0} {steps : S → Option Stamp → S → Type 0} {given : Giv
 pub within_most : (result : Result Ended IoFault) → IsWithinMost result → acted_count result ≤ most_requests
 within_most (Ok ended) room = by_how ended.how ended.acted room
   where
-    by_how : (how : How) (acted : ℕ) → HasRoom how acted → acted ≤ most_requests
+    by_how : (how : Ending) (acted : ℕ) → HasRoom how acted → acted ≤ most_requests
     by_how End acted room = omega arith
     by_how Cut acted room = omega arith
     by_how Closed acted room = omega arith

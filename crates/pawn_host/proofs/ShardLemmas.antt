@@ -1,13 +1,8 @@
 -- The law of shards in bytes.
 use Rattle.std.proofs.Common.{◌≡◌, ℕ, zero, suc, List, [], ◌∷◌, take, inl, inr, refl, ◌∙◌, ap, sym, subst}
-use Rattle.std.specs.Prelude.{Ok}
-use Rattle.std.specs.List.{concat}
-use Rattle.pawn_pledge.specs.declared.command.Stamp.{Stamp}
-use Rattle.pawn_wire.specs.Request.{SaysRequest}
+use Rattle.pawn_host.specs.Common.{Ok, SaysRequest, Stamp, concat}
 use Rattle.pawn_book.proofs.Sounds.{absurd_none, some_is}
-use Rattle.pawn_host.specs.Split.{PassesOver}
-use Rattle.pawn_host.specs.Run.{Item, input_of}
-use Rattle.pawn_host.specs.Shards.{HandsToShards, HandedSplits, IsFor, IsPlaced, RequestsArePlaced, ShardsReplyAsOne, bytes_of, inputs}
+use Rattle.pawn_host.specs.Sessions.{HandedSplits, HandsToShards, IsFor, IsPlaced, Item, PassesOver, RequestsArePlaced, ShardsReplyAsOne, bytes_of, input_of, inputs}
 use Rattle.pawn_host.proofs.HeadlineLemmas.{equal_book_traces_answer_alike}
 use Rattle.pawn_host.proofs.LawLemmas.{cons_head, cons_tail}
 

@@ -1,17 +1,8 @@
 -- Lemmas on a request for the sheet of a day.
 use Rattle.std.proofs.Common.{◌≡◌, ◌∙◌, ℕ, List, ap, sym, Some, None, Ok}
-use Rattle.std.specs.Prelude.{option_map}
-use Rattle.pawn_pledge.specs.declared.command.Stamp.{Stamp}
-use Rattle.pawn_book.specs.declared.request.Request.{Request}
-use Rattle.pawn_book.specs.declared.request.BrokerRequest.TheVariants.{SheetOf}
-use Rattle.pawn_book.specs.BookStep.{BookValue, Out, Listed, Says}
-use Rattle.pawn_book.specs.HostStep.{Host, host_step}
+use Rattle.pawn_host.specs.Common.{BookValue, Host, Listed, Out, Request, Says, SaysRequest, SheetOf, Stamp, book_sheet, host_step, option_map, reply_text, sheet_of}
 use Rattle.pawn_book.specs.Sheet.{day_sheet}
-use Rattle.pawn_view.specs.Sheets.{book_sheet, sheet_of}
-use Rattle.pawn_wire.specs.Request.{SaysRequest}
-use Rattle.pawn_wire.specs.Reply.{reply_text}
-use Rattle.pawn_host.specs.declared.service.Answer.{Answer}
-use Rattle.pawn_host.specs.Keeps.{Start, Kept, GoesTo, answer_bytes, IsKeyOf, Tells, IsActed}
+use Rattle.pawn_host.specs.Sessions.{Answer, GoesTo, IsActed, IsKeyOf, Kept, Start, Tells, answer_bytes}
 use Rattle.pawn_host.proofs.RunLemmas.{acted_text, broker_request, plain, some_same, step_past_gate}
 
 abbrev pub sheet_request : ℕ → ℕ → ℕ → Request

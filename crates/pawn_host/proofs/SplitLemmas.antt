@@ -1,15 +1,8 @@
 -- How the split of a stream goes on from what was taken of it.
 use Rattle.std.proofs.Common.{◌≡◌, ℕ, suc, ◌+◌, ◌<◌, ◌≤◌, Bool, true, false, List, [], ◌∷◌, ◌++◌, length, take, drop, inl, inr, refl, arith, Option, Some, None, sym, ◌∙◌, ap, subst, append_assoc, length-append, length-take, IfSome, Ok}
-use Rattle.std.proofs.lemmas.List.{take-append-le, take-append-drop}
-use Rattle.std.specs.Io.KnownBytes.{Keeps, prepend_known}
-use Rattle.httparse.specs.Grammar.{print_request}
-use Rattle.pawn_wire.specs.Head.{ReadsHead}
-use Rattle.pawn_wire.specs.declared.fault.HeadFault.{HeadFault}
-use Rattle.pawn_wire.specs.declared.head.HeadFacts.{HeadFacts}
-use Rattle.pawn_wire.proofs.StreamLemmas.{whole_front}
-use Rattle.pawn_host.specs.Split.{Ending, at_end, cut, closed, faulted, at_limit, IsRequest, PassesOver, StopsAt, Splits, Begins, BeginsAndGoesOn, IsUnderWay}
-use Rattle.pawn_host.specs.Finding.{FindsHead, FindsRest}
-use Rattle.pawn_host.specs.declared.session.Rest.TheVariants.{AtEnd, CutOff, Faulty}
+use Rattle.pawn_host.proofs.Lemmas.{take-append-drop, take-append-le, whole_front}
+use Rattle.pawn_host.specs.Common.{HeadFacts, HeadFault, Keeps, ReadsHead, prepend_known, print_request}
+use Rattle.pawn_host.specs.Sessions.{AtEnd, Begins, BeginsAndGoesOn, CutOff, Ending, Faulty, FindsHead, FindsRest, IsRequest, IsUnderWay, PassesOver, Splits, StopsAt, at_end, at_limit, closed, cut, faulted}
 use Rattle.pawn_host.proofs.LawLemmas.{length_snoc}
 
 -- the stream from its start is these requests and then what is left

@@ -1,17 +1,9 @@
 -- A view that was written into memory, and told.
 use Rattle.std.proofs.Common.{◌≡◌, ℕ, List, Result, Ok, Err, inl, inr, refl, ap}
-use Rattle.pawn_pledge.specs.declared.command.Stamp.{Stamp}
-use Rattle.pawn_book.specs.BookStep.{Refuses}
-use Rattle.pawn_book.specs.HostStep.{host_step}
-use Rattle.pawn_book.specs.declared.request.Request.{Request}
-use Rattle.pawn_book.specs.declared.refusal.Refusal.{Refusal}
+use Rattle.pawn_host.specs.Common.{Refusal, Refuses, Request, SaysRequest, Stamp, ViewFault, host_step}
 use Rattle.pawn_book.specs.declared.refusal.Refusal.TheVariants as No
-use Rattle.pawn_view.specs.declared.fault.ViewFault.{ViewFault}
-use Rattle.pawn_view.specs.declared.fault.ViewFault.TheVariants as fault
-use Rattle.pawn_wire.specs.Request.{SaysRequest}
-use Rattle.pawn_host.specs.declared.service.Answer.{Answer}
-use Rattle.pawn_host.specs.Keeps.{Start, Kept, GoesTo, answer_bytes, Tells, IsActed}
-use Rattle.pawn_host.specs.Views.{TellsView}
+use Rattle.pawn_writing.specs.declared.fault.ViewFault.TheVariants as fault
+use Rattle.pawn_host.specs.Sessions.{Answer, GoesTo, IsActed, Kept, Start, Tells, TellsView, answer_bytes}
 use Rattle.pawn_host.proofs.RunLemmas.{acted_memory, acted_refused}
 
 -- what is answered, if a text that was written whole is the step's, and one of which there is nothing to show is refused

@@ -1,13 +1,6 @@
 -- What a crash may leave after a run.
 use Rattle.std.specs.Prelude.{◌≡◌, ◌⊎◌, ◌++◌, ℕ, List, [], ◌∷◌, slice_get, Some, Ok, Err}
-use Rattle.pawn_pledge.specs.declared.command.Stamp.{Stamp}
-use Rattle.pawn_book.specs.declared.request.Request.{Request}
-use Rattle.pawn_book.specs.HostStep.{Host, host_step}
-use Rattle.pawn_book.specs.Keeping.{Keeping}
-use Rattle.pawn_book.specs.Plans.{IsLeftByStep, next_host}
-use Rattle.pawn_book.specs.Runs.{Mark, read_as, no_memory, no_store, host_after_event}
-use Rattle.pawn_wire.specs.Request.{SaysRequest}
-use Rattle.pawn_wire.specs.declared.fault.WireFault.{WireFault}
+use Rattle.pawn_host.specs.Common.{Host, IsLeftByStep, Keeping, Mark, Request, SaysRequest, Stamp, WireFault, host_after_event, host_step, next_host, no_memory, no_store, read_as}
 use Rattle.pawn_host.specs.Run.{Item, event_of, host_after_run}
 
 -- the host once the request in these bytes is done

@@ -1,11 +1,7 @@
 -- What the functions below a session find.
 use Rattle.pawn_host.specs.Limits.{most_reads}
 use Rattle.std.specs.Prelude.{◌≡◌, ℕ, ◌+◌, ◌<◌, ◌≤◌, Bool, true, false, List, [], ◌∷◌, ◌++◌, length, Option, Result, Ok, Err, IfOk}
-use Rattle.std.specs.List.{concat}
-use Rattle.std.specs.Io.KnownBytes.{Consumes, Keeps, IsAtEnd}
-use Rattle.httparse.specs.Grammar.{RequestHead}
-use Rattle.pawn_wire.specs.Head.{ReadsHead, IsHead}
-use Rattle.pawn_wire.specs.declared.head.HeadFacts.{HeadFacts}
+use Rattle.pawn_host.specs.Common.{Consumes, HeadFacts, IsAtEnd, IsHead, Keeps, ReadsHead, RequestHead, concat}
 use Rattle.pawn_host.specs.Split.{IsCut, HasFault, HasNoWhole}
 use Rattle.pawn_host.specs.declared.session.Filled.{Filled}
 use Rattle.pawn_host.specs.declared.session.Filled.TheVariants.{More, Done, Failed, OutOfReads, NoRoom}

@@ -1,14 +1,7 @@
 -- The headline: each answer is what a plain machine gives that is fed one slot's trace alone.
 use Rattle.std.specs.Prelude.{◌≡◌, ◌≢◌, ℕ, List, true, Some, Ok, slice_get, take}
-use Rattle.pawn_book.specs.Common.{get, Stamp, Receipt, Denied, Out, Host}
+use Rattle.pawn_host.specs.Common.{Answered, Bearer, BearerRequest, Denied, Host, Out, Receipt, Request, SaysRequest, Stamp, book_trace, get, is_slots, reply_alone, slot_trace, solo_reply}
 use Rattle.pawn_book.specs.declared.refusal.Refusal.TheVariants.{Full, Memory, Store}
-use Rattle.pawn_book.specs.declared.request.Request.{Request}
-use Rattle.pawn_book.specs.declared.request.Caller.TheVariants.{Bearer}
-use Rattle.pawn_book.specs.declared.request.BearerRequest.{BearerRequest}
-use Rattle.pawn_book.specs.Runs.{Answered}
-use Rattle.pawn_book.specs.Traces.{book_trace, slot_trace}
-use Rattle.pawn_book.specs.Machines.{is_slots, reply_alone, solo_reply}
-use Rattle.pawn_wire.specs.Request.{SaysRequest}
 use Rattle.pawn_host.specs.Run.{Item, events, said_text}
 use Rattle.pawn_host.specs.Keeps.{Start, Kept, IsRun}
 

@@ -1,16 +1,6 @@
 -- What contracts say of a service and its answers.
 use Rattle.std.specs.Prelude.{◌≡◌, ℕ, List, Some, Ok, map, All}
-use Rattle.std.specs.FinMap.{get}
-use Rattle.pawn_pledge.specs.declared.command.Stamp.{Stamp}
-use Rattle.pawn_book.specs.BookStep.{BookValue}
-use Rattle.pawn_book.specs.HostStep.{Host}
-use Rattle.pawn_book.specs.Keeping.{Keeping, GoesOn, Of}
-use Rattle.pawn_book.specs.Sound.{IsSound}
-use Rattle.pawn_book.specs.declared.request.Request.{Request}
-use Rattle.pawn_book.specs.Runs.{Mark, host_after_mark, mark_reply}
-use Rattle.pawn_wire.specs.Reply.{memory_text}
-use Rattle.pawn_wire.specs.Request.{SaysRequest}
-use Rattle.pawn_wire.specs.declared.fault.WireFault.{WireFault}
+use Rattle.pawn_host.specs.Common.{BookValue, GoesOn, Host, IsSound, Keeping, Mark, OfHost, Request, SaysRequest, Stamp, WireFault, get, host_after_mark, mark_reply, memory_text}
 use Rattle.pawn_host.specs.declared.service.Service.{Service}
 use Rattle.pawn_host.specs.declared.service.Answer.{Answer}
 use Rattle.pawn_host.specs.declared.service.Answer.TheVariants.{Bytes, Memory}
@@ -71,7 +61,7 @@ pub record StaysOpen {K : Type 0} (k : Keeping K) (old new : Service K) : Type 0
 -- for each sound host that the service's keeper stood for, if it is honest now: P holds of where the call started and
 -- where it ends
 abbrev pub Serves : {K : Type 0} → Keeping K → Service K → Service K → (Start → Kept → Type 0) → Type 0
-Serves k old new P = Of k (service_keep old) (service_keep new) (λ h. P (start_of k old h) (kept_by k new))
+Serves k old new P = OfHost k (service_keep old) (service_keep new) (λ h. P (start_of k old h) (kept_by k new))
 
 -- for some mark, one item of a run led to the reply, to the host that the keeper goes on to, and to what a crash may
 -- leave

@@ -1,22 +1,8 @@
 -- Laws of the split, of runs, and of the slots in them.
 use Rattle.std.specs.Prelude.{◌≡◌, ℕ, ◌<◌, ◌≤◌, ◌⊎◌, All, Bool, true, List, [], ◌∷◌, ◌++◌, Some, Ok, length, map, slice_get, take}
-use Rattle.std.specs.FinMap.{get}
-use Rattle.std.specs.List.{concat}
-use Rattle.httparse.specs.Grammar.{RequestHead, ReadsRequest, EndsInTarget, HasNoRequest}
+use Rattle.pawn_host.specs.Common.{BadHead, BearerRequest, EndsInTarget, HasNoRequest, HeadFault, Host, Mark, ReadsRequest, Receipt, Request, RequestHead, SaysRequest, WireFault, book_trace, concat, get, is_slots, max_fields, max_head, no_memory, no_store, read_as, slot_trace}
 use Rattle.httparse.specs.Spans.{RequestOverflows}
-use Rattle.pawn_pledge.specs.declared.receipt.Receipt.{Receipt}
-use Rattle.pawn_book.specs.declared.request.BearerRequest.{BearerRequest}
-use Rattle.pawn_book.specs.declared.request.Request.{Request}
-use Rattle.pawn_book.specs.Traces.{book_trace, slot_trace}
-use Rattle.pawn_book.specs.Machines.{is_slots}
-use Rattle.pawn_wire.specs.Limits.{max_fields, max_head}
-use Rattle.pawn_wire.specs.Request.{SaysRequest}
-use Rattle.pawn_wire.specs.declared.fault.HeadFault.{HeadFault}
-use Rattle.pawn_wire.specs.declared.fault.HeadFault.TheVariants.{BadHead}
-use Rattle.pawn_wire.specs.declared.fault.WireFault.{WireFault}
 use Rattle.pawn_host.specs.Split.{Ending, cut, faulted, most_requests, IsCutHead, IsRequest, HasFault, PassesOver, ClosesAfter, StopsAt, Splits, Begins, BeginsAndGoesOn, IsWanting}
-use Rattle.pawn_book.specs.HostStep.{Host}
-use Rattle.pawn_book.specs.Runs.{Mark, read_as, no_memory, no_store}
 use Rattle.pawn_host.specs.Run.{Item, IsMarked, input_of, events, host_after_run, replies}
 use Rattle.pawn_host.specs.Headline.{AnswerAlone, IsSettled, by_bearer}
 

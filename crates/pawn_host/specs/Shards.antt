@@ -1,12 +1,6 @@
 -- Shards in bytes: each request of a stream is handed to the shard of its book, and answered there as by one host.
 use Rattle.std.specs.Prelude.{◌≡◌, ℕ, ◌⊎◌, All, List, [], ◌∷◌, map, Some, Ok, slice_get, take}
-use Rattle.std.specs.FinMap.{get}
-use Rattle.std.specs.List.{concat}
-use Rattle.pawn_pledge.specs.declared.command.Stamp.{Stamp}
-use Rattle.pawn_book.specs.declared.request.Request.{Request}
-use Rattle.pawn_book.specs.HostStep.{Host}
-use Rattle.pawn_book.specs.Traces.{book_trace}
-use Rattle.pawn_wire.specs.Request.{SaysRequest}
+use Rattle.pawn_host.specs.Common.{Host, Request, SaysRequest, Stamp, book_trace, concat, get}
 use Rattle.pawn_host.specs.Split.{PassesOver}
 use Rattle.pawn_host.specs.Run.{Item, IsMarked, input_of, events, replies}
 use Rattle.pawn_host.specs.Headline.{IsSettled}

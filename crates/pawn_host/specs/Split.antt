@@ -1,11 +1,7 @@
 -- A stream as whole requests and a rest: a relation, since the grammar of heads is one.
 pub use Rattle.pawn_host.specs.Limits.{most_requests}
 use Rattle.std.specs.Prelude.{◌≡◌, ◌≢◌, ℕ, ◌<◌, ◌≤◌, ◌⊎◌, Bool, true, false, List, [], ◌∷◌, ◌++◌, length, Ok, Err}
-use Rattle.httparse.specs.Grammar.{RequestHead, HasNoRequest, MayBecomeRequest}
-use Rattle.pawn_wire.specs.Head.{ReadsHead, IsBadHead, fields_of, body_length, closes_by}
-use Rattle.pawn_wire.specs.Limits.{max_head}
-use Rattle.pawn_wire.specs.declared.fault.HeadFault.{HeadFault}
-use Rattle.pawn_wire.specs.declared.fault.HeadFault.TheVariants.{BadHead}
+use Rattle.pawn_host.specs.Common.{BadHead, HasNoRequest, HeadFault, IsBadHead, MayBecomeRequest, ReadsHead, RequestHead, body_length, closes_by, fields_of, max_head}
 
 -- how a stream ends
 pub data Ending : Type 0 where

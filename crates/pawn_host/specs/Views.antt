@@ -1,12 +1,9 @@
 -- What the holder of a book's key may ask to see, and how it is answered.
 use Rattle.std.specs.Prelude.{◌≡◌, ℕ, List, Result, Ok, Err}
-use Rattle.pawn_book.specs.declared.request.BrokerRequest.{BrokerRequest}
+use Rattle.pawn_host.specs.Common.{BrokerRequest, Refusal, ViewFault, out_text}
 use Rattle.pawn_book.specs.declared.request.BrokerRequest.TheVariants as broker
-use Rattle.pawn_book.specs.declared.refusal.Refusal.{Refusal}
 use Rattle.pawn_book.specs.declared.refusal.Refusal.TheVariants as No
-use Rattle.pawn_view.specs.declared.fault.ViewFault.{ViewFault}
-use Rattle.pawn_view.specs.declared.fault.ViewFault.TheVariants as fault
-use Rattle.pawn_wire.specs.Reply.{out_text}
+use Rattle.pawn_writing.specs.declared.fault.ViewFault.TheVariants as fault
 use Rattle.pawn_wire.specs.declared.reply.Out.TheVariants as wire
 use Rattle.pawn_host.specs.declared.service.Answer.{Answer}
 use Rattle.pawn_host.specs.declared.service.Answer.TheVariants.{Memory}

@@ -1,7 +1,5 @@
 //! Laws of the definitions.
-ghost use Rattle.pawn_host.specs.Crashes.{CrashLeavesWhole, CrashesJoin};
-ghost use Rattle.pawn_host.specs.Laws.{SplitIsUnique, EqualBookTracesReplyAlike, EqualTracesReplyAlike, OpenEnds, SplitEndsEarly, SplitBegins, SplitIsFront, ItemsAreUnique, RunReadsEvents, RunsAnswerAlone, RunsJoin, FaultIsExact, NothingIsWanted};
-ghost use Rattle.pawn_host.specs.Shards.{HandedSplits, RequestsArePlaced, ShardsReplyAsOne};
+ghost use Rattle.pawn_host.specs.Sessions.{CrashLeavesWhole, CrashesJoin, EqualBookTracesReplyAlike, EqualTracesReplyAlike, FaultIsExact, HandedSplits, ItemsAreUnique, NothingIsWanted, OpenEnds, RequestsArePlaced, RunReadsEvents, RunsAnswerAlone, RunsJoin, ShardsReplyAsOne, SplitBegins, SplitEndsEarly, SplitIsFront, SplitIsUnique};
 
 use pawn_book::Keep;
 

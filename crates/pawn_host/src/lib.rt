@@ -25,7 +25,7 @@ pub use laws::{
 };
 pub use limits::{MOST_READS, MOST_REQUESTS};
 pub use pawn_book::{Day, Keep, Number, RequestDay, Secret, Stamp};
-pub use pawn_view::Writing;
+pub use pawn_writing::Writing;
 pub use reading::Reading;
 pub use service::{Answer, Service};
-pub use session::{Cause, Ended, How, IoFault};
+pub use session::{Cause, Ended, Ending, IoFault};

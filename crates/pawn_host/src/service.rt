@@ -1,21 +1,16 @@
 //! The service over a keeper: one request, or a list of them.
 ghost use Rattle.std.specs.Prelude.{◌≡◌, IfOk, OnErr, map};
-ghost use Rattle.pawn_book.specs.declared.request.Caller.TheVariants.{Bearer, Broker};
-ghost use Rattle.pawn_book.specs.declared.request.BearerRequest.TheVariants.{Present};
-ghost use Rattle.pawn_book.specs.declared.request.BrokerRequest.TheVariants.{Export, SheetOf, Show};
-ghost use Rattle.pawn_book.specs.Plans.{IsWritten};
-ghost use Rattle.pawn_wire.specs.Reply.{out_text};
-ghost use Rattle.pawn_host.specs.Headline.{IsRunOfSlots};
-ghost use Rattle.pawn_host.specs.Views.{TellsView, view_asked};
-ghost use Rattle.pawn_host.specs.Keeps.{service_keep, service_operator, answer_bytes, IsKeyOf, Tells, StaysOpen, Serves, Answers, IsActed, IsRun};
+ghost use Rattle.pawn_host.specs.Common.{Bearer, Broker, Export, IsWritten, Present, SheetOf, Show, out_text};
+ghost use Rattle.pawn_host.specs.Sessions.{Answers, IsActed, IsKeyOf, IsRun, IsRunOfSlots, Serves, StaysOpen, Tells, TellsView, answer_bytes, service_keep, service_operator, view_asked};
 
 use pawn_book::{
     BearerRequest, BrokerRequest, Caller, Keep, Number, Receipts, Refusal, Request, RequestDay,
     Secret, Stamp, commit, gate, plan,
 };
 use pawn_csv::{RowWriter, export};
-use pawn_view::{ViewFault, Writing, show_day_sheet, show_presented, show_statement};
+use pawn_view::{show_day_sheet, show_presented, show_statement};
 use pawn_wire::{Out, Router, read_request, write_reply};
+use pawn_writing::{ViewFault, Writing};
 use std::alloc::{AllocError, Global};
 
 /// The answer to one request: the bytes of its reply, or `Memory`, for which `MEMORY_REPLY` is to be sent.

@@ -1,26 +1,21 @@
 //! One connection: requests are read, answered and their replies written, one after the other.
 ghost use Rattle.std.specs.Prelude.{◌≡◌, ◌+◌, ◌≤◌, IfSome, IfOk, IfErr, OnOk, length, ◌*◌, ◌^◌, false};
-ghost use Rattle.std.specs.Io.KnownBytes.{Keeps, prepend_known};
-ghost use Rattle.pawn_view.specs.Ends.{write_failed, written_bytes};
+ghost use Rattle.pawn_host.specs.Common.{Keeps, prepend_known, write_failed, written_bytes};
 ghost use Rattle.pawn_host.specs.Limits.{most_request_bytes};
-ghost use Rattle.pawn_host.specs.Ends.{reads, read_failed, left_of};
-ghost use Rattle.pawn_host.specs.Unanswered.{unanswered};
-ghost use Rattle.pawn_host.specs.Finding.{IsFilled, FindsHead, FindsRest, HasHead, IsCausedBy, StopsBy, FilledBy, IsFetched};
-ghost use Rattle.pawn_host.specs.Session.{AreTaken, IsFinished, IsOver, IsReadWhileWanted, IsSession, IsWithinMost};
-ghost use Rattle.pawn_host.specs.Keeps.{StaysOpen, Serves, answer_bytes};
+ghost use Rattle.pawn_host.specs.Sessions.{AreTaken, FilledBy, FindsHead, FindsRest, HasHead, IsCausedBy, IsFetched, IsFilled, IsFinished, IsOver, IsReadWhileWanted, IsSession, IsWithinMost, Serves, StaysOpen, StopsBy, answer_bytes, left_of, read_failed, reads, unanswered};
 
 use crate::buffer::Buffer;
 use crate::limits::{MOST_READS, MOST_REQUESTS};
 use crate::reading::Reading;
 use crate::service::{Answer, Service};
 use pawn_book::{Keep, Stamp};
-use pawn_view::{Writing, send};
 use pawn_wire::{HeadFacts, HeadFault, HeadRead, fault_reply, memory_reply, read_head};
+use pawn_writing::{Writing, send};
 use std::io::{Read, Write};
 
 /// How a session ended.
 #[derive(Clone, Copy, Debug, PartialEq, Eq)]
-pub enum How {
+pub enum Ending {
     /// The stream ended between two requests.
     End,
     /// The stream ended inside a request.
@@ -40,7 +35,7 @@ pub enum How {
 /// A session that ended: how it ended, and how many requests were answered.
 #[derive(Clone, Copy, Debug, PartialEq, Eq)]
 pub struct Ended {
-    pub how: How,
+    pub how: Ending,
     pub acted: u32,
 }
 
@@ -226,7 +221,7 @@ fn answer_slice(answer: &Answer) -> &[u8]
 fn write_last<W: Write>(
     writer: &mut Writing<W>,
     text: &[u8],
-    how: How,
+    how: Ending,
     acted: u32,
     sent: u128,
 ) -> Result<Ended, IoFault>
@@ -259,10 +254,10 @@ fn finish<W: Write>(
         (written_bytes W.contents writer.new) (write_failed writer.new) result }
 {
     match rest {
-        Rest::AtEnd => write_last(writer, &[], How::End, acted, sent),
-        Rest::CutOff => write_last(writer, &[], How::Cut, acted, sent),
-        Rest::Faulty(fault) => write_last(writer, fault_reply(fault), How::Faulted, acted, sent),
-        Rest::NoMemory => write_last(writer, memory_reply(), How::Memory, acted, sent),
+        Rest::AtEnd => write_last(writer, &[], Ending::End, acted, sent),
+        Rest::CutOff => write_last(writer, &[], Ending::Cut, acted, sent),
+        Rest::Faulty(fault) => write_last(writer, fault_reply(fault), Ending::Faulted, acted, sent),
+        Rest::NoMemory => write_last(writer, memory_reply(), Ending::Memory, acted, sent),
         Rest::Stopped(cause) => Err(IoFault { cause, acted, sent }),
     }
 }
@@ -310,7 +305,7 @@ impl<K: Keep> Service<K> {
                 Err(rest) => return finish(writer, rest, acted, sent),
             };
             let Some(stamp) = stamps.next() else {
-                let how = How::NoStamp;
+                let how = Ending::NoStamp;
                 return Ok(Ended { how, acted });
             };
             let needed = request_len(&head);
@@ -324,12 +319,12 @@ impl<K: Keep> Service<K> {
                 return Err(IoFault { cause, acted, sent });
             }
             if head.closes {
-                let how = How::Closed;
+                let how = Ending::Closed;
                 return Ok(Ended { how, acted });
             }
             buffer.answer(needed);
         }
-        let how = How::Limit;
+        let how = Ending::Limit;
         let acted = MOST_REQUESTS;
         Ok(Ended { how, acted })
     }

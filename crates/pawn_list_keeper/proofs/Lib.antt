@@ -5,3 +5,4 @@ pub mod ListReads
 pub mod NextLemmas
 pub mod ListKeeping
 pub mod ListSaves
+pub mod Lemmas

@@ -1,10 +1,6 @@
 -- What a list of books tells of its host.
 use Rattle.std.proofs.Common.{◌≡◌, ◌∙◌, ℕ, ap, sym, subst}
-use Rattle.std.specs.FinMap.{get}
-use Rattle.std.specs.Prelude.{Option, Some, None}
-use Rattle.pawn_book.specs.BookStep.{BookValue}
-use Rattle.pawn_book.specs.HostStep.{Host}
-use Rattle.pawn_book.specs.Keeping.{IsNextBook, Reads}
+use Rattle.pawn_list_keeper.specs.Common.{BookValue, Host, IsNextBook, None, Option, Reads, Some, get}
 use Rattle.pawn_list_keeper.specs.Books.{Books}
 use Rattle.pawn_list_keeper.specs.Listed.{IsLeastAbove, book_at, host_of, list_keeping}
 use Rattle.pawn_list_keeper.proofs.ListReads.{get-book_at}

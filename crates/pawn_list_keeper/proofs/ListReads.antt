@@ -1,17 +1,10 @@
 -- Reads of books in a list.
 use Rattle.std.proofs.Common.{◌≡◌, ◌≢◌, ℕ, ◌+◌, ◌<◌, ◌≤◌, zero, suc, List, [], ◌∷◌, ◌++◌, length, map, drop, get_or, set, Some, None, refl, ◌∙◌, ap, sym, subst, arith}
 use Rattle.std.specs.Prelude.{if◌then◌else◌, Bool, true, false, ◌==◌}
-use Rattle.std.specs.Ordering.{nat_cmp}
+use Rattle.pawn_list_keeper.specs.Common.{BookValue, NewBook, PledgeValue, Rates, find, from_entries, from_entries_push, get, get-from_entries, insert, made_book, nat_cmp, nat_cmp-IsAntisymmetric, pledge_from}
 use Rattle.std.specs.Cmp.{unsigned_tied}
-use Rattle.std.specs.FinMap.{get, insert, find, from_entries, get-from_entries, nat_cmp-IsAntisymmetric, from_entries_push}
-use Rattle.std.proofs.lemmas.Cmp.{nat_cmp_total}
-use Rattle.std.proofs.lemmas.Bool.Decides.{nat_tests}
-use Rattle.pawn_pledge.specs.Pledge.{PledgeValue}
-use Rattle.pawn_book.specs.BookStep.{BookValue, made_book, pledge_from}
-use Rattle.std.proofs.lemmas.List.{get_or-map, length-map}
+use Rattle.pawn_list_keeper.proofs.Lemmas.{get_or-map, length-map, nat_cmp_total, nat_tests}
 use Rattle.std.proofs.Math.Seq.{map-set_same}
-use Rattle.pawn_terms.specs.declared.terms.Rates.{Rates}
-use Rattle.pawn_book.specs.declared.request.NewBook.{NewBook}
 use Rattle.pawn_list_keeper.specs.declared.kept.Kept.{Kept}
 use Rattle.pawn_list_keeper.specs.Listed.{book_at, listed_book, IsPlace}
 

@@ -1,28 +1,13 @@
 -- A list of books after a change.
 use Rattle.std.proofs.Common.{◌≡◌, ℕ, ◌+◌, ◌<◌, ◌≤◌, List, [], ◌∷◌, ◌++◌, length, map, set, get_or, Some, None, Ok, Err, refl, ◌∙◌, ap, sym, subst, arith, inl, inr, length-append}
 use Rattle.std.specs.Prelude.{if◌then◌else◌, true, false, ◌==◌, ◌⊎◌, sum_by}
-use Rattle.std.specs.Ordering.{nat_cmp}
-use Rattle.std.specs.FinMap.{get, empty, entries, from_entries, get-empty, len-empty, len-entries, nat_cmp-IsAntisymmetric, same_map}
-use Rattle.std.proofs.lemmas.Cmp.{nat_cmp_total}
-use Rattle.std.proofs.lemmas.List.{map-set}
-use Rattle.std.proofs.lemmas.Bool.Decides.{nat_tests}
+use Rattle.pawn_list_keeper.specs.Common.{AddTerms, AreSound, BookValue, CanSave, Change, Continues, Follows, Full, Host, ImportBook, IsSoundBook, MakeBook, NewBook, PledgeValue, PutPledge, Rates, book_number, book_rows, changed_book, empty, entries, filled_book, from_entries, get, get-empty, len-empty, len-entries, made_book, most_rows, nat_cmp, nat_cmp-IsAntisymmetric, pledge_from, pledge_in, pledge_rows, put_from, rows, same_map, with_book, with_change}
+use Rattle.pawn_list_keeper.proofs.Lemmas.{absurd_none, get-with_book, map-set, nat_cmp_total, nat_tests, some_is}
 use Rattle.std.proofs.lemmas.List.Sums.{sum_by-cons}
 use Rattle.pawn_base.proofs.ListLemmas.{no_elements}
-use Rattle.pawn_pledge.specs.Pledge.{PledgeValue}
-use Rattle.pawn_book.specs.declared.request.NewBook.{NewBook}
-use Rattle.pawn_book.specs.declared.change.Change.{Change}
-use Rattle.pawn_book.specs.declared.change.Change.TheVariants.{MakeBook, AddTerms, PutPledge, ImportBook}
-use Rattle.pawn_terms.specs.declared.terms.Rates.{Rates}
-use Rattle.pawn_book.specs.BookStep.{BookValue, changed_book, filled_book, made_book, pledge_from, pledge_in, put_from}
-use Rattle.pawn_book.specs.HostStep.{Host, rows, book_rows, pledge_rows, with_book}
 use Rattle.pawn_book.specs.declared.rows.BookRows.{BookRows}
-use Rattle.pawn_book.specs.Sound.{AreSound, IsSoundBook}
-use Rattle.pawn_book.specs.Changes.{CanSave, Continues, Follows, book_number, with_change}
-use Rattle.pawn_book.specs.declared.fault.SaveError.TheVariants.{Full}
-use Rattle.pawn_book.specs.Limits.{most_rows}
 use Rattle.pawn_book.proofs.RowSums.{part, rows-with_book}
 use Rattle.pawn_book.proofs.Places.{pledge_within}
-use Rattle.pawn_book.proofs.Sounds.{absurd_none, get-with_book, some_is}
 use Rattle.pawn_list_keeper.specs.Books.{Books}
 use Rattle.pawn_list_keeper.specs.Listed.{Fits, HasChange, IsListed, IsPlace, SavesListed, added_rows, book_at, listed_book, host_of, replaced_rows, standing_rows}
 use Rattle.pawn_list_keeper.specs.declared.kept.Kept.{Kept}

@@ -1,10 +1,8 @@
 -- The next book number above another.
 use Rattle.std.proofs.Common.{◌≡◌, ℕ, ◌+◌, ◌<◌, ◌≤◌, List, [], ◌∷◌, ◌++◌, length, map, take, get_or, Some, None, refl, ◌∙◌, ap, sym, arith, inl, inr}
 use Rattle.std.specs.Prelude.{if◌then◌else◌, nat_lt, unwrap_or, ◌&&◌, Option, Bool, true, false, ◌==◌, ◌⊎◌}
-use Rattle.std.proofs.lemmas.Bool.Decides.{nat_tests}
-use Rattle.std.proofs.lemmas.List.{get_or-map, length-map, take_all, take_more}
+use Rattle.pawn_list_keeper.proofs.Lemmas.{absurd_none, get_or-map, length-map, nat_tests, take_all, take_more}
 use Rattle.pawn_book.specs.BookStep.{BookValue}
-use Rattle.pawn_book.proofs.Sounds.{absurd_none}
 use Rattle.pawn_list_keeper.specs.Listed.{IsLeastAbove, book_at, listed_book}
 use Rattle.pawn_list_keeper.specs.declared.kept.Kept.{Kept}
 

@@ -1,16 +1,9 @@
 -- The items of a day's sheet, part by part and window by window.
 use Rattle.std.proofs.Common.{◌≡◌, ◌≢◌, ◌∙◌, ℕ, ◌+◌, ◌-◌, ◌<◌, ◌≤◌, suc, List, [], ◌∷◌, ◌++◌, Option, None, Some, refl, sym, ap, subst, length, take, drop, get_or, arith, append-nil}
-use Rattle.std.specs.Prelude.{cond, filter_map, count_by, is_some}
+use Rattle.pawn_list_keeper.specs.Common.{Flow, Go, HandsOver, PledgeValue, SheetItem, Stop, cond, cons_option, count_by, filter_map, flat_map, is_some, part_head, part_item, part_items, window_items, windows_below, with_head}
 use Rattle.std.proofs.lemmas.List.Recursion.{is_count_by}
-use Rattle.std.specs.List.{cons_option, flat_map}
 use Rattle.std.proofs.lemmas.List.{take_more, take-append-drop}
-use Rattle.pawn_pledge.specs.Pledge.{PledgeValue}
-use Rattle.pawn_book.specs.declared.visit.Flow.{Flow}
-use Rattle.pawn_book.specs.declared.visit.Flow.TheVariants.{Go, Stop}
 use Rattle.pawn_book.specs.declared.sheet.Part.{Part}
-use Rattle.pawn_book.specs.declared.sheet.SheetItem.{SheetItem}
-use Rattle.pawn_book.specs.Sheet.{part_head, part_item, part_items, window_items, windows_below, with_head}
-use Rattle.pawn_book.specs.Visits.{HandsOver}
 use Rattle.pawn_book.proofs.SheetLemmas.{hands_one, hands_stop, hands_then, windows_begin, windows_more}
 use Rattle.std.proofs.lemmas.List.Elements.{filter_map-append}
 

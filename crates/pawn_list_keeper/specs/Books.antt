@@ -1,6 +1,5 @@
 -- Books in a list.
-use Rattle.std.specs.Prelude.{ℕ, List}
-use Rattle.pawn_book.specs.BookStep.{BookValue}
+use Rattle.pawn_list_keeper.specs.Common.{BookValue, List, ℕ}
 
 -- books with their numbers, and the limit on their rows
 pub record Books : Type 0 where

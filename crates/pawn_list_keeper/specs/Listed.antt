@@ -1,18 +1,7 @@
 -- The host of books in a list.
 use Rattle.std.specs.Prelude.{◌≡◌, ◌≢◌, ℕ, zero, suc, ◌+◌, ◌≤◌, ◌<◌, List, [], ◌∷◌, Option, Some, None, Result, Ok, Err, length, sum_by, ◌==◌, if◌then◌else◌, ⊤}
-use Rattle.std.specs.FinMap.{from_entries}
-use Rattle.pawn_book.specs.declared.change.Change.{Change}
-use Rattle.pawn_book.specs.declared.change.Change.TheVariants.{MakeBook, AddTerms, PutPledge, ImportBook}
+use Rattle.pawn_list_keeper.specs.Common.{AddTerms, AreReplayable, BookValue, Change, Full, Host, ImportBook, IsSound, Keeping, MakeBook, Memory, PledgeValue, PutPledge, Store, book_number, changed_book, from_entries, most_rows, pledge_in, pledge_rows, rows, with_change}
 use Rattle.pawn_book.specs.declared.fault.SaveError.{SaveError}
-use Rattle.pawn_book.specs.declared.fault.SaveError.TheVariants.{Full, Memory, Store}
-use Rattle.pawn_book.specs.BookStep.{BookValue, changed_book, pledge_in}
-use Rattle.pawn_pledge.specs.Pledge.{PledgeValue}
-use Rattle.pawn_book.specs.HostStep.{Host, rows, pledge_rows}
-use Rattle.pawn_book.specs.Limits.{most_rows}
-use Rattle.pawn_book.specs.Rows.{AreReplayable}
-use Rattle.pawn_book.specs.Sound.{IsSound}
-use Rattle.pawn_book.specs.Changes.{book_number, with_change}
-use Rattle.pawn_book.specs.Keeping.{Keeping}
 use Rattle.pawn_list_keeper.specs.declared.kept.Kept.{Kept}
 use Rattle.pawn_list_keeper.specs.Books.{Books}
 

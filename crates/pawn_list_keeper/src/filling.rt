@@ -1,11 +1,6 @@
 //! The rows of an import, put into a book of the list.
 ghost use Rattle.std.specs.Prelude.{◌≡◌, ◌+◌, IfOk, OnErr, OnOk, Some, length, map, sum_by};
-ghost use Rattle.pawn_terms.specs.Terms.{IsChecked};
-ghost use Rattle.pawn_base.specs.Lists.{Each};
-ghost use Rattle.pawn_pledge.specs.Replayable.{IsStanding};
-ghost use Rattle.pawn_book.specs.BookStep.{BookValue};
-ghost use Rattle.pawn_book.specs.HostStep.{pledge_rows};
-ghost use Rattle.pawn_book.specs.Rows.{AreReplayable};
+ghost use Rattle.pawn_list_keeper.specs.Common.{AreReplayable, BookValue, Each, IsChecked, IsStanding, pledge_rows};
 ghost use Rattle.pawn_list_keeper.specs.Listed.{HasChange, book_at, listed_book};
 
 use crate::kept::{Kept, place_of};

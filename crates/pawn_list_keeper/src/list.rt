@@ -1,6 +1,5 @@
 ghost use Rattle.std.specs.Prelude.{◌≡◌, ◌≤◌, [], map};
-ghost use Rattle.pawn_book.specs.Changes.{CanSave};
-ghost use Rattle.pawn_book.specs.Sound.{IsSound};
+ghost use Rattle.pawn_list_keeper.specs.Common.{CanSave, IsSound};
 ghost use Rattle.pawn_list_keeper.specs.Listed.{SavesListed, host_of};
 
 use crate::kept::Kept;

@@ -1,11 +1,6 @@
 //! Reads of books in a list.
 ghost use Rattle.std.specs.Prelude.{◌≡◌, ◌+◌, ◌&&◌, if◌then◌else◌, IfOk, Some, map, nat_lt, option_map, unwrap_or};
-ghost use Rattle.pawn_pledge.specs.Brief.{brief_of};
-ghost use Rattle.pawn_book.specs.Bookings.{confirmed_count};
-ghost use Rattle.pawn_book.specs.BookStep.{book_head, pledge_in, with_reference};
-ghost use Rattle.pawn_book.specs.Rows.{terms_at};
-ghost use Rattle.pawn_book.specs.Keeping.{entries_of, extensions_of, number_of, pledges_of, secrets_of, terms_of};
-ghost use Rattle.pawn_book.specs.Visits.{IsShare, Visits, Whole};
+ghost use Rattle.pawn_list_keeper.specs.Common.{IsShare, Visits, Whole, book_head, brief_of, confirmed_count, entries_of, extensions_of, number_of, pledge_in, pledges_of, secrets_of, terms_at, terms_of, with_reference};
 ghost use Rattle.pawn_list_keeper.specs.Listed.{IsLeastAbove, book_at, listed_book};
 
 use crate::kept::{Kept, kept_at, standing_pledge};

@@ -1,7 +1,6 @@
 //! Changes of books in a list.
 ghost use Rattle.std.specs.Prelude.{◌≡◌, ◌≤◌, ◌+◌, None, OnErr, OnOk, Some, length, map};
-ghost use Rattle.pawn_book.specs.BookStep.{BookValue, put_from};
-ghost use Rattle.pawn_book.specs.HostStep.{pledge_rows};
+ghost use Rattle.pawn_list_keeper.specs.Common.{BookValue, pledge_rows, put_from};
 ghost use Rattle.pawn_list_keeper.specs.Listed.{Fits, HasChange, added_rows, book_at, listed_book, replaced_rows};
 
 use crate::filling::{count_rows, fill_book};

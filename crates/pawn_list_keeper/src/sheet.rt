@@ -1,9 +1,7 @@
 //! A day's sheet of the pledges of a book.
 ghost use Rattle.std.specs.Prelude.{◌≡◌, count_by, is_some};
 ghost use Rattle.pawn_pledge.specs.Words.{is_open};
-ghost use Rattle.pawn_book.specs.Bookings.{is_confirmed_for};
-ghost use Rattle.pawn_book.specs.Sheet.{asked_item, day_sheet, part_item, part_items, window_sheet, windows_sheet, with_head};
-ghost use Rattle.pawn_book.specs.Visits.{HandsOver};
+ghost use Rattle.pawn_list_keeper.specs.Common.{HandsOver, asked_item, day_sheet, is_confirmed_for, part_item, part_items, window_sheet, windows_sheet, with_head};
 
 use pawn_book::{
     Booking, BookingState, Closing, Day, Flow, Number, Part, Pledge, SheetItem, Visitor,

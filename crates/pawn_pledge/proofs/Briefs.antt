@@ -1,14 +1,9 @@
 -- A brief of a pledge that can stand is within its limits.
 use Rattle.std.proofs.Common.{◌≤◌, Option, Some, None, arith}
-use Rattle.std.specs.Prelude.{IfSome}
-use Rattle.pawn_terms.specs.Limits.{last_stamp_day}
+use Rattle.pawn_pledge.specs.Common.{IfSome, last_stamp_day}
 use Rattle.pawn_debt.proofs.Bounds.{accepted-bounded}
-use Rattle.pawn_pledge.specs.declared.record.Booking.{Booking}
-use Rattle.pawn_pledge.specs.declared.record.Closing.{Closing}
-use Rattle.pawn_pledge.specs.Pledge.{PledgeValue, debt_of}
-use Rattle.pawn_pledge.specs.Replayable.{IsBooked, IsClosed}
+use Rattle.pawn_pledge.specs.Pledges.{Booking, BriefIsWithin, Closing, IsBooked, IsClosed, PledgeValue, debt_of}
 use Rattle.pawn_pledge.specs.Brief.{IsBookingWithin, IsClosingWithin}
-use Rattle.pawn_pledge.specs.Laws.{BriefIsWithin}
 
 booked-within : (p : PledgeValue) (o : Option Booking) → IsBooked p o → IfSome o (λ (b : Booking). b.day ≤ last_stamp_day) → IfSome o IsBookingWithin
 booked-within p None booked named = tt

@@ -1,17 +1,8 @@
 -- The lists of a pledge grow at their ends.
 use Rattle.std.proofs.Common.{◌≡◌, ℕ, ◌+◌, ◌<◌, ◌==◌, false, List, [], ◌∷◌, ◌++◌, length, refl, sym, ap, ◌∙◌, inl, inr, append_assoc}
-use Rattle.std.specs.List.{list_any}
+use Rattle.pawn_pledge.specs.Common.{Entry, list_any}
 use Rattle.std.proofs.lemmas.List.{append-nil}
-use Rattle.pawn_debt.specs.declared.entry.Entry.{Entry}
-use Rattle.pawn_pledge.specs.declared.record.Issued.{Issued}
-use Rattle.pawn_pledge.specs.declared.record.Extension.{Extension}
-use Rattle.pawn_pledge.specs.declared.command.Stamp.{Stamp}
-use Rattle.pawn_pledge.specs.declared.command.Command.{Command}
-use Rattle.pawn_pledge.specs.Pledge.{PledgeValue, end_of}
-use Rattle.pawn_pledge.specs.Words.{issue_of, new_entry}
-use Rattle.pawn_pledge.specs.Step.{Judged, Refused, Answered, Changed, pledge_step, pledge_after}
-use Rattle.pawn_pledge.specs.Growth.{Grows, StaysOrGrows}
-use Rattle.pawn_pledge.specs.Laws.{ListsGrow}
+use Rattle.pawn_pledge.specs.Pledges.{Answered, Changed, Command, Extension, Grows, Issued, Judged, ListsGrow, PledgeValue, Refused, Stamp, StaysOrGrows, end_of, issue_of, new_entry, pledge_after, pledge_step}
 use Rattle.pawn_pledge.proofs.Moves.{Move, pledge_moves, Entering, Declaring, Extending, Settling}
 
 -- each list stays, or grows at its end by one

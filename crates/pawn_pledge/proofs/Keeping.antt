@@ -1,10 +1,7 @@
 -- What the fields of a pledge keep, after an extension.
 use Rattle.std.proofs.Common.{◌≡◌, ℕ, ◌<◌, ◌≤◌, List, [], ◌∷◌, ◌++◌, None, sym, ap, subst, ◌∙◌, arith}
-use Rattle.pawn_debt.specs.declared.entry.Entry.{Entry}
-use Rattle.pawn_debt.specs.Due.{DebtValue}
-use Rattle.pawn_pledge.specs.declared.record.Extension.{Extension}
-use Rattle.pawn_pledge.specs.Words.{with_last, with_extension}
-use Rattle.pawn_pledge.specs.Pledge.{PledgeValue, end_with, end_of, debt_of}
+use Rattle.pawn_pledge.specs.Common.{DebtValue, Entry}
+use Rattle.pawn_pledge.specs.Pledges.{Extension, PledgeValue, debt_of, end_of, end_with, with_extension, with_last}
 use Rattle.pawn_pledge.specs.Kept.{IsPledgeKept}
 use Rattle.pawn_pledge.proofs.Pushes.{later_of-push}
 

@@ -12,3 +12,4 @@ pub mod Keeping
 pub mod Stands
 pub mod NumberLemmas
 pub mod TextLemmas
+pub mod Lemmas

@@ -1,38 +1,11 @@
 -- Each step that changes a pledge is one of a few moves.
-use Rattle.std.proofs.Common.{◌≡◌, ℕ, ◌<◌, ◌≤◌, ◌==◌, nat_lt, nat_le, Bool, true, false, not, if◌then◌else◌, List, [], ◌∷◌, ◌++◌, length, Option, Some, None, Result, Ok, Err, refl, sym, ap, subst, ◌∙◌, arith}
-use Rattle.std.proofs.lemmas.Bool.{true≢false}
-use Rattle.std.proofs.lemmas.Bool.Decides.{nat_tests}
-use Rattle.pawn_base.proofs.TestLemmas.{not_below, not_most}
-use Rattle.pawn_base.specs.Refusals.{first_of, NoneApplies}
-use Rattle.pawn_base.proofs.RefusalLemmas.{first_of-ok}
-use Rattle.pawn_terms.specs.Limits.{last_stamp_day}
-use Rattle.pawn_debt.specs.declared.entry.Entry.{Entry}
-use Rattle.pawn_debt.specs.declared.entry.Sort.{Sort}
-use Rattle.pawn_debt.specs.declared.entry.Sort.TheVariants.{Draw, Repay}
-use Rattle.pawn_debt.specs.declared.fault.DebtFault.{DebtFault}
-use Rattle.pawn_debt.specs.Due.{DebtValue, last_of}
-use Rattle.pawn_debt.specs.Answers.{draw_answer, repay_answer, with_entry}
-use Rattle.pawn_debt.specs.Replay.{sort_answer}
-use Rattle.pawn_debt.proofs.ReplayLemmas.{sort_answer-ok}
-use Rattle.pawn_debt.specs.Limits.{most_pence, most_entries}
-use Rattle.pawn_pledge.specs.declared.record.Booking.{Booking}
-use Rattle.pawn_pledge.specs.declared.record.BookingState.{BookingState}
-use Rattle.pawn_pledge.specs.declared.record.Closing.{Closing}
-use Rattle.pawn_pledge.specs.declared.record.Standing.{Standing}
+use Rattle.std.proofs.Common.{◌≡◌, ℕ, ◌<◌, ◌≤◌, ◌==◌, nat_lt, Bool, true, false, not, if◌then◌else◌, List, [], ◌∷◌, ◌++◌, length, Option, Some, None, Result, Ok, Err, refl, sym, ap, subst, ◌∙◌, arith}
+use Rattle.pawn_pledge.proofs.Lemmas.{first_of-ok, nat_tests, not_below, not_most, sort_answer-ok, true≢false}
+use Rattle.pawn_pledge.specs.Common.{DebtFault, DebtValue, Draw, Entry, NoneApplies, Repay, Sort, draw_answer, first_of, last_of, last_stamp_day, most_entries, most_pence, repay_answer, sort_answer, with_entry}
+use Rattle.pawn_pledge.specs.Pledges.{Answered, Booking, BookingState, Changed, Closing, Command, Done, IsCommand, IsDrawnBy, IsNotPassed, Judged, Paper, PledgeValue, Refusal, Stamp, Standing, ask_bars, ask_once, ask_step, bars, cancel_in, cancel_step, confirm_in, debt_of, decide_step, declare_bars, declare_step, decline_in, end_of, entry_step, extend_bars, extend_step, hold_step, in_state, is_ahead, is_open, is_realisable, is_repeat, is_standing, issue_of, last_window, makes_booking, most_extensions, new_entry, numbered_step, open_status, past, period_bars, pledge_step, redeem_bars, redeem_step, same_flag, sell_bars, sell_step, stands_for, total_on, under_debt, unless, with_booking, with_extension, with_last, with_secret, with_standing}
 use Rattle.pawn_pledge.specs.declared.record.Status.{Status}
-use Rattle.pawn_pledge.specs.declared.command.Stamp.{Stamp}
-use Rattle.pawn_pledge.specs.declared.command.Paper.{Paper}
 use Rattle.pawn_pledge.specs.declared.command.Decision.{Decision}
 use Rattle.pawn_pledge.specs.declared.command.Decision.TheVariants.{Confirm, Refuse}
-use Rattle.pawn_pledge.specs.declared.command.Command.{Command}
-use Rattle.pawn_pledge.specs.declared.command.Done.{Done}
-use Rattle.pawn_pledge.specs.declared.refusal.Refusal.{Refusal}
-use Rattle.pawn_pledge.specs.Words.{with_last, with_standing, is_open, is_repeat, is_ahead, new_entry, same_flag, with_secret, issue_of, with_booking, in_state, is_standing, stands_for, with_extension}
-use Rattle.pawn_pledge.specs.Pledge.{PledgeValue, end_of, debt_of, total_on, open_status, is_realisable}
-use Rattle.pawn_pledge.specs.Step.{Judged, Answered, Changed, past, unless, bars, period_bars, under_debt, entry_step, numbered_step, hold_step, declare_bars, declare_step, makes_booking, ask_once, ask_bars, ask_step, cancel_in, cancel_step, confirm_in, decline_in, decide_step, redeem_bars, redeem_step, sell_bars, sell_step, extend_bars, extend_step, pledge_step}
-use Rattle.pawn_pledge.specs.Replayable.{IsNotPassed, IsDrawnBy}
-use Rattle.pawn_pledge.specs.Commands.{IsCommand}
-use Rattle.pawn_pledge.specs.Limits.{last_window, most_extensions}
 use Rattle.pawn_pledge.proofs.Settled.{IsGated, IsSettled, hold-settles, ask-settles, mark-settles, close-settles}
 
 -- a step that changes was not refused on the way

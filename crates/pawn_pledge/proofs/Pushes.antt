@@ -1,18 +1,8 @@
 -- One more element at the end of a list of a record.
 use Rattle.std.proofs.Common.{◌≡◌, ℕ, ◌+◌, ◌<◌, ◌≤◌, ◌==◌, false, List, [], ◌∷◌, ◌++◌, drop, take, get_or, ◌-◌, length, Option, Some, None, suc, refl, sym, ap, subst, ◌∙◌, arith, slice_get, length-append}
-use Rattle.std.specs.List.{list_any}
-use Rattle.std.proofs.lemmas.Bool.{or_parts, or_from}
-use Rattle.std.proofs.lemmas.Bool.Decides.{nat_tests}
-use Rattle.std.proofs.lemmas.List.{drop_more, take_rest}
-use Rattle.std.proofs.lemmas.List.Folds.{list_any-append}
-use Rattle.pawn_terms.specs.Calendar.{later_of}
-use Rattle.pawn_base.proofs.ListLemmas.{last_by-le}
-use Rattle.pawn_debt.specs.declared.entry.Entry.{Entry}
-use Rattle.pawn_base.specs.Lists.{DoNotFall, last_by, Each}
-use Rattle.pawn_pledge.specs.declared.record.Issued.{Issued}
-use Rattle.pawn_pledge.specs.declared.record.Extension.{Extension}
-use Rattle.pawn_pledge.specs.Pledge.{last_element, last_until}
-use Rattle.pawn_pledge.specs.Replayable.{IsLaterIssue, AreIssued, AreDistinctSecrets, AreNumbered, AreExtended}
+use Rattle.pawn_pledge.specs.Common.{Entry, last_by, later_of, list_any}
+use Rattle.pawn_pledge.proofs.Lemmas.{Each-push, drop_more, list_any-append, nat_tests, or_from, or_parts, take_rest}
+use Rattle.pawn_pledge.specs.Pledges.{AreDistinctSecrets, AreExtended, AreIssued, AreNumbered, Extension, IsLaterIssue, Issued, last_element, last_until}
 
 last-push : {A : Type 0} (xs : List A) (x : A) → slice_get (xs ++ x ∷ []) (length xs) ≡ Some x
 last-push [] x = refl

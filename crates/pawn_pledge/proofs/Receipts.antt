@@ -1,18 +1,8 @@
 -- Which secret of a pledge is live.
 use Rattle.std.proofs.Common.{◌≡◌, None, ℕ, ◌==◌, ◌||◌, Bool, true, false, List, [], ◌∷◌, ◌++◌, Option, Some, option_map, refl, sym, ap, subst, ◌∙◌}
 use Rattle.std.specs.List.{list_any}
-use Rattle.std.proofs.lemmas.Bool.{true≢false}
-use Rattle.std.proofs.lemmas.List.Folds.{list_any-append}
-use Rattle.pawn_pledge.specs.declared.record.Issued.{Issued}
-use Rattle.pawn_pledge.specs.declared.record.Closing.{Closing}
-use Rattle.pawn_pledge.specs.declared.command.Stamp.{Stamp}
-use Rattle.pawn_pledge.specs.declared.command.Command.{Command}
-use Rattle.pawn_pledge.specs.Pledge.{PledgeValue, last_secret, live_under, live_of}
-use Rattle.pawn_pledge.specs.Words.{close, is_open, issue_of, with_secret}
-use Rattle.pawn_pledge.specs.Step.{Judged, Refused, Answered, Changed, bars, declare_bars, declare_step, pledge_step, pledge_after, redeem_bars, redeem_step, unless}
-use Rattle.pawn_pledge.specs.Laws.{EarlierAreSpent, IsSpent, NeverLiveAgain}
-use Rattle.pawn_pledge.specs.declared.command.Done.{Done}
-use Rattle.pawn_pledge.specs.declared.command.Paper.{Paper}
+use Rattle.pawn_pledge.proofs.Lemmas.{list_any-append, true≢false}
+use Rattle.pawn_pledge.specs.Pledges.{Answered, Changed, Closing, Command, Done, EarlierAreSpent, IsSpent, Issued, Judged, NeverLiveAgain, Paper, PledgeValue, Refused, Stamp, bars, close, declare_bars, declare_step, is_open, issue_of, last_secret, live_of, live_under, pledge_after, pledge_step, redeem_bars, redeem_step, unless, with_secret}
 use Rattle.pawn_pledge.proofs.Moves.{Move, changed-is, gate-is, unless-changed, pledge_moves, Entering, Declaring, Extending, Settling}
 use Rattle.pawn_pledge.proofs.Settled.{IsGated}
 use Rattle.pawn_pledge.proofs.Pushes.{last_element-push}

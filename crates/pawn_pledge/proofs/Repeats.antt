@@ -1,27 +1,8 @@
 -- What stands is answered again.
 use Rattle.std.proofs.Common.{◌≡◌, ◌≢◌, ℕ, ◌+◌, ◌≤◌, List, [], ◌∷◌, ◌++◌, length, Some, None, Ok, Err, refl, ◌∙◌, ap, sym, arith, ◌==◌, nat_lt, not, true, false, Bool, Option, Result, if◌then◌else◌, ◌&&◌}
-use Rattle.std.specs.Prelude.{find}
-use Rattle.std.proofs.lemmas.Bool.Decides.{nat_tests}
-use Rattle.pawn_base.specs.Refusals.{NoneApplies}
-use Rattle.pawn_base.proofs.RefusalLemmas.{first_of-past}
-use Rattle.pawn_debt.specs.declared.entry.Entry.{Entry}
-use Rattle.pawn_debt.specs.declared.entry.Sort.{Sort}
-use Rattle.pawn_debt.specs.declared.entry.Sort.TheVariants.{Draw, Repay}
-use Rattle.pawn_debt.specs.declared.fault.DebtFault.{DebtFault}
-use Rattle.pawn_debt.specs.Answers.{draw_answer, repay_answer}
-use Rattle.pawn_debt.specs.Due.{DebtValue}
-use Rattle.pawn_debt.specs.Replay.{sort_answer}
-use Rattle.pawn_debt.proofs.ReplayLemmas.{sort_answer-ok}
-use Rattle.pawn_pledge.specs.declared.command.Stamp.{Stamp}
-use Rattle.pawn_pledge.specs.declared.command.Command.{Command}
-use Rattle.pawn_pledge.specs.declared.command.Done.{Done}
-use Rattle.pawn_pledge.specs.declared.refusal.Refusal.{Refusal}
-use Rattle.pawn_pledge.specs.Words.{with_last, is_ahead, is_repeat, new_entry, same_sort, with_extension}
-use Rattle.pawn_pledge.specs.Pledge.{PledgeValue, debt_of, end_of}
-use Rattle.pawn_pledge.specs.Replayable.{AreNumbered}
-use Rattle.pawn_pledge.specs.Step.{Answered, Changed, Judged, past, bars, period_bars, extend_bars, under_debt, entry_of, entry_step, numbered_step, pledge_step, unless}
-use Rattle.pawn_pledge.specs.Growth.{Grows}
-use Rattle.pawn_pledge.specs.Laws.{entry_command, EntriesActOnce, StandingEndIsAnswered, ExtensionsActOnce, pledge_after_all}
+use Rattle.pawn_pledge.specs.Common.{DebtFault, DebtValue, Draw, Entry, NoneApplies, Repay, Sort, draw_answer, find, repay_answer, sort_answer}
+use Rattle.pawn_pledge.proofs.Lemmas.{first_of-past, nat_tests, sort_answer-ok}
+use Rattle.pawn_pledge.specs.Pledges.{Answered, AreNumbered, Changed, Command, Done, EntriesActOnce, ExtensionsActOnce, Grows, Judged, PledgeValue, Refusal, Stamp, StandingEndIsAnswered, bars, debt_of, end_of, entry_command, entry_of, entry_step, extend_bars, is_ahead, is_repeat, new_entry, numbered_step, past, period_bars, pledge_after_all, pledge_step, same_sort, under_debt, unless, with_extension, with_last}
 use Rattle.pawn_pledge.proofs.Moves.{unless-changed, if-unanswered}
 use Rattle.pawn_pledge.proofs.Growth.{lists_grow}
 

@@ -1,36 +1,12 @@
 -- A step keeps a pledge one that can have come about.
-use Rattle.std.proofs.Common.{◌≡◌, ℕ, ◌+◌, ◌<◌, ◌≤◌, ◌==◌, nat_le, Bool, true, false, not, ◌&&◌, if◌then◌else◌, List, [], ◌∷◌, ◌++◌, length, Option, Some, None, Ok, refl, sym, ap, subst, ◌∙◌, arith, length-append}
-use Rattle.std.proofs.lemmas.Bool.{true≢false}
-use Rattle.std.proofs.lemmas.Bool.Decides.{nat_tests}
-use Rattle.pawn_base.proofs.TestLemmas.{not_most, unequal}
-use Rattle.pawn_terms.specs.Calendar.{later_of, period_end, six_months}
-use Rattle.pawn_base.specs.Refusals.{NoneApplies}
-use Rattle.pawn_terms.specs.Limits.{last_stamp_day}
-use Rattle.pawn_base.proofs.ListLemmas.{last_by-push, DoNotFall-push, Each-push, Each-map, Each-all, DoNotFall-each, longer}
-use Rattle.pawn_debt.specs.declared.entry.Entry.{Entry}
-use Rattle.pawn_debt.specs.declared.entry.Sort.{Sort}
-use Rattle.pawn_debt.specs.declared.entry.Sort.TheVariants.{Draw, Repay}
-use Rattle.pawn_debt.specs.Due.{last_of, credit_of}
-use Rattle.pawn_debt.specs.Answers.{with_entry}
-use Rattle.pawn_debt.specs.Replay.{sort_answer, IsEntryAccepted}
-use Rattle.pawn_debt.proofs.ReplayLemmas.{AreAccepted-push, AreAccepted-ended, AreInside-ordered}
-use Rattle.pawn_pledge.specs.declared.record.Issued.{Issued}
-use Rattle.pawn_pledge.specs.declared.record.Extension.{Extension}
-use Rattle.pawn_pledge.specs.declared.record.Standing.{Standing}
-use Rattle.pawn_pledge.specs.declared.record.Booking.{Booking}
-use Rattle.pawn_pledge.specs.declared.record.Closing.{Closing}
+use Rattle.std.proofs.Common.{◌≡◌, ℕ, ◌+◌, ◌<◌, ◌≤◌, ◌==◌, nat_le, Bool, true, false, not, ◌&&◌, if◌then◌else◌, [], ◌∷◌, ◌++◌, length, Option, Some, None, Ok, refl, sym, ap, subst, ◌∙◌, arith, length-append}
+use Rattle.pawn_pledge.proofs.Lemmas.{AreAccepted-ended, AreAccepted-push, AreInside-ordered, DoNotFall-each, DoNotFall-push, Each-all, Each-map, Each-push, grown, last_by-push, nat_tests, not_most, true≢false, unequal}
+use Rattle.pawn_pledge.specs.Common.{Draw, Entry, IsEntryAccepted, NoneApplies, Repay, Sort, credit_of, last_of, last_stamp_day, later_of, period_end, six_months, sort_answer, with_entry}
+use Rattle.pawn_pledge.specs.Pledges.{Booking, Closing, Command, Extension, IsBooked, IsClosed, IsCommand, IsDrawnBy, IsLaterIssue, IsNotPassed, IsOverUnder, IsReplayable, IsWithinLimits, Issued, Paper, PledgeValue, Standing, debt_of, declare_bars, end_of, end_with, grace_days, is_passed, is_small, is_written, issue_of, last_until, most_secrets, new_entry, small_credit, with_extension, with_last, with_secret, with_standing}
 use Rattle.pawn_pledge.specs.declared.record.Status.TheVariants as Status
-use Rattle.pawn_pledge.specs.declared.command.Paper.{Paper}
-use Rattle.pawn_pledge.specs.declared.command.Command.{Command}
-use Rattle.pawn_pledge.specs.Words.{with_last, with_standing, is_written, issue_of, new_entry, with_secret, with_extension}
-use Rattle.pawn_pledge.specs.Pledge.{PledgeValue, end_with, last_until, end_of, is_small, debt_of, is_passed}
-use Rattle.pawn_pledge.specs.Step.{declare_bars}
-use Rattle.pawn_pledge.specs.Replayable.{IsNotPassed, IsLaterIssue, IsDrawnBy, IsClosed, IsOverUnder, IsBooked, IsReplayable, IsWithinLimits}
-use Rattle.pawn_pledge.specs.Commands.{IsCommand}
 use Rattle.pawn_pledge.proofs.Moves.{Move, Entering, Declaring, Extending, Settling}
 use Rattle.pawn_pledge.proofs.Settled.{IsGated, still-open}
 use Rattle.pawn_pledge.proofs.Pushes.{AreIssued-push, AreDistinct-push, AreNumbered-push, later_of-le, later_of-push, AreExtended-push}
-use Rattle.pawn_pledge.specs.Limits.{small_credit, most_secrets}
 
 -- not passed, where the last case is not
 unpassed : (a b : Bool) → is_passed (if a then Status.Inside else if b then Status.Grace else Status.Realisable) ≡ false
@@ -40,7 +16,7 @@ unpassed false false = refl
 
 -- a period that was made longer is never passed
 pub longer-not_passed : (p : PledgeValue) (x : ℕ) → (end_of p == six_months p.agreement.taken) ≡ false → IsNotPassed p x
-longer-not_passed p x h = rw h (unpassed (nat_le x (end_of p)) (p.agreement.opening.five_days && nat_le x (end_of p + 5)))
+longer-not_passed p x h = rw h (unpassed (nat_le x (end_of p)) (p.agreement.opening.five_days && nat_le x (end_of p + grace_days)))
 
 -- a change that no list depends on
 pub stays-with_standing : (p : PledgeValue) (s : Standing) → IsReplayable p → p.standing.last ≤ s.last → IsNotPassed p s.last
@@ -221,8 +197,8 @@ within-moved p q c w x stamped given h (Extending until inside longer few named 
 -- and something is another
 pub differs-moved : (p q : PledgeValue) (c : Command) (w x : ℕ) → IsGated p x → Move p x w c q → q ≡ p → ⊥
 differs-moved p q c w x g (Entering sort pence ok late few drawn is) same =
-    longer p.entries (record { seq = length p.entries + 1; day = x; sort = sort; pence = pence }) (ap (λ (v : PledgeValue). v.entries) (sym is ∙ same))
+    grown p.entries (record { seq = length p.entries + 1; day = x; sort = sort; pence = pence }) (ap (λ (v : PledgeValue). v.entries) (sym is ∙ same))
 differs-moved p q c w x g (Declaring paper ok is) same =
-    longer p.secrets (record { day = x; sort = issue_of paper; secret = w }) (ap (λ (v : PledgeValue). v.secrets) (sym is ∙ same))
+    grown p.secrets (record { day = x; sort = issue_of paper; secret = w }) (ap (λ (v : PledgeValue). v.secrets) (sym is ∙ same))
 differs-moved p q c w x g (Settling s to is) same = to.differs (ap (λ (v : PledgeValue). v.standing) (sym is ∙ same))
-differs-moved p q c w x g (Extending until inside longer few named is) same = longer p.extensions (record { day = x; until = until }) (ap (λ (v : PledgeValue). v.extensions) (sym is ∙ same))
+differs-moved p q c w x g (Extending until inside longer few named is) same = grown p.extensions (record { day = x; until = until }) (ap (λ (v : PledgeValue). v.extensions) (sym is ∙ same))

@@ -2,16 +2,7 @@
 use Rattle.std.proofs.Common.{◌≡◌, ℕ, ◌≤◌, Bool, true, false, Option, Some, None, refl, sym, ap, subst, ◌∙◌, arith, IfSome}
 use Rattle.std.proofs.lemmas.Bool.{true≢false, false≢true}
 use Rattle.pawn_terms.specs.Limits.{last_stamp_day}
-use Rattle.pawn_pledge.specs.declared.record.Booking.{Booking}
-use Rattle.pawn_pledge.specs.declared.record.BookingState.{BookingState}
-use Rattle.pawn_pledge.specs.declared.record.Closing.{Closing}
-use Rattle.pawn_pledge.specs.declared.record.Standing.{Standing}
-use Rattle.pawn_pledge.specs.declared.command.Command.{Command}
-use Rattle.pawn_pledge.specs.Words.{with_standing, same_flag, with_hold, with_booking, in_state, after_closing, booking_after, with_closing, close}
-use Rattle.pawn_pledge.specs.Pledge.{PledgeValue}
-use Rattle.pawn_pledge.specs.Replayable.{IsNotPassed, IsClosed, IsBookingOver, IsOverUnder, IsBooked}
-use Rattle.pawn_pledge.specs.Commands.{IsCommand}
-use Rattle.pawn_pledge.specs.Limits.{last_window}
+use Rattle.pawn_pledge.specs.Pledges.{Booking, BookingState, Closing, Command, IsBooked, IsBookingOver, IsClosed, IsCommand, IsNotPassed, IsOverUnder, PledgeValue, Standing, after_closing, booking_after, close, in_state, last_window, same_flag, with_booking, with_closing, with_hold, with_standing}
 
 -- nothing bars a command
 pub record IsGated (p : PledgeValue) (x : ℕ) : Type 0 where

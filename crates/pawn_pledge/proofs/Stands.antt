@@ -1,21 +1,9 @@
 -- What the tests on parts find makes a record that can stand.
 use Rattle.std.proofs.Common.{◌≡◌, ℕ, ◌+◌, ◌≤◌, ◌==◌, nat_le, Bool, true, false, ◌&&◌, if◌then◌else◌, List, [], ◌∷◌, ◌++◌, length, None, refl, sym, ◌∙◌, arith, length-append}
-use Rattle.std.proofs.lemmas.Bool.{false≢true}
-use Rattle.std.proofs.lemmas.Bool.Decides.{nat_tests}
-use Rattle.pawn_pledge.specs.Parts.{IsTyped, IsLimited, AreIssuedIn}
-use Rattle.pawn_terms.specs.Calendar.{six_months}
-use Rattle.pawn_terms.specs.Terms.{IsChecked}
-use Rattle.pawn_base.specs.Lists.{last_by, Each}
-use Rattle.pawn_debt.specs.declared.entry.Entry.{Entry}
-use Rattle.pawn_debt.specs.declared.owing.Totals.{Totals}
-use Rattle.pawn_debt.specs.Due.{DebtValue, credit_of, last_of}
-use Rattle.pawn_debt.specs.Kept.{IsDebtKept}
-use Rattle.pawn_debt.specs.Replay.{AreEntriesAccepted}
-use Rattle.pawn_pledge.specs.declared.record.Issued.{Issued}
+use Rattle.pawn_pledge.proofs.Lemmas.{DoNotFall-each, Each-map, false≢true, nat_tests}
+use Rattle.pawn_pledge.specs.Pledges.{AreExtended, AreIssuedIn, AreNumbered, IsBooked, IsClosed, IsDrawnBy, IsLimited, IsNotPassed, IsStanding, IsTyped, Issued, PledgeValue, debt_of, end_of, end_with, grace_days, is_passed, is_small}
+use Rattle.pawn_pledge.specs.Common.{AreEntriesAccepted, DebtValue, Each, Entry, IsChecked, IsDebtKept, Totals, credit_of, last_by, last_of, six_months}
 use Rattle.pawn_pledge.specs.declared.record.Status.TheVariants as Status
-use Rattle.pawn_pledge.specs.Pledge.{PledgeValue, end_of, is_small, debt_of, end_with, is_passed}
-use Rattle.pawn_pledge.specs.Replayable.{IsNotPassed, AreNumbered, IsDrawnBy, AreExtended, IsClosed, IsBooked, IsStanding}
-use Rattle.pawn_base.proofs.ListLemmas.{Each-map, DoNotFall-each}
 
 -- what is not passed on a day was not passed before
 early : (a b c d s : Bool) → (a ≡ true → c ≡ true) → (b ≡ true → d ≡ true)
@@ -37,8 +25,8 @@ grace_earlier false d x e before h = h
 
 pub not_passed-earlier : (p : PledgeValue) (d x : ℕ) → d ≤ x → IsNotPassed p x → IsNotPassed p d
 not_passed-earlier p d x before h =
-    early (nat_le x (end_of p)) (p.agreement.opening.five_days && nat_le x (end_of p + 5)) (nat_le d (end_of p)) (p.agreement.opening.five_days && nat_le d (end_of p + 5)) ((end_of p == six_months p.agreement.taken) && is_small (credit_of p.agreement.opening.kind))
-    (le_earlier d x (end_of p) before) (grace_earlier p.agreement.opening.five_days d x (end_of p + 5) before) h
+    early (nat_le x (end_of p)) (p.agreement.opening.five_days && nat_le x (end_of p + grace_days)) (nat_le d (end_of p)) (p.agreement.opening.five_days && nat_le d (end_of p + grace_days)) ((end_of p == six_months p.agreement.taken) && is_small (credit_of p.agreement.opening.kind))
+    (le_earlier d x (end_of p) before) (grace_earlier p.agreement.opening.five_days d x (end_of p + grace_days) before) h
 
 -- accepted entries are numbered
 pub accepted-numbered : (d : DebtValue) (prior es : List Entry) (n : ℕ) → n ≡ length prior + 1 → AreEntriesAccepted d prior es → AreNumbered n es

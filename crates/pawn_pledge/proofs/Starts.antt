@@ -1,23 +1,11 @@
 -- A pledge as it is taken is one that can have come about.
 use Rattle.std.proofs.Common.{◌≡◌, ℕ, ◌≤◌, ◌==◌, nat_lt, nat_le, true, false, [], ◌∷◌, None, Result, Ok, Err, refl, subst, arith}
-use Rattle.std.specs.Prelude.{IfOk}
-use Rattle.std.proofs.lemmas.Bool.Decides.{nat_tests}
-use Rattle.std.proofs.lemmas.Bool.{or_parts}
-use Rattle.pawn_base.proofs.TestLemmas.{not_below}
+use Rattle.pawn_pledge.specs.Common.{BadAmount, IfOk, credit_of, is_bad_amount, most_pence}
+use Rattle.pawn_pledge.proofs.Lemmas.{first_of-ok, nat_tests, not_below, or_parts}
 use Rattle.pawn_terms.proofs.SixMonths.{six_months-later}
-use Rattle.pawn_base.proofs.RefusalLemmas.{first_of-ok}
-use Rattle.pawn_debt.specs.declared.fault.DebtFault.TheVariants.{BadAmount}
-use Rattle.pawn_debt.specs.Due.{credit_of}
-use Rattle.pawn_debt.specs.Answers.{is_bad_amount}
-use Rattle.pawn_debt.specs.Limits.{most_pence}
 use Rattle.pawn_pledge.specs.declared.record.Issue.TheVariants as Issue
 use Rattle.pawn_pledge.specs.declared.record.Closing.TheVariants as Closing
-use Rattle.pawn_pledge.specs.Pledge.{PledgeValue, end_of}
-use Rattle.pawn_pledge.specs.declared.refusal.Refusal.{Refusal}
-use Rattle.pawn_pledge.specs.Step.{IsStarted}
-use Rattle.pawn_pledge.specs.Replayable.{IsNotPassed, IsStanding}
-use Rattle.pawn_pledge.specs.Laws.{StartsStanding}
-
+use Rattle.pawn_pledge.specs.Pledges.{IsNotPassed, IsStanding, IsStarted, PledgeValue, Refusal, StartsStanding, end_of}
 use Rattle.pawn_pledge.proofs.Replays.{period_end-late}
 
 inside-not_passed : (p : PledgeValue) (x : ℕ) → x ≤ end_of p → IsNotPassed p x

@@ -2,12 +2,7 @@
 use Rattle.std.proofs.Common.{◌≡◌, ap, sym, subst}
 use Rattle.pawn_terms.specs.Terms.{IsChecked}
 use Rattle.pawn_pledge.specs.declared.record.Agreement.{Agreement}
-use Rattle.pawn_pledge.specs.declared.command.Stamp.{Stamp}
-use Rattle.pawn_pledge.specs.declared.command.Command.{Command}
-use Rattle.pawn_pledge.specs.declared.command.Done.{Done}
-use Rattle.pawn_pledge.specs.Pledge.{PledgeValue}
-use Rattle.pawn_pledge.specs.Step.{Changed, pledge_step}
-use Rattle.pawn_pledge.specs.Laws.{AgreementStays, StaysReplayable, StaysWithin, StaysStanding, ChangesDiffer}
+use Rattle.pawn_pledge.specs.Pledges.{AgreementStays, Changed, ChangesDiffer, Command, Done, PledgeValue, Stamp, StaysReplayable, StaysStanding, StaysWithin, pledge_step}
 use Rattle.pawn_pledge.proofs.Moves.{Move, pledge_moves, Entering, Declaring, Extending, Settling}
 use Rattle.pawn_pledge.proofs.Replays.{stays-moved, within-moved, differs-moved}
 use Rattle.pawn_pledge.proofs.Growth.{ListsMoved, lists-moved}

@@ -1,13 +1,7 @@
 -- A pledge without its lists, and the limits of its fields.
 use Rattle.std.specs.Prelude.{ℕ, ◌-◌, ◌≤◌, length, IfSome}
-use Rattle.pawn_terms.specs.Terms.{IsChecked}
-use Rattle.pawn_terms.specs.Limits.{last_stamp_day}
-use Rattle.pawn_debt.specs.declared.owing.Totals.{Totals}
+use Rattle.pawn_pledge.specs.Common.{IsChecked, Totals, after_days, credit_of, last_stamp_day, most_entries, most_millionths, most_pence, owing_of, sums_of, totals_of}
 use Rattle.pawn_debt.specs.declared.owing.Owing.{Owing}
-use Rattle.pawn_debt.specs.Due.{credit_of, after_days}
-use Rattle.pawn_debt.specs.Owing.{owing_of}
-use Rattle.pawn_debt.specs.Kept.{sums_of, totals_of}
-use Rattle.pawn_debt.specs.Limits.{most_pence, most_entries, most_millionths}
 use Rattle.pawn_pledge.specs.declared.record.Booking.{Booking}
 use Rattle.pawn_pledge.specs.declared.record.Closing.{Closing}
 use Rattle.pawn_pledge.specs.declared.record.Status.{Status}

@@ -1,7 +1,6 @@
 -- What always holds of the fields of a pledge.
 use Rattle.std.specs.Prelude.{◌≡◌, ◌≤◌, length}
-use Rattle.pawn_terms.specs.Limits.{last_stamp_day}
-use Rattle.pawn_debt.specs.Due.{DebtValue, last_of}
+use Rattle.pawn_pledge.specs.Common.{DebtValue, last_of, last_stamp_day}
 use Rattle.pawn_pledge.specs.Pledge.{PledgeValue, debt_of}
 use Rattle.pawn_pledge.specs.Limits.{most_secrets}
 

@@ -1,14 +1,6 @@
 -- What holds of every pledge, whatever is sent.
 use Rattle.std.specs.Prelude.{◌≡◌, ◌≤◌, ◌<◌, ◌+◌, ◌^◌, ◌==◌, ℕ, length, true, false, List, [], ◌∷◌, Some, Ok}
-use Rattle.std.specs.List.{list_any}
-use Rattle.pawn_terms.specs.Calendar.{IsStampDay}
-use Rattle.pawn_terms.specs.declared.terms.Rates.{Rates}
-use Rattle.pawn_terms.specs.Terms.{IsChecked}
-use Rattle.pawn_base.specs.Refusals.{NoneApplies}
-use Rattle.pawn_debt.specs.declared.entry.Sort.{Sort}
-use Rattle.pawn_debt.specs.declared.entry.Sort.TheVariants.{Draw, Repay}
-use Rattle.pawn_debt.specs.Due.{due, last_of}
-use Rattle.pawn_debt.specs.Owing.{owing_of}
+use Rattle.pawn_pledge.specs.Common.{Draw, IsChecked, IsStampDay, NoneApplies, Rates, Repay, Sort, due, last_of, list_any, owing_of}
 use Rattle.pawn_pledge.specs.declared.record.Opening.{Opening}
 use Rattle.pawn_pledge.specs.declared.command.Stamp.{Stamp}
 use Rattle.pawn_pledge.specs.declared.command.Command.{Command}

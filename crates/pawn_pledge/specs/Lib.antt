@@ -15,3 +15,5 @@ pub mod Commands
 pub mod Laws
 pub mod Worked
 pub mod WorkedTexts
+pub mod Common
+pub mod Pledges

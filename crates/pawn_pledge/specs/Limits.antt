@@ -17,6 +17,10 @@ most_article_bytes = 80
 abbrev pub small_credit : ℕ
 small_credit = 7500
 
+-- how many days after its end a pledge with the five days may still be redeemed and not sold
+abbrev pub grace_days : ℕ
+grace_days = 5
+
 -- the secret that a pledge is taken with, and 100 that may be declared
 abbrev pub most_secrets : ℕ
 most_secrets = 101

@@ -1,9 +1,6 @@
 -- What is checked of a record before a pledge is made of it.
 use Rattle.std.specs.Prelude.{◌≤◌, length, IfSome}
-use Rattle.pawn_terms.specs.Limits.{last_stamp_day}
-use Rattle.pawn_base.specs.Lists.{DoNotFall, last_by, Each}
-use Rattle.pawn_debt.specs.Due.{credit_of}
-use Rattle.pawn_debt.specs.Limits.{most_pence}
+use Rattle.pawn_pledge.specs.Common.{DoNotFall, Each, credit_of, last_by, last_stamp_day, most_pence}
 use Rattle.pawn_pledge.specs.Number.{IsNumber}
 use Rattle.pawn_pledge.specs.Pledge.{PledgeValue}
 use Rattle.pawn_pledge.specs.Replayable.{IsOpening, AreIssued, AreDistinctSecrets}

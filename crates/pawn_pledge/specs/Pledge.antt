@@ -1,9 +1,7 @@
 -- A pledge as its record, and what follows from the record.
 use Rattle.std.specs.Prelude.{ℕ, ◌+◌, ◌-◌, nat_le, ◌&&◌, ◌==◌, Bool, true, false, if◌then◌else◌, List, length, slice_get, Option, None, option_map}
-use Rattle.pawn_terms.specs.Calendar.{period_end, six_months}
-use Rattle.pawn_debt.specs.Due.{DebtValue, due, credit_of}
-use Rattle.pawn_debt.specs.Owing.{total_of}
-use Rattle.pawn_pledge.specs.Limits.{small_credit}
+use Rattle.pawn_pledge.specs.Common.{DebtValue, credit_of, due, period_end, six_months, total_of}
+use Rattle.pawn_pledge.specs.Limits.{grace_days, small_credit}
 use Rattle.pawn_pledge.specs.declared.record.Issued.{Issued}
 use Rattle.pawn_pledge.specs.declared.record.Extension.{Extension}
 use Rattle.pawn_pledge.specs.declared.record.Agreement.{Agreement}
@@ -50,7 +48,7 @@ total_on p x = total_of (due (debt_of p) x)
 abbrev pub status_by : Agreement → ℕ → ℕ → Status
 status_by a ends x =
     if nat_le x ends then Status.Inside
-    else if a.opening.five_days && nat_le x (ends + 5) then Status.Grace
+    else if a.opening.five_days && nat_le x (ends + grace_days) then Status.Grace
     else if (ends == six_months a.taken) && is_small (credit_of a.opening.kind) then Status.Passed
     else Status.Realisable
 

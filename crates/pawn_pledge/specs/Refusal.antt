@@ -1,6 +1,5 @@
 -- Why a command on a pledge is refused.
-use Rattle.std.specs.Prelude.{ℕ, List, Option, Some, None, codes}
-use Rattle.pawn_debt.specs.declared.fault.DebtFault.{DebtFault}
+use Rattle.pawn_pledge.specs.Common.{DebtFault, List, None, Option, Some, codes, ℕ}
 use Rattle.pawn_debt.specs.DebtFault as debt
 use Rattle.pawn_pledge.specs.declared.refusal.Refusal.{Refusal}
 use Rattle.pawn_pledge.specs.declared.refusal.Refusal.TheVariants.{Debt, SeqTaken, SeqAhead, Held, Passed, Closed, NotRealisable, NotSmall, SecretUsed, DeclarationsFull, WrongAmount, NoBooking, BookingDay, BadWindow, PeriodOver, NotLater, ExtensionsFull}

@@ -1,16 +1,6 @@
 -- Which records can have come about by commands.
 use Rattle.std.specs.Prelude.{◌≡◌, ℕ, ◌+◌, ◌≤◌, ◌<◌, ◌==◌, false, List, [], ◌∷◌, length, Option, Some, None, IfSome}
-use Rattle.std.specs.List.{list_any}
-use Rattle.pawn_terms.specs.Calendar.{IsStampDay}
-use Rattle.pawn_terms.specs.Terms.{IsChecked}
-use Rattle.pawn_terms.specs.Limits.{last_stamp_day}
-use Rattle.pawn_base.specs.Lists.{DoNotFall, Each, last_by}
-use Rattle.pawn_debt.specs.declared.entry.Entry.{Entry}
-use Rattle.pawn_debt.specs.declared.entry.Sort.{Sort}
-use Rattle.pawn_debt.specs.declared.entry.Sort.TheVariants.{Draw, Repay}
-use Rattle.pawn_debt.specs.Due.{credit_of, last_of, AreOrdered}
-use Rattle.pawn_debt.specs.Replay.{AreEntriesAccepted}
-use Rattle.pawn_debt.specs.Limits.{most_pence, most_entries}
+use Rattle.pawn_pledge.specs.Common.{AreEntriesAccepted, AreOrdered, DoNotFall, Draw, Each, Entry, IsChecked, IsStampDay, Repay, Sort, credit_of, last_by, last_of, last_stamp_day, list_any, most_entries, most_pence}
 use Rattle.pawn_pledge.specs.declared.record.Issued.{Issued}
 use Rattle.pawn_pledge.specs.declared.record.Issue.{Issue}
 use Rattle.pawn_pledge.specs.declared.record.Extension.{Extension}

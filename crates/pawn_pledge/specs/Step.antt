@@ -1,16 +1,6 @@
 -- What a command comes to: the first refusal that applies, or an answer and the pledge after it.
 use Rattle.std.specs.Prelude.{◌≡◌, ℕ, ◌-◌, nat_lt, nat_le, ◌==◌, ◌&&◌, not, Bool, true, false, if◌then◌else◌, List, [], ◌∷◌, length, find, Option, Some, None, Result, Ok, Err, ◌⊎◌}
-use Rattle.std.specs.List.{list_any}
-use Rattle.pawn_terms.specs.declared.terms.Rates.{Rates}
-use Rattle.pawn_base.specs.Refusals.{first_of, IsSaid, IsWant}
-use Rattle.pawn_debt.specs.declared.entry.Entry.{Entry}
-use Rattle.pawn_debt.specs.declared.entry.Sort.{Sort}
-use Rattle.pawn_debt.specs.declared.entry.Sort.TheVariants.{Draw, Repay}
-use Rattle.pawn_debt.specs.declared.fault.DebtFault.{DebtFault}
-use Rattle.pawn_debt.specs.declared.fault.DebtFault.TheVariants.{EarlierDay, BadAmount}
-use Rattle.pawn_debt.specs.Due.{DebtValue, credit_of}
-use Rattle.pawn_debt.specs.Answers.{draw_answer, repay_answer, is_bad_amount}
-use Rattle.pawn_debt.specs.Limits.{most_pence}
+use Rattle.pawn_pledge.specs.Common.{BadAmount, DebtFault, DebtValue, Draw, EarlierDay, Entry, IsSaid, IsWant, Rates, Repay, Sort, credit_of, draw_answer, first_of, is_bad_amount, list_any, most_pence, repay_answer}
 use Rattle.pawn_pledge.specs.declared.record.Opening.{Opening}
 use Rattle.pawn_pledge.specs.declared.record.Issue.{Issue}
 use Rattle.pawn_pledge.specs.declared.record.Booking.{Booking}

@@ -1,14 +1,9 @@
 -- Pledges, worked out.
 use Rattle.std.specs.Prelude.{◌≡◌, ℕ, true, false, Bool, [], ◌∷◌, Option, Some, None, Result, Ok, Err, codes}
-use Rattle.std.specs.List.{repeat}
-use Rattle.pawn_terms.specs.declared.terms.Rates.{Rates}
-use Rattle.pawn_terms.specs.Terms.{rates_of}
+use Rattle.pawn_pledge.specs.Common.{BadAmount, Draw, EarlierDay, FixedSum, OverLimit, OverOwing, Rates, Repay, Sort, rates_of, repeat}
 use Rattle.pawn_terms.specs.Worked.{date}
 use Rattle.pawn_debt.specs.declared.entry.Kind.{Kind}
 use Rattle.pawn_debt.specs.declared.entry.Kind.TheVariants.{Fixed, Running}
-use Rattle.pawn_debt.specs.declared.entry.Sort.{Sort}
-use Rattle.pawn_debt.specs.declared.entry.Sort.TheVariants.{Draw, Repay}
-use Rattle.pawn_debt.specs.declared.fault.DebtFault.TheVariants.{BadAmount, FixedSum, OverLimit, OverOwing, EarlierDay}
 use Rattle.pawn_debt.specs.Worked.{free}
 use Rattle.pawn_pledge.specs.declared.record.Opening.{Opening}
 use Rattle.pawn_pledge.specs.declared.record.Issue.{Issue}

@@ -1,7 +1,5 @@
 ghost use Rattle.std.specs.Prelude.{◌≡◌, ◌≤◌, ◌↔◌, IsTrue, OnErr, IfOk, IfErr, IfSome, IfNone};
-ghost use Rattle.pawn_terms.specs.Limits.{last_stamp_day};
-ghost use Rattle.pawn_debt.specs.Due.{credit_of};
-ghost use Rattle.pawn_debt.specs.Limits.{most_pence, most_entries, most_millionths};
+ghost use Rattle.pawn_pledge.specs.Common.{credit_of, last_stamp_day, most_entries, most_millionths, most_pence};
 ghost use Rattle.pawn_pledge.specs.Brief.{brief_status, brief_owing, IsBookingWithin, IsClosingWithin, AreTotalsWithin, IsBriefWithin};
 ghost use Rattle.pawn_pledge.specs.Limits.{most_secrets, most_extensions};
 

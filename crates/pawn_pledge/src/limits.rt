@@ -12,6 +12,9 @@ pub const MOST_ARTICLE_BYTES: usize = 80;
 // The largest credit that is small, in pence: 75 pounds.
 pub(crate) const SMALL_CREDIT: u64 = 7_500;
 
+// How many days after its end a pledge with the five days may still be redeemed and not sold.
+pub(crate) const GRACE_DAYS: u32 = 5;
+
 /// The most secrets that a pledge may have: the one that it is taken with, and 100 that may be declared.
 pub const MOST_SECRETS: usize = 101;
 

@@ -1,10 +1,6 @@
 ghost use Rattle.std.specs.Prelude.{◌≡◌, ◌≤◌, ◌↔◌, IsTrue, IfSome, IfNone, IfOk};
-ghost use Rattle.pawn_terms.specs.Limits.{last_stamp_day};
-ghost use Rattle.pawn_base.specs.Lists.{DoNotFall, last_by, Each};
-ghost use Rattle.pawn_debt.specs.Kept.{IsDebtKept as IsOwed};
-ghost use Rattle.pawn_pledge.specs.Pledge.{debt_of, last_until, end_of, open_status, is_passed};
-ghost use Rattle.pawn_pledge.specs.Parts.{IsTyped, IsLimited, AreIssuedIn};
-ghost use Rattle.pawn_pledge.specs.Replayable.{IsLaterIssue, AreIssued, AreDistinctSecrets, IsDrawnBy, AreExtended, IsOverUnder, IsBooked, IsClosed, IsStanding};
+ghost use Rattle.pawn_pledge.specs.Common.{DoNotFall, Each, IsOwed, last_by, last_stamp_day};
+ghost use Rattle.pawn_pledge.specs.Pledges.{AreDistinctSecrets, AreExtended, AreIssued, AreIssuedIn, IsBooked, IsClosed, IsDrawnBy, IsLaterIssue, IsLimited, IsOverUnder, IsStanding, IsTyped, debt_of, end_of, is_passed, last_until, open_status};
 
 use crate::limits::{LAST_WINDOW, MOST_EXTENSIONS, MOST_SECRETS};
 use crate::record::{

@@ -1,8 +1,5 @@
 ghost use Rattle.std.specs.Prelude.{◌≡◌, ◌≤◌, ◌↔◌, IsTrue, Some, OnErr, IfOk, IfErr, length};
-ghost use Rattle.pawn_debt.specs.Due.{due, last_of};
-ghost use Rattle.pawn_debt.specs.Owing.{owing_of};
-ghost use Rattle.pawn_debt.specs.Kept.{IsDebtKept as IsOwed, totals_of};
-ghost use Rattle.pawn_debt.specs.Limits.{most_pence, most_millionths};
+ghost use Rattle.pawn_pledge.specs.Common.{IsOwed, due, last_of, most_millionths, most_pence, owing_of, totals_of};
 ghost use Rattle.pawn_pledge.specs.Pledge.{status_of, open_status, last_secret, live_of, end_of, debt_of};
 ghost use Rattle.pawn_pledge.specs.Step.{pledge_start, IsStarted};
 ghost use Rattle.pawn_pledge.specs.Replayable.{IsStanding};

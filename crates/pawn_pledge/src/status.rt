@@ -2,7 +2,7 @@ ghost use Rattle.std.specs.Prelude.{◌≡◌, ◌≤◌};
 ghost use Rattle.pawn_terms.specs.Limits.{last_stamp_day};
 ghost use Rattle.pawn_pledge.specs.Pledge.{is_small, status_by, status_under};
 
-use crate::limits::SMALL_CREDIT;
+use crate::limits::{GRACE_DAYS, SMALL_CREDIT};
 use crate::record::{Agreement, Closing, Status};
 use pawn_debt::Day;
 
@@ -21,7 +21,7 @@ pub(crate) fn status_by(agreement: &Agreement, ends: Day, day: Day) -> Status
     let six = ends == agreement.taken.six_months_after();
     if day.count() <= ends.count() {
         Status::Inside
-    } else if agreement.opening.five_days && day.count() <= ends.count() + 5 {
+    } else if agreement.opening.five_days && day.count() <= ends.count() + GRACE_DAYS {
         Status::Grace
     } else if six && is_small(agreement.opening.kind.credit()) {
         Status::Passed

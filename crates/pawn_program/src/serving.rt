@@ -3,7 +3,7 @@ ghost use Rattle.std.specs.Prelude.{◌≡◌, ◌+◌, false};
 ghost use Rattle.pawn_host.specs.Ends.{reads, left_of};
 ghost use Rattle.pawn_host.specs.Keeps.{StaysOpen, Serves};
 ghost use Rattle.pawn_host.specs.Session.{IsSession, IsWithinMost};
-ghost use Rattle.pawn_view.specs.Ends.{write_failed, written_bytes};
+ghost use Rattle.pawn_writing.specs.Ends.{write_failed, written_bytes};
 ghost use Rattle.pawn_program.specs.Clock.{GivesDated};
 ghost use Rattle.pawn_program.specs.Serving.{AreServed};
 

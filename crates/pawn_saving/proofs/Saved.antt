@@ -1,6 +1,6 @@
 -- A change is saved: a transaction that is lent and goes well, and a commit.
 use Rattle.std.proofs.Common.{◌≡◌, ◌≢◌, ◌⊎◌, inl, inr, ◌≤◌, ◌<◌, true, false, Result, Ok, Err, IsTrue, refl, sym, ap, subst, ◌∙◌, arith}
-use Rattle.pawn_saving.specs.Common.{Database, HasCleanDisk, IsRolledBack, Shows, State, Survives, Trees, CanSave, with_change, Host, rows, GoesOn, IsFitting, IsLeftBy, Of, Saves, IsSound, Change, SaveError, IsLent, HoldSound, IsWhole, Keeps, Leaves, keeping_by, HoldHost, StandsFor}
+use Rattle.pawn_saving.specs.Common.{Database, HasCleanDisk, IsRolledBack, Shows, State, Survives, Trees, CanSave, with_change, Host, rows, GoesOn, IsFitting, IsLeftBy, OfHost, Saves, IsSound, Change, SaveError, IsLent, HoldSound, IsWhole, Keeps, Leaves, keeping_by, HoldHost, StandsFor}
 use Rattle.sqlite.specs.Steps.{FailsToCommit}
 use Rattle.sqlite.specs.declared.error.Error.{Error}
 use Rattle.pawn_book.specs.declared.fault.SaveError.TheVariants as Save
@@ -35,7 +35,7 @@ pub record IsBegun (a begun : State) : Type 0 where
   pub left : (trees : _) → begun.may_leave trees → a.may_leave trees
 
 module _ {K : Type 0} (state : K → State) (old new : K) (begun lent : State) (change : Change) (was : IsBegun (state old) begun)
-    (can : IsTrue (state old).is_open → Of (keeping_by state) old old (λ h. CanSave h change)) where
+    (can : IsTrue (state old).is_open → OfHost (keeping_by state) old old (λ h. CanSave h change)) where
   may : HasCleanDisk begun → (h : Host) → IsSound h → Keeps (state old) h → IsTrue begun.is_open → CanSave h change × StandsFor begun.now h
   may clean h sound k now = (can (was.was_open now) (was.clean clean) h sound k, subst (λ d. StandsFor d h) (sym was.now) (k.stands (was.was_open now)))
 

@@ -13,7 +13,7 @@ pub use Rattle.pawn_pledge.specs.declared.record.Agreement.{Agreement}
 pub use Rattle.pawn_book.specs.BookStep.{changed_book, filled_book, made_book, put_from}
 pub use Rattle.pawn_book.specs.Changes.{CanSave, Continues, IsUnfilled, book_number, with_change}
 pub use Rattle.pawn_book.specs.HostStep.{book_rows, booking_rows, pledge_rows, with_book}
-pub use Rattle.pawn_book.specs.Keeping.{GoesOn, IsFitting, IsLeftBy, Of, Saves}
+pub use Rattle.pawn_book.specs.Keeping.{GoesOn, IsFitting, IsLeftBy, OfHost, Saves}
 pub use Rattle.pawn_book.specs.Sound.{AreSound, HasTextsAndWords}
 pub use Rattle.pawn_book.specs.declared.change.Change.{Change}
 pub use Rattle.pawn_book.specs.declared.change.Change.TheVariants.{AddTerms, ImportBook, MakeBook, PutPledge}

@@ -1,5 +1,5 @@
 ghost use Rattle.std.specs.Prelude.{◌≡◌, ◌≢◌, false, is_ok};
-ghost use Rattle.pawn_saving.specs.Common.{state, CanSave, Of, Saves, Lends, keeping_by};
+ghost use Rattle.pawn_saving.specs.Common.{state, CanSave, OfHost, Saves, Lends, keeping_by};
 ghost use Rattle.pawn_book.specs.declared.fault.SaveError.TheVariants as Save;
 ghost use Rattle.pawn_saving.specs.Counted.{WritesChange, WritesRows};
 
@@ -68,7 +68,7 @@ pub(crate) fn write_change<S: Alter>(
 /// then have more counted rows than its limit, and `Memory` or `Store` if the database failed. It is also `Store` if a
 /// transaction is under way already.
 pub fn save<S: Alter>(conn: &mut Connection<S>, change: &Change) -> Result<(), SaveError>
-    requires can_save { (keeping_by (λ c. state S.Store c)).serves conn.old → Of
+    requires can_save { (keeping_by (λ c. state S.Store c)).serves conn.old → OfHost
         (keeping_by (λ c. state S.Store c)) conn.old conn.old (λ h. CanSave h change.now) }
     ensures ended { conn.old.in_transaction ≡ false → conn.new.in_transaction ≡ false }
     ensures saves { Saves (keeping_by (λ c. state S.Store c)) conn.old conn.new change.now result }

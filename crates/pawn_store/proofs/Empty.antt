@@ -1,12 +1,9 @@
 -- The empty host is sound.
 use Rattle.std.proofs.Common.{◌≡◌, ◌∙◌, ℕ, List, [], ◌∷◌, map, length, refl, sym, ap, arith, sum_by}
-use Rattle.std.specs.FinMap.{entries, get, empty, get-empty, len-empty, len-entries}
+use Rattle.pawn_store.specs.Common.{BookValue, book_rows, empty, empty_host, entries, get, get-empty, len-empty, len-entries, rows}
 use Rattle.std.specs.Ordering.{nat_cmp}
 use Rattle.pawn_base.proofs.ListLemmas.{no_elements}
-use Rattle.pawn_book.specs.BookStep.{BookValue}
-use Rattle.pawn_book.specs.HostStep.{book_rows, rows}
 use Rattle.pawn_book.proofs.Sounds.{absurd_none}
-use Rattle.pawn_opening.specs.Opened.{empty_host}
 use Rattle.pawn_store.specs.Running.{EmptyHostIsSound}
 
 no_rows : (limit : ℕ) → rows (empty_host limit) ≡ 0

@@ -1,26 +1,13 @@
 -- The rows of one book are those of its own content.
 use Rattle.std.proofs.Common.{◌≡◌, ◌≢◌, ◌++◌, ◌==◌, ℕ, ◌+◌, List, [], ◌∷◌, map, filter, flat_map, Bool, true, false, cond, ◌&&◌, Option, Some, None, Ok, Err, refl, sym, ap, subst, ◌∙◌, arith, IsPermutation}
-use Rattle.std.specs.List.{AllByRecursion}
-use Rattle.std.specs.FinMap.{entries, get}
+use Rattle.pawn_store.specs.Common.{AllByRecursion, BookValue, Database, Event, Holds, Host, Mark, Request, Row, Stamp, StandsFor, Table, Trees, at_book, column, entries, get, host_after_event, is_at, no_memory, no_store, of_books, of_pledges, read_as, request_in, run_host}
 use Rattle.std.proofs.lemmas.Bool.Decides.{nat_tests}
 use Rattle.std.proofs.lemmas.List.Sorted.{IsPermutation-trans, IsPermutation-sym}
 use Rattle.sqlite_trees.proofs.ListLemmas.{IsPermutation-filter}
-use Rattle.sqlite.specs.Order.{Row, column}
-use Rattle.sqlite.specs.Tree.{Trees}
-use Rattle.sqlite.specs.Table.{Table}
-use Rattle.sqlite.specs.Effect.{Database}
-use Rattle.one_table.specs.Listing.{Holds}
 use Rattle.pawn_pledge.specs.Pledge.{PledgeValue}
-use Rattle.pawn_pledge.specs.declared.command.Stamp.{Stamp}
 use Rattle.pawn_terms.specs.declared.terms.Rates.{Rates}
-use Rattle.pawn_book.specs.declared.request.Request.{Request}
-use Rattle.pawn_book.specs.BookStep.{BookValue}
-use Rattle.pawn_book.specs.HostStep.{Host}
-use Rattle.pawn_book.specs.Runs.{Event, Mark, read_as, no_memory, no_store, run_host, host_after_event, request_in}
 use Rattle.pawn_book.proofs.SlotRuns.{other_books_stay}
-use Rattle.pawn_tables.specs.At.{is_at, at_book}
 use Rattle.pawn_tables.specs.Rows.{number, book_row, terms_listed, placed_from, terms_cells, pledge_listed, entries_listed, secrets_listed, booking_listed, totals_listed, extensions_listed, under, entry_cells, secret_cells, extension_cells, number_in_book}
-use Rattle.pawn_tables.specs.StandsFor.{StandsFor, of_books, of_pledges}
 use Rattle.pawn_tables.proofs.RowsUnderKey.{AreUnder, equals, rows_at, of_one_book, filter-flat_map, flat_none}
 use Rattle.pawn_tables.proofs.PledgeReads.{under_map, under_placed, under_booked}
 use Rattle.pawn_store.specs.OtherRows.{AreElsewhere, HaveSameRows, IsElsewhere, OtherRowsStay, OtherRowsStayInRuns, rows_under_book}

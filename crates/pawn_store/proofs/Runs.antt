@@ -2,22 +2,8 @@
 use Rattle.std.proofs.Common.{◌≡◌, ◌∙◌, ◌++◌, ℕ, List, [], refl, sym, subst, Result, Ok, Err, inl}
 use Rattle.std.specs.Prelude.{All, Option}
 use Rattle.std.proofs.lemmas.List.Elements.{All-append, All-nil}
-use Rattle.sqlite.specs.Tree.{Trees}
-use Rattle.sqlite.specs.State.{State}
-use Rattle.sqlite_wal.specs.Recovery.{Image}
-use Rattle.pawn_pledge.specs.declared.command.Stamp.{Stamp}
-use Rattle.pawn_book.specs.HostStep.{Host}
-use Rattle.pawn_book.specs.Sound.{IsSound}
-use Rattle.pawn_tables.specs.Keeps.{IsWhole, Keeps, Leaves}
+use Rattle.pawn_store.specs.Common.{Ended, Given, GoesBy, Host, Image, IoFault, IsLeftByRun, IsMarked, IsSession, IsSound, IsWhole, Item, Keeps, Kept, Leaves, OpensAs, Stamp, StandsIn, Start, State, Trees, host_after_run}
 use Rattle.pawn_tables.proofs.OneHost.{tables_stand_for_one_host}
-use Rattle.pawn_opening.specs.FilesStand.{StandsIn}
-use Rattle.pawn_opening.specs.Opened.{OpensAs}
-use Rattle.pawn_host.specs.declared.session.Ended.{Ended}
-use Rattle.pawn_host.specs.declared.session.IoFault.{IoFault}
-use Rattle.pawn_host.specs.Crashes.{IsLeftByRun}
-use Rattle.pawn_host.specs.Keeps.{Start, Kept, GoesBy}
-use Rattle.pawn_host.specs.Run.{Item, IsMarked, host_after_run}
-use Rattle.pawn_host.specs.Session.{Given, IsSession}
 use Rattle.pawn_host.proofs.CrashLemmas.{crash_leaves_whole, host_after-append, left_by-append, run_wider}
 use Rattle.pawn_host.proofs.HeadlineLemmas.{runs_answer_alone}
 use Rattle.pawn_store.specs.Running.{ActsOverTables, HasAnswered, HoldsSession, Reopens, acted_items, kept_in, start_at}

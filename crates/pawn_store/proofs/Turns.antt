@@ -1,12 +1,8 @@
 -- Connections in turn, behind each of which the keeper is asked.
 use Rattle.std.proofs.Common.{ℕ, ◌+◌, Option, refl}
-use Rattle.pawn_pledge.specs.declared.command.Stamp.{Stamp}
-use Rattle.pawn_book.specs.HostStep.{Host}
-use Rattle.pawn_book.specs.Keeping.{GoesOn, Keeping, Of, Reads}
+use Rattle.pawn_store.specs.Common.{AreServed, Host, Serves, Service, Stamp, StaysOpen, kept_by, service_keep, start_of}
+use Rattle.pawn_book.specs.Keeping.{GoesOn, Keeping, OfHost, Reads}
 use Rattle.pawn_book.proofs.Reading.{on_then}
-use Rattle.pawn_host.specs.declared.service.Service.{Service}
-use Rattle.pawn_host.specs.Keeps.{Serves, StaysOpen, kept_by, service_keep, start_of}
-use Rattle.pawn_program.specs.Serving.{AreServed}
 use Rattle.pawn_program.proofs.ServingLemmas.{served_on, served_then}
 
 module _ {K : Type 0} (k : Keeping K) {first a b : Service K} {new : K} {P : Host → Type 0} (stays : StaysOpen k first a) (more : StaysOpen k a b) (reads : Reads k (service_keep b) new P) where
@@ -15,7 +11,7 @@ module _ {K : Type 0} (k : Keeping K) {first a b : Service K} {new : K} {P : Hos
 
   pub served_turn : {S : Type 0} (steps : S → Option Stamp → S → Type 0) (from mid to : S) (answered further : ℕ)
       → Serves k first a (λ start. AreServed steps from mid start answered) → Serves k a b (λ start. AreServed steps mid to start further)
-      → Of k (service_keep first) new (λ h. AreServed steps from to (start_of k first h) (answered + further) (record { stands = k.stands new; leaves = k.leaves new }))
+      → OfHost k (service_keep first) new (λ h. AreServed steps from to (start_of k first h) (answered + further) (record { stands = k.stands new; leaves = k.leaves new }))
   served_turn steps from mid to answered further so then honest h sound at =
       let before = reads.on.past honest in
       let past = so (more.on.past before) h sound at in

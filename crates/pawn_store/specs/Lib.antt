@@ -1,2 +1,3 @@
 pub mod OtherRows
 pub mod Running
+pub mod Common

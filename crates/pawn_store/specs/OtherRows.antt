@@ -1,19 +1,8 @@
 -- The rows of one book: no request on another book changes them.
 use Rattle.std.specs.Prelude.{ℕ, ◌≡◌, ◌≢◌, All, List, [], ◌∷◌, filter, map, Option, None, Some, IsPermutation}
-use Rattle.std.specs.List.{AllByRecursion}
-use Rattle.sqlite.specs.Order.{Row}
-use Rattle.sqlite.specs.Tree.{Trees}
-use Rattle.sqlite.specs.Table.{Table}
-use Rattle.sqlite.specs.Effect.{Database}
-use Rattle.one_table.specs.Listing.{columns_of}
-use Rattle.pawn_pledge.specs.declared.command.Stamp.{Stamp}
-use Rattle.pawn_book.specs.declared.request.Request.{Request}
-use Rattle.pawn_book.specs.HostStep.{Host}
+use Rattle.pawn_store.specs.Common.{AllByRecursion, Database, Event, Host, Request, Row, Stamp, StandsFor, Table, Trees, at_book, columns_of, request_in, run_host}
 use Rattle.pawn_book.specs.Plans.{next_host}
-use Rattle.pawn_book.specs.Runs.{Event, request_in, run_host}
-use Rattle.pawn_tables.specs.At.{at_book}
 use Rattle.pawn_tables.specs.Schema.{books, terms, pledges, entries, secrets, bookings, totals, extensions, bookings_tree, books_tree, entries_tree, extensions_tree, pledges_tree, secrets_tree, terms_tree, totals_tree}
-use Rattle.pawn_tables.specs.StandsFor.{StandsFor}
 
 -- the tables with rows of books: all but meta
 abbrev pub book_tables : List Table

@@ -1,27 +1,9 @@
 -- What it means that requests were answered over the tables of a store.
 use Rattle.std.specs.Prelude.{◌≡◌, ◌++◌, ℕ, All, List, [], Option, Result, Ok, Err}
-use Rattle.sqlite.specs.Tree.{Trees}
+use Rattle.pawn_store.specs.Common.{AreServed, Ended, Given, HasCleanDisk, HoldHost, HoldsDatabase, Host, Image, IoFault, IsLeftByRun, IsLeftWhole, IsMarked, IsRun, IsSession, IsSound, Item, Keeps, Kept, Leaves, OpensAs, Service, Stamp, Start, State, Trees, empty_host, host_after_run, items_of, replies, service_keep, state}
 use Rattle.sqlite_trees.specs.declared.store.Store.{Ghosts}
-use Rattle.sqlite.specs.Held.{state}
-use Rattle.sqlite.specs.State.{State, HasCleanDisk}
-use Rattle.sqlite.specs.Files.{HoldsDatabase}
-use Rattle.sqlite_wal.specs.Recovery.{Image}
-use Rattle.pawn_pledge.specs.declared.command.Stamp.{Stamp}
-use Rattle.pawn_book.specs.HostStep.{Host}
-use Rattle.pawn_book.specs.Sound.{IsSound}
-use Rattle.pawn_tables.specs.StandsFor.{HoldHost}
-use Rattle.pawn_tables.specs.Keeps.{Keeps, Leaves}
 use Rattle.pawn_table_keeper.specs.declared.keeper.TableKeep.{TableKeep}
-use Rattle.pawn_opening.specs.Opened.{OpensAs, empty_host}
-use Rattle.pawn_host.specs.declared.service.Service.{Service}
-use Rattle.pawn_host.specs.declared.session.Ended.{Ended}
-use Rattle.pawn_host.specs.declared.session.IoFault.{IoFault}
-use Rattle.pawn_host.specs.Crashes.{IsLeftByRun, IsLeftWhole}
 use Rattle.pawn_host.specs.Headline.{AnswerAlone}
-use Rattle.pawn_host.specs.Keeps.{Start, Kept, IsRun, service_keep}
-use Rattle.pawn_host.specs.Run.{Item, IsMarked, host_after_run, replies}
-use Rattle.pawn_host.specs.Session.{Given, IsSession}
-use Rattle.pawn_program.specs.Serving.{AreServed, items_of}
 
 -- the store under a service
 abbrev pub store_of : {S : Type 0} (ghosts : Ghosts S) → Service (TableKeep S ghosts) → State

@@ -1,18 +1,9 @@
 //! Opening stores as keepers, and closing them.
 ghost use Rattle.std.specs.Prelude.{◌≡◌, ◌≤◌, None, false, true, IfErr, IfOk, IfSome, IsTrue};
-ghost use Rattle.sqlite.specs.Files.{IsCleanLeft, file_state};
-ghost use Rattle.sqlite.specs.Held.{state};
-ghost use Rattle.sqlite.specs.State.{HasCleanDisk};
+ghost use Rattle.pawn_store.specs.Common.{AreClean, AreClosedFor, HasCleanDisk, Host, IsBlank, IsCleanLeft, IsLeftUnclosed, Keeps, OpensAs, OpensFound, RefusesHeld, StandsIn, empty_host, file_state, image_at, state};
 ghost use Rattle.sqlite.specs.Steps.{over_memory};
 ghost use Rattle.sqlite_std_file.specs.File.{IsFresh};
-ghost use Rattle.sqlite_wal.specs.Files.{image_at};
-ghost use Rattle.sqlite_wal.specs.Reads.{AreClean};
-ghost use Rattle.pawn_book.specs.HostStep.{Host};
 ghost use Rattle.pawn_book.specs.Limits.{most_rows};
-ghost use Rattle.pawn_tables.specs.Keeps.{Keeps};
-ghost use Rattle.pawn_opening.specs.Closed.{AreClosedFor, IsLeftUnclosed};
-ghost use Rattle.pawn_opening.specs.FilesStand.{IsBlank, OpensFound, RefusesHeld, StandsIn};
-ghost use Rattle.pawn_opening.specs.Opened.{OpensAs, empty_host};
 ghost use Rattle.pawn_opening.specs.Refusing.{IsStoreFault};
 ghost use Rattle.pawn_store.specs.Running.{Reopens};
 

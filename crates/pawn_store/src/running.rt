@@ -1,9 +1,6 @@
 //! Answering requests over the tables of a store: a list of them, a stream, or connections.
 ghost use Rattle.std.specs.Prelude.{◌≡◌, ◌+◌, ◌≤◌, false, IfOk, IsTrue, OnErr, map};
-ghost use Rattle.pawn_host.specs.Ends.{left_of, reads};
-ghost use Rattle.pawn_host.specs.Keeps.{answer_bytes, service_operator};
-ghost use Rattle.pawn_program.specs.Clock.{GivesDated};
-ghost use Rattle.pawn_view.specs.Ends.{write_failed, written_bytes};
+ghost use Rattle.pawn_store.specs.Common.{GivesDated, answer_bytes, left_of, reads, service_operator, write_failed, written_bytes};
 ghost use Rattle.pawn_store.specs.Running.{HoldsSession, OverTables, RunsItems, ServesConnections, store_of};
 
 use pawn_host::{Answer, Ended, IoFault, Reading, Service, Stamp, Writing};

@@ -1,23 +1,11 @@
 -- What is shown for receipts, one after the other.
 use Rattle.std.proofs.Common.{◌≡◌, ◌∙◌, ℕ, zero, suc, ◌+◌, ◌-◌, ◌<◌, ◌≤◌, arith, Bool, true, false, List, [], ◌∷◌, ◌++◌, length, take, drop, get_or, map, Option, Some, None, codes, refl, sym, ap, subst, if◌then◌else◌, Result}
-use Rattle.std.specs.Prelude.{option_map, not}
+use Rattle.pawn_view.specs.Common.{BriefFields, End, Front, KeepError, PledgeValue, Puts, PutsShare, Receipt, ViewFault, Whole, Writing, are_unknown, brief_of, call_end, ending_of, is_live, live_at, not, only_live, option_map, write_failed}
 use Rattle.std.proofs.lemmas.Grind.{flat_map-append}
 use Rattle.std.proofs.lemmas.List.{take_more, take_rest, append-nil, map-append}
-use Rattle.pawn_pledge.specs.declared.receipt.Receipt.{Receipt}
-use Rattle.pawn_pledge.specs.Pledge.{PledgeValue}
-use Rattle.pawn_pledge.specs.declared.brief.BriefFields.{BriefFields}
-use Rattle.pawn_pledge.specs.Brief.{brief_of}
-use Rattle.pawn_book.specs.BookStep.{is_live, only_live, live_at, are_unknown}
-use Rattle.pawn_book.specs.Visits.{End, Front, Whole, call_end}
 use Rattle.pawn_book.proofs.VisitLemmas.{cut_at}
-use Rattle.pawn_view.specs.declared.writing.Writing.{Writing}
-use Rattle.pawn_book.specs.declared.fault.KeepError.{KeepError}
-use Rattle.pawn_view.specs.declared.fault.ViewFault.{ViewFault}
-use Rattle.pawn_view.specs.Ends.{write_failed, Puts}
-use Rattle.pawn_view.specs.Fault.{ending_of}
-use Rattle.pawn_view.specs.Text.{statement_text, shown_text, further_texts, presented_text}
-use Rattle.pawn_view.specs.Shown.{PutsShare, Shows, shown_of}
-use Rattle.pawn_view.proofs.ShareLemmas.{share_puts, share_more, share_then, writings_in_turn}
+use Rattle.pawn_view.specs.Views.{Shows, further_texts, presented_text, shown_of, shown_text, statement_text}
+use Rattle.pawn_writing.proofs.ShareLemmas.{share_puts, share_more, share_then, writings_in_turn}
 use Rattle.pawn_view.proofs.StatementLemmas.{some_same, shows_ended}
 
 -- ---- whether one of them is live

@@ -1,24 +1,11 @@
 -- A day's sheet, put item by item.
 use Rattle.std.proofs.Common.{◌≡◌, ◌∙◌, ℕ, false, List, [], ◌∷◌, Option, Some, None, Result, sym, ap, subst, inl, inr}
-use Rattle.std.specs.Prelude.{codes, option_map}
-use Rattle.pawn_pledge.specs.Pledge.{PledgeValue}
+use Rattle.pawn_view.specs.Common.{BookValue, End, Flow, Handed, IsShare, KeepError, PledgeValue, Puts, PutsLine, PutsShare, SheetItem, ViewFault, Writing, book_head, call_end, codes, day_sheet, ending_of, option_map, pledges_of, write_failed}
 use Rattle.pawn_book.specs.declared.change.BookHead.{BookHead}
-use Rattle.pawn_book.specs.declared.fault.KeepError.{KeepError}
-use Rattle.pawn_book.specs.declared.sheet.SheetItem.{SheetItem}
-use Rattle.pawn_book.specs.declared.visit.Flow.{Flow}
-use Rattle.pawn_book.specs.BookStep.{BookValue, book_head}
-use Rattle.pawn_book.specs.Keeping.{pledges_of}
-use Rattle.pawn_book.specs.Sheet.{day_sheet}
-use Rattle.pawn_book.specs.Visits.{End, Handed, IsShare, call_end}
-use Rattle.pawn_view.specs.declared.fault.ViewFault.{ViewFault}
 use Rattle.pawn_view.specs.declared.sheets.SheetLines.{SheetLines}
-use Rattle.pawn_view.specs.declared.writing.Writing.{Writing}
-use Rattle.pawn_view.specs.Ends.{Puts, write_failed}
-use Rattle.pawn_view.specs.Fault.{ending_of}
 use Rattle.pawn_view.specs.Sheets.{PutsItem, book_sheet, day_lines, sheet_line}
-use Rattle.pawn_view.specs.Shown.{PutsLine, PutsShare, Shows}
-use Rattle.pawn_view.specs.Text.{day_line}
-use Rattle.pawn_view.proofs.ShareLemmas.{lines_share, share_puts, share_then, writings_in_turn}
+use Rattle.pawn_view.specs.Views.{Shows, day_line}
+use Rattle.pawn_writing.proofs.ShareLemmas.{lines_share, share_puts, share_then, writings_in_turn}
 use Rattle.pawn_view.proofs.StatementLemmas.{shows_ended, some_same}
 
 -- to what a visitor holds, its items were handed as to a writer

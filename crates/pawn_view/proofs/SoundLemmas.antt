@@ -1,19 +1,10 @@
 -- What the pledges of a sound host are.
 use Rattle.std.proofs.Common.{◌≡◌, ◌∙◌, ℕ, ◌≤◌, arith, Some, sym, ap, subst}
-use Rattle.std.specs.Prelude.{max}
-use Rattle.pawn_debt.specs.Due.{due, last_of, AreOrdered}
-use Rattle.pawn_debt.specs.Owing.{owing_of}
+use Rattle.pawn_view.specs.Common.{AreOrdered, Closing, Host, IsSound, Open, PledgeValue, Redeemed, Sold, brief_of, brief_owing, debt_of, due, last_of, max, owing_of}
 use Rattle.pawn_debt.proofs.EntryLemmas.{due-from-last}
-use Rattle.pawn_pledge.specs.declared.record.Closing.{Closing}
-use Rattle.pawn_pledge.specs.declared.record.Closing.TheVariants.{Open, Redeemed, Sold}
-use Rattle.pawn_pledge.specs.Pledge.{PledgeValue, debt_of}
-use Rattle.pawn_pledge.specs.Brief.{brief_of, brief_owing}
 use Rattle.pawn_pledge.specs.Replayable.{IsReplayable, IsClosed}
-use Rattle.pawn_book.specs.HostStep.{Host}
-use Rattle.pawn_book.specs.Sound.{IsSound}
 use Rattle.pawn_book.proofs.Sounds.{standing_at}
-use Rattle.pawn_view.specs.Text.{shown_day}
-use Rattle.pawn_view.specs.Shown.{open_or_last, pledge_at}
+use Rattle.pawn_view.specs.Views.{open_or_last, pledge_at, shown_day}
 
 -- what a statement rests on: the day that is shown, and what is owed on it
 pub record IsTold (p : PledgeValue) : Type 0 where

@@ -1,28 +1,10 @@
 -- A statement, put part by part.
 use Rattle.std.proofs.Common.{◌≡◌, ◌∙◌, ℕ, Bool, true, false, List, ◌++◌, Option, Some, None, Result, Ok, Err, refl, sym, ap, subst}
-use Rattle.std.specs.List.{flat_map}
-use Rattle.std.specs.Prelude.{max, option_map, unwrap_or}
-use Rattle.pawn_debt.specs.declared.entry.Entry.{Entry}
-use Rattle.pawn_debt.specs.declared.owing.Owing.{Owing}
-use Rattle.pawn_debt.specs.Due.{due}
-use Rattle.pawn_debt.specs.Owing.{owing_of}
-use Rattle.pawn_pledge.specs.declared.record.Extension.{Extension}
-use Rattle.pawn_pledge.specs.Pledge.{PledgeValue, end_of, debt_of, status_of}
-use Rattle.pawn_pledge.specs.declared.brief.BriefFields.{BriefFields}
-use Rattle.pawn_pledge.specs.Brief.{brief_of, brief_status, brief_owing}
-use Rattle.pawn_book.specs.declared.visit.Flow.{Flow}
-use Rattle.pawn_book.specs.declared.fault.KeepError.{KeepError}
+use Rattle.pawn_view.specs.Common.{BriefFields, End, Entry, Extension, Flow, Front, Handed, IsShare, KeepError, Owing, PledgeValue, PutFront, Puts, PutsLine, PutsShare, ViewFault, Whole, Writing, Written, brief_of, brief_owing, brief_status, call_end, debt_of, due, end_of, ending_of, entries_of, extensions_of, flat_map, max, option_map, owing_of, status_of, unwrap_or, write_failed}
 use Rattle.pawn_book.specs.declared.fault.KeepError.TheVariants as error
-use Rattle.pawn_book.specs.Visits.{End, Front, Handed, IsShare, Whole, call_end}
-use Rattle.pawn_book.specs.Keeping.{entries_of, extensions_of}
-use Rattle.pawn_view.specs.declared.writing.Writing.{Writing}
-use Rattle.pawn_view.specs.declared.fault.ViewFault.{ViewFault}
-use Rattle.pawn_view.specs.Ends.{write_failed, Written, PutFront, Puts}
-use Rattle.pawn_view.specs.Fault.{ending_of}
-use Rattle.pawn_view.specs.Text.{first_lines, state_lines, state_on, shown_day, statement_text, extended_line, entry_line}
-use Rattle.pawn_view.specs.Shown.{PutsLine, PutsShare, Shows, open_or_last}
-use Rattle.pawn_view.proofs.PutLemmas.{front-more, now_by}
-use Rattle.pawn_view.proofs.ShareLemmas.{lines_share, share_all, share_puts, share_more, share_then, writings_in_turn}
+use Rattle.pawn_view.specs.Views.{Shows, entry_line, extended_line, first_lines, open_or_last, shown_day, state_lines, state_on, statement_text}
+use Rattle.pawn_writing.proofs.PutLemmas.{front-more, now_by}
+use Rattle.pawn_writing.proofs.ShareLemmas.{lines_share, share_all, share_puts, share_more, share_then, writings_in_turn}
 use Rattle.pawn_view.proofs.SoundLemmas.{IsTold}
 
 -- the lines of a brief above the extensions, and below them

@@ -1,7 +1,7 @@
-pub mod Ends
-pub mod Fault
 pub mod Text
 pub mod Shown
 pub mod Sheets
 pub mod Worked
 pub mod WorkedSheets
+pub mod Common
+pub mod Views

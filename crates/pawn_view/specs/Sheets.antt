@@ -1,16 +1,7 @@
 -- The text of a day's sheet, and the visitor that writes it.
 use Rattle.std.specs.Prelude.{ℕ, List, ◌++◌, Option, ◌≡◌, codes, decimal, option_map}
-use Rattle.std.specs.List.{flat_map}
-use Rattle.std.specs.FinMap.{get}
-use Rattle.pawn_pledge.specs.Pledge.{PledgeValue}
-use Rattle.pawn_book.specs.declared.sheet.SheetItem.{SheetItem}
-use Rattle.pawn_book.specs.declared.sheet.SheetItem.TheVariants.{Window, Confirmed, AskedHead, Asked, EndsHead, Ends}
-use Rattle.pawn_book.specs.declared.visit.Flow.{Flow}
-use Rattle.pawn_book.specs.BookStep.{BookValue}
-use Rattle.pawn_book.specs.HostStep.{Host}
-use Rattle.pawn_book.specs.Sheet.{day_sheet}
+use Rattle.pawn_view.specs.Common.{Asked, AskedHead, BookValue, Confirmed, Ends, EndsHead, Flow, Host, PledgeValue, PutsLine, SheetItem, Window, day_sheet, flat_map, get}
 use Rattle.pawn_view.specs.declared.sheets.SheetLines.{SheetLines}
-use Rattle.pawn_view.specs.Shown.{PutsLine}
 use Rattle.pawn_view.specs.Text.{day_line, number_line}
 
 -- a window's line: how many come, and how many may

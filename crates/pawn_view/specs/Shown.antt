@@ -1,36 +1,15 @@
 -- What a call that writes a text has written, and what it answers.
 use Rattle.std.specs.Prelude.{ℕ, false, max, List, [], Option, Some, None, Result, Ok, Err, ◌≡◌, map, option_map, unwrap_or, if◌then◌else◌}
-use Rattle.std.specs.FinMap.{get}
-use Rattle.pawn_pledge.specs.declared.receipt.Receipt.{Receipt}
-use Rattle.pawn_pledge.specs.declared.record.Closing.{Closing}
-use Rattle.pawn_pledge.specs.declared.record.Closing.TheVariants.{Open, Redeemed, Sold}
-use Rattle.pawn_pledge.specs.Pledge.{PledgeValue}
-use Rattle.pawn_book.specs.declared.visit.Flow.{Flow}
+use Rattle.pawn_view.specs.Common.{Closing, End, Flow, Front, Host, Keeping, Open, PledgeValue, PutFront, Puts, Receipt, Redeemed, Share, Sold, ViewFault, Whole, Writing, Written, are_unknown, get, live_at, pledge_in, write_failed}
 use Rattle.pawn_book.specs.declared.visit.Flow.TheVariants.{Go, Stop}
-use Rattle.pawn_book.specs.BookStep.{pledge_in, live_at, are_unknown}
-use Rattle.pawn_book.specs.HostStep.{Host}
-use Rattle.pawn_book.specs.Keeping.{Keeping}
-use Rattle.pawn_book.specs.Visits.{End, Front, Whole}
-use Rattle.pawn_view.specs.declared.writing.Writing.{Writing}
-use Rattle.pawn_view.specs.declared.fault.ViewFault.{ViewFault}
-use Rattle.pawn_view.specs.declared.fault.ViewFault.TheVariants as fault
-use Rattle.pawn_view.specs.Ends.{PutFront, Written, Puts, Share, write_failed}
+use Rattle.pawn_writing.specs.declared.fault.ViewFault.TheVariants as fault
 use Rattle.pawn_view.specs.Text.{statement_text, presented_text}
-
--- a writer as a visitor: it writes a line for each item, and stops once it has failed
-abbrev pub PutsLine : {W T : Type 0} → (W → Option (List ℕ)) → (T → List ℕ) → Writing W → T → Flow → Writing W → Type 0
-PutsLine contents line v x flow w = Puts contents v (line x) w × (flow ≡ (if write_failed w then Stop else Go))
 
 -- the day for which a statement is given, if a closed pledge's last change was its closing
 abbrev pub open_or_last : Closing → ℕ → ℕ → ℕ
 open_or_last Open last day = max day last
 open_or_last (Redeemed closed paid) last day = last
 open_or_last (Sold closed net) last day = last
-
--- the beginning of the text was put; it is the whole text if the calls on the way succeeded and the writer has not
--- failed
-abbrev pub PutsShare : {W : Type 0} → (W → Option (List ℕ)) → Writing W → List ℕ → End → Writing W → Type 0
-PutsShare contents old text end new = Share (Puts contents) write_failed old text end new
 
 -- the pledge of a number in a book of the host
 abbrev pub pledge_at : Host → ℕ → ℕ → Option PledgeValue
@@ -60,7 +39,3 @@ Shows contents old text (Err fault.Write) new = (t : List ℕ) × (text ≡ Some
 Shows contents old text (Err fault.Memory) new = PutFront contents old (unwrap_or text []) new × (write_failed new ≡ false)
 Shows contents old text (Err fault.Store) new = PutFront contents old (unwrap_or text []) new × (write_failed new ≡ false)
 Shows contents old text (Err fault.Unknown) new = (text ≡ None) × (new ≡ old)
-
--- over a steady keeper no text is refused by a fault of the store
-abbrev pub IsQuietView : {K U : Type 0} → Keeping K → K → Result U ViewFault → Type 0
-IsQuietView k old result = k.steady old → result ≡ Err fault.Store → ⊥

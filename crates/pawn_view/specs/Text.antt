@@ -1,24 +1,14 @@
 -- The texts, line by line. Days are day numbers, amounts are pence.
 use Rattle.std.specs.Prelude.{ℕ, ◌/◌, ◌-◌, max, Bool, true, false, List, [], ◌∷◌, ◌++◌, Option, Some, None, codes, decimal}
-use Rattle.std.specs.List.{flat_map}
-use Rattle.pawn_terms.specs.Calendar.{digit, day_text}
+use Rattle.pawn_view.specs.Common.{Closing, Entry, Extension, Fixed, Open, Owing, PledgeValue, Redeemed, Running, Sold, day_text, debt_of, digit, due, end_of, flat_map, owing_of, status_of}
 use Rattle.pawn_debt.specs.declared.entry.Kind.{Kind}
-use Rattle.pawn_debt.specs.declared.entry.Kind.TheVariants.{Fixed, Running}
-use Rattle.pawn_debt.specs.declared.entry.Entry.{Entry}
 use Rattle.pawn_debt.specs.Words.{sort_text}
-use Rattle.pawn_debt.specs.declared.owing.Owing.{Owing}
-use Rattle.pawn_debt.specs.Due.{due}
-use Rattle.pawn_debt.specs.Owing.{owing_of}
 use Rattle.pawn_pledge.specs.declared.record.Agreement.{Agreement}
 use Rattle.pawn_pledge.specs.declared.record.Standing.{Standing}
-use Rattle.pawn_pledge.specs.declared.record.Extension.{Extension}
 use Rattle.pawn_pledge.specs.declared.record.Booking.{Booking}
 use Rattle.pawn_pledge.specs.Words.{state_text}
-use Rattle.pawn_pledge.specs.declared.record.Closing.{Closing}
-use Rattle.pawn_pledge.specs.declared.record.Closing.TheVariants.{Open, Redeemed, Sold}
 use Rattle.pawn_pledge.specs.declared.record.Status.{Status}
 use Rattle.pawn_pledge.specs.declared.record.Status.TheVariants as status
-use Rattle.pawn_pledge.specs.Pledge.{PledgeValue, end_of, debt_of, status_of}
 
 -- pounds, a point and two digits of pence
 abbrev pub money : ℕ → List ℕ

@@ -1,14 +1,9 @@
 -- Examples of texts, worked out.
 use Rattle.std.specs.Prelude.{◌≡◌, false, true, [], ◌∷◌, Some, None, codes}
-use Rattle.pawn_terms.specs.Worked.{date}
-use Rattle.pawn_debt.specs.declared.entry.Kind.TheVariants.{Fixed, Running}
+use Rattle.pawn_view.specs.Common.{Command, Fixed, Open, PledgeValue, Redeemed, Running, Sold, after_telling, date, ring, ring_pledge}
 use Rattle.pawn_debt.specs.declared.entry.Sort.TheVariants.{Draw, Repay}
 use Rattle.pawn_terms.specs.Terms.{rates_of}
-use Rattle.pawn_pledge.specs.declared.command.Command.{Command}
 use Rattle.pawn_pledge.specs.declared.record.BookingState.TheVariants as state
-use Rattle.pawn_pledge.specs.declared.record.Closing.TheVariants.{Open, Redeemed, Sold}
-use Rattle.pawn_pledge.specs.Pledge.{PledgeValue}
-use Rattle.pawn_pledge.specs.Worked.{after_telling, ring_pledge, ring}
 use Rattle.pawn_view.specs.Text.{money, date_text, kind_line, extended_line, held_line, booking_line, closing_line, entry_line, statement_text, presented_text}
 
 -- pounds, and two digits of pence

@@ -1,13 +1,8 @@
 -- Examples of day's sheets, worked out.
 use Rattle.std.specs.Prelude.{◌≡◌, ℕ, [], ◌∷◌, codes}
-use Rattle.pawn_terms.specs.Worked.{date}
-use Rattle.pawn_pledge.specs.declared.command.Command.{Command}
+use Rattle.pawn_view.specs.Common.{Asked, AskedHead, Command, Confirmed, Ends, EndsHead, PledgeValue, Window, after_telling, date, day_sheet, ring, ring_extended, status_of}
 use Rattle.pawn_pledge.specs.declared.command.Decision.TheVariants.{Confirm}
 use Rattle.pawn_pledge.specs.declared.record.Status.TheVariants.{Passed}
-use Rattle.pawn_pledge.specs.Pledge.{PledgeValue, status_of}
-use Rattle.pawn_pledge.specs.Worked.{after_telling, ring, ring_extended}
-use Rattle.pawn_book.specs.declared.sheet.SheetItem.TheVariants.{Window, Confirmed, AskedHead, Asked, EndsHead, Ends}
-use Rattle.pawn_book.specs.Sheet.{day_sheet}
 use Rattle.pawn_view.specs.Sheets.{sheet_line, sheet_text}
 
 -- a pledge as it stands, under another number

@@ -2,13 +2,13 @@
 //!
 //! Each writes its line, and takes no memory.
 ghost use Rattle.std.specs.Prelude.{◌≡◌, ◌++◌, codes};
-ghost use Rattle.pawn_view.specs.Ends.{Puts};
+ghost use Rattle.pawn_writing.specs.Ends.{Puts};
 ghost use Rattle.pawn_view.specs.Text.{text_line, number_line, day_line, amount_line, kind_line, extended_line, status_line, owed_lines, held_line, booking_line, redeemed_line, sold_line, closing_line, entry_line, date_text};
 
 use crate::money::pence_text;
-use crate::writing::{Writing, put, put_all};
 use itoa::Buffer;
 use pawn_book::{Booking, Closing, Day, Entry, Extension, Kind, Owing, Status};
+use pawn_writing::{Writing, put, put_all};
 use std::io::Write;
 
 // A day as `2024-01-31`.

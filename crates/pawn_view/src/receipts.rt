@@ -1,20 +1,11 @@
 //! The statements of the receipts that a bearer presents.
 ghost use Rattle.std.specs.Prelude.{◌≡◌, ◌++◌, ◌∷◌, false, true, not, option_map, Some, None, IfOk, IsErrOf};
-ghost use Rattle.std.specs.FinMap.{get};
-ghost use Rattle.pawn_pledge.specs.Pledge.{PledgeValue};
-ghost use Rattle.pawn_pledge.specs.Brief.{brief_of};
-ghost use Rattle.pawn_book.specs.BookStep.{pledge_in, live_at, are_unknown};
-ghost use Rattle.pawn_book.specs.Sound.{IsSound};
-ghost use Rattle.pawn_book.specs.Keeping.{Reads, IsSteady};
-ghost use Rattle.pawn_book.specs.Visits.{call_end};
-ghost use Rattle.pawn_view.specs.Ends.{write_failed};
-ghost use Rattle.pawn_view.specs.Text.{statement_text, shown_text, further_texts};
-ghost use Rattle.pawn_view.specs.Shown.{PutsShare, Shows, IsQuietView, pledge_at, live_pledges, shown_of, presentation_of};
+ghost use Rattle.pawn_view.specs.Common.{IsQuietView, IsSound, IsSteady, PledgeValue, PutsShare, Reads, are_unknown, brief_of, call_end, get, live_at, pledge_in, write_failed};
+ghost use Rattle.pawn_view.specs.Views.{Shows, further_texts, live_pledges, pledge_at, presentation_of, shown_of, shown_text, statement_text};
 
-use crate::fault::ViewFault;
 use crate::statements::{ending, put_statement};
-use crate::writing::{Writing, put};
 use pawn_book::{Brief, Day, Keep, KeepError, Number, Receipt};
+use pawn_writing::{ViewFault, Writing, put};
 use std::io::Write;
 
 const UNKNOWN: &[u8] = b"Unknown receipt\n";

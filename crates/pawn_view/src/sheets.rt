@@ -1,19 +1,15 @@
 //! The sheet of a book's day.
 ghost use Rattle.std.specs.Prelude.{◌≡◌, false, true, IsErrOf};
-ghost use Rattle.std.specs.FinMap.{get};
-ghost use Rattle.pawn_book.specs.Keeping.{Reads, IsSteady, pledges_of};
-ghost use Rattle.pawn_book.specs.Visits.{call_end};
-ghost use Rattle.pawn_view.specs.Ends.{Puts, write_failed};
+ghost use Rattle.pawn_view.specs.Common.{IsQuietView, IsSteady, Puts, PutsShare, Reads, call_end, get, pledges_of, write_failed};
 ghost use Rattle.pawn_view.specs.Sheets.{PutsItem, asked_sheet_line, day_lines, sheet_line, sheet_of, window_line};
-ghost use Rattle.pawn_view.specs.Shown.{PutsShare, Shows, IsQuietView};
+ghost use Rattle.pawn_view.specs.Shown.{Shows};
 ghost use Rattle.pawn_view.specs.Text.{number_line};
 
-use crate::fault::ViewFault;
 use crate::lines::{put_day, put_number};
 use crate::statements::ending;
-use crate::writing::{Writing, put_all};
 use itoa::Buffer;
 use pawn_book::{Capacity, Day, Flow, Keep, KeepError, Number, SheetItem, Visitor};
+use pawn_writing::{ViewFault, Writing, put_all};
 use std::io::Write;
 
 // Writes a line: a label and a count.

@@ -1,23 +1,15 @@
 //! The statement of a pledge.
 ghost use Rattle.std.specs.Prelude.{◌≡◌, ◌≤◌, false, true, Some, max, IsErrOf};
-ghost use Rattle.pawn_pledge.specs.Pledge.{PledgeValue};
-ghost use Rattle.pawn_pledge.specs.Brief.{brief_of, brief_status, brief_owing};
-ghost use Rattle.pawn_book.specs.Sound.{IsSound};
-ghost use Rattle.pawn_book.specs.Keeping.{Reads, IsSteady};
-ghost use Rattle.pawn_book.specs.Visits.{call_end};
-ghost use Rattle.pawn_view.specs.Fault.{ending_of};
-ghost use Rattle.pawn_view.specs.Ends.{Puts, write_failed};
+ghost use Rattle.pawn_view.specs.Common.{IsQuietView, IsSound, IsSteady, PledgeValue, Puts, PutsLine, PutsShare, Reads, brief_of, brief_owing, brief_status, call_end, ending_of, write_failed};
 ghost use Rattle.pawn_view.specs.Text.{first_lines, state_lines, statement_text, extended_line, entry_line};
-ghost use Rattle.pawn_view.specs.Shown.{PutsLine, PutsShare, Shows, IsQuietView, pledge_at, statement_of, open_or_last};
+ghost use Rattle.pawn_view.specs.Shown.{Shows, pledge_at, statement_of, open_or_last};
 
-use crate::fault::ViewFault;
 use crate::lines::{
     put_booking, put_closing, put_day, put_entry, put_extended, put_held, put_kind, put_number,
     put_owed, put_status, put_text,
 };
-use crate::lists::{visit_entries, visit_extensions};
-use crate::writing::Writing;
 use pawn_book::{Brief, Closing, Day, Entry, Extension, Flow, Keep, KeepError, Number, Visitor};
+use pawn_writing::{ViewFault, Writing, visit_entries, visit_extensions};
 use std::io::Write;
 
 impl<W: Write> Visitor<Entry> for Writing<W> {

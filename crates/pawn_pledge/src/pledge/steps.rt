@@ -1,10 +1,6 @@
 ghost use Rattle.std.specs.Prelude.{◌≡◌, ◌≤◌, ◌<◌, length, Ok, OnOk};
-ghost use Rattle.pawn_base.specs.Refusals.{first_of};
-ghost use Rattle.pawn_debt.specs.declared.entry.Entry.{Entry};
-ghost use Rattle.pawn_pledge.specs.Pledge.{end_of};
-ghost use Rattle.pawn_pledge.specs.Words.{in_state, is_standing, after_closing, booking_after, with_secret, with_extension, issue_of, new_entry, is_ahead, is_repeat};
-ghost use Rattle.pawn_pledge.specs.Step.{Changed, unless, bars, declare_bars, pledge_step, numbered_step, entry_of, entry_step, hold_step, declare_step, ask_step, ask_once, cancel_step, decide_step, confirm_in, decline_in, redeem_step, sell_step, extend_step, makes_booking, IsStep, IsApplied};
-ghost use Rattle.pawn_pledge.specs.Limits.{most_secrets};
+ghost use Rattle.pawn_pledge.specs.Common.{Entry, first_of};
+ghost use Rattle.pawn_pledge.specs.Pledges.{Changed, IsApplied, IsStep, after_closing, ask_once, ask_step, bars, booking_after, cancel_step, confirm_in, decide_step, declare_bars, declare_step, decline_in, end_of, entry_of, entry_step, extend_step, hold_step, in_state, is_ahead, is_repeat, is_standing, issue_of, makes_booking, most_secrets, new_entry, numbered_step, pledge_step, redeem_step, sell_step, unless, with_extension, with_secret};
 
 use super::Pledge;
 use crate::command::{Applied, Command, Decision, Done, Paper, Stamp};

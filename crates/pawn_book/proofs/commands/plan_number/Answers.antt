@@ -1,7 +1,6 @@
 use Rattle.std.proofs.Common.{◌∙◌, ap, Ok, subst}
 use Rattle.pawn_pledge.specs.Step.{pledge_step}
-use Rattle.pawn_book.specs.BookStep.{judged_outcome}
-use Rattle.pawn_book.specs.Plans.{IsOutcome}
+use Rattle.pawn_book.specs.Books.{IsOutcome, judged_outcome}
 use Rattle.pawn_book.proofs.CommandPlans.{number_plans}
 use Rattle.pawn_book.proofs.Reading.{ok_is, reads_then}
 use Rattle.pawn_book.proofs.commands.plan_number.Goals as goal

@@ -1,10 +1,6 @@
 use Rattle.std.proofs.Common.{◌∙◌, ap, Ok, Some, subst, sym}
-use Rattle.pawn_base.specs.Refusals.{IsSaid}
-use Rattle.pawn_pledge.specs.declared.record.Agreement.{Agreement}
-use Rattle.pawn_book.specs.declared.change.Change.TheVariants.{PutPledge}
-use Rattle.pawn_book.specs.declared.reply.Reply.TheVariants.{Opened}
-use Rattle.pawn_book.specs.BookStep.{newest, take_pledge, next_pledge, with_reference}
-use Rattle.pawn_book.specs.Plans.{IsUnwell, Plans}
+use Rattle.pawn_book.specs.Common.{Agreement, IsSaid}
+use Rattle.pawn_book.specs.Books.{IsUnwell, Opened, Plans, PutPledge, newest, next_pledge, take_pledge, with_reference}
 use Rattle.pawn_book.proofs.Plans.{taken_plans}
 use Rattle.pawn_book.proofs.Reading.{ok_is, reads_then}
 use Rattle.pawn_book.proofs.openings.plan_pledge.Goals as goal

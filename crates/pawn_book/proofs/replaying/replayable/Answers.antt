@@ -1,6 +1,5 @@
 use Rattle.std.proofs.Common.{List, subst, sym}
-use Rattle.pawn_terms.specs.declared.terms.Rates.{Rates}
-use Rattle.pawn_pledge.specs.Pledge.{PledgeValue}
+use Rattle.pawn_book.specs.Common.{PledgeValue, Rates}
 use Rattle.pawn_book.specs.Rows.{AreReplayable}
 use Rattle.pawn_book.proofs.Sounds.{sound_filled}
 use Rattle.pawn_book.proofs.replaying.replayable.Goals as goal

@@ -1,18 +1,8 @@
 use Rattle.std.proofs.Common.{◌≡◌, ℕ, List, [], ◌∷◌, map, length, sum_by, refl, sym, ap, ◌∙◌, arith}
 use Rattle.std.specs.Prelude.{if◌then◌else◌, Option, None, Some, nat_lt}
-use Rattle.std.specs.FinMap.{FinMap, empty, entries, entries-insert, find, get, get-entries, insert, len-empty, len-entries, put}
-use Rattle.std.specs.Ordering.{nat_cmp}
-use Rattle.std.proofs.lemmas.Cmp.{nat_cmp_total}
-use Rattle.pawn_base.proofs.ListLemmas.{no_elements}
-use Rattle.pawn_terms.specs.Calendar.{civil_after, days_of_years, days_of_months}
-use Rattle.pawn_debt.specs.Due.{due_after}
-use Rattle.pawn_pledge.specs.declared.command.Stamp.{Stamp}
-use Rattle.pawn_book.specs.declared.refusal.Refusal.TheVariants.{Full}
-use Rattle.pawn_book.specs.declared.request.Request.{Request}
-use Rattle.pawn_book.specs.BookStep.{BookValue, Outcome, Refuses, Says, Makes, book_step, changed_book, out_of}
-use Rattle.pawn_book.specs.HostStep.{Host, book_rows, host_after, host_step, with_book, within_limit}
-use Rattle.pawn_book.specs.Runs.{Said, Answered}
-use Rattle.pawn_book.specs.Shards.{handed}
+use Rattle.pawn_book.specs.Common.{FinMap, Stamp, civil_after, days_of_months, days_of_years, due_after, empty, entries, entries-insert, find, get, get-entries, insert, len-empty, len-entries, nat_cmp, put}
+use Rattle.pawn_book.proofs.Lemmas.{nat_cmp_total, no_elements}
+use Rattle.pawn_book.specs.Books.{Answered, BookValue, Full, Host, Makes, Outcome, Refuses, Request, Said, Says, book_rows, book_step, changed_book, handed, host_after, host_step, out_of, with_book, within_limit}
 use Rattle.pawn_book.specs.WorkedShards.{a_ring, asked, book_of, first_shard, of_seven, one_host, second_shard, shard, told_of_run}
 use Rattle.pawn_book.proofs.worked.worked_shards.Goals as goal
 

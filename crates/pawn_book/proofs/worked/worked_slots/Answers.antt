@@ -1,6 +1,5 @@
 use Rattle.std.proofs.Common.{refl}
-use Rattle.pawn_terms.specs.Calendar.{civil_after, days_of_years, days_of_months}
-use Rattle.pawn_debt.specs.Due.{due_after}
+use Rattle.pawn_book.specs.Common.{civil_after, days_of_months, days_of_years, due_after}
 use Rattle.pawn_book.proofs.worked.worked_slots.Goals as goal
 
 pub returns : goal.returns

@@ -1,7 +1,5 @@
 use Rattle.std.proofs.Common.{◌≡◌, ◌≤◌, ◌*◌, ◌-◌}
-use Rattle.std.specs.Prelude.{unwrap_or}
-use Rattle.pawn_book.specs.Keeping.{Reads}
-use Rattle.pawn_book.specs.HostStep.{rows}
+use Rattle.pawn_check.specs.Common.{Reads, rows, unwrap_or}
 use Rattle.pawn_check.proofs.Meeting.{AreMet}
 use Rattle.pawn_check.proofs.books.check.Given as goal
 

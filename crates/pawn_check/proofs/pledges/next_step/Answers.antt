@@ -1,7 +1,6 @@
 use Rattle.std.proofs.Common.{rules, ◌≡◌, ◌≤◌, ℕ, Err, refl, arith}
-use Rattle.std.proofs.lemmas.Bool.Decides.{nat_tests}
+use Rattle.pawn_check.proofs.Lemmas.{nat_tests, reads_as, reads_both, reads_then}
 use Rattle.pawn_book.specs.Sound.{HasUnsoundBook}
-use Rattle.pawn_book.proofs.Reading.{reads_as, reads_then, reads_both}
 use Rattle.pawn_check.proofs.Fronts.{both_ways, falls_below, handed_on, unfit_at}
 use Rattle.pawn_check.proofs.pledges.next_step.Goals as goal
 use Rattle.pawn_check.proofs.pledges.next_step.Goals.{then-not-under-via-then-not-under, then-not-under-via-else-not-under+then-not-first, then-ne-via-then-ne, then-ne-via-else-ne+then-next-version, then-ne-via-else-ne+else-next-version+then-not-can_stand}
@@ -48,7 +47,7 @@ returns-clause-reads g c =
         standing = c.can_stand.ensures.answer.0 c.if-not-can_stand.false;
         under = (both.1 k is).0 c.if-not-under.false;
         reference = (said k is).0 c.if-not-first.false;
-        written = c.know_parts.ensures.written;
+        written = c.know_written.ensures.written;
       },
       low,
       refl,

@@ -1,6 +1,5 @@
 use Rattle.std.proofs.Common.{rules, ◌≡◌, ◌≤◌, ◌<◌, Err, length, arith}
-use Rattle.std.proofs.lemmas.Bool.Decides.{nat_tests}
-use Rattle.pawn_book.proofs.Reading.{reads_as, reads_then}
+use Rattle.pawn_check.proofs.Lemmas.{nat_tests, reads_as, reads_then}
 use Rattle.pawn_check.proofs.Fronts.{front_all, front_next, handed_on}
 use Rattle.pawn_check.proofs.pledges.pledges_rows.Goals as goal
 

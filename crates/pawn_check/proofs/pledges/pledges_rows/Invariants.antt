@@ -1,7 +1,5 @@
 use Rattle.std.proofs.Common.{◌≡◌, ◌≤◌, ◌*◌, length, take, Some}
-use Rattle.std.specs.FinMap.{get}
-use Rattle.pawn_book.specs.BookStep.{BookValue}
-use Rattle.pawn_book.specs.Keeping.{Reads}
+use Rattle.pawn_check.specs.Common.{BookValue, Reads, get}
 use Rattle.pawn_check.specs.Judging.{IsFront}
 use Rattle.pawn_check.proofs.pledges.pledges_rows.Given as goal
 

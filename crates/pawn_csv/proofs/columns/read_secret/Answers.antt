@@ -1,7 +1,6 @@
 use Rattle.std.proofs.Common.{rules, ◌∙◌, sym, ap, List, ℕ}
 use Rattle.std.specs.Cmp.Lexicographic.{same_text, other_text}
-use Rattle.uuid.specs.Text.{hyphenated_text, lower}
-use Rattle.pawn_pledge.specs.Secret.{secret_text}
+use Rattle.pawn_csv.specs.Common.{hyphenated_text, lower, secret_text}
 use Rattle.pawn_csv.proofs.ColumnLemmas.{no_secret, same_secret}
 use Rattle.pawn_csv.proofs.columns.read_secret.Goals as goal
 

@@ -1,7 +1,6 @@
 use Rattle.std.proofs.Common.{ℕ, List, sym, subst}
 use Rattle.std.proofs.lemmas.List.{append-nil}
-use Rattle.pawn_csv.specs.Sent.{PutsRow, text_of_row}
-use Rattle.pawn_csv.specs.declared.row.Row.{Row}
+use Rattle.pawn_csv.specs.Csv.{PutsRow, Row, text_of_row}
 use Rattle.pawn_csv.proofs.exporting.put_booked.Goals as goal
 
 pub returns-in-Some : goal.returns-in-Some

@@ -1,8 +1,5 @@
 use Rattle.std.proofs.Common.{refl, rules}
-use Rattle.std.specs.FinMap.{get}
-use Rattle.pawn_book.specs.BookStep.{pledge_in}
-use Rattle.pawn_book.specs.Keeping.{extensions_of}
-use Rattle.pawn_book.specs.Visits.{call_end}
+use Rattle.pawn_csv.specs.Common.{call_end, extensions_of, get, pledge_in}
 use Rattle.pawn_book.proofs.Reading.{reads_as}
 use Rattle.pawn_csv.specs.Exports.{extension_line}
 use Rattle.pawn_csv.proofs.ListLemmas.{few_of, list_share, extension_lines}

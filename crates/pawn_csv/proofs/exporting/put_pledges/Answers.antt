@@ -1,10 +1,7 @@
 use Rattle.std.proofs.Common.{◌≡◌, ◌<◌, length, arith, subst, ℕ}
-use Rattle.std.specs.FinMap.{get}
-use Rattle.std.proofs.lemmas.Bool.Decides.{nat_tests}
-use Rattle.pawn_book.specs.Keeping.{pledges_of}
-use Rattle.pawn_book.proofs.Reading.{reads_as, reads_then, reads_both}
+use Rattle.pawn_csv.specs.Common.{get, pledges_of}
+use Rattle.pawn_csv.proofs.Lemmas.{nat_tests, reads_as, reads_both, reads_then}
 use Rattle.pawn_csv.proofs.CountLemmas.{has_number, record_missing, records_all, records_cut, records_front, records_next}
-
 use Rattle.pawn_csv.proofs.exporting.put_pledges.Goals as goal
 
 pub returns-in_default-clause-shares : goal.returns-in_default-clause-shares

@@ -1,8 +1,5 @@
 use Rattle.std.proofs.Common.{take}
-use Rattle.std.specs.FinMap.{get}
-use Rattle.pawn_book.specs.Sound.{IsSound}
-use Rattle.pawn_book.specs.Keeping.{Reads, pledges_of}
-use Rattle.pawn_book.specs.Visits.{Whole}
+use Rattle.pawn_csv.specs.Common.{IsSound, Reads, Whole, get, pledges_of}
 use Rattle.pawn_csv.specs.Sent.{PutsRowsShare}
 use Rattle.pawn_csv.proofs.ListLemmas.{lines_from}
 use Rattle.pawn_csv.proofs.CountLemmas.{record_lines}

@@ -1,8 +1,5 @@
 use Rattle.std.proofs.Common.{refl, rules}
-use Rattle.std.specs.FinMap.{get}
-use Rattle.pawn_book.specs.BookStep.{pledge_in}
-use Rattle.pawn_book.specs.Keeping.{secrets_of}
-use Rattle.pawn_book.specs.Visits.{call_end}
+use Rattle.pawn_csv.specs.Common.{call_end, get, pledge_in, secrets_of}
 use Rattle.pawn_book.proofs.Reading.{reads_as}
 use Rattle.pawn_csv.specs.Exports.{secret_line}
 use Rattle.pawn_csv.proofs.ListLemmas.{few_of, list_share, secret_lines}

@@ -1,8 +1,6 @@
 use Rattle.std.proofs.Common.{◌≡◌, length, arith}
-use Rattle.std.specs.FinMap.{get}
-use Rattle.std.proofs.lemmas.Bool.Decides.{nat_tests}
-use Rattle.pawn_book.specs.Keeping.{terms_of}
-use Rattle.pawn_book.proofs.Reading.{reads_as, reads_then}
+use Rattle.pawn_csv.specs.Common.{get, terms_of}
+use Rattle.pawn_csv.proofs.Lemmas.{nat_tests, reads_as, reads_then}
 use Rattle.pawn_csv.proofs.CountLemmas.{versions_all, versions_front, versions_next}
 use Rattle.pawn_csv.proofs.exporting.put_versions.Goals as goal
 

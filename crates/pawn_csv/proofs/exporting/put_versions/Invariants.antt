@@ -1,7 +1,5 @@
 use Rattle.std.proofs.Common.{take}
-use Rattle.std.specs.FinMap.{get}
-use Rattle.pawn_book.specs.Keeping.{Reads, terms_of}
-use Rattle.pawn_book.specs.Visits.{Whole}
+use Rattle.pawn_csv.specs.Common.{Reads, Whole, get, terms_of}
 use Rattle.pawn_csv.specs.Sent.{PutsRowsShare}
 use Rattle.pawn_csv.proofs.ListLemmas.{lines_from}
 use Rattle.pawn_csv.proofs.CountLemmas.{version_line}

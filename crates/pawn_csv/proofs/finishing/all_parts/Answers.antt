@@ -1,6 +1,5 @@
 use Rattle.std.proofs.Common.{◌≡◌, ◌∙◌, List, ◌∷◌, ◌++◌, ap, sym, subst, rules}
-use Rattle.pawn_csv.specs.declared.order.RawPledge.{RawPledge}
-use Rattle.pawn_csv.specs.Finishing.{AreRawOf}
+use Rattle.pawn_csv.specs.Csv.{AreRawOf, RawPledge}
 use Rattle.pawn_csv.proofs.FinishLemmas.{no_parts}
 use Rattle.pawn_csv.proofs.finishing.all_parts.Goals as goal
 

@@ -1,10 +1,7 @@
 use Rattle.std.proofs.Common.{◌≡◌, ◌∙◌, [], refl, sym, ap, subst, inr, arith}
-use Rattle.std.specs.Prelude.{option_map}
+use Rattle.pawn_csv.specs.Common.{Reached, fields_of, option_map, strip_bom}
 use Rattle.std.proofs.lemmas.Bool.Decides.{nat_tests}
-use Rattle.csv.specs.Reading.{Reached, strip_bom}
-use Rattle.csv.specs.Records.{fields_of}
-use Rattle.pawn_csv.specs.Order.{begun_of}
-use Rattle.pawn_csv.specs.Reading.{AreTakenBefore, IsFaultOf, IsReadAs}
+use Rattle.pawn_csv.specs.Csv.{AreTakenBefore, IsFaultOf, IsReadAs, begun_of}
 use Rattle.pawn_csv.specs.declared.fault.Cause.TheVariants as cause
 use Rattle.std.proofs.Common.{◌+◌}
 use Rattle.pawn_csv.proofs.ReadLemmas.{so_far_before, so_far_more, so_far_end, where_told, reader_fault, so_far_empty, so_far_unfinished, so_far_refused}

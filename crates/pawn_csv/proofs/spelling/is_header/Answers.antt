@@ -1,9 +1,7 @@
 use Rattle.std.proofs.Common.{◌≡◌, [], arith, length, refl}
-use Rattle.std.proofs.lemmas.Bool.Decides.{nat_tests}
-use Rattle.std.proofs.lemmas.List.{ext_get_or}
+use Rattle.pawn_csv.proofs.Lemmas.{ext_get_or, nat_tests}
 use Rattle.csv.specs.Records.{fields_of}
-use Rattle.pawn_csv.specs.declared.row.TheConstants.{COLUMNS}
-use Rattle.pawn_csv.specs.Rows.{header}
+use Rattle.pawn_csv.specs.Csv.{COLUMNS, header}
 use Rattle.pawn_csv.proofs.spelling.is_header.Goals as goal
 
 pub returns : goal.returns

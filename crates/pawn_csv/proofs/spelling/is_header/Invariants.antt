@@ -1,7 +1,6 @@
 use Rattle.std.proofs.Common.{◌≡◌, ℕ, ◌<◌}
 use Rattle.csv.specs.Records.{fields_of}
-use Rattle.pawn_csv.specs.Rows.{header}
-use Rattle.pawn_csv.specs.Spelling.{column_at}
+use Rattle.pawn_csv.specs.Csv.{column_at, header}
 use Rattle.pawn_csv.proofs.spelling.is_header.Given as goal
 
 abbrev pub invariant-loop-place : goal.invariant-loop-place

@@ -1,11 +1,6 @@
 use Rattle.std.proofs.Common.{◌≡◌, ◌∙◌, ℕ, List, ap, arith, get_or, refl, sym}
-use Rattle.std.specs.Prelude.{codes}
-use Rattle.csv.specs.Records.{fields_of}
-use Rattle.pawn_pledge.specs.declared.record.Issued.{Issued}
-use Rattle.pawn_csv.specs.Reading.{IsNoRow}
-use Rattle.pawn_csv.specs.Rows.{FitsColumns, row_fields}
-use Rattle.pawn_csv.specs.Spelling.{column_at}
-use Rattle.pawn_csv.specs.declared.row.Row.{Row}
+use Rattle.pawn_csv.specs.Common.{Issued, codes, fields_of}
+use Rattle.pawn_csv.specs.Csv.{FitsColumns, IsNoRow, Row, column_at, row_fields}
 use Rattle.pawn_csv.proofs.RowLemmas.{blank_follow, columns_are}
 use Rattle.pawn_csv.proofs.spelling.read_secret_row.Goals as goal
 

@@ -1,6 +1,5 @@
 use Rattle.std.proofs.Common.{ℕ, List, ap, ◌∙◌}
-use Rattle.uuid.specs.Text.{hyphenated_text, lower}
-use Rattle.pawn_pledge.specs.Secret.{secret_text}
+use Rattle.pawn_csv.specs.Common.{hyphenated_text, lower, secret_text}
 use Rattle.pawn_csv.proofs.words.secret_text.Goals as goal
 
 pub returns : goal.returns

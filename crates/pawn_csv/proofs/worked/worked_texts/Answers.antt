@@ -1,8 +1,6 @@
 use Rattle.std.proofs.Common.{refl}
 use Rattle.std.specs.Fmt.{digits}
-use Rattle.uuid.specs.Text.{by_index}
-use Rattle.csv.specs.Writing.{escaped, fields_text, is_blank}
-use Rattle.pawn_terms.specs.Calendar.{civil_after, days_of_years, days_of_months}
+use Rattle.pawn_csv.specs.Common.{by_index, civil_after, days_of_months, days_of_years, escaped, fields_text, is_blank}
 use Rattle.pawn_csv.proofs.worked.worked_texts.Goals as goal
 
 pub returns : goal.returns

@@ -1,6 +1,5 @@
 use Rattle.std.proofs.Common.{◌≡◌, ◌-◌, ◌++◌, map, take}
-use Rattle.pawn_csv.specs.declared.row.TheConstants.{COLUMNS}
-use Rattle.pawn_csv.specs.Rows.{empty_columns}
+use Rattle.pawn_csv.specs.Csv.{COLUMNS, empty_columns}
 use Rattle.pawn_csv.proofs.writing.put_padded.Given as goal
 
 abbrev pub invariant-loop-place : goal.invariant-loop-place

@@ -1,9 +1,7 @@
 use Rattle.std.proofs.Common.{◌≡◌, ◌-◌}
 use Rattle.std.specs.Io.KnownBytes.{Keeps, prepend_known}
-use Rattle.pawn_host.specs.Ends.{reads, read_failed, left_of}
-use Rattle.pawn_host.specs.Finding.{HasHead}
+use Rattle.pawn_host.specs.Sessions.{HasHead, left_of, read_failed, reads, unanswered}
 use Rattle.pawn_host.proofs.ReadLemmas.{FetchedSoFar}
-use Rattle.pawn_host.specs.Unanswered.{unanswered}
 use Rattle.pawn_host.proofs.session.await_body.Given as goal
 
 abbrev pub invariant-loop-reader : goal.invariant-loop-reader

@@ -1,6 +1,5 @@
 use Rattle.std.proofs.Common.{◌∙◌, Some, ap, refl}
-use Rattle.pawn_book.specs.declared.change.Change.TheVariants.{ImportBook}
-use Rattle.pawn_book.specs.BookStep.{BookValue}
+use Rattle.pawn_list_keeper.specs.Common.{BookValue, ImportBook}
 use Rattle.pawn_list_keeper.specs.declared.kept.Kept.{Kept}
 use Rattle.pawn_list_keeper.specs.Listed.{listed_book}
 use Rattle.pawn_list_keeper.proofs.ListSaves.{filled_is, set_changes}

@@ -1,6 +1,5 @@
 use Rattle.std.proofs.Common.{ℕ, Some, ap, refl}
-use Rattle.pawn_book.specs.declared.change.Change.TheVariants.{AddTerms}
-use Rattle.pawn_book.specs.BookStep.{BookValue}
+use Rattle.pawn_list_keeper.specs.Common.{AddTerms, BookValue}
 use Rattle.pawn_list_keeper.specs.declared.kept.Kept.{Kept}
 use Rattle.pawn_list_keeper.specs.Listed.{listed_book}
 use Rattle.pawn_list_keeper.proofs.ListReads.{kept_same}

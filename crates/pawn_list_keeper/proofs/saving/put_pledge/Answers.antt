@@ -1,7 +1,6 @@
 use Rattle.std.proofs.Common.{◌∙◌, ◌+◌, ◌≤◌, ℕ, Some, ap, length, refl, subst}
 use Rattle.std.proofs.lemmas.Result.{on_err_weaker, on_ok_weaker}
-use Rattle.pawn_book.specs.declared.change.Change.TheVariants.{PutPledge}
-use Rattle.pawn_book.specs.BookStep.{BookValue, put_from}
+use Rattle.pawn_list_keeper.specs.Common.{BookValue, PutPledge, put_from}
 use Rattle.pawn_list_keeper.specs.declared.kept.Kept.{Kept}
 use Rattle.pawn_list_keeper.specs.Listed.{listed_book}
 use Rattle.pawn_list_keeper.proofs.ListReads.{kept_same}

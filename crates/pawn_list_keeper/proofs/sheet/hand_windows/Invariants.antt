@@ -1,8 +1,5 @@
 use Rattle.std.proofs.Common.{◌≤◌}
-use Rattle.std.specs.List.{flat_map}
-use Rattle.pawn_book.specs.declared.visit.Flow.TheVariants.{Go}
-use Rattle.pawn_book.specs.Sheet.{window_sheet, windows_below}
-use Rattle.pawn_book.specs.Visits.{HandsOver}
+use Rattle.pawn_list_keeper.specs.Common.{Go, HandsOver, flat_map, window_sheet, windows_below}
 use Rattle.pawn_list_keeper.proofs.sheet.hand_windows.Given as goal
 
 abbrev pub invariant-loop-window : goal.invariant-loop-window

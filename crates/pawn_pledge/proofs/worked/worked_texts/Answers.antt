@@ -1,7 +1,6 @@
 use Rattle.std.proofs.Common.{refl, arith}
-use Rattle.std.specs.Prelude.{codes}
+use Rattle.pawn_pledge.specs.Common.{by_index, codes}
 use Rattle.std.specs.Fmt.{digits}
-use Rattle.uuid.specs.Text.{by_index}
 use Rattle.pawn_pledge.proofs.worked.worked_texts.Goals as goal
 
 pub returns-clause-secrets : goal.returns-clause-secrets

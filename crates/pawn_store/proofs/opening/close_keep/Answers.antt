@@ -1,9 +1,5 @@
 use Rattle.std.proofs.Common.{subst}
-use Rattle.sqlite.specs.Files.{file_state}
-use Rattle.sqlite_wal.specs.Reads.{AreClean}
-use Rattle.pawn_book.specs.HostStep.{Host}
-use Rattle.pawn_tables.specs.StandsFor.{StandsFor}
-use Rattle.pawn_opening.specs.Closed.{AreClosedFor, HasCommitted, IsLeftUnclosed}
+use Rattle.pawn_store.specs.Common.{AreClean, AreClosedFor, HasCommitted, Host, IsLeftUnclosed, StandsFor, file_state}
 use Rattle.pawn_store.proofs.opening.close_keep.Goals as goal
 
 pub returns-in-Ok-clause-kept : goal.returns-in-Ok-clause-kept

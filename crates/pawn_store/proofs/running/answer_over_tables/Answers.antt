@@ -1,5 +1,4 @@
-use Rattle.pawn_view.specs.Ends.{written_bytes}
-use Rattle.pawn_host.specs.Ends.{left_of}
+use Rattle.pawn_store.specs.Common.{left_of, written_bytes}
 use Rattle.pawn_store.proofs.Runs.{session_over_tables}
 use Rattle.pawn_store.proofs.running.answer_over_tables.Goals as goal
 

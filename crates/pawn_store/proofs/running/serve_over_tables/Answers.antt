@@ -1,9 +1,6 @@
 use Rattle.std.proofs.Common.{◌∙◌, arith, refl}
-use Rattle.sqlite.specs.Held.{state}
-use Rattle.pawn_tables.specs.Keeps.{keeping_by}
-use Rattle.pawn_host.specs.Keeps.{service_keep}
+use Rattle.pawn_store.specs.Common.{items_of, keeping_by, service_keep, state}
 use Rattle.pawn_host.proofs.CrashLemmas.{goes_none}
-use Rattle.pawn_program.specs.Serving.{items_of}
 use Rattle.pawn_program.proofs.ServingLemmas.{served_none}
 use Rattle.pawn_store.proofs.Runs.{acts_over_tables}
 use Rattle.pawn_store.proofs.Turns.{on_turn, served_turn}

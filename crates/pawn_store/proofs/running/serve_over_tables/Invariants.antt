@@ -1,9 +1,5 @@
 use Rattle.std.proofs.Common.{◌≡◌, ◌+◌}
-use Rattle.pawn_host.specs.Keeps.{StaysOpen, Serves}
-use Rattle.pawn_program.specs.Clock.{GivesDated}
-use Rattle.pawn_program.specs.Serving.{AreServed}
-use Rattle.sqlite.specs.Held.{state}
-use Rattle.pawn_tables.specs.Keeps.{keeping_by}
+use Rattle.pawn_store.specs.Common.{AreServed, GivesDated, Serves, StaysOpen, keeping_by, state}
 use Rattle.pawn_store.proofs.running.serve_over_tables.Given as goal
 
 abbrev pub invariant-loop-turn : goal.invariant-loop-turn

@@ -1,7 +1,5 @@
 use Rattle.std.proofs.Common.{ap, sym}
-use Rattle.std.specs.Prelude.{not}
-use Rattle.std.specs.FinMap.{get}
-use Rattle.pawn_book.specs.BookStep.{pledge_in, live_at}
+use Rattle.pawn_view.specs.Common.{get, live_at, not, pledge_in}
 use Rattle.pawn_book.proofs.Reading.{reads_then}
 use Rattle.pawn_view.proofs.PresentedLemmas.{any_known, unknown_more}
 use Rattle.pawn_view.proofs.receipts.is_any_live.Goals as goal

@@ -1,7 +1,5 @@
 use Rattle.std.proofs.Common.{◌≡◌, true, take, map}
-use Rattle.std.specs.FinMap.{get}
-use Rattle.pawn_book.specs.BookStep.{pledge_in, live_at, are_unknown}
-use Rattle.pawn_book.specs.Keeping.{Reads}
+use Rattle.pawn_view.specs.Common.{Reads, are_unknown, get, live_at, pledge_in}
 use Rattle.pawn_view.proofs.receipts.is_any_live.Given as goal
 
 abbrev pub invariant-loop-receipt : goal.invariant-loop-receipt

@@ -1,11 +1,6 @@
 use Rattle.std.proofs.Common.{take, map}
-use Rattle.std.specs.FinMap.{get}
-use Rattle.pawn_book.specs.BookStep.{pledge_in, live_at}
-use Rattle.pawn_book.specs.Sound.{IsSound}
-use Rattle.pawn_book.specs.Keeping.{Reads}
-use Rattle.pawn_book.specs.Visits.{Whole}
+use Rattle.pawn_view.specs.Common.{IsSound, PutsShare, Reads, Whole, get, live_at, pledge_in}
 use Rattle.pawn_view.specs.Text.{further_texts}
-use Rattle.pawn_view.specs.Shown.{PutsShare}
 use Rattle.pawn_view.proofs.receipts.put_further.Given as goal
 
 abbrev pub invariant-loop-receipt : goal.invariant-loop-receipt

@@ -1,6 +1,4 @@
-use Rattle.std.specs.FinMap.{get}
-use Rattle.pawn_book.specs.Visits.{call_end}
-use Rattle.pawn_book.specs.BookStep.{pledge_in}
+use Rattle.pawn_view.specs.Common.{call_end, get, pledge_in}
 use Rattle.pawn_book.proofs.Reading.{reads_then}
 use Rattle.pawn_view.proofs.PresentedLemmas.{shown_statement}
 use Rattle.pawn_view.proofs.receipts.put_shown.Goals as goal

@@ -1,5 +1,4 @@
-use Rattle.std.specs.FinMap.{get}
-use Rattle.pawn_book.specs.BookStep.{pledge_in, live_at}
+use Rattle.pawn_view.specs.Common.{get, live_at, pledge_in}
 use Rattle.pawn_book.proofs.Reading.{reads_then}
 use Rattle.pawn_view.specs.Shown.{live_pledges}
 use Rattle.pawn_view.proofs.PresentedLemmas.{live_first_shows, dead_first, rest_of, shows_all}

@@ -1,7 +1,5 @@
 use Rattle.std.proofs.Common.{refl}
-use Rattle.std.specs.Fmt.{digits}
-use Rattle.pawn_terms.specs.Calendar.{civil_after, days_of_years, days_of_months}
-use Rattle.pawn_debt.specs.Due.{due_after}
+use Rattle.pawn_view.specs.Common.{civil_after, days_of_months, days_of_years, digits, due_after}
 use Rattle.pawn_view.specs.Text.{date_text}
 use Rattle.pawn_view.proofs.worked.worked_words.Goals as goal
 

@@ -1,12 +1,9 @@
 use Rattle.std.proofs.Common.{ℕ, arith, refl, ap, subst, Bool, Ok, Err, ◌∙◌, take, ◌+◌}
-use Rattle.pawn_view.specs.Ends.{write_failed, written_bytes}
-use Rattle.pawn_host.specs.Ends.{reads, read_failed, left_of}
-use Rattle.pawn_host.specs.Finding.{StopsBy}
+use Rattle.pawn_writing.specs.Ends.{write_failed, written_bytes}
+use Rattle.pawn_host.specs.Sessions.{StopsBy, host_by, left_of, read_failed, reads, service_keep, start_after, start_of, unanswered}
 use Rattle.pawn_host.proofs.SessionLemmas.{over, over_leaves, ended_limit, ended_dry, broken_write, ended_closed, goes_on, acted_at, starts, taken_none, taken_more, are_taken, open_then, given_by, left_behind}
 use Rattle.pawn_host.proofs.ReadLemmas.{read_none, read_then, read_more, read_all}
-use Rattle.pawn_host.specs.Keeps.{service_keep, start_of, start_after, host_by}
 use Rattle.pawn_host.proofs.CrashLemmas.{goes_none}
-use Rattle.pawn_host.specs.Unanswered.{unanswered}
 use Rattle.pawn_host.proofs.service.Service.answer_all.Goals as goal
 
 pub loop-acted-init : goal.loop-acted-init

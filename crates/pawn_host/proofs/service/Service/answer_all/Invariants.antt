@@ -1,11 +1,8 @@
 use Rattle.std.proofs.Common.{◌≡◌, ◌≤◌, ◌*◌, ◌^◌, false}
-use Rattle.std.specs.Io.KnownBytes.{prepend_known}
-use Rattle.pawn_view.specs.Ends.{write_failed, written_bytes}
-use Rattle.pawn_host.specs.Ends.{reads, read_failed, left_of}
-use Rattle.pawn_host.specs.Keeps.{StaysOpen, Serves}
+use Rattle.pawn_host.specs.Common.{prepend_known, write_failed, written_bytes}
+use Rattle.pawn_host.specs.Sessions.{Serves, StaysOpen, left_of, read_failed, reads, unanswered}
 use Rattle.pawn_host.proofs.ReadLemmas.{ReadSoFar}
 use Rattle.pawn_host.proofs.SessionLemmas.{SoFar, TakenSoFar}
-use Rattle.pawn_host.specs.Unanswered.{unanswered}
 use Rattle.pawn_host.proofs.service.Service.answer_all.Given as goal
 
 abbrev pub invariant-loop-acted : goal.invariant-loop-acted

@@ -1,6 +1,5 @@
 use Rattle.std.proofs.Common.{◌∙◌, ap, map}
-use Rattle.std.specs.Prelude.{option_map}
-use Rattle.pawn_book.specs.BookStep.{book_head}
+use Rattle.pawn_list_keeper.specs.Common.{book_head, option_map}
 use Rattle.pawn_list_keeper.specs.Listed.{book_at, listed_book}
 use Rattle.pawn_list_keeper.proofs.ListKeeping.{book_read, list_reads}
 use Rattle.pawn_list_keeper.proofs.list.ListKeepKeep.book_head.Goals as goal

@@ -1,7 +1,5 @@
 use Rattle.std.proofs.Common.{◌∙◌, ap, map}
-use Rattle.std.specs.Prelude.{option_map}
-use Rattle.pawn_pledge.specs.Brief.{brief_of}
-use Rattle.pawn_book.specs.BookStep.{pledge_in}
+use Rattle.pawn_list_keeper.specs.Common.{brief_of, option_map, pledge_in}
 use Rattle.pawn_list_keeper.specs.Listed.{book_at, listed_book}
 use Rattle.pawn_list_keeper.proofs.ListKeeping.{book_read, list_reads}
 use Rattle.pawn_list_keeper.proofs.list.ListKeepKeep.brief.Goals as goal

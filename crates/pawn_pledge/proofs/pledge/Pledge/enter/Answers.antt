@@ -1,7 +1,6 @@
 use Rattle.std.proofs.Common.{Option, ap, subst, ◌∙◌}
 use Rattle.pawn_debt.specs.declared.entry.Entry.{Entry}
-use Rattle.pawn_pledge.specs.Pledge.{PledgeValue}
-use Rattle.pawn_pledge.specs.Step.{IsApplied, numbered_step, entry_of}
+use Rattle.pawn_pledge.specs.Pledges.{IsApplied, PledgeValue, entry_of, numbered_step}
 use Rattle.pawn_pledge.proofs.pledge.Pledge.enter.Goals as goal
 
 pub returns : goal.returns

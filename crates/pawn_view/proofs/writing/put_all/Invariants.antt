@@ -1,7 +1,0 @@
-use Rattle.std.proofs.Common.{take}
-use Rattle.std.specs.List.{flat_map}
-use Rattle.pawn_view.specs.Ends.{Puts}
-use Rattle.pawn_view.proofs.writing.put_all.Given as goal
-
-abbrev pub invariant-loop-piece : goal.invariant-loop-piece
-invariant-loop-piece g l = Puts g.W.Write.contents l.fn.writer (flat_map (λ p. p.now) (take l.piece-index l.pieces)) l.writer

@@ -1,0 +1,17 @@
+-- Lemmas on what is written in several writes.
+use Rattle.std.proofs.Common.{◌≡◌, ℕ, ◌+◌, ◌-◌, Bool, false, List, [], ◌∷◌, length, take, drop, Option, Ok, subst, sym, arith}
+use Rattle.std.specs.Prelude.{◌||◌}
+use Rattle.pawn_writing.proofs.Lemmas.{Appends-trans, nat_tests, take_rest}
+use Rattle.std.proofs.Math.Seq.{take-add}
+use Rattle.std.specs.Io.KnownBytes.{Appends}
+use Rattle.pawn_writing.specs.Ends.{is_write_failure}
+
+-- a write of the rest goes on where the writes before it stopped
+pub sent_more : (a b c : Option (List ℕ)) (xs : List ℕ) (s n : ℕ) → Appends a b (take s xs) → Appends b c (take n (take (length xs - s) (drop s xs))) → Appends a c (take (s + n) xs)
+sent_more a b c xs s n first second =
+    let second' : Appends b c (take n (drop s xs)) = subst (λ (r : List ℕ). Appends b c (take n r)) (take_rest xs s) second in
+    subst (λ (r : List ℕ). Appends a c r) (sym (take-add s n xs)) (Appends-trans a b c (take s xs) (take n (drop s xs)) first second')
+
+pub not_failed : (E : Type 0) (before : Bool) (n : ℕ) (bs : List ℕ) → before ≡ false → (n ≡ 0 → ⊥) → (before || is_write_failure {E = E} (Ok n) bs) ≡ false
+not_failed E before n [] e h = grind (arith, nat_tests)
+not_failed E before n (b ∷ bs) e h = grind (arith, nat_tests)

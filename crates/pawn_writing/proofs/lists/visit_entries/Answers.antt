@@ -1,0 +1,13 @@
+use Rattle.std.proofs.Common.{◌∙◌, [], ap, refl, sym}
+use Rattle.pawn_writing.specs.Common.{BriefFields, Go, entries_of}
+use Rattle.pawn_book.proofs.Reading.{reads_none}
+use Rattle.pawn_writing.proofs.ListLemmas.{nothing_shared}
+use Rattle.pawn_writing.proofs.lists.visit_entries.Goals as goal
+
+pub returns-then-fields-eq0-clause-reads : goal.returns-then-fields-eq0-clause-reads
+returns-then-fields-eq0-clause-reads g c =
+    let none = λ (b : BriefFields). b.counts.entries in
+    ([], Go, (refl, refl), reads_none _ _ _ (λ h p at is. nothing_shared entries_of at (sym (ap none (c.fields.ensures.value ∙ is)) ∙ c.if-fields-eq0.true)))
+
+pub returns-clause-unasked : goal.returns-clause-unasked
+returns-clause-unasked g c none = absurd (c.if-fields-eq0.false (ap (λ (b : BriefFields). b.counts.entries) c.fields.ensures.value ∙ none))

@@ -1,0 +1,118 @@
+//! A writer that remembers whether it failed, and calls that write to one.
+ghost use Rattle.std.specs.Prelude.{◌≡◌, ◌+◌, ◌<◌, ◌≤◌, true, false, ◌||◌, length, take, if◌then◌else◌};
+ghost use Rattle.pawn_writing.specs.Common.{Appends, Go, Stop, WriteAppends, flat_map};
+ghost use Rattle.std.specs.Io.{WritesAtMost};
+ghost use Rattle.pawn_writing.specs.Ends.{writing_inner, write_failed, written_bytes, is_write_failure, Puts};
+
+use pawn_book::Flow;
+use std::io;
+use std::io::Write;
+
+/// A writer that remembers whether a write to it has failed.
+#[derive(Drop)]
+pub struct Writing<W> {
+    inner: W,
+    failed: bool,
+}
+
+impl<W> Writing<W> {
+    /// Wraps a writer. It has not failed yet.
+    pub fn new(inner: W) -> Self
+        ensures inner { writing_inner result ≡ inner }
+        ensures failed { write_failed result ≡ false }
+    {
+        Writing {
+            inner,
+            failed: false,
+        }
+    }
+
+    /// Whether a write has failed: it gave an error, or took no byte of some.
+    pub fn has_failed(&self) -> bool
+        ensures answer { result ≡ write_failed self.now }
+    {
+        self.failed
+    }
+
+    /// What this writer answers as a visitor: it stops once it has failed.
+    pub fn flow(&self) -> Flow
+        ensures answer { result ≡ (if write_failed self.now then Stop else Go) }
+    {
+        if self.failed { Flow::Stop } else { Flow::Go }
+    }
+
+    /// Gives the inner writer back.
+    pub fn into_inner(self) -> W
+        ensures answer { result ≡ writing_inner self }
+    {
+        self.inner
+    }
+}
+
+impl<W: Write> Writing<W> {
+    /// One write: it hands on the inner writer's answer, and remembers a failure.
+    ///
+    /// By contract as many bytes were written as the answer says, and none on an error [`bytes`], and a failure is
+    /// remembered [`failed`]. No contract of a writer can say that the inner writer is called exactly once, even after
+    /// a failure. That much is tested.
+    pub fn write(&mut self, bytes: &[u8]) -> io::Result<usize>
+        ensures bound { WritesAtMost result bytes.now }
+        ensures bytes { WriteAppends (written_bytes W.contents self.old)
+            (written_bytes W.contents self.new) result bytes.now }
+        ensures failed { write_failed self.new
+            ≡ (write_failed self.old || is_write_failure result bytes.now) }
+    {
+        let answer = self.inner.write(bytes);
+        match &answer {
+            Ok(n) => {
+                if *n == 0 && !bytes.is_empty() {
+                    self.failed = true;
+                }
+            }
+            Err(_) => self.failed = true,
+        }
+        answer
+    }
+}
+
+/// Writes these bytes, in as many writes as the writer needs, until all are written or the writer fails. Returns how
+/// many were written. After a failed write no other is made. No contract of a writer can say so; that much is tested.
+///
+/// The caller's condition: the writer has not failed.
+pub fn send<W: Write>(writer: &mut Writing<W>, bytes: &[u8]) -> usize
+    requires fine { write_failed writer.old ≡ false }
+    ensures bound { result ≤ length bytes.now }
+    ensures bytes { Appends (written_bytes W.contents writer.old)
+        (written_bytes W.contents writer.new) (take result bytes.now) }
+    ensures done { result ≡ length bytes.now → write_failed writer.new ≡ false }
+    ensures failed { result < length bytes.now → write_failed writer.new ≡ true }
+{
+    let mut sent = 0;
+    while sent < bytes.len() {
+        match writer.write(&bytes[sent..]) {
+            Ok(0) => return sent,
+            Ok(n) => sent += n,
+            Err(_) => return sent,
+        }
+    }
+    sent
+}
+
+/// Writes these bytes, unless the writer has failed before. If `has_failed` is false afterwards, all of them went out.
+/// Takes no memory.
+pub fn put<W: Write>(writer: &mut Writing<W>, bytes: &[u8])
+    ensures puts { Puts W.contents writer.old bytes.now writer.new }
+{
+    if !writer.has_failed() {
+        send(writer, bytes);
+    }
+}
+
+/// Writes these pieces one after another, as `put` does. Takes no memory.
+pub fn put_all<W: Write>(writer: &mut Writing<W>, pieces: &[&[u8]])
+    ensures puts { Puts W.contents writer.old (flat_map (λ p. p.now) pieces.now) writer.new }
+{
+    for piece in pieces {
+        put(writer, piece);
+    }
+}
