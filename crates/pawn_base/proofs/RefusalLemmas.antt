@@ -4,7 +4,7 @@ use Rattle.std.proofs.lemmas.Bool.{false≢true}
 use Rattle.pawn_base.specs.Refusals.{first_of, NoneApplies}
 
 -- an answer past one row
-past_row-ok : {V E : Type 0} (b : Bool) (why : E) (answer : Result V E) (v : V) → (if b then Err why else answer) ≡ Ok v → (b ≡ false) × (answer ≡ Ok v)
+pub past_row-ok : {V E : Type 0} (b : Bool) (why : E) (answer : Result V E) (v : V) → (if b then Err why else answer) ≡ Ok v → (b ≡ false) × (answer ≡ Ok v)
 past_row-ok true why answer v h = cc
 past_row-ok false why answer v h = (refl, h)
 

@@ -16,7 +16,7 @@ pub struct PledgeRows {
 impl Model for PledgeRows {
     ghost use Rattle.std.specs.Prelude.{List};
     ghost use Rattle.pawn_pledge.specs.Pledge.{PledgeValue};
-    ghost use Rattle.pawn_pledge.specs.Replayable.{Each};
+    ghost use Rattle.pawn_base.specs.Lists.{Each};
     ghost use Rattle.pawn_book.specs.Written.{HasTextsAndWords};
 
     ghost Value = { List PledgeValue };

@@ -6,7 +6,7 @@ use Rattle.pawn_book.proofs.Reading.{ok_is, reads_then}
 use Rattle.pawn_book.proofs.openings.plan_pledge.Goals as goal
 
 pub returns-in-Ok-clause-reads : goal.returns-in-Ok-clause-reads
-returns-in-Ok-clause-reads g c = reads_then c.find_reference.ensures.reads c.take.ensures.reads (λ h found taken sound at is heads.
+returns-in-Ok-clause-reads g c = reads_then c.find_reference.ensures.reads c.new_pledge.ensures.reads (λ h found taken sound at is heads.
     let answer = subst (IsSaid IsUnwell (next_pledge c.args.head.now c.args.opening.now c.args.stamp.now (newest at.terms))) c.in-Ok.is (taken at is heads) in
     subst (λ n. Plans h c.args.book (take_pledge at c.args.book c.args.opening.now c.args.stamp.now (with_reference at.pledges c.args.opening.now.reference))
     (Ok (record { change = Some (PutPledge c.args.book n c.in-Ok.pledge); reply = Opened c.first_receipt-in-Ok.result })))

@@ -1,4 +1,4 @@
-use Rattle.std.proofs.Common.{◌≡◌, ℕ, List, [], ◌∷◌, map, length, sum_by, refl, sym, ap, ◌∙◌, arith}
+use Rattle.std.proofs.Common.{◌≡◌, ℕ, List, [], ◌∷◌, map, sum_by, refl, sym, ap, ◌∙◌}
 use Rattle.std.specs.Prelude.{if◌then◌else◌, Option, None, Some, nat_lt}
 use Rattle.pawn_book.specs.Common.{FinMap, Stamp, civil_after, days_of_months, days_of_years, due_after, empty, entries, entries-insert, find, get, get-entries, insert, len-empty, len-entries, nat_cmp, put}
 use Rattle.pawn_book.proofs.Lemmas.{nat_cmp_total, no_elements}
