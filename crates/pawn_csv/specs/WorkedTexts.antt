@@ -8,6 +8,7 @@ use Rattle.pawn_pledge.specs.declared.record.BookingState.TheVariants.{Asked}
 use Rattle.pawn_csv.specs.declared.fault.Cause.{Cause}
 use Rattle.pawn_csv.specs.declared.fault.Cause.TheVariants as cause
 use Rattle.pawn_csv.specs.declared.row.Row.{Row}
+use Rattle.pawn_csv.specs.declared.row.TheConstants.{NUMBERS_END}
 use Rattle.pawn_csv.specs.declared.row.Version.TheVariants as version
 use Rattle.pawn_csv.specs.Order.{Begun, is_whole, run}
 use Rattle.pawn_csv.specs.Rows.{pledge_columns, csv1_rows, row_fields, rows_of_csv}
@@ -49,6 +50,8 @@ abbrev pub comes_to : List Row → Result Bool Cause
 comes_to rows = ended (run None rows)
 
 pub record WorkedRowTexts : Type 0 where
+  -- a number has twelve digits at most
+  pub numbers : NUMBERS_END ≡ 1000000000000
   -- a version of terms is a row of 15 columns
   pub terms : row_fields (Row.Terms 1 free) ≡ codes "T" ∷ codes "1" ∷ codes "0" ∷ codes "0" ∷ codes "0" ∷ [] ∷ [] ∷ [] ∷ [] ∷ [] ∷ [] ∷ [] ∷ [] ∷ [] ∷ [] ∷ []
   -- an extension, and a pledge

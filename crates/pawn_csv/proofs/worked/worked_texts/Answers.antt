@@ -7,6 +7,7 @@ pub returns : goal.returns
 unfolding civil_after days_of_years days_of_months digits escaped fields_text is_blank by_index
 returns c = record {
   texts = record {
+    numbers = refl;
     terms = refl;
     extension = refl;
     pledge = refl;
