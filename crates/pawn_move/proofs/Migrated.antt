@@ -5,7 +5,7 @@ use Rattle.sqlite.specs.Steps.{FailsToCommit}
 use Rattle.sqlite.specs.declared.error.Error.{Error}
 use Rattle.sqlite.proofs.StateLemmas.{survives_then}
 use Rattle.pawn_book.specs.declared.fault.KeepError.TheVariants as Keeper
-use Rattle.pawn_opening.proofs.Begun.{IsBegun, held, opens_as, rolled_back}
+use Rattle.pawn_opening.proofs.Begun.{IsBegun, held, opens_as, rolled_back, uncommitted}
 use Rattle.pawn_move.proofs.Filled.{untold}
 use Rattle.pawn_move.proofs.Reading.{handed}
 use Rattle.pawn_move.specs.Migrating.{HoldMoved, MovesStore, MovesStoreOwed}
@@ -53,14 +53,7 @@ module _ (n : ℕ) (old new begun lent : State) (was : IsBegun old begun) (ended
     pub not_committed : (e : KeepError) → e ≢ Keeper.Store NoRecord → (error : Error) → (HasCleanDisk new → FailsToCommit lent new error) → MovesStore n old new (Err e)
     not_committed e not error failed = record {
       moved = λ clean h none st. untold e (λ done. OpensAs new h) (HasUnsoundBook h) not;
-      err = λ clean. rolled_back old begun lent new true was part (clean_past clean) (rolled clean);
+      err = λ clean. rolled_back old begun lent new true was part (clean_past clean) (uncommitted old begun lent new was part error (clean_past clean) (failed clean));
       ended = ended;
       survives = survived;
     }
-      where
-        rolled : HasCleanDisk new → IsRolledBack lent new
-        rolled clean = go (failed clean)
-          where
-            go : FailsToCommit lent new error → IsRolledBack lent new
-            go (inl f) = f.3
-            go (inr f) = absurd (let yes' = part.inside (clean_past clean) was.within refl in let no' = f.1 in cc)

@@ -1,7 +1,7 @@
 -- A transaction that begins, and what is left once it is rolled back.
-use Rattle.std.proofs.Common.{◌≡◌, inl, true, false, Bool, IsTrue, refl, sym, ap, subst, ◌∙◌, arith}
+use Rattle.std.proofs.Common.{◌≡◌, inl, inr, true, false, Bool, IsTrue, refl, sym, ap, subst, ◌∙◌, arith}
 use Rattle.sqlite_trees.specs.declared.store.Store.{Ghosts}
-use Rattle.pawn_opening.specs.Common.{Database, Held, state, HasCleanDisk, IsLive, IsRolledBack, State, Survives, Trees, Host, IsLent, StandForOne, HoldHost, StandsFor}
+use Rattle.pawn_opening.specs.Common.{Database, Error, FailsToCommit, Held, state, HasCleanDisk, IsLive, IsRolledBack, State, Survives, Trees, Host, IsLent, StandForOne, HoldHost, StandsFor}
 use Rattle.one_table.proofs.Parts.{rests_open, committed_rests}
 use Rattle.pawn_opening.specs.Opened.{IsAsBefore, OpensAs}
 
@@ -40,6 +40,11 @@ rolled_back old begun lent new ok was part clean undone =
       now = λ now. (undone.undone now).0 ∙ sym (undone.undone now).1 ∙ committed' now ∙ sym (was.settled (opened now));
       committed = committed';
     }
+
+-- a commit that failed is rolled back
+pub uncommitted : (old begun lent new : State) → IsBegun old begun → IsLent begun lent true → (error : Error) → HasCleanDisk lent → FailsToCommit lent new error → IsRolledBack lent new
+uncommitted old begun lent new was part error clean (inl failed) = failed.3
+uncommitted old begun lent new was part error clean (inr ended) = absurd (let inside = part.inside clean was.within refl in let outside = ended.1 in cc)
 
 pub held : (db : Database) (h : Host) → StandsFor db h → HoldHost db.trees h
 held db h st = (db.schema, st)

@@ -3,7 +3,7 @@ use Rattle.std.proofs.Common.{◌≡◌, inl, inr, true, false, Ok, Err, IsTrue,
 use Rattle.pawn_opening.specs.Common.{HasCleanDisk, IsLive, IsRolledBack, Shows, State, Survives, FailsToCommit, Trees, Error, IsLent}
 use Rattle.sqlite.proofs.StateLemmas.{survives_then}
 use Rattle.pawn_opening.specs.Stores.{AddsIndexes, GainsIndexes, HoldGained, IndexesStore, IsStoreFault, OpenFault}
-use Rattle.pawn_opening.proofs.Begun.{IsBegun, rolled_back}
+use Rattle.pawn_opening.proofs.Begun.{IsBegun, rolled_back, uncommitted}
 use Rattle.pawn_opening.proofs.Gained.{gains_none}
 
 -- it lacks none
@@ -55,15 +55,8 @@ module _ (old new begun lent : State) (was : IsBegun old begun) (ended : new.in_
     pub not_committed : (why : OpenFault) → IsStoreFault why → (error : Error) → (HasCleanDisk new → FailsToCommit lent new error) → IndexesStore old new (Err why)
     not_committed why store error failed = record {
       ok = λ clean open'. tt;
-      err = λ clean. rolled_back old begun lent new true was part (clean_past clean) (rolled clean);
+      err = λ clean. rolled_back old begun lent new true was part (clean_past clean) (uncommitted old begun lent new was part error (clean_past clean) (failed clean));
       why = store;
       ended = ended;
       survives = survived;
     }
-      where
-        rolled : HasCleanDisk new → IsRolledBack lent new
-        rolled clean = go (failed clean)
-          where
-            go : FailsToCommit lent new error → IsRolledBack lent new
-            go (inl f) = f.3
-            go (inr f) = absurd (let yes' = part.inside (clean_past clean) was.within refl in let no' = f.1 in cc)

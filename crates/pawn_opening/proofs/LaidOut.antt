@@ -3,7 +3,7 @@ use Rattle.std.proofs.Common.{◌≡◌, inl, inr, ℕ, true, false, Ok, Err, Is
 use Rattle.pawn_opening.specs.Common.{Database, IsDatabase, HasCleanDisk, IsRolledBack, Shows, State, Survives, FailsToCommit, Trees, Error, no_schema, IsLent, StandForOne, HoldHost, StandsFor}
 use Rattle.sqlite.proofs.StateLemmas.{survives_then}
 use Rattle.pawn_opening.specs.Stores.{AreEmpty, Fills, LaysOut, empty_host, IsEmptyStore, IsStoreFault, OpenFault}
-use Rattle.pawn_opening.proofs.Begun.{IsBegun, held, opens_as, rolled_back}
+use Rattle.pawn_opening.proofs.Begun.{IsBegun, held, opens_as, rolled_back, uncommitted}
 
 module _ (old new begun lent : State) (limit : ℕ) (was : IsBegun old begun) (ended : new.in_transaction ≡ false) where
   abbrev Laid : Trees → Type 0
@@ -52,15 +52,8 @@ module _ (old new begun lent : State) (limit : ℕ) (was : IsBegun old begun) (e
     pub not_committed : (why : OpenFault) → IsStoreFault why → (error : Error) → (HasCleanDisk new → FailsToCommit lent new error) → LaysOut old new limit (Err why)
     not_committed why store error failed = record {
       ok = λ clean empty. tt;
-      err = λ clean. rolled_back old begun lent new true was part (clean_past clean) (rolled clean);
+      err = λ clean. rolled_back old begun lent new true was part (clean_past clean) (uncommitted old begun lent new was part error (clean_past clean) (failed clean));
       why = store;
       ended = ended;
       survives = survived;
     }
-      where
-        rolled : HasCleanDisk new → IsRolledBack lent new
-        rolled clean = go (failed clean)
-          where
-            go : FailsToCommit lent new error → IsRolledBack lent new
-            go (inl f) = f.3
-            go (inr f) = absurd (let yes' = part.inside (clean_past clean) was.within refl in let no' = f.1 in cc)
