@@ -24,7 +24,7 @@ no_parts terms (d ∷ done) raw rest (p ∷ ps) none h =
     no_parts terms done raw rest ps none (same_rest d (raw_of p) (done ++ raw ∷ rest) (map raw_of ps) h.0, h.1.1, h.2.1)
 
 -- columns tell one closing
-same_closing : (a b : Closing) → closing_word a ≡ closing_word b → closing_day a ≡ closing_day b → closing_amount a ≡ closing_amount b → a ≡ b
+pub same_closing : (a b : Closing) → closing_word a ≡ closing_word b → closing_day a ≡ closing_day b → closing_amount a ≡ closing_amount b → a ≡ b
 same_closing closed.Open closed.Open w d m = refl
 same_closing closed.Open (closed.Redeemed x y) w d m = cc
 same_closing closed.Open (closed.Sold x y) w d m = cc
@@ -35,7 +35,7 @@ same_closing (closed.Sold x y) closed.Open w d m = cc
 same_closing (closed.Sold x y) (closed.Redeemed u v) w d m = cc
 same_closing (closed.Sold x y) (closed.Sold u v) w d m = cc
 
-same_rates : (terms : List Rates) (v w : ℕ) (a b : Rates) → v ≡ w → terms_at terms v ≡ Some a → terms_at terms w ≡ Some b → a ≡ b
+pub same_rates : (terms : List Rates) (v w : ℕ) (a b : Rates) → v ≡ w → terms_at terms v ≡ Some a → terms_at terms w ≡ Some b → a ≡ b
 same_rates terms v w a b same x y = let e = sym x ∙ ap (terms_at terms) same ∙ y in cc
 
 same_record : (p q : PledgeValue) → p.agreement.number ≡ q.agreement.number → p.agreement.opening ≡ q.agreement.opening → p.agreement.taken ≡ q.agreement.taken

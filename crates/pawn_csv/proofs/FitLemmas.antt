@@ -6,7 +6,7 @@ use Rattle.std.proofs.lemmas.Nat.{mul-le}
 use Rattle.pawn_base.proofs.RefusalLemmas.{first_of-is_ok}
 use Rattle.pawn_terms.specs.Limits.{first_day, last_stamp_day}
 use Rattle.pawn_terms.specs.Terms.{IsChecked}
-use Rattle.pawn_debt.proofs.Bounds.{accepted-bounded, keep-small, after_days-small}
+use Rattle.pawn_debt.proofs.Bounds.{accepted-bounded}
 use Rattle.pawn_debt.proofs.DueLemmas.{after_days-principal}
 use Rattle.pawn_debt.proofs.EntryLemmas.{due-from-last}
 use Rattle.pawn_debt.specs.Answers.{draw_rows, is_bad_amount, repay_rows, with_entry}
@@ -35,6 +35,24 @@ all_pence : (d : DebtValue) (prior es : List Entry) → AreEntriesAccepted d pri
 all_pence d prior [] h = tt
 all_pence d prior (e ∷ es) h = (accepted_pence e.sort (record d { entries = prior }) e.day e.pence h.0.1, all_pence d (prior ++ e ∷ []) es h.1)
 
+keep_small : (t : Rates) (ends x : ℕ) → IsChecked t → keep_on t ends x ≤ 10000000
+keep_small t ends x h = from (nat_le x ends)
+  where
+    from : (b : Bool) → (if b then t.keep_before else t.keep_after) ≤ 10000000
+    from true = h.1
+    from false = omega (arith, h.1, h.2)
+
+-- days without entries add no more than the most a day
+days_small : (t : Rates) (ends x n : ℕ) (o : Due) → IsChecked t → o.principal ≤ most_pence → (after_days t ends x n o).millionths ≤ o.millionths + n * most_a_day
+unfolding after_days
+days_small t ends x zero o h small = omega arith
+days_small t ends x (suc n) o h small =
+    let less = days_small t ends x n o h small in
+    let same = after_days-principal t ends x n o in
+    let interest : (after_days t ends x n o).principal * t.rate ≤ 100000000 * 20000 = mul-le _ _ 100000000 20000 (omega (arith, same, small)) h.0 in
+    let keep = keep_small t ends (x + suc n) h in
+    omega (arith, less, interest, keep)
+
 -- what is owing on a pledge's last day has twelve digits
 total_fits : (p : PledgeValue) → IsStanding p → IsColumnNumber (total_on p p.standing.last)
 total_fits p h =
@@ -47,7 +65,7 @@ total_fits p h =
     let low = last_by-le (λ (e : Entry). e.day) d.taken d.entries entered.ordered in
     let same = due-from-last d x entered.ordered entered.before in
     let principal = after_days-principal d.terms d.ends last (x - last) (due d last) in
-    let small = after_days-small d.terms d.ends last (x - last) (due d last) h.terms bounded.principal in
+    let small = days_small d.terms d.ends last (x - last) (due d last) h.terms bounded.principal in
     let millionths : (due d x).millionths ≤ 84005 * 2000010000000 = omega (arith, ap (λ (o : Due). o.millionths) same, small, bounded.millionths, low, entered.before, h.within.last) in
     let pence : (due d x).principal ≤ most_pence = omega (arith, ap (λ (o : Due). o.principal) same, principal, bounded.principal) in
     omega (arith, millionths, pence)

@@ -7,7 +7,7 @@ use Rattle.pawn_host.proofs.SplitLemmas.{passes-snoc}
 
 -- ---- fronts
 
-ok_same : (m n : ℕ) → ◌≡◌ {A = Result ℕ HeadFault} (Ok m) (Ok n) → m ≡ n
+pub ok_same : (m n : ℕ) → ◌≡◌ {A = Result ℕ HeadFault} (Ok m) (Ok n) → m ≡ n
 ok_same m n e = cc
 
 ok_not_err : (m : ℕ) (f : HeadFault) → ◌≡◌ {A = Result ℕ HeadFault} (Ok m) (Err f) → ⊥
@@ -211,7 +211,7 @@ split_begins s requests all e (inr y) (inl x) = begins_close s requests all x.0 
 split_begins s requests all e (inl y) (inr x) = absurd (closes_or_stops s all requests e y.0 y.1 y.2 x)
 split_begins s requests all e (inr y) (inr x) = ([], closes_same s all requests y.0 x ∙ sym (append-nil requests))
 
-length_snoc : (requests : List (List ℕ)) (x : List ℕ) → length (requests ++ x ∷ []) ≡ suc (length requests)
+pub length_snoc : (requests : List (List ℕ)) (x : List ℕ) → length (requests ++ x ∷ []) ≡ suc (length requests)
 length_snoc requests x = length-append requests (x ∷ []) ∙ (omega arith)
 
 begins_next : (s : List ℕ) (requests : List (List ℕ)) (next more : List ℕ) (c : Bool) → PassesOver s requests (next ++ more) → IsRequest next c → length requests < 1000 → Begins s (requests ++ next ∷ [])
@@ -251,10 +251,10 @@ marks_same bytes no_store (read_as q) x y e = absurd cc
 marks_same bytes no_store no_memory x y e = absurd cc
 marks_same bytes no_store no_store x y e = refl
 
-cons_head : {A : Type 0} (x y : A) (xs ys : List A) → x ∷ xs ≡ y ∷ ys → x ≡ y
+pub cons_head : {A : Type 0} (x y : A) (xs ys : List A) → x ∷ xs ≡ y ∷ ys → x ≡ y
 cons_head x y xs ys e = cc
 
-cons_tail : {A : Type 0} (x y : A) (xs ys : List A) → x ∷ xs ≡ y ∷ ys → xs ≡ ys
+pub cons_tail : {A : Type 0} (x y : A) (xs ys : List A) → x ∷ xs ≡ y ∷ ys → xs ≡ ys
 cons_tail x y xs ys e = cc
 
 pub items_unique : (a b : List Item) → All (IsMarked ⊥) a → All (IsMarked ⊥) b → map input_of a ≡ map input_of b → refusals a ≡ refusals b → a ≡ b
