@@ -1,6 +1,6 @@
 -- A book's text, put part by part, and how it ends.
 use Rattle.std.proofs.Common.{◌≡◌, ◌∙◌, ℕ, Bool, true, false, List, [], ◌∷◌, ◌++◌, length, Option, Some, None, Result, Ok, Err, refl, sym, ap, subst}
-use Rattle.std.specs.Prelude.{◌||◌, map, option_map, unwrap_or}
+use Rattle.std.specs.Prelude.{map, option_map, unwrap_or}
 use Rattle.pawn_csv.specs.Common.{BookValue, End, Front, KeepError, PutFront, ViewFault, Whole, Written, book_head, call_end, default_writer, end_by, flat_map, pledges_of, row_text, rows_of_book, terms_of, write_failed}
 use Rattle.pawn_csv.proofs.Lemmas.{flat_map-append, or_from, share_all, share_more, share_puts, share_then}
 use Rattle.pawn_book.specs.declared.change.BookHead.{BookHead}

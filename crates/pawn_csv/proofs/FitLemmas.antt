@@ -1,6 +1,6 @@
 -- The rows of a book that can have come about can be spelled.
-use Rattle.std.proofs.Common.{◌≡◌, ◌∙◌, ◌+◌, ◌-◌, ◌*◌, ◌≤◌, ◌<◌, ℕ, zero, suc, Bool, true, false, List, [], ◌∷◌, ◌++◌, length, Option, Some, None, if◌then◌else◌, IsOk, Ok, sym, ap, subst, arith, nat_le, slice_get}
-use Rattle.pawn_csv.specs.Common.{AreExtended, AreNumbered, AreOrdered, AreWords, Booking, Closing, DebtValue, DoNotFall, Draw, Due, Each, Entry, Extension, HasTextsAndWords, IfSome, IsBooked, IsClosed, IsStampDay, IsStanding, IsUnder, Issued, PledgeValue, Rates, Repay, Sort, after_days, debt_of, due, end_with, flat_map, keep_on, last_by, last_of, most_a_day, most_pence, terms_at, total_on}
+use Rattle.std.proofs.Common.{◌≡◌, ◌∙◌, ◌+◌, ◌-◌, ◌*◌, ◌≤◌, ℕ, zero, suc, Bool, true, false, List, [], ◌∷◌, ◌++◌, length, Option, Some, None, if◌then◌else◌, IsOk, Ok, sym, ap, subst, arith, nat_le}
+use Rattle.pawn_csv.specs.Common.{AreExtended, AreNumbered, AreOrdered, AreWords, Booking, Closing, DebtValue, DoNotFall, Draw, Due, Each, Entry, Extension, HasTextsAndWords, IfSome, IsBooked, IsClosed, IsStampDay, IsStanding, IsUnder, Issued, PledgeValue, Rates, Repay, Sort, after_days, debt_of, due, end_with, flat_map, keep_on, last_by, last_of, most_a_day, most_pence, total_on}
 use Rattle.pawn_csv.proofs.Lemmas.{last_by-le, nat_tests}
 use Rattle.std.proofs.lemmas.Nat.{mul-le}
 use Rattle.pawn_base.proofs.RefusalLemmas.{first_of-is_ok}

@@ -1,10 +1,9 @@
 -- A text holds one book.
 use Rattle.std.proofs.Common.{◌≡◌, ◌∙◌, ◌++◌, ◌∷◌, ◌≤◌, ℕ, [], Bool, true, false, List, length, Option, Some, refl, sym, ap, subst, arith, nat_le}
-use Rattle.pawn_csv.specs.Common.{Agreement, BookRows, Closing, Each, IsUnder, PledgeValue, Rates, Standing, default_config, map, terms_at}
+use Rattle.pawn_csv.specs.Common.{Agreement, BookRows, Each, IsUnder, PledgeValue, Rates, Standing, default_config, map}
 use Rattle.pawn_csv.proofs.Lemmas.{append-nil, nat_tests}
 use Rattle.csv.specs.declared.parser.State.TheVariants as st
-use Rattle.pawn_pledge.specs.declared.record.Closing.TheVariants as closed
-use Rattle.pawn_csv.specs.Csv.{AreTaken, Begun, ClosingWord, IsBegunOf, IsFinishedAs, IsReadAs, RawPledge, TextsHoldOneBook, closing_amount, closing_day, closing_word, raw_of}
+use Rattle.pawn_csv.specs.Csv.{AreTaken, Begun, ClosingWord, IsBegunOf, IsFinishedAs, IsReadAs, RawPledge, TextsHoldOneBook, raw_of}
 use Rattle.pawn_csv.specs.declared.row.ClosingWord.TheVariants as closing
 use Rattle.pawn_csv.proofs.OneReading.{no_further, reached_on, taken_same}
 use Rattle.pawn_csv.proofs.TakenLemmas.{texts_are_read_as}

@@ -1,6 +1,6 @@
 -- The records so far, and what they make.
 use Rattle.std.proofs.Common.{◌≡◌, ◌≢◌, ◌∙◌, ◌+◌, ℕ, Bool, true, false, List, [], ◌∷◌, ◌++◌, length, map, Option, Some, None, Result, Ok, Err, refl, sym, ap, subst, arith, nat_eq, inl, inr}
-use Rattle.pawn_csv.specs.Common.{BookRows, Each, ErrorKind, ExplainsRead, IfSome, NextIs, Reached, Read, ReadRecord, ReadsNext, State, default_config, next_record, pending_of, source_of}
+use Rattle.pawn_csv.specs.Common.{BookRows, ErrorKind, ExplainsRead, IfSome, NextIs, Reached, Read, ReadRecord, ReadsNext, State, default_config, next_record, pending_of, source_of}
 use Rattle.pawn_csv.proofs.Lemmas.{Each-push, length-append, map-append, nat_tests}
 use Rattle.csv.specs.declared.error.ErrorKind.TheVariants as kind
 use Rattle.pawn_csv.specs.declared.fault.Cause.TheVariants as cause

@@ -8,7 +8,7 @@ use Rattle.pawn_pledge.specs.Pledge.{PledgeValue}
 use Rattle.pawn_terms.specs.declared.terms.Rates.{Rates}
 use Rattle.pawn_book.proofs.SlotRuns.{other_books_stay}
 use Rattle.pawn_tables.specs.Rows.{number, book_row, terms_listed, placed_from, terms_cells, pledge_listed, entries_listed, secrets_listed, booking_listed, totals_listed, extensions_listed, under, entry_cells, secret_cells, extension_cells, number_in_book}
-use Rattle.pawn_tables.proofs.RowsUnderKey.{AreUnder, equals, rows_at, of_one_book, filter-flat_map, flat_none}
+use Rattle.pawn_tables.proofs.RowsUnderKey.{AreUnder, equals, rows_at, of_one_book, filter-flat_map}
 use Rattle.pawn_tables.proofs.PledgeReads.{under_map, under_placed, under_booked}
 use Rattle.pawn_store.specs.OtherRows.{AreElsewhere, HaveSameRows, IsElsewhere, OtherRowsStay, OtherRowsStayInRuns, rows_under_book}
 

@@ -1,7 +1,7 @@
 -- What a query that counts the rows of a table shows.
-use Rattle.std.proofs.Common.{◌≡◌, ◌++◌, ℕ, min, List, [], ◌∷◌, length, map, filter, flat_map, Bool, true, false, cond, refl, sym, ap, ◌∙◌, IsPermutation}
+use Rattle.std.proofs.Common.{◌≡◌, ℕ, min, List, [], ◌∷◌, length, map, filter, Bool, false, sym, ap, ◌∙◌, IsPermutation}
 use Rattle.pawn_tables.specs.Common.{Some, AllZip, Binary, Row, Schema, Shown, State, Table, Env, Term, lit, Trees, Null, Holds, columns_of}
-use Rattle.pawn_tables.proofs.Lemmas.{length-map, filter_agree, length_permutation, IsPermutation-filter, filter-map, reads_as, around, over_table, passes, Asks}
+use Rattle.pawn_tables.proofs.Lemmas.{length-map, filter_agree, length_permutation, IsPermutation-filter, filter-map, reads_as, around, gathered, over_table, passes, Asks}
 use Rattle.sqlite.specs.Query.{Query, IsAnswer}
 use Rattle.sqlite.specs.Program.{overlay}
 use Rattle.sqlite_sql.specs.declared.aggregate.AggregateOp.TheVariants.{CountRows}
@@ -20,11 +20,6 @@ count_of n = number_cells (min n most_counted)
 
 abbrev only : Grouping
 only = record { keys = []; collations = []; aggregates = record { op = CountRows; distinct = false; collation = Binary; argument = lit Null } ∷ []; having = [] }
-
-gathered : {A B : Type 0} (test : A → Bool) (f : A → B) (xs : List A) → flat_map (λ x. cond (test x) (f x ∷ []) []) xs ≡ map f (filter test xs)
-gathered test f [] = refl
-gathered test f (x ∷ xs) = elim (test x) as (λ b. cond b (f x ∷ []) [] ++ flat_map (λ y. cond (test y) (f y ∷ []) []) xs ≡ map f (cond b (x ∷ filter test xs) (filter test xs)))
-    [ true ↦ ap (λ l. f x ∷ l) (gathered test f xs) | false ↦ gathered test f xs ]
 
 module _ (all order : List Env) (same : IsPermutation all order) where
   one_value : (vs : Row) → AllZip (λ a v. value_over order a ≡ Some v) only.aggregates vs → vs ≡ count_of (length all)

@@ -13,6 +13,7 @@ pub mod NextLines
 pub mod OneEach
 pub mod OneHost
 pub mod PageLemmas
+pub mod PlacedRows
 pub mod PledgeReads
 pub mod PledgeSearches
 pub mod ReadTexts

@@ -1,12 +1,12 @@
 -- What the queries for the ends of a pledge's lists show, where the tables stand for a host.
-use Rattle.std.proofs.Common.{◌≡◌, ℕ, suc, ◌+◌, ◌-◌, List, [], ◌∷◌, length, map, Option, Some, None, option_map, refl, sym, ap, subst, ◌∙◌, arith}
-use Rattle.pawn_tables.specs.Common.{IfSome, unwrap_or, get, Less, Row, column, value_cmp, Shown, State, Table, IsAscending, IsDayNumber, PledgeValue, last_element, Each, Extension, Issued, pledge_in, Host, entries_of, extensions_of, secrets_of, IsUnsoundAt, AreWords, IsWord}
-use Rattle.pawn_tables.proofs.Lemmas.{length-map, last_of, shown_last, last_later, last_some, at_pledge, of_one_pledge, placed_rise, rows_at}
-use Rattle.pawn_tables.specs.Tables.{number_cells, AreListEnds, last_cells, last_issued, with_indexes, at_most_one, entries_listed, entry_cells, extension_cells, extensions_listed, number, placed_from, secret_cells, secrets_listed, under, entries, entries_tree, extensions, extensions_tree, secrets, secrets_tree, AreStorable, StandsFor, of_pledges, LastSecret}
+use Rattle.std.proofs.Common.{◌≡◌, ℕ, suc, ◌+◌, ◌-◌, List, [], ◌∷◌, length, map, Option, Some, None, option_map, refl, sym, ap, ◌∙◌, arith}
+use Rattle.pawn_tables.specs.Common.{IfSome, unwrap_or, get, Row, column, Shown, State, IsDayNumber, PledgeValue, last_element, Each, Extension, Issued, pledge_in, Host, entries_of, extensions_of, secrets_of, IsUnsoundAt, AreWords, IsWord}
+use Rattle.pawn_tables.proofs.Lemmas.{length-map, last_of, last_later, last_some, at_pledge, of_one_pledge, rows_at}
+use Rattle.pawn_tables.specs.Tables.{number_cells, AreListEnds, last_cells, last_issued, with_indexes, at_most_one, entries_listed, entry_cells, extension_cells, extensions_listed, number, placed_from, secret_cells, secrets_listed, under, entries, entries_tree, secrets, AreStorable, StandsFor, of_pledges, LastSecret}
 use Rattle.pawn_tables.specs.declared.joining.ListEnds.{ListEnds}
 use Rattle.pawn_tables.proofs.Counts.{count_of, shown_count}
 use Rattle.pawn_tables.proofs.ListElementReads.{at_each}
-use Rattle.pawn_tables.proofs.PledgeReads.{rises_at, under_map, under_placed}
+use Rattle.pawn_tables.proofs.PledgeReads.{extensions_list, extensions_up, four, last_shown, one_mapped, secrets_list, secrets_up, under_map}
 use Rattle.pawn_tables.proofs.ReadTexts as text
 use Rattle.pawn_tables.proofs.SoundReads.{secrets_unsound}
 
@@ -17,10 +17,6 @@ last_placed : {A : Type 0} (g told : ℕ → A → Row) (cells : Row → Row) �
 last_placed g told cells is k place [] end = refl
 last_placed g told cells is k place (x ∷ []) end = let same : k ≡ place = omega (arith, end) in ap (λ r. r ∷ []) (is k x ∙ ap (λ m. told m x) same)
 last_placed g told cells is k place (x ∷ (y ∷ xs)) end = last_placed g told cells is (k + 1) place (y ∷ xs) (omega (arith, end)) ∙ ap (at_most_one (told place)) (sym (last_later x y xs))
-
-one_mapped : {A B : Type 0} (f : A → B) (g : B → Row) (o : Option A) → at_most_one (λ x. g (f x)) o ≡ at_most_one g (option_map f o)
-one_mapped f g None = refl
-one_mapped f g (Some x) = refl
 
 -- its place tells how many they are
 pub place_count : {A : Type 0} (xs : List A) → unwrap_or (option_map (λ (x : A). length xs) (last_element xs)) 0 ≡ length xs
@@ -34,24 +30,19 @@ last_place secrets l is = ap (λ o. unwrap_or (option_map (λ (x : LastSecret). 
     go None = refl
     go (Some i) = refl
 
--- the last of words is a word
-pub last_word : (secrets : List Issued) → AreWords secrets → IfSome (last_issued secrets) (λ (l : LastSecret). IsWord l.issued.secret)
-last_word secrets words = go (last_element secrets) (at_each (λ (i : Issued). IsWord i.secret) secrets (suc (length secrets - 1)) words)
+-- what holds of each secret holds of the last
+last_each : (P : Issued → Type 0) (secrets : List Issued) → Each P secrets → IfSome (last_issued secrets) (λ (l : LastSecret). P l.issued)
+last_each P secrets all = go (last_element secrets) (at_each P secrets (suc (length secrets - 1)) all)
   where
-    go : (o : Option Issued) → IfSome o (λ (i : Issued). IsWord i.secret) → IfSome (option_map (λ (i : Issued). record { place = length secrets; issued = i }) o) (λ (l : LastSecret). IsWord l.issued.secret)
-    go None fits = tt
-    go (Some i) fits = fits
-
--- the last of days is a day
-last_day : (secrets : List Issued) → Each (λ i. IsDayNumber i.day) secrets → IfSome (last_issued secrets) (λ (l : LastSecret). IsDayNumber l.issued.day)
-last_day secrets days = go (last_element secrets) (at_each (λ (i : Issued). IsDayNumber i.day) secrets (suc (length secrets - 1)) days)
-  where
-    go : (o : Option Issued) → IfSome o (λ (i : Issued). IsDayNumber i.day) → IfSome (option_map (λ (i : Issued). record { place = length secrets; issued = i }) o) (λ (l : LastSecret). IsDayNumber l.issued.day)
+    go : (o : Option Issued) → IfSome o P → IfSome (option_map (λ (i : Issued). record { place = length secrets; issued = i }) o) (λ (l : LastSecret). P l.issued)
     go None is = tt
     go (Some i) is = is
 
+pub last_word : (secrets : List Issued) → AreWords secrets → IfSome (last_issued secrets) (λ (l : LastSecret). IsWord l.issued.secret)
+last_word = last_each (λ i. IsWord i.secret)
+
 pub last_unsound : (h : Host) → AreStorable h → (b n : ℕ) → (IfSome (last_issued (secrets_of (pledge_in (get h.books b) n))) (λ (l : LastSecret). IsDayNumber l.issued.day) → ⊥) → IsUnsoundAt b h
-last_unsound h storable b n bad = secrets_unsound h storable b n (λ days. bad (last_day _ days))
+last_unsound h storable b n bad = secrets_unsound h storable b n (λ days. bad (last_each (λ i. IsDayNumber i.day) _ days))
 
 -- ---- what is shown
 
@@ -64,43 +55,32 @@ module _ (old new : State) (h : Host) (b n : ℕ) (rows : List Row) (st : Stands
 
   pub count_shown : Shown text.COUNT_ENTRIES.now params old new rows → rows ≡ count_of (length (entries_of found)) ∷ []
   count_shown shown =
-      let t : Table = record entries { tree = entries_tree } in
-      let one = of_one_pledge h b n entries_listed st.ordered (λ m p. under_map m p.agreement.number entry_cells p.entries) in
-      shown_count (with_indexes st.schema.more) entries_tree (λ _. refl) t text.of_pledge params (at_pledge b n) (λ _. refl) text.COUNT_ENTRIES.now _ (text.entry_count_is st.schema.more) old new (of_pledges h entries_listed) rows st.schema.is st.entries shown
-      ∙ ap (λ k. count_of k ∷ []) (ap length one ∙ many found)
+      shown_count (with_indexes st.schema.more) entries_tree (λ _. refl) (record entries { tree = entries_tree }) text.of_pledge params (at_pledge b n) (λ _. refl) text.COUNT_ENTRIES.now _ ((text.texts st.schema.more).entry_count_is) old new (of_pledges h entries_listed) rows st.schema.is st.entries shown
+      ∙ ap (λ k. count_of k ∷ []) (ap length (of_one_pledge h b n entries_listed st.ordered (λ m p. under_map m p.agreement.number entry_cells p.entries)) ∙ many found)
     where
       many : (o : Option PledgeValue) → length (rows_at o (entries_listed b)) ≡ length (entries_of o)
       many None = refl
       many (Some p) = length-map p.entries _
 
   pub secret_shown : Shown text.READ_LAST_SECRET.now params old new rows → rows ≡ at_most_one last_cells (last_issued (secrets_of found))
-  secret_shown shown =
-      let t : Table = record secrets { tree = secrets_tree } in
-      let one = of_one_pledge h b n secrets_listed st.ordered (λ m p. under_placed m p.agreement.number secret_cells 1 p.secrets) in
-      let up = rises_at found (secrets_listed b) (λ v. column v 2) (λ p is. placed_rise (λ place i. under b p.agreement.number (secret_cells place i)) (λ v. column v 2) (λ place i. refl) 1 p.secrets) in
-      shown_last (with_indexes st.schema.more) secrets_tree (λ _. refl) t text.of_pledge text.secrets_shows params (at_pledge b n) (λ v. column v 2 ∷ column v 3 ∷ column v 4 ∷ column v 5 ∷ []) (λ _. refl) (λ _. refl) 3 (λ v. column v 2) (λ _. refl)
-      text.READ_LAST_SECRET.now _ (text.last_secret_is st.schema.more) old new (of_pledges h secrets_listed) rows st.schema.is st.secrets (subst (IsAscending (λ a c. value_cmp (column a 2) (column c 2) ≡ Less)) (sym one) up) shown
-      ∙ ap (λ xs. map (λ v. column v 2 ∷ column v 3 ∷ column v 4 ∷ column v 5 ∷ []) (last_of xs)) one ∙ cells found
+  secret_shown shown = last_shown old new st.schema h _ _ (secrets_list _ h st) b n text.four_shown four (λ _. refl) text.READ_LAST_SECRET.now _ rows (secrets_up b found) ((text.texts st.schema.more).last_secret_is) shown ∙ cells found
     where
-      cells : (o : Option PledgeValue) → map (λ v. column v 2 ∷ column v 3 ∷ column v 4 ∷ column v 5 ∷ []) (last_of (rows_at o (secrets_listed b))) ≡ at_most_one last_cells (last_issued (secrets_of o))
+      cells : (o : Option PledgeValue) → map four (last_of (rows_at o (secrets_listed b))) ≡ at_most_one last_cells (last_issued (secrets_of o))
       cells None = refl
       cells (Some p) =
-          last_placed (λ place i. under b p.agreement.number (secret_cells place i)) (λ place (i : Issued). last_cells (record { place = place; issued = i })) (λ v. column v 2 ∷ column v 3 ∷ column v 4 ∷ column v 5 ∷ []) (λ place i. refl) 1 (length p.secrets) p.secrets (omega arith)
+          last_placed (λ place i. under b p.agreement.number (secret_cells place i)) (λ place (i : Issued). last_cells (record { place = place; issued = i })) four (λ place i. refl) 1 (length p.secrets) p.secrets (omega arith)
           ∙ one_mapped (λ (i : Issued). record { place = length p.secrets; issued = i }) last_cells (last_element p.secrets)
 
   pub place_shown : Shown text.READ_LAST_PLACE.now params old new rows → rows ≡ at_most_one number_cells (option_map (λ (e : Extension). length (extensions_of found)) (last_element (extensions_of found)))
-  place_shown shown =
-      let t : Table = record extensions { tree = extensions_tree } in
-      let one = of_one_pledge h b n extensions_listed st.ordered (λ m p. under_placed m p.agreement.number extension_cells 1 p.extensions) in
-      let up = rises_at found (extensions_listed b) (λ v. column v 2) (λ p is. placed_rise (λ place e. under b p.agreement.number (extension_cells place e)) (λ v. column v 2) (λ place e. refl) 1 p.extensions) in
-      shown_last (with_indexes st.schema.more) extensions_tree (λ _. refl) t text.of_pledge text.last_place_shows params (at_pledge b n) (λ v. column v 2 ∷ []) (λ _. refl) (λ _. refl) 3 (λ v. column v 2) (λ _. refl)
-      text.READ_LAST_PLACE.now _ (text.last_place_is st.schema.more) old new (of_pledges h extensions_listed) rows st.schema.is st.extensions (subst (IsAscending (λ a c. value_cmp (column a 2) (column c 2) ≡ Less)) (sym one) up) shown
-      ∙ ap (λ xs. map (λ v. column v 2 ∷ []) (last_of xs)) one ∙ cells found
+  place_shown shown = last_shown old new st.schema h _ _ (extensions_list _ h st) b n text.last_place_shows place (λ _. refl) text.READ_LAST_PLACE.now _ rows (extensions_up b found) ((text.texts st.schema.more).last_place_is) shown ∙ cells found
     where
-      cells : (o : Option PledgeValue) → map (λ v. column v 2 ∷ []) (last_of (rows_at o (extensions_listed b))) ≡ at_most_one number_cells (option_map (λ (e : Extension). length (extensions_of o)) (last_element (extensions_of o)))
+      place : Row → Row
+      place v = column v 2 ∷ []
+
+      cells : (o : Option PledgeValue) → map place (last_of (rows_at o (extensions_listed b))) ≡ at_most_one number_cells (option_map (λ (e : Extension). length (extensions_of o)) (last_element (extensions_of o)))
       cells None = refl
       cells (Some p) =
-          last_placed (λ place e. under b p.agreement.number (extension_cells place e)) (λ place (e : Extension). number_cells place) (λ v. column v 2 ∷ []) (λ place e. refl) 1 (length p.extensions) p.extensions (omega arith)
+          last_placed (λ place e. under b p.agreement.number (extension_cells place e)) (λ place (e : Extension). number_cells place) place (λ place e. refl) 1 (length p.extensions) p.extensions (omega arith)
           ∙ one_mapped (λ (e : Extension). length p.extensions) number_cells (last_element p.extensions)
 
 -- what the ends tell together

@@ -1,7 +1,7 @@
 -- The entries of a pledge, whose numbers rise.
 use Rattle.std.proofs.Common.{◌≡◌, ◌==◌, ℕ, zero, suc, ◌+◌, ◌≤◌, ◌<◌, List, [], ◌∷◌, map, filter, find, slice_get, take, Bool, true, false, cond, Some, None, refl, sym, ap, subst, ◌∙◌, arith}
 use Rattle.pawn_tables.specs.Common.{IfSome, nat_le, Row, Entry, AreNumbered, Each}
-use Rattle.pawn_tables.proofs.Lemmas.{nat_tests, is_page}
+use Rattle.pawn_tables.proofs.Lemmas.{cond-false, cond-true, cond_both, nat_tests, is_page}
 use Rattle.pawn_tables.specs.Tables.{IsEntriesPage, RiseFrom, behind, entries_from, with_seq, most_page_rows, at_place, at_most_one}
 
 -- ---- entries that are numbered 1, 2, ..
@@ -17,7 +17,7 @@ none_under k s [] lt numbered = refl
 none_under k s (e ∷ es) lt numbered =
     let at = numbered.0 in
     let other : (e.seq == s) ≡ false = grind (arith, nat_tests, lt, at) in
-    ap (λ c. cond c (Some e) (with_seq es s)) other ∙ none_under (k + 1) s es (omega (arith, lt)) numbered.1
+    cond-false _ _ _ other ∙ none_under (k + 1) s es (omega (arith, lt)) numbered.1
 
 -- the entry of a number stands at that place
 numbered_at : (k s n : ℕ) (es : List Entry) → s ≡ k + n → AreNumbered k es → with_seq es s ≡ slice_get es n
@@ -25,11 +25,11 @@ numbered_at k s n [] is numbered = refl
 numbered_at k s zero (e ∷ es) is numbered =
     let at = numbered.0 in
     let here : (e.seq == s) ≡ true = grind (arith, nat_tests, is, at) in
-    ap (λ c. cond c (Some e) (with_seq es s)) here
+    cond-true _ _ _ here
 numbered_at k s (suc n) (e ∷ es) is numbered =
     let at = numbered.0 in
     let other : (e.seq == s) ≡ false = grind (arith, nat_tests, is, at) in
-    ap (λ c. cond c (Some e) (with_seq es s)) other ∙ numbered_at (k + 1) s n es (omega (arith, is)) numbered.1
+    cond-false _ _ _ other ∙ numbered_at (k + 1) s n es (omega (arith, is)) numbered.1
 
 pub at_seq : (es : List Entry) (s : ℕ) → AreNumbered 1 es → with_seq es s ≡ at_place es s
 at_seq es zero numbered = none_under 1 0 es (omega arith) numbered
@@ -42,7 +42,7 @@ none_below n k [] lt rise = refl
 none_below n k (e ∷ es) lt rise =
     let at = rise.0 in
     let other : (e.seq == n) ≡ false = grind (arith, nat_tests, lt, at) in
-    ap (λ c. cond c (e ∷ filter (λ (x : Entry). x.seq == n) es) (filter (λ (x : Entry). x.seq == n) es)) other ∙ none_below n (e.seq + 1) es (omega (arith, lt, at)) rise.1
+    cond-false _ _ _ other ∙ none_below n (e.seq + 1) es (omega (arith, lt, at)) rise.1
 
 -- one has it at most
 pub one_with : (g : Entry → Row) (n k : ℕ) (es : List Entry) → RiseFrom k es → map g (filter (λ (e : Entry). e.seq == n) es) ≡ at_most_one g (with_seq es n)
@@ -61,13 +61,13 @@ all_from n k [] le rise = refl
 all_from n k (e ∷ es) le rise =
     let at = rise.0 in
     let over : nat_le n e.seq ≡ true = grind (arith, nat_tests, le, at) in
-    ap (λ c. cond c (e ∷ entries_from n es) (entries_from n es)) over ∙ ap (λ l. e ∷ l) (all_from n (e.seq + 1) es (omega (arith, le, at)) rise.1)
+    cond-true _ _ _ over ∙ ap (λ l. e ∷ l) (all_from n (e.seq + 1) es (omega (arith, le, at)) rise.1)
 
 pub from_zero : (es : List Entry) → entries_from 0 es ≡ es
 from_zero [] = refl
 from_zero (e ∷ es) =
     let over : nat_le 0 e.seq ≡ true = grind (arith, nat_tests) in
-    ap (λ c. cond c (e ∷ entries_from 0 es) (entries_from 0 es)) over ∙ ap (λ l. e ∷ l) (from_zero es)
+    cond-true _ _ _ over ∙ ap (λ l. e ∷ l) (from_zero es)
 
 first_from : (n k : ℕ) (es : List Entry) → RiseFrom k es → (e : Entry) (more : List Entry) → entries_from n es ≡ e ∷ more → k ≤ e.seq
 first_from n k [] rise e more is = absurd (let x = is in cc)
@@ -83,9 +83,7 @@ rest_from n k [] rise e more is = absurd (let x = is in cc)
 rest_from n k (x ∷ xs) rise e more is = go (rest_from n (x.seq + 1) xs rise.1 e more) (nat_le n x.seq) refl is
   where
     past : x.seq ≤ e.seq → entries_from (e.seq + 1) (x ∷ xs) ≡ entries_from (e.seq + 1) xs
-    past le =
-        let under' : nat_le (e.seq + 1) x.seq ≡ false = grind (arith, nat_tests, le) in
-        ap (λ c. cond c (x ∷ entries_from (e.seq + 1) xs) (entries_from (e.seq + 1) xs)) under'
+    past le = let under' : nat_le (e.seq + 1) x.seq ≡ false = grind (arith, nat_tests, le) in cond-false _ _ _ under'
 
     go : (entries_from n xs ≡ e ∷ more → entries_from (e.seq + 1) xs ≡ more) → (c : Bool) → nat_le n x.seq ≡ c → cond c (x ∷ entries_from n xs) (entries_from n xs) ≡ e ∷ more → entries_from (e.seq + 1) (x ∷ xs) ≡ more
     go rest false over is = let low = first_from n (x.seq + 1) xs rise.1 e more is in past (omega (arith, low)) ∙ rest is
@@ -103,8 +101,4 @@ is_entries_page n k es rise = is_page (λ m. entries_from m es) behind (λ m e m
 
 pub found_each : (P : Entry → Type 0) (test : Entry → Bool) (es : List Entry) → Each P es → IfSome (find test es) P
 found_each P test [] all = tt
-found_each P test (e ∷ es) all = go (found_each P test es all.1) (test e)
-  where
-    go : IfSome (find test es) P → (c : Bool) → IfSome (cond c (Some e) (find test es)) P
-    go rest true = all.0
-    go rest false = rest
+found_each P test (e ∷ es) all = cond_both (test e) _ _ (λ o. IfSome o P) (λ _. all.0) (λ _. found_each P test es all.1)

@@ -1,8 +1,11 @@
 -- What a query shows of a table that has one row of a pledge at most.
-use Rattle.std.proofs.Common.{◌≡◌, ◌≢◌, ◌++◌, ◌==◌, ℕ, ◌+◌, ◌<◌, List, [], ◌∷◌, map, filter, filter_map, flat_map, Bool, true, false, cond, ◌&&◌, Option, Some, None, refl, sym, ap, subst, ◌∙◌, arith}
-use Rattle.pawn_tables.specs.Common.{get, AllByRecursion, cons_option, Less, Row, column, value_cmp, IsAscending, PledgeValue, BookValue, Host, pledges_of, AreNumberedFrom}
-use Rattle.pawn_tables.proofs.Lemmas.{nat_tests, map-append, ascending-filter, filter-append, filter-flat_map, flat_none, less, of_one_book, rows_at}
-use Rattle.pawn_tables.specs.Tables.{at_most_one, number, number_in_book, under, AreBooksOrdered, of_pledges}
+use Rattle.std.proofs.Common.{◌≡◌, ◌≢◌, ◌++◌, ◌==◌, ℕ, ◌+◌, ◌<◌, List, [], ◌∷◌, map, filter, filter_map, flat_map, length, take, Bool, true, false, cond, ◌&&◌, Option, Some, None, refl, sym, ap, subst, ◌∙◌, arith}
+use Rattle.pawn_tables.specs.Common.{Holds, Shown, State, Table, Term, Trees, columns_of, get, AllByRecursion, cons_option, Less, Row, column, value_cmp, IsAscending, PledgeValue, BookValue, Host, pledges_of, AreNumberedFrom}
+use Rattle.std.proofs.lemmas.Bool.{and_left}
+use Rattle.pawn_tables.proofs.Lemmas.{Asks, cond-false, nat_tests, map-append, ascending-filter, by_column, few_of_table, filter-append, filter-flat_map, flat_map_none, length-map, less, of_one_book, passes, rows_at, shown_few, shows_of}
+use Rattle.pawn_tables.specs.Tables.{HasOurTables, at_most_one, number, number_in_book, under, with_indexes, AreBooksOrdered, of_pledges}
+use Rattle.one_table.specs.Common.{overlay}
+use Rattle.pawn_tables.proofs.Counts.{count_of, how_many, shown_count}
 
 -- what is told of what a pledge has, if it has it and it is such
 abbrev pub tell_of : {X A : Type 0} → (X → Bool) → (ℕ → X → A) → ℕ → Option X → Option A
@@ -14,7 +17,7 @@ abbrev pub row_each : {X : Type 0} → (PledgeValue → Option X) → (X → Row
 row_each has content m p = at_most_one (λ x. under m (number_in_book p) (content x)) (has p)
 
 module _ {X A : Type 0} (b : ℕ) (has : PledgeValue → Option X) (content : X → Row) (test : Row → Bool) (keeps : ℕ → Bool) (says : X → Bool) (make : ℕ → X → A) (cells : Row → Row) (told : A → Row)
-    (passes : (m n : ℕ) (x : X) → test (under m n (content x)) ≡ ((m == b) && (keeps n && says x))) (shows : (m n : ℕ) (x : X) → cells (under m n (content x)) ≡ told (make n x)) where
+    (test_is : (m n : ℕ) (x : X) → test (under m n (content x)) ≡ ((m == b) && (keeps n && says x))) (shows : (m n : ℕ) (x : X) → cells (under m n (content x)) ≡ told (make n x)) where
   abbrev pub tell : PledgeValue → Option A
   tell p = tell_of says make (number_in_book p) (has p)
 
@@ -25,13 +28,13 @@ module _ {X A : Type 0} (b : ℕ) (has : PledgeValue → Option X) (content : X 
   rows_of = row_each has content
 
   none_of : (m : ℕ) (k : BookValue) → m ≢ b → filter test (flat_map (rows_of m) k.pledges) ≡ []
-  none_of m k apart = filter-flat_map test (rows_of m) k.pledges ∙ flat_none (λ p. filter test (rows_of m p)) k.pledges (λ p. go (number_in_book p) (has p))
+  none_of m k apart = filter-flat_map test (rows_of m) k.pledges ∙ flat_map_none (λ p. filter test (rows_of m p)) (λ p. go (number_in_book p) (has p)) k.pledges
     where
       go : (n : ℕ) (o : Option X) → filter test (at_most_one (λ x. under m n (content x)) o) ≡ []
       go n None = refl
       go n (Some x) =
           let other : (m == b) ≡ false = grind (arith, nat_tests, apart) in
-          ap (λ c. cond c (under m n (content x) ∷ []) []) (passes m n x ∙ ap (λ c. c && (keeps n && says x)) other)
+          cond-false _ _ _ (test_is m n x ∙ and_left _ _ other)
 
   one : (n : ℕ) (o : Option X) → map cells (filter test (at_most_one (λ x. under b n (content x)) o)) ≡ at_most_one told (cond (keeps n) (tell_of says make n o) None)
   one n None = go (keeps n)
@@ -41,7 +44,7 @@ module _ {X A : Type 0} (b : ℕ) (has : PledgeValue → Option X) (content : X 
       go false = refl
   one n (Some x) =
       let this : (b == b) ≡ true = grind (arith, nat_tests) in
-      ap (λ c. map cells (cond c (under b n (content x) ∷ []) [])) (passes b n x ∙ ap (λ c. c && (keeps n && says x)) this) ∙ go (keeps n) (says x)
+      ap (λ c. map cells (cond c (under b n (content x) ∷ []) [])) (test_is b n x ∙ ap (λ c. c && (keeps n && says x)) this) ∙ go (keeps n) (says x)
     where
       go : (c d : Bool) → map cells (cond (c && d) (under b n (content x) ∷ []) []) ≡ at_most_one told (cond c (cond d (Some (make n x)) None) None)
       go true true = ap (λ r. r ∷ []) (shows b n x)
@@ -98,3 +101,18 @@ module _ {X A : Type 0} (b : ℕ) (has : PledgeValue → Option X) (content : X 
       inside : (o : Option BookValue) → get h.books b ≡ o → IsAscending (λ v w. value_cmp (column v 1) (column w 1) ≡ Less) (rows_at o (λ k. filter test (flat_map (rows_of b) k.pledges)))
       inside None is = tt
       inside (Some k) is = ascending-filter (λ v w. value_cmp (column v 1) (column w 1) ≡ Less) test _ (rise 1 k.pledges (ordered b k is).pledges)
+
+  -- what a query of them shows
+  module _ (old new : State) (ours : HasOurTables old.now.schema) (h : Host) (t : Table) (holds : Holds old.now.trees t.tree t (of_pledges h rows_of)) (is_tree : (trees : Trees) → overlay trees [] t.tree ≡ trees t.tree) (tests : List Term) (params : Row)
+      (passes_is : (r : Row) → passes tests params r ≡ test (columns_of t r)) (sql : List ℕ) (names : List (List ℕ)) (rows : List Row) where
+    pub counted_each : Asks (with_indexes ours.more) sql (how_many t.tree tests) names → Shown sql params old new rows → rows ≡ count_of (length (filter_map tell (kept (pledges_of (get h.books b))))) ∷ []
+    counted_each asks shown =
+        shown_count (with_indexes ours.more) t.tree is_tree t tests params test passes_is sql names asks old new (of_pledges h rows_of) rows ours.is holds shown
+        ∙ ap (λ n. count_of n ∷ []) (sym (length-map _ cells) ∙ ap length (shown_each h) ∙ length-map _ _)
+
+    -- so many of the first
+    pub first_each : (most : ℕ) (shows : List Term) → ((r : Row) → shows_of shows params r ≡ cells (columns_of t r)) → ((r : Row) → column r 2 ≡ column (columns_of t r) 1) → AreBooksOrdered h → Asks (with_indexes ours.more) sql (few_of_table most t.tree tests shows (by_column 2)) names
+        → Shown sql params old new rows → rows ≡ take most (map told (filter_map tell (kept (pledges_of (get h.books b)))))
+    first_each most shows shows_is second ordered asks shown =
+        shown_few (with_indexes ours.more) t.tree is_tree t tests shows params test cells passes_is shows_is 2 (λ v. column v 1) second most sql names asks old new (of_pledges h rows_of) rows ours.is holds (rise_each h ordered) shown
+        ∙ ap (take most) (shown_each h)

@@ -1,21 +1,22 @@
 -- Tables stand for one host at most.
 use Rattle.std.proofs.Common.{◌≡◌, ◌==◌, ℕ, suc, ◌+◌, ◌≤◌, List, [], ◌∷◌, map, filter, codes, Bool, true, false, Option, Some, None, refl, sym, ap, subst, ◌∙◌, arith, IsPermutation, slice_get}
-use Rattle.pawn_tables.specs.Common.{IfSome, if◌then◌else◌, nat_cmp_total, get, nat_cmp-IsAntisymmetric, same_map, list_all, binary, Row, column, value_cmp, State, Trees, Text, Rates, PledgeValue, Booking, BookValue, pledge_from, pledge_in, Host, rows, WholeIsSound, entries_of, extensions_of, secrets_of, terms_of, terms_at, IsSound, AreWords, IsWord}
-use Rattle.pawn_tables.proofs.Lemmas.{nat_tests, IsPermutation-map, IsPermutation-filter, map-map, one_permutation, entries_rise, of_one_pledge, placed_rise, rows_at}
+use Rattle.pawn_tables.specs.Common.{IfSome, if◌then◌else◌, nat_cmp_total, get, nat_cmp-IsAntisymmetric, same_map, list_all, binary, Row, column, value_cmp, State, Table, Trees, Text, Rates, PledgeValue, BookValue, pledge_from, pledge_in, Host, rows, WholeIsSound, entries_of, extensions_of, secrets_of, terms_of, terms_at, IsSound, IsWord}
+use Rattle.pawn_tables.proofs.Lemmas.{nat_tests, IsPermutation-map, IsPermutation-filter, one_permutation, of_one_pledge, rows_at}
 use Rattle.sqlite.specs.Effect.{Database}
 use Rattle.sqlite_trees.specs.Objects.{catalog_tree}
 use Rattle.sqlite_catalog.proofs.ReadLemmas.{lists_once}
 use Rattle.pawn_tables.specs.Keeps.{keeping_by}
-use Rattle.pawn_tables.specs.Tables.{at_book, at_pledge, is_at, RiseFrom, meta_row, meta_rows, booking_of, at_most_one, booking_cells, booking_listed, entries_listed, entry_cells, extension_cells, extensions_listed, head_cells, placed_from, pledge_cells, pledge_listed, secret_cells, secrets_listed, terms_cells, under, bookings_tree, books_tree, entries_tree, extensions_tree, meta_tree, pledges_tree, secrets_tree, terms_tree, AreBooksOrdered, HoldHost, StandsFor, of_pledges}
+use Rattle.pawn_tables.specs.Tables.{at_book, at_pledge, is_at, meta_row, meta_rows, booking_of, at_most_one, booking_cells, booking_listed, entry_cells, extension_cells, head_cells, pledge_cells, pledge_listed, secret_cells, terms_cells, under, books_tree, meta_tree, terms_tree, HoldHost, StandsFor, of_pledges}
 use Rattle.pawn_tables.proofs.ListsOfRows.{mapped, each_any}
-use Rattle.pawn_tables.proofs.PledgeReads.{short, few, holds_in, number_in, under_in, rises_at, under_map, under_placed, under_booked, placed_cells, one_version}
+use Rattle.pawn_tables.proofs.Lent.{debts_of}
+use Rattle.pawn_tables.proofs.PledgeReads.{ListsRows, booking_told, bookings_list, entries_list, entries_told, entries_up, extensions_list, extensions_told, extensions_up, few, four, fourteen, number_in, one_told, one_version, pledges_list, secrets_list, secrets_told, secrets_up, short, three, under_in}
 use Rattle.pawn_tables.proofs.BookReads.{one_book}
 use Rattle.pawn_tables.proofs.SameRows as SameRows
 use Rattle.pawn_tables.proofs.SoundReads.{words_in}
 
 -- ---- what stands of a pledge, by the rows of two hosts
 
-module _ (h g : Host) (b n : ℕ) (of_h : AreBooksOrdered h) (of_g : AreBooksOrdered g) where
+module _ (db : Database) (h g : Host) (a : StandsFor db h) (c : StandsFor db g) (b n : ℕ) where
   abbrev mine : Option PledgeValue
   mine = pledge_in (get h.books b) n
 
@@ -23,10 +24,10 @@ module _ (h g : Host) (b n : ℕ) (of_h : AreBooksOrdered h) (of_g : AreBooksOrd
   other = pledge_in (get g.books b) n
 
   -- the rows of one pledge
-  one_pledge : (f : ℕ → PledgeValue → List Row) → ((m : ℕ) (p : PledgeValue) → Rattle.pawn_tables.proofs.RowsUnderKey.AreUnder m p.agreement.number (f m p)) → IsPermutation (of_pledges h f) (of_pledges g f) → IsPermutation (rows_at mine (f b)) (rows_at other (f b))
-  one_pledge f under' same =
-      subst (λ xs. IsPermutation xs (rows_at other (f b))) (of_one_pledge h b n f of_h under')
-      (subst (IsPermutation (filter (at_pledge b n) (of_pledges h f))) (of_one_pledge g b n f of_g under') (IsPermutation-filter (at_pledge b n) _ _ same))
+  one_pledge : (t : Table) (f : ℕ → PledgeValue → List Row) → ListsRows db h t f → ListsRows db g t f → IsPermutation (rows_at mine (f b)) (rows_at other (f b))
+  one_pledge t f x y =
+      subst (λ xs. IsPermutation xs (rows_at other (f b))) (of_one_pledge h b n f x.ordered x.under')
+      (subst (IsPermutation (filter (at_pledge b n) (of_pledges h f))) (of_one_pledge g b n f y.ordered y.under') (IsPermutation-filter (at_pledge b n) _ _ (SameRows.held_twice db.trees t.tree t _ _ x.holds y.holds)))
 
   -- a row of each at most
   single : {A : Type 0} (f : ℕ → PledgeValue → List Row) (cells : Row → Row) (told : A → Row) (part : Option PledgeValue → Option A) → ((o : Option PledgeValue) → map cells (rows_at o (f b)) ≡ at_most_one told (part o))
@@ -35,66 +36,27 @@ module _ (h g : Host) (b n : ℕ) (of_h : AreBooksOrdered h) (of_g : AreBooksOrd
       sym (short _ _ (few told (part mine)) (subst (λ xs. IsPermutation xs (at_most_one told (part other))) (shows mine)
       (subst (IsPermutation (map cells (rows_at mine (f b)))) (shows other) (IsPermutation-map cells _ _ same))))
 
-  entries_same : IsPermutation (of_pledges h entries_listed) (of_pledges g entries_listed) → entries_of mine ≡ entries_of other
-  entries_same same =
-      let rows = SameRows.same_rising (λ v. column v 2) _ _ (up h of_h) (up g of_g) (one_pledge entries_listed (λ m p. under_map m p.agreement.number entry_cells p.entries) same) in
-      let told = sym (cells mine) ∙ ap (map (λ v. column v 2 ∷ column v 3 ∷ column v 4 ∷ column v 5 ∷ [])) rows ∙ cells other in
+  entries_same : entries_of mine ≡ entries_of other
+  entries_same =
+      let rows = SameRows.same_rising (λ v. column v 2) _ _ (entries_up h b n a.ordered) (entries_up g b n c.ordered) (one_pledge _ _ (entries_list _ h (debts_of _ h a)) (entries_list _ g (debts_of _ g c))) in
+      let told = sym (entries_told b mine) ∙ ap (map four) rows ∙ entries_told b other in
       SameRows.same_placed (λ place e. entry_cells e) (λ e. Unit {0}) (λ m x y s t e. SameRows.same_entry x y e) 1 _ _ (each_any _) (each_any _) (sym (mapped entry_cells 1 _) ∙ told ∙ mapped entry_cells 1 _)
-    where
-      up : (k : Host) → AreBooksOrdered k → SameRows.Rise (λ v. column v 2) (rows_at (pledge_in (get k.books b) n) (entries_listed b))
-      up k ordered = rises_at (pledge_in (get k.books b) n) (entries_listed b) (λ v. column v 2)
-          (λ p is. entries_rise (λ e. under b p.agreement.number (entry_cells e)) (λ v. column v 2) (λ e. refl) 0 p.entries (holds_in k (λ (q : PledgeValue). RiseFrom 0 q.entries) (λ c x at. (ordered c x at).entries) b n p is))
 
-      cells : (o : Option PledgeValue) → map (λ v. column v 2 ∷ column v 3 ∷ column v 4 ∷ column v 5 ∷ []) (rows_at o (entries_listed b)) ≡ map entry_cells (entries_of o)
-      cells None = refl
-      cells (Some p) = map-map _ (λ e. under b p.agreement.number (entry_cells e)) p.entries
+  secrets_same : secrets_of mine ≡ secrets_of other
+  secrets_same =
+      let rows = SameRows.same_rising (λ v. column v 2) _ _ (secrets_up b mine) (secrets_up b other) (one_pledge _ _ (secrets_list _ h a) (secrets_list _ g c)) in
+      SameRows.same_placed secret_cells (λ i. IsWord i.secret) (λ m x y. SameRows.same_issued m m x y) 1 _ _ (words_in h a.storable b n) (words_in g c.storable b n) (sym (secrets_told b mine) ∙ ap (map four) rows ∙ secrets_told b other)
 
-  secrets_same : AreWords (secrets_of mine) → AreWords (secrets_of other) → IsPermutation (of_pledges h secrets_listed) (of_pledges g secrets_listed) → secrets_of mine ≡ secrets_of other
-  secrets_same words words' same =
-      let rows = SameRows.same_rising (λ v. column v 2) _ _ (up mine) (up other) (one_pledge secrets_listed (λ m p. under_placed m p.agreement.number secret_cells 1 p.secrets) same) in
-      SameRows.same_placed secret_cells (λ i. IsWord i.secret) (λ m x y. SameRows.same_issued m m x y) 1 _ _ words words' (sym (cells mine) ∙ ap (map (λ v. column v 2 ∷ column v 3 ∷ column v 4 ∷ column v 5 ∷ [])) rows ∙ cells other)
-    where
-      up : (o : Option PledgeValue) → SameRows.Rise (λ v. column v 2) (rows_at o (secrets_listed b))
-      up o = rises_at o (secrets_listed b) (λ v. column v 2) (λ p is. placed_rise (λ place i. under b p.agreement.number (secret_cells place i)) (λ v. column v 2) (λ place i. refl) 1 p.secrets)
+  extensions_same : extensions_of mine ≡ extensions_of other
+  extensions_same =
+      let rows = SameRows.same_rising (λ v. column v 2) _ _ (extensions_up b mine) (extensions_up b other) (one_pledge _ _ (extensions_list _ h a) (extensions_list _ g c)) in
+      SameRows.same_placed extension_cells (λ e. Unit {0}) (λ m x y s t e. SameRows.same_extension m m x y e) 1 _ _ (each_any _) (each_any _) (sym (extensions_told b mine) ∙ ap (map three) rows ∙ extensions_told b other)
 
-      cells : (o : Option PledgeValue) → map (λ v. column v 2 ∷ column v 3 ∷ column v 4 ∷ column v 5 ∷ []) (rows_at o (secrets_listed b)) ≡ placed_from secret_cells 1 (secrets_of o)
-      cells None = refl
-      cells (Some p) = placed_cells b p.agreement.number secret_cells (λ v. column v 2 ∷ column v 3 ∷ column v 4 ∷ column v 5 ∷ []) (λ place i. refl) 1 p.secrets
+  booking_same : booking_of mine ≡ booking_of other
+  booking_same = SameRows.same_at_most booking_cells SameRows.same_booking _ _ (single booking_listed three booking_cells booking_of (booking_told b) (one_pledge _ _ (bookings_list _ h a) (bookings_list _ g c)))
 
-  extensions_same : IsPermutation (of_pledges h extensions_listed) (of_pledges g extensions_listed) → extensions_of mine ≡ extensions_of other
-  extensions_same same =
-      let rows = SameRows.same_rising (λ v. column v 2) _ _ (up mine) (up other) (one_pledge extensions_listed (λ m p. under_placed m p.agreement.number extension_cells 1 p.extensions) same) in
-      SameRows.same_placed extension_cells (λ e. Unit {0}) (λ m x y s t e. SameRows.same_extension m m x y e) 1 _ _ (each_any _) (each_any _) (sym (cells mine) ∙ ap (map (λ v. column v 2 ∷ column v 3 ∷ column v 4 ∷ [])) rows ∙ cells other)
-    where
-      up : (o : Option PledgeValue) → SameRows.Rise (λ v. column v 2) (rows_at o (extensions_listed b))
-      up o = rises_at o (extensions_listed b) (λ v. column v 2) (λ p is. placed_rise (λ place e. under b p.agreement.number (extension_cells place e)) (λ v. column v 2) (λ place e. refl) 1 p.extensions)
-
-      cells : (o : Option PledgeValue) → map (λ v. column v 2 ∷ column v 3 ∷ column v 4 ∷ []) (rows_at o (extensions_listed b)) ≡ placed_from extension_cells 1 (extensions_of o)
-      cells None = refl
-      cells (Some p) = placed_cells b p.agreement.number extension_cells (λ v. column v 2 ∷ column v 3 ∷ column v 4 ∷ []) (λ place e. refl) 1 p.extensions
-
-  booking_same : IsPermutation (of_pledges h booking_listed) (of_pledges g booking_listed) → booking_of mine ≡ booking_of other
-  booking_same same =
-      SameRows.same_at_most booking_cells SameRows.same_booking _ _
-      (single booking_listed (λ v. column v 2 ∷ column v 3 ∷ column v 4 ∷ []) booking_cells booking_of cells (one_pledge booking_listed (λ m p. under_booked m p.agreement.number p.standing.booking) same))
-    where
-      in_book : (m : ℕ) (o : Option Booking) → map (λ v. column v 2 ∷ column v 3 ∷ column v 4 ∷ []) (at_most_one (λ k. under b m (booking_cells k)) o) ≡ at_most_one booking_cells o
-      in_book m None = refl
-      in_book m (Some k) = refl
-
-      cells : (o : Option PledgeValue) → map (λ v. column v 2 ∷ column v 3 ∷ column v 4 ∷ []) (rows_at o (booking_listed b)) ≡ at_most_one booking_cells (booking_of o)
-      cells None = refl
-      cells (Some p) = in_book p.agreement.number p.standing.booking
-
-  row_same : IsPermutation (of_pledges h pledge_listed) (of_pledges g pledge_listed) → at_most_one pledge_cells mine ≡ at_most_one pledge_cells other
-  row_same same = single pledge_listed cells pledge_cells (λ o. o) shows (one_pledge pledge_listed (λ m p. ((refl, refl), tt)) same)
-    where
-      cells : Row → Row
-      cells v = column v 2 ∷ column v 3 ∷ column v 4 ∷ column v 5 ∷ column v 6 ∷ column v 7 ∷ column v 8 ∷ column v 9 ∷ column v 10 ∷ column v 11 ∷ column v 12 ∷ column v 13 ∷ column v 14 ∷ column v 15 ∷ []
-
-      shows : (o : Option PledgeValue) → map cells (rows_at o (pledge_listed b)) ≡ at_most_one pledge_cells o
-      shows None = refl
-      shows (Some p) = refl
+  row_same : at_most_one pledge_cells mine ≡ at_most_one pledge_cells other
+  row_same = single pledge_listed fourteen pledge_cells (λ o. o) (one_told (λ m p. under m p.agreement.number (pledge_cells p)) fourteen pledge_cells b (λ p. refl)) (one_pledge _ _ (pledges_list _ h (debts_of _ h a)) (pledges_list _ g (debts_of _ g c)))
 
 -- a pledge of what its rows tell, and of its number and its terms
 whole : (p q : PledgeValue) → SameRows.AreAlike p q → p.agreement.number ≡ q.agreement.number → p.agreement.terms ≡ q.agreement.terms → p.entries ≡ q.entries → p.secrets ≡ q.secrets → p.extensions ≡ q.extensions → p.standing.booking ≡ q.standing.booking → p ≡ q
@@ -158,6 +120,13 @@ pledges_at : Option BookValue → List PledgeValue
 pledges_at None = []
 pledges_at (Some k) = k.pledges
 
+abbrev pub is_limit : Row → Bool
+is_limit v = list_all (λ (x : Bool). x) (is_at (column v 0) (Text (codes "limit")) ∷ [])
+
+pub limit_alone : (counted limit : ℕ) → filter is_limit (meta_rows counted limit) ≡ meta_row (codes "limit") limit ∷ []
+unfolding binary value_cmp lib.Ieee.is_nan lib.Ieee.lt
+limit_alone counted limit = refl
+
 module _ (db : Database) (h g : Host) (a : StandsFor db h) (c : StandsFor db g) where
   head_same : (b : ℕ) → at_most_one head_cells (get h.books b) ≡ at_most_one head_cells (get g.books b)
   head_same b =
@@ -167,19 +136,14 @@ module _ (db : Database) (h g : Host) (a : StandsFor db h) (c : StandsFor db g) 
 
   version_same : (b v : ℕ) → terms_at (terms_of (get h.books b)) v ≡ terms_at (terms_of (get g.books b)) v
   version_same b v =
-      let cells : Row → Row = λ r. column r 2 ∷ column r 3 ∷ column r 4 ∷ [] in
-      let same = IsPermutation-map cells _ _ (IsPermutation-filter (at_pledge b v) _ _ (SameRows.held_twice db.trees terms_tree _ _ _ a.terms c.terms)) in
+      let same = IsPermutation-map three _ _ (IsPermutation-filter (at_pledge b v) _ _ (SameRows.held_twice db.trees terms_tree _ _ _ a.terms c.terms)) in
       SameRows.same_at_most terms_cells SameRows.same_terms _ _
-      (sym (short _ _ (few terms_cells (terms_at (terms_of (get h.books b)) v)) (subst (λ xs. IsPermutation xs (at_most_one terms_cells (terms_at (terms_of (get g.books b)) v))) (one_version h b v) (subst (IsPermutation (map cells (filter (at_pledge b v) _))) (one_version g b v) same))))
+      (sym (short _ _ (few terms_cells (terms_at (terms_of (get h.books b)) v)) (subst (λ xs. IsPermutation xs (at_most_one terms_cells (terms_at (terms_of (get g.books b)) v))) (one_version h b v) (subst (IsPermutation (map three (filter (at_pledge b v) _))) (one_version g b v) same))))
 
   pledge_at_same : (b n : ℕ) → pledge_in (get h.books b) n ≡ pledge_in (get g.books b) n
   pledge_at_same b n =
       pledge_same _ _ n _ _ (same_terms _ _ (version_same b)) (λ p is. (number_in h b n p a.ordered is, under_in h b n p a.ordered is)) (λ p is. (number_in g b n p c.ordered is, under_in g b n p c.ordered is))
-      (row_same h g b n a.ordered c.ordered (SameRows.held_twice db.trees pledges_tree _ _ _ a.pledges c.pledges))
-      (entries_same h g b n a.ordered c.ordered (SameRows.held_twice db.trees entries_tree _ _ _ a.entries c.entries))
-      (secrets_same h g b n a.ordered c.ordered (words_in h a.storable b n) (words_in g c.storable b n) (SameRows.held_twice db.trees secrets_tree _ _ _ a.secrets c.secrets))
-      (extensions_same h g b n a.ordered c.ordered (SameRows.held_twice db.trees extensions_tree _ _ _ a.extensions c.extensions))
-      (booking_same h g b n a.ordered c.ordered (SameRows.held_twice db.trees bookings_tree _ _ _ a.bookings c.bookings))
+      (row_same db h g a c b n) (entries_same db h g a c b n) (secrets_same db h g a c b n) (extensions_same db h g a c b n) (booking_same db h g a c b n)
 
   book_same : (b : ℕ) → get h.books b ≡ get g.books b
   book_same b = go (get h.books b) (get g.books b) refl refl (head_same b) (same_terms _ _ (version_same b)) (λ n. pledge_at_same b n)
@@ -192,13 +156,6 @@ module _ (db : Database) (h g : Host) (a : StandsFor db h) (c : StandsFor db g) 
           let s = a.storable b k x in
           let t = c.storable b l y in
           ap Some (book_of k l (let e = row in cc) s.key t.key s.imported t.imported terms' (same_from 1 k.pledges l.pledges (λ n le. at n)))
-
-  abbrev is_limit : Row → Bool
-  is_limit v = list_all (λ (x : Bool). x) (is_at (column v 0) (Text (codes "limit")) ∷ [])
-
-  limit_alone : (counted limit : ℕ) → filter is_limit (meta_rows counted limit) ≡ meta_row (codes "limit") limit ∷ []
-  unfolding binary value_cmp lib.Ieee.is_nan lib.Ieee.lt
-  limit_alone counted limit = refl
 
   limit_same : h.limit ≡ g.limit
   limit_same =

@@ -1,7 +1,8 @@
 -- The first elements of a list of which one knows what is left behind each.
-use Rattle.std.proofs.Common.{◌≡◌, ◌++◌, ℕ, zero, suc, ◌-◌, ◌≤◌, ◌<◌, List, [], ◌∷◌, length, map, take, slice_get, Bool, true, false, cond, filter, Some, refl, sym, ap, subst, ◌∙◌, arith, option_map}
+use Rattle.std.proofs.Common.{◌≡◌, ◌++◌, ℕ, zero, suc, ◌-◌, ◌<◌, List, [], ◌∷◌, length, map, take, slice_get, Bool, filter, Some, refl, sym, ap, subst, ◌∙◌, arith, option_map}
 use Rattle.pawn_tables.specs.Common.{unwrap_or, last_element, Each}
-use Rattle.std.proofs.lemmas.List.{map-append, map-id}
+use Rattle.std.proofs.lemmas.Bool.{cond_both}
+use Rattle.std.proofs.lemmas.List.{length-take, map-append, map-id}
 use Rattle.pawn_tables.specs.Pages.{IsPage, most_page_rows, page_end}
 
 pub last_later : {A : Type 0} (x y : A) (ys : List A) → last_element (x ∷ y ∷ ys) ≡ last_element (y ∷ ys)
@@ -20,11 +21,6 @@ end_after behind n x [] = refl
 end_after behind n x (y ∷ ys) =
     let last = last_some y ys in
     ap (λ o. unwrap_or (option_map behind o) n) (last_later x y ys ∙ last.1) ∙ sym (ap (λ o. unwrap_or (option_map behind o) (behind x)) last.1)
-
-take_few : {A : Type 0} (k : ℕ) (xs : List A) → length (take k xs) ≤ k
-take_few zero xs = omega arith
-take_few (suc k) [] = omega arith
-take_few (suc k) (x ∷ xs) = let few = take_few k xs in omega (arith, few)
 
 module _ {A : Type 0} (left : ℕ → List A) (behind : A → ℕ) (step : (n : ℕ) (x : A) (more : List A) → left n ≡ x ∷ more → left (behind x) ≡ more) where
   -- what is left behind the first elements
@@ -51,7 +47,7 @@ module _ {A : Type 0} (left : ℕ → List A) (behind : A → ℕ) (step : (n : 
 
   pub is_page : (n : ℕ) → IsPage left (λ (x : A). x) behind n (take most_page_rows (left n))
   is_page n = record {
-    few = take_few most_page_rows (left n);
+    few = let len = length-take most_page_rows (left n) in omega (arith, len);
     goes_on = page_left most_page_rows n ∙ ap (λ l. l ++ left (page_end behind n (take most_page_rows (left n)))) (sym (map-id (take most_page_rows (left n))));
     is_last = page_last most_page_rows n;
   }
@@ -73,17 +69,8 @@ take_each P (suc k) (x ∷ xs) all = (all.0, take_each P k xs all.1)
 
 pub filter_each : {A : Type 0} (P : A → Type 0) (test : A → Bool) (xs : List A) → Each P xs → Each P (filter test xs)
 filter_each P test [] all = tt
-filter_each {A} P test (x ∷ xs) all = go (filter_each P test xs all.1) (test x)
-  where
-    go : Each P (filter test xs) → (c : Bool) → Each P (cond c (x ∷ filter test xs) (filter test xs))
-    go rest true = (all.0, rest)
-    go rest false = rest
+filter_each P test (x ∷ xs) all = let rest = filter_each P test xs all.1 in cond_both (test x) _ _ (Each P) (λ e. (all.0, rest)) (λ e. rest)
 
 pub map_each : {A B : Type 0} (P : B → Type 0) (f : A → B) (xs : List A) → ((x : A) → P (f x)) → Each P (map f xs)
 map_each P f [] all = tt
 map_each P f (x ∷ xs) all = (all x, map_each P f xs all)
-
-pub take_map : {A B : Type 0} (f : A → B) (k : ℕ) (xs : List A) → map f (take k xs) ≡ take k (map f xs)
-take_map f zero xs = refl
-take_map f (suc k) [] = refl
-take_map f (suc k) (x ∷ xs) = ap (λ l. f x ∷ l) (take_map f k xs)

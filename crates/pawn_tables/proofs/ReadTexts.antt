@@ -15,88 +15,30 @@ of_book = is_param 0 0 ∷ []
 abbrev pub of_pledge : List Term
 of_pledge = is_param 1 0 ∷ is_param 2 1 ∷ []
 
+-- the columns behind the number of a book, and those behind the number of its pledge
+abbrev pub one_shown : List Term
+one_shown = col 1 2 ∷ []
+
+abbrev pub three_shown : List Term
+three_shown = col 1 3 ∷ col 1 4 ∷ col 1 5 ∷ []
+
+abbrev pub four_shown : List Term
+four_shown = col 1 3 ∷ col 1 4 ∷ col 1 5 ∷ col 1 6 ∷ []
+
 abbrev pub head_shows : List Term
 head_shows = col 1 2 ∷ col 1 3 ∷ col 1 4 ∷ col 1 5 ∷ col 1 6 ∷ col 1 7 ∷ col 1 8 ∷ []
-
-pub head_is : (more : List Index) → Asks (with_indexes more) READ_HEAD.now (over_table books_tree of_book head_shows []) (codes "book_key" ∷ codes "title" ∷ codes "capacity" ∷ codes "terms" ∷ codes "pledges" ∷ codes "import_key" ∷ codes "imported" ∷ [])
-unfolding understood everything
-head_is more = (refl, refl, (refl, refl))
-
-abbrev pub entries_shows : List Term
-entries_shows = col 1 3 ∷ col 1 4 ∷ col 1 5 ∷ col 1 6 ∷ []
-
-pub entries_is : (more : List Index) → Asks (with_indexes more) READ_ENTRIES.now (over_table entries_tree of_pledge entries_shows (by_column 3)) (codes "seq" ∷ codes "day" ∷ codes "sort" ∷ codes "pence" ∷ [])
-unfolding understood everything
-entries_is more = (refl, refl, (refl, refl))
-
-abbrev pub terms_shows : List Term
-terms_shows = col 1 3 ∷ col 1 4 ∷ col 1 5 ∷ []
-
-pub terms_is : (more : List Index) → Asks (with_indexes more) READ_TERMS.now (over_table terms_tree of_pledge terms_shows []) (codes "rate" ∷ codes "keep_before" ∷ codes "keep_after" ∷ [])
-unfolding understood everything
-terms_is more = (refl, refl, (refl, refl))
 
 abbrev pub pledge_shows : List Term
 pledge_shows = col 1 3 ∷ col 1 4 ∷ col 1 5 ∷ col 1 6 ∷ col 1 7 ∷ col 1 8 ∷ col 1 9 ∷ col 1 10 ∷ col 1 11 ∷ col 1 12 ∷ col 1 13 ∷ col 1 14 ∷ col 1 15 ∷ col 1 16 ∷ []
 
-pub pledge_is : (more : List Index) → Asks (with_indexes more) READ_PLEDGE.now (over_table pledges_tree of_pledge pledge_shows []) (codes "ref" ∷ codes "article" ∷ codes "kind" ∷ codes "credit" ∷ codes "taken" ∷ codes "agreed" ∷ codes "five" ∷ codes "version" ∷ codes "ends" ∷ codes "held" ∷ codes "last_day" ∷ codes "closed" ∷ codes "closed_day" ∷ codes "amount" ∷ [])
-unfolding understood everything
-pledge_is more = (refl, refl, (refl, refl))
-
 abbrev pub credit_shows : List Term
 credit_shows = col 1 5 ∷ col 1 6 ∷ col 1 7 ∷ col 1 8 ∷ col 1 10 ∷ []
-
-pub credit_is : (more : List Index) → Asks (with_indexes more) READ_CREDIT.now (over_table pledges_tree of_pledge credit_shows []) (codes "kind" ∷ codes "credit" ∷ codes "taken" ∷ codes "agreed" ∷ codes "version" ∷ [])
-unfolding understood everything
-credit_is more = (refl, refl, (refl, refl))
-
-abbrev pub secrets_shows : List Term
-secrets_shows = col 1 3 ∷ col 1 4 ∷ col 1 5 ∷ col 1 6 ∷ []
-
-pub secrets_is : (more : List Index) → Asks (with_indexes more) READ_SECRETS.now (over_table secrets_tree of_pledge secrets_shows (by_column 3)) (codes "place" ∷ codes "day" ∷ codes "sort" ∷ codes "secret" ∷ [])
-unfolding understood everything
-secrets_is more = (refl, refl, (refl, refl))
-
-abbrev pub booking_shows : List Term
-booking_shows = col 1 3 ∷ col 1 4 ∷ col 1 5 ∷ []
-
-pub booking_is : (more : List Index) → Asks (with_indexes more) READ_BOOKING.now (over_table bookings_tree of_pledge booking_shows []) (codes "day" ∷ codes "slot" ∷ codes "state" ∷ [])
-unfolding understood everything
-booking_is more = (refl, refl, (refl, refl))
-
-abbrev pub totals_shows : List Term
-totals_shows = col 1 3 ∷ col 1 4 ∷ col 1 5 ∷ []
-
-pub totals_is : (more : List Index) → Asks (with_indexes more) READ_TOTALS.now (over_table totals_tree of_pledge totals_shows []) (codes "day" ∷ codes "principal" ∷ codes "charges" ∷ [])
-unfolding understood everything
-totals_is more = (refl, refl, (refl, refl))
-
-abbrev pub extensions_shows : List Term
-extensions_shows = col 1 3 ∷ col 1 4 ∷ col 1 5 ∷ []
-
-pub extensions_is : (more : List Index) → Asks (with_indexes more) READ_EXTENSIONS.now (over_table extensions_tree of_pledge extensions_shows (by_column 3)) (codes "place" ∷ codes "day" ∷ codes "until_day" ∷ [])
-unfolding understood everything
-extensions_is more = (refl, refl, (refl, refl))
 
 abbrev pub ref_tests : List Term
 ref_tests = is_param 1 0 ∷ is_param 3 1 ∷ []
 
-abbrev pub ref_shows : List Term
-ref_shows = col 1 2 ∷ []
-
-pub ref_is : (more : List Index) → Asks (with_indexes more) FIND_REFERENCE.now (first_of_table pledges_tree ref_tests ref_shows (by_column 2)) (codes "number" ∷ [])
-unfolding understood everything
-ref_is more = (refl, refl, (refl, refl))
-
 abbrev pub confirmed_tests : List Term
 confirmed_tests = is_param 1 0 ∷ is_param 3 1 ∷ is_param 4 2 ∷ op2 (Compare Eq Binary) (col 1 5) (lit (Int (pos 1))) ∷ []
-
-abbrev pub confirmed_shows : List Term
-confirmed_shows = col 1 2 ∷ []
-
-pub confirmed_is : (more : List Index) → Asks (with_indexes more) COUNT_CONFIRMED.now (how_many bookings_tree confirmed_tests) (codes "count(*)" ∷ [])
-unfolding understood everything
-confirmed_is more = (refl, refl, (refl, refl))
 
 abbrev pub next_tests : List Term
 next_tests = op2 (Compare Gt Binary) (col 1 0) (col 0 0) ∷ []
@@ -104,61 +46,22 @@ next_tests = op2 (Compare Gt Binary) (col 1 0) (col 0 0) ∷ []
 abbrev pub next_shows : List Term
 next_shows = col 1 0 ∷ []
 
-pub next_is : (more : List Index) → Asks (with_indexes more) FIND_NEXT_BOOK.now (first_of_table books_tree next_tests next_shows (by_column 0)) (codes "book" ∷ [])
-unfolding understood everything
-next_is more = (refl, refl, (refl, refl))
-
 -- a page of the entries from a number on
 abbrev pub from_tests : List Term
 from_tests = is_param 1 0 ∷ is_param 2 1 ∷ op2 (Compare Ge Binary) (col 1 3) (col 0 2) ∷ []
-
-pub from_is : (more : List Index) → Asks (with_indexes more) READ_ENTRIES_PAGE.now (few_of_table most_page_rows entries_tree from_tests entries_shows (by_column 3)) (codes "seq" ∷ codes "day" ∷ codes "sort" ∷ codes "pence" ∷ [])
-unfolding understood everything
-from_is more = (refl, refl, (refl, refl))
 
 -- the count of rows
 abbrev pub rows_tests : List Term
 rows_tests = op2 (Compare Eq Binary) (col 1 1) (lit (Text (codes "rows"))) ∷ []
 
-abbrev pub rows_shows : List Term
-rows_shows = col 1 2 ∷ []
-
-pub rows_is : (more : List Index) → Asks (with_indexes more) READ_ROWS.now (over_table meta_tree rows_tests rows_shows []) (codes "value" ∷ [])
-unfolding understood everything
-rows_is more = (refl, refl, (refl, refl))
-
 -- a row of a pledge, at a place
 abbrev pub of_place : List Term
 of_place = is_param 1 0 ∷ is_param 2 1 ∷ is_param 3 2 ∷ []
 
-pub entry_is : (more : List Index) → Asks (with_indexes more) READ_ENTRY.now (over_table entries_tree of_place entries_shows []) (codes "seq" ∷ codes "day" ∷ codes "sort" ∷ codes "pence" ∷ [])
-unfolding understood everything
-entry_is more = (refl, refl, (refl, refl))
-
-pub secret_is : (more : List Index) → Asks (with_indexes more) READ_SECRET.now (over_table secrets_tree of_place secrets_shows []) (codes "place" ∷ codes "day" ∷ codes "sort" ∷ codes "secret" ∷ [])
-unfolding understood everything
-secret_is more = (refl, refl, (refl, refl))
-
-pub extension_is : (more : List Index) → Asks (with_indexes more) READ_EXTENSION.now (over_table extensions_tree of_place extensions_shows []) (codes "place" ∷ codes "day" ∷ codes "until_day" ∷ [])
-unfolding understood everything
-extension_is more = (refl, refl, (refl, refl))
-
 -- ---- the ends of a pledge's lists
-
-pub entry_count_is : (more : List Index) → Asks (with_indexes more) COUNT_ENTRIES.now (how_many entries_tree of_pledge) (codes "count(*)" ∷ [])
-unfolding understood everything
-entry_count_is more = (refl, refl, (refl, refl))
-
-pub last_secret_is : (more : List Index) → Asks (with_indexes more) READ_LAST_SECRET.now (first_of_table secrets_tree of_pledge secrets_shows (by_column_down 3)) (codes "place" ∷ codes "day" ∷ codes "sort" ∷ codes "secret" ∷ [])
-unfolding understood everything
-last_secret_is more = (refl, refl, (refl, refl))
 
 abbrev pub last_place_shows : List Term
 last_place_shows = col 1 3 ∷ []
-
-pub last_place_is : (more : List Index) → Asks (with_indexes more) READ_LAST_PLACE.now (first_of_table extensions_tree of_pledge last_place_shows (by_column_down 3)) (codes "place" ∷ [])
-unfolding understood everything
-last_place_is more = (refl, refl, (refl, refl))
 
 -- SQL's = with a number of the text
 abbrev is_number : ℕ → ℕ → Term
@@ -172,29 +75,13 @@ is_over place param = op2 (Compare Gt Binary) (col 1 place) (col 0 param)
 abbrev pub behind_tests : List Term
 behind_tests = is_param 1 0 ∷ is_param 2 1 ∷ is_over 3 2 ∷ []
 
-pub secrets_page_is : (more : List Index) → Asks (with_indexes more) READ_SECRETS_PAGE.now (few_of_table most_page_rows secrets_tree behind_tests secrets_shows (by_column 3)) (codes "place" ∷ codes "day" ∷ codes "sort" ∷ codes "secret" ∷ [])
-unfolding understood everything
-secrets_page_is more = (refl, refl, (refl, refl))
-
-pub extensions_page_is : (more : List Index) → Asks (with_indexes more) READ_EXTENSIONS_PAGE.now (few_of_table most_page_rows extensions_tree behind_tests extensions_shows (by_column 3)) (codes "place" ∷ codes "day" ∷ codes "until_day" ∷ [])
-unfolding understood everything
-extensions_page_is more = (refl, refl, (refl, refl))
-
 -- ---- the parts of a day's sheet
 
 abbrev pub asked_tests : List Term
 asked_tests = is_param 1 0 ∷ is_param 3 1 ∷ is_number 5 0 ∷ []
 
-pub asked_is : (more : List Index) → Asks (with_indexes more) COUNT_ASKED.now (how_many bookings_tree asked_tests) (codes "count(*)" ∷ [])
-unfolding understood everything
-asked_is more = (refl, refl, (refl, refl))
-
 abbrev pub ends_tests : List Term
 ends_tests = is_param 1 0 ∷ is_number 14 0 ∷ is_param 11 1 ∷ []
-
-pub ends_is : (more : List Index) → Asks (with_indexes more) COUNT_ENDS.now (how_many pledges_tree ends_tests) (codes "count(*)" ∷ [])
-unfolding understood everything
-ends_is more = (refl, refl, (refl, refl))
 
 -- the windows in which somebody comes, each once
 abbrev pub windows_tests : List Term
@@ -203,16 +90,8 @@ windows_tests = is_param 1 0 ∷ is_param 3 1 ∷ is_number 5 1 ∷ op2 (Compare
 abbrev pub windows_shows : List Term
 windows_shows = col 1 4 ∷ []
 
-pub windows_is : (more : List Index) → Asks (with_indexes more) READ_WINDOWS.now (once_of_table bookings_tree windows_tests windows_shows (Binary ∷ [])) (codes "slot" ∷ [])
-unfolding understood everything
-windows_is more = (refl, refl, (refl, refl))
-
 abbrev pub confirmed_page_tests : List Term
 confirmed_page_tests = is_param 1 0 ∷ is_over 2 1 ∷ is_param 3 2 ∷ is_param 4 3 ∷ is_number 5 1 ∷ []
-
-pub confirmed_page_is : (more : List Index) → Asks (with_indexes more) READ_CONFIRMED_PAGE.now (few_of_table most_page_rows bookings_tree confirmed_page_tests confirmed_shows (by_column 2)) (codes "number" ∷ [])
-unfolding understood everything
-confirmed_page_is more = (refl, refl, (refl, refl))
 
 abbrev pub asked_page_tests : List Term
 asked_page_tests = is_param 1 0 ∷ is_over 2 1 ∷ is_param 3 2 ∷ is_number 5 0 ∷ []
@@ -220,13 +99,69 @@ asked_page_tests = is_param 1 0 ∷ is_over 2 1 ∷ is_param 3 2 ∷ is_number 5
 abbrev pub asked_page_shows : List Term
 asked_page_shows = col 1 2 ∷ col 1 4 ∷ []
 
-pub asked_page_is : (more : List Index) → Asks (with_indexes more) READ_ASKED_PAGE.now (few_of_table most_page_rows bookings_tree asked_page_tests asked_page_shows (by_column 2)) (codes "number" ∷ codes "slot" ∷ [])
-unfolding understood everything
-asked_page_is more = (refl, refl, (refl, refl))
-
 abbrev pub ends_page_tests : List Term
 ends_page_tests = is_param 1 0 ∷ is_over 2 1 ∷ is_number 14 0 ∷ is_param 11 2 ∷ []
 
-pub ends_page_is : (more : List Index) → Asks (with_indexes more) READ_ENDS_PAGE.now (few_of_table most_page_rows pledges_tree ends_page_tests ref_shows (by_column 2)) (codes "number" ∷ [])
+-- what each text asks, whatever indexes the tables have
+pub record Texts (more : List Index) : Type 0 where
+  pub head_is : Asks (with_indexes more) READ_HEAD.now (over_table books_tree of_book head_shows []) (codes "book_key" ∷ codes "title" ∷ codes "capacity" ∷ codes "terms" ∷ codes "pledges" ∷ codes "import_key" ∷ codes "imported" ∷ [])
+  pub entries_is : Asks (with_indexes more) READ_ENTRIES.now (over_table entries_tree of_pledge four_shown (by_column 3)) (codes "seq" ∷ codes "day" ∷ codes "sort" ∷ codes "pence" ∷ [])
+  pub terms_is : Asks (with_indexes more) READ_TERMS.now (over_table terms_tree of_pledge three_shown []) (codes "rate" ∷ codes "keep_before" ∷ codes "keep_after" ∷ [])
+  pub pledge_is : Asks (with_indexes more) READ_PLEDGE.now (over_table pledges_tree of_pledge pledge_shows []) (codes "ref" ∷ codes "article" ∷ codes "kind" ∷ codes "credit" ∷ codes "taken" ∷ codes "agreed" ∷ codes "five" ∷ codes "version" ∷ codes "ends" ∷ codes "held" ∷ codes "last_day" ∷ codes "closed" ∷ codes "closed_day" ∷ codes "amount" ∷ [])
+  pub credit_is : Asks (with_indexes more) READ_CREDIT.now (over_table pledges_tree of_pledge credit_shows []) (codes "kind" ∷ codes "credit" ∷ codes "taken" ∷ codes "agreed" ∷ codes "version" ∷ [])
+  pub secrets_is : Asks (with_indexes more) READ_SECRETS.now (over_table secrets_tree of_pledge four_shown (by_column 3)) (codes "place" ∷ codes "day" ∷ codes "sort" ∷ codes "secret" ∷ [])
+  pub booking_is : Asks (with_indexes more) READ_BOOKING.now (over_table bookings_tree of_pledge three_shown []) (codes "day" ∷ codes "slot" ∷ codes "state" ∷ [])
+  pub totals_is : Asks (with_indexes more) READ_TOTALS.now (over_table totals_tree of_pledge three_shown []) (codes "day" ∷ codes "principal" ∷ codes "charges" ∷ [])
+  pub extensions_is : Asks (with_indexes more) READ_EXTENSIONS.now (over_table extensions_tree of_pledge three_shown (by_column 3)) (codes "place" ∷ codes "day" ∷ codes "until_day" ∷ [])
+  pub ref_is : Asks (with_indexes more) FIND_REFERENCE.now (first_of_table pledges_tree ref_tests one_shown (by_column 2)) (codes "number" ∷ [])
+  pub confirmed_is : Asks (with_indexes more) COUNT_CONFIRMED.now (how_many bookings_tree confirmed_tests) (codes "count(*)" ∷ [])
+  pub next_is : Asks (with_indexes more) FIND_NEXT_BOOK.now (first_of_table books_tree next_tests next_shows (by_column 0)) (codes "book" ∷ [])
+  pub from_is : Asks (with_indexes more) READ_ENTRIES_PAGE.now (few_of_table most_page_rows entries_tree from_tests four_shown (by_column 3)) (codes "seq" ∷ codes "day" ∷ codes "sort" ∷ codes "pence" ∷ [])
+  pub rows_is : Asks (with_indexes more) READ_ROWS.now (over_table meta_tree rows_tests one_shown []) (codes "value" ∷ [])
+  pub entry_is : Asks (with_indexes more) READ_ENTRY.now (over_table entries_tree of_place four_shown []) (codes "seq" ∷ codes "day" ∷ codes "sort" ∷ codes "pence" ∷ [])
+  pub secret_is : Asks (with_indexes more) READ_SECRET.now (over_table secrets_tree of_place four_shown []) (codes "place" ∷ codes "day" ∷ codes "sort" ∷ codes "secret" ∷ [])
+  pub extension_is : Asks (with_indexes more) READ_EXTENSION.now (over_table extensions_tree of_place three_shown []) (codes "place" ∷ codes "day" ∷ codes "until_day" ∷ [])
+  pub entry_count_is : Asks (with_indexes more) COUNT_ENTRIES.now (how_many entries_tree of_pledge) (codes "count(*)" ∷ [])
+  pub last_secret_is : Asks (with_indexes more) READ_LAST_SECRET.now (first_of_table secrets_tree of_pledge four_shown (by_column_down 3)) (codes "place" ∷ codes "day" ∷ codes "sort" ∷ codes "secret" ∷ [])
+  pub last_place_is : Asks (with_indexes more) READ_LAST_PLACE.now (first_of_table extensions_tree of_pledge last_place_shows (by_column_down 3)) (codes "place" ∷ [])
+  pub secrets_page_is : Asks (with_indexes more) READ_SECRETS_PAGE.now (few_of_table most_page_rows secrets_tree behind_tests four_shown (by_column 3)) (codes "place" ∷ codes "day" ∷ codes "sort" ∷ codes "secret" ∷ [])
+  pub extensions_page_is : Asks (with_indexes more) READ_EXTENSIONS_PAGE.now (few_of_table most_page_rows extensions_tree behind_tests three_shown (by_column 3)) (codes "place" ∷ codes "day" ∷ codes "until_day" ∷ [])
+  pub asked_is : Asks (with_indexes more) COUNT_ASKED.now (how_many bookings_tree asked_tests) (codes "count(*)" ∷ [])
+  pub ends_is : Asks (with_indexes more) COUNT_ENDS.now (how_many pledges_tree ends_tests) (codes "count(*)" ∷ [])
+  pub windows_is : Asks (with_indexes more) READ_WINDOWS.now (once_of_table bookings_tree windows_tests windows_shows (Binary ∷ [])) (codes "slot" ∷ [])
+  pub confirmed_page_is : Asks (with_indexes more) READ_CONFIRMED_PAGE.now (few_of_table most_page_rows bookings_tree confirmed_page_tests one_shown (by_column 2)) (codes "number" ∷ [])
+  pub asked_page_is : Asks (with_indexes more) READ_ASKED_PAGE.now (few_of_table most_page_rows bookings_tree asked_page_tests asked_page_shows (by_column 2)) (codes "number" ∷ codes "slot" ∷ [])
+  pub ends_page_is : Asks (with_indexes more) READ_ENDS_PAGE.now (few_of_table most_page_rows pledges_tree ends_page_tests one_shown (by_column 2)) (codes "number" ∷ [])
+
+pub texts : (more : List Index) → Texts more
 unfolding understood everything
-ends_page_is more = (refl, refl, (refl, refl))
+texts more = record {
+  head_is = (refl, refl, (refl, refl));
+  entries_is = (refl, refl, (refl, refl));
+  terms_is = (refl, refl, (refl, refl));
+  pledge_is = (refl, refl, (refl, refl));
+  credit_is = (refl, refl, (refl, refl));
+  secrets_is = (refl, refl, (refl, refl));
+  booking_is = (refl, refl, (refl, refl));
+  totals_is = (refl, refl, (refl, refl));
+  extensions_is = (refl, refl, (refl, refl));
+  ref_is = (refl, refl, (refl, refl));
+  confirmed_is = (refl, refl, (refl, refl));
+  next_is = (refl, refl, (refl, refl));
+  from_is = (refl, refl, (refl, refl));
+  rows_is = (refl, refl, (refl, refl));
+  entry_is = (refl, refl, (refl, refl));
+  secret_is = (refl, refl, (refl, refl));
+  extension_is = (refl, refl, (refl, refl));
+  entry_count_is = (refl, refl, (refl, refl));
+  last_secret_is = (refl, refl, (refl, refl));
+  last_place_is = (refl, refl, (refl, refl));
+  secrets_page_is = (refl, refl, (refl, refl));
+  extensions_page_is = (refl, refl, (refl, refl));
+  asked_is = (refl, refl, (refl, refl));
+  ends_is = (refl, refl, (refl, refl));
+  windows_is = (refl, refl, (refl, refl));
+  confirmed_page_is = (refl, refl, (refl, refl));
+  asked_page_is = (refl, refl, (refl, refl));
+  ends_page_is = (refl, refl, (refl, refl));
+}

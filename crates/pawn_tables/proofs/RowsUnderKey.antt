@@ -1,5 +1,8 @@
 -- The rows of one book, and of one pledge, among those of a host.
 use Rattle.std.proofs.Common.{◌≡◌, ◌≢◌, ◌++◌, ◌==◌, ℕ, ◌+◌, ◌<◌, pos, List, [], ◌∷◌, map, filter, flat_map, Bool, true, false, cond, ◌&&◌, Option, Some, None, T, refl, sym, ap, subst, ◌∙◌, arith, append-nil}
+use Rattle.std.proofs.lemmas.Bool.{and_left, and_right, cond-false, cond-true}
+use Rattle.std.proofs.lemmas.List.Elements.{filter-append}
+use Rattle.sqlite_trees.proofs.ListLemmas.{flat_map_none}
 use Rattle.pawn_tables.specs.Common.{if◌then◌else◌, entries, entries_sorted, find, get, get-entries, is_sorted, below_all, AllByRecursion, is_eq, is_lt, nat_cmp, Less, binary, from_truth, is_true, Row, column, value_cmp, IsAscending, Value, Entry, PledgeValue, BookValue, pledge_from, pledge_in, Host, AreNumberedFrom}
 use Rattle.std.proofs.lemmas.Bool.Decides.{nat_tests}
 use Rattle.sqlite_value.proofs.OrderLemmas.{value_cmp-Int}
@@ -8,7 +11,7 @@ pub use Rattle.pawn_tables.specs.At.{is_at, at_book, at_pledge}
 
 -- ---- SQL's = on numbers
 
-truth_of : (b : Bool) → is_true (from_truth (Some b)) ≡ b
+pub truth_of : (b : Bool) → is_true (from_truth (Some b)) ≡ b
 truth_of true = refl
 truth_of false = refl
 
@@ -22,47 +25,43 @@ abbrev pub rows_at : {X : Type 0} → Option X → (X → List Row) → List Row
 rows_at None f = []
 rows_at (Some x) f = f x
 
-pub filter-append : (p : Row → Bool) (xs ys : List Row) → filter p (xs ++ ys) ≡ filter p xs ++ filter p ys
-filter-append p [] ys = refl
-filter-append p (x ∷ xs) ys = elim (p x) as (λ b. cond b (x ∷ filter p (xs ++ ys)) (filter p (xs ++ ys)) ≡ cond b (x ∷ filter p xs) (filter p xs) ++ filter p ys)
-    [ true ↦ ap (λ l. x ∷ l) (filter-append p xs ys) | false ↦ filter-append p xs ys ]
-
 pub filter-flat_map : {X : Type 0} (p : Row → Bool) (f : X → List Row) (xs : List X) → filter p (flat_map f xs) ≡ flat_map (λ x. filter p (f x)) xs
 filter-flat_map p f [] = refl
 filter-flat_map p f (x ∷ xs) = filter-append p (f x) (flat_map f xs) ∙ ap (λ l. filter p (f x) ++ l) (filter-flat_map p f xs)
 
-low : (a b : Bool) → T (a && b) → T a × T b
-low true b h = (tt, h)
-low false b h = absurd h
+-- a test of two that is passed, and one, as an equation
+pub both_pass : (a b : Bool) → T (a && b) → T a × T b
+both_pass true b h = (tt, h)
+both_pass false b h = absurd h
 
-told : (b : Bool) → T b → b ≡ true
-told true h = refl
-told false h = absurd h
+pub is_passed : (b : Bool) → T b → b ≡ true
+is_passed true h = refl
+is_passed false h = absurd h
 
-same_key : (m n : ℕ) → is_eq (nat_cmp n m) ≡ true → m ≡ n
+pub same_key : (m n : ℕ) → is_eq (nat_cmp n m) ≡ true → m ≡ n
 same_key m n h = grind (arith, nat_tests, h)
 
-other_key : (m n : ℕ) → is_eq (nat_cmp n m) ≡ false → m ≢ n
-other_key m n h same = grind (arith, nat_tests, h, same)
-
-apart : (m n : ℕ) → T (is_lt (nat_cmp n m)) → m ≢ n
-apart m n h same = let e = told _ h in grind (arith, nat_tests, e, same)
+pub lower_key : (m n : ℕ) → T (is_lt (nat_cmp m n)) → m < n
+lower_key m n h = let e = is_passed _ h in grind (arith, nat_tests, e)
 
 module _ {X : Type 0} (n : ℕ) (f : ℕ → X → List Row) (none : (m : ℕ) (x : X) → m ≢ n → f m x ≡ []) where
   none_below : (es : List (ℕ × X)) → T (below_all nat_cmp n es) → flat_map (λ (e : ℕ × X). f e.0 e.1) es ≡ []
   none_below [] h = refl
-  none_below (e ∷ es) h = let both = low _ _ h in ap (λ l. l ++ flat_map (λ (e : ℕ × X). f e.0 e.1) es) (none e.0 e.1 (apart e.0 n both.0)) ∙ none_below es both.1
+  none_below (e ∷ es) h =
+      let both = both_pass _ _ h in
+      let low = lower_key n e.0 both.0 in
+      ap (λ l. l ++ flat_map (λ (e : ℕ × X). f e.0 e.1) es) (none e.0 e.1 (λ same. absurd (omega (arith, low, same)))) ∙ none_below es both.1
 
   at_key : (es : List (ℕ × X)) → T (is_sorted nat_cmp es) → flat_map (λ (e : ℕ × X). f e.0 e.1) es ≡ rows_at (find nat_cmp n es) (f n)
   at_key [] h = refl
-  at_key (e ∷ es) h = go (is_eq (nat_cmp n e.0)) refl (at_key es (low _ _ h).1)
+  at_key (e ∷ es) h = go (is_eq (nat_cmp n e.0)) refl (at_key es (both_pass _ _ h).1)
     where
       go : (b : Bool) → is_eq (nat_cmp n e.0) ≡ b → flat_map (λ (e : ℕ × X). f e.0 e.1) es ≡ rows_at (find nat_cmp n es) (f n)
           → f e.0 e.1 ++ flat_map (λ (e : ℕ × X). f e.0 e.1) es ≡ rows_at (cond b (Some e.1) (find nat_cmp n es)) (f n)
       go true is rest =
           let same = same_key e.0 n is in
-          ap (λ l. f e.0 e.1 ++ l) (none_below es (subst (λ k. T (below_all nat_cmp k es)) same (low _ _ h).0)) ∙ append-nil _ ∙ ap (λ k. f k e.1) same
-      go false is rest = ap (λ l. l ++ flat_map (λ (e : ℕ × X). f e.0 e.1) es) (none e.0 e.1 (other_key e.0 n is)) ∙ rest
+          ap (λ l. f e.0 e.1 ++ l) (none_below es (subst (λ k. T (below_all nat_cmp k es)) same (both_pass _ _ h).0)) ∙ append-nil _ ∙ ap (λ k. f k e.1) same
+      go false is rest = ap (λ l. l ++ flat_map (λ (e : ℕ × X). f e.0 e.1) es) (none e.0 e.1 (λ same. absurd (grind (arith, nat_tests, is, same)))) ∙ rest
 
 -- the rows of a book, where no other has a row that passes
 pub of_one_book : (h : Host) (b : ℕ) (test : Row → Bool) (rows_of : ℕ → BookValue → List Row) → ((m : ℕ) (k : BookValue) → m ≢ b → filter test (rows_of m k) ≡ [])
@@ -103,20 +102,18 @@ pub all_under : (b n : ℕ) (rows : List Row) → AreUnder b n rows → filter (
 all_under b n [] h = refl
 all_under b n (r ∷ rows) h =
     let here : at_pledge b n r ≡ true = at_is b n b n r h.0 ∙ (let x : (b == b) ≡ true = grind (arith, nat_tests) in let y : (n == n) ≡ true = grind (arith, nat_tests) in rw (x, y) refl) in
-    ap (λ c. cond c (r ∷ filter (at_pledge b n) rows) (filter (at_pledge b n) rows)) here ∙ ap (λ l. r ∷ l) (all_under b n rows h.1)
+    cond-true _ _ _ here ∙ ap (λ l. r ∷ l) (all_under b n rows h.1)
 
 none_under : (b n m k : ℕ) → ((m == b) && ((k == n) && true)) ≡ false → (rows : List Row) → AreUnder m k rows → filter (at_pledge b n) rows ≡ []
 none_under b n m k other [] h = refl
-none_under b n m k other (r ∷ rows) h =
-    ap (λ c. cond c (r ∷ filter (at_pledge b n) rows) (filter (at_pledge b n) rows)) (at_is b n m k r h.0 ∙ other) ∙ none_under b n m k other rows h.1
+none_under b n m k other (r ∷ rows) h = cond-false _ _ _ (at_is b n m k r h.0 ∙ other) ∙ none_under b n m k other rows h.1
 
-no_and : (b : Bool) → (b && false) ≡ false
-no_and true = refl
-no_and false = refl
-
-pub flat_none : {X : Type 0} (f : X → List Row) (xs : List X) → ((x : X) → f x ≡ []) → flat_map f xs ≡ []
-flat_none f [] h = refl
-flat_none f (x ∷ xs) h = ap (λ l. l ++ flat_map f xs) (h x) ∙ flat_none f xs h
+pub number_from : (n k : ℕ) (ps : List PledgeValue) → AreNumberedFrom k ps → (p : PledgeValue) → pledge_from k ps n ≡ Some p → p.agreement.number ≡ n
+number_from n k [] numbered p is = absurd (let e = is in cc)
+number_from n k (q ∷ ps) numbered p is = elim (n == k) as (λ c. (n == k) ≡ c → (if c then Some q else pledge_from (k + 1) ps n) ≡ Some p → p.agreement.number ≡ n) [
+  | true ↦ λ at here. let same : q ≡ p = (let e = here in cc) in ap (λ (x : PledgeValue). x.agreement.number) (sym same) ∙ numbered.0 ∙ grind (arith, nat_tests, at)
+  | false ↦ λ at there. number_from n (k + 1) ps numbered.1 p there
+] refl is
 
 -- the rows of one pledge, among those of all pledges of all books
 pub of_one_pledge : (h : Host) (b n : ℕ) (rows_of : ℕ → PledgeValue → List Row) → AreBooksOrdered h → ((m : ℕ) (p : PledgeValue) → AreUnder m p.agreement.number (rows_of m p))
@@ -128,23 +125,16 @@ of_one_pledge h b n rows_of ordered under' =
     other m k apart' =
         let no' : (m == b) ≡ false = grind (arith, nat_tests, apart') in
         filter-flat_map (at_pledge b n) (rows_of m) k.pledges
-        ∙ flat_none (λ p. filter (at_pledge b n) (rows_of m p)) k.pledges (λ p. none_under b n m p.agreement.number (ap (λ c. c && ((p.agreement.number == n) && true)) no') (rows_of m p) (under' m p))
+        ∙ flat_map_none (λ p. filter (at_pledge b n) (rows_of m p)) (λ p. none_under b n m p.agreement.number (and_left _ _ no') (rows_of m p) (under' m p)) k.pledges
 
     one : (p : PledgeValue) → p.agreement.number ≢ n → filter (at_pledge b n) (rows_of b p) ≡ []
     one p apart' =
         let no' : (p.agreement.number == n) ≡ false = grind (arith, nat_tests, apart') in
-        none_under b n b p.agreement.number (ap (λ c. (b == b) && (c && true)) no' ∙ no_and (b == b)) (rows_of b p) (under' b p)
+        none_under b n b p.agreement.number (and_right (b == b) _ (and_left _ _ no')) (rows_of b p) (under' b p)
 
     found : (o : Option PledgeValue) → ((p : PledgeValue) → o ≡ Some p → p.agreement.number ≡ n) → rows_at o (λ p. filter (at_pledge b n) (rows_of b p)) ≡ rows_at o (rows_of b)
     found None at = refl
     found (Some p) at = all_under b n (rows_of b p) (subst (λ k. AreUnder b k (rows_of b p)) (at p refl) (under' b p))
-
-    number_at : (k : ℕ) (ps : List PledgeValue) → AreNumberedFrom k ps → (p : PledgeValue) → pledge_from k ps n ≡ Some p → p.agreement.number ≡ n
-    number_at k [] numbered p is = absurd (let e = is in cc)
-    number_at k (q ∷ ps) numbered p is = elim (n == k) as (λ c. (n == k) ≡ c → (if c then Some q else pledge_from (k + 1) ps n) ≡ Some p → p.agreement.number ≡ n) [
-      | true ↦ λ at here. let same : q ≡ p = (let e = here in cc) in ap (λ (x : PledgeValue). x.agreement.number) (sym same) ∙ numbered.0 ∙ grind (arith, nat_tests, at)
-      | false ↦ λ at there. number_at (k + 1) ps numbered.1 p there
-    ] refl is
 
     inside : (o : Option BookValue) → get h.books b ≡ o → rows_at o (λ k. filter (at_pledge b n) (flat_map (rows_of b) k.pledges)) ≡ rows_at (pledge_in o n) (rows_of b)
     inside None is = refl
@@ -152,16 +142,20 @@ of_one_pledge h b n rows_of ordered under' =
         let numbered = (ordered b k is).pledges in
         filter-flat_map (at_pledge b n) (rows_of b) k.pledges
         ∙ at_number n (λ p. filter (at_pledge b n) (rows_of b p)) one 1 k.pledges numbered
-        ∙ found (pledge_from 1 k.pledges n) (number_at 1 k.pledges numbered)
+        ∙ found (pledge_from 1 k.pledges n) (number_from n 1 k.pledges numbered)
 
 -- ---- the order of a pledge's rows
 
 pub less : (m n : ℕ) → m < n → value_cmp (number m) (number n) ≡ Less
 less m n h = value_cmp-Int (pos m) (pos n) ∙ grind (arith, nat_tests, h)
 
+-- rows that rise in a column
+abbrev pub Rise : (Row → Value) → List Row → Type 0
+Rise key = IsAscending (λ a b. value_cmp (key a) (key b) ≡ Less)
+
 -- elements with their places stand in order
 pub placed_rise : {A : Type 0} (f : ℕ → A → Row) (key : Row → Value) → ((at : ℕ) (x : A) → key (f at x) ≡ number at) → (at : ℕ) (xs : List A)
-    → IsAscending (λ a b. value_cmp (key a) (key b) ≡ Less) (placed_from f at xs)
+    → Rise key (placed_from f at xs)
 placed_rise f key is at [] = tt
 placed_rise {A} f key is at (x ∷ xs) = (above (at + 1) xs (omega arith), placed_rise f key is (at + 1) xs)
   where
@@ -169,8 +163,7 @@ placed_rise {A} f key is at (x ∷ xs) = (above (at + 1) xs (omega arith), place
     above m [] h = tt
     above m (y ∷ ys) h = ((λ i. value_cmp (is at x i) (is m y i)) ∙ less at m h, above (m + 1) ys (omega (arith, h)))
 
-pub entries_rise : (f : Entry → Row) (key : Row → Value) → ((e : Entry) → key (f e) ≡ number e.seq) → (n : ℕ) (es : List Entry) → RiseFrom n es
-    → IsAscending (λ a b. value_cmp (key a) (key b) ≡ Less) (map f es)
+pub entries_rise : (f : Entry → Row) (key : Row → Value) → ((e : Entry) → key (f e) ≡ number e.seq) → (n : ℕ) (es : List Entry) → RiseFrom n es → Rise key (map f es)
 entries_rise f key is n [] rise = tt
 entries_rise f key is n (e ∷ es) rise = (above (e.seq + 1) es (omega arith) rise.1, entries_rise f key is (e.seq + 1) es rise.1)
   where

@@ -1,8 +1,9 @@
 -- What is kept of a sound host's books can be read of their rows.
-use Rattle.std.proofs.Common.{◌≡◌, ℕ, ◌+◌, ◌≤◌, List, [], ◌∷◌, length, Bool, true, false, cond, Option, Some, None, Result, Ok, Err, refl, arith, option_map}
+use Rattle.std.proofs.Common.{◌≡◌, ℕ, ◌+◌, ◌≤◌, List, [], ◌∷◌, length, Option, Some, None, Result, Ok, Err, refl, arith, option_map}
 use Rattle.pawn_tables.specs.Common.{IfSome, get, IsNumber, PledgeValue, BookValue, with_reference, Host, IsNextBook, number_of, AreNumberedFrom, is_same_text, HasUnsoundBook, IsSoundAt, IsUnsoundAt, KeepError, Database, NoRecord}
 use Rattle.pawn_book.specs.declared.fault.KeepError.TheVariants as Keeper
 use Rattle.pawn_tables.specs.Tables.{Finds, HasKeys, IsHeadTold, AreStorable}
+use Rattle.std.proofs.lemmas.Bool.{cond_both}
 use Rattle.pawn_tables.proofs.BookReads.{next_of, is_next}
 
 module _ (h : Host) (b : ℕ) where
@@ -20,11 +21,9 @@ module _ (h : Host) (b : ℕ) where
   -- the number of a pledge that stands is such
   numbers_in : (s : List ℕ) (k : ℕ) (ps : List PledgeValue) → AreNumberedFrom k ps → 1 ≤ k → k + length ps ≤ 1000001 → IfSome (option_map (λ (p : PledgeValue). p.agreement.number) (with_reference ps s)) IsNumber
   numbers_in s k [] numbered low few = tt
-  numbers_in s k (p ∷ ps) numbered low few = go (numbers_in s (k + 1) ps numbered.1 (omega arith) (omega (arith, few))) (is_same_text p.agreement.opening.reference s)
-    where
-      go : IfSome (option_map (λ (q : PledgeValue). q.agreement.number) (with_reference ps s)) IsNumber → (c : Bool) → IfSome (option_map (λ (q : PledgeValue). q.agreement.number) (cond c (Some p) (with_reference ps s))) IsNumber
-      go rest true = let at = numbered.0 in (omega (arith, at, low), omega (arith, at, few))
-      go rest false = rest
+  numbers_in s k (p ∷ ps) numbered low few =
+      let at = numbered.0 in
+      cond_both (is_same_text p.agreement.opening.reference s) _ _ (λ o. IfSome (option_map (λ (q : PledgeValue). q.agreement.number) o) IsNumber) (λ _. (omega (arith, at, low), omega (arith, at, few))) (λ _. numbers_in s (k + 1) ps numbered.1 (omega arith) (omega (arith, few)))
 
   pub ref_unsound : (s : List ℕ) → (IfSome (number_of (get h.books b) s) IsNumber → ⊥) → IsUnsoundAt b h
   ref_unsound s bad = unsound_book (λ o. IfSome (number_of o s) IsNumber) tt (λ k sound. let fits = sound.1.rows.few_pledges in numbers_in s 1 k.pledges sound.1.rows.numbered (omega arith) (omega (arith, fits))) bad

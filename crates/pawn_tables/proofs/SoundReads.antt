@@ -50,7 +50,7 @@ taken_of h storable b n k p is at = each_at (λ q. first_day ≤ q.agreement.tak
 day_of_pledge : (taken d last : ℕ) → first_day ≤ taken → taken ≤ d → d ≤ last → last ≤ last_stamp_day → IsDayNumber d
 day_of_pledge taken d last first low high end = (omega (arith, first, low), omega (arith, high, end))
 
-each_weaker : {A : Type 0} (P Q : A → Type 0) → ((x : A) → P x → Q x) → (xs : List A) → Each P xs → Each Q xs
+pub each_weaker : {A : Type 0} (P Q : A → Type 0) → ((x : A) → P x → Q x) → (xs : List A) → Each P xs → Each Q xs
 each_weaker P Q f [] all = tt
 each_weaker P Q f (x ∷ xs) all = (f x all.0, each_weaker P Q f xs all.1)
 

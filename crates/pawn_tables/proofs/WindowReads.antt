@@ -2,17 +2,15 @@
 use Rattle.std.proofs.Common.{◌≡◌, ◌≢◌, ◌==◌, ℕ, ◌<◌, ◌≤◌, pos, List, [], ◌∷◌, map, filter, filter_map, nat_lt, Bool, true, false, cond, ◌&&◌, ◌||◌, Option, Some, None, refl, sym, ap, subst, ◌∙◌, arith, true≢false}
 use Rattle.pawn_tables.specs.Common.{get, AllByRecursion, IsDistinct, cons_option, list_all, list_any, eq_by_cmp, is_eq, ordering_then, Equal, Greater, Less, collated_cmp, Binary, Row, column, value_cmp, Shown, State, Table, PledgeValue, Booking, is_confirmed, is_confirmed_for, Host, pledges_of, part_items, Confirmed}
 use Rattle.std.specs.declared.cmp.Ordering.{Ordering}
-use Rattle.pawn_tables.proofs.Lemmas.{nat_tests, all-map, all_from_map, all_weaker, value_cmp-Int, each_shown_once, shown_apart, shown_once_each, equals}
+use Rattle.pawn_tables.proofs.Lemmas.{and-true, nat_tests, all-map, all_from_map, all_weaker, value_cmp-Int, each_shown_once, shown_apart, shown_once_each, equals}
 use Rattle.std.proofs.lemmas.Cmp.{alike_right, tied_itself}
 use Rattle.sqlite_value.proofs.KeyLemmas.{collated_cmp_total}
 use Rattle.pawn_book.specs.declared.sheet.Part.TheVariants as part_of
 use Rattle.pawn_tables.specs.Tables.{is_at, is_below, number_cells, NamesWindows, with_indexes, booking_cells, booking_listed, number, number_in_book, state_number, under, bookings, bookings_tree, StandsFor, of_pledges}
 use Rattle.pawn_tables.proofs.ReadTexts as text
 use Rattle.pawn_tables.proofs.BookReads as books
-use Rattle.pawn_tables.proofs.BookReads.{one_test}
-use Rattle.pawn_tables.proofs.LineReads.{all_kept, booking_in}
+use Rattle.pawn_tables.proofs.LineReads.{all_kept, booking_in, confirmed_state}
 use Rattle.pawn_tables.proofs.OneEach.{shown_each, tell_of}
-use Rattle.pawn_tables.proofs.PledgeSearches.{confirmed_state}
 
 -- a booking that is confirmed for one of the windows of the day
 abbrev comes_on : ℕ → Booking → Bool
@@ -86,7 +84,7 @@ at_windows b day v = list_all (λ (x : Bool). x) (is_at (column v 0) (number b) 
 
 windows_passes : (b day m n : ℕ) (k : Booking) → at_windows b day (under m n (booking_cells k)) ≡ ((m == b) && (true && comes_on day k))
 windows_passes b day m n k =
-    λ i. equals m b i && (equals k.day day i && ((equals (state_number k.state) 1 ∙ confirmed_state k.state) i && (one_test (is_below (number k.window) (number 16)) ∙ books.lesser k.window 16) i))
+    λ i. equals m b i && (equals k.day day i && ((equals (state_number k.state) 1 ∙ confirmed_state k.state) i && (and-true (is_below (number k.window) (number 16)) ∙ books.lesser k.window 16) i))
 
 one_number : (m n : ℕ) → number_cells m ≡ number_cells n → m ≡ n
 one_number m n same = let e = same in cc
@@ -150,10 +148,10 @@ module _ (b day : ℕ) (old new : State) (h : Host) (rows : List Row) (st : Stan
   pub windows_shown : (ns : List ℕ) × (rows ≡ map number_cells ns) × NamesWindows day ps ns
   windows_shown =
       let told_come = all-map IsComing number_cells _ (all_weaker _ (λ n. IsComing (number_cells n)) (λ n it. (n, refl, it.0, it.1)) _ (some_comes day ps)) in
-      let shown_come = shown_once_each (with_indexes st.schema.more) bookings_tree (λ _. refl) table text.windows_tests text.windows_shows (Binary ∷ []) (number b ∷ number day ∷ []) (at_windows b day) cells (λ _. refl) (λ _. refl) text.READ_WINDOWS.now _ (text.windows_is st.schema.more) old new (of_pledges h booking_listed) rows st.schema.is st.bookings shown
+      let shown_come = shown_once_each (with_indexes st.schema.more) bookings_tree (λ _. refl) table text.windows_tests text.windows_shows (Binary ∷ []) (number b ∷ number day ∷ []) (at_windows b day) cells (λ _. refl) (λ _. refl) text.READ_WINDOWS.now _ ((text.texts st.schema.more).windows_is) old new (of_pledges h booking_listed) rows st.schema.is st.bookings shown
       IsComing (subst (AllByRecursion IsComing) (sym told) told_come) in
       let ns = numbers_in rows (all_weaker IsComing (λ r. (n : ℕ) × (r ≡ number_cells n)) (λ r it. (it.0, it.1)) rows shown_come) in
-      let apart = shown_apart (with_indexes st.schema.more) bookings_tree (λ _. refl) table text.windows_tests text.windows_shows (Binary ∷ []) (number b ∷ number day ∷ []) (at_windows b day) cells (λ _. refl) (λ _. refl) text.READ_WINDOWS.now _ (text.windows_is st.schema.more) old new (of_pledges h booking_listed) rows st.schema.is st.bookings shown in (
+      let apart = shown_apart (with_indexes st.schema.more) bookings_tree (λ _. refl) table text.windows_tests text.windows_shows (Binary ∷ []) (number b ∷ number day ∷ []) (at_windows b day) cells (λ _. refl) (λ _. refl) text.READ_WINDOWS.now _ ((text.texts st.schema.more).windows_is) old new (of_pledges h booking_listed) rows st.schema.is st.bookings shown in (
         ns.0,
         ns.1,
         record {
@@ -170,6 +168,6 @@ module _ (b day : ℕ) (old new : State) (h : Host) (rows : List Row) (st : Stan
       names w ns are none =
           let P : Row → Type 0 = λ r. collated_cmp (Binary ∷ []) (number_cells w) r ≡ Equal → ⊥ in
           let rows_apart = subst (AllByRecursion P) (sym are) (all-map P number_cells ns (all_weaker _ (λ n. P (number_cells n)) (apart w) ns (others w ns none))) in
-          let all = each_shown_once (with_indexes st.schema.more) bookings_tree (λ _. refl) table text.windows_tests text.windows_shows (Binary ∷ []) (number b ∷ number day ∷ []) (at_windows b day) cells (λ _. refl) (λ _. refl) text.READ_WINDOWS.now _ (text.windows_is st.schema.more) old new (of_pledges h booking_listed) rows st.schema.is st.bookings shown
+          let all = each_shown_once (with_indexes st.schema.more) bookings_tree (λ _. refl) table text.windows_tests text.windows_shows (Binary ∷ []) (number b ∷ number day ∷ []) (at_windows b day) cells (λ _. refl) (λ _. refl) text.READ_WINDOWS.now _ ((text.texts st.schema.more).windows_is) old new (of_pledges h booking_listed) rows st.schema.is st.bookings shown
           P (λ x y same not e. not (alike_right (collated_cmp_total (Binary ∷ [])) x y (number_cells w) same ∙ e)) rows_apart in
           all_weaker _ (λ (n : ℕ). n ≢ w) (λ n not same. not (ap (λ m. collated_cmp (Binary ∷ []) (number_cells w) (number_cells m)) same ∙ tied_itself (collated_cmp_total (Binary ∷ [])) (number_cells w))) _ (all_from_map P number_cells _ (subst (AllByRecursion P) told all))

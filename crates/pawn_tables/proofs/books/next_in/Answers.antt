@@ -1,4 +1,4 @@
-use Rattle.pawn_tables.proofs.Reading.{rules, ◌∙◌, IsNextBook, is_next, next_shown, debts_of, FIND_NEXT_BOOK, next_is, next_unsound, found_as, found_debts, untold}
+use Rattle.pawn_tables.proofs.Reading.{rules, ◌∙◌, IsNextBook, is_next, next_shown, debts_of, FIND_NEXT_BOOK, next_unsound, found_as, found_debts, untold, texts}
 use Rattle.pawn_tables.proofs.books.next_in.Goals as goal
 
 pub returns-in_err-rows-clause-told : goal.returns-in_err-rows-clause-told
@@ -6,7 +6,7 @@ returns-in_err-rows-clause-told g c clean within h stood = untold c.rows_of.resu
 
 pub returns-clause-told : goal.returns-clause-told
 returns-clause-told g c =
-    found_debts _ _ _ _ _ c.first_number.result _ FIND_NEXT_BOOK.now (λ more. (next_is more).2) c.in_ok-rows.ensures.lent.leaves
+    found_debts _ _ _ _ _ c.first_number.result _ FIND_NEXT_BOOK.now (λ more. (texts more).next_is.2) c.in_ok-rows.ensures.lent.leaves
     (λ clean. rw c.params-to_sql.ensures at (c.in_ok-rows.ensures.shown clean))
     (λ h st shown. found_as c.first_number.result _ (IsNextBook h c.args.above) _ _ (c.first_number.ensures.read _ (c.deref.ensures.value ∙ next_shown _ _ h c.args.above _ st shown)) (is_next h c.args.above) (next_unsound h c.args.above))
 

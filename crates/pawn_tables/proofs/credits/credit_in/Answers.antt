@@ -1,4 +1,4 @@
-use Rattle.pawn_tables.proofs.Reading.{rules, ◌∙◌, credit_shown, READ_CREDIT, credit_is, credit_unsound, found_debts, found_is, untold}
+use Rattle.pawn_tables.proofs.Reading.{rules, ◌∙◌, credit_shown, READ_CREDIT, credit_unsound, found_debts, found_is, untold, texts}
 use Rattle.pawn_tables.proofs.credits.credit_in.Goals as goal
 
 pub returns-in_err-rows-clause-finds : goal.returns-in_err-rows-clause-finds
@@ -6,6 +6,6 @@ returns-in_err-rows-clause-finds g c clean within h stood = untold c.rows_of.res
 
 pub returns-clause-finds : goal.returns-clause-finds
 returns-clause-finds g c =
-    found_debts _ _ _ _ _ c.first_credit.result _ READ_CREDIT.now (λ more. (credit_is more).2) c.in_ok-rows.ensures.lent.leaves
+    found_debts _ _ _ _ _ c.first_credit.result _ READ_CREDIT.now (λ more. (texts more).credit_is.2) c.in_ok-rows.ensures.lent.leaves
     (λ clean. rw (c.params-to_sql.ensures, c.params-to_sql-2.ensures) at (c.in_ok-rows.ensures.shown clean))
     (λ h st shown. found_is c.first_credit.result _ _ _ (c.first_credit.ensures.read _ (c.deref.ensures.value ∙ credit_shown _ _ h c.args.book c.args.number _ st shown)) (credit_unsound h st.storable c.args.book c.args.number))

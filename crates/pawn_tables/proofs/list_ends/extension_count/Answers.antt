@@ -1,9 +1,9 @@
-use Rattle.pawn_tables.proofs.Reading.{length, ℕ, ◌∙◌, ◌≡◌, get, pledge_in, extensions_of, place_count, place_shown, READ_LAST_PLACE, last_place_is, found, found_as}
+use Rattle.pawn_tables.proofs.Reading.{length, ℕ, ◌∙◌, ◌≡◌, get, pledge_in, extensions_of, place_count, place_shown, READ_LAST_PLACE, found, found_as, texts}
 use Rattle.pawn_tables.proofs.list_ends.extension_count.Goals as goal
 
 pub returns-clause-finds : goal.returns-clause-finds
 returns-clause-finds g c =
-    found _ _ _ _ _ c.first_place.result _ READ_LAST_PLACE.now (λ more. (last_place_is more).2) c.in_ok-rows.ensures.lent.leaves
+    found _ _ _ _ _ c.first_place.result _ READ_LAST_PLACE.now (λ more. (texts more).last_place_is.2) c.in_ok-rows.ensures.lent.leaves
     (λ clean. rw (c.params-to_sql.ensures, c.params-to_sql-2.ensures) at (c.in_ok-rows.ensures.shown clean))
     (λ h st shown.
     let are = c.deref.ensures.value ∙ place_shown _ _ h c.args.book c.args.number _ st shown in

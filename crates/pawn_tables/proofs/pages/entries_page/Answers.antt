@@ -1,11 +1,11 @@
-use Rattle.pawn_tables.proofs.Reading.{◌∙◌, get, state, pledge_in, entries_of, entries_page_shown, entries_page_unsound, entries_rising, READ_ENTRIES_PAGE, from_is, found, found_as}
+use Rattle.pawn_tables.proofs.Reading.{◌∙◌, get, state, pledge_in, entries_of, entries_page_shown, entries_page_unsound, entries_rising, READ_ENTRIES_PAGE, found, found_as, texts}
 use Rattle.pawn_tables.specs.Entries.{IsEntriesPage}
 use Rattle.pawn_tables.proofs.NextEntries.{is_entries_page}
 use Rattle.pawn_tables.proofs.pages.entries_page.Goals as goal
 
 pub returns-clause-finds : goal.returns-clause-finds
 returns-clause-finds g c =
-    found _ _ _ _ _ c.read_entries.result _ READ_ENTRIES_PAGE.now (λ more. (from_is more).2) c.in_ok-rows.ensures.lent.leaves
+    found _ _ _ _ _ c.read_entries.result _ READ_ENTRIES_PAGE.now (λ more. (texts more).from_is.2) c.in_ok-rows.ensures.lent.leaves
     (λ clean. rw (c.params-to_sql.ensures, c.params-to_sql-2.ensures, c.params-to_sql-3.ensures) at (c.in_ok-rows.ensures.shown clean))
     (λ h st shown.
     let are = c.deref.ensures.value ∙ entries_page_shown _ _ h c.args.book c.args.number c.args.from _ st shown in

@@ -1,4 +1,4 @@
-use Rattle.pawn_tables.proofs.Reading.{rules, ◌∙◌, debts_of, terms_shown, READ_TERMS, terms_is, terms_unsound, found_debts, found_is, untold}
+use Rattle.pawn_tables.proofs.Reading.{rules, ◌∙◌, debts_of, terms_shown, READ_TERMS, terms_unsound, found_debts, found_is, untold, texts}
 use Rattle.pawn_tables.proofs.queries.terms_in.Goals as goal
 
 pub returns-in_err-rows-clause-told : goal.returns-in_err-rows-clause-told
@@ -6,7 +6,7 @@ returns-in_err-rows-clause-told g c clean within h stood = untold c.rows_of.resu
 
 pub returns-clause-told : goal.returns-clause-told
 returns-clause-told g c =
-    found_debts _ _ _ _ _ c.first_terms.result _ READ_TERMS.now (λ more. (terms_is more).2) c.in_ok-rows.ensures.lent.leaves
+    found_debts _ _ _ _ _ c.first_terms.result _ READ_TERMS.now (λ more. (texts more).terms_is.2) c.in_ok-rows.ensures.lent.leaves
     (λ clean. rw (c.params-to_sql.ensures, c.params-to_sql-2.ensures) at (c.in_ok-rows.ensures.shown clean))
     (λ h st shown. found_is c.first_terms.result _ _ _ (c.first_terms.ensures.read _ (c.deref.ensures.value ∙ terms_shown _ _ h c.args.book c.args.version _ st shown)) (terms_unsound h c.args.book c.args.version))
 

@@ -1,11 +1,11 @@
-use Rattle.pawn_tables.proofs.Reading.{map, ◌∙◌, get, pledges_of, NamesWindows, READ_WINDOWS, windows_is, found, found_as}
+use Rattle.pawn_tables.proofs.Reading.{map, ◌∙◌, get, pledges_of, NamesWindows, READ_WINDOWS, found, found_as, texts}
 use Rattle.pawn_tables.specs.Heads.{number_cells}
 use Rattle.pawn_tables.proofs.WindowReads.{windows_shown}
 use Rattle.pawn_tables.proofs.sheets.windows_in.Goals as goal
 
 pub returns-clause-finds : goal.returns-clause-finds
 returns-clause-finds g c =
-    found _ _ _ _ _ c.read_numbers.result _ READ_WINDOWS.now (λ more. (windows_is more).2) c.in_ok-rows.ensures.lent.leaves
+    found _ _ _ _ _ c.read_numbers.result _ READ_WINDOWS.now (λ more. (texts more).windows_is.2) c.in_ok-rows.ensures.lent.leaves
     (λ clean. rw (c.params-to_sql.ensures, c.params-to_sql-2.ensures, c.count-day.ensures.value) at (c.in_ok-rows.ensures.shown clean))
     (λ h st shown.
     let windows = windows_shown c.args.book c.args.day _ _ h _ st shown in

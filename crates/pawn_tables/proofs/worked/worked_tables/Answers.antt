@@ -1,7 +1,8 @@
-use Rattle.std.proofs.Common.{◌≡◌, ℕ, List, [], ◌∷◌, map, flat_map, length, sum_by, refl, sym, ap, ◌∙◌, arith}
+use Rattle.std.proofs.Common.{◌≡◌, ℕ, List, [], ◌∷◌, map, flat_map, sum_by, refl, sym, ap, ◌∙◌, arith}
 use Rattle.std.specs.FinMap.{empty, entries, entries-insert, put, len-empty, len-entries}
 use Rattle.std.specs.Ordering.{nat_cmp}
 use Rattle.std.proofs.lemmas.Cmp.{nat_cmp_total}
+use Rattle.std.proofs.lemmas.List.{nil_from_length}
 use Rattle.sqlite.specs.Order.{Row}
 use Rattle.pawn_terms.specs.Calendar.{days_of_years, days_of_months, civil_after}
 use Rattle.pawn_debt.specs.Due.{due_after}
@@ -14,12 +15,8 @@ use Rattle.pawn_tables.specs.StandsFor.{of_books, of_pledges}
 use Rattle.pawn_tables.specs.WorkedTables.{stored_book, host_of_stored_book}
 use Rattle.pawn_tables.proofs.worked.worked_tables.Goals as goal
 
-none_of_none : {A : Type 0} (xs : List A) → length xs ≡ 0 → xs ≡ []
-none_of_none [] h = refl
-none_of_none (x ∷ xs) h = absurd (omega (arith, h))
-
 no_entries : entries (empty {X = BookValue} {R = nat_cmp}) ≡ []
-no_entries = none_of_none _ (sym (len-entries (empty {X = BookValue} {R = nat_cmp})) ∙ len-empty nat_cmp BookValue)
+no_entries = nil_from_length _ (sym (len-entries (empty {X = BookValue} {R = nat_cmp})) ∙ len-empty nat_cmp BookValue)
 
 -- the only book of the host
 only : entries host_of_stored_book.books ≡ (7, stored_book) ∷ []
