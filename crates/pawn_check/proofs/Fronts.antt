@@ -1,10 +1,10 @@
 -- The terms and the pledges of a book, judged one after the other.
 use Rattle.std.proofs.Common.{◌≡◌, ◌∙◌, ℕ, ◌+◌, ◌<◌, ◌≤◌, zero, suc, true, false, List, [], ◌∷◌, ◌++◌, length, take, Some, None, refl, sym, ap, subst, arith}
 use Rattle.std.specs.Prelude.{◌==◌, ◌||◌, if◌then◌else◌, Bool, Option, option_map, slice_get}
-use Rattle.pawn_check.specs.Common.{AreDistinct, AreNumberedFrom, BookValue, DoNotFall, Each, Err, HasTextsAndWords, HasUnsoundBook, Host, IfSome, IsCapacity, IsChecked, IsSoundBook, IsStanding, IsText, IsTrue, IsUnder, IsUtf8, IsWord, Keeping, PledgeValue, Rates, Reads, Result, book_head, get, is_same_text, last_by, most_name_bytes, most_pledges, most_terms, pledge_from, pledge_in, pledge_rows, references_of, terms_at, terms_of, version_of, with_reference}
+use Rattle.pawn_check.specs.Common.{AreDistinct, AreNumberedFrom, BookValue, DoNotFall, Each, Err, HasTextsAndWords, HasUnsoundBook, Host, IfSome, IsCapacity, IsChecked, IsSoundBook, IsStanding, IsText, IsTrue, IsUnder, IsUtf8, IsWord, PledgeValue, Rates, Result, book_head, get, is_same_text, last_by, most_name_bytes, most_pledges, most_terms, pledge_from, pledge_in, pledge_rows, references_of, terms_at, terms_of, version_of, with_reference}
 use Rattle.std.specs.List.{list_any}
-use Rattle.pawn_check.proofs.Lemmas.{absurd_none, nat_tests, reads_then, references_push, some_is, sum_by_push}
-use Rattle.pawn_base.proofs.ListLemmas.{Each-push, take_whole, take_each}
+use Rattle.pawn_check.proofs.Lemmas.{absurd_none, nat_tests, references_push, some_is, sum_by_push}
+use Rattle.pawn_base.proofs.ListLemmas.{Each-push, take_each}
 use Rattle.pawn_book.specs.declared.change.BookHead.{BookHead}
 use Rattle.pawn_book.proofs.Sounds.{each_at, numbered_at}
 use Rattle.pawn_check.specs.declared.fault.CheckFault.{CheckFault}

@@ -3,7 +3,7 @@ use Rattle.std.proofs.Common.{◌≡◌, ◌∙◌, ℕ, ◌+◌, ◌<◌, ◌�
 use Rattle.std.specs.Prelude.{if◌then◌else◌, Bool, true, false, ◌&&◌, Option, nat_lt, nat_le, sum_by}
 use Rattle.std.specs.declared.cmp.Ordering.TheVariants.{Less, Equal, Greater}
 use Rattle.std.specs.Cmp.{ranked}
-use Rattle.std.specs.Ordering.{nat_cmp, is_eq, is_lt}
+use Rattle.std.specs.Ordering.{nat_cmp, is_eq}
 use Rattle.pawn_check.specs.Common.{AreSound, BookValue, HasUnsoundBook, Host, IsNextBook, IsSoundAt, book_rows, entries, entries_sorted, find, get, get-entries, is_sorted, rows}
 use Rattle.std.specs.FinMap.Entries.{below_all}
 use Rattle.pawn_check.proofs.Lemmas.{absurd_none, nat_tests, some_is, sum_by-cons}

@@ -1,15 +1,10 @@
 -- Texts that JSON writes as they are.
 use Rattle.std.proofs.Common.{◌≡◌, ℕ, List, [], ◌∷◌, ◌++◌, refl, ap, ◌∙◌, arith, sym, append_assoc, Option, Some, None}
 use Rattle.std.specs.Prelude.{IsTrue, ◌&&◌, nat_le, not, ◌==◌, codes, decimal}
-use Rattle.std.proofs.lemmas.Grind.{common_steps}
-use Rattle.json.specs.Print.{escape, escape_byte}
-use Rattle.serde_json.specs.Data.{object, no_members}
-use Rattle.serde_json.specs.Written.{compact_text}
-use Rattle.serde_json.proofs.OnLiterals.{serde_json_on_literals}
-use Rattle.pawn_wire.specs.Laws.{is_unescaped, number_member, text_member, refusal_members}
+use Rattle.pawn_wire.proofs.Lemmas.{common_steps, serde_json_on_literals}
+use Rattle.pawn_wire.specs.Common.{compact_text, escape, escape_byte, no_members, object}
+use Rattle.pawn_wire.specs.Http.{Row, Total, is_unescaped, number_member, opened_text, refusal_members, refusal_text, text_member}
 use Rattle.pawn_wire.specs.declared.detail.Detail.{Detail}
-use Rattle.pawn_wire.specs.declared.detail.Detail.TheVariants.{Row, Total}
-use Rattle.pawn_wire.specs.Bodies.{opened_text, refusal_text}
 use Rattle.pawn_wire.proofs.DigitLemmas.{both_true}
 
 escape_plain_byte : (b : ℕ) → IsTrue (nat_le 32 b && not (b == 34) && not (b == 92)) → escape_byte b ≡ b ∷ []

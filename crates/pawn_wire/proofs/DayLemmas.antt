@@ -1,13 +1,9 @@
 -- The texts of days.
 use Rattle.std.proofs.Common.{◌≡◌, ℕ, zero, suc, ◌+◌, ◌<◌, ◌%◌, List, [], ◌∷◌, Bool, true, refl, arith}
 use Rattle.std.specs.Prelude.{IsTrue, ◌&&◌, nat_le, nat_lt, not, ◌==◌}
-use Rattle.std.specs.List.{list_all}
-use Rattle.std.specs.Str.{IsAscii}
-use Rattle.std.proofs.lemmas.Bool.Decides.{nat_tests}
-use Rattle.std.proofs.lemmas.Grind.{common_steps}
-use Rattle.pawn_terms.specs.Calendar.{Civil, civil_of, civil_text, day_text}
-use Rattle.pawn_wire.specs.Laws.{is_unescaped}
-use Rattle.pawn_wire.specs.Place.{is_ascii_text}
+use Rattle.pawn_wire.specs.Common.{Civil, IsAscii, civil_of, civil_text, day_text, list_all}
+use Rattle.pawn_wire.proofs.Lemmas.{common_steps, nat_tests}
+use Rattle.pawn_wire.specs.Http.{is_ascii_text, is_unescaped}
 use Rattle.pawn_wire.proofs.DigitLemmas.{both_true}
 
 -- what digits and the hyphen pass, each byte of a day's text passes

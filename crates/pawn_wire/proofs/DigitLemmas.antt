@@ -1,14 +1,8 @@
 -- On short numerals.
 use Rattle.std.proofs.Common.{◌≡◌, ℕ, zero, suc, ◌+◌, ◌*◌, ◌-◌, ◌^◌, ◌<◌, ◌≤◌, List, [], ◌∷◌, length, take, get_or, refl, arith, Bool, true, false, length-take, lit<}
 use Rattle.std.specs.Prelude.{IsTrue, ◌&&◌, nat_lt, nat_le}
-use Rattle.std.specs.List.{list_all}
-use Rattle.std.specs.Char.{is_ascii_digit, digit_value}
-use Rattle.std.specs.Str.Parse.{AllDigits, digits_value}
-use Rattle.std.proofs.lemmas.Int.Digits.{digits_value-lt, digits_value_push}
-use Rattle.std.proofs.lemmas.Str.Parse.{digit_at}
-use Rattle.std.proofs.lemmas.List.{take_more}
-use Rattle.std.proofs.lemmas.Grind.{common_steps}
-use Rattle.std.proofs.Math.Nat.{pow-le-pow_right}
+use Rattle.pawn_wire.specs.Common.{AllDigits, digit_value, digits_value, is_ascii_digit, list_all}
+use Rattle.pawn_wire.proofs.Lemmas.{common_steps, digit_at, digits_value-lt, digits_value_push, pow-le-pow_right, take_more}
 use Rattle.pawn_wire.specs.Numeral.{is_short_numeral}
 use Rattle.pawn_wire.specs.Limits.{max_digits}
 

@@ -1,17 +1,11 @@
 -- On the fields of a head.
 use Rattle.std.proofs.Common.{◌≡◌, ℕ, ◌+◌, ◌<◌, List, [], ◌∷◌, ◌++◌, length, map, take, get_or, refl, ap, subst, ◌∙◌, arith, Some, None, Bool, true, false, append-nil, length-append}
-use Rattle.std.specs.Borrow.{Bor}
+use Rattle.pawn_wire.specs.Common.{Bor, HeaderSpan, cons_option, header_bytes, list_any, str_eq_ignore_ascii_case}
 use Rattle.pawn_wire.specs.declared.fields.Found.{Found}
 use Rattle.pawn_wire.specs.declared.fields.Found.TheVariants.{Missing, One, Several}
 use Rattle.std.specs.Prelude.{◌&&◌, ◌||◌, if◌then◌else◌}
-use Rattle.std.specs.List.{cons_option, list_any}
-use Rattle.std.proofs.lemmas.List.Folds.{list_any-append}
+use Rattle.pawn_wire.proofs.Lemmas.{filter_map-append, list_any-append, map_more}
 use Rattle.std.proofs.Math.Bool.{or-false}
-use Rattle.std.specs.Str.{str_eq_ignore_ascii_case}
-use Rattle.std.proofs.lemmas.List.{map_more}
-use Rattle.std.proofs.lemmas.List.Elements.{filter_map-append}
-use Rattle.httparse.specs.declared.spans.HeaderSpan.{HeaderSpan}
-use Rattle.httparse.specs.Spans.{header_bytes}
 use Rattle.pawn_wire.specs.Fields.{values_of, value_under, IsFound}
 
 abbrev pub no_span : HeaderSpan

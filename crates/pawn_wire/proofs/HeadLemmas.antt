@@ -1,15 +1,8 @@
 -- On heads: what the first bytes of a stream say of the whole stream.
 use Rattle.std.proofs.Common.{◌≡◌, ℕ, ◌+◌, ◌-◌, ◌≤◌, List, ◌++◌, length, map, take, drop, sym, ap, ◌∙◌, arith, append_assoc, length-append, length-take, Result, Bool}
-use Rattle.std.proofs.lemmas.List.{take-append-drop, take-append-le, length-map}
-use Rattle.std.proofs.Math.Seq.{take-append-add}
-use Rattle.httparse.specs.Grammar.{RequestHead, ReadsRequest, print_request, HasNoRequest}
-use Rattle.httparse.specs.Spans.{RequestOverflows, header_bytes, AreFieldsAt, IsRequestAt}
-use Rattle.httparse.specs.declared.spans.RequestSpans.{RequestSpans}
-use Rattle.pawn_wire.specs.declared.fault.HeadFault.{HeadFault}
-use Rattle.httparse.specs.declared.spans.HeaderSpan.{HeaderSpan}
-use Rattle.httparse.proofs.GrammarLemmas.{ReadsRequest-append}
-use Rattle.pawn_wire.specs.Head.{ReadsHead, NeverHasHead, body_length, closes_by, fields_of}
-use Rattle.pawn_wire.specs.Limits.{max_head, max_fields}
+use Rattle.pawn_wire.proofs.Lemmas.{ReadsRequest-append, length-map, take-append-add, take-append-drop, take-append-le}
+use Rattle.pawn_wire.specs.Common.{AreFieldsAt, HasNoRequest, HeaderSpan, IsRequestAt, ReadsRequest, RequestHead, RequestOverflows, RequestSpans, header_bytes, print_request}
+use Rattle.pawn_wire.specs.Http.{HeadFault, NeverHasHead, ReadsHead, body_length, closes_by, fields_of, max_fields, max_head}
 
 -- what follows the front is no part of the head
 pub reads_on : (s : List ℕ) (n : ℕ) (h : RequestHead) (rest : List ℕ) → ReadsRequest (take n s) h rest → ReadsRequest s h (rest ++ drop n s)

@@ -11,3 +11,4 @@ pub mod RouteLemmas
 pub mod StreamLemmas
 pub mod TargetFacts
 pub mod WithinLemmas
+pub mod Lemmas

@@ -1,21 +1,11 @@
 -- Numbers and days as texts.
 use Rattle.std.proofs.Common.{◌≡◌, ℕ, zero, suc, ◌+◌, ◌*◌, ◌/◌, ◌%◌, ◌^◌, ◌<◌, ◌≤◌, List, [], ◌∷◌, length, take, drop, get_or, lit<, subst, Bool, true, false, Option, Some, None, IfSome, IfNone, refl, sym, ap, ◌∙◌, arith}
 use Rattle.std.specs.Prelude.{IsTrue, ◌==◌, nat_lt, nat_le, not, ◌&&◌, slice_index, bytes_eq, if◌then◌else◌, decimal}
-use Rattle.std.specs.Char.{is_ascii_digit, digit_value}
-use Rattle.std.specs.List.{list_all}
-use Rattle.std.specs.Str.Parse.{AllDigits, digits_value}
-use Rattle.std.proofs.Math.Nat.{pow-le-pow_right}
-use Rattle.std.proofs.lemmas.Bool.Decides.{nat_tests}
-use Rattle.std.proofs.lemmas.Grind.{common_steps}
-use Rattle.std.proofs.lemmas.Int.Digits.{digits_value-lt}
-use Rattle.std.proofs.lemmas.Str.{digit_value_digit}
-use Rattle.std.proofs.lemmas.Str.Parse.{IsNumeralModel, digit_from_value}
+use Rattle.pawn_wire.specs.Common.{AllDigits, Civil, IsNumber, IsStampDay, IsWritable, civil_of, civil_text, day_number, day_text, digit, digit_value, digits_value, first_day, is_ascii_digit, last_stamp_day, list_all}
+use Rattle.pawn_wire.proofs.Lemmas.{IsNumeralModel, common_steps, decimal-digits_value, decimal_digit, decimal_is_IsNumeral, digit_from_value, digit_value_digit, digits_value-lt, first_decimal, length-decimal-le, nat_tests, pow-le-pow_right}
 use Rattle.std.proofs.lemmas.Slice.Eq.{bytes_eq-Decides}
-use Rattle.std.proofs.lemmas.Fmt.{decimal_digit, decimal_is_IsNumeral, decimal-digits_value, length-decimal-le, first_decimal}
-use Rattle.pawn_terms.specs.Calendar.{Civil, first_day, last_stamp_day, IsStampDay, IsWritable, digit, civil_of, civil_text, day_number, day_text}
 use Rattle.pawn_terms.proofs.AgreementLemmas.{day_number-of}
 use Rattle.pawn_terms.proofs.TextLemmas.{civil_of-stamp}
-use Rattle.pawn_pledge.specs.Number.{IsNumber}
 use Rattle.pawn_wire.specs.Named.{is_numeral, number_said, civil_said, is_text_of_day, day_said}
 use Rattle.pawn_wire.proofs.DigitLemmas.{both_true, all_digits}
 

@@ -1,31 +1,12 @@
 -- On receipts and the fields that name them.
 use Rattle.std.proofs.Common.{◌≡◌, ℕ, ◌+◌, ◌<◌, ◌≤◌, ◌^◌, ◌%◌, suc, List, [], ◌∷◌, ◌++◌, length, map, take, drop, get_or, refl, sym, ap, ◌∙◌, subst, arith, append_assoc, Option, Some, None, IfSome, Result, Ok, Bool, true, false, inl, inr}
 use Rattle.std.specs.Prelude.{IsTrue, not, ◌==◌, decimal, option_map, codes, nat_lt, IsSome, ◌↔◌}
-use Rattle.std.specs.List.{list_all, before_first, after_first, position_or_len}
+use Rattle.pawn_wire.specs.Common.{AreFew, HeaderSpan, IsReceiptText, MOST_RECEIPTS, Receipt, after_first, before_first, header_bytes, list_all, position_or_len, secret_of_text, str_eq_ignore_ascii_case}
 use Rattle.std.specs.Option.{ok_or}
-use Rattle.std.specs.Str.{str_eq_ignore_ascii_case}
 use Rattle.std.proofs.lemmas.Bool.{cases_lt, false≢true}
-use Rattle.std.proofs.lemmas.Bool.Decides.{Decides-eqb, nat_tests}
-use Rattle.std.proofs.lemmas.Grind.{common_steps}
-use Rattle.std.proofs.lemmas.Fmt.{decimal_by_steps}
-use Rattle.std.proofs.lemmas.List.{drop_all, take_all, take-append-le, take-append-drop, map-append}
-use Rattle.std.proofs.lemmas.List.Elements.{filter_map-append}
-use Rattle.std.proofs.lemmas.List.Folds.{list_all-append}
+use Rattle.pawn_wire.proofs.Lemmas.{Decides-eqb, common_steps, decimal_by_steps, drop_all, filter_map-append, list_all-append, map-append, nat_tests, take-append-drop, take-append-le, take_all, uuid_on_literals}
 use Rattle.std.proofs.lemmas.List.Sums.{split_at_first, passes_at_first}
-use Rattle.httparse.specs.declared.spans.HeaderSpan.{HeaderSpan}
-use Rattle.httparse.specs.Spans.{header_bytes}
-use Rattle.uuid.proofs.OnLiterals.{uuid_on_literals}
-use Rattle.pawn_pledge.specs.Secret.{secret_of_text}
-use Rattle.pawn_pledge.specs.Receipt.{IsReceiptText}
-use Rattle.pawn_pledge.specs.declared.receipt.Receipt.{Receipt}
-use Rattle.pawn_book.specs.Limits.{AreFew}
-use Rattle.pawn_book.specs.declared.limits.TheConstants.{MOST_RECEIPTS}
-use Rattle.pawn_wire.specs.Chain.{and_then, Says}
-use Rattle.pawn_wire.specs.Fields.{values_of, value_under}
-use Rattle.pawn_wire.specs.Named.{number_said}
-use Rattle.pawn_wire.specs.Receipts.{is_hyphen, receipt_said, all_said, receipt_values, receipts_said}
-use Rattle.pawn_wire.specs.declared.fault.WireFault.{WireFault}
-use Rattle.pawn_wire.specs.declared.fault.WireFault.TheVariants.{BadReceipt}
+use Rattle.pawn_wire.specs.Http.{BadReceipt, Says, WireFault, all_said, and_then, is_hyphen, number_said, receipt_said, receipt_values, receipts_said, value_under, values_of}
 use Rattle.pawn_wire.proofs.FieldLemmas.{values_hit, values_other}
 use Rattle.pawn_wire.proofs.DigitLemmas.{both_true}
 use Rattle.pawn_wire.proofs.NamedLemmas.{none_said, number_said-is, number_said-some}

@@ -1,34 +1,12 @@
 -- On requests.
 use Rattle.std.proofs.Common.{◌≡◌, ℕ, ◌+◌, ◌-◌, ◌≤◌, List, [], ◌++◌, length, map, take, drop, refl, subst, sym, ap, ◌∙◌, arith, append-nil, length-append, length-drop, min, Result, Ok, Err, inl, inr}
-use Rattle.std.proofs.lemmas.List.{take-append-drop, drop-append-le}
-use Rattle.std.proofs.Math.Seq.{take-append-add, take-length}
-use Rattle.httparse.specs.Grammar.{RequestHead, print_request, HasNoRequest}
-use Rattle.httparse.specs.Spans.{RequestOverflows, header_bytes, span_bytes, IsRequestAt}
-use Rattle.httparse.specs.declared.spans.HeaderSpan.{HeaderSpan}
-use Rattle.httparse.specs.declared.spans.RequestSpans.{RequestSpans}
-use Rattle.pawn_wire.specs.Head.{ReadsHead, fields_of}
-use Rattle.pawn_wire.specs.Limits.{max_head, max_fields}
-use Rattle.pawn_wire.specs.Chain.{OrMemory, after}
-use Rattle.pawn_wire.specs.declared.fault.WireFault.{WireFault}
-use Rattle.csv.specs.Reading.{strip_bom}
-use Rattle.pawn_csv.specs.Reading.{IsFaultOf, IsFirstCause}
-use Rattle.pawn_csv.specs.declared.fault.Cause.{Cause}
+use Rattle.pawn_wire.proofs.Lemmas.{drop-append-le, request_unique, take-append-add, take-append-drop, take-length}
+use Rattle.pawn_wire.specs.Common.{BookRows, Broker, Cause, CsvFault, HasNoRequest, HeaderSpan, Import, IsFaultOf, IsFirstCause, IsRequestAt, Request, RequestHead, RequestOverflows, RequestSpans, header_bytes, print_request, span_bytes, strip_bom}
+use Rattle.pawn_wire.specs.Http.{Asks, Csv, HoldsRows, IsAsked, IsOutlined, IsRequestRead, OrMemory, Outline, Pair, ReadsHead, SaysRequest, WireFault, after, fault_by, fields_of, max_fields, max_head, outline_by, text_fault}
 use Rattle.pawn_csv.specs.declared.fault.Cause.TheVariants as cause
-use Rattle.pawn_csv.specs.declared.fault.CsvFault.{CsvFault}
-use Rattle.pawn_book.specs.declared.rows.BookRows.{BookRows}
-use Rattle.pawn_book.specs.declared.request.Caller.TheVariants.{Broker}
-use Rattle.pawn_book.specs.declared.request.BrokerRequest.TheVariants.{Import}
-use Rattle.pawn_wire.specs.Fields.{Pair}
-use Rattle.pawn_wire.specs.Fault.{fault_by, text_fault}
-use Rattle.pawn_wire.specs.declared.asking.Asks.{Asks}
 use Rattle.pawn_wire.specs.declared.asking.Asks.TheVariants as asks
-use Rattle.pawn_wire.specs.declared.fault.WireFault.TheVariants.{Csv}
-use Rattle.pawn_wire.specs.declared.request.Outline.{Outline}
-use Rattle.pawn_wire.specs.Request.{HoldsRows, IsAsked, IsOutlined, IsRequestRead, SaysRequest, outline_by}
-use Rattle.pawn_book.specs.declared.request.Request.{Request}
 use Rattle.pawn_csv.proofs.OneBook.{texts_hold_one_book}
 use Rattle.pawn_csv.proofs.OneReading.{first_faults_are_one, first_faults_exclude_books}
-use Rattle.httparse.proofs.GrammarLemmas.{request_unique}
 use Rattle.pawn_wire.proofs.HeadLemmas.{overflows_on}
 
 pub is_read : (s : List ℕ) (r : Result Request WireFault) (h : RequestHead) (body : List ℕ) → ReadsHead s h body

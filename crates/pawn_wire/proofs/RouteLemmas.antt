@@ -1,18 +1,10 @@
 -- On the routes.
 use Rattle.std.proofs.Common.{◌≡◌, ℕ, ◌+◌, ◌<◌, List, [], ◌∷◌, ◌++◌, length, map, take, get_or, refl, sym, ap, ◌∙◌, subst, Result, Ok, Err}
-use Rattle.std.proofs.lemmas.List.{map_more}
+use Rattle.pawn_wire.proofs.Lemmas.{All-cons, All-head, All-nil, All-tail, IsAscii-drop, IsAscii-take, IsUtf8-from_ascii, map_more}
 use Rattle.std.specs.Prelude.{◌&&◌, cond, Bool, true, false, ◌-◌, drop, leb, All, Some, slice_get}
-use Rattle.std.specs.Str.{IsAscii}
-use Rattle.std.proofs.lemmas.Str.{IsAscii-take, IsAscii-drop, IsUtf8-from_ascii}
+use Rattle.pawn_wire.specs.Common.{Bor, InsertError, InsertsRead, IsAscii, Scan, Shows, parse_route, part_of, walk}
 use Rattle.std.proofs.lemmas.Str.Ascii.{IsAscii-nil}
-use Rattle.std.proofs.lemmas.List.Elements.{All-nil, All-cons, All-head, All-tail}
-use Rattle.matchit.specs.Params.{walk, part_of, Shows}
-use Rattle.std.specs.Borrow.{Bor}
-use Rattle.matchit.specs.Route.{Scan, parse_route}
-use Rattle.matchit.specs.Router.{InsertsRead}
-use Rattle.matchit.specs.declared.error.InsertError.{InsertError}
-use Rattle.pawn_wire.specs.declared.route.Endpoint.{Endpoint}
-use Rattle.pawn_wire.specs.Route.{Rows, with_route, with_routes, plain}
+use Rattle.pawn_wire.specs.Http.{Endpoint, Rows, plain, with_route, with_routes}
 
 pub inserted : (x : Result Scan InsertError) (e : Endpoint) (old new : Rows) → InsertsRead x e old new (Ok tt) → new ≡ with_route x e old
 inserted (Ok s) e old new h = h.1

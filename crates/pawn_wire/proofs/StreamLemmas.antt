@@ -1,16 +1,8 @@
 -- Heads at the front of a stream, and what follows them.
 use Rattle.std.proofs.Common.{◌≡◌, ℕ, ◌+◌, ◌<◌, ◌≤◌, List, [], ◌∷◌, ◌++◌, length, refl, sym, ap, ◌∙◌, arith, append_assoc, append-nil, length-append, take, Ok, inl, inr, true, false}
-use Rattle.std.specs.Prelude.{IsTrue, Bool, nat_lt, unwrap_or}
-use Rattle.std.proofs.lemmas.Bool.Decides.{nat_tests}
-use Rattle.std.proofs.lemmas.List.Elements.{All-cons, All-nil}
-use Rattle.std.proofs.Math.Seq.{take-append-add}
-use Rattle.httparse.specs.Grammar.{RequestHead, IsRequestHead, print_request, is_token_byte, is_uri_byte, lf}
-use Rattle.httparse.specs.Spans.{RequestOverflows}
-use Rattle.httparse.proofs.GrammarLemmas.{ReadsRequest-append, print_request-append}
-use Rattle.pawn_base.specs.Refusals.{first_of}
-use Rattle.pawn_wire.specs.Fields.{Pair}
-use Rattle.pawn_wire.specs.Head.{ReadsHead, NeverHasHead, IsBadHead, IsHead, fields_of, length_by, body_length}
-use Rattle.pawn_wire.specs.Limits.{max_fields, max_head, max_body}
+use Rattle.pawn_wire.specs.Common.{Bool, IsRequestHead, IsTrue, RequestHead, RequestOverflows, first_of, is_token_byte, is_uri_byte, lf, nat_lt, print_request, unwrap_or}
+use Rattle.pawn_wire.proofs.Lemmas.{All-cons, All-nil, ReadsRequest-append, nat_tests, print_request-append, take-append-add}
+use Rattle.pawn_wire.specs.Http.{IsBadHead, IsHead, NeverHasHead, Pair, ReadsHead, body_length, fields_of, length_by, max_body, max_fields, max_head}
 use Rattle.pawn_wire.specs.declared.fault.HeadFault.TheVariants.{Transfer, BadLength, BodyTooLong}
 use Rattle.pawn_wire.specs.declared.head.HeadFacts.{HeadFacts}
 

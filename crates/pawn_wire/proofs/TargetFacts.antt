@@ -2,8 +2,7 @@
 use Rattle.std.proofs.Common.{ℕ, List, [], ◌∷◌, take, drop, zero, suc, refl}
 use Rattle.matchit.proofs.OnLiterals.{matchit_on_literals}
 use Rattle.pawn_base.specs.Lists.{Each}
-use Rattle.pawn_wire.specs.Laws.{IsTargetFound}
-use Rattle.pawn_wire.specs.Route.{table_rows, table}
+use Rattle.pawn_wire.specs.Http.{IsTargetFound, table, table_rows}
 
 pub each_part : {A : Type 0} (P : A → Type 0) (n : ℕ) (xs : List A) → Each P (take n xs) → Each P (drop n xs) → Each P xs
 each_part P zero xs front rest = rest

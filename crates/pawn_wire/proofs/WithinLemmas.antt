@@ -2,55 +2,20 @@
 use Rattle.std.proofs.Common.{◌≡◌, ℕ, ◌≤◌, List, [], ◌∷◌, length, Bool, true, false, Option, Some, None, IfSome, Result, Ok, Err, refl, ap, subst, arith, inl, inr}
 use Rattle.std.specs.Prelude.{◌==◌, ◌&&◌, not, nat_le, nat_lt, bytes_eq, if◌then◌else◌, is_some, option_map, option_and_then, slice_get, codes}
 use Rattle.std.proofs.lemmas.Bool.Decides.{nat_tests}
-use Rattle.serde_json.specs.Data.{Data}
-use Rattle.std.specs.List.{before_first, after_first}
-use Rattle.serde_json.specs.Find.{get, as_number, as_u64, as_str, as_null}
-use Rattle.pawn_terms.specs.Calendar.{IsStampDay}
-use Rattle.pawn_pledge.specs.Number.{IsNumber}
-use Rattle.pawn_pledge.specs.Secret.{secret_of_text}
-use Rattle.pawn_base.specs.Text.{is_text, IsText}
-use Rattle.pawn_pledge.specs.Replayable.{IsOpening}
-use Rattle.pawn_pledge.specs.declared.limits.TheConstants.{MOST_ARTICLE_BYTES, MOST_REFERENCE_BYTES}
-use Rattle.pawn_pledge.specs.declared.record.Opening.{Opening}
-use Rattle.pawn_pledge.specs.declared.receipt.Receipt.{Receipt}
-use Rattle.pawn_base.specs.Refusals.{first_of}
-use Rattle.pawn_pledge.specs.declared.command.Command.{Command}
-use Rattle.pawn_pledge.specs.Commands.{is_brokers, is_bearers}
-use Rattle.pawn_book.specs.Limits.{IsCapacity, AreFew}
-use Rattle.pawn_book.specs.declared.limits.TheConstants.{MOST_BOOKINGS, MOST_NAME_BYTES, MOST_RECEIPTS}
-use Rattle.pawn_book.specs.declared.request.NewBook.{NewBook}
-use Rattle.pawn_book.specs.declared.rows.BookRows.{BookRows}
-use Rattle.pawn_book.specs.declared.request.Request.{Request}
-use Rattle.pawn_book.specs.declared.request.Caller.TheVariants.{Operator, Broker, Bearer}
+use Rattle.pawn_wire.specs.Common.{AreFew, Bearer, BookRows, Broker, Command, Data, IsCapacity, IsNumber, IsOpening, IsStampDay, IsText, MOST_ARTICLE_BYTES, MOST_BOOKINGS, MOST_NAME_BYTES, MOST_RECEIPTS, MOST_REFERENCE_BYTES, NewBook, Opening, Operator, Receipt, Request, after_first, as_null, as_number, as_str, as_u64, before_first, first_of, get, is_text, secret_of_text}
 use Rattle.pawn_book.specs.declared.request.BrokerRequest.TheVariants as broker
 use Rattle.pawn_book.specs.declared.request.BearerRequest.TheVariants as bearer
-use Rattle.pawn_wire.specs.Body.{new_book_of, new_terms_of, opening_of, kind_of, day_or_null, day_if_any, optional_day_at}
-use Rattle.pawn_wire.specs.Chain.{after, and_then, or_fault}
-use Rattle.pawn_wire.specs.Commands.{asked_entry, paper_of, decision_of, asked_booking, command_said}
-use Rattle.pawn_wire.specs.Fields.{Pair}
-use Rattle.pawn_wire.specs.Head.{fields_of}
-use Rattle.pawn_wire.specs.Laws.{IsBodyNumber, IsCommandWithin, IsCallerWithin}
-use Rattle.pawn_wire.specs.Limits.{max_number}
-use Rattle.pawn_wire.specs.Member.{json_of, in_range, number_at, string_at, flag_at, if_text, text_at, key_at, day_at, body_said}
-use Rattle.pawn_wire.specs.Named.{number_said, day_said}
-use Rattle.pawn_wire.specs.Receipts.{is_hyphen, receipt_said, all_said, receipt_values, receipt_faults, receipts_said, one_said}
-use Rattle.pawn_wire.specs.Asking.{asks_said, if_sent_by, key_given, key_of}
-use Rattle.pawn_wire.specs.Place.{day_in, is_ascii_text, item_said, number_in, place_asked, place_of}
-use Rattle.pawn_wire.specs.Request.{framing_faults, HoldsRows, IsAsked, IsOutlined, outline_by, SaysRequest}
-use Rattle.pawn_wire.specs.Route.{AskedFor, route_of, method_of}
+use Rattle.pawn_wire.specs.Http.{AskedFor, Asks, BadBody, BadReceipt, Create, Endpoint, Export, HoldsRows, Import, IsAsked, IsBodyNumber, IsCallerWithin, IsCommandWithin, IsOutlined, NoReceipt, NoRoute, OnPledge, OnReceipt, Outline, Pair, Present, PutTerms, SaysRequest, Show, ShowDay, TakePledge, TooManyReceipts, WireFault, WrongMethod, after, all_said, and_then, asked_booking, asked_entry, asks_said, bearers_command_said, body_said, brokers_command_said, day_at, day_if_any, day_or_null, day_said, decision_of, fields_of, flag_at, framing_faults, if_text, in_range, is_ascii_text, is_hyphen, json_of, key_at, key_given, key_of, kind_of, max_number, method_of, new_book_of, new_terms_of, number_at, number_said, one_said, opening_of, optional_day_at, or_fault, outline_by, paper_of, place_asked, place_of, receipt_faults, receipt_said, receipt_values, receipts_said, route_of, string_at, target_said, text_at}
+use Rattle.pawn_wire.specs.declared.commands.NewBooking.{NewBooking}
 use Rattle.pawn_wire.specs.declared.commands.NewEntry.{NewEntry}
-use Rattle.pawn_wire.specs.declared.fault.WireFault.{WireFault}
-use Rattle.pawn_wire.specs.declared.fault.WireFault.TheVariants.{NoRoute, WrongMethod, BadBody, BadReceipt, TooManyReceipts, NoReceipt}
-use Rattle.pawn_wire.specs.declared.asking.Asks.{Asks}
 use Rattle.pawn_wire.specs.declared.asking.Asks.TheVariants as asks
-use Rattle.pawn_wire.specs.declared.place.Item.{Item}
-use Rattle.pawn_wire.specs.declared.place.Item.TheVariants.{Nothing, Pledge, Day}
 use Rattle.pawn_wire.specs.declared.place.Place.{Place}
-use Rattle.pawn_wire.specs.declared.request.Outline.{Outline}
-use Rattle.pawn_wire.specs.declared.route.Endpoint.{Endpoint}
-use Rattle.pawn_wire.specs.declared.route.Endpoint.TheVariants.{Create, PutTerms, TakePledge, Show, OnPledge, ShowDay, Export, Import, Present, OnReceipt}
-use Rattle.pawn_wire.specs.declared.route.Action.{Action}
-use Rattle.pawn_wire.specs.declared.route.Action.TheVariants.{Draw, Repay, Hold, Release, Declare, Ask, Cancel, Decide, Redeem, Sell, Extend}
+use Rattle.pawn_wire.specs.declared.place.Target.{Target}
+use Rattle.pawn_wire.specs.declared.route.BearerAction.{BearerAction}
+use Rattle.pawn_wire.specs.declared.route.BearerAction.TheVariants as bearers
+use Rattle.pawn_wire.specs.declared.route.BrokerAction.{BrokerAction}
+use Rattle.pawn_wire.specs.declared.route.BrokerAction.TheVariants as brokers
+use Rattle.pawn_wire.specs.declared.route.Endpoint.TheVariants as endpoint
 use Rattle.pawn_wire.proofs.NamedLemmas.{number_said-is, day_said-is}
 use Rattle.pawn_wire.proofs.ReceiptLemmas.{all_said-length}
 
@@ -173,38 +138,46 @@ entry_within d entry e =
 day_at_within : (name : List ℕ) (d : Data) (day : ℕ) → day_at name d ≡ Some day → IsStampDay day
 day_at_within name d day e = let text = given_some (string_at name d) day_said day e in day_within text.0 day text.2
 
-booking_within : (d : Data) (command : Command) → asked_booking d ≡ Some command → IsCommandWithin command
-booking_within d command e =
-    let day = given_some (day_at (codes "day") d) _ command e in
-    let window = given_some (number_at (codes "window") d) _ command day.2 in
-    let same : ◌≡◌ {A = Command} (Command.AskBooking day.0 window.0) command = cc (window.2) in
-    subst IsCommandWithin same (day_at_within (codes "day") d day.0 day.1, number_within (codes "window") d window.0 window.1)
+booking_within : (d : Data) (booking : NewBooking) → asked_booking d ≡ Some booking → IsStampDay booking.day × IsBodyNumber booking.window
+booking_within d booking e =
+    let day = given_some (day_at (codes "day") d) _ booking e in
+    let window = given_some (number_at (codes "window") d) _ booking day.2 in
+    let same : ◌≡◌ {A = NewBooking} (record { day = day.0; window = window.0 }) booking = cc (window.2) in
+    subst (λ (b : NewBooking). IsStampDay b.day × IsBodyNumber b.window) same
+    (day_at_within (codes "day") d day.0 day.1, number_within (codes "window") d window.0 window.1)
 
 of_body : {A : Type 0} (P : A → Type 0) (part : Data → Option A) (body : List ℕ) (a : A) → body_said part body ≡ Some a → ((d : Data) → part d ≡ Some a → P a) → P a
 of_body P part body a e each = (let d = given_some (json_of body) part a e in each d.0 d.2)
 
-command_within : (action : Action) (body : List ℕ) (command : Command) → command_said action body ≡ Some command → IsCommandWithin command
-command_within Draw body command e =
+brokers_within : (action : BrokerAction) (body : List ℕ) (command : Command) → brokers_command_said action body ≡ Some command → IsCommandWithin command
+brokers_within brokers.Draw body command e =
     mapped IsCommandWithin (λ entry. Command.Draw entry.seq entry.pence) (body_said asked_entry body) command e
     (λ entry is. of_body (λ (n : NewEntry). IsBodyNumber n.seq × IsBodyNumber n.pence) asked_entry body entry is (λ d. entry_within d entry))
-command_within Repay body command e =
+brokers_within brokers.Repay body command e =
     mapped IsCommandWithin (λ entry. Command.Repay entry.seq entry.pence) (body_said asked_entry body) command e
     (λ entry is. of_body (λ (n : NewEntry). IsBodyNumber n.seq × IsBodyNumber n.pence) asked_entry body entry is (λ d. entry_within d entry))
-command_within Hold body command e = (let same : Command.Hold ≡ command = cc in subst IsCommandWithin same tt)
-command_within Release body command e = (let same : Command.Release ≡ command = cc in subst IsCommandWithin same tt)
-command_within Declare body command e = mapped IsCommandWithin Command.Declare (body_said paper_of body) command e (λ paper is. tt)
-command_within Ask body command e = of_body IsCommandWithin asked_booking body command e (λ d. booking_within d command)
-command_within Cancel body command e = (let same : Command.CancelBooking ≡ command = cc in subst IsCommandWithin same tt)
-command_within Decide body command e = mapped IsCommandWithin Command.DecideBooking (body_said decision_of body) command e (λ decision is. tt)
-command_within Redeem body command e =
-    mapped IsCommandWithin Command.Redeem (body_said (number_at (codes "paid")) body) command e
-    (λ paid is. of_body IsBodyNumber (number_at (codes "paid")) body paid is (λ d. number_within (codes "paid") d paid))
-command_within Sell body command e =
+brokers_within brokers.Hold body command e = (let same : Command.Hold ≡ command = cc in subst IsCommandWithin same tt)
+brokers_within brokers.Release body command e = (let same : Command.Release ≡ command = cc in subst IsCommandWithin same tt)
+brokers_within brokers.Declare body command e = mapped IsCommandWithin Command.Declare (body_said paper_of body) command e (λ paper is. tt)
+brokers_within brokers.Decide body command e = mapped IsCommandWithin Command.DecideBooking (body_said decision_of body) command e (λ decision is. tt)
+brokers_within brokers.Sell body command e =
     mapped IsCommandWithin Command.Sell (body_said (number_at (codes "net")) body) command e
     (λ net is. of_body IsBodyNumber (number_at (codes "net")) body net is (λ d. number_within (codes "net") d net))
-command_within Extend body command e =
+brokers_within brokers.Extend body command e =
     mapped IsCommandWithin Command.Extend (body_said (day_at (codes "until")) body) command e
     (λ until is. of_body IsStampDay (day_at (codes "until")) body until is (λ d. day_at_within (codes "until") d until))
+
+bearers_within : (action : BearerAction) (body : List ℕ) (command : Command) → bearers_command_said action body ≡ Some command → IsCommandWithin command
+bearers_within bearers.Repay body command e =
+    mapped IsCommandWithin (λ entry. Command.Repay entry.seq entry.pence) (body_said asked_entry body) command e
+    (λ entry is. of_body (λ (n : NewEntry). IsBodyNumber n.seq × IsBodyNumber n.pence) asked_entry body entry is (λ d. entry_within d entry))
+bearers_within bearers.Ask body command e =
+    mapped IsCommandWithin (λ booking. Command.AskBooking booking.day booking.window) (body_said asked_booking body) command e
+    (λ booking is. of_body (λ (b : NewBooking). IsStampDay b.day × IsBodyNumber b.window) asked_booking body booking is (λ d. booking_within d booking))
+bearers_within bearers.Cancel body command e = (let same : Command.CancelBooking ≡ command = cc in subst IsCommandWithin same tt)
+bearers_within bearers.Redeem body command e =
+    mapped IsCommandWithin Command.Redeem (body_said (number_at (codes "paid")) body) command e
+    (λ paid is. of_body IsBodyNumber (number_at (codes "paid")) body paid is (λ d. number_within (codes "paid") d paid))
 
 receipt_within : (text : List ℕ) (receipt : Receipt) → receipt_said text ≡ Some receipt → IsNumber receipt.number
 receipt_within text receipt e =
@@ -225,112 +198,94 @@ one_within values receipt e =
 
 -- ---- requests
 
-sent_is : (may : Command → Bool) (command sent : Command) → if_sent_by may command ≡ Some sent → command ≡ sent
-sent_is may command sent e = by_test (may command) e
-  where
-    by_test : (b : Bool) → (if b then Some command else None) ≡ Some sent → command ≡ sent
-    by_test true same = cc
-    by_test false same = absurd cc
-
--- an item is a number or a day
-abbrev IsItemWithin : Item → Type 0
-IsItemWithin Nothing = Unit {0}
-IsItemWithin (Pledge number) = IsNumber number
-IsItemWithin (Day day) = IsStampDay day
-
-number_in_within : (item : Item) (number : ℕ) → IsItemWithin item → number_in item ≡ Some number → IsNumber number
-number_in_within Nothing number within e = absurd cc
-number_in_within (Pledge n) number within e = (let same : n ≡ number = cc in subst IsNumber same within)
-number_in_within (Day day) number within e = absurd cc
-
-day_in_within : (item : Item) (day : ℕ) → IsItemWithin item → day_in item ≡ Some day → IsStampDay day
-day_in_within Nothing day within e = absurd cc
-day_in_within (Pledge n) day within e = absurd cc
-day_in_within (Day x) day within e = (let same : x ≡ day = cc in subst IsStampDay same within)
+-- the number of a pledge is one, and a day is one that a request may name
+abbrev IsTargetWithin : Target → Type 0
+IsTargetWithin Create = Unit {0}
+IsTargetWithin PutTerms = Unit {0}
+IsTargetWithin TakePledge = Unit {0}
+IsTargetWithin (Show number) = IsNumber number
+IsTargetWithin (OnPledge number action) = IsNumber number
+IsTargetWithin (ShowDay day) = IsStampDay day
+IsTargetWithin Export = Unit {0}
+IsTargetWithin Import = Unit {0}
+IsTargetWithin Present = Unit {0}
+IsTargetWithin (OnReceipt action) = Unit {0}
 
 -- what is asked whole is within its limits
 abbrev AreAsksWithin : Asks → Type 0
 AreAsksWithin (asks.Whole caller) = IsCallerWithin caller
 AreAsksWithin (asks.Import key importing) = Unit {0}
 
-asks_within : (endpoint : Endpoint) (item : Item) (fields : List Pair) (body : List ℕ) (caller : Asks) → IsItemWithin item
-    → asks_said endpoint item fields body ≡ Ok caller → AreAsksWithin caller
-asks_within Create item fields body caller within e =
+asks_within : (target : Target) (fields : List Pair) (body : List ℕ) (caller : Asks) → IsTargetWithin target
+    → asks_said target fields body ≡ Ok caller → AreAsksWithin caller
+asks_within Create fields body caller within e =
     let key = after_ok (key_of fields) _ caller e in
     mapped AreAsksWithin (λ new. asks.Whole (Operator key.0 new)) (body_said new_book_of body) caller (or_fault_ok BadBody _ caller key.2)
     (λ new is. of_body (λ (b : NewBook). IsText MOST_NAME_BYTES b.name × IsCapacity b.capacity) new_book_of body new is (λ d. new_book_within d new))
-asks_within PutTerms item fields body caller within e =
+asks_within PutTerms fields body caller within e =
     let key = after_ok (key_of fields) _ caller e in
     mapped AreAsksWithin (λ terms. asks.Whole (Broker key.0 (broker.PutTerms terms))) (body_said new_terms_of body) caller (or_fault_ok BadBody _ caller key.2) (λ terms is. tt)
-asks_within TakePledge item fields body caller within e =
+asks_within TakePledge fields body caller within e =
     let key = after_ok (key_of fields) _ caller e in
     mapped AreAsksWithin (λ opening. asks.Whole (Broker key.0 (broker.TakePledge opening))) (body_said opening_of body) caller (or_fault_ok BadBody _ caller key.2)
     (λ opening is. of_body IsOpening opening_of body opening is (λ d. opening_within d opening))
-asks_within Show item fields body caller within e =
+asks_within (Show number) fields body caller within e =
     let key = after_ok (key_of fields) _ caller e in
-    mapped AreAsksWithin (λ number. asks.Whole (Broker key.0 (broker.Show number))) (number_in item) caller (or_fault_ok BadBody _ caller key.2)
-    (λ number is. number_in_within item number within is)
-asks_within (OnPledge action) item fields body caller within e =
+    let same : asks.Whole (Broker key.0 (broker.Show number)) ≡ caller = cc (key.2) in subst AreAsksWithin same within
+asks_within (OnPledge number action) fields body caller within e =
     let key = after_ok (key_of fields) _ caller e in
-    let number = given_some (number_in item) _ caller (or_fault_ok BadBody _ caller key.2) in
-    mapped AreAsksWithin (λ command. asks.Whole (Broker key.0 (broker.OnPledge number.0 command))) (and_then (command_said action body) (if_sent_by is_brokers)) caller number.2
-    (λ command is.
-    let said = given_some (command_said action body) (if_sent_by is_brokers) command is in
-    (number_in_within item number.0 within number.1, subst IsCommandWithin (sent_is is_brokers said.0 command said.2) (command_within action body said.0 said.1)))
-asks_within ShowDay item fields body caller within e =
+    mapped AreAsksWithin (λ command. asks.Whole (Broker key.0 (broker.OnPledge number command))) (brokers_command_said action body) caller (or_fault_ok BadBody _ caller key.2)
+    (λ command is. (within, brokers_within action body command is))
+asks_within (ShowDay day) fields body caller within e =
     let key = after_ok (key_of fields) _ caller e in
-    mapped AreAsksWithin (λ day. asks.Whole (Broker key.0 (broker.SheetOf day))) (day_in item) caller (or_fault_ok BadBody _ caller key.2)
-    (λ day is. day_in_within item day within is)
-asks_within Export item fields body caller within e =
+    let same : asks.Whole (Broker key.0 (broker.SheetOf day)) ≡ caller = cc (key.2) in subst AreAsksWithin same within
+asks_within Export fields body caller within e =
     let key = after_ok (key_of fields) _ caller e in
     let same : asks.Whole (Broker key.0 broker.Export) ≡ caller = cc (key.2) in subst AreAsksWithin same tt
-asks_within Import item fields body caller within e =
+asks_within Import fields body caller within e =
     let key = after_ok (key_of fields) _ caller e in
     let importing = after_ok (key_given (codes "import-key") fields) _ caller key.2 in
     let same : asks.Import key.0 importing.0 ≡ caller = cc (importing.2) in subst AreAsksWithin same tt
-asks_within Present item fields body caller within e =
+asks_within Present fields body caller within e =
     let receipts = after_ok (receipts_said (receipt_values fields)) _ caller e in
     let same : asks.Whole (Bearer (bearer.Present receipts.0)) ≡ caller = cc (receipts.2) in
     subst AreAsksWithin same (few_within (receipt_values fields) receipts.0 receipts.1)
-asks_within (OnReceipt action) item fields body caller within e =
+asks_within (OnReceipt action) fields body caller within e =
     let receipt = after_ok (one_said (receipt_values fields)) _ caller e in
-    mapped AreAsksWithin (λ command. asks.Whole (Bearer (bearer.OnPledge receipt.0 command))) (and_then (command_said action body) (if_sent_by is_bearers)) caller (or_fault_ok BadBody _ caller receipt.2)
-    (λ command is.
-    let said = given_some (command_said action body) (if_sent_by is_bearers) command is in
-    (one_within (receipt_values fields) receipt.0 receipt.1, subst IsCommandWithin (sent_is is_bearers said.0 command said.2) (command_within action body said.0 said.1)))
+    mapped AreAsksWithin (λ command. asks.Whole (Bearer (bearer.OnPledge receipt.0 command))) (bearers_command_said action body) caller (or_fault_ok BadBody _ caller receipt.2)
+    (λ command is. (one_within (receipt_values fields) receipt.0 receipt.1, bearers_within action body command is))
 
--- a place names a number, and what it may beside
+-- a place is of a book's number, and what it names beside is within its limits
 abbrev IsPlaceWithin : Place → Type 0
-IsPlaceWithin place = IsNumber place.book × IsItemWithin place.item
+IsPlaceWithin place = IsNumber place.book × IsTargetWithin place.target
 
-named : (text : List ℕ) (item : Item) → option_map Pledge (number_said text) ≡ Some item → IsItemWithin item
-named text item e = mapped IsItemWithin Pledge (number_said text) item e (λ n is. (number_said-is n text is).0)
+-- a target with a pledge's number
+numbered : (of : ℕ → Target) (text : Option (List ℕ)) (target : Target) → ((n : ℕ) → IsNumber n → IsTargetWithin (of n))
+    → option_map of (and_then text number_said) ≡ Some target → IsTargetWithin target
+numbered of text target each e =
+    mapped IsTargetWithin of (and_then text number_said) target e
+    (λ n is. let s = given_some text number_said n is in each n (number_said-is n s.0 s.2).0)
 
-item_within : (endpoint : Endpoint) (text : Option (List ℕ)) (item : Item) → item_said endpoint text ≡ Some item → IsItemWithin item
-item_within endpoint None item e = (let same : Nothing ≡ item = cc in subst IsItemWithin same tt)
-item_within ShowDay (Some text) item e = mapped IsItemWithin Day (day_said text) item e (λ day is. day_within text day is)
-item_within Create (Some text) item e = named text item e
-item_within PutTerms (Some text) item e = named text item e
-item_within TakePledge (Some text) item e = named text item e
-item_within Show (Some text) item e = named text item e
-item_within (OnPledge action) (Some text) item e = named text item e
-item_within Export (Some text) item e = named text item e
-item_within Import (Some text) item e = named text item e
-item_within Present (Some text) item e = named text item e
-item_within (OnReceipt action) (Some text) item e = named text item e
+target_within : (endpoint : Endpoint) (text : Option (List ℕ)) (target : Target) → target_said endpoint text ≡ Some target → IsTargetWithin target
+target_within endpoint.Create text target e = (let same : Create ≡ target = cc in subst IsTargetWithin same tt)
+target_within endpoint.PutTerms text target e = (let same : PutTerms ≡ target = cc in subst IsTargetWithin same tt)
+target_within endpoint.TakePledge text target e = (let same : TakePledge ≡ target = cc in subst IsTargetWithin same tt)
+target_within endpoint.Show text target e = numbered Show text target (λ n range. range) e
+target_within (endpoint.OnPledge action) text target e = numbered (λ n. OnPledge n action) text target (λ n range. range) e
+target_within endpoint.ShowDay text target e =
+    mapped IsTargetWithin ShowDay (and_then text day_said) target e
+    (λ day is. let s = given_some text day_said day is in day_within s.0 day s.2)
+target_within endpoint.Export text target e = (let same : Export ≡ target = cc in subst IsTargetWithin same tt)
+target_within endpoint.Import text target e = (let same : Import ≡ target = cc in subst IsTargetWithin same tt)
+target_within endpoint.Present text target e = (let same : Present ≡ target = cc in subst IsTargetWithin same tt)
+target_within (endpoint.OnReceipt action) text target e = (let same : OnReceipt action ≡ target = cc in subst IsTargetWithin same tt)
 
 asked_within : (asked : AskedFor) (place : Place) → place_asked asked ≡ Some place → IsPlaceWithin place
 asked_within asked place e =
     let book = given_some (and_then asked.book number_said) _ place e in
     let text = given_some asked.book number_said book.0 book.1 in
-    by_item book.0 (item_said asked.endpoint asked.item) (number_said-is book.0 text.0 text.2).0 refl book.2
-  where
-    by_item : (book : ℕ) (said : Option Item) → IsNumber book → item_said asked.endpoint asked.item ≡ said
-        → option_map (λ item. record { endpoint = asked.endpoint; book = book; item = item }) said ≡ Some place → IsPlaceWithin place
-    by_item book None range is same = absurd cc
-    by_item book (Some item) range is same =
-        let k : ◌≡◌ {A = Place} (record { endpoint = asked.endpoint; book = book; item = item }) place = cc in
-        subst (λ (p : Place). IsPlaceWithin p) k (range, item_within asked.endpoint asked.item item is)
+    mapped IsPlaceWithin (λ target. record { book = book.0; target = target }) (target_said asked.endpoint asked.item) place book.2
+    (λ target is. ((number_said-is book.0 text.0 text.2).0, target_within asked.endpoint asked.item target is))
 
 place_within : (target : List ℕ) (place : Place) → place_of target ≡ Some place → IsPlaceWithin place
 place_within target place e = by_test (is_ascii_text target) e
@@ -347,10 +302,10 @@ outline_within : (method target : List ℕ) (fields : List Pair) (body : List �
     → outline_by method target fields body ≡ Ok outline → IsOutlineWithin outline
 outline_within method target fields body outline e =
     let place = after_ok (or_fault NoRoute (place_of target)) _ outline (first_ok (framing_faults fields body) _ outline e) in
-    let asked = after_ok (asks_said place.0.endpoint place.0.item fields body) _ outline (first_ok ((not (bytes_eq (method_of place.0.endpoint) method), WrongMethod) ∷ []) _ outline place.2) in
+    let asked = after_ok (asks_said place.0.target fields body) _ outline (first_ok ((not (bytes_eq (method_of place.0.target) method), WrongMethod) ∷ []) _ outline place.2) in
     let within = place_within target place.0 (or_fault_ok NoRoute (place_of target) place.0 place.1) in
     let same : ◌≡◌ {A = Outline} (record { book = place.0.book; asks = asked.0 }) outline = cc (asked.2) in
-    subst IsOutlineWithin same (within.0, asks_within place.0.endpoint place.0.item fields body asked.0 within.1 asked.1)
+    subst IsOutlineWithin same (within.0, asks_within place.0.target fields body asked.0 within.1 asked.1)
 
 -- a request is within the limits of its parts
 abbrev IsWithin : Request → Type 0

@@ -1,16 +1,16 @@
 -- What the bodies of commands say.
 use Rattle.std.specs.Prelude.{ℕ, List, codes, Bool, bytes_eq, if◌then◌else◌, Option, Some, None, option_map}
-use Rattle.serde_json.specs.Data.{Data}
+use Rattle.pawn_wire.specs.Common.{Command, Confirm, Data, Refuse, Sworn, Written}
 use Rattle.pawn_pledge.specs.declared.command.Paper.{Paper}
-use Rattle.pawn_pledge.specs.declared.command.Paper.TheVariants.{Sworn, Written}
 use Rattle.pawn_pledge.specs.declared.command.Decision.{Decision}
-use Rattle.pawn_pledge.specs.declared.command.Decision.TheVariants.{Confirm, Refuse}
-use Rattle.pawn_pledge.specs.declared.command.Command.{Command}
 use Rattle.pawn_wire.specs.Chain.{and_then}
 use Rattle.pawn_wire.specs.Member.{number_at, string_at, flag_at, day_at, body_said}
+use Rattle.pawn_wire.specs.declared.commands.NewBooking.{NewBooking}
 use Rattle.pawn_wire.specs.declared.commands.NewEntry.{NewEntry}
-use Rattle.pawn_wire.specs.declared.route.Action.{Action}
-use Rattle.pawn_wire.specs.declared.route.Action.TheVariants.{Draw, Repay, Hold, Release, Declare, Ask, Cancel, Decide, Redeem, Sell, Extend}
+use Rattle.pawn_wire.specs.declared.route.BearerAction.{BearerAction}
+use Rattle.pawn_wire.specs.declared.route.BearerAction.TheVariants as bearers
+use Rattle.pawn_wire.specs.declared.route.BrokerAction.{BrokerAction}
+use Rattle.pawn_wire.specs.declared.route.BrokerAction.TheVariants as brokers
 
 -- an entry to be made: its number and its sum in pence
 abbrev pub asked_entry : Data → Option NewEntry
@@ -36,23 +36,27 @@ decision_by says_yes = if says_yes then Confirm else Refuse
 abbrev pub decision_of : Data → Option Decision
 decision_of d = option_map decision_by (flag_at (codes "yes") d)
 
--- the day and the window of a booking
-abbrev pub asked_booking : Data → Option Command
+-- a booking to be asked for: its day and its window
+abbrev pub asked_booking : Data → Option NewBooking
 asked_booking d =
     and_then (day_at (codes "day") d)
     (λ day. and_then (number_at (codes "window") d)
-    (λ window. Some (Command.AskBooking day window)))
+    (λ window. Some (record { day = day; window = window })))
 
--- the command for an action, with what its body says if it takes one
-abbrev pub command_said : Action → List ℕ → Option Command
-command_said Draw body = option_map (λ entry. Command.Draw entry.seq entry.pence) (body_said asked_entry body)
-command_said Repay body = option_map (λ entry. Command.Repay entry.seq entry.pence) (body_said asked_entry body)
-command_said Hold body = Some Command.Hold
-command_said Release body = Some Command.Release
-command_said Declare body = option_map Command.Declare (body_said paper_of body)
-command_said Ask body = body_said asked_booking body
-command_said Cancel body = Some Command.CancelBooking
-command_said Decide body = option_map Command.DecideBooking (body_said decision_of body)
-command_said Redeem body = option_map Command.Redeem (body_said (number_at (codes "paid")) body)
-command_said Sell body = option_map Command.Sell (body_said (number_at (codes "net")) body)
-command_said Extend body = option_map Command.Extend (body_said (day_at (codes "until")) body)
+-- the command for a broker's action, with what its body says if it takes one
+abbrev pub brokers_command_said : BrokerAction → List ℕ → Option Command
+brokers_command_said brokers.Draw body = option_map (λ entry. Command.Draw entry.seq entry.pence) (body_said asked_entry body)
+brokers_command_said brokers.Repay body = option_map (λ entry. Command.Repay entry.seq entry.pence) (body_said asked_entry body)
+brokers_command_said brokers.Hold body = Some Command.Hold
+brokers_command_said brokers.Release body = Some Command.Release
+brokers_command_said brokers.Declare body = option_map Command.Declare (body_said paper_of body)
+brokers_command_said brokers.Decide body = option_map Command.DecideBooking (body_said decision_of body)
+brokers_command_said brokers.Sell body = option_map Command.Sell (body_said (number_at (codes "net")) body)
+brokers_command_said brokers.Extend body = option_map Command.Extend (body_said (day_at (codes "until")) body)
+
+-- the command for a bearer's action, with what its body says if it takes one
+abbrev pub bearers_command_said : BearerAction → List ℕ → Option Command
+bearers_command_said bearers.Repay body = option_map (λ entry. Command.Repay entry.seq entry.pence) (body_said asked_entry body)
+bearers_command_said bearers.Ask body = option_map (λ booking. Command.AskBooking booking.day booking.window) (body_said asked_booking body)
+bearers_command_said bearers.Cancel body = Some Command.CancelBooking
+bearers_command_said bearers.Redeem body = option_map Command.Redeem (body_said (number_at (codes "paid")) body)

@@ -1,9 +1,6 @@
 -- The JSON bodies of replies to commands.
 use Rattle.std.specs.Prelude.{ℕ, List, ◌++◌, codes, decimal, Bool, if◌then◌else◌}
-use Rattle.pawn_terms.specs.Calendar.{day_text}
-use Rattle.pawn_debt.specs.Words.{sort_text}
-use Rattle.pawn_pledge.specs.Receipt.{receipt_text}
-use Rattle.pawn_pledge.specs.Words.{state_text}
+use Rattle.pawn_wire.specs.Common.{day_text, receipt_text, sort_text, state_text}
 use Rattle.pawn_pledge.specs.declared.command.Done.{Done}
 use Rattle.pawn_pledge.specs.declared.command.Done.TheVariants.{Entered, Held, Declared, Booked, Redeemed, Sold, Extended}
 

@@ -1,9 +1,7 @@
 -- The faults of bytes that are no request.
-use Rattle.std.specs.Prelude.{ℕ, List, codes, Option, Some, None}
+use Rattle.pawn_wire.specs.Common.{Cause, CsvFault, List, None, Option, Some, codes, ℕ}
 use Rattle.pawn_csv.specs.Fault as csv
-use Rattle.pawn_csv.specs.declared.fault.Cause.{Cause}
 use Rattle.pawn_csv.specs.declared.fault.Cause.TheVariants as cause
-use Rattle.pawn_csv.specs.declared.fault.CsvFault.{CsvFault}
 use Rattle.pawn_wire.specs.declared.detail.Detail.{Detail}
 use Rattle.pawn_wire.specs.declared.detail.Detail.TheVariants.{Row}
 use Rattle.pawn_wire.specs.declared.fault.HeadFault.{HeadFault}

@@ -1,10 +1,6 @@
 -- Heads of requests.
 use Rattle.std.specs.Prelude.{◌≡◌, ℕ, ◌<◌, ◌≤◌, ◌⊎◌, ◌||◌, ◌==◌, nat_lt, Bool, List, [], ◌∷◌, ◌++◌, length, map, codes, Option, Some, None, is_none, unwrap_or, Result, Ok, Err}
-use Rattle.std.specs.List.{list_any}
-use Rattle.std.specs.Str.{str_eq_ignore_ascii_case}
-use Rattle.httparse.specs.Grammar.{RequestHead, ReadsRequest, print_request, HasNoRequest, MayBecomeRequest}
-use Rattle.httparse.specs.Spans.{name_and_value, RequestOverflows}
-use Rattle.pawn_base.specs.Refusals.{first_of}
+use Rattle.pawn_wire.specs.Common.{HasNoRequest, MayBecomeRequest, ReadsRequest, RequestHead, RequestOverflows, first_of, list_any, name_and_value, print_request, str_eq_ignore_ascii_case}
 use Rattle.pawn_wire.specs.Fields.{Pair, values_of}
 use Rattle.pawn_wire.specs.Limits.{max_head, max_fields, max_body}
 use Rattle.pawn_wire.specs.Numeral.{decimal_of}

@@ -1,29 +1,13 @@
 -- Laws of the definitions.
 use Rattle.std.specs.Prelude.{[], ◌∷◌, ◌++◌, ◌≡◌, ℕ, ◌≤◌, List, codes, Bool, true, false, IsTrue, ◌&&◌, not, ◌==◌, nat_le, if◌then◌else◌, Option, Some, None, Result, Ok, decimal}
-use Rattle.std.specs.List.{list_all}
-use Rattle.serde_json.specs.Data.{Members, number, unsigned, string, boolean, object, member, no_members}
-use Rattle.serde_json.specs.Written.{compact_text}
-use Rattle.pawn_terms.specs.Calendar.{IsStampDay, day_text}
-use Rattle.pawn_debt.specs.declared.entry.Entry.{Entry}
-use Rattle.pawn_pledge.specs.Number.{IsNumber}
-use Rattle.pawn_pledge.specs.declared.command.Command.{Command}
-use Rattle.pawn_pledge.specs.declared.record.Booking.{Booking}
-use Rattle.pawn_base.specs.Text.{IsText}
+use Rattle.pawn_wire.specs.Common.{AreFew, Bearer, Booking, Broker, Command, Entry, Export, Import, IsCapacity, IsNumber, IsOpening, IsStampDay, IsText, MOST_NAME_BYTES, Members, Operator, PutTerms, Request, SheetOf, Show, TakePledge, boolean, compact_text, day_text, list_all, member, no_members, number, object, sort_text, state_text, string, unsigned}
 use Rattle.pawn_base.specs.Lists.{Each}
-use Rattle.pawn_pledge.specs.Replayable.{IsOpening}
-use Rattle.pawn_book.specs.Limits.{IsCapacity, AreFew}
-use Rattle.pawn_book.specs.declared.limits.TheConstants.{MOST_NAME_BYTES}
-use Rattle.pawn_book.specs.declared.request.Request.{Request}
 use Rattle.pawn_book.specs.declared.request.Caller.{Caller}
-use Rattle.pawn_book.specs.declared.request.Caller.TheVariants.{Operator, Broker, Bearer}
-use Rattle.pawn_book.specs.declared.request.BrokerRequest.TheVariants.{PutTerms, TakePledge, Import, Show, SheetOf, Export}
 use Rattle.pawn_book.specs.Rows.{AreReplayable}
 use Rattle.pawn_book.specs.declared.request.BrokerRequest.TheVariants as broker
 use Rattle.pawn_book.specs.declared.request.BearerRequest.TheVariants.{Present}
 use Rattle.pawn_book.specs.declared.request.BearerRequest.TheVariants as bearer
 use Rattle.pawn_wire.specs.Bodies.{book_text, version_text, filled_text, opened_text, refusal_text}
-use Rattle.pawn_debt.specs.Words.{sort_text}
-use Rattle.pawn_pledge.specs.Words.{state_text}
 use Rattle.pawn_wire.specs.Done.{entered_text, held_text, declared_text, booked_text, redeemed_text, sold_text, extended_text}
 use Rattle.pawn_wire.specs.Limits.{max_number}
 use Rattle.pawn_wire.specs.Named.{number_said, day_said}

@@ -22,3 +22,5 @@ pub mod Status
 pub mod WorkedHeads
 pub mod WorkedReplies
 pub mod WorkedRequests
+pub mod Common
+pub mod Http

@@ -1,13 +1,7 @@
 -- JSON bodies and their members.
 use Rattle.std.specs.Prelude.{◌≡◌, ℕ, ◌⊎◌, List, Bool, ◌&&◌, nat_le, if◌then◌else◌, Option, Some, None, option_and_then, Result, MatchResult}
-use Rattle.std.specs.Str.{is_utf8}
-use Rattle.serde_json.specs.Data.{Data}
-use Rattle.serde_json.specs.Find.{get, as_number, as_u64, as_str, as_bool}
-use Rattle.serde_json.specs.Read.{read}
-use Rattle.serde_json.specs.View.{view}
+use Rattle.pawn_wire.specs.Common.{Data, as_bool, as_number, as_str, as_u64, get, is_text, is_utf8, read, secret_of_text, view}
 use Rattle.serde_json.specs.declared.value.Value.{Value}
-use Rattle.pawn_base.specs.Text.{is_text}
-use Rattle.pawn_pledge.specs.Secret.{secret_of_text}
 use Rattle.pawn_wire.specs.Chain.{and_then}
 use Rattle.pawn_wire.specs.Limits.{max_number}
 use Rattle.pawn_wire.specs.Named.{day_said}

@@ -1,9 +1,6 @@
 -- Numbers and days as texts.
 use Rattle.std.specs.Prelude.{ℕ, ◌==◌, nat_lt, nat_le, List, length, take, drop, slice_index, Bool, not, ◌&&◌, bytes_eq, if◌then◌else◌, Option, Some, None}
-use Rattle.std.specs.Char.{is_ascii_digit}
-use Rattle.std.specs.List.{list_all}
-use Rattle.std.specs.Str.Parse.{digits_value}
-use Rattle.pawn_terms.specs.Calendar.{Civil, first_day, last_stamp_day, day_number, day_text}
+use Rattle.pawn_wire.specs.Common.{Civil, day_number, day_text, digits_value, first_day, is_ascii_digit, last_stamp_day, list_all}
 
 -- 1 to 9 digits, the first of which is not a zero
 abbrev pub is_numeral : List ℕ → Bool

@@ -1,8 +1,6 @@
 -- Numbers in fields.
 use Rattle.std.specs.Prelude.{ℕ, List, length, Bool, ◌&&◌, nat_lt, nat_le, Option, Some, None, if◌then◌else◌}
-use Rattle.std.specs.List.{list_all}
-use Rattle.std.specs.Char.{is_ascii_digit}
-use Rattle.std.specs.Str.Parse.{digits_value}
+use Rattle.pawn_wire.specs.Common.{digits_value, is_ascii_digit, list_all}
 use Rattle.pawn_wire.specs.Limits.{max_digits}
 
 -- 1 to 19 digits

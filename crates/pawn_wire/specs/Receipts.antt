@@ -1,12 +1,8 @@
 -- Receipts that fields present.
 use Rattle.std.specs.Prelude.{ℕ, ◌==◌, Bool, List, [], ◌∷◌, length, nat_lt, slice_get, codes, Option, Some, option_map, Result}
-use Rattle.std.specs.List.{before_first, after_first}
-use Rattle.pawn_pledge.specs.Secret.{secret_of_text}
-use Rattle.pawn_pledge.specs.declared.receipt.Receipt.{Receipt}
-use Rattle.pawn_base.specs.Refusals.{first_of}
+use Rattle.pawn_wire.specs.Common.{MOST_RECEIPTS, Receipt, after_first, before_first, first_of, secret_of_text}
 use Rattle.pawn_wire.specs.Chain.{and_then, or_fault}
 use Rattle.pawn_wire.specs.Fields.{Pair, values_of}
-use Rattle.pawn_book.specs.declared.limits.TheConstants.{MOST_RECEIPTS}
 use Rattle.pawn_wire.specs.Named.{number_said}
 use Rattle.pawn_wire.specs.declared.fault.WireFault.{WireFault}
 use Rattle.pawn_wire.specs.declared.fault.WireFault.TheVariants.{NoReceipt, TooManyReceipts, BadReceipt}

@@ -1,10 +1,9 @@
 -- Replies.
 use Rattle.std.specs.Prelude.{ℕ, List, ◌++◌, length, codes, decimal, Option, option_map}
 use Rattle.http.specs.StatusCode.{status_text}
-use Rattle.pawn_pledge.specs.Receipt.{receipt_text}
+use Rattle.pawn_wire.specs.Common.{BookFilled, BookMade, Commanded, Opened, TermsPut, receipt_text}
 use Rattle.pawn_book.specs.Refusals as book
 use Rattle.pawn_book.specs.declared.reply.Reply.{Reply}
-use Rattle.pawn_book.specs.declared.reply.Reply.TheVariants.{BookMade, TermsPut, BookFilled, Opened, Commanded}
 use Rattle.pawn_wire.specs.Bodies.{book_text, version_text, filled_text, opened_text, refusal_text}
 use Rattle.pawn_wire.specs.Done.{commanded_text}
 use Rattle.pawn_wire.specs.Status.{reply_status}

@@ -1,22 +1,13 @@
 -- Requests.
 use Rattle.std.specs.Prelude.{◌≡◌, ◌≢◌, ℕ, ◌⊎◌, ◌==◌, Bool, not, List, [], ◌∷◌, ◌++◌, map, length, bytes_eq, unwrap_or, Result, Ok, Err}
-use Rattle.csv.specs.Reading.{strip_bom}
-use Rattle.httparse.specs.Grammar.{RequestHead}
-use Rattle.pawn_base.specs.Refusals.{first_of}
-use Rattle.pawn_book.specs.declared.request.Request.{Request}
-use Rattle.pawn_book.specs.declared.request.Caller.TheVariants.{Broker}
-use Rattle.pawn_book.specs.declared.request.BrokerRequest.TheVariants.{Import}
-use Rattle.pawn_book.specs.declared.rows.BookRows.{BookRows}
-use Rattle.pawn_csv.specs.Reading.{IsFirstCause, IsTextOf}
-use Rattle.pawn_csv.specs.declared.fault.CsvFault.{CsvFault}
+use Rattle.pawn_wire.specs.Common.{BookRows, Broker, CsvFault, Import, IsFirstCause, IsTextOf, Request, RequestHead, first_of, strip_bom}
 use Rattle.pawn_csv.specs.declared.fault.Cause.TheVariants as cause
 use Rattle.pawn_wire.specs.Asking.{asks_said}
 use Rattle.pawn_wire.specs.Chain.{OrMemory, after, or_fault}
 use Rattle.pawn_wire.specs.Fault.{wire_fault}
 use Rattle.pawn_wire.specs.Fields.{Pair}
 use Rattle.pawn_wire.specs.Head.{ReadsHead, fields_of, length_by, field_faults}
-use Rattle.pawn_wire.specs.Place.{place_of}
-use Rattle.pawn_wire.specs.Route.{method_of}
+use Rattle.pawn_wire.specs.Place.{method_of, place_of}
 use Rattle.pawn_wire.specs.declared.asking.Asks.{Asks}
 use Rattle.pawn_wire.specs.declared.asking.Asks.TheVariants as asks
 use Rattle.pawn_wire.specs.declared.fault.WireFault.{WireFault}
@@ -36,8 +27,8 @@ abbrev pub outline_by : List ℕ → List ℕ → List Pair → List ℕ → Res
 outline_by method target fields body =
     first_of (framing_faults fields body)
     (after (or_fault NoRoute (place_of target))
-    (λ place. first_of ((not (bytes_eq (method_of place.endpoint) method), WrongMethod) ∷ [])
-    (after (asks_said place.endpoint place.item fields body)
+    (λ place. first_of ((not (bytes_eq (method_of place.target) method), WrongMethod) ∷ [])
+    (after (asks_said place.target fields body)
     (λ asks. Ok (record { book = place.book; asks = asks })))))
 
 -- the book that a body holds as a text, with or without a byte order mark, or the text's first fault

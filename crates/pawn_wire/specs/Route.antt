@@ -1,16 +1,13 @@
 -- The targets of the service.
 use Rattle.std.specs.Prelude.{ℕ, List, [], ◌∷◌, codes, map, Option, option_map, slice_get, Result, Ok, Err}
-use Rattle.std.specs.Borrow.{Bor}
+use Rattle.pawn_wire.specs.Common.{Bor, InsertError, RouteOf, Scan, parse_route, route_from, walk}
 use Rattle.matchit.specs.Rows.{RowsOf}
 use Rattle.matchit.specs.Order.{placed}
 use Rattle.matchit.specs.Seek.{first}
-use Rattle.matchit.specs.Route.{Scan, parse_route}
-use Rattle.matchit.specs.Router.{RouteOf, route_from}
-use Rattle.matchit.specs.Params.{walk}
-use Rattle.matchit.specs.declared.error.InsertError.{InsertError}
+use Rattle.pawn_wire.specs.declared.route.BearerAction.TheVariants as bearers
+use Rattle.pawn_wire.specs.declared.route.BrokerAction.TheVariants as brokers
 use Rattle.pawn_wire.specs.declared.route.Endpoint.{Endpoint}
 use Rattle.pawn_wire.specs.declared.route.Endpoint.TheVariants.{Create, PutTerms, TakePledge, Show, OnPledge, ShowDay, Export, Import, Present, OnReceipt}
-use Rattle.pawn_wire.specs.declared.route.Action.TheVariants.{Draw, Repay, Hold, Release, Declare, Ask, Cancel, Decide, Redeem, Sell, Extend}
 
 -- the targets, each with its endpoint
 abbrev pub table : List (List ℕ × Endpoint)
@@ -19,36 +16,23 @@ table =
     ∷ (codes "/books/{b}/terms", PutTerms)
     ∷ (codes "/books/{b}/pledges", TakePledge)
     ∷ (codes "/books/{b}/pledges/{n}", Show)
-    ∷ (codes "/books/{b}/pledges/{n}/draw", OnPledge Draw)
-    ∷ (codes "/books/{b}/pledges/{n}/repay", OnPledge Repay)
-    ∷ (codes "/books/{b}/pledges/{n}/hold", OnPledge Hold)
-    ∷ (codes "/books/{b}/pledges/{n}/release", OnPledge Release)
-    ∷ (codes "/books/{b}/pledges/{n}/declare", OnPledge Declare)
-    ∷ (codes "/books/{b}/pledges/{n}/decide", OnPledge Decide)
-    ∷ (codes "/books/{b}/pledges/{n}/sell", OnPledge Sell)
-    ∷ (codes "/books/{b}/pledges/{n}/extend", OnPledge Extend)
+    ∷ (codes "/books/{b}/pledges/{n}/draw", OnPledge brokers.Draw)
+    ∷ (codes "/books/{b}/pledges/{n}/repay", OnPledge brokers.Repay)
+    ∷ (codes "/books/{b}/pledges/{n}/hold", OnPledge brokers.Hold)
+    ∷ (codes "/books/{b}/pledges/{n}/release", OnPledge brokers.Release)
+    ∷ (codes "/books/{b}/pledges/{n}/declare", OnPledge brokers.Declare)
+    ∷ (codes "/books/{b}/pledges/{n}/decide", OnPledge brokers.Decide)
+    ∷ (codes "/books/{b}/pledges/{n}/sell", OnPledge brokers.Sell)
+    ∷ (codes "/books/{b}/pledges/{n}/extend", OnPledge brokers.Extend)
     ∷ (codes "/books/{b}/days/{d}", ShowDay)
     ∷ (codes "/books/{b}/export", Export)
     ∷ (codes "/books/{b}/import", Import)
     ∷ (codes "/books/{b}/held", Present)
-    ∷ (codes "/books/{b}/held/repay", OnReceipt Repay)
-    ∷ (codes "/books/{b}/held/ask", OnReceipt Ask)
-    ∷ (codes "/books/{b}/held/cancel", OnReceipt Cancel)
-    ∷ (codes "/books/{b}/held/redeem", OnReceipt Redeem)
+    ∷ (codes "/books/{b}/held/repay", OnReceipt bearers.Repay)
+    ∷ (codes "/books/{b}/held/ask", OnReceipt bearers.Ask)
+    ∷ (codes "/books/{b}/held/cancel", OnReceipt bearers.Cancel)
+    ∷ (codes "/books/{b}/held/redeem", OnReceipt bearers.Redeem)
     ∷ []
-
--- the one method that an endpoint takes
-abbrev pub method_of : Endpoint → List ℕ
-method_of Create = codes "POST"
-method_of PutTerms = codes "POST"
-method_of TakePledge = codes "POST"
-method_of Show = codes "GET"
-method_of (OnPledge action) = codes "POST"
-method_of ShowDay = codes "GET"
-method_of Export = codes "GET"
-method_of Import = codes "POST"
-method_of Present = codes "GET"
-method_of (OnReceipt action) = codes "POST"
 
 -- a router's rows, as `matchit` orders them
 abbrev pub Rows : Type 0

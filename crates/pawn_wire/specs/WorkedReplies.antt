@@ -1,8 +1,7 @@
 -- Examples of replies, worked out.
 use Rattle.std.specs.Prelude.{◌≡◌, codes}
-use Rattle.pawn_pledge.specs.declared.receipt.Receipt.{Receipt}
+use Rattle.pawn_wire.specs.Common.{BookFilled, BookMade, Opened, Receipt, TermsPut}
 use Rattle.pawn_book.specs.declared.refusal.Refusal.TheVariants.{NoSuchReceipt, NotOperator, BookTaken, Full}
-use Rattle.pawn_book.specs.declared.reply.Reply.TheVariants.{BookMade, TermsPut, BookFilled, Opened}
 use Rattle.pawn_csv.specs.declared.fault.Cause.TheVariants as cause
 use Rattle.pawn_wire.specs.Reply.{memory_text, out_text}
 use Rattle.pawn_wire.specs.Status.{reply_status}

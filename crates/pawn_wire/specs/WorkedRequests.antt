@@ -1,17 +1,13 @@
 -- Examples of requests, worked out.
 use Rattle.std.specs.Prelude.{◌≡◌, ℕ, List, [], ◌∷◌, codes, replicate, false, true, Option, Some, None, Ok, Err}
-use Rattle.pawn_debt.specs.declared.entry.Kind.TheVariants.{Fixed, Running}
+use Rattle.pawn_wire.specs.Common.{Bearer, Broker, Command, Confirm, Fixed, Receipt, Running, Sworn}
 use Rattle.pawn_terms.specs.Worked.{date}
-use Rattle.pawn_pledge.specs.declared.command.Command.{Command}
-use Rattle.pawn_pledge.specs.declared.command.Decision.TheVariants.{Confirm}
-use Rattle.pawn_pledge.specs.declared.command.Paper.TheVariants.{Sworn}
-use Rattle.pawn_pledge.specs.declared.receipt.Receipt.{Receipt}
-use Rattle.pawn_book.specs.declared.request.Caller.TheVariants.{Broker, Bearer}
 use Rattle.pawn_book.specs.declared.request.BrokerRequest.TheVariants as broker
 use Rattle.pawn_book.specs.declared.request.BearerRequest.TheVariants as bearer
 use Rattle.pawn_wire.specs.Body.{new_book_of, new_terms_of, opening_of}
-use Rattle.pawn_wire.specs.Commands.{command_said}
+use Rattle.pawn_wire.specs.Commands.{brokers_command_said, bearers_command_said}
 use Rattle.pawn_wire.specs.Fields.{Pair}
+use Rattle.pawn_wire.specs.Limits.{max_head, max_fields, max_body, max_digits, max_number}
 use Rattle.pawn_wire.specs.Member.{body_said}
 use Rattle.pawn_wire.specs.Named.{number_said, day_said}
 use Rattle.pawn_wire.specs.Receipts.{receipt_values, receipt_said, receipts_said, one_said}
@@ -21,23 +17,25 @@ use Rattle.pawn_wire.specs.Request.{outline_by}
 use Rattle.pawn_wire.specs.WorkedHeads.{chunked_coding, tells_length}
 use Rattle.pawn_wire.specs.declared.asking.Asks.TheVariants as asks
 use Rattle.pawn_wire.specs.declared.fault.WireFault.TheVariants.{Transfer, BadLength, BodyTooLong, NoRoute, WrongMethod, BadBody, BadKey, BadReceipt, TooManyReceipts, NoReceipt}
-use Rattle.pawn_wire.specs.declared.place.Item.TheVariants.{Nothing, Pledge, Day}
 use Rattle.pawn_wire.specs.declared.place.Place.{Place}
-use Rattle.pawn_wire.specs.declared.route.Endpoint.{Endpoint}
-use Rattle.pawn_wire.specs.declared.route.Endpoint.TheVariants.{Create, PutTerms, TakePledge, Show, OnPledge, ShowDay, Export, Import, Present, OnReceipt}
-use Rattle.pawn_wire.specs.declared.route.Action.TheVariants.{Draw, Hold, Declare, Ask, Decide, Redeem, Extend}
+use Rattle.pawn_wire.specs.declared.place.Target.{Target}
+use Rattle.pawn_wire.specs.declared.place.Target.TheVariants.{Create, PutTerms, TakePledge, Show, OnPledge, ShowDay, Export, Import, Present, OnReceipt}
+use Rattle.pawn_wire.specs.declared.route.BearerAction.TheVariants.{Ask, Redeem}
+use Rattle.pawn_wire.specs.declared.route.BrokerAction.TheVariants.{Draw, Hold, Declare, Decide, Extend}
 
--- an endpoint of a book
-abbrev pub of_book : ℕ → Endpoint → Option Place
-of_book book endpoint = Some (record { endpoint = endpoint; book = book; item = Nothing })
+-- the limits of a request: the bytes and the fields of its head, the bytes of its body, the digits of the number that
+-- gives the body's length, and the largest number in a body
+abbrev pub WorkedLimits : Type 0
+WorkedLimits =
+    (max_head ≡ 8192)
+    × (max_fields ≡ 64)
+    × (max_body ≡ 1048576)
+    × (max_digits ≡ 19)
+    × (max_number ≡ 999999999999)
 
--- an endpoint of a pledge
-abbrev pub of_pledge : ℕ → ℕ → Endpoint → Option Place
-of_pledge book number endpoint = Some (record { endpoint = endpoint; book = book; item = Pledge number })
-
--- an endpoint of a day
-abbrev pub of_day : ℕ → ℕ → Endpoint → Option Place
-of_day book day endpoint = Some (record { endpoint = endpoint; book = book; item = Day day })
+-- what is asked of a book
+abbrev pub of_book : ℕ → Target → Option Place
+of_book book target = Some (record { book = book; target = target })
 
 -- what targets ask for
 abbrev pub WorkedTargets : Type 0
@@ -45,11 +43,11 @@ WorkedTargets =
     (place_of (codes "/books/7") ≡ of_book 7 Create)
     × (place_of (codes "/books/7/terms") ≡ of_book 7 PutTerms)
     × (place_of (codes "/books/12/pledges") ≡ of_book 12 TakePledge)
-    × (place_of (codes "/books/12/pledges/3") ≡ of_pledge 12 3 Show)
-    × (place_of (codes "/books/7/pledges/12/draw") ≡ of_pledge 7 12 (OnPledge Draw))
-    × (place_of (codes "/books/7/pledges/12/extend") ≡ of_pledge 7 12 (OnPledge Extend))
-    × (place_of (codes "/books/7/days/2024-02-29") ≡ of_day 7 (date 2024 2 29) ShowDay)
-    × (place_of (codes "/books/7/days/2199-12-31") ≡ of_day 7 (date 2199 12 31) ShowDay)
+    × (place_of (codes "/books/12/pledges/3") ≡ of_book 12 (Show 3))
+    × (place_of (codes "/books/7/pledges/12/draw") ≡ of_book 7 (OnPledge 12 Draw))
+    × (place_of (codes "/books/7/pledges/12/extend") ≡ of_book 7 (OnPledge 12 Extend))
+    × (place_of (codes "/books/7/days/2024-02-29") ≡ of_book 7 (ShowDay (date 2024 2 29)))
+    × (place_of (codes "/books/7/days/2199-12-31") ≡ of_book 7 (ShowDay (date 2199 12 31)))
     × (place_of (codes "/books/7/export") ≡ of_book 7 Export)
     × (place_of (codes "/books/7/import") ≡ of_book 7 Import)
     × (place_of (codes "/books/7/held") ≡ of_book 7 Present)
@@ -171,17 +169,17 @@ WorkedBodies =
 -- bodies of commands
 abbrev pub WorkedCommands : Type 0
 WorkedCommands =
-    (command_said Draw (codes "{\"pence\":500,\"seq\":1}") ≡ Some (Command.Draw 1 500))
-    × (command_said Declare (codes "{\"paper\":\"sworn\"}") ≡ Some (Command.Declare Sworn))
-    × (command_said Declare (codes "{\"paper\":\"torn\"}") ≡ None)
-    × (command_said Decide (codes "{\"yes\":true}") ≡ Some (Command.DecideBooking Confirm))
-    × (command_said Hold (codes "not read") ≡ Some Command.Hold)
-    × (command_said Extend (codes "{\"until\":\"2001-02-28\"}") ≡ Some (Command.Extend 11381))
-    × (command_said Extend (codes "{\"until\":\"2001-02-29\"}") ≡ None)
-    × (command_said Extend (codes "{\"until\":null}") ≡ None)
-    × (command_said Ask (codes "{\"day\":\"2001-02-28\",\"window\":3}") ≡ Some (Command.AskBooking 11381 3))
-    × (command_said Redeem (codes "{\"paid\":10000}") ≡ Some (Command.Redeem 10000))
-    × (command_said Redeem (codes "{\"paid\":\"10000\"}") ≡ None)
+    (brokers_command_said Draw (codes "{\"pence\":500,\"seq\":1}") ≡ Some (Command.Draw 1 500))
+    × (brokers_command_said Declare (codes "{\"paper\":\"sworn\"}") ≡ Some (Command.Declare Sworn))
+    × (brokers_command_said Declare (codes "{\"paper\":\"torn\"}") ≡ None)
+    × (brokers_command_said Decide (codes "{\"yes\":true}") ≡ Some (Command.DecideBooking Confirm))
+    × (brokers_command_said Hold (codes "not read") ≡ Some Command.Hold)
+    × (brokers_command_said Extend (codes "{\"until\":\"2001-02-28\"}") ≡ Some (Command.Extend 11381))
+    × (brokers_command_said Extend (codes "{\"until\":\"2001-02-29\"}") ≡ None)
+    × (brokers_command_said Extend (codes "{\"until\":null}") ≡ None)
+    × (bearers_command_said Ask (codes "{\"day\":\"2001-02-28\",\"window\":3}") ≡ Some (Command.AskBooking 11381 3))
+    × (bearers_command_said Redeem (codes "{\"paid\":10000}") ≡ Some (Command.Redeem 10000))
+    × (bearers_command_said Redeem (codes "{\"paid\":\"10000\"}") ≡ None)
 
 -- each fault is reported before those that come after it
 abbrev pub WorkedOrder : Type 0

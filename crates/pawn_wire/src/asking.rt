@@ -1,17 +1,13 @@
-//! Who asks at an endpoint, and what for.
+//! Who asks at a target, and what for.
 ghost use Rattle.std.specs.Prelude.{◌≡◌, codes};
-ghost use Rattle.pawn_wire.specs.Asking.{asks_said, key_given};
-ghost use Rattle.pawn_wire.specs.Chain.{Says};
-ghost use Rattle.pawn_wire.specs.Fields.{pairs_of};
-ghost use Rattle.pawn_wire.specs.declared.place.Item.TheVariants.{Nothing};
-ghost use Rattle.pawn_wire.specs.declared.route.Endpoint.TheVariants.{Create, PutTerms, TakePledge, Show, OnPledge, ShowDay, Export, Import, Present, OnReceipt};
+ghost use Rattle.pawn_wire.specs.Http.{Create, Export, Import, OnPledge, OnReceipt, Present, PutTerms, Says, Show, ShowDay, TakePledge, asks_said, key_given, pairs_of};
 
 use crate::fault::WireFault;
 use crate::fields::{Fields, Found};
-use crate::place::{Item, Place};
-use crate::route::{Action, Endpoint};
+use crate::place::Target;
+use crate::route::{BearerAction, BrokerAction};
 use crate::{body, commands, member, receipts};
-use pawn_book::{BearerCommand, BearerRequest, BrokerCommand, BrokerRequest, Caller, Secret};
+use pawn_book::{BearerRequest, BrokerRequest, Caller, Number, RequestDay, Secret};
 use std::alloc::Global;
 
 /// What a request has besides its method and target.
@@ -48,7 +44,7 @@ fn key(fields: &Fields<'_>) -> Result<Secret, WireFault>
 
 // The operator, who makes a book.
 fn create(alloc: Global, sent: &Sent<'_>) -> Result<Asks, WireFault>
-    ensures value { Says result (asks_said Create Nothing
+    ensures value { Says result (asks_said Create
         (pairs_of sent.now.fields) sent.now.body.now) }
 {
     let key = key(&sent.fields)?;
@@ -59,7 +55,7 @@ fn create(alloc: Global, sent: &Sent<'_>) -> Result<Asks, WireFault>
 
 // A broker, who puts terms.
 fn put_terms(alloc: Global, sent: &Sent<'_>) -> Result<Asks, WireFault>
-    ensures value { Says result (asks_said PutTerms Nothing
+    ensures value { Says result (asks_said PutTerms
         (pairs_of sent.now.fields) sent.now.body.now) }
 {
     let key = key(&sent.fields)?;
@@ -73,7 +69,7 @@ fn put_terms(alloc: Global, sent: &Sent<'_>) -> Result<Asks, WireFault>
 
 // A broker, who takes a pledge.
 fn take_pledge(alloc: Global, sent: &Sent<'_>) -> Result<Asks, WireFault>
-    ensures value { Says result (asks_said TakePledge Nothing
+    ensures value { Says result (asks_said TakePledge
         (pairs_of sent.now.fields) sent.now.body.now) }
 {
     let key = key(&sent.fields)?;
@@ -86,11 +82,11 @@ fn take_pledge(alloc: Global, sent: &Sent<'_>) -> Result<Asks, WireFault>
 }
 
 // A broker, who sees the pledge of this number.
-fn show(item: Item, sent: &Sent<'_>) -> Result<Asks, WireFault>
-    ensures value { Says result (asks_said Show item (pairs_of sent.now.fields) sent.now.body.now) }
+fn show(number: Number, sent: &Sent<'_>) -> Result<Asks, WireFault>
+    ensures value { Says result (asks_said (Show number)
+        (pairs_of sent.now.fields) sent.now.body.now) }
 {
     let key = key(&sent.fields)?;
-    let number = item.number().ok_or(WireFault::BadBody)?;
     Ok(Asks::Whole(Caller::Broker {
         key,
         asked: BrokerRequest::Show(number),
@@ -100,19 +96,15 @@ fn show(item: Item, sent: &Sent<'_>) -> Result<Asks, WireFault>
 // A broker, with a command for the pledge of this number.
 fn command_pledge(
     alloc: Global,
-    item: Item,
-    action: Action,
+    number: Number,
+    action: BrokerAction,
     sent: &Sent<'_>,
 ) -> Result<Asks, WireFault>
-    ensures value { Says result (asks_said (OnPledge action) item
+    ensures value { Says result (asks_said (OnPledge number action)
         (pairs_of sent.now.fields) sent.now.body.now) }
 {
     let key = key(&sent.fields)?;
-    let number = item.number().ok_or(WireFault::BadBody)?;
-    let command = commands::command(alloc, action, sent.body)?;
-    let command = BrokerCommand::try_from(command)
-        .ok()
-        .ok_or(WireFault::BadBody)?;
+    let command = commands::brokers_command(alloc, action, sent.body)?;
     Ok(Asks::Whole(Caller::Broker {
         key,
         asked: BrokerRequest::OnPledge { number, command },
@@ -120,12 +112,11 @@ fn command_pledge(
 }
 
 // A broker, who sees a day's sheet.
-fn show_day(item: Item, sent: &Sent<'_>) -> Result<Asks, WireFault>
-    ensures value { Says result (asks_said ShowDay item
+fn show_day(day: RequestDay, sent: &Sent<'_>) -> Result<Asks, WireFault>
+    ensures value { Says result (asks_said (ShowDay day)
         (pairs_of sent.now.fields) sent.now.body.now) }
 {
     let key = key(&sent.fields)?;
-    let day = item.day().ok_or(WireFault::BadBody)?;
     Ok(Asks::Whole(Caller::Broker {
         key,
         asked: BrokerRequest::SheetOf(day),
@@ -134,7 +125,7 @@ fn show_day(item: Item, sent: &Sent<'_>) -> Result<Asks, WireFault>
 
 // A broker, who exports the book as a text.
 fn export(sent: &Sent<'_>) -> Result<Asks, WireFault>
-    ensures value { Says result (asks_said Export Nothing
+    ensures value { Says result (asks_said Export
         (pairs_of sent.now.fields) sent.now.body.now) }
 {
     let key = key(&sent.fields)?;
@@ -146,7 +137,7 @@ fn export(sent: &Sent<'_>) -> Result<Asks, WireFault>
 
 // A broker, who fills the book with the rows of an import: the broker's key and the import's.
 fn import(sent: &Sent<'_>) -> Result<Asks, WireFault>
-    ensures value { Says result (asks_said Import Nothing
+    ensures value { Says result (asks_said Import
         (pairs_of sent.now.fields) sent.now.body.now) }
 {
     let key = key(&sent.fields)?;
@@ -156,7 +147,7 @@ fn import(sent: &Sent<'_>) -> Result<Asks, WireFault>
 
 // A bearer, who sees the pledges of receipts.
 fn present(alloc: Global, sent: &Sent<'_>) -> Result<Asks, WireFault>
-    ensures value { Says result (asks_said Present Nothing
+    ensures value { Says result (asks_said Present
         (pairs_of sent.now.fields) sent.now.body.now) }
 {
     let receipts = receipts::receipts(alloc, &sent.fields)?;
@@ -164,33 +155,30 @@ fn present(alloc: Global, sent: &Sent<'_>) -> Result<Asks, WireFault>
 }
 
 // A bearer, with a command for the pledge of a receipt.
-fn command_receipt(alloc: Global, action: Action, sent: &Sent<'_>) -> Result<Asks, WireFault>
-    ensures value { Says result (asks_said (OnReceipt action) Nothing
+fn command_receipt(alloc: Global, action: BearerAction, sent: &Sent<'_>) -> Result<Asks, WireFault>
+    ensures value { Says result (asks_said (OnReceipt action)
         (pairs_of sent.now.fields) sent.now.body.now) }
 {
     let receipt = receipts::one(&sent.fields)?;
-    let command = commands::command(alloc, action, sent.body)?;
-    let command = BearerCommand::try_from(command)
-        .ok()
-        .ok_or(WireFault::BadBody)?;
+    let command = commands::bearers_command(alloc, action, sent.body)?;
     Ok(Asks::Whole(Caller::Bearer(BearerRequest::OnPledge { receipt, command })))
 }
 
-// Reads who asks at an endpoint, and what for: first the key or the receipts, then the body.
-pub(crate) fn who_asks(alloc: Global, place: Place, sent: &Sent<'_>) -> Result<Asks, WireFault>
-    ensures value { Says result (asks_said place.endpoint place.item
+// Reads who asks at a target, and what for: first the key or the receipts, then the body.
+pub(crate) fn who_asks(alloc: Global, target: Target, sent: &Sent<'_>) -> Result<Asks, WireFault>
+    ensures value { Says result (asks_said target
         (pairs_of sent.now.fields) sent.now.body.now) }
 {
-    match place.endpoint {
-        Endpoint::Create => create(alloc, sent),
-        Endpoint::PutTerms => put_terms(alloc, sent),
-        Endpoint::TakePledge => take_pledge(alloc, sent),
-        Endpoint::Show => show(place.item, sent),
-        Endpoint::OnPledge(action) => command_pledge(alloc, place.item, action, sent),
-        Endpoint::ShowDay => show_day(place.item, sent),
-        Endpoint::Export => export(sent),
-        Endpoint::Import => import(sent),
-        Endpoint::Present => present(alloc, sent),
-        Endpoint::OnReceipt(action) => command_receipt(alloc, action, sent),
+    match target {
+        Target::Create => create(alloc, sent),
+        Target::PutTerms => put_terms(alloc, sent),
+        Target::TakePledge => take_pledge(alloc, sent),
+        Target::Show(number) => show(number, sent),
+        Target::OnPledge(number, action) => command_pledge(alloc, number, action, sent),
+        Target::ShowDay(day) => show_day(day, sent),
+        Target::Export => export(sent),
+        Target::Import => import(sent),
+        Target::Present => present(alloc, sent),
+        Target::OnReceipt(action) => command_receipt(alloc, action, sent),
     }
 }

@@ -1,7 +1,6 @@
 //! The JSON bodies of replies.
 ghost use Rattle.std.specs.Prelude.{◌≡◌, IfOk, Some, string_bytes};
-ghost use Rattle.pawn_wire.specs.declared.detail.Detail.TheVariants.{Row, Total};
-ghost use Rattle.pawn_wire.specs.Bodies.{book_text, version_text, filled_text, opened_text, refusal_text};
+ghost use Rattle.pawn_wire.specs.Http.{Row, Total, book_text, filled_text, opened_text, refusal_text, version_text};
 
 use crate::detail::Detail;
 use std::alloc::{AllocError, Global};

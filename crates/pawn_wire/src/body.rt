@@ -1,11 +1,7 @@
 //! The JSON bodies of requests.
 ghost use Rattle.std.specs.Prelude.{◌≡◌};
-ghost use Rattle.serde_json.specs.View.{view};
-ghost use Rattle.pawn_book.specs.declared.limits.TheConstants.{MOST_BOOKINGS};
-ghost use Rattle.pawn_wire.specs.Body.{new_book_of, new_terms_of, kind_named, kind_of, day_or_null, optional_day_at, opening_of};
-ghost use Rattle.pawn_wire.specs.Chain.{GivesPart};
-ghost use Rattle.pawn_wire.specs.Member.{in_range};
-ghost use Rattle.pawn_wire.specs.declared.fault.WireFault.TheVariants.{BadBody};
+ghost use Rattle.pawn_wire.specs.Common.{MOST_BOOKINGS, view};
+ghost use Rattle.pawn_wire.specs.Http.{BadBody, GivesPart, day_or_null, in_range, kind_named, kind_of, new_book_of, new_terms_of, opening_of, optional_day_at};
 
 use crate::fault::WireFault;
 use crate::member;

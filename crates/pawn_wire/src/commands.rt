@@ -1,14 +1,12 @@
 //! The JSON bodies of commands.
-ghost use Rattle.std.specs.Prelude.{◌≡◌};
-ghost use Rattle.pawn_wire.specs.Chain.{GivesPart};
-ghost use Rattle.pawn_wire.specs.Commands.{asked_entry, paper_named, paper_of, decision_by, decision_of, asked_booking, command_said};
-ghost use Rattle.pawn_wire.specs.Member.{number_at, day_at, body_said};
-ghost use Rattle.pawn_wire.specs.declared.fault.WireFault.TheVariants.{BadBody};
+ghost use Rattle.std.specs.Prelude.{◌≡◌, true};
+ghost use Rattle.pawn_pledge.specs.Commands.{is_brokers, is_bearers};
+ghost use Rattle.pawn_wire.specs.Http.{BadBody, GivesPart, asked_booking, asked_entry, bearers_command_said, body_said, brokers_command_said, day_at, decision_by, decision_of, number_at, paper_named, paper_of};
 
 use crate::fault::WireFault;
 use crate::member;
-use crate::route::Action;
-use pawn_book::{Command, Decision, Paper, RequestDay};
+use crate::route::{BearerAction, BrokerAction};
+use pawn_book::{BearerCommand, BrokerCommand, Command, Decision, Paper, RequestDay};
 use std::alloc::Global;
 
 /// An entry to be made: its number in the pledge, and its sum in pence.
@@ -16,6 +14,13 @@ use std::alloc::Global;
 pub(crate) struct NewEntry {
     pub seq: u64,
     pub pence: u64,
+}
+
+/// A booking that is asked for: its day and its window.
+#[derive(Clone, Copy)]
+pub(crate) struct NewBooking {
+    pub day: RequestDay,
+    pub window: u64,
 }
 
 // The entry that a body asks for.
@@ -84,46 +89,91 @@ fn decision(alloc: Global, body: &[u8]) -> Result<Decision, WireFault>
     Ok(decision_by(yes))
 }
 
-// The command that asks for a booking, with its day and window.
-fn booking(alloc: Global, body: &[u8]) -> Result<Command, WireFault>
+// The booking that a body asks for.
+fn booking(alloc: Global, body: &[u8]) -> Result<NewBooking, WireFault>
     ensures value { GivesPart BadBody result (body_said asked_booking body.now) }
 {
     let value = member::json(alloc, body)?;
     let day = member::day(&value, "day").ok_or(WireFault::BadBody)?;
     let window = member::number(&value, "window").ok_or(WireFault::BadBody)?;
-    Ok(Command::AskBooking { day, window })
+    Ok(NewBooking { day, window })
 }
 
-// The command for an action, with what its body says. `Hold`, `Release` and `Cancel` do not look at the body.
-pub(crate) fn command(alloc: Global, action: Action, body: &[u8]) -> Result<Command, WireFault>
-    ensures value { GivesPart BadBody result (command_said action body.now) }
+// A command that a broker may send.
+fn by_broker(command: Command) -> BrokerCommand
+    requires allowed { is_brokers command ≡ true }
+    ensures same { result ≡ command }
+{
+    BrokerCommand::try_from(command).unwrap()
+}
+
+// A command that the bearer of a receipt may send.
+fn by_bearer(command: Command) -> BearerCommand
+    requires allowed { is_bearers command ≡ true }
+    ensures same { result ≡ command }
+{
+    BearerCommand::try_from(command).unwrap()
+}
+
+// The command for a broker's action, with what its body says. `Hold` and `Release` do not look at the body.
+pub(crate) fn brokers_command(
+    alloc: Global,
+    action: BrokerAction,
+    body: &[u8],
+) -> Result<BrokerCommand, WireFault>
+    ensures value { GivesPart BadBody result (brokers_command_said action body.now) }
 {
     match action {
-        Action::Draw => {
+        BrokerAction::Draw => {
             let NewEntry { seq, pence } = entry(alloc, body)?;
-            Ok(Command::Draw { seq, pence })
+            Ok(by_broker(Command::Draw { seq, pence }))
         }
-        Action::Repay => {
+        BrokerAction::Repay => {
             let NewEntry { seq, pence } = entry(alloc, body)?;
-            Ok(Command::Repay { seq, pence })
+            Ok(by_broker(Command::Repay { seq, pence }))
         }
-        Action::Hold => Ok(Command::Hold),
-        Action::Release => Ok(Command::Release),
-        Action::Declare => Ok(Command::Declare(paper(alloc, body)?)),
-        Action::Ask => booking(alloc, body),
-        Action::Cancel => Ok(Command::CancelBooking),
-        Action::Decide => Ok(Command::DecideBooking(decision(alloc, body)?)),
-        Action::Redeem => {
-            let paid = number(alloc, body, "paid")?;
-            Ok(Command::Redeem { paid })
+        BrokerAction::Hold => Ok(by_broker(Command::Hold)),
+        BrokerAction::Release => Ok(by_broker(Command::Release)),
+        BrokerAction::Declare => {
+            let paper = paper(alloc, body)?;
+            Ok(by_broker(Command::Declare(paper)))
         }
-        Action::Sell => {
+        BrokerAction::Decide => {
+            let decision = decision(alloc, body)?;
+            Ok(by_broker(Command::DecideBooking(decision)))
+        }
+        BrokerAction::Sell => {
             let net = number(alloc, body, "net")?;
-            Ok(Command::Sell { net })
+            Ok(by_broker(Command::Sell { net }))
         }
-        Action::Extend => {
+        BrokerAction::Extend => {
             let until = day(alloc, body, "until")?;
-            Ok(Command::Extend { until })
+            Ok(by_broker(Command::Extend { until }))
+        }
+    }
+}
+
+// The command for a bearer's action, with what its body says. `Cancel` does not look at the body.
+pub(crate) fn bearers_command(
+    alloc: Global,
+    action: BearerAction,
+    body: &[u8],
+) -> Result<BearerCommand, WireFault>
+    ensures value { GivesPart BadBody result (bearers_command_said action body.now) }
+{
+    match action {
+        BearerAction::Repay => {
+            let NewEntry { seq, pence } = entry(alloc, body)?;
+            Ok(by_bearer(Command::Repay { seq, pence }))
+        }
+        BearerAction::Ask => {
+            let NewBooking { day, window } = booking(alloc, body)?;
+            Ok(by_bearer(Command::AskBooking { day, window }))
+        }
+        BearerAction::Cancel => Ok(by_bearer(Command::CancelBooking)),
+        BearerAction::Redeem => {
+            let paid = number(alloc, body, "paid")?;
+            Ok(by_bearer(Command::Redeem { paid }))
         }
     }
 }

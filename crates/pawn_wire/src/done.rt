@@ -1,9 +1,6 @@
 //! The JSON bodies of replies to commands.
 ghost use Rattle.std.specs.Prelude.{◌≡◌, IfOk, string_bytes};
-ghost use Rattle.pawn_terms.specs.Calendar.{day_text};
-ghost use Rattle.pawn_pledge.specs.Receipt.{receipt_text};
-ghost use Rattle.pawn_debt.specs.Words.{sort_text};
-ghost use Rattle.pawn_pledge.specs.Words.{state_text};
+ghost use Rattle.pawn_wire.specs.Common.{day_text, receipt_text, sort_text, state_text};
 ghost use Rattle.pawn_wire.specs.Done.{entered_text, held_text, declared_text, booked_text, redeemed_text, sold_text, extended_text, commanded_text};
 
 use pawn_book::{Booking, Day, Done, Entry, Number, Receipt};

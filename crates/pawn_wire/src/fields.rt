@@ -1,6 +1,5 @@
 //! The fields of a head, by their names.
-ghost use Rattle.std.specs.Prelude.{length, All};
-ghost use Rattle.httparse.specs.Spans.{IsHeaderWithin};
+ghost use Rattle.pawn_wire.specs.Common.{All, IsHeaderWithin, length};
 
 use httparse::spans::HeaderSpan;
 

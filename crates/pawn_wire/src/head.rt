@@ -1,8 +1,6 @@
 //! Heads of requests.
 ghost use Rattle.std.specs.Prelude.{◌≡◌, ◌+◌, ◌≤◌};
-ghost use Rattle.pawn_wire.specs.Fields.{pairs_of};
-ghost use Rattle.pawn_wire.specs.Head.{IsHeadRead, IfWhole, body_length, closes_by};
-ghost use Rattle.pawn_wire.specs.Limits.{max_head, max_body};
+ghost use Rattle.pawn_wire.specs.Http.{IfWhole, IsHeadRead, body_length, closes_by, max_body, max_head, pairs_of};
 
 use crate::fault::HeadFault;
 use crate::fields::{Fields, Found};

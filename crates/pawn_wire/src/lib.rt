@@ -39,6 +39,6 @@ pub use reply::{MEMORY_REPLY, Out, fault_reply, memory_reply, write_reply};
 pub use request::read_request;
 pub use router::Router;
 pub use worked::{
-    worked_bodies, worked_fields, worked_heads, worked_replies, worked_requests, worked_targets,
-    worked_texts,
+    worked_bodies, worked_fields, worked_heads, worked_limits, worked_replies, worked_requests,
+    worked_targets, worked_texts,
 };

@@ -1,10 +1,7 @@
 //! JSON bodies and their members.
 ghost use Rattle.std.specs.Prelude.{◌≡◌, option_copied};
 ghost use Rattle.serde_json.specs.View.{view};
-ghost use Rattle.pawn_wire.specs.Member.{JsonOf, number_at, string_at, flag_at, text_at, key_at, day_at};
-ghost use Rattle.pawn_wire.specs.Chain.{GivesPart};
-ghost use Rattle.pawn_wire.specs.declared.fault.WireFault.TheVariants.{BadBody};
-ghost use Rattle.pawn_wire.specs.Named.{day_said};
+ghost use Rattle.pawn_wire.specs.Http.{BadBody, GivesPart, JsonOf, day_at, day_said, flag_at, key_at, number_at, string_at, text_at};
 
 use crate::fault::WireFault;
 use crate::limits::MAX_NUMBER;

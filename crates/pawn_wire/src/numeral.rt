@@ -1,8 +1,6 @@
 //! Numbers in fields.
 ghost use Rattle.std.specs.Prelude.{◌≡◌, IsTrue};
-ghost use Rattle.std.specs.Str.Parse.{digits_value};
-ghost use Rattle.std.specs.Char.{is_ascii_digit};
-ghost use Rattle.std.specs.List.{list_all};
+ghost use Rattle.pawn_wire.specs.Common.{digits_value, is_ascii_digit, list_all};
 ghost use Rattle.pawn_wire.specs.Numeral.{is_short_numeral, decimal_of};
 
 use crate::limits::MAX_DIGITS;

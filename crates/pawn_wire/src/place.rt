@@ -1,50 +1,72 @@
 //! What targets ask for.
-ghost use Rattle.std.specs.Prelude.{◌≡◌, option_copied};
-ghost use Rattle.pawn_wire.specs.Named.{number_said};
-ghost use Rattle.pawn_wire.specs.Place.{day_in, is_ascii_text, item_said, number_in, place_of};
+ghost use Rattle.std.specs.Prelude.{◌≡◌, bytes_eq, option_copied};
+ghost use Rattle.pawn_wire.specs.Http.{is_ascii_text, method_of, number_said, place_of, target_said};
 
 use crate::member;
-use crate::route::Endpoint;
+use crate::route::{BearerAction, BrokerAction, Endpoint};
 use crate::router::Router;
+use http::Method;
 use pawn_book::{Number, RequestDay};
 use std::str::from_utf8;
 
-/// What a target names besides its book.
+/// What a target asks of its book, with the pledge or the day that it names.
 #[derive(Clone, Copy)]
-pub(crate) enum Item {
-    Nothing,
-    Pledge(Number),
-    Day(RequestDay),
+pub(crate) enum Target {
+    /// To make the book.
+    Create,
+    /// To put terms into it.
+    PutTerms,
+    /// To take a pledge into it.
+    TakePledge,
+    /// To show the pledge of this number.
+    Show(Number),
+    /// To command the pledge of this number.
+    OnPledge(Number, BrokerAction),
+    /// To show this day.
+    ShowDay(RequestDay),
+    /// To have its rows as a text.
+    Export,
+    /// To fill it with the rows of a text.
+    Import,
+    /// To show the pledges of receipts.
+    Present,
+    /// To command the pledge of a receipt.
+    OnReceipt(BearerAction),
 }
 
-impl Item {
-    // The pledge's number, if it is a pledge.
-    pub(crate) fn number(self) -> Option<Number>
-        ensures value { result ≡ number_in self }
+impl Target {
+    // The one method that the target takes.
+    fn method(self) -> Method
+        ensures value { result ≡ method_of self }
     {
         match self {
-            Item::Pledge(number) => Some(number),
-            Item::Nothing | Item::Day(_) => None,
+            Target::Present => Method::GET,
+            Target::Show(_) => Method::GET,
+            Target::ShowDay(_) => Method::GET,
+            Target::Export => Method::GET,
+            Target::Create => Method::POST,
+            Target::PutTerms => Method::POST,
+            Target::TakePledge => Method::POST,
+            Target::Import => Method::POST,
+            Target::OnPledge(_, _) => Method::POST,
+            Target::OnReceipt(_) => Method::POST,
         }
     }
 
-    // The day, if it is a day.
-    pub(crate) fn day(self) -> Option<RequestDay>
-        ensures value { result ≡ day_in self }
+    // Whether this is the method that the target takes.
+    pub(crate) fn takes(self, method: &[u8]) -> bool
+        ensures value { result ≡ bytes_eq (method_of self) method.now }
     {
-        match self {
-            Item::Day(day) => Some(day),
-            Item::Nothing | Item::Pledge(_) => None,
-        }
+        let own = self.method();
+        own.as_str().as_bytes() == method
     }
 }
 
-/// What a target asks for.
+/// A book, and what is asked of it.
 #[derive(Clone, Copy)]
 pub(crate) struct Place {
-    pub endpoint: Endpoint,
     pub book: Number,
-    pub item: Item,
+    pub target: Target,
 }
 
 fn is_ascii_text(text: &[u8]) -> bool
@@ -60,17 +82,21 @@ fn number_said(text: &str) -> Option<Number>
     Number::of_text(text.as_bytes())
 }
 
-// What the second part of a target names: a day for the endpoint of a day's sheet, else a pledge. Without a second part
-// it is `Nothing`.
-fn item_said(endpoint: Endpoint, text: Option<&str>) -> Option<Item>
-    ensures value { result ≡ item_said endpoint (option_copied text.entry) }
+// What is asked at an endpoint, with the pledge or the day that the second part of a target names.
+fn target_said(endpoint: Endpoint, item: Option<&str>) -> Option<Target>
+    ensures value { result ≡ target_said endpoint (option_copied item.entry) }
 {
-    let Some(text) = text else {
-        return Some(Item::Nothing);
-    };
     match endpoint {
-        Endpoint::ShowDay => Some(Item::Day(member::day_said(text)?)),
-        _ => Some(Item::Pledge(number_said(text)?)),
+        Endpoint::Create => Some(Target::Create),
+        Endpoint::PutTerms => Some(Target::PutTerms),
+        Endpoint::TakePledge => Some(Target::TakePledge),
+        Endpoint::Show => Some(Target::Show(number_said(item?)?)),
+        Endpoint::OnPledge(action) => Some(Target::OnPledge(number_said(item?)?, action)),
+        Endpoint::ShowDay => Some(Target::ShowDay(member::day_said(item?)?)),
+        Endpoint::Export => Some(Target::Export),
+        Endpoint::Import => Some(Target::Import),
+        Endpoint::Present => Some(Target::Present),
+        Endpoint::OnReceipt(action) => Some(Target::OnReceipt(action)),
     }
 }
 
@@ -86,10 +112,6 @@ pub(crate) fn place_of(router: &Router, target: &[u8]) -> Option<Place>
     };
     let asked = router.find(text)?;
     let book = number_said(asked.book?)?;
-    let item = item_said(asked.endpoint, asked.item)?;
-    Some(Place {
-        endpoint: asked.endpoint,
-        book,
-        item,
-    })
+    let target = target_said(asked.endpoint, asked.item)?;
+    Some(Place { book, target })
 }

@@ -1,9 +1,6 @@
 //! Receipts that fields present.
 ghost use Rattle.std.specs.Prelude.{◌≡◌, ◌⊎◌, Some, None, MatchResult};
-ghost use Rattle.pawn_wire.specs.Chain.{Says};
-ghost use Rattle.pawn_wire.specs.Fields.{pairs_of};
-ghost use Rattle.pawn_wire.specs.Receipts.{receipt_said, all_said, receipt_values, receipts_said, one_said};
-ghost use Rattle.pawn_wire.specs.declared.fault.WireFault.TheVariants.{BadReceipt, Memory};
+ghost use Rattle.pawn_wire.specs.Http.{BadReceipt, Memory, Says, all_said, one_said, pairs_of, receipt_said, receipt_values, receipts_said};
 
 use crate::fault::WireFault;
 use crate::fields::{Fields, Found};

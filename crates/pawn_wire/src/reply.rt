@@ -1,10 +1,7 @@
 //! Replies to bytes.
 ghost use Rattle.std.specs.Prelude.{◌≡◌, IfOk, string_bytes};
 ghost use Rattle.pawn_pledge.specs.Receipt.{receipt_text};
-ghost use Rattle.pawn_wire.specs.Bodies.{book_text, version_text, filled_text, opened_text};
-ghost use Rattle.pawn_wire.specs.Done.{commanded_text};
-ghost use Rattle.pawn_wire.specs.Fault.{wire_fault};
-ghost use Rattle.pawn_wire.specs.Reply.{head_text, reply_text, json_text, refused_text, fault_text, memory_text, done_text, out_text};
+ghost use Rattle.pawn_wire.specs.Http.{book_text, commanded_text, done_text, fault_text, filled_text, head_text, json_text, memory_text, opened_text, out_text, refused_text, reply_text, version_text, wire_fault};
 
 use crate::detail::Detail;
 use crate::fault::{HeadFault, WireFault};

@@ -1,10 +1,7 @@
 //! Requests from bytes.
 ghost use Rattle.std.specs.Prelude.{◌≡◌};
-ghost use Rattle.pawn_book.specs.declared.request.Caller.TheVariants.{Broker};
-ghost use Rattle.pawn_book.specs.declared.request.BrokerRequest.TheVariants.{Import};
-ghost use Rattle.pawn_wire.specs.Chain.{OrMemory, Says};
-ghost use Rattle.pawn_wire.specs.Fields.{pairs_of};
-ghost use Rattle.pawn_wire.specs.Request.{HoldsRows, IsAsked, IsOutlined, IsRequestRead, outline_by};
+ghost use Rattle.pawn_wire.specs.Common.{Broker, Import};
+ghost use Rattle.pawn_wire.specs.Http.{HoldsRows, IsAsked, IsOutlined, IsRequestRead, OrMemory, Says, outline_by, pairs_of};
 
 use crate::asking::{Asks, Sent, who_asks};
 use crate::fault::WireFault;
@@ -44,12 +41,14 @@ fn outline_by(
     let Some(place) = place_of(router, target) else {
         return Err(WireFault::NoRoute);
     };
-    if !place.endpoint.takes(method) {
+    if !place.target.takes(method) {
         return Err(WireFault::WrongMethod);
     }
-    let book = place.book;
-    let asks = who_asks(alloc, place, sent)?;
-    Ok(Outline { book, asks })
+    let asks = who_asks(alloc, place.target, sent)?;
+    Ok(Outline {
+        book: place.book,
+        asks,
+    })
 }
 
 // The rows of the book that a body holds as a text.

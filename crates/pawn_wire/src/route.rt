@@ -1,10 +1,6 @@
 //! The targets of the service, and what they ask for.
-ghost use Rattle.std.specs.Prelude.{◌≡◌, bytes_eq};
-ghost use Rattle.pawn_wire.specs.Route.{method_of};
 
-use http::Method;
-
-/// What a target asks for.
+/// What targets of one form ask for.
 #[derive(Clone, Copy, Debug, PartialEq, Eq)]
 pub enum Endpoint {
     /// To make a book.
@@ -16,7 +12,7 @@ pub enum Endpoint {
     /// To show a pledge of a book.
     Show,
     /// To command a pledge of a book.
-    OnPledge(Action),
+    OnPledge(BrokerAction),
     /// To show a day of a book.
     ShowDay,
     /// To have the rows of a book as a text.
@@ -26,27 +22,32 @@ pub enum Endpoint {
     /// To show the pledges of receipts.
     Present,
     /// To command the pledge of a receipt.
-    OnReceipt(Action),
+    OnReceipt(BearerAction),
 }
 
-/// What is commanded of a pledge.
+/// What a broker commands of a pledge.
 #[derive(Clone, Copy, Debug, PartialEq, Eq)]
-pub enum Action {
+pub enum BrokerAction {
     Draw,
     Repay,
     Hold,
     Release,
     Declare,
-    Ask,
-    Cancel,
     Decide,
-    Redeem,
     Sell,
     Extend,
 }
 
-/// The targets, each with its endpoint. A name in braces is a number or a day. An action is listed only under those who
-/// may send its command, brokers or bearers.
+/// What a bearer commands of the pledge of a receipt.
+#[derive(Clone, Copy, Debug, PartialEq, Eq)]
+pub enum BearerAction {
+    Repay,
+    Ask,
+    Cancel,
+    Redeem,
+}
+
+/// The targets, each with its endpoint. A name in braces is a number or a day.
 pub(crate) const ROUTES: [(&str, Endpoint); 20] = [
     ("/books/{b}", Endpoint::Create),
     ("/books/{b}/terms", Endpoint::PutTerms),
@@ -54,76 +55,54 @@ pub(crate) const ROUTES: [(&str, Endpoint); 20] = [
     ("/books/{b}/pledges/{n}", Endpoint::Show),
     (
         "/books/{b}/pledges/{n}/draw",
-        Endpoint::OnPledge(Action::Draw),
+        Endpoint::OnPledge(BrokerAction::Draw),
     ),
     (
         "/books/{b}/pledges/{n}/repay",
-        Endpoint::OnPledge(Action::Repay),
+        Endpoint::OnPledge(BrokerAction::Repay),
     ),
     (
         "/books/{b}/pledges/{n}/hold",
-        Endpoint::OnPledge(Action::Hold),
+        Endpoint::OnPledge(BrokerAction::Hold),
     ),
     (
         "/books/{b}/pledges/{n}/release",
-        Endpoint::OnPledge(Action::Release),
+        Endpoint::OnPledge(BrokerAction::Release),
     ),
     (
         "/books/{b}/pledges/{n}/declare",
-        Endpoint::OnPledge(Action::Declare),
+        Endpoint::OnPledge(BrokerAction::Declare),
     ),
     (
         "/books/{b}/pledges/{n}/decide",
-        Endpoint::OnPledge(Action::Decide),
+        Endpoint::OnPledge(BrokerAction::Decide),
     ),
     (
         "/books/{b}/pledges/{n}/sell",
-        Endpoint::OnPledge(Action::Sell),
+        Endpoint::OnPledge(BrokerAction::Sell),
     ),
     (
         "/books/{b}/pledges/{n}/extend",
-        Endpoint::OnPledge(Action::Extend),
+        Endpoint::OnPledge(BrokerAction::Extend),
     ),
     ("/books/{b}/days/{d}", Endpoint::ShowDay),
     ("/books/{b}/export", Endpoint::Export),
     ("/books/{b}/import", Endpoint::Import),
     ("/books/{b}/held", Endpoint::Present),
-    ("/books/{b}/held/repay", Endpoint::OnReceipt(Action::Repay)),
-    ("/books/{b}/held/ask", Endpoint::OnReceipt(Action::Ask)),
+    (
+        "/books/{b}/held/repay",
+        Endpoint::OnReceipt(BearerAction::Repay),
+    ),
+    (
+        "/books/{b}/held/ask",
+        Endpoint::OnReceipt(BearerAction::Ask),
+    ),
     (
         "/books/{b}/held/cancel",
-        Endpoint::OnReceipt(Action::Cancel),
+        Endpoint::OnReceipt(BearerAction::Cancel),
     ),
     (
         "/books/{b}/held/redeem",
-        Endpoint::OnReceipt(Action::Redeem),
+        Endpoint::OnReceipt(BearerAction::Redeem),
     ),
 ];
-
-impl Endpoint {
-    // The one method that the endpoint takes.
-    fn method(self) -> Method
-        ensures value { result ≡ method_of self }
-    {
-        match self {
-            Endpoint::Present => Method::GET,
-            Endpoint::Show => Method::GET,
-            Endpoint::ShowDay => Method::GET,
-            Endpoint::Export => Method::GET,
-            Endpoint::Create => Method::POST,
-            Endpoint::PutTerms => Method::POST,
-            Endpoint::TakePledge => Method::POST,
-            Endpoint::Import => Method::POST,
-            Endpoint::OnPledge(_) => Method::POST,
-            Endpoint::OnReceipt(_) => Method::POST,
-        }
-    }
-
-    // Whether this is the method that the endpoint takes.
-    pub(crate) fn takes(self, method: &[u8]) -> bool
-        ensures value { result ≡ bytes_eq (method_of self) method.now }
-    {
-        let own = self.method();
-        own.as_str().as_bytes() == method
-    }
-}

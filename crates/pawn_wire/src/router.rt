@@ -1,7 +1,6 @@
 //! The service's routes.
 ghost use Rattle.std.specs.Prelude.{◌≡◌, Some, None, OnOk, map, option_copied, slice_get};
-ghost use Rattle.std.specs.Str.{IsAscii};
-ghost use Rattle.matchit.specs.Params.{walk};
+ghost use Rattle.pawn_wire.specs.Common.{IsAscii, walk};
 ghost use Rattle.pawn_wire.specs.Route.{with_routes, plain};
 
 use crate::route::{Endpoint, ROUTES};

@@ -1,12 +1,17 @@
 ghost use Rattle.pawn_wire.specs.WorkedHeads.{WorkedHeads, WorkedLengths, WorkedConnections};
 ghost use Rattle.pawn_wire.specs.WorkedReplies.{WorkedReplyStatuses, WorkedRefusals, WorkedFaults, WorkedAnswers};
-ghost use Rattle.pawn_wire.specs.WorkedRequests.{WorkedTargets, WorkedNoTargets, WorkedPathNumbers, WorkedDayTexts, WorkedKeys, WorkedReceiptLists, WorkedBodies, WorkedCommands, WorkedOrder, WorkedRequests};
+ghost use Rattle.pawn_wire.specs.WorkedRequests.{WorkedLimits, WorkedTargets, WorkedNoTargets, WorkedPathNumbers, WorkedDayTexts, WorkedKeys, WorkedReceiptLists, WorkedBodies, WorkedCommands, WorkedOrder, WorkedRequests};
 
 /// Examples of heads, of their bodies' lengths, and of connections that close.
 pub fn worked_heads()
     ensures heads { WorkedHeads }
     ensures lengths { WorkedLengths }
     ensures connections { WorkedConnections }
+{}
+
+/// The limits of a request.
+pub fn worked_limits()
+    ensures limits { WorkedLimits }
 {}
 
 /// Examples of targets and what they ask for.

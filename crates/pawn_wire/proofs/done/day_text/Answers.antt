@@ -1,6 +1,5 @@
 use Rattle.std.proofs.Common.{refl}
-use Rattle.std.specs.Prelude.{Result, Ok, Err, IsOk, MatchResult}
-use Rattle.std.specs.Str.{IsAscii}
+use Rattle.pawn_wire.specs.Common.{Err, IsAscii, IsOk, MatchResult, Ok, Result}
 use Rattle.std.proofs.lemmas.Str.{IsUtf8-from_ascii}
 use Rattle.pawn_wire.proofs.DayLemmas.{day_ascii}
 use Rattle.pawn_wire.proofs.done.day_text.Goals as goal

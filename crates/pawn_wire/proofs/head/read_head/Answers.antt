@@ -1,6 +1,5 @@
 use Rattle.std.proofs.Common.{arith, ◌≡◌, ◌≤◌, ◌∙◌, ap, refl, inl, inr}
-use Rattle.pawn_wire.specs.Limits.{max_head, max_fields}
-use Rattle.pawn_wire.specs.Head.{body_length, closes_by}
+use Rattle.pawn_wire.specs.Http.{body_length, closes_by, max_fields, max_head}
 use Rattle.pawn_wire.proofs.HeadLemmas.{whole_head, told_by_fields, closed_by_fields, overflows_on, never_by_length}
 use Rattle.pawn_wire.proofs.StreamLemmas.{head_within}
 use Rattle.pawn_wire.proofs.head.read_head.Goals as goal

@@ -1,8 +1,7 @@
 use Rattle.std.proofs.Common.{◌≡◌, List, ℕ, Bool, true, false, None, refl, inr}
 use Rattle.std.specs.Prelude.{IsUtf8, if◌then◌else◌}
-use Rattle.std.specs.Str.{is_utf8}
+use Rattle.pawn_wire.specs.Common.{is_utf8, read}
 use Rattle.std.proofs.lemmas.Str.{IsUtf8-from_is_utf8, is_utf8-from_IsUtf8}
-use Rattle.serde_json.specs.Read.{read}
 use Rattle.pawn_wire.specs.Member.{json_of}
 use Rattle.pawn_wire.proofs.member.json.Goals as goal
 

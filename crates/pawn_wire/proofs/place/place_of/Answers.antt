@@ -1,7 +1,6 @@
 use Rattle.std.proofs.Common.{arith}
 use Rattle.std.specs.Str.{IsAscii}
-use Rattle.std.proofs.lemmas.Grind.{common_steps}
-use Rattle.std.proofs.lemmas.Str.{IsUtf8-from_ascii}
+use Rattle.pawn_wire.proofs.Lemmas.{IsUtf8-from_ascii, common_steps}
 use Rattle.pawn_wire.proofs.place.place_of.Goals as goal
 
 pub returns-in_default : goal.returns-in_default

@@ -1,8 +1,5 @@
 use Rattle.std.proofs.Common.{arith, ◌≤◌, refl, inr, length, ◌-◌, take, drop}
-use Rattle.pawn_wire.specs.Limits.{max_head, max_fields}
-use Rattle.pawn_wire.specs.Fields.{pairs_of}
-use Rattle.pawn_wire.specs.Request.{IsOutlined, outline_by}
-use Rattle.pawn_wire.specs.Chain.{OrMemory}
+use Rattle.pawn_wire.specs.Http.{IsOutlined, OrMemory, max_fields, max_head, outline_by, pairs_of}
 use Rattle.pawn_wire.proofs.HeadLemmas.{whole_head}
 use Rattle.pawn_wire.proofs.RequestLemmas.{is_read, said_by_spans, none_in_front, none_by_overflow}
 use Rattle.pawn_wire.proofs.request.read_request.Goals as goal

@@ -1,11 +1,8 @@
 use Rattle.std.proofs.Common.{refl}
-use Rattle.std.specs.Str.{is_utf8, chars}
+use Rattle.pawn_wire.specs.Common.{chars, civil_after, days_of_months, days_of_years, is_utf8}
 use Rattle.matchit.proofs.OnLiterals.{matchit_on_literals}
-use Rattle.pawn_wire.specs.Route.{table_rows}
-use Rattle.serde_json.proofs.OnLiterals.{serde_json_on_literals}
-use Rattle.uuid.proofs.OnLiterals.{uuid_on_literals}
-use Rattle.pawn_terms.specs.Calendar.{civil_after, days_of_years, days_of_months}
-use Rattle.pawn_wire.specs.Named.{number_said, day_said}
+use Rattle.pawn_wire.specs.Http.{day_said, number_said, table_rows}
+use Rattle.pawn_wire.proofs.Lemmas.{serde_json_on_literals, uuid_on_literals}
 use Rattle.pawn_wire.proofs.worked.worked_requests.Goals as goal
 
 pub returns-clause-requests : goal.returns-clause-requests

@@ -1,7 +1,5 @@
 use Rattle.std.proofs.Common.{◌≡◌, map, take}
-use Rattle.std.specs.List.{list_any}
-use Rattle.std.specs.Str.{str_eq_ignore_ascii_case}
-use Rattle.httparse.specs.Spans.{header_bytes}
+use Rattle.pawn_wire.specs.Common.{header_bytes, list_any, str_eq_ignore_ascii_case}
 use Rattle.pawn_wire.specs.Fields.{values_of}
 use Rattle.pawn_wire.proofs.fields.Fields.has_value.Given as goal
 
