@@ -7,8 +7,9 @@ use Rattle.sqlite.specs.declared.run.Mode.{Mode}
 use Rattle.one_table.proofs.Found.{shown_listed}
 use Rattle.one_table.proofs.Alteration as alter
 use Rattle.one_table.proofs.Returning.{row_returned}
+use Rattle.pawn_tables.proofs.OneHost.{is_limit, limit_alone}
 use Rattle.pawn_saving.proofs.OurTables.{under_same}
-use Rattle.pawn_saving.proofs.WriteTexts.{ADD_ROWS, count_tests, count_shows, count_returns, count_is, READ_LIMIT, limit_tests, limit_shows, limit_is}
+use Rattle.pawn_saving.proofs.WriteTexts.{ADD_ROWS, count_tests, count_shows, count_returns, READ_LIMIT, limit_tests, limit_shows, texts}
 use Rattle.pawn_saving.proofs.Places.{meta_place}
 
 abbrev is_rows : Row → Bool
@@ -57,7 +58,7 @@ counts by old new row listed counted limit st noted fits h =
     let db = old.now.trees in
     let t : Table = record meta { tree = meta_tree } in
     let query = over_table meta_tree count_tests count_shows [] in
-    let told = row_returned ADD_ROWS.now params old new ours st.lists.schema_is (Update 6 (record { lets = []; body = query })) count_returns (count_is more).0 (count_is more).1 (count_is more).2 row h in
+    let told = row_returned ADD_ROWS.now params old new ours st.lists.schema_is (Update 6 (record { lets = []; body = query })) count_returns (texts more).count_is.0 (texts more).count_is.1 (texts more).count_is.2 row h in
     let w = told.1.1 in
     let whole = statement_of ADD_ROWS.now (understood ours ADD_ROWS.now) in
     let does = subst (λ s. Does old.step_limit (mode_of old) params (record old.now { schema = s }) whole (Some count_returns) (Update 6 (record { lets = []; body = query })) (Ok (w.tally, new.now))) st.lists.schema_is w.changed in
@@ -100,13 +101,6 @@ count_told x n row db listed limit read is st =
 
 -- ---- the limit
 
-abbrev is_limit : Row → Bool
-is_limit v = list_all (λ (x : Bool). x) (is_true (binary (Compare Eq Binary) (column v 0) (Text (codes "limit"))) ∷ [])
-
-limit_alone : (counted limit : ℕ) → filter is_limit (meta_rows counted limit) ≡ meta_row (codes "limit") limit ∷ []
-unfolding binary value_cmp lib.Ieee.is_nan lib.Ieee.lt
-limit_alone counted limit = refl
-
 abbrev pub value_cells : Row → Row
 value_cells v = column v 1 ∷ []
 
@@ -115,7 +109,7 @@ pub limit_shown : (old new : State) (rows : List Row) (listed : Listed) (counted
 limit_shown old new rows listed counted limit noted st shown =
     let t : Table = record meta { tree = meta_tree } in
     let holds : Holds old.now.trees meta_tree t (listed meta_tree) = at_place (λ (u : Table). Holds old.now.trees u.tree u (listed u.tree)) keep_schema.tables 6 t refl st.lists.tables in
-    let same = shown_listed (with_indexes st.more) meta_tree (λ _. refl) t limit_tests limit_shows [] is_limit value_cells (λ r. refl) (λ r. refl) READ_LIMIT.now (codes "value" ∷ []) [] (limit_is st.more) old new (listed meta_tree) rows st.lists.schema_is holds shown in
+    let same = shown_listed (with_indexes st.more) meta_tree (λ _. refl) t limit_tests limit_shows [] is_limit value_cells (λ r. refl) (λ r. refl) READ_LIMIT.now (codes "value" ∷ []) [] ((texts st.more).limit_is) old new (listed meta_tree) rows st.lists.schema_is holds shown in
     let one : map value_cells (filter is_limit (listed meta_tree)) ≡ (Int (pos limit) ∷ []) ∷ [] = ap (λ rs. map value_cells (filter is_limit rs)) noted ∙ ap (map value_cells) (limit_alone counted limit) in
     one_permutation _ _ (subst (λ xs. IsPermutation xs rows) one same)
 

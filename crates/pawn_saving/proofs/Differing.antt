@@ -1,7 +1,7 @@
 -- UPDATE of one row, where a value of it is to differ: a row that has the values stays unwritten.
 use Rattle.std.proofs.Common.{◌≡◌, ℕ, ℤ, pos, List, [], ◌∷◌, map, filter, Bool, true, false, cond, not, ◌&&◌, ◌||◌, Option, Some, None, Ok, refl, sym, ap, subst, ◌∙◌, arith, IsPermutation, int_cmp}
 use Rattle.pawn_saving.specs.Common.{AllByRecursion, is_eq, Enforced, Is, Or, Not, cast_row, Binary, Update, Does, Tally, Applies, edit_of, Database, understood, binary, from_truth, is_true, unary, Row, value_cmp, overlay, Given, Executes, State, mode_of, Table, Term, Trees, rowid, Value, Int, Holds, IsNumbered, Listed, Lists, columns_of, with_rows, number, or_null}
-use Rattle.pawn_saving.proofs.Lemmas.{nat_tests, nil_from_length, IsPermutation-sym, IsPermutation-trans, length_permutation, IsPermutation-filter, filter-map, IsPlain, command_of, runs_as, statement_of, set_one, updated_part, IsPlace, same_value, went, over_table, passes, shows_of, at_place, carried, plainly}
+use Rattle.pawn_saving.proofs.Lemmas.{and_right, cond-false, nat_tests, nil_from_length, truth_of, IsPermutation-sym, IsPermutation-trans, length_permutation, IsPermutation-filter, filter-map, IsPlain, command_of, runs_as, statement_of, set_one, updated_part, IsPlace, same_value, went, over_table, passes, shows_of, at_place, carried, plainly}
 use Rattle.std.proofs.lemmas.List.Elements.{filter_agree}
 use Rattle.sqlite.specs.Schema.{Schema}
 use Rattle.sqlite_rules.specs.Calls.{ids_of}
@@ -47,12 +47,8 @@ neither true b h = absurd (let e = h in cc)
 neither false true h = (refl, refl)
 neither false false h = absurd (let e = h in cc)
 
-truth_said : (b : Bool) → is_true (from_truth (Some b)) ≡ b
-truth_said true = refl
-truth_said false = refl
-
 none_other : (a : Bool) (more : List (Value × Value)) → is_true (or_others (from_truth (Some a)) more) ≡ false → (a ≡ false) × AllByRecursion AreEqual more
-none_other a [] h = (sym (truth_said a) ∙ h, tt)
+none_other a [] h = (sym (truth_of a) ∙ h, tt)
 none_other a (p ∷ more) h =
     let rest = none_other (a || not (is_eq (value_cmp p.0 p.1))) more (sym (ap (λ v. is_true (or_others v more)) (or_next a p.0 p.1)) ∙ h) in
     let both = neither a (is_eq (value_cmp p.0 p.1)) rest.0 in
@@ -82,10 +78,6 @@ no_rows rows same = nil_from_length rows (length_permutation [] rows same)
 nothing_shown : {A B : Type 0} (f : A → B) (xs : List A) → map f xs ≡ [] → xs ≡ []
 nothing_shown f [] h = refl
 nothing_shown f (x ∷ xs) h = absurd (let e = h in cc)
-
-both_false : (a b : Bool) → b ≡ false → (a && b) ≡ false
-both_false true b h = h
-both_false false b h = refl
 
 -- of rows of which none passes one test, none passes that and another
 none_of_both : (a b : Row → Bool) (rows : List Row) → filter a rows ≡ [] → filter (λ r. a r && b r) rows ≡ []
@@ -139,7 +131,7 @@ module _ (schema : Schema) (at : ℕ) (t : Table) (there : IsPlace schema at t) 
         let rows = old.now.trees t.tree in
         let holds : Holds old.now.trees t.tree table (listed t.tree) = at_place (λ (u : Table). Holds old.now.trees u.tree u (listed u.tree)) schema.tables at table there.listed st.tables in
         let listed_so : IsPermutation (before ∷ rest) (map (columns_of table) rows) = IsPermutation-trans _ _ _ (IsPermutation-sym _ _ split) holds.same in
-        let only : filter both (before ∷ rest) ≡ [] = ap (λ c. cond c (before ∷ filter both rest) (filter both rest)) (both_false (test before) (differs before) same) ∙ none_of_both test differs rest none in
+        let only : filter both (before ∷ rest) ≡ [] = cond-false _ _ _ (and_right (test before) (differs before) same) ∙ none_of_both test differs rest none in
         let empty = no_rows _ (subst (λ xs. IsPermutation xs (filter both (map (columns_of table) rows))) only (IsPermutation-filter both _ _ listed_so)) in
         filter_agree _ _ passes_is rows ∙ nothing_shown (columns_of table) _ (sym (filter-map both (columns_of table) rows) ∙ empty)
 

@@ -4,6 +4,7 @@ use Rattle.pawn_saving.proofs.Lemmas.{IsPermutation-refl, IsPermutation-trans, s
 use Rattle.pawn_saving.specs.Common.{Database, Row, Table, Trees, Each, IsStanding, Host, rows, AreSound, HasTextsAndWords, Holds, Listed, with_rows, RiseFrom, meta_row, other_rows, ListsOurs, bookings_tree, books_tree, entries_tree, extensions_tree, meta_tree, pledges_tree, secrets_tree, terms_tree, totals_tree, AreBooksOrdered, AreStorable, HoldHost, StandsFor}
 use Rattle.pawn_terms.specs.Limits.{first_day}
 use Rattle.pawn_book.specs.Written.{AreWords}
+use Rattle.pawn_tables.proofs.SoundReads.{each_weaker}
 use Rattle.pawn_saving.proofs.OurTables.{with_tables}
 use Rattle.pawn_saving.specs.Counted.{listed_as, ListsHost}
 
@@ -36,10 +37,6 @@ as_stands db h l ordered storable = record {
   storable = storable;
 }
 
--- the same rows in another order
-other : (db : Trees) (tree : ℕ) (t : Table) (a b : List Row) → IsPermutation b a → Holds db tree t a → Holds db tree t b
-other db tree t a b same holds = record { same = IsPermutation-trans _ _ _ same holds.same; numbered = holds.numbered }
-
 -- rows that are the same but for their order, tree by tree
 pub record AreSame (a b : Listed) : Type 0 where
   pub books : IsPermutation (a books_tree) (b books_tree)
@@ -53,32 +50,26 @@ pub record AreSame (a b : Listed) : Type 0 where
   pub extensions : IsPermutation (a extensions_tree) (b extensions_tree)
 
 pub relisted : (db : Database) (a b : Listed) → AreSame a b → ListsOurs db b → ListsOurs db a
-relisted db a b same l =
-    with_tables l (
-      other db.trees books_tree _ (b 0) (a 0) same.books l.lists.tables.0,
-      (
-        other db.trees terms_tree _ (b 1) (a 1) same.terms l.lists.tables.1.0,
-        (
-          other db.trees pledges_tree _ (b 3) (a 3) same.pledges l.lists.tables.1.1.0,
-          (
-            other db.trees entries_tree _ (b 6) (a 6) same.entries l.lists.tables.1.1.1.0,
-            (
-              other db.trees secrets_tree _ (b 8) (a 8) same.secrets l.lists.tables.1.1.1.1.0,
-              (
-                other db.trees bookings_tree _ (b 11) (a 11) same.bookings l.lists.tables.1.1.1.1.1.0,
-                (
-                  other db.trees meta_tree _ (b 13) (a 13) same.meta l.lists.tables.1.1.1.1.1.1.0,
-                  (
-                    other db.trees totals_tree _ (b 15) (a 15) same.totals l.lists.tables.1.1.1.1.1.1.1.0,
-                    (other db.trees extensions_tree _ (b 17) (a 17) same.extensions l.lists.tables.1.1.1.1.1.1.1.1.0, tt),
-                  ),
-                ),
-              ),
-            ),
-          ),
-        ),
-      ),
-    )
+relisted db a b s l =
+    let t = l.lists.tables in
+    with_tables l (other s.books t.0, (other s.terms t.1.0, (other s.pledges t.1.1.0, (other s.entries t.1.1.1.0, (other s.secrets t.1.1.1.1.0, (other s.bookings t.1.1.1.1.1.0, (other s.meta t.1.1.1.1.1.1.0, (other s.totals t.1.1.1.1.1.1.1.0, (other s.extensions t.1.1.1.1.1.1.1.1.0, tt)))))))))
+  where
+    -- the same rows in another order
+    other : {trees : Trees} {tree : ℕ} {t : Table} {xs ys : List Row} → IsPermutation xs ys → Holds trees tree t ys → Holds trees tree t xs
+    other same holds = record { same = IsPermutation-trans _ _ _ same holds.same; numbered = holds.numbered }
+
+pub relisted_by : (db : Database) (a b : Listed) → ((t : ℕ) → IsPermutation (a t) (b t)) → ListsOurs db b → ListsOurs db a
+relisted_by db a b same l = relisted db a b (record {
+  books = same books_tree;
+  terms = same terms_tree;
+  pledges = same pledges_tree;
+  entries = same entries_tree;
+  secrets = same secrets_tree;
+  bookings = same bookings_tree;
+  meta = same meta_tree;
+  totals = same totals_tree;
+  extensions = same extensions_tree;
+}) l
 
 -- trees of tables that stand for a host
 pub held : (db : Database) (h : Host) → StandsFor db h → HoldHost db.trees h
@@ -86,14 +77,10 @@ held db h st = (db.schema, st)
 
 -- ---- what rows cannot tell, of a host whose books are sound
 
-each_of : {A : Type 0} (P Q : A → Type 0) → ((x : A) → P x → Q x) → (xs : List A) → Each P xs → Each Q xs
-each_of P Q f [] all = tt
-each_of P Q f (x ∷ xs) all = (f x all.0, each_of P Q f xs all.1)
-
 pub are_ordered : (h : Host) → AreSound h → AreBooksOrdered h
 are_ordered h sound b k is = let s = (sound b k is).1 in record {
   pledges = s.rows.numbered;
-  entries = each_of IsStanding (λ p. RiseFrom 0 p.entries) (λ p standing. numbered_rise 1 0 p.entries (omega arith) standing.replayable.entered.numbered) k.pledges s.rows.standing;
+  entries = each_weaker IsStanding (λ p. RiseFrom 0 p.entries) (λ p standing. numbered_rise 1 0 p.entries (omega arith) standing.replayable.entered.numbered) k.pledges s.rows.standing;
   under = s.rows.under;
 }
 
@@ -101,8 +88,8 @@ pub are_storable : (h : Host) → AreSound h → AreStorable h
 are_storable h sound b k is = let s = (sound b k is).1 in record {
   key = s.key;
   imported = s.imported;
-  secrets = each_of HasTextsAndWords (λ p. AreWords p.secrets) (λ p written. written.secrets) k.pledges s.written;
-  taken = each_of HasTextsAndWords (λ p. first_day ≤ p.agreement.taken) (λ p written. written.taken.0) k.pledges s.written;
+  secrets = each_weaker HasTextsAndWords (λ p. AreWords p.secrets) (λ p written. written.secrets) k.pledges s.written;
+  taken = each_weaker HasTextsAndWords (λ p. first_day ≤ p.agreement.taken) (λ p written. written.taken.0) k.pledges s.written;
   versions = let few = s.rows.few_terms in omega (arith, few);
 }
 

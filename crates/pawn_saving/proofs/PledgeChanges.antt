@@ -1,10 +1,10 @@
 -- What becomes of the rows of a host where a pledge is put.
 use Rattle.std.proofs.Common.{◌≡◌, ◌++◌, ◌==◌, ℕ, ◌+◌, ◌≤◌, List, [], ◌∷◌, map, filter, flat_map, length, length-append, append_assoc, Bool, true, false, Option, Some, None, refl, ap, subst, ◌∙◌, arith, IsPermutation}
 use Rattle.pawn_saving.specs.Common.{if◌then◌else◌, sum_by, entries, get, Row, Text, PledgeValue, BookValue, changed_book, pledge_from, pledge_in, put_from, with_change, Host, book_rows, pledge_rows, rows, with_book, AreNumberedFrom, AreSound, PutPledge, at_book, at_pledge, book_row, import_count, import_key, number, or_null, terms_listed, word, AreBooksOrdered, of_books, of_pledges}
-use Rattle.pawn_saving.proofs.Lemmas.{nat_tests, IsPermutation-append, IsPermutation-append_comm, IsPermutation-cons, IsPermutation-map, IsPermutation-refl, IsPermutation-sym, IsPermutation-trans, length_permutation, sum_by-cons, IsPermutation-filter, IsPermutation-flat_map, IsPermutation-same, part, rows-with_book, get-with_book, swapped, number_in, AreUnder, all_under, filter-append, of_one_pledge, rows_at}
+use Rattle.pawn_saving.proofs.Lemmas.{nat_tests, nil_from_length, IsPermutation-append, IsPermutation-cons, IsPermutation-map, IsPermutation-refl, IsPermutation-sym, IsPermutation-trans, length_permutation, sum_by-cons, IsPermutation-filter, IsPermutation-flat_map, IsPermutation-same, part, rows-with_book, get-with_book, swapped, number_in, AreUnder, all_under, filter-append, of_one_pledge, rows_at}
 use Rattle.pawn_saving.specs.Saving.{listed_as, IsOnly}
-use Rattle.pawn_saving.proofs.BookChanges.{books_only}
-use Rattle.pawn_saving.proofs.Changing.{replaced}
+use Rattle.pawn_saving.proofs.BookChanges.{books_after, found_after, only_book, other_books, rows_after, rows_before, rows_beside}
+use Rattle.pawn_saving.proofs.Changing.{more_joined}
 
 -- ---- the pledges of a book
 
@@ -66,10 +66,6 @@ module _ (n : ℕ) (p : PledgeValue) where
 append_same : (xs ys zs : List Row) → IsPermutation xs ys → IsPermutation (xs ++ zs) (ys ++ zs)
 append_same xs ys zs same = IsPermutation-append xs ys zs zs same (IsPermutation-refl zs)
 
-no_rows : (xs : List Row) → length xs ≡ 0 → xs ≡ []
-no_rows [] h = refl
-no_rows (x ∷ xs) h = absurd (omega (arith, h))
-
 module _ (h : Host) (b n : ℕ) (k : BookValue) (p : PledgeValue) (is : get h.books b ≡ Some k) where
   abbrev pub stood : Option PledgeValue
   stood = pledge_from 1 k.pledges n
@@ -85,25 +81,21 @@ module _ (h : Host) (b n : ℕ) (k : BookValue) (p : PledgeValue) (is : get h.bo
 
   -- the rows of the others
   abbrev pub rest : (ℕ → PledgeValue → List Row) → List Row
-  rest f = flat_map (f b) (put_split n p 1 k.pledges).0 ++ flat_map (λ (e : ℕ × BookValue). flat_map (f e.0) e.1.pledges) (replaced h.books b k is).0
+  rest f = flat_map (f b) (put_split n p 1 k.pledges).0 ++ rows_beside h b k is (λ c x. flat_map (f c) x.pledges)
 
   pub before_put : (f : ℕ → PledgeValue → List Row) → IsPermutation (of_pledges h f) (rows_at stood (f b) ++ rest f)
   before_put f =
-      let each = λ (e : ℕ × BookValue). flat_map (f e.0) e.1.pledges in
-      let outer = replaced h.books b k is in
       let inner = put_split n p 1 k.pledges in
-      let more = flat_map each outer.0 in
-      IsPermutation-trans _ _ _ (IsPermutation-flat_map each _ _ outer.1)
+      let more = rows_beside h b k is (λ c x. flat_map (f c) x.pledges) in
+      IsPermutation-trans _ _ _ (rows_before h b k is (λ c x. flat_map (f c) x.pledges))
       (IsPermutation-trans _ _ _ (append_same _ _ more (IsPermutation-trans _ _ _ (IsPermutation-flat_map (f b) _ _ inner.1) (IsPermutation-same _ _ (flat_those (f b) stood inner.0))))
       (IsPermutation-same _ _ (append_assoc (rows_at stood (f b)) (flat_map (f b) inner.0) more)))
 
   pub after_put : (f : ℕ → PledgeValue → List Row) → IsPermutation (of_pledges changed f) (f b p ++ rest f)
   after_put f =
-      let each = λ (e : ℕ × BookValue). flat_map (f e.0) e.1.pledges in
-      let outer = replaced h.books b k is in
       let inner = put_split n p 1 k.pledges in
-      let more = flat_map each outer.0 in
-      IsPermutation-trans _ _ _ (IsPermutation-flat_map each _ _ (outer.2 next))
+      let more = rows_beside h b k is (λ c x. flat_map (f c) x.pledges) in
+      IsPermutation-trans _ _ _ (rows_after h b k is next (λ c x. flat_map (f c) x.pledges))
       (IsPermutation-trans _ _ _ (append_same _ _ more (IsPermutation-flat_map (f b) _ _ inner.2)) (IsPermutation-same _ _ (append_assoc (f b p) (flat_map (f b) inner.0) more)))
 
   own_rows : (f : ℕ → PledgeValue → List Row) → AreBooksOrdered h → ((m : ℕ) (q : PledgeValue) → AreUnder m q.agreement.number (f m q)) → (o : Option PledgeValue) → stood ≡ o → filter (at_pledge b n) (rows_at o (f b)) ≡ rows_at o (f b)
@@ -119,46 +111,21 @@ module _ (h : Host) (b n : ℕ) (k : BookValue) (p : PledgeValue) (is : get h.bo
       let left : length (filter (at_pledge b n) (of_pledges h f)) ≡ length (rows_at stood (f b)) = ap length mine in
       let right : length (filter (at_pledge b n) (rows_at stood (f b) ++ rest f)) ≡ length (rows_at stood (f b)) + length (filter (at_pledge b n) (rest f)) =
       ap length (filter-append (at_pledge b n) (rows_at stood (f b)) (rest f) ∙ ap (λ l. l ++ filter (at_pledge b n) (rest f)) own) ∙ length-append (rows_at stood (f b)) (filter (at_pledge b n) (rest f)) in
-      no_rows (filter (at_pledge b n) (rest f)) (omega (arith, len, left, right))
+      nil_from_length (filter (at_pledge b n) (rest f)) (omega (arith, len, left, right))
 
   -- the rows of a pledge that joins the book
   pub rows_joined : (f : ℕ → PledgeValue → List Row) → stood ≡ None → IsPermutation (of_pledges changed f) (f b p ++ of_pledges h f)
-  rows_joined f none =
-      let before : IsPermutation (of_pledges h f) (rest f) = subst (λ o. IsPermutation (of_pledges h f) (rows_at o (f b) ++ rest f)) none (before_put f) in
-      IsPermutation-trans _ _ _ (after_put f) (IsPermutation-append (f b p) (f b p) _ _ (IsPermutation-refl _) (IsPermutation-sym _ _ before))
+  rows_joined f none = more_joined [] (f b p) (f b p) (rest f) _ _ (subst (λ o. IsPermutation (of_pledges h f) (rows_at o (f b) ++ rest f)) none (before_put f)) (after_put f) refl
 
   -- the rows of one that stands, where rows joined its own
   pub rows_grown : (f : ℕ → PledgeValue → List Row) (old : PledgeValue) (more : List Row) → stood ≡ Some old → f b p ≡ f b old ++ more → IsPermutation (of_pledges changed f) (more ++ of_pledges h f)
-  rows_grown f old more some grown =
-      let before : IsPermutation (of_pledges h f) (f b old ++ rest f) = subst (λ o. IsPermutation (of_pledges h f) (rows_at o (f b) ++ rest f)) some (before_put f) in
-      IsPermutation-trans _ _ _ (after_put f)
-      (IsPermutation-trans _ _ _ (IsPermutation-same _ _ (ap (λ l. l ++ rest f) grown))
-      (IsPermutation-trans _ _ _ (append_same _ _ (rest f) (IsPermutation-append_comm (f b old) more))
-      (IsPermutation-trans _ _ _ (IsPermutation-same _ _ (append_assoc more (f b old) (rest f)))
-      (IsPermutation-append more more _ _ (IsPermutation-refl _) (IsPermutation-sym _ _ before)))))
-
-  -- ---- the book's own row, and its terms
-
-  abbrev pub other_books : List Row
-  other_books = map (λ (e : ℕ × BookValue). book_row e.0 e.1) (replaced h.books b k is).0
-
-  pub only_book : (counted : ℕ) → IsOnly (at_book b) (listed_as h counted 0) (book_row b k) other_books
-  only_book counted = books_only h b k (replaced h.books b k is).0 is (replaced h.books b k is).1
-
-  pub books_after : IsPermutation (map (λ (e : ℕ × BookValue). book_row e.0 e.1) (entries changed.books)) (book_row b next ∷ other_books)
-  books_after = IsPermutation-map (λ (e : ℕ × BookValue). book_row e.0 e.1) _ _ ((replaced h.books b k is).2 next)
+  rows_grown f old more some is_grown = more_joined (f b old) (f b p) more (rest f) _ _ (subst (λ o. IsPermutation (of_pledges h f) (rows_at o (f b) ++ rest f)) some (before_put f)) (after_put f) is_grown
 
   -- as many pledges stand as before
   pub books_stay : length next.pledges ≡ length k.pledges → IsPermutation (map (λ (e : ℕ × BookValue). book_row e.0 e.1) (entries changed.books)) (map (λ (e : ℕ × BookValue). book_row e.0 e.1) (entries h.books))
   books_stay as_many =
-      let before = IsPermutation-map (λ (e : ℕ × BookValue). book_row e.0 e.1) _ _ (replaced h.books b k is).1 in
       let same : book_row b next ≡ book_row b k = ap (λ m. number b ∷ word k.key ∷ Text k.name ∷ number k.capacity ∷ number (length k.terms) ∷ number m ∷ or_null word (import_key k.imported) ∷ or_null number (import_count k.imported) ∷ []) as_many in
-      IsPermutation-trans _ _ _ books_after (IsPermutation-trans _ _ _ (IsPermutation-same _ _ (ap (λ r. r ∷ other_books) same)) (IsPermutation-sym _ _ before))
-
-  pub terms_stay : IsPermutation (of_books changed terms_listed) (of_books h terms_listed)
-  terms_stay =
-      let each = λ (e : ℕ × BookValue). terms_listed e.0 e.1 in
-      IsPermutation-trans _ _ _ (IsPermutation-flat_map each _ _ ((replaced h.books b k is).2 next)) (IsPermutation-sym _ _ (IsPermutation-flat_map each _ _ (replaced h.books b k is).1))
+      IsPermutation-trans _ _ _ (subst (λ r. IsPermutation (map (λ (e : ℕ × BookValue). book_row e.0 e.1) (entries changed.books)) (r ∷ other_books h b k is)) same (books_after h b k is next)) (IsPermutation-sym _ _ (only_book h b k is 0).split)
 
   -- ---- how many rows are counted
 
@@ -171,7 +138,4 @@ module _ (h : Host) (b n : ℕ) (k : BookValue) (p : PledgeValue) (is : get h.bo
 
   -- a sound host has numbered pledges
   pub put_named : AreSound changed → n ≤ 1 + length k.pledges → 1 ≤ n → p.agreement.number ≡ n
-  put_named sound high low =
-      let here : (b == b) ≡ true = grind (arith, nat_tests) in
-      let found : get changed.books b ≡ Some next = get-with_book h b next b ∙ ap (λ v. if v then Some next else get h.books b) here in
-      put_numbered n p 1 k.pledges high low (sound b next found).1.rows.numbered
+  put_named sound high low = put_numbered n p 1 k.pledges high low (sound b next (found_after h b k is next)).1.rows.numbered

@@ -1,7 +1,7 @@
 -- What the parts of a pledge's put write, one after another.
 use Rattle.std.proofs.Common.{◌≡◌, ◌++◌, ◌∷◌, ℕ, List, Option, Some, None, IsPermutation, refl, sym, subst, ◌∙◌}
 use Rattle.pawn_saving.specs.Common.{option_map, Database, Row, PledgeValue, Listed, with_rows, ListsOurs, at_most_one, bookings_tree, entries_tree, extensions_tree, pledges_tree, secrets_tree, totals_tree}
-use Rattle.std.proofs.lemmas.List.Sorted.{IsPermutation-sym}
+use Rattle.pawn_saving.proofs.Lemmas.{IsPermutation-sym, one_mapped}
 use Rattle.pawn_saving.specs.Saving.{beside, booking_under, entries_past, extensions_past, lists_past, row_under, secrets_past, sides_of, totals_under, whole_pledge, with_sides, Lengths}
 use Rattle.pawn_saving.proofs.OurTables.{with_tables}
 use Rattle.pawn_saving.proofs.RowsInOrder.{nothing_put, reordered}
@@ -29,13 +29,9 @@ module _ (db : Database) (listed : Listed) (b n : ℕ) (p : PledgeValue) where
 
 -- ---- bookings
 
-one_mapped : {A : Type 0} (f : A → Row) (o : Option A) → at_most_one f o ≡ at_most_one (λ r. r) (option_map f o)
-one_mapped f None = refl
-one_mapped f (Some x) = refl
-
 -- the rows before a booking is put, as its statement tells them
 pub stood_before : {A : Type 0} (f : A → Row) (o : Option A) (rows others : List Row) → IsPermutation rows (at_most_one f o ++ others) → IsPermutation rows (at_most_one (λ r. r) (option_map f o) ++ others)
-stood_before f o rows others same = subst (λ l. IsPermutation rows (l ++ others)) (one_mapped f o) same
+stood_before f o rows others same = subst (λ l. IsPermutation rows (l ++ others)) (one_mapped f (λ r. r) o) same
 
 pub now_stands : {A : Type 0} (f : A → Row) (db : Database) (listed : Listed) (others : List Row) (o : Option A) (x : A) → o ≡ Some x → ListsOurs db (with_rows listed bookings_tree (f x ∷ others)) → ListsOurs db (with_rows listed bookings_tree (at_most_one f o ++ others))
 now_stands f db listed others o x is l = subst (λ p. ListsOurs db (with_rows listed bookings_tree (at_most_one f p ++ others))) (sym is) l

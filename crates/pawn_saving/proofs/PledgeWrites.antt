@@ -1,24 +1,26 @@
 -- What is written where a pledge is put: the rows of the changed host.
 use Rattle.std.proofs.Common.{◌≡◌, ◌⊎◌, inl, inr, ◌++◌, ◌==◌, ℕ, ◌+◌, ◌≤◌, List, [], ◌∷◌, map, drop, length, filter, IsPermutation, Some, None, refl, sym, ap, subst, ◌∙◌, arith}
-use Rattle.pawn_saving.specs.Common.{if◌then◌else◌, get, Database, Row, Entry, Grows, PledgeValue, Agreement, Extension, Issued, BookValue, pledge_from, pledge_in, Continues, with_change, Host, pledge_rows, rows, AreSound, PutPledge, Listed, with_rows, at_pledge, ListsOurs, book_row, booking_listed, entries_listed, entry_cells, extension_cells, extensions_listed, placed_from, pledge_listed, secret_cells, secrets_listed, totals_listed, under, bookings_tree, pledges_tree, AreBooksOrdered, of_pledges}
+use Rattle.pawn_saving.specs.Common.{if◌then◌else◌, get, Database, Row, Entry, Grows, PledgeValue, Agreement, Extension, Issued, BookValue, pledge_from, pledge_in, Continues, with_change, Host, pledge_rows, rows, AreSound, PutPledge, Listed, with_rows, at_pledge, ListsOurs, book_row, booking_listed, entries_listed, entry_cells, extension_cells, extensions_listed, placed_from, pledge_listed, secret_cells, secrets_listed, terms_listed, totals_listed, under, bookings_tree, pledges_tree, AreBooksOrdered, of_pledges}
 use Rattle.std.proofs.Math.Seq.{drop-append_seam}
-use Rattle.pawn_saving.proofs.Lemmas.{IsPermutation-refl, part, number_in, under_booked, rows_at}
+use Rattle.pawn_saving.proofs.Lemmas.{IsPermutation-refl, map-append, part, number_in, of_one_pledge, under_booked, rows_at}
 use Rattle.pawn_book.proofs.Places.{pledge_within}
 use Rattle.pawn_saving.specs.Saving.{IsWrittenPart, ListsHost, listed_as, AreSidesPut, beside, booking_under, entries_past, extensions_past, lists_past, row_under, secrets_past, totals_under, whole_pledge, with_sides, Lengths}
 use Rattle.pawn_saving.proofs.Hosting.{AreSame, relisted}
-use Rattle.pawn_saving.proofs.PledgeChanges.{after_put, before_put, books_after, books_stay, changed, is_changed, next, none_rest, other_books, put_length, put_named, rest, rows_grown, rows_joined, rows_put, stood, terms_stay}
+use Rattle.pawn_saving.proofs.BookChanges.{books_after, other_books, rows_stay}
+use Rattle.pawn_saving.proofs.PledgeChanges.{after_put, before_put, books_stay, changed, is_changed, next, none_rest, put_length, put_named, rest, rows_grown, rows_joined, rows_put, stood}
+use Rattle.pawn_saving.proofs.RowsInOrder.{placed_parts}
 
 module _ (h : Host) (b n : ℕ) (k : BookValue) (p : PledgeValue) (is : get h.books b ≡ Some k) where
   -- no booking of a pledge stands that doesn't
   pub none_booked : AreBooksOrdered h → stood h b n k p is ≡ None → filter (at_pledge b n) (of_pledges h booking_listed) ≡ []
-  none_booked ordered none = Rattle.pawn_tables.proofs.RowsUnderKey.of_one_pledge h b n booking_listed ordered (λ m q. under_booked m q.agreement.number q.standing.booking) ∙ ap (λ o. rows_at (pledge_in o n) (booking_listed b)) is ∙ ap (λ o. rows_at o (booking_listed b)) none
+  none_booked ordered none = of_one_pledge h b n booking_listed ordered (λ m q. under_booked m q.agreement.number q.standing.booking) ∙ ap (λ o. rows_at (pledge_in o n) (booking_listed b)) is ∙ ap (λ o. rows_at o (booking_listed b)) none
 
   -- a new pledge
   module _ (counted : ℕ) (none : stood h b n k p is ≡ None) where
-    joined_same : p.agreement.number ≡ n → AreSame (listed_as (changed h b n k p is) counted) (with_rows (beside (whole_pledge b p.agreement.number p) (listed_as h counted)) 0 (book_row b (next h b n k p is) ∷ other_books h b n k p is))
+    joined_same : p.agreement.number ≡ n → AreSame (listed_as (changed h b n k p is) counted) (with_rows (beside (whole_pledge b p.agreement.number p) (listed_as h counted)) 0 (book_row b (next h b n k p is) ∷ other_books h b k is))
     joined_same named = record {
-      books = books_after h b n k p is;
-      terms = terms_stay h b n k p is;
+      books = books_after h b k is (next h b n k p is);
+      terms = rows_stay h b k is (next h b n k p is) terms_listed refl;
       pledges = rows_joined h b n k p is pledge_listed none;
       entries = rows_joined h b n k p is entries_listed none;
       secrets = rows_joined h b n k p is secrets_listed none;
@@ -29,12 +31,12 @@ module _ (h : Host) (b n : ℕ) (k : BookValue) (p : PledgeValue) (is : get h.bo
     }
 
     pub next_written : (db : Database) → counted ≡ rows h → AreSound (with_change h (PutPledge b n p)) → n ≤ 1 + length k.pledges → 1 ≤ n
-        → ListsOurs db (with_rows (beside (whole_pledge b n p) (listed_as h counted)) 0 (book_row b (next h b n k p is) ∷ other_books h b n k p is)) → IsWrittenPart h (with_change h (PutPledge b n p)) db (pledge_rows p)
+        → ListsOurs db (with_rows (beside (whole_pledge b n p) (listed_as h counted)) 0 (book_row b (next h b n k p is) ∷ other_books h b k is)) → IsWrittenPart h (with_change h (PutPledge b n p)) db (pledge_rows p)
     next_written db same sound high low l =
         let g = changed h b n k p is in
         let sounds : AreSound g = subst AreSound (is_changed h b n k p is) sound in
         let named = put_named h b n k p is sounds high low in
-        let lists = subst (λ m. ListsOurs db (with_rows (beside (whole_pledge b m p) (listed_as h counted)) 0 (book_row b (next h b n k p is) ∷ other_books h b n k p is))) (sym named) l in
+        let lists = subst (λ m. ListsOurs db (with_rows (beside (whole_pledge b m p) (listed_as h counted)) 0 (book_row b (next h b n k p is) ∷ other_books h b k is))) (sym named) l in
         subst (λ x. IsWrittenPart h x db (pledge_rows p)) (sym (is_changed h b n k p is)) (record {
           lists = subst (ListsHost db g) same (relisted db _ _ (joined_same named) lists);
           grown = let sums = rows_put h b n k p is in let before : part pledge_rows (stood h b n k p is) ≡ 0 = ap (part pledge_rows) none in omega (arith, sums, before);
@@ -55,19 +57,11 @@ continues_it k n old p some (inr stands) = let same : stands.0 ≡ old = (let e 
 whole_of : {A : Type 0} (xs old more : List A) → xs ≡ old ++ more → xs ≡ old ++ drop (length old) xs
 whole_of xs old more is = is ∙ ap (λ l. old ++ l) (sym (ap (drop (length old)) is ∙ drop-append_seam old more))
 
-map_parts : {A : Type 0} (f : A → Row) (xs ys : List A) → map f (xs ++ ys) ≡ map f xs ++ map f ys
-map_parts f [] ys = refl
-map_parts f (x ∷ xs) ys = ap (λ l. f x ∷ l) (map_parts f xs ys)
-
-placed_parts : {A : Type 0} (f : ℕ → A → Row) (at next : ℕ) (xs ys : List A) → next ≡ at + length xs → placed_from f at (xs ++ ys) ≡ placed_from f at xs ++ placed_from f next ys
-placed_parts f at next [] ys is = let same : at ≡ next = omega (arith, is) in ap (λ n. placed_from f n ys) same
-placed_parts f at next (x ∷ xs) ys is = ap (λ l. f at x ∷ l) (placed_parts f (at + 1) next xs ys (omega (arith, is)))
-
 module _ (b : ℕ) (old p : PledgeValue) (l : Lengths) (same : p.agreement.number ≡ old.agreement.number) (lists : Grows old p) where
   entries_are : l.entries ≡ length old.entries → entries_listed b p ≡ entries_listed b old ++ entries_past l.entries b p.agreement.number p
   entries_are is =
       ap (map (λ e. under b p.agreement.number (entry_cells e))) (whole_of p.entries old.entries lists.entries.0 lists.entries.1)
-      ∙ map_parts (λ (e : Entry). under b p.agreement.number (entry_cells e)) old.entries (drop (length old.entries) p.entries)
+      ∙ map-append (λ (e : Entry). under b p.agreement.number (entry_cells e)) old.entries (drop (length old.entries) p.entries)
       ∙ (λ i. map (λ (e : Entry). under b (same i) (entry_cells e)) old.entries ++ entries_past (sym is i) b p.agreement.number p)
 
   secrets_are : l.secrets ≡ length old.secrets → secrets_listed b p ≡ secrets_listed b old ++ secrets_past l.secrets b p.agreement.number p
@@ -120,7 +114,7 @@ module _ (h : Host) (b n : ℕ) (k : BookValue) (old p : PledgeValue) (is : get 
       renewed_same : AreSame (listed_as (changed h b n k p is) counted) (beside (lists_past l b p.agreement.number p) (with_sides b p.agreement.number p others (listed_as h counted)))
       renewed_same = record {
         books = books_stay h b n k p is as_many;
-        terms = terms_stay h b n k p is;
+        terms = rows_stay h b k is (next h b n k p is) terms_listed refl;
         pledges = after_put h b n k p is pledge_listed;
         entries = rows_grown h b n k p is entries_listed old _ some (entries_are b old p l as_before it.lists entries_so);
         secrets = rows_grown h b n k p is secrets_listed old _ some (secrets_are b old p l as_before it.lists secrets_so);

@@ -1,6 +1,8 @@
 -- A change is saved: a transaction that is lent and goes well, and a commit.
-use Rattle.std.proofs.Common.{◌≡◌, ◌≢◌, ◌⊎◌, inl, inr, ◌≤◌, ◌<◌, true, false, Result, Ok, Err, IsTrue, refl, sym, ap, subst, ◌∙◌, arith}
+use Rattle.std.proofs.Common.{◌≡◌, ◌≢◌, ◌⊎◌, inl, inr, ◌≤◌, ◌<◌, Bool, true, false, Result, Ok, Err, IsTrue, refl, sym, ap, subst, ◌∙◌, arith}
 use Rattle.pawn_saving.specs.Common.{Database, HasCleanDisk, IsRolledBack, Shows, State, Survives, Trees, CanSave, with_change, Host, rows, GoesOn, IsFitting, IsLeftBy, OfHost, Saves, IsSound, Change, SaveError, IsLent, HoldSound, IsWhole, Keeps, Leaves, keeping_by, HoldHost, StandsFor}
+use Rattle.one_table.specs.Common.{Held, state as state_of}
+use Rattle.sqlite_trees.specs.declared.store.Store.{Ghosts}
 use Rattle.sqlite.specs.Steps.{FailsToCommit}
 use Rattle.sqlite.specs.declared.error.Error.{Error}
 use Rattle.pawn_book.specs.declared.fault.SaveError.TheVariants as Save
@@ -34,23 +36,44 @@ pub record IsBegun (a begun : State) : Type 0 where
   pub clean : HasCleanDisk begun → HasCleanDisk a
   pub left : (trees : _) → begun.may_leave trees → a.may_leave trees
 
+pub begins : {S : Type 0} (g : Ghosts S) (old begun : Held S) → begun ≡ record old { in_transaction = true } → old.in_transaction ≡ false → (IsTrue (state_of g old).is_open → (state_of g old).now ≡ (state_of g old).committed) → IsBegun (state_of g old) (state_of g begun)
+begins g old begun is ended settled =
+    subst (λ b. IsBegun (state_of g old) (state_of g b)) (sym is) (record { ended = ended; settled = settled; was_open = λ now. now; now = refl; committed = refl; within = refl; clean = λ clean. clean; left = λ trees left. left })
+
 module _ {K : Type 0} (state : K → State) (old new : K) (begun lent : State) (change : Change) (was : IsBegun (state old) begun)
     (can : IsTrue (state old).is_open → OfHost (keeping_by state) old old (λ h. CanSave h change)) where
   may : HasCleanDisk begun → (h : Host) → IsSound h → Keeps (state old) h → IsTrue begun.is_open → CanSave h change × StandsFor begun.now h
   may clean h sound k now = (can (was.was_open now) (was.clean clean) h sound k, subst (λ d. StandsFor d h) (sym was.now) (k.stands (was.was_open now)))
 
-  module _ (T : Type 0) (done : T) (one : StandForOne) (part : IsLent begun lent true) (wrote : WritesChange {T = T} begun lent change (Ok done)) (ended : (state new).in_transaction ≡ false) (after : Survives lent (state new) (λ db. db ≡ lent.now.trees)) where
-    clean_past : HasCleanDisk (state new) → HasCleanDisk lent
-    clean_past clean = let up = after.clean in omega (arith, clean, up)
+  -- what a transaction leaves that was lent and then rolled back
+  module _ (ok : Bool) (part : IsLent begun lent ok) (past : HasCleanDisk (state new) → HasCleanDisk lent) (rolled : HasCleanDisk (state new) → IsRolledBack lent (state new)) (ended : HasCleanDisk (state new) → (state new).in_transaction ≡ false) where
+    back_opened : HasCleanDisk (state new) → IsTrue (state new).is_open → IsTrue (state old).is_open
+    back_opened clean now = rests_open (state old) begun lent (state new) was.was_open was.committed (part.kept (past clean) was.within) (rolled clean) now
 
+    keeps_back : HasCleanDisk (state new) → (h : Host) → Keeps (state old) h → Keeps (state new) h
+    keeps_back clean h k = record {
+      autocommit = ended clean;
+      committed = λ now. ((rolled clean).undone now).0 ∙ sym ((rolled clean).undone now).1;
+      stands = λ now. subst (λ d. StandsFor d h) (sym (as_it_was now)) (k.stands (back_opened clean now));
+    }
+      where
+        as_it_was : IsTrue (state new).is_open → (state new).now ≡ (state old).now
+        as_it_was now =
+            let u = rolled clean in
+            (u.undone now).0 ∙ sym (u.undone now).1 ∙ committed_rests (state old) begun lent (state new) was.was_open was.committed (part.kept (past clean) was.within) u now ∙ sym (was.settled (back_opened clean now))
+
+  clean_past : {P : Trees → Type 0} → Survives lent (state new) P → HasCleanDisk (state new) → HasCleanDisk lent
+  clean_past after clean = let up = after.clean in omega (arith, clean, up)
+
+  module _ (T : Type 0) (done : T) (one : StandForOne) (part : IsLent begun lent true) (wrote : WritesChange {T = T} begun lent change (Ok done)) (ended : (state new).in_transaction ≡ false) (after : Survives lent (state new) (λ db. db ≡ lent.now.trees)) where
     clean_first : HasCleanDisk (state new) → HasCleanDisk begun
-    clean_first clean = clean_before begun lent true part (clean_past clean)
+    clean_first clean = clean_before begun lent true part (clean_past after clean)
 
     was_served : HasCleanDisk (state new) → IsTrue (state old).is_open
-    was_served clean = was.was_open (part.opened (clean_past clean) was.within refl)
+    was_served clean = was.was_open (part.opened (clean_past after clean) was.within refl)
 
     written : HasCleanDisk (state new) → (h : Host) → IsSound h → Keeps (state old) h → StandsFor lent.now (with_change h change) × (rows (with_change h change) ≤ h.limit)
-    written clean h sound k = wrote (clean_past clean) was.within h sound (may (clean_first clean) h sound k)
+    written clean h sound k = wrote (clean_past after clean) was.within h sound (may (clean_first clean) h sound k)
 
     on_past : (HasCleanDisk (state new) → IsWhole (state old) → IsWhole (state new)) → GoesOn (keeping_by state) old new
     on_past whole = record { past = λ clean. was.clean (clean_first clean); served = λ clean now. was_served clean; stays = λ steady. steady; whole = whole }
@@ -104,73 +127,47 @@ module _ {K : Type 0} (state : K → State) (old new : K) (begun lent : State) (
         where
           go : FailsToCommit lent (state new) error → IsRolledBack lent (state new)
           go (inl f) = f.3
-          go (inr f) = absurd (let yes' = part.inside (clean_past clean) was.within refl in let no' = f.1 in cc)
+          go (inr f) = absurd (let yes' = part.inside (clean_past after clean) was.within refl in let no' = f.1 in cc)
 
-      back_open : HasCleanDisk (state new) → IsTrue (state new).is_open → (state new).now ≡ (state old).now
-      back_open clean now =
-          let u = rolled clean in
-          (u.undone now).0 ∙ sym (u.undone now).1 ∙ committed_rests (state old) begun lent (state new) was.was_open was.committed (part.kept (clean_past clean) was.within) u now
-          ∙ sym (was.settled (was_served clean))
+      back : HasCleanDisk (state new) → (h : Host) → Keeps (state old) h → Keeps (state new) h
+      back = keeps_back true part (clean_past after) rolled (λ clean. ended)
 
       pub saves_refused : Saves {T = T} (keeping_by state) old new change (Err e)
       saves_refused = record {
         on = on_past (λ clean w. record {
           host = w.host;
           sound = w.sound;
-          keeps = keeps_back clean w.host w.keeps;
+          keeps = back clean w.host w.keeps;
           crash = λ trees left. whole clean w trees (after.crash clean trees left);
         });
         ok = tt;
         full = λ same. absurd (other (let s = same in cc));
-        err = λ clean h sound k. keeps_back clean h k;
+        err = λ clean h sound k. back clean h k;
         crash = λ clean h sound k left l. left_fitting T h change (Leaves (state old)) e left other (go clean h sound k left l (after.crash clean l.trees l.left));
         never = λ steady. absurd steady;
       }
         where
-          keeps_back : HasCleanDisk (state new) → (h : Host) → Keeps (state old) h → Keeps (state new) h
-          keeps_back clean h k = record {
-            autocommit = ended;
-            committed = λ now. ((rolled clean).undone now).0 ∙ sym ((rolled clean).undone now).1;
-            stands = λ now. subst (λ d. StandsFor d h) (sym (back_open clean now)) (k.stands (was_served clean));
-          }
-
           whole : HasCleanDisk (state new) → (w : IsWhole (state old)) → (trees : Trees) → lent.may_leave trees ⊎ (trees ≡ lent.now.trees) → HoldSound trees
-          whole clean w trees (inl before) = w.crash trees (was.left trees (no_more (part.survives.crash (clean_past clean) trees before)))
+          whole clean w trees (inl before) = w.crash trees (was.left trees (no_more (part.survives.crash (clean_past after clean) trees before)))
           whole clean w trees (inr made) = written_held clean w.host w.sound w.keeps trees made
 
           go : HasCleanDisk (state new) → (h : Host) → IsSound h → Keeps (state old) h → (left : Host) (l : Leaves (state new) left) → lent.may_leave l.trees ⊎ (l.trees ≡ lent.now.trees)
               → Leaves (state old) left ⊎ IsFitting h change left
-          go clean h sound k left l (inl before) = inl (record { trees = l.trees; left = was.left l.trees (no_more (part.survives.crash (clean_past clean) l.trees before)); stands = l.stands })
+          go clean h sound k left l (inl before) = inl (record { trees = l.trees; left = was.left l.trees (no_more (part.survives.crash (clean_past after clean) l.trees before)); stands = l.stands })
           go clean h sound k left l (inr made) =
               let w = written clean h sound k in
               inr (one_left lent.now left (with_change h change) l.trees made l.stands w.0, w.1)
 
   -- what was written is rolled back
   module _ (T : Type 0) (e : SaveError) (part : IsLent begun lent false) (wrote : WritesChange {T = T} begun lent change (Err e)) (undone : HasCleanDisk (state new) → IsRolledBack lent (state new)) (after : Survives lent (state new) (λ _. ⊥)) where
-    clean_lent : HasCleanDisk (state new) → HasCleanDisk lent
-    clean_lent clean = let up = after.clean in omega (arith, clean, up)
-
     clean_begun : HasCleanDisk (state new) → HasCleanDisk begun
-    clean_begun clean = clean_before begun lent false part (clean_lent clean)
+    clean_begun clean = clean_before begun lent false part (clean_past after clean)
 
-    opened : HasCleanDisk (state new) → IsTrue (state new).is_open → IsTrue (state old).is_open
-    opened clean now = rests_open (state old) begun lent (state new) was.was_open was.committed (part.kept (clean_lent clean) was.within) (undone clean) now
-
-    as_it_was : HasCleanDisk (state new) → IsTrue (state new).is_open → (state new).now ≡ (state old).now
-    as_it_was clean now =
-        let u = undone clean in
-        (u.undone now).0 ∙ sym (u.undone now).1 ∙ committed_rests (state old) begun lent (state new) was.was_open was.committed (part.kept (clean_lent clean) was.within) u now
-        ∙ sym (was.settled (opened clean now))
-
-    keeps_same : HasCleanDisk (state new) → (h : Host) → Keeps (state old) h → Keeps (state new) h
-    keeps_same clean h k = record {
-      autocommit = (undone clean).autocommit;
-      committed = λ now. ((undone clean).undone now).0 ∙ sym ((undone clean).undone now).1;
-      stands = λ now. subst (λ d. StandsFor d h) (sym (as_it_was clean now)) (k.stands (opened clean now));
-    }
+    same : HasCleanDisk (state new) → (h : Host) → Keeps (state old) h → Keeps (state new) h
+    same = keeps_back false part (clean_past after) undone (λ clean. (undone clean).autocommit)
 
     left_before : HasCleanDisk (state new) → (trees : Trees) → (state new).may_leave trees → (state old).may_leave trees
-    left_before clean trees left = was.left trees (no_more (part.survives.crash (clean_lent clean) trees (no_more (after.crash clean trees left))))
+    left_before clean trees left = was.left trees (no_more (part.survives.crash (clean_past after clean) trees (no_more (after.crash clean trees left))))
 
     left_as : (h : Host) (left : Host) (x : SaveError) → Leaves (state old) left → IsLeftBy {T = T} h change (Leaves (state old)) (Err x) left
     left_as h left Save.Full before = before
@@ -181,16 +178,16 @@ module _ {K : Type 0} (state : K → State) (old new : K) (begun lent : State) (
     saves_undone = record {
       on = record {
         past = λ clean. was.clean (clean_begun clean);
-        served = opened;
+        served = back_opened false part (clean_past after) undone (λ clean. (undone clean).autocommit);
         stays = λ steady. steady;
-        whole = λ clean w. record { host = w.host; sound = w.sound; keeps = keeps_same clean w.host w.keeps; crash = λ trees left. w.crash trees (left_before clean trees left) };
+        whole = λ clean w. record { host = w.host; sound = w.sound; keeps = same clean w.host w.keeps; crash = λ trees left. w.crash trees (left_before clean trees left) };
       };
       ok = tt;
-      full = λ same clean h sound k.
-          let is : e ≡ Save.Full = (let s = same in cc) in
+      full = λ full clean h sound k.
+          let is : e ≡ Save.Full = (let s = full in cc) in
           subst (λ x. CountJudged {T = T} (Err x) (StandsFor lent.now (with_change h change) × (rows (with_change h change) ≤ h.limit)) (h.limit < rows (with_change h change))) is
-          (wrote (clean_lent clean) was.within h sound (may (clean_begun clean) h sound k));
-      err = λ clean h sound k. keeps_same clean h k;
+          (wrote (clean_past after clean) was.within h sound (may (clean_begun clean) h sound k));
+      err = λ clean h sound k. same clean h k;
       crash = λ clean h sound k left l. left_as h left e (record { trees = l.trees; left = left_before clean l.trees l.left; stands = l.stands });
       never = λ steady. absurd steady;
     }

@@ -1,15 +1,16 @@
 -- What the statements of a change write.
-use Rattle.std.proofs.Common.{◌≡◌, inl, inr, ℕ, ℤ, pos, List, [], ◌∷◌, ◌++◌, Bool, true, false, ◌&&◌, ◌||◌, ◌==◌, Option, Some, None, Result, Ok, Err, refl, sym, ap, subst, ◌∙◌, arith, IsPermutation, filter}
-use Rattle.pawn_saving.specs.Common.{OnOk, option_map, list_all, conflicts, Index, Row, column, Executes, State, Table, Value, Blob, Int, Null, Rates, Entry, Totals, Booking, Extension, Issued, Listed, columns_of, with_rows, at_pledge, is_at, AreLoose, ListsOurs, with_indexes, at_most_one, booking_cells, entry_cells, extension_cells, issue_number, number, secret_cells, sort_number, state_number, terms_cells, totals_cells, under, word}
-use Rattle.pawn_saving.proofs.Lemmas.{nat_tests, cast_int, cast_null, cast_whole, plainly, equals}
+use Rattle.std.proofs.Common.{◌≡◌, ◌/◌, inl, inr, ℕ, ℤ, pos, List, [], ◌∷◌, ◌++◌, length, Bool, true, false, ◌&&◌, ◌||◌, ◌==◌, Option, Some, None, Result, Ok, Err, refl, subst, arith, ◌∙◌, IsPermutation, filter}
+use Rattle.pawn_debt.specs.Due.{credit_of}
+use Rattle.pawn_saving.specs.Common.{OnOk, option_map, list_all, conflicts, cast, cast_row, Chosen, Index, Integer, Row, Term, column, Executes, State, Table, Value, Blob, Int, Null, Text, Rates, Entry, Totals, Booking, Extension, Issued, Listed, PledgeValue, columns_of, end_of, value_rows, with_rowid, with_rows, at_pledge, is_at, AreLoose, ListsOurs, with_indexes, at_most_one, booking_cells, closed_amount, closed_day, closed_number, entry_cells, extension_cells, flag_number, issue_number, kind_number, number, or_null, pledge_cells, secret_cells, sort_number, state_number, terms_cells, totals_cells, under, word}
+use Rattle.pawn_saving.proofs.Lemmas.{IsPlace, Puts, nat_tests, cast_int, cast_null, cast_whole, plainly, equals, regroup}
 use Rattle.sqlite_value.specs.Keys.{first_key}
 use Rattle.one_table.proofs.Upsertion.{upserted, Splits}
-use Rattle.pawn_tables.specs.Schema.{terms, entries, secrets, bookings, totals, extensions, bookings_tree, entries_tree, extensions_tree, secrets_tree, terms_tree, totals_tree}
+use Rattle.pawn_tables.specs.Schema.{terms, entries, pledges, secrets, bookings, totals, extensions, bookings_tree, entries_tree, extensions_tree, pledges_tree, secrets_tree, terms_tree, totals_tree}
 use Rattle.pawn_saving.specs.Writing.{IsOnly}
-use Rattle.pawn_saving.proofs.Differing.{differ, AreEqual, all_equal, same_number}
+use Rattle.pawn_saving.proofs.Differing.{differ, all_equal, same_number}
 use Rattle.pawn_saving.proofs.OurTables.{meets_same, row_joins, row_set_where, under_same}
 use Rattle.pawn_saving.proofs.WriteTexts as text
-use Rattle.pawn_saving.proofs.Places.{terms_place, entries_place, secrets_place, bookings_place, totals_place, extensions_place}
+use Rattle.pawn_saving.proofs.Places.{terms_place, entries_place, pledges_place, secrets_place, bookings_place, totals_place, extensions_place}
 
 -- where a statement ran, what it wrote
 pub on_ran : {E : Type 0} (r : Result (Unit {0}) E) (P : ℕ → Type 0) (Q : Type 0) → OnOk r ((count : ℕ) × P count) → ((count : ℕ) → P count → Q) → OnOk r Q
@@ -24,105 +25,94 @@ own_row b n cells =
 
 -- a row of the pledge, of which more is asked
 pub own_where : (b n : ℕ) (v : Row) (more : Bool) → list_all (λ (x : Bool). x) (is_at (column v 0) (number b) ∷ is_at (column v 1) (number n) ∷ more ∷ []) ≡ (at_pledge b n v && more)
-own_where b n v more = moved (is_at (column v 0) (number b)) (is_at (column v 1) (number n)) more
-  where
-    moved : (p q d : Bool) → (p && (q && (d && true))) ≡ ((p && (q && true)) && d)
-    moved true true true = refl
-    moved true true false = refl
-    moved true false d = refl
-    moved false q d = refl
+own_where b n v more = regroup (is_at (column v 0) (number b)) (is_at (column v 1) (number n)) more
 
 -- the totals of a row, beside what is to stand there, after the day
-abbrev beside : (p : ℕ) (c : ℤ) → Row → List (Value × Value)
-beside p c v = (column v 3, number p) ∷ (column v 4, Int c) ∷ []
+abbrev beside : Totals → Row → List (Value × Value)
+beside t v = (column v 3, number t.principal) ∷ (column v 4, number t.millionths) ∷ []
 
-abbrev others_in : (d p : ℕ) (c : ℤ) → Row → Bool
-others_in d p c v = differ (column v 2, number d) (beside p c v)
+abbrev others_in : Totals → Row → Bool
+others_in t v = differ (column v 2, number t.day) (beside t v)
+
+-- an optional number is stored as it is
+pub cast_optional : (o : Option ℕ) → cast Integer (or_null number o) ≡ or_null number o
+cast_optional None = cast_null
+cast_optional (Some n) = cast_int n
 
 -- ---- rows that join
 
 module _ (old new : State) (listed : Listed) (st : ListsOurs old.now listed) (count : ℕ) where
-  entry_put : (b n s d t p : ℕ) → Executes text.PUT_ENTRY.now (number b ∷ number n ∷ number s ∷ number d ∷ number t ∷ number p ∷ []) old new (Ok count)
-      → ListsOurs new.now (with_rows listed entries_tree ((number b ∷ number n ∷ number s ∷ number d ∷ number t ∷ number p ∷ []) ∷ listed entries_tree))
-  entry_put b n s d t p h =
-      let vals : Row = number b ∷ number n ∷ number s ∷ number d ∷ number t ∷ number p ∷ [] in
-      row_joins 3 (record entries { tree = entries_tree }) text.six_values 7 text.PUT_ENTRY.now entries_place text.entry_is old new vals (Null ∷ vals) (Null ∷ vals) vals count listed st refl
-      (λ i. cast_null i ∷ cast_int b i ∷ cast_int n i ∷ cast_int s i ∷ cast_int d i ∷ cast_int t i ∷ cast_int p i ∷ []) (λ rows. refl) h
+  -- a row of these values joins those of its table
+  abbrev pub Joined : List ℕ → ℕ → Row → Type 0
+  Joined text tree row = Executes text row old new (Ok count) → ListsOurs new.now (with_rows listed tree (row ∷ listed tree))
 
-  pub entry_wrote : (b n s d t p : ℕ) (e : Entry) → s ≡ e.seq → d ≡ e.day → t ≡ sort_number e.sort → p ≡ e.pence
-      → Executes text.PUT_ENTRY.now (number b ∷ number n ∷ number s ∷ number d ∷ number t ∷ number p ∷ []) old new (Ok count)
-      → ListsOurs new.now (with_rows listed entries_tree (under b n (entry_cells e) ∷ listed entries_tree))
-  entry_wrote b n s d t p e seq day sort pence h =
-      subst (λ cells. ListsOurs new.now (with_rows listed entries_tree (under b n cells ∷ listed entries_tree))) (λ i. number (seq i) ∷ number (day i) ∷ number (sort i) ∷ number (pence i) ∷ []) (entry_put b n s d t p h)
+  put : (at : ℕ) (t : Table) (terms : List Term) (width : ℕ) (sql : List ℕ) → ((more : List Index) → IsPlace (with_indexes more) at t) → ((more : List Index) → Puts (with_indexes more) sql at terms width)
+      → (row : Row) → value_rows row width (length terms / width) terms ≡ (Null ∷ row) ∷ [] → cast_row (plainly t) (Null ∷ row) ≡ Null ∷ row → ((rows : List Row) → columns_of (plainly t) (with_rowid Chosen rows (Null ∷ row)) ≡ row) → Joined sql t.tree row
+  put at t terms width sql there puts row = row_joins at t terms width sql there puts old new row (Null ∷ row) (Null ∷ row) row count listed st
 
-  secret_put : (b n s d t : ℕ) (w : List ℕ) → Executes text.PUT_SECRET.now (number b ∷ number n ∷ number s ∷ number d ∷ number t ∷ Blob w ∷ []) old new (Ok count)
-      → ListsOurs new.now (with_rows listed secrets_tree ((number b ∷ number n ∷ number s ∷ number d ∷ number t ∷ Blob w ∷ []) ∷ listed secrets_tree))
-  secret_put b n s d t w h =
-      let vals : Row = number b ∷ number n ∷ number s ∷ number d ∷ number t ∷ Blob w ∷ [] in
-      row_joins 4 (record secrets { tree = secrets_tree }) text.six_values 7 text.PUT_SECRET.now secrets_place text.secret_is old new vals (Null ∷ vals) (Null ∷ vals) vals count listed st refl
-      (λ i. cast_null i ∷ cast_int b i ∷ cast_int n i ∷ cast_int s i ∷ cast_int d i ∷ cast_int t i ∷ Blob w ∷ []) (λ rows. refl) h
+  pub entry_wrote : (b n : ℕ) (e : Entry) → Joined text.PUT_ENTRY.now entries_tree (under b n (entry_cells e))
+  entry_wrote b n e =
+      put 3 (record entries { tree = entries_tree }) text.six_values 7 text.PUT_ENTRY.now entries_place (λ more. (text.texts more).entry_is) (under b n (entry_cells e)) refl
+      (λ i. cast_null i ∷ cast_int b i ∷ cast_int n i ∷ cast_int e.seq i ∷ cast_int e.day i ∷ cast_int (sort_number e.sort) i ∷ cast_int e.pence i ∷ []) (λ rows. refl)
 
-  pub secret_wrote : (b n s d t : ℕ) (w : List ℕ) (e : Issued) → d ≡ e.day → t ≡ issue_number e.sort → Blob w ≡ word e.secret
-      → Executes text.PUT_SECRET.now (number b ∷ number n ∷ number s ∷ number d ∷ number t ∷ Blob w ∷ []) old new (Ok count)
+  pub secret_wrote : (b n s : ℕ) (w : List ℕ) (e : Issued) → Blob w ≡ word e.secret → Executes text.PUT_SECRET.now (number b ∷ number n ∷ number s ∷ number e.day ∷ number (issue_number e.sort) ∷ Blob w ∷ []) old new (Ok count)
       → ListsOurs new.now (with_rows listed secrets_tree (under b n (secret_cells s e) ∷ listed secrets_tree))
-  secret_wrote b n s d t w e day sort secret h =
-      subst (λ cells. ListsOurs new.now (with_rows listed secrets_tree (under b n cells ∷ listed secrets_tree))) (λ i. number s ∷ number (day i) ∷ number (sort i) ∷ secret i ∷ []) (secret_put b n s d t w h)
+  secret_wrote b n s w e secret h =
+      put 4 (record secrets { tree = secrets_tree }) text.six_values 7 text.PUT_SECRET.now secrets_place (λ more. (text.texts more).secret_is) (under b n (secret_cells s e)) refl
+      (λ i. cast_null i ∷ cast_int b i ∷ cast_int n i ∷ cast_int s i ∷ cast_int e.day i ∷ cast_int (issue_number e.sort) i ∷ word e.secret ∷ []) (λ rows. refl) (rw secret at h)
 
-  five_put : (b n s d t : ℕ) → Executes text.PUT_EXTENSION.now (number b ∷ number n ∷ number s ∷ number d ∷ number t ∷ []) old new (Ok count)
-      → ListsOurs new.now (with_rows listed extensions_tree ((number b ∷ number n ∷ number s ∷ number d ∷ number t ∷ []) ∷ listed extensions_tree))
-  five_put b n s d t h =
-      let vals : Row = number b ∷ number n ∷ number s ∷ number d ∷ number t ∷ [] in
-      row_joins 8 (record extensions { tree = extensions_tree }) text.five_values 6 text.PUT_EXTENSION.now extensions_place text.extension_is old new vals (Null ∷ vals) (Null ∷ vals) vals count listed st refl
-      (λ i. cast_null i ∷ cast_int b i ∷ cast_int n i ∷ cast_int s i ∷ cast_int d i ∷ cast_int t i ∷ []) (λ rows. refl) h
+  pub extension_wrote : (b n s : ℕ) (e : Extension) → Joined text.PUT_EXTENSION.now extensions_tree (under b n (extension_cells s e))
+  extension_wrote b n s e =
+      put 8 (record extensions { tree = extensions_tree }) text.five_values 6 text.PUT_EXTENSION.now extensions_place (λ more. (text.texts more).extension_is) (under b n (extension_cells s e)) refl
+      (λ i. cast_null i ∷ cast_int b i ∷ cast_int n i ∷ cast_int s i ∷ cast_int e.day i ∷ cast_int e.until i ∷ []) (λ rows. refl)
 
-  pub extension_wrote : (b n s d u : ℕ) (e : Extension) → d ≡ e.day → u ≡ e.until → Executes text.PUT_EXTENSION.now (number b ∷ number n ∷ number s ∷ number d ∷ number u ∷ []) old new (Ok count)
-      → ListsOurs new.now (with_rows listed extensions_tree (under b n (extension_cells s e) ∷ listed extensions_tree))
-  extension_wrote b n s d u e day until h =
-      subst (λ cells. ListsOurs new.now (with_rows listed extensions_tree (under b n cells ∷ listed extensions_tree))) (λ i. number s ∷ number (day i) ∷ number (until i) ∷ []) (five_put b n s d u h)
+  pub terms_wrote : (b v : ℕ) (t : Rates) → Joined text.PUT_TERMS.now terms_tree (number b ∷ number v ∷ terms_cells t)
+  terms_wrote b v t =
+      put 1 (record terms { tree = terms_tree }) text.five_values 6 text.PUT_TERMS.now terms_place (λ more. (text.texts more).terms_is) (number b ∷ number v ∷ terms_cells t) refl
+      (λ i. cast_null i ∷ cast_int b i ∷ cast_int v i ∷ cast_int t.rate i ∷ cast_int t.keep_before i ∷ cast_int t.keep_after i ∷ []) (λ rows. refl)
 
-  pub terms_wrote : (b v r k l : ℕ) (t : Rates) → r ≡ t.rate → k ≡ t.keep_before → l ≡ t.keep_after → Executes text.PUT_TERMS.now (number b ∷ number v ∷ number r ∷ number k ∷ number l ∷ []) old new (Ok count)
-      → ListsOurs new.now (with_rows listed terms_tree ((number b ∷ number v ∷ terms_cells t) ∷ listed terms_tree))
-  terms_wrote b v r k l t rate before after h =
-      let vals : Row = number b ∷ number v ∷ number r ∷ number k ∷ number l ∷ [] in
-      subst (λ cells. ListsOurs new.now (with_rows listed terms_tree ((number b ∷ number v ∷ cells) ∷ listed terms_tree))) (λ i. number (rate i) ∷ number (before i) ∷ number (after i) ∷ [])
-      (row_joins 1 (record terms { tree = terms_tree }) text.five_values 6 text.PUT_TERMS.now terms_place text.terms_is old new vals (Null ∷ vals) (Null ∷ vals) vals count listed st refl
-      (λ i. cast_null i ∷ cast_int b i ∷ cast_int v i ∷ cast_int r i ∷ cast_int k i ∷ cast_int l i ∷ []) (λ rows. refl) h)
-
-  pub new_totals_wrote : (b n d p : ℕ) (c : ℤ) (t : Totals) → d ≡ t.day → p ≡ t.principal → c ≡ pos t.millionths → Executes text.PUT_TOTALS.now (number b ∷ number n ∷ number d ∷ number p ∷ Int c ∷ []) old new (Ok count)
+  pub new_totals_wrote : (b n : ℕ) (c : ℤ) (t : Totals) → c ≡ pos t.millionths → Executes text.PUT_TOTALS.now (number b ∷ number n ∷ number t.day ∷ number t.principal ∷ Int c ∷ []) old new (Ok count)
       → ListsOurs new.now (with_rows listed totals_tree (under b n (totals_cells t) ∷ listed totals_tree))
-  new_totals_wrote b n d p c t day principal charges h =
-      let vals : Row = number b ∷ number n ∷ number d ∷ number p ∷ Int c ∷ [] in
-      subst (λ cells. ListsOurs new.now (with_rows listed totals_tree (under b n cells ∷ listed totals_tree))) (λ i. number (day i) ∷ number (principal i) ∷ Int (charges i) ∷ [])
-      (row_joins 7 (record totals { tree = totals_tree }) text.five_values 6 text.PUT_TOTALS.now totals_place text.new_totals_is old new vals (Null ∷ vals) (Null ∷ vals) vals count listed st refl
-      (λ i. cast_null i ∷ cast_int b i ∷ cast_int n i ∷ cast_int d i ∷ cast_int p i ∷ cast_whole c i ∷ []) (λ rows. refl) h)
+  new_totals_wrote b n c t charges h =
+      put 7 (record totals { tree = totals_tree }) text.five_values 6 text.PUT_TOTALS.now totals_place (λ more. (text.texts more).new_totals_is) (under b n (totals_cells t)) refl
+      (λ i. cast_null i ∷ cast_int b i ∷ cast_int n i ∷ cast_int t.day i ∷ cast_int t.principal i ∷ cast_int t.millionths i ∷ []) (λ rows. refl) (rw charges at h)
+
+  pub row_wrote : (b n : ℕ) (r a : List ℕ) (k c t : ℕ) (g : Value) (f v e h l x : ℕ) (y z : Value) (p : PledgeValue) → r ≡ p.agreement.opening.reference → a ≡ p.agreement.opening.article → k ≡ kind_number p.agreement.opening.kind
+      → c ≡ credit_of p.agreement.opening.kind → t ≡ p.agreement.taken → g ≡ or_null number p.agreement.opening.agreed → f ≡ flag_number p.agreement.opening.five_days → v ≡ p.agreement.version → e ≡ end_of p → h ≡ flag_number p.standing.held
+      → l ≡ p.standing.last → x ≡ closed_number p.standing.closing → y ≡ or_null number (closed_day p.standing.closing) → z ≡ or_null number (closed_amount p.standing.closing)
+      → Executes text.PUT_PLEDGE.now (number b ∷ number n ∷ Text r ∷ Text a ∷ number k ∷ number c ∷ number t ∷ g ∷ number f ∷ number v ∷ number e ∷ number h ∷ number l ∷ number x ∷ y ∷ z ∷ []) old new (Ok count)
+      → ListsOurs new.now (with_rows listed pledges_tree (under b n (pledge_cells p) ∷ listed pledges_tree))
+  row_wrote b n r a k c t g f v e h l x y z p rs as' ks cs ts gs fs vs es hs ls xs ys zs ran =
+      let o = p.agreement.opening in
+      put 2 (record pledges { tree = pledges_tree }) text.sixteen_values 17 text.PUT_PLEDGE.now pledges_place (λ more. (text.texts more).pledge_is) (under b n (pledge_cells p)) refl
+      (λ i. cast_null i ∷ cast_int b i ∷ cast_int n i ∷ Text o.reference ∷ Text o.article ∷ cast_int (kind_number o.kind) i ∷ cast_int (credit_of o.kind) i ∷ cast_int p.agreement.taken i ∷ cast_optional o.agreed i
+      ∷ cast_int (flag_number o.five_days) i ∷ cast_int p.agreement.version i ∷ cast_int (end_of p) i ∷ cast_int (flag_number p.standing.held) i ∷ cast_int p.standing.last i
+      ∷ cast_int (closed_number p.standing.closing) i ∷ cast_optional (closed_day p.standing.closing) i ∷ cast_optional (closed_amount p.standing.closing) i ∷ []) (λ rows. refl)
+      (rw (rs, as', ks, cs, ts, gs, fs, vs, es, hs, ls, xs, ys, zs) at ran)
 
   -- ---- rows that take the place of others
 
-  pub totals_wrote : (b n d p : ℕ) (c : ℤ) (t before : Totals) (rest : List Row) → d ≡ t.day → p ≡ t.principal → c ≡ pos t.millionths → IsOnly (at_pledge b n) (listed totals_tree) (under b n (totals_cells before)) rest
-      → Executes text.SET_TOTALS.now (number b ∷ number n ∷ number d ∷ number p ∷ Int c ∷ []) old new (Ok count) → ListsOurs new.now (with_rows listed totals_tree (under b n (totals_cells t) ∷ rest))
-  totals_wrote b n d p c t before rest day principal charges only h =
-      let after : Row = number b ∷ number n ∷ number d ∷ number p ∷ Int c ∷ [] in
-      subst (λ cells. ListsOurs new.now (with_rows listed totals_tree (under b n cells ∷ rest))) (λ i. number (day i) ∷ number (principal i) ∷ Int (charges i) ∷ [])
-      (row_set_where 7 (record totals { tree = totals_tree }) totals_place (λ _. refl) text.totals_tests text.totals_shows text.SET_TOTALS.now text.totals_is
-      old new after count listed st (at_pledge b n) (others_in d p c) (λ r. let v = columns_of (plainly (record totals { tree = totals_tree })) r in own_where b n v (others_in d p c v)) (under b n (totals_cells before)) after rest
+  pub totals_wrote : (b n : ℕ) (c : ℤ) (t before : Totals) (rest : List Row) → c ≡ pos t.millionths → IsOnly (at_pledge b n) (listed totals_tree) (under b n (totals_cells before)) rest
+      → Executes text.SET_TOTALS.now (number b ∷ number n ∷ number t.day ∷ number t.principal ∷ Int c ∷ []) old new (Ok count) → ListsOurs new.now (with_rows listed totals_tree (under b n (totals_cells t) ∷ rest))
+  totals_wrote b n c t before rest charged only h =
+      let after : Row = under b n (totals_cells t) in
+      row_set_where 7 (record totals { tree = totals_tree }) totals_place (λ _. refl) text.totals_tests text.totals_shows text.SET_TOTALS.now (λ more. (text.texts more).totals_is)
+      old new after count listed st (at_pledge b n) (others_in t) (λ r. let v = columns_of (plainly (record totals { tree = totals_tree })) r in own_where b n v (others_in t v)) (under b n (totals_cells before)) after rest
       only.split (own_row b n (totals_cells before)) only.none
       (λ none.
-      let same = all_equal (number before.day, number d) (beside p c (under b n (totals_cells before))) none in
-      let e2 = same_number before.day d same.0 in
-      let e3 = same_number before.principal p same.1.0 in
-      let e4 = same_number before.millionths t.millionths (subst (λ z. AreEqual (number before.millionths, Int z)) charges same.1.1.0) in
-      let e5 : pos before.millionths ≡ c = ap pos e4 ∙ sym charges in
-      (λ i. number b ∷ number n ∷ number (e2 i) ∷ number (e3 i) ∷ Int (e5 i) ∷ []))
-      (λ id r at cols.
-      let first : column r 1 ≡ number b = (let e = cols in cc) in
-      let second : column r 2 ≡ number n = (let e = cols in cc) in (
+      let same = all_equal (number before.day, number t.day) (beside t (under b n (totals_cells before))) none in
+      let day = same_number before.day t.day same.0 in
+      let principal = same_number before.principal t.principal same.1.0 in
+      let charges = same_number before.millionths t.millionths same.1.1.0 in
+      (λ i. number b ∷ number n ∷ number (day i) ∷ number (principal i) ∷ number (charges i) ∷ []))
+      (λ id r at cols. (
         Int id ∷ after,
         after,
-        (λ i. at i ∷ at i ∷ first i ∷ second i ∷ number d ∷ number p ∷ Int c ∷ []),
-        (λ i. cast_whole id i ∷ cast_int b i ∷ cast_int n i ∷ cast_int d i ∷ cast_int p i ∷ cast_whole c i ∷ []),
+        (λ i. at i ∷ at i ∷ column (cols i) 0 ∷ column (cols i) 1 ∷ totals_cells t),
+        (λ i. cast_whole id i ∷ cast_int b i ∷ cast_int n i ∷ cast_int t.day i ∷ cast_int t.principal i ∷ cast_int t.millionths i ∷ []),
         refl,
       ))
-      h)
+      (rw charged at h)
 
 or_no : (x : Bool) → (x || false) ≡ x
 or_no true = refl
@@ -144,7 +134,7 @@ booking_put b n d w s before old new count listed rest st splits none h =
     let vals : Row = number b ∷ number n ∷ number d ∷ number w ∷ number s ∷ [] in
     let more = st.more in
     under_same st (upserted (with_indexes more) 5 (record bookings { tree = bookings_tree }) (bookings_place more) (λ _. refl) text.five_values 6 (1 ∷ 2 ∷ []) text.booking_tests text.booking_shows (at_pledge b n)
-    text.PUT_BOOKING.now (text.booking_is more).0 (text.booking_is more).1 old new vals vals vals count listed rest st.lists
+    text.PUT_BOOKING.now (text.texts more).booking_is.0 (text.texts more).booking_is.1 old new vals vals vals count listed rest st.lists
     (record {
       source = refl;
       unnumbered = λ i. cast_null i ∷ cast_int b i ∷ cast_int n i ∷ cast_int d i ∷ cast_int w i ∷ cast_int s i ∷ [];

@@ -12,27 +12,11 @@ pub use Rattle.pawn_tables.specs.declared.texts.TheConstants.{ADD_ROWS, PUT_BOOK
 abbrev pub book_values : List Term
 book_values = col 0 0 ∷ lit Null ∷ col 0 1 ∷ col 0 2 ∷ col 0 3 ∷ lit (Int (pos 0)) ∷ lit (Int (pos 0)) ∷ lit Null ∷ lit Null ∷ []
 
-pub book_is : (more : List Index) → Puts (with_indexes more) PUT_BOOK.now 0 book_values 9
-unfolding understood everything
-book_is more = (refl, (refl, refl))
-
 abbrev pub six_values : List Term
 six_values = lit Null ∷ col 0 0 ∷ col 0 1 ∷ col 0 2 ∷ col 0 3 ∷ col 0 4 ∷ col 0 5 ∷ []
 
-pub entry_is : (more : List Index) → Puts (with_indexes more) PUT_ENTRY.now 3 six_values 7
-unfolding understood everything
-entry_is more = (refl, (refl, refl))
-
-pub secret_is : (more : List Index) → Puts (with_indexes more) PUT_SECRET.now 4 six_values 7
-unfolding understood everything
-secret_is more = (refl, (refl, refl))
-
 abbrev pub five_values : List Term
 five_values = lit Null ∷ col 0 0 ∷ col 0 1 ∷ col 0 2 ∷ col 0 3 ∷ col 0 4 ∷ []
-
-pub extension_is : (more : List Index) → Puts (with_indexes more) PUT_EXTENSION.now 8 five_values 6
-unfolding understood everything
-extension_is more = (refl, (refl, refl))
 
 -- a column is other than a parameter
 abbrev is_other : ℕ → ℕ → Term
@@ -51,19 +35,11 @@ change_tests = is_param 1 0 ∷ is_param 2 1 ∷ or_terms (is_other 11 2) (is_ot
 abbrev pub change_shows : List Term
 change_shows = col 1 0 ∷ col 1 0 ∷ col 1 1 ∷ col 1 2 ∷ col 1 3 ∷ col 1 4 ∷ col 1 5 ∷ col 1 6 ∷ col 1 7 ∷ col 1 8 ∷ col 1 9 ∷ col 1 10 ∷ col 0 2 ∷ col 0 3 ∷ col 0 4 ∷ col 0 5 ∷ col 0 6 ∷ col 0 7 ∷ []
 
-pub change_is : (more : List Index) → Sets (with_indexes more) SET_PLEDGE.now 2 (over_table pledges_tree change_tests change_shows [])
-unfolding understood everything
-change_is more = (refl, (refl, refl))
-
 abbrev pub totals_tests : List Term
 totals_tests = is_param 1 0 ∷ is_param 2 1 ∷ or_terms (is_other 3 2) (is_other 4 3 ∷ is_other 5 4 ∷ []) ∷ []
 
 abbrev pub totals_shows : List Term
 totals_shows = col 1 0 ∷ col 1 0 ∷ col 1 1 ∷ col 1 2 ∷ col 0 2 ∷ col 0 3 ∷ col 0 4 ∷ []
-
-pub totals_is : (more : List Index) → Sets (with_indexes more) SET_TOTALS.now 7 (over_table totals_tree totals_tests totals_shows [])
-unfolding understood everything
-totals_is more = (refl, (refl, refl))
 
 -- the row that is there is told by its number, after the five parameters, and the columns that were to be put come after that
 abbrev pub booking_tests : List Term
@@ -75,10 +51,6 @@ booking_shows = col 1 0 ∷ col 1 0 ∷ col 1 1 ∷ col 1 2 ∷ col 0 9 ∷ col 
 abbrev pub booking_clause : Upsert
 booking_clause = record { target = Some (1 ∷ 2 ∷ []); update = Some (record { lets = []; body = over_table bookings_tree booking_tests booking_shows [] }) }
 
-pub booking_is : (more : List Index) → (command_of (understood (with_indexes more) PUT_BOOKING.now) ≡ InsertOr 5 Abort (Values five_values 6) (booking_clause ∷ [])) × IsPlain (understood (with_indexes more) PUT_BOOKING.now)
-unfolding understood everything
-booking_is more = (refl, (refl, refl))
-
 abbrev pub count_tests : List Term
 count_tests = op2 (Compare Eq Binary) (col 1 1) (lit (Text (codes "rows"))) ∷ []
 
@@ -88,53 +60,59 @@ count_shows = col 1 0 ∷ col 1 0 ∷ col 1 1 ∷ op2 (Arith Add) (col 1 2) (col
 abbrev pub count_returns : Returning
 count_returns = record { names = codes "value" ∷ []; row = Values (col 0 4 ∷ []) 1 }
 
-pub count_is : (more : List Index) → Returns (with_indexes more) ADD_ROWS.now 6 (over_table meta_tree count_tests count_shows []) count_returns
-unfolding understood everything
-count_is more = (refl, refl, refl)
-
 abbrev pub limit_tests : List Term
 limit_tests = op2 (Compare Eq Binary) (col 1 1) (lit (Text (codes "limit"))) ∷ []
 
 abbrev pub limit_shows : List Term
 limit_shows = col 1 2 ∷ []
 
-pub limit_is : (more : List Index) → Asks (with_indexes more) READ_LIMIT.now (over_table meta_tree limit_tests limit_shows []) (codes "value" ∷ [])
-unfolding understood everything
-limit_is more = (refl, refl, (refl, refl))
-
-pub terms_is : (more : List Index) → Puts (with_indexes more) PUT_TERMS.now 1 five_values 6
-unfolding understood everything
-terms_is more = (refl, (refl, refl))
-
-pub new_totals_is : (more : List Index) → Puts (with_indexes more) PUT_TOTALS.now 7 five_values 6
-unfolding understood everything
-new_totals_is more = (refl, (refl, refl))
-
 abbrev pub sixteen_values : List Term
 sixteen_values =
     lit Null ∷ col 0 0 ∷ col 0 1 ∷ col 0 2 ∷ col 0 3 ∷ col 0 4 ∷ col 0 5 ∷ col 0 6 ∷ col 0 7 ∷ col 0 8 ∷ col 0 9 ∷ col 0 10 ∷ col 0 11 ∷ col 0 12 ∷ col 0 13 ∷ col 0 14 ∷ col 0 15 ∷ []
 
-pub pledge_is : (more : List Index) → Puts (with_indexes more) PUT_PLEDGE.now 2 sixteen_values 17
-unfolding understood everything
-pledge_is more = (refl, (refl, refl))
-
 abbrev pub terms_count_shows : List Term
 terms_count_shows = col 1 0 ∷ col 1 0 ∷ lit Null ∷ col 1 2 ∷ col 1 3 ∷ col 1 4 ∷ col 0 1 ∷ col 1 6 ∷ col 1 7 ∷ col 1 8 ∷ []
-
-pub terms_count_is : (more : List Index) → Sets (with_indexes more) SET_TERMS_COUNT.now 0 (over_table books_tree of_book terms_count_shows [])
-unfolding understood everything
-terms_count_is more = (refl, (refl, refl))
 
 abbrev pub pledges_count_shows : List Term
 pledges_count_shows = col 1 0 ∷ col 1 0 ∷ lit Null ∷ col 1 2 ∷ col 1 3 ∷ col 1 4 ∷ col 1 5 ∷ col 0 1 ∷ col 1 7 ∷ col 1 8 ∷ []
 
-pub pledges_count_is : (more : List Index) → Sets (with_indexes more) SET_PLEDGES_COUNT.now 0 (over_table books_tree of_book pledges_count_shows [])
-unfolding understood everything
-pledges_count_is more = (refl, (refl, refl))
-
 abbrev pub import_shows : List Term
 import_shows = col 1 0 ∷ col 1 0 ∷ lit Null ∷ col 1 2 ∷ col 1 3 ∷ col 1 4 ∷ col 0 1 ∷ col 0 2 ∷ col 0 3 ∷ col 0 2 ∷ []
 
-pub import_is : (more : List Index) → Sets (with_indexes more) SET_IMPORT.now 0 (over_table books_tree of_book import_shows [])
+-- what each text means, whatever indexes the tables have
+pub record Texts (more : List Index) : Type 0 where
+  pub book_is : Puts (with_indexes more) PUT_BOOK.now 0 book_values 9
+  pub entry_is : Puts (with_indexes more) PUT_ENTRY.now 3 six_values 7
+  pub secret_is : Puts (with_indexes more) PUT_SECRET.now 4 six_values 7
+  pub extension_is : Puts (with_indexes more) PUT_EXTENSION.now 8 five_values 6
+  pub change_is : Sets (with_indexes more) SET_PLEDGE.now 2 (over_table pledges_tree change_tests change_shows [])
+  pub totals_is : Sets (with_indexes more) SET_TOTALS.now 7 (over_table totals_tree totals_tests totals_shows [])
+  pub booking_is : (command_of (understood (with_indexes more) PUT_BOOKING.now) ≡ InsertOr 5 Abort (Values five_values 6) (booking_clause ∷ [])) × IsPlain (understood (with_indexes more) PUT_BOOKING.now)
+  pub count_is : Returns (with_indexes more) ADD_ROWS.now 6 (over_table meta_tree count_tests count_shows []) count_returns
+  pub limit_is : Asks (with_indexes more) READ_LIMIT.now (over_table meta_tree limit_tests limit_shows []) (codes "value" ∷ [])
+  pub terms_is : Puts (with_indexes more) PUT_TERMS.now 1 five_values 6
+  pub new_totals_is : Puts (with_indexes more) PUT_TOTALS.now 7 five_values 6
+  pub pledge_is : Puts (with_indexes more) PUT_PLEDGE.now 2 sixteen_values 17
+  pub terms_count_is : Sets (with_indexes more) SET_TERMS_COUNT.now 0 (over_table books_tree of_book terms_count_shows [])
+  pub pledges_count_is : Sets (with_indexes more) SET_PLEDGES_COUNT.now 0 (over_table books_tree of_book pledges_count_shows [])
+  pub import_is : Sets (with_indexes more) SET_IMPORT.now 0 (over_table books_tree of_book import_shows [])
+
+pub texts : (more : List Index) → Texts more
 unfolding understood everything
-import_is more = (refl, (refl, refl))
+texts more = record {
+  book_is = (refl, (refl, refl));
+  entry_is = (refl, (refl, refl));
+  secret_is = (refl, (refl, refl));
+  extension_is = (refl, (refl, refl));
+  change_is = (refl, (refl, refl));
+  totals_is = (refl, (refl, refl));
+  booking_is = (refl, (refl, refl));
+  count_is = (refl, refl, refl);
+  limit_is = (refl, refl, (refl, refl));
+  terms_is = (refl, (refl, refl));
+  new_totals_is = (refl, (refl, refl));
+  pledge_is = (refl, (refl, refl));
+  terms_count_is = (refl, (refl, refl));
+  pledges_count_is = (refl, (refl, refl));
+  import_is = (refl, (refl, refl));
+}

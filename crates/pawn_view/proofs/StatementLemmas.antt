@@ -1,7 +1,9 @@
 -- A statement, put part by part.
-use Rattle.std.proofs.Common.{◌≡◌, ◌∙◌, ℕ, Bool, true, false, List, ◌++◌, Option, Some, None, Result, Ok, Err, refl, sym, ap, subst}
+use Rattle.std.proofs.Common.{◌≡◌, ◌∙◌, ℕ, Bool, true, false, List, ◌++◌, Option, Some, None, Result, Ok, Err, refl, sym, ap, subst, [], ◌∷◌, inl, inr}
 use Rattle.pawn_view.specs.Common.{BriefFields, End, Entry, Extension, Flow, Front, Handed, IsShare, KeepError, Owing, PledgeValue, PutFront, Puts, PutsLine, PutsShare, ViewFault, Whole, Writing, Written, brief_of, brief_owing, brief_status, call_end, debt_of, due, end_of, ending_of, entries_of, extensions_of, flat_map, max, option_map, owing_of, status_of, unwrap_or, write_failed}
 use Rattle.pawn_book.specs.declared.fault.KeepError.TheVariants as error
+use Rattle.pawn_view.specs.declared.statements.StatementLines.{StatementLines}
+use Rattle.pawn_view.specs.Shown.{PutsElement}
 use Rattle.pawn_view.specs.Views.{Shows, entry_line, extended_line, first_lines, open_or_last, shown_day, state_lines, state_on, statement_text}
 use Rattle.pawn_writing.proofs.PutLemmas.{front-more, now_by}
 use Rattle.pawn_writing.proofs.ShareLemmas.{lines_share, share_all, share_puts, share_more, share_then, writings_in_turn}
@@ -30,42 +32,49 @@ state_of_brief p b v day is told v_is =
     ∙ ap (λ (o : Owing). state_lines (status_of p v) o p.standing) owed
     ∙ ap (λ (x : ℕ). state_on x p) day_is
 
--- what was handed of a list of the pledge
-share_at : {T : Type 0} (items : Option PledgeValue → List T) (o : Option PledgeValue) (p : PledgeValue) (given : List T) (flow : Flow) (end : End)
-    → o ≡ Some p → IsShare given flow end (items o) → IsShare given flow end (items (Some p))
-share_at items o p given flow end is share = subst (λ (x : Option PledgeValue). IsShare given flow end (items x)) is share
+-- to what a visitor holds, its elements were handed as to a writer
+elements_handed : {W T : Type 0} (contents : W → Option (List ℕ)) (line : T → List ℕ) (v w : StatementLines W) (xs : List T) (flow : Flow)
+    → Handed (PutsElement contents line) v xs flow w → Handed (PutsLine contents line) v.writer.now xs flow w.writer.now × (w.writer.ghost_name ≡ v.writer.ghost_name)
+elements_handed contents line v w [] flow (goes, same) = ((goes, ap (λ (x : StatementLines _). x.writer.now) same), sym (ap (λ (x : StatementLines _). x.writer.ghost_name) same))
+elements_handed contents line v w (x ∷ xs) flow handed = elim handed [
+  | inl (u, first, rest) ↦ let more = elements_handed contents line u w xs flow rest in (inl (u.writer.now, first.puts, more.0), more.1 ∙ first.same_writer)
+  | inr (stops, none, last) ↦ (inr (stops, none, last.puts), last.same_writer)
+]
 
--- a statement whose extensions were not all handed out
-pub statement_cut : {W : Type 0} (contents : W → Option (List ℕ)) (a b c : Writing W) (day : ℕ) (o : Option PledgeValue) (p : PledgeValue) (brief : BriefFields) (given : List Extension) (flow : Flow)
-    → o ≡ Some p → brief ≡ brief_of p → Puts contents a (brief_first brief) b
-    → Handed (PutsLine contents extended_line) b given flow c → IsShare given flow Front (extensions_of o)
-    → PutsShare contents a (statement_text day p) Front c
-statement_cut contents a b c day o p brief given flow at is first handed share =
+pub elements_writer : {W T : Type 0} (contents : W → Option (List ℕ)) (line : T → List ℕ) (v w : StatementLines W) (xs : List T) (flow : Flow)
+    → Handed (PutsElement contents line) v xs flow w → w.writer.ghost_name ≡ v.writer.ghost_name
+elements_writer contents line v w xs flow handed = (elements_handed contents line v w xs flow handed).1
+
+-- what was put of the lines of a list of the pledge
+pub elements_put : {W T : Type 0} (contents : W → Option (List ℕ)) (line : T → List ℕ) (v w : StatementLines W) (items : Option PledgeValue → List T) (o : Option PledgeValue) (p : PledgeValue) (given : List T) (flow : Flow) (end : End)
+    → Handed (PutsElement contents line) v given flow w → o ≡ Some p → IsShare given flow end (items o) → PutsShare contents v.writer.now (flat_map line (items (Some p))) end w.writer.now
+elements_put contents line v w items o p given flow end handed is share =
+    lines_share contents line v.writer.now w.writer.now given (items (Some p)) flow end (elements_handed contents line v w given flow handed).0
+    (subst (λ (x : Option PledgeValue). IsShare given flow end (items x)) is share)
+
+-- a statement whose extensions were not all put
+pub statement_cut : {W : Type 0} (contents : W → Option (List ℕ)) (a b c : Writing W) (day : ℕ) (p : PledgeValue) (brief : BriefFields) → brief ≡ brief_of p → Puts contents a (brief_first brief) b
+    → PutsShare contents b (flat_map extended_line p.extensions) Front c → PutsShare contents a (statement_text day p) Front c
+statement_cut contents a b c day p brief is first extended =
     let rest = state_on (shown_day p.standing.closing p.standing.last day) p ++ flat_map entry_line p.entries in
     share_then {s = first_lines p.agreement (end_of p)} {t = flat_map extended_line p.extensions ++ rest} writings_in_turn
     (share_puts writings_in_turn (subst (λ (t : List ℕ). Puts contents a t b) (first_of_brief p brief is) first))
-    (share_more writings_in_turn rest
-    (lines_share contents extended_line b c given p.extensions flow Front handed (share_at extensions_of o p given flow Front at share)))
+    (share_more writings_in_turn rest extended)
 
 -- a statement whose parts were all put
-pub statement_whole : {W : Type 0} (contents : W → Option (List ℕ)) (a b c d e : Writing W) (day v : ℕ) (o : Option PledgeValue) (p : PledgeValue) (brief : BriefFields) (end : End)
-    (given : List Extension) (flow : Flow) (given' : List Entry) (flow' : Flow)
-    → o ≡ Some p → brief ≡ brief_of p → IsTold p → v ≡ brief_day brief day → Puts contents a (brief_first brief) b
-    → Handed (PutsLine contents extended_line) b given flow c → IsShare given flow Whole (extensions_of o)
-    → Puts contents c (brief_state brief v) d
-    → Handed (PutsLine contents entry_line) d given' flow' e → IsShare given' flow' end (entries_of o)
-    → PutsShare contents a (statement_text day p) end e
-statement_whole contents a b c d e day v o p brief end given flow given' flow' at is told v_is first handed share state handed' share' =
+pub statement_whole : {W : Type 0} (contents : W → Option (List ℕ)) (a b c d e : Writing W) (day v : ℕ) (p : PledgeValue) (brief : BriefFields) (end : End)
+    → brief ≡ brief_of p → IsTold p → v ≡ brief_day brief day → Puts contents a (brief_first brief) b
+    → PutsShare contents b (flat_map extended_line p.extensions) Whole c → Puts contents c (brief_state brief v) d
+    → PutsShare contents d (flat_map entry_line p.entries) end e → PutsShare contents a (statement_text day p) end e
+statement_whole contents a b c d e day v p brief end is told v_is first extensions state lines =
     let extended = flat_map extended_line p.extensions in
     let on = state_on (shown_day p.standing.closing p.standing.last day) p in
     let entries = flat_map entry_line p.entries in
     share_then {s = first_lines p.agreement (end_of p)} {t = extended ++ (on ++ entries)} writings_in_turn
     (share_puts writings_in_turn (subst (λ (t : List ℕ). Puts contents a t b) (first_of_brief p brief is) first))
-    (share_then {s = extended} {t = on ++ entries} writings_in_turn
-    (lines_share contents extended_line b c given p.extensions flow Whole handed (share_at extensions_of o p given flow Whole at share))
+    (share_then {s = extended} {t = on ++ entries} writings_in_turn extensions
     (share_then {s = on} {t = entries} writings_in_turn
-    (share_puts writings_in_turn (subst (λ (t : List ℕ). Puts contents c t d) (state_of_brief p brief v day is told v_is) state))
-    (lines_share contents entry_line d e given' p.entries flow' end handed' (share_at entries_of o p given' flow' end at share'))))
+    (share_puts writings_in_turn (subst (λ (t : List ℕ). Puts contents c t d) (state_of_brief p brief v day is told v_is) state)) lines))
 
 -- ---- how a text ends
 

@@ -1,8 +1,9 @@
 -- What a call that writes a text has written, and what it answers.
 use Rattle.std.specs.Prelude.{ℕ, false, max, List, [], Option, Some, None, Result, Ok, Err, ◌≡◌, map, option_map, unwrap_or, if◌then◌else◌}
-use Rattle.pawn_view.specs.Common.{Closing, End, Flow, Front, Host, Keeping, Open, PledgeValue, PutFront, Puts, Receipt, Redeemed, Share, Sold, ViewFault, Whole, Writing, Written, are_unknown, get, live_at, pledge_in, write_failed}
+use Rattle.pawn_view.specs.Common.{Closing, End, Flow, Front, Host, Keeping, Open, PledgeValue, PutFront, Puts, PutsLine, Receipt, Redeemed, Share, Sold, ViewFault, Whole, Writing, Written, are_unknown, get, live_at, pledge_in, write_failed}
 use Rattle.pawn_book.specs.declared.visit.Flow.TheVariants.{Go, Stop}
 use Rattle.pawn_writing.specs.declared.fault.ViewFault.TheVariants as fault
+use Rattle.pawn_view.specs.declared.statements.StatementLines.{StatementLines}
 use Rattle.pawn_view.specs.Text.{statement_text, presented_text}
 
 -- the day for which a statement is given, if a closed pledge's last change was its closing
@@ -39,3 +40,8 @@ Shows contents old text (Err fault.Write) new = (t : List ℕ) × (text ≡ Some
 Shows contents old text (Err fault.Memory) new = PutFront contents old (unwrap_or text []) new × (write_failed new ≡ false)
 Shows contents old text (Err fault.Store) new = PutFront contents old (unwrap_or text []) new × (write_failed new ≡ false)
 Shows contents old text (Err fault.Unknown) new = (text ≡ None) × (new ≡ old)
+
+-- a visitor that writes a line for each element to the writer that it borrows; the writer stays the same
+pub record PutsElement {W T : Type 0} (contents : W → Option (List ℕ)) (line : T → List ℕ) (v : StatementLines W) (x : T) (flow : Flow) (w : StatementLines W) : Type 0 where
+  pub puts : PutsLine contents line v.writer.now x flow w.writer.now
+  pub same_writer : w.writer.ghost_name ≡ v.writer.ghost_name

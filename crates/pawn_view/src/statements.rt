@@ -1,8 +1,8 @@
 //! The statement of a pledge.
 ghost use Rattle.std.specs.Prelude.{◌≡◌, ◌≤◌, false, true, Some, max, IsErrOf};
-ghost use Rattle.pawn_view.specs.Common.{IsQuietView, IsSound, IsSteady, PledgeValue, Puts, PutsLine, PutsShare, Reads, brief_of, brief_owing, brief_status, call_end, ending_of, write_failed};
+ghost use Rattle.pawn_view.specs.Common.{IsQuietView, IsSound, IsSteady, PledgeValue, Puts, PutsShare, Reads, brief_of, brief_owing, brief_status, call_end, ending_of, flat_map, write_failed};
 ghost use Rattle.pawn_view.specs.Text.{first_lines, state_lines, statement_text, extended_line, entry_line};
-ghost use Rattle.pawn_view.specs.Shown.{Shows, pledge_at, statement_of, open_or_last};
+ghost use Rattle.pawn_view.specs.Shown.{PutsElement, Shows, pledge_at, statement_of, open_or_last};
 
 use crate::lines::{
     put_booking, put_closing, put_day, put_entry, put_extended, put_held, put_kind, put_number,
@@ -12,21 +12,65 @@ use pawn_book::{Brief, Closing, Day, Entry, Extension, Flow, Keep, KeepError, Nu
 use pawn_writing::{ViewFault, Writing, visit_entries, visit_extensions};
 use std::io::Write;
 
-impl<W: Write> Visitor<Entry> for Writing<W> {
-    ghost step = { λ v e flow w. PutsLine W.contents entry_line v e flow w };
+// A visitor that writes a line for each entry, and for each extension.
+#[derive(Drop)]
+struct StatementLines<'a, W> {
+    writer: &'a mut Writing<W>,
+}
+
+impl<'a, W: Write> Visitor<Entry> for StatementLines<'a, W> {
+    ghost step = { λ v e flow w. PutsElement W.contents entry_line v e flow w };
 
     fn visit(&mut self, entry: &Entry) -> Flow {
-        put_entry(self, entry);
-        self.flow()
+        put_entry(self.writer, entry);
+        self.writer.flow()
     }
 }
 
-impl<W: Write> Visitor<Extension> for Writing<W> {
-    ghost step = { λ v e flow w. PutsLine W.contents extended_line v e flow w };
+impl<'a, W: Write> Visitor<Extension> for StatementLines<'a, W> {
+    ghost step = { λ v e flow w. PutsElement W.contents extended_line v e flow w };
 
     fn visit(&mut self, extension: &Extension) -> Flow {
-        put_extended(self, extension);
-        self.flow()
+        put_extended(self.writer, extension);
+        self.writer.flow()
+    }
+}
+
+impl<'a, W: Write> StatementLines<'a, W> {
+    // Writes the lines of the extensions of the pledge that this brief is of.
+    fn put_extensions<K: Keep>(
+        &mut self,
+        keep: &mut K,
+        book: Number,
+        number: Number,
+        brief: &Brief,
+    ) -> Result<(), KeepError>
+        ensures shares { Reads K.keeping keep.old keep.new (λ h. (p : PledgeValue)
+            → pledge_at h book number ≡ Some p → brief.now ≡ brief_of p
+            → PutsShare W.contents self.old.writer.now (flat_map extended_line p.extensions)
+            (call_end result) self.new.writer.now) }
+        ensures same_writer { self.new.writer.ghost_name ≡ self.old.writer.ghost_name }
+        ensures steady { IsSteady K.keeping keep.old result }
+    {
+        visit_extensions(keep, book, number, brief, self)
+    }
+
+    // Writes the lines of the entries of the pledge that this brief is of.
+    fn put_entries<K: Keep>(
+        &mut self,
+        keep: &mut K,
+        book: Number,
+        number: Number,
+        brief: &Brief,
+    ) -> Result<(), KeepError>
+        ensures shares { Reads K.keeping keep.old keep.new (λ h. (p : PledgeValue)
+            → pledge_at h book number ≡ Some p → brief.now ≡ brief_of p
+            → PutsShare W.contents self.old.writer.now (flat_map entry_line p.entries)
+            (call_end result) self.new.writer.now) }
+        ensures same_writer { self.new.writer.ghost_name ≡ self.old.writer.ghost_name }
+        ensures steady { IsSteady K.keeping keep.old result }
+    {
+        visit_entries(keep, book, number, brief, self)
     }
 }
 
@@ -91,12 +135,13 @@ pub(crate) fn put_statement<K: Keep, W: Write>(
     ensures steady { IsSteady K.keeping keep.old result }
 {
     put_first(writer, brief);
-    match visit_extensions(keep, book, number, brief, writer) {
+    let mut lines = StatementLines { writer };
+    match lines.put_extensions(keep, book, number, brief) {
         Ok(()) => {}
         Err(error) => return Err(error),
     }
-    put_state(writer, brief, shown_day(brief, day));
-    visit_entries(keep, book, number, brief, writer)
+    put_state(lines.writer, brief, shown_day(brief, day));
+    lines.put_entries(keep, book, number, brief)
 }
 
 /// Writes the statement of a pledge, asked for on this day. The keeper's content stays as it is.

@@ -1,6 +1,6 @@
 use Rattle.pawn_saving.proofs.Writing.{[], arith, length, length-append, refl, subst, true, ℕ, ◌++◌, ◌+◌, ◌∙◌, ◌∷◌, ◌≡◌, state, Rates, with_change, rows, with_rows, number, terms_cells, IsWrittenPart, listed_as, as_lists, clean_before}
 use Rattle.pawn_book.specs.declared.change.Change.TheVariants.{AddTerms}
-use Rattle.pawn_saving.proofs.BookChanges.{longer_written, other_books, others}
+use Rattle.pawn_saving.proofs.BookChanges.{longer_written, only_book, other_books}
 use Rattle.pawn_saving.proofs.changes.add_terms.Goals as goal
 
 pub returns-clause-wrote : goal.returns-clause-wrote
@@ -19,7 +19,6 @@ returns-clause-wrote g c clean within h sound can st =
     let inside = c.in_ok-put_terms.ensures.lent.leaves.inside clean1 within refl in
     let listed = with_rows (listed_as h n) 1 ((number b ∷ number v ∷ terms_cells t) ∷ listed_as h n 1) in
     let grown : length (k.terms ++ t ∷ []) ≡ v = (let more = length-append k.terms (t ∷ []) in omega (arith, more, version)) in
-    let rest = others h b v t k is version n in
-    let two = rw c.get-2.ensures.value at (c.in_ok-set_terms_count.ensures.wrote k (k.terms ++ t ∷ []) grown clean inside listed rest) in
-    let both = two (other_books h b v t k is version n) one in
+    let two = rw c.get-2.ensures.value at (c.in_ok-set_terms_count.ensures.wrote k (k.terms ++ t ∷ []) grown clean inside listed (other_books h b k is)) in
+    let both = two (only_book h b k is n) one in
     subst (λ x. IsWrittenPart h (with_change h (AddTerms b x t)) new.now 1) c.in_ok-version.ensures.value (longer_written h b v t k is version n new.now refl both)

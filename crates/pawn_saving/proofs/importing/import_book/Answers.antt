@@ -1,6 +1,6 @@
-use Rattle.pawn_saving.proofs.Writing.{refl, subst, sym, true, ◌++◌, ◌∙◌, ◌∷◌, state, rows, with_rows, number, placed_from, terms_cells, terms_tree, listed_as, as_lists, lent_anyway, lent_carried, past}
+use Rattle.pawn_saving.proofs.Writing.{refl, subst, sym, true, ◌++◌, ◌∙◌, ◌∷◌, state, rows, with_rows, number, placed_from, terms_cells, terms_tree, listed_as, as_lists, lent_anyway, lent_carried, only_book, other_books, past}
 use Rattle.pawn_tables.specs.Ours.{ListsOurs}
-use Rattle.pawn_saving.proofs.ImportWrites.{brought_numbered, filled_counted, only_book, other_books, unbooked, with_own_row, with_terms}
+use Rattle.pawn_saving.proofs.ImportWrites.{brought_numbered, filled_counted, unbooked, with_own_row, with_terms}
 use Rattle.pawn_saving.proofs.importing.import_book.Goals as goal
 
 pub returns-clause-wrote : goal.returns-clause-wrote
@@ -22,7 +22,7 @@ returns-clause-wrote g c clean within h sound can st =
     let versions = rw c.as_slice-terms.ensures.value at c.in_ok-versions.ensures.value in
     let so_many = rw c.as_slice-pledges.ensures.value at c.in_ok-so_many.ensures.value in
     let noted = rw c.get.ensures.value at (c.in_ok-set_import.ensures.wrote k brought) in
-    let first = noted (sym versions) (sym so_many) clean1 within (listed_as h n) (other_books h b key k brought is empty) (only_book h b key k brought is empty n) (as_lists _ h st) in
+    let first = noted (sym versions) (sym so_many) clean1 within (listed_as h n) (other_books h b k is) (only_book h b k is n) (as_lists _ h st) in
     let own = with_own_row h b key k brought is empty n in
     let put = subst (λ m. ListsOurs two.now (with_rows own terms_tree (placed_from (λ version t. number m ∷ number version ∷ terms_cells t) 1 c.as_slice-terms.result.now ++ own terms_tree))) c.get-2.ensures.value (c.in_ok-put_versions.ensures.wrote clean2 within1 own first) in
     let second = subst (λ ts. ListsOurs two.now (with_rows own terms_tree (placed_from (λ version t. number b ∷ number version ∷ terms_cells t) 1 ts ++ own terms_tree))) c.as_slice-terms.ensures.value put in

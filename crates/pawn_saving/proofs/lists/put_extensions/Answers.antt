@@ -14,5 +14,5 @@ loop-extension-preserved g c = (
 pub returns-clause-wrote : goal.returns-clause-wrote
 returns-clause-wrote g c =
     let end : length c.args.extensions.now ≤ c.loop-extension.extension-index = search rules in
-    let all = ap (placed_from (λ (place : ℕ) (x : Extension). under c.args.book c.args.number (extension_cells place x)) c.args.from) (take_all c.args.extensions.now c.loop-extension.extension-index end) in
+    let all = ap (placed_from (λ (place : ℕ) (x : Extension). under c.args.book c.args.number (extension_cells place x)) c.args.from) (take_all c.loop-extension.extension-index c.args.extensions.now end) in
     rw all at c.loop-extension.invariant.2.lists

@@ -14,5 +14,5 @@ loop-issued-preserved g c = (
 pub returns-clause-wrote : goal.returns-clause-wrote
 returns-clause-wrote g c =
     let end : length c.args.secrets.now ≤ c.loop-issued.issued-index = search rules in
-    let all = ap (placed_from (λ (place : ℕ) (x : Issued). under c.args.book c.args.number (secret_cells place x)) c.args.from) (take_all c.args.secrets.now c.loop-issued.issued-index end) in
+    let all = ap (placed_from (λ (place : ℕ) (x : Issued). under c.args.book c.args.number (secret_cells place x)) c.args.from) (take_all c.loop-issued.issued-index c.args.secrets.now end) in
     rw all at c.loop-issued.invariant.2.lists

@@ -13,5 +13,5 @@ loop-rates-preserved g c = (
 pub returns-clause-wrote : goal.returns-clause-wrote
 returns-clause-wrote g c =
     let end : length c.args.terms.now ≤ c.loop-rates.rates-index = search rules in
-    let all = ap (placed_from (λ (version : ℕ) (t : Rates). number c.args.book ∷ number version ∷ terms_cells t) 1) (take_all c.args.terms.now c.loop-rates.rates-index end) in
+    let all = ap (placed_from (λ (version : ℕ) (t : Rates). number c.args.book ∷ number version ∷ terms_cells t) 1) (take_all c.loop-rates.rates-index c.args.terms.now end) in
     rw all at c.loop-rates.invariant.2.lists

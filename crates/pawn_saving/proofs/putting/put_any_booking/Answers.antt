@@ -1,4 +1,4 @@
-use Rattle.pawn_saving.proofs.Writing.{state, booking_cells, under, bookings_tree, none_stands, now_stands, stood_before, on_done}
+use Rattle.pawn_saving.proofs.Writing.{state, booking_cells, under, bookings_tree, none_stands, now_stands, stood_before, on_ok}
 use Rattle.pawn_pledge.specs.declared.record.Booking.{Booking}
 use Rattle.pawn_saving.proofs.putting.put_any_booking.Goals as goal
 
@@ -6,7 +6,7 @@ pub returns-in-Some-clause-wrote : goal.returns-in-Some-clause-wrote
 returns-in-Some-clause-wrote g c before none_before clean within listed others same none l =
     let row = λ (k : Booking). under c.args.book c.args.number (booking_cells k) in
     let wrote = c.put_booking.ensures.wrote before clean within listed others (stood_before row before (listed bookings_tree) others same) none l in
-    on_done c.put_booking.result _ _ (now_stands row (state g.S.Store c.put_booking.new.tx.conn.now).now listed others c.args.booking c.in-Some.booking c.in-Some.is) wrote
+    on_ok c.put_booking.result _ _ (now_stands row (state g.S.Store c.put_booking.new.tx.conn.now).now listed others c.args.booking c.in-Some.booking c.in-Some.is) wrote
 
 pub returns-in-None-clause-wrote : goal.returns-in-None-clause-wrote
 returns-in-None-clause-wrote g c before none_before clean within listed others same none l =

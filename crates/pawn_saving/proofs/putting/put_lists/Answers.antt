@@ -1,4 +1,4 @@
-use Rattle.pawn_saving.proofs.Writing.{is_ok, refl, true, ◌++◌, state, with_rows, entries_tree, secrets_tree, entries_past, secrets_past, lists_put, on_done, past}
+use Rattle.pawn_saving.proofs.Writing.{is_ok, refl, true, ◌++◌, state, with_rows, entries_tree, secrets_tree, entries_past, secrets_past, lists_put, on_ok, past}
 use Rattle.pawn_saving.proofs.putting.put_lists.Goals as goal
 
 pub returns-clause-wrote : goal.returns-clause-wrote
@@ -16,4 +16,4 @@ returns-clause-wrote g c clean within listed l =
     let first = rw (c.behind.ensures.value, c.entries.ensures.value) at (c.in_ok-put_entries.ensures.wrote clean1 within listed l) in
     let second = rw (c.behind-2.ensures.value, c.secrets.ensures.value, c.in_ok-secrets.ensures.value) at (c.in_ok-put_secrets.ensures.wrote clean2 within1 (with_rows listed entries_tree (entries_past c.args.lengths.entries b n p ++ listed entries_tree)) first) in
     let third = rw (c.behind-3.ensures.value, c.extensions.ensures.value, c.in_ok-extensions.ensures.value) at (c.put_extensions.ensures.wrote clean within2 (with_rows (with_rows listed entries_tree (entries_past c.args.lengths.entries b n p ++ listed entries_tree)) secrets_tree (secrets_past c.args.lengths.secrets b n p ++ listed secrets_tree)) second) in
-    on_done c.put_extensions.result _ _ (lists_put new.now listed b n p c.args.lengths) third
+    on_ok c.put_extensions.result _ _ (lists_put new.now listed b n p c.args.lengths) third

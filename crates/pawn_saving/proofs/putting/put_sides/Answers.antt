@@ -1,4 +1,4 @@
-use Rattle.pawn_saving.proofs.Writing.{None, is_ok, refl, true, ◌∷◌, state, with_rows, bookings_tree, pledges_tree, totals_tree, row_under, totals_under, clean_before, sides_put, on_done, past}
+use Rattle.pawn_saving.proofs.Writing.{None, is_ok, refl, true, ◌∷◌, state, with_rows, bookings_tree, pledges_tree, totals_tree, row_under, totals_under, clean_before, sides_put, on_ok, past}
 use Rattle.std.proofs.lemmas.List.Sorted.{IsPermutation-refl}
 use Rattle.pawn_saving.proofs.putting.put_sides.Goals as goal
 
@@ -18,4 +18,4 @@ returns-clause-wrote g c clean within listed none l =
     let second = rw c.totals.ensures.value at (c.in_ok-put_totals.ensures.wrote clean2 within1 (with_rows listed pledges_tree (row_under b n p ∷ listed pledges_tree)) first) in
     let both = with_rows (with_rows listed pledges_tree (row_under b n p ∷ listed pledges_tree)) totals_tree (totals_under b n p ∷ listed totals_tree) in
     let third = rw c.standing.ensures.value at (c.put_any_booking.ensures.wrote None (λ is. refl) clean within2 both (listed bookings_tree) (IsPermutation-refl (listed bookings_tree)) none second) in
-    on_done c.put_any_booking.result _ _ (sides_put new.now listed b n p) third
+    on_ok c.put_any_booking.result _ _ (sides_put new.now listed b n p) third

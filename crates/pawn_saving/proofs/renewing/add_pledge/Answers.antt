@@ -19,5 +19,5 @@ returns-clause-wrote g c clean within h sound can st absent =
     let one = whole (none_booked h b n k p is st.ordered none) (as_lists _ h st) in
     let longer : length (put_from 1 k.pledges n p) ≡ n = (let sum = put_length n p 1 k.pledges in let zero' : Rattle.pawn_book.proofs.RowSums.part (λ (q : Rattle.pawn_pledge.specs.Pledge.PledgeValue). 1) (Rattle.pawn_book.specs.BookStep.pledge_from 1 k.pledges n) ≡ 0 = ap (Rattle.pawn_book.proofs.RowSums.part (λ (q : Rattle.pawn_pledge.specs.Pledge.PledgeValue). 1)) none in omega (arith, sum, zero', next)) in
     let two = rw (c.get-3.ensures.value, c.get-4.ensures.value) at (c.in_ok-set_pledges_count.ensures.wrote k (put_from 1 k.pledges n p)) in
-    let both = two longer clean within1 (beside (whole_pledge b n p) (listed_as h counted)) (other_books h b n k p is) (only_book h b n k p is counted) one.1 in
+    let both = two longer clean within1 (beside (whole_pledge b n p) (listed_as h counted)) (other_books h b k is) (only_book h b k is counted) one.1 in
     subst (Rattle.pawn_saving.specs.Counted.IsWrittenPart h (Rattle.pawn_book.specs.Changes.with_change h (Rattle.pawn_book.specs.declared.change.Change.TheVariants.PutPledge b n p)) new.now) (sym one.0) (next_written h b n k p is counted none new.now refl can.sound (omega (arith, next)) (omega (arith, next)) both)

@@ -1,4 +1,4 @@
-use Rattle.pawn_saving.proofs.Writing.{is_ok, refl, true, ◌∷◌, state, with_rows, bookings_tree, pledges_tree, totals_tree, row_under, totals_under, clean_before, sides_set, on_done, past}
+use Rattle.pawn_saving.proofs.Writing.{is_ok, refl, true, ◌∷◌, state, with_rows, bookings_tree, pledges_tree, totals_tree, row_under, totals_under, clean_before, sides_set, on_ok, past}
 use Rattle.pawn_debt.specs.Kept.{totals_of}
 use Rattle.pawn_pledge.specs.Pledge.{debt_of}
 use Rattle.pawn_saving.proofs.renewing.set_sides.Goals as goal
@@ -19,4 +19,4 @@ returns-clause-wrote g c before agreed booked clean within listed others sides l
     let second = rw c.totals.ensures.value at (c.in_ok-set_totals.ensures.wrote (totals_of (debt_of before)) clean2 within1 (with_rows listed pledges_tree (row_under b n p ∷ others pledges_tree)) (others totals_tree) sides.totals first) in
     let both = with_rows (with_rows listed pledges_tree (row_under b n p ∷ others pledges_tree)) totals_tree (totals_under b n p ∷ others totals_tree) in
     let third = rw c.standing.ensures.value at (c.put_any_booking.ensures.wrote before.standing.booking) in
-    on_done c.put_any_booking.result _ _ (sides_set new.now listed b n p others) (third booked clean within2 both (others bookings_tree) sides.bookings sides.no_booking second)
+    on_ok c.put_any_booking.result _ _ (sides_set new.now listed b n p others) (third booked clean within2 both (others bookings_tree) sides.bookings sides.no_booking second)
