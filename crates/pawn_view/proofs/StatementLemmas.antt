@@ -1,6 +1,6 @@
 -- A statement, put part by part.
 use Rattle.std.proofs.Common.{◌≡◌, ◌∙◌, ℕ, Bool, true, false, List, ◌++◌, Option, Some, None, Result, Ok, Err, refl, sym, ap, subst, [], ◌∷◌, inl, inr}
-use Rattle.pawn_view.specs.Common.{BriefFields, End, Entry, Extension, Flow, Front, Handed, IsShare, KeepError, Owing, PledgeValue, PutFront, Puts, PutsLine, PutsShare, ViewFault, Whole, Writing, Written, brief_of, brief_owing, brief_status, call_end, debt_of, due, end_of, ending_of, entries_of, extensions_of, flat_map, max, option_map, owing_of, status_of, unwrap_or, write_failed}
+use Rattle.pawn_view.specs.Common.{BriefFields, End, Flow, Front, Handed, IsShare, KeepError, Owing, PledgeValue, PutFront, Puts, PutsLine, PutsShare, ViewFault, Whole, Writing, Written, brief_of, brief_owing, brief_status, call_end, debt_of, due, end_of, ending_of, flat_map, max, option_map, owing_of, status_of, unwrap_or, write_failed}
 use Rattle.pawn_book.specs.declared.fault.KeepError.TheVariants as error
 use Rattle.pawn_view.specs.declared.statements.StatementLines.{StatementLines}
 use Rattle.pawn_view.specs.Shown.{PutsElement}

@@ -1,7 +1,6 @@
 -- What a call that writes a text has written, and what it answers.
 use Rattle.std.specs.Prelude.{ℕ, false, max, List, [], Option, Some, None, Result, Ok, Err, ◌≡◌, map, option_map, unwrap_or, if◌then◌else◌}
-use Rattle.pawn_view.specs.Common.{Closing, End, Flow, Front, Host, Keeping, Open, PledgeValue, PutFront, Puts, PutsLine, Receipt, Redeemed, Share, Sold, ViewFault, Whole, Writing, Written, are_unknown, get, live_at, pledge_in, write_failed}
-use Rattle.pawn_book.specs.declared.visit.Flow.TheVariants.{Go, Stop}
+use Rattle.pawn_view.specs.Common.{Closing, Flow, Front, Host, Open, PledgeValue, PutFront, PutsLine, Receipt, Redeemed, Sold, ViewFault, Whole, Writing, Written, are_unknown, get, live_at, pledge_in, write_failed}
 use Rattle.pawn_writing.specs.declared.fault.ViewFault.TheVariants as fault
 use Rattle.pawn_view.specs.declared.statements.StatementLines.{StatementLines}
 use Rattle.pawn_view.specs.Text.{statement_text, presented_text}
