@@ -22,7 +22,7 @@ use moving::move_file;
 use pawn_check::check;
 use pawn_host::{Reading, Secret, Service, Writing};
 use pawn_program::{ClockStamps, ServeSettings, Served, Settings, SettingsFault, Stamps, Words};
-use pawn_store::{OpenFault, TableKeep, answer_over_tables, serve_over_tables};
+use pawn_store::{CONNECTIONS, OpenFault, TableKeep, answer_over_tables, serve_to_the_end};
 use sqlite::Alter;
 use std::env;
 use std::env::Args;
@@ -30,9 +30,6 @@ use std::net::TcpListener;
 use std::process::ExitCode;
 use stop::{Stop, tell};
 use store::{close, file_keep, folded_keep, is_memory, memory_keep};
-
-/// After so many connections, accepted or failed, the program ends.
-const CONNECTIONS: u32 = 1_000_000;
 
 fn main(rt: HostRuntime) -> ExitCode {
     match obey(&rt) {
@@ -153,11 +150,10 @@ fn listen<S: Alter + Drop>(
         return Err(Stop::Io);
     };
     let mut stamps = ClockStamps::new(rt, Words::new(rng));
-    let served = serve_over_tables(&listener, service, &mut stamps, CONNECTIONS);
-    if served.is_shut {
-        return Err(Stop::Fault(Fault::Opening(OpenFault::Store)));
+    match serve_to_the_end(&listener, service, &mut stamps) {
+        Ok(served) => Ok(served),
+        Err(_) => Err(Stop::Fault(Fault::Opening(OpenFault::Store))),
     }
-    Ok(served.served)
 }
 
 // Moves a store to the program's schema, and prints which it had.
