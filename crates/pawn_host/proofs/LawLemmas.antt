@@ -3,7 +3,7 @@ use Rattle.std.proofs.Common.{◌≡◌, ℕ, suc, ◌+◌, ◌<◌, ◌≤◌, 
 use Rattle.pawn_host.specs.Common.{All, BadHead, EndsInTarget, Event, HasNoRequest, HeadFault, Host, IsBadHead, Mark, ReadsHead, ReadsRequest, RequestHead, Stamp, WireFault, body_length, closes_by, concat, fields_of, max_fields, max_head, nat_le, no_memory, no_store, print_request, read_as, run_host, run_replies}
 use Rattle.pawn_host.specs.Sessions.{AreCutAndFault, Begins, BeginsAndGoesOn, ClosesAfter, Ending, HasFault, HasNoWhole, IsCut, IsLeftOpen, IsMarkOf, IsMarked, IsOpen, IsRequest, IsWanting, Item, MayGoOn, PassesOver, Splits, StopsAt, at_end, at_limit, closed, cut, events, faulted, host_after_run, input_of, refusal_of_mark, refusals, replies, said_text}
 use Rattle.pawn_host.proofs.Lemmas.{All-head, All-tail, append_cancel_left, bad_head_never, head_some, nat_tests, nil_is_no_bad_head, reads_more, reads_unique, request_unique, take-append-le, take_all}
-use Rattle.pawn_host.proofs.SplitLemmas.{passes-snoc}
+use Rattle.pawn_host.proofs.SplitLemmas.{length_snoc, passes-snoc}
 
 -- ---- fronts
 
@@ -210,9 +210,6 @@ split_begins s requests all e (inl y) (inl x) = begins_stop s requests all e x.0
 split_begins s requests all e (inr y) (inl x) = begins_close s requests all x.0 x.1 y.0
 split_begins s requests all e (inl y) (inr x) = absurd (closes_or_stops s all requests e y.0 y.1 y.2 x)
 split_begins s requests all e (inr y) (inr x) = ([], closes_same s all requests y.0 x ∙ sym (append-nil requests))
-
-pub length_snoc : (requests : List (List ℕ)) (x : List ℕ) → length (requests ++ x ∷ []) ≡ suc (length requests)
-length_snoc requests x = length-append requests (x ∷ []) ∙ (omega arith)
 
 begins_next : (s : List ℕ) (requests : List (List ℕ)) (next more : List ℕ) (c : Bool) → PassesOver s requests (next ++ more) → IsRequest next c → length requests < 1000 → Begins s (requests ++ next ∷ [])
 begins_next s requests next more true p q few = inr (requests, next, more, p, q, few, refl)

@@ -4,8 +4,8 @@ use Rattle.pawn_host.specs.Common.{Consumes, HeadFacts, HeadFault, IfOk, IsHeadR
 use Rattle.std.proofs.lemmas.List.Folds.{concat-append}
 use Rattle.pawn_host.proofs.Lemmas.{Consumes-kept, Consumes-nil, Consumes-trans, reads_more, request_unique, take-append-drop}
 use Rattle.pawn_host.specs.Sessions.{AreMissing, AreWanted, FindsHead, HasHead, HasNoWhole, IsFetched, IsReadWhileWanted, IsRequest, PassesOver, Rest, most_requests}
-use Rattle.pawn_host.proofs.SplitLemmas.{passes-snoc, front_request}
-use Rattle.pawn_host.proofs.LawLemmas.{ok_same, length_snoc}
+use Rattle.pawn_host.proofs.SplitLemmas.{front_request, length_snoc, passes-snoc}
+use Rattle.pawn_host.proofs.LawLemmas.{ok_same}
 
 -- ---- no whole request stands in the buffer
 

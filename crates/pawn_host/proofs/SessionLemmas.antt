@@ -8,8 +8,8 @@ use Rattle.pawn_book.proofs.Reading.{on_then}
 use Rattle.pawn_host.specs.declared.service.Service.{Service}
 use Rattle.pawn_host.proofs.CrashLemmas.{seen_from, goes_from, goes-append}
 use Rattle.pawn_host.proofs.FindLemmas.{not_by_writer}
-use Rattle.pawn_host.specs.declared.session.Ending.{Ending}
-use Rattle.pawn_host.specs.declared.session.Ending.TheVariants.{End, Cut, Closed, Faulted, Limit, NoStamp, Memory}
+use Rattle.pawn_host.specs.declared.session.SessionEnd.{SessionEnd}
+use Rattle.pawn_host.specs.declared.session.SessionEnd.TheVariants.{End, Cut, Closed, Faulted, Limit, NoStamp, Memory}
 use Rattle.pawn_host.specs.declared.session.Ended.{Ended}
 use Rattle.pawn_host.specs.declared.session.IoFault.{IoFault}
 use Rattle.pawn_host.proofs.SplitLemmas.{SplitsOn, splits_start, splits_more, splits_closed, splits_begun, splits_under_way, splits_goes_on, splits_ending, stops_end, stops_cut, stops_fault, stops_limit}
@@ -58,12 +58,12 @@ pub record Leaves {S : Type 0} (steps : S → Option Stamp → S → Type 0) (to
   pub cause : IfErr result (λ fault. IsCausedBy fault.cause read_failed reads failed)
 
 module _ {S : Type 0} (steps : S → Option Stamp → S → Type 0) (to : S) (acted sent reads : ℕ) (old new : Option (List ℕ)) (read_failed failed : Bool) where
-  finished_leaves : (how : Ending) (text : List ℕ) (result : Result Ended IoFault) → IsLeftBy steps how to to → HasRoom how acted → acted < 1000 → read_failed ≡ false
+  finished_leaves : (how : SessionEnd) (text : List ℕ) (result : Result Ended IoFault) → IsLeftBy steps how to to → HasRoom how acted → acted < 1000 → read_failed ≡ false
       → IsFinished how acted sent text old new failed result → Leaves steps to acted reads read_failed failed result
   finished_leaves how text (Ok ended) left room few readable is = record {
     count = sym is.1;
-    left = subst (λ (h : Ending). IsLeftBy steps h to to) (sym is.0) left;
-    room = subst (λ (h : Ending). HasRoom h ended.acted) (sym is.0) (subst (HasRoom how) (sym is.1) room);
+    left = subst (λ (h : SessionEnd). IsLeftBy steps h to to) (sym is.0) left;
+    room = subst (λ (h : SessionEnd). HasRoom h ended.acted) (sym is.0) (subst (HasRoom how) (sym is.1) room);
     whole = (readable, is.3);
     cause = tt;
   }
@@ -183,7 +183,7 @@ wrote_more old new new' before text after count is wrote send =
 
 module _ {S : Type 0} {steps : S → Option Stamp → S → Type 0} {given : Given S} where
   -- an end without a last text
-  pub ended : {to : S} {kept : Kept} {rest new : Option (List ℕ)} {acted sent : ℕ} (how : Ending) (so : SoFar steps given to kept rest new acted sent)
+  pub ended : {to : S} {kept : Kept} {rest new : Option (List ℕ)} {acted sent : ℕ} (how : SessionEnd) (so : SoFar steps given to kept rest new acted sent)
       → (last : S) → IsLeftBy steps how to last → EndsAs how given.stream (requests_of so.items) [] → IsSession steps given last new (Ok (record { how = how; acted = acted })) kept
   ended {to} {kept} {rest} {new} {acted} {sent} how so last stamps ends = record {
     items = so.items;
@@ -233,17 +233,17 @@ module _ {S : Type 0} {steps : S → Option Stamp → S → Type 0} {given : Giv
       due Write by_reader = absurd (by_reader refl)
 
   -- a last text was written, or a part of it
-  finished : {to : S} {kept : Kept} {rest new : Option (List ℕ)} {acted sent : ℕ} (new' : Option (List ℕ)) (failed : Bool) (how : Ending) (text : List ℕ) (result : Result Ended IoFault) (so : SoFar steps given to kept rest new acted sent)
+  finished : {to : S} {kept : Kept} {rest new : Option (List ℕ)} {acted sent : ℕ} (new' : Option (List ℕ)) (failed : Bool) (how : SessionEnd) (text : List ℕ) (result : Result Ended IoFault) (so : SoFar steps given to kept rest new acted sent)
       → IsLeftBy steps how to to → EndsAs how given.stream (requests_of so.items) text → DueAfter Write given.stream (requests_of so.items) text → IsFinished how acted sent text new new' failed result → IsSession steps given to new' result kept
   finished {to} {kept} {rest} {new} {acted} {sent} new' failed how text (Ok ended) so stamps ends due fin = record {
     items = so.items;
     to = to;
     last = text;
     served = so.served;
-    left = subst (λ (h : Ending). IsLeftBy steps h to to) (sym fin.0) stamps;
+    left = subst (λ (h : SessionEnd). IsLeftBy steps h to to) (sym fin.0) stamps;
     count = so.count ∙ sym fin.1;
     wrote = Appends-trans given.written new new' (answer_text given.start so.items) text so.wrote fin.2;
-    ends = subst (λ (h : Ending). EndsAs h given.stream (requests_of so.items) text) (sym fin.0) ends;
+    ends = subst (λ (h : SessionEnd). EndsAs h given.stream (requests_of so.items) text) (sym fin.0) ends;
   }
   finished {to} {kept} {rest} {new} {acted} {sent} new' failed how text (Err fault) so stamps ends due fin =
       let n : ℕ = fin.0 in
@@ -379,7 +379,7 @@ module _ {S : Type 0} {steps : S → Option Stamp → S → Type 0} {given : Giv
 pub within_most : (result : Result Ended IoFault) → IsWithinMost result → acted_count result ≤ most_requests
 within_most (Ok ended) room = by_how ended.how ended.acted room
   where
-    by_how : (how : Ending) (acted : ℕ) → HasRoom how acted → acted ≤ most_requests
+    by_how : (how : SessionEnd) (acted : ℕ) → HasRoom how acted → acted ≤ most_requests
     by_how End acted room = omega arith
     by_how Cut acted room = omega arith
     by_how Closed acted room = omega arith

@@ -3,7 +3,9 @@ use Rattle.std.proofs.Common.{◌≡◌, ℕ, suc, ◌+◌, ◌<◌, ◌≤◌, 
 use Rattle.pawn_host.proofs.Lemmas.{take-append-drop, take-append-le, whole_front}
 use Rattle.pawn_host.specs.Common.{HeadFacts, HeadFault, Keeps, ReadsHead, prepend_known, print_request}
 use Rattle.pawn_host.specs.Sessions.{AtEnd, Begins, BeginsAndGoesOn, CutOff, Ending, Faulty, FindsHead, FindsRest, IsRequest, IsUnderWay, PassesOver, Splits, StopsAt, at_end, at_limit, closed, cut, faulted}
-use Rattle.pawn_host.proofs.LawLemmas.{length_snoc}
+
+pub length_snoc : (requests : List (List ℕ)) (x : List ℕ) → length (requests ++ x ∷ []) ≡ suc (length requests)
+length_snoc requests x = length-append requests (x ∷ []) ∙ (omega arith)
 
 -- the stream from its start is these requests and then what is left
 abbrev pub SplitsOn : Option (List ℕ) → Option (List ℕ) → List (List ℕ) → Type 0

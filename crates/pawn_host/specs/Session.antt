@@ -6,8 +6,8 @@ use Rattle.pawn_host.specs.Keeps.{Start, Kept, GoesBy, replies_by}
 use Rattle.pawn_host.specs.declared.session.Rest.{Rest}
 use Rattle.pawn_host.specs.declared.session.Rest.TheVariants.{AtEnd, CutOff, Faulty, NoMemory, Stopped}
 use Rattle.pawn_host.specs.Run.{Item, IsMarked}
-use Rattle.pawn_host.specs.declared.session.Ending.{Ending}
-use Rattle.pawn_host.specs.declared.session.Ending.TheVariants.{End, Cut, Closed, Faulted, Limit, NoStamp, Memory}
+use Rattle.pawn_host.specs.declared.session.SessionEnd.{SessionEnd}
+use Rattle.pawn_host.specs.declared.session.SessionEnd.TheVariants.{End, Cut, Closed, Faulted, Limit, NoStamp, Memory}
 use Rattle.pawn_host.specs.declared.session.Ended.{Ended}
 use Rattle.pawn_host.specs.declared.session.IoFault.{IoFault}
 use Rattle.pawn_host.specs.declared.session.Cause.{Cause}
@@ -28,7 +28,7 @@ abbrev pub due_text : Start → List Item → List ℕ → List ℕ
 due_text start items last = answer_text start items ++ last
 
 -- what is so of the stream and of the last text, by how the session ended
-abbrev pub EndsAs : Ending → Option (List ℕ) → List (List ℕ) → List ℕ → Type 0
+abbrev pub EndsAs : SessionEnd → Option (List ℕ) → List (List ℕ) → List ℕ → Type 0
 EndsAs End left requests last = (last ≡ []) × IfSome left (λ s. Splits s requests at_end)
 EndsAs Cut left requests last = (last ≡ []) × IfSome left (λ s. Splits s requests cut)
 EndsAs Closed left requests last = (last ≡ []) × IfSome left (λ s. Splits s requests closed)
@@ -54,7 +54,7 @@ acted_count (Err fault) = fault.acted
 
 -- If a further request was looked for, fewer than the limit were acted on. A session that ended by its limit acted on
 -- exactly so many. One that was closed, or broke off over a reply, may have acted on the last of them.
-abbrev pub HasRoom : Ending → ℕ → Type 0
+abbrev pub HasRoom : SessionEnd → ℕ → Type 0
 HasRoom End acted = acted < most_requests
 HasRoom Cut acted = acted < most_requests
 HasRoom Closed acted = acted ≤ most_requests
@@ -81,7 +81,7 @@ pub record IsReadWhileWanted (count : ℕ) (before after : Option (List ℕ)) : 
 
 module _ {S : Type 0} (steps : S → Option Stamp → S → Type 0) where
   -- the state of the stamps after a session: if it ended for want of a stamp, one further call was made, and gave none
-  abbrev pub IsLeftBy : Ending → S → S → Type 0
+  abbrev pub IsLeftBy : SessionEnd → S → S → Type 0
   IsLeftBy NoStamp to new = steps to None new
   IsLeftBy End to new = to ≡ new
   IsLeftBy Cut to new = to ≡ new
@@ -146,7 +146,7 @@ module _ {S : Type 0} (steps : S → Option Stamp → S → Type 0) (given : Giv
   IsSession stamps written (Err fault) kept = IsBrokenOff stamps written fault kept
 
 -- the last text was written, or only a part of it because the writer failed
-abbrev pub IsFinished : Ending → ℕ → ℕ → List ℕ → Option (List ℕ) → Option (List ℕ) → Bool → Result Ended IoFault → Type 0
+abbrev pub IsFinished : SessionEnd → ℕ → ℕ → List ℕ → Option (List ℕ) → Option (List ℕ) → Bool → Result Ended IoFault → Type 0
 IsFinished how acted sent text old new failed (Ok ended) =
     (ended.how ≡ how) × (ended.acted ≡ acted) × Appends old new text × (failed ≡ false)
 IsFinished how acted sent text old new failed (Err fault) =

@@ -28,4 +28,4 @@ pub use pawn_book::{Day, Keep, Number, RequestDay, Secret, Stamp};
 pub use pawn_writing::Writing;
 pub use reading::Reading;
 pub use service::{Answer, Service};
-pub use session::{Cause, Ended, Ending, IoFault};
+pub use session::{Cause, Ended, IoFault, SessionEnd};

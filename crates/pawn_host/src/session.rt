@@ -15,7 +15,7 @@ use std::io::{Read, Write};
 
 /// How a session ended.
 #[derive(Clone, Copy, Debug, PartialEq, Eq)]
-pub enum Ending {
+pub enum SessionEnd {
     /// The stream ended between two requests.
     End,
     /// The stream ended inside a request.
@@ -35,7 +35,7 @@ pub enum Ending {
 /// A session that ended: how it ended, and how many requests were answered.
 #[derive(Clone, Copy, Debug, PartialEq, Eq)]
 pub struct Ended {
-    pub how: Ending,
+    pub how: SessionEnd,
     pub acted: u32,
 }
 
@@ -221,7 +221,7 @@ fn answer_slice(answer: &Answer) -> &[u8]
 fn write_last<W: Write>(
     writer: &mut Writing<W>,
     text: &[u8],
-    how: Ending,
+    how: SessionEnd,
     acted: u32,
     sent: u128,
 ) -> Result<Ended, IoFault>
@@ -254,10 +254,16 @@ fn finish<W: Write>(
         (written_bytes W.contents writer.new) (write_failed writer.new) result }
 {
     match rest {
-        Rest::AtEnd => write_last(writer, &[], Ending::End, acted, sent),
-        Rest::CutOff => write_last(writer, &[], Ending::Cut, acted, sent),
-        Rest::Faulty(fault) => write_last(writer, fault_reply(fault), Ending::Faulted, acted, sent),
-        Rest::NoMemory => write_last(writer, memory_reply(), Ending::Memory, acted, sent),
+        Rest::AtEnd => write_last(writer, &[], SessionEnd::End, acted, sent),
+        Rest::CutOff => write_last(writer, &[], SessionEnd::Cut, acted, sent),
+        Rest::Faulty(fault) => write_last(
+            writer,
+            fault_reply(fault),
+            SessionEnd::Faulted,
+            acted,
+            sent,
+        ),
+        Rest::NoMemory => write_last(writer, memory_reply(), SessionEnd::Memory, acted, sent),
         Rest::Stopped(cause) => Err(IoFault { cause, acted, sent }),
     }
 }
@@ -305,7 +311,7 @@ impl<K: Keep> Service<K> {
                 Err(rest) => return finish(writer, rest, acted, sent),
             };
             let Some(stamp) = stamps.next() else {
-                let how = Ending::NoStamp;
+                let how = SessionEnd::NoStamp;
                 return Ok(Ended { how, acted });
             };
             let needed = request_len(&head);
@@ -319,12 +325,12 @@ impl<K: Keep> Service<K> {
                 return Err(IoFault { cause, acted, sent });
             }
             if head.closes {
-                let how = Ending::Closed;
+                let how = SessionEnd::Closed;
                 return Ok(Ended { how, acted });
             }
             buffer.answer(needed);
         }
-        let how = Ending::Limit;
+        let how = SessionEnd::Limit;
         let acted = MOST_REQUESTS;
         Ok(Ended { how, acted })
     }

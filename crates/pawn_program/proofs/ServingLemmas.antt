@@ -12,8 +12,8 @@ use Rattle.pawn_host.specs.Crashes.{IsLeftByRun}
 use Rattle.pawn_host.specs.Split.{most_requests}
 use Rattle.pawn_host.specs.Session as session
 use Rattle.pawn_host.specs.Session.{Given, stamps_of, IsLeftBy, acted_count}
-use Rattle.pawn_host.specs.declared.session.Ending.{Ending}
-use Rattle.pawn_host.specs.declared.session.Ending.TheVariants.{End, Cut, Closed, Faulted, Limit, NoStamp, Memory}
+use Rattle.pawn_host.specs.declared.session.SessionEnd.{SessionEnd}
+use Rattle.pawn_host.specs.declared.session.SessionEnd.TheVariants.{End, Cut, Closed, Faulted, Limit, NoStamp, Memory}
 use Rattle.pawn_host.specs.declared.session.Ended.{Ended}
 use Rattle.pawn_host.specs.declared.session.IoFault.{IoFault}
 use Rattle.pawn_host.proofs.RunMore.{marked_all}
@@ -74,7 +74,7 @@ dry steps from to last items taken none =
     let among : stamps_among (all ++ None ∷ []) ≡ stamps_of items = among_then all (None ∷ []) ∙ append-nil (stamps_among all) ∙ among_all (stamps_of items) in
     (all ++ None ∷ [], gives_then steps from to last all (None ∷ []) (gives_all steps from to (stamps_of items) taken) (last, none, refl), among)
 
-given_by : {S : Type 0} (steps : S → Option Stamp → S → Type 0) (from to last : S) (items : List Item) (how : Ending) → Yields steps from (stamps_of items) to → IsLeftBy steps how to last
+given_by : {S : Type 0} (steps : S → Option Stamp → S → Type 0) (from to last : S) (items : List Item) (how : SessionEnd) → Yields steps from (stamps_of items) to → IsLeftBy steps how to last
     → (given : List (Option Stamp)) × GivesInOrder steps from given last × (stamps_among given ≡ stamps_of items)
 given_by steps from to last items End taken left = none_more steps from to last items taken left
 given_by steps from to last items Cut taken left = none_more steps from to last items taken left

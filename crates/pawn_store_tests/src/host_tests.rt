@@ -9,7 +9,7 @@ mod turns;
 
 use ends::{Log, Sink, Source, Stamps};
 use pawn_book::{Keep, RequestDay, Secret, Stamp};
-use pawn_host::{Answer, Cause, Ended, Ending, IoFault, Reading, Service};
+use pawn_host::{Answer, Cause, Ended, IoFault, Reading, Service, SessionEnd};
 use pawn_list_keeper::ListKeep;
 use pawn_store::{keep_in_memory, run_over_tables};
 use pawn_writing::Writing;
@@ -214,13 +214,13 @@ fn repeated(alloc: Global, bytes: &[u8], times: u32, rest: &[u8]) -> Result<Vec<
 struct Stream {
     requests: u32,
     rest: &'static [u8],
-    how: Ending,
+    how: SessionEnd,
     acted: u32,
     last: &'static [u8],
 }
 
 // A stream after whose replies nothing is written.
-fn ending(requests: u32, rest: &'static [u8], how: Ending, acted: u32) -> Stream {
+fn ending(requests: u32, rest: &'static [u8], how: SessionEnd, acted: u32) -> Stream {
     Stream {
         requests,
         rest,
@@ -250,18 +250,18 @@ fn a_session_tells_how_its_stream_ended(rt: HostRuntime) -> Result<(), Fail> {
     let faulted = Stream {
         requests: 1,
         rest: b"}",
-        how: Ending::Faulted,
+        how: SessionEnd::Faulted,
         acted: 1,
         last: BAD_HEAD,
     };
     for wanted in [
-        ending(0, b"", Ending::End, 0),
-        ending(2, b"", Ending::End, 2),
-        ending(3, b"", Ending::NoStamp, 2),
-        ending(1, b"GET /books/7/he", Ending::Cut, 1),
-        ending(1, HALF_BODY, Ending::Cut, 1),
-        ending(0, CLOSING_FIELD, Ending::Closed, 1),
-        ending(1, CLOSING, Ending::Closed, 2),
+        ending(0, b"", SessionEnd::End, 0),
+        ending(2, b"", SessionEnd::End, 2),
+        ending(3, b"", SessionEnd::NoStamp, 2),
+        ending(1, b"GET /books/7/he", SessionEnd::Cut, 1),
+        ending(1, HALF_BODY, SessionEnd::Cut, 1),
+        ending(0, CLOSING_FIELD, SessionEnd::Closed, 1),
+        ending(1, CLOSING, SessionEnd::Closed, 2),
         faulted,
     ] {
         ends_as(&rt, rt.alloc(), &stamps, wanted)?;
@@ -273,11 +273,11 @@ fn a_session_tells_how_its_stream_ended(rt: HostRuntime) -> Result<(), Fail> {
 fn a_thousand_requests_are_answered_and_no_more(rt: HostRuntime) -> Result<(), Fail> {
     let stamps = [stamp(&rt, 1); 1001];
     for wanted in [
-        ending(999, b"", Ending::End, 999),
-        ending(999, CLOSING, Ending::Closed, 1000),
-        ending(1000, b"", Ending::Limit, 1000),
-        ending(1001, b"", Ending::Limit, 1000),
-        ending(1000, b"}", Ending::Limit, 1000),
+        ending(999, b"", SessionEnd::End, 999),
+        ending(999, CLOSING, SessionEnd::Closed, 1000),
+        ending(1000, b"", SessionEnd::Limit, 1000),
+        ending(1001, b"", SessionEnd::Limit, 1000),
+        ending(1000, b"}", SessionEnd::Limit, 1000),
     ] {
         ends_as(&rt, rt.alloc(), &stamps, wanted)?;
     }
