@@ -1,6 +1,6 @@
 -- What was read while a request was looked for.
 use Rattle.std.proofs.Common.{◌≡◌, ℕ, ◌+◌, ◌<◌, ◌≤◌, Bool, false, List, [], ◌∷◌, ◌++◌, length, take, drop, refl, arith, Option, Some, None, Result, Ok, Err, sym, ◌∙◌, ap, subst, append_assoc, append-nil, length-append}
-use Rattle.pawn_host.specs.Common.{Consumes, HeadFacts, HeadFault, IfOk, IsHeadRead, Keeps, Partial, ReadsHead, body_length, concat, fields_of, print_request}
+use Rattle.pawn_host.specs.Common.{Consumes, HeadFacts, IfOk, IsHeadRead, Keeps, Partial, ReadsHead, body_length, concat, fields_of, print_request}
 use Rattle.std.proofs.lemmas.List.Folds.{concat-append}
 use Rattle.pawn_host.proofs.Lemmas.{Consumes-kept, Consumes-nil, Consumes-trans, reads_more, request_unique, take-append-drop}
 use Rattle.pawn_host.specs.Sessions.{AreMissing, AreWanted, FindsHead, HasHead, HasNoWhole, IsFetched, IsReadWhileWanted, IsRequest, PassesOver, Rest, most_requests}
