@@ -1,0 +1,108 @@
+"""tools/contracts reads every clause of the sources, and lists what differs between two revisions and nothing else."""
+import os
+import re
+import shutil
+import subprocess
+import tempfile
+
+from tests.library.checks import expect, main
+from tests.library.paths import TOP
+
+TOOL = os.path.join(TOP, "tools/contracts")
+BEFORE = """\
+pub struct Sum {
+    pence: u64,
+}
+
+impl Sum {
+    /// The pence.
+    pub fn get(&self) -> u64
+        ensures value { result ≡ pence_of self.now }
+        ensures low { result ≤ 9 }
+    {
+        self.pence
+    }
+
+    pub fn old(&self) -> u64
+        ensures value { result ≡ 1 }
+    {
+        1
+    }
+}
+
+pub(crate) fn stays(
+    sum: u64,
+) -> u64
+    requires low { sum ≤ 9 }
+    ensures value { made_of (record {
+      pence = sum;
+    }) result }
+{
+    sum
+}
+"""
+AFTER = BEFORE.replace("result ≤ 9", "result ≤ 10").replace("fn old", "fn new")
+WANTED = """\
+gone     one: Sum: old
+    - ensures value { result ≡ 1 }
+new      one: Sum: new
+    + ensures value { result ≡ 1 }
+changed  one: Sum: get
+    - ensures low { result ≤ 9 }
+    + ensures low { result ≤ 10 }
+"""
+
+
+def git(folder, *words):
+    name = ["-c", "user.name=Nobody", "-c", "user.email=nobody@localhost"]
+    subprocess.run(["git", "-C", folder, *name, *words], check=True, stdout=subprocess.DEVNULL)
+
+
+def told(tool, *words):
+    """What the tool prints, with its exit status."""
+    made = subprocess.run([tool, *words], capture_output=True, timeout=60, text=True)
+    return made.returncode, made.stdout
+
+
+def commit(folder, files):
+    """Commits these texts of sources as all that a repository has."""
+    shutil.rmtree(os.path.join(folder, "crates"), ignore_errors=True)
+    for path, text in files.items():
+        os.makedirs(os.path.join(folder, os.path.dirname(path)), exist_ok=True)
+        with open(os.path.join(folder, path), "w", encoding="utf-8") as it:
+            it.write(text)
+    git(folder, "add", "-A")
+    git(folder, "commit", "-q", "--allow-empty", "-m", "a revision")
+
+
+def it_lists_what_differs():
+    with tempfile.TemporaryDirectory() as folder:
+        os.makedirs(os.path.join(folder, "tools"))
+        tool = shutil.copy(TOOL, os.path.join(folder, "tools/contracts"))
+        git(folder, "init", "-q")
+        commit(folder, {"crates/one/src/lib.rt": BEFORE})
+        commit(folder, {"crates/one/src/lib.rt": AFTER})
+        expect("what differs", told(tool, "HEAD~1"), (0, WANTED))
+        commit(folder, {"crates/two/src/sum.rt": AFTER})
+        expect("what moved is not listed", told(tool, "HEAD~1", "HEAD"), (0, ""))
+        expect("a revision that is not there", told(tool, "elsewhere")[0], 2)
+
+
+def it_reads_every_clause():
+    """Against a tree without sources each clause of this one is gone."""
+    with tempfile.TemporaryDirectory() as folder:
+        shutil.copytree(os.path.join(TOP, "crates"), os.path.join(folder, "crates"), ignore=shutil.ignore_patterns("out"))
+        os.makedirs(os.path.join(folder, "tools"))
+        tool = shutil.copy(TOOL, os.path.join(folder, "tools/contracts"))
+        git(folder, "init", "-q")
+        git(folder, "add", "-A")
+        git(folder, "commit", "-q", "-m", "the sources")
+        clauses = subprocess.run(["git", "-C", folder, "grep", "-hoE", r"\b(requires|ensures)\*? [a-z_0-9]+ \{", "--",
+                                  "crates/*.rt"], capture_output=True, text=True).stdout.split("\n")
+        commit(folder, {"crates/one/src/lib.rt": ""})
+        status, lines = told(tool, "HEAD~1")
+        gone = re.findall(r"(?m)^    - (?:requires|ensures) ", lines)
+        expect("how many clauses are told of", (status, len(gone)), (0, len(clauses) - 1))
+
+
+main(it_lists_what_differs, it_reads_every_clause)
