@@ -1,10 +1,7 @@
 -- UPDATE of one row, and the upsert of one, told by the rows that the tables hold.
-use Rattle.std.proofs.Common.{◌≡◌, ◌≢◌, ℕ, ℤ, List, [], ◌∷◌, map, filter, Bool, true, false, cond, not, Option, None, Ok, refl, sym, ap, subst, ◌∙◌, IsPermutation, IsTrue}
-use Rattle.one_table.specs.Common.{AllByRecursion, taken_by, Enforced, cast_row, Update, Does, Tally, Applies, are_fresh, edit_of, is_taken, put_all, Database, understood, Row, overlay, IsAnswer, Query, Given, Task, Updates, Written, Schema, Executes, State, mode_of, Table, Term, Trees, has_rowid, put_row, rowid, without_rowid, is_int, Int, Null}
-use Rattle.one_table.proofs.Lemmas.{IsPermutation-cons, IsPermutation-map, IsPermutation-sym, IsPermutation-trans, IsPermutation-filter, all-filter, filter-map, IsShaped-filter, IsShaped-put_row, IsPlain, command_of, one_permutation, one_step, runs_as, statement_of}
+use Rattle.one_table.proofs.Basics.{◌≡◌, ◌≢◌, ℕ, ℤ, List, [], ◌∷◌, map, filter, Bool, true, false, cond, not, Option, None, Ok, refl, sym, ap, subst, ◌∙◌, IsPermutation, IsTrue, AllByRecursion, taken_by, Enforced, cast_row, Update, Does, Tally, Applies, are_fresh, edit_of, is_taken, put_all, Database, understood, Row, overlay, IsAnswer, Query, Given, Task, Updates, Written, Schema, Executes, State, mode_of, Table, Term, Trees, has_rowid, put_row, rowid, without_rowid, is_int, Int, Null, IsPermutation-cons, IsPermutation-map, IsPermutation-sym, IsPermutation-trans, IsPermutation-filter, all-filter, filter-map, IsShaped-filter, IsShaped-put_row, IsPlain, command_of, one_permutation, one_step, runs_as, statement_of, Holds, Lists, Listed, with_rows, columns_of, IsNumbered}
 use Rattle.sqlite_trees.specs.declared.store.Shape.TheVariants as shape
 use Rattle.sqlite_rules.specs.Calls.{ids_of}
-use Rattle.one_table.specs.Listing.{Holds, Lists, Listed, with_rows, columns_of, IsNumbered}
 use Rattle.one_table.proofs.OneTable.{over_table, passes, shows_of, found}
 use Rattle.one_table.proofs.Rowed.{plainly, carried, at_place, put_new, first_fresh, without_one, one_of_map, int_at}
 use Rattle.one_table.proofs.Insertion.{IsPlace, went, same_value}

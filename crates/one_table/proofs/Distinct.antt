@@ -1,13 +1,10 @@
 -- A query on one table that shows each row once.
-use Rattle.std.proofs.Common.{◌≡◌, ◌≢◌, ◌++◌, ℕ, List, [], ◌∷◌, map, filter, flat_map, Bool, true, false, refl, sym, ap, subst, ◌∙◌, IsPermutation}
-use Rattle.one_table.specs.Common.{AllByRecursion, IsDistinct, eq_by_cmp, is_eq, Ordering, Equal, Greater, Less, IsAscending, Row, overlay, IsAnswer, Output, Query, output, Schema, Shown, State, Table, Term, Trees, Null}
-use Rattle.one_table.proofs.Lemmas.{eq_by_cmp_equiv, IsPermutation-map, IsPermutation-sym, IsPermutation-filter, all-flat_map, all-map, all-permutation, all_both, all_from_map, all_weaker, map-map, reads_as}
+use Rattle.one_table.proofs.Basics.{◌≡◌, ◌≢◌, ◌++◌, ℕ, List, [], ◌∷◌, map, filter, flat_map, Bool, true, false, refl, sym, ap, subst, ◌∙◌, IsPermutation, AllByRecursion, IsDistinct, eq_by_cmp, is_eq, Ordering, Equal, Greater, Less, IsAscending, Row, overlay, IsAnswer, Output, Query, output, Schema, Shown, State, Table, Term, Trees, Null, eq_by_cmp_equiv, IsPermutation-map, IsPermutation-sym, IsPermutation-filter, all-flat_map, all-map, all-permutation, all_both, all_from_map, all_weaker, map-map, reads_as, Holds, columns_of}
 use Rattle.std.proofs.lemmas.Map.Keys.{IsDistinct-IsPermutation}
 use Rattle.sqlite_value.specs.declared.keys.Collation.{Collation}
 use Rattle.sqlite_value.specs.Keys.{collated_cmp}
 use Rattle.sqlite_value.proofs.KeyLemmas.{collated_cmp_total}
 use Rattle.sqlite_sql.specs.Group.{members}
-use Rattle.one_table.specs.Listing.{Holds, columns_of}
 use Rattle.one_table.proofs.Found.{by_columns}
 use Rattle.one_table.proofs.OneTable.{over_table, around, passes, shows_of, gathered}
 use Rattle.one_table.proofs.Texts.{Asks}

@@ -1,10 +1,7 @@
 -- What a query on one table shows, told by the rows that the table holds.
-use Rattle.std.proofs.Common.{◌≡◌, ℕ, List, [], ◌∷◌, map, filter, take, Bool, refl, sym, ap, subst, ◌∙◌, IsPermutation, reverse, ◌++◌}
+use Rattle.one_table.proofs.Basics.{◌≡◌, ℕ, List, [], ◌∷◌, map, filter, take, Bool, refl, sym, ap, subst, ◌∙◌, IsPermutation, reverse, ◌++◌, Less, Key, Row, column, value_cmp, overlay, IsAnswer, Output, Query, output, output_cmp, Schema, Shown, State, Table, Term, Value, Null, filter_agree, IsPermutation-map, IsPermutation-reverse, IsPermutation-sym, IsPermutation-trans, IsPermutation-filter, all-append, ascending-append, ascending-map, ascending_weaker, filter-map, map-map, then-Equal, reads_as, Trees, Holds, columns_of}
 use Rattle.std.proofs.lemmas.List.{reverse-append}
-use Rattle.one_table.specs.Common.{Less, Key, Row, column, value_cmp, overlay, IsAnswer, Output, Query, output, output_cmp, Schema, Shown, State, Table, Term, Value, Null}
-use Rattle.one_table.proofs.Lemmas.{filter_agree, IsPermutation-map, IsPermutation-reverse, IsPermutation-sym, IsPermutation-trans, IsPermutation-filter, all-append, ascending-append, ascending-map, ascending_weaker, filter-map, map-map, then-Equal, reads_as}
-use Rattle.sqlite.specs.Tree.{Trees, IsAscending}
-use Rattle.one_table.specs.Listing.{Holds, columns_of}
+use Rattle.sqlite.specs.Tree.{IsAscending}
 use Rattle.one_table.proofs.OneTable.{over_table, few_of_table, first_of_table, around, passes, shows_of, found, found_few, found_all}
 use Rattle.one_table.proofs.Texts.{Asks, by_column, by_column_down}
 
@@ -28,11 +25,6 @@ first_reversed (x ∷ (y ∷ ys)) =
 first_of_map : {A B : Type 0} (f : A → B) (xs : List A) → take 1 (map f xs) ≡ map f (take 1 xs)
 first_of_map f [] = refl
 first_of_map f (x ∷ xs) = refl
-
-pub last_map : {A B : Type 0} (f : A → B) (xs : List A) → last_of (map f xs) ≡ map f (last_of xs)
-last_map f [] = refl
-last_map f (x ∷ []) = refl
-last_map f (x ∷ (y ∷ ys)) = last_map f (y ∷ ys)
 
 falls : {A : Type 0} (R : A → A → Type 0) (xs : List A) → IsAscending R xs → IsAscending (λ a b. R b a) (reverse xs)
 falls R [] up = tt

@@ -1,9 +1,6 @@
 -- INSERT of one row, told by the rows that the tables hold.
-use Rattle.std.proofs.Common.{◌≡◌, ◌⊎◌, inl, inr, ℕ, ◌/◌, List, [], ◌∷◌, map, length, Some, None, Result, Ok, Err, sym, ap, subst, ◌∙◌, IsPermutation, slice_get, append-nil}
-use Rattle.one_table.proofs.Lemmas.{IsPermutation-cons, IsPermutation-map, IsPermutation-trans, IsPlain, command_of, one_step, runs_as, statement_of}
-use Rattle.one_table.specs.Common.{Enforced, cast_row, Insert, Does, Tally, Applies, edit_of, with_rowid, Database, IsDatabase, value_rows, understood, Row, Chosen, Written, Schema, Values, Executes, State, mode_of, Table, Term}
+use Rattle.one_table.proofs.Basics.{◌≡◌, ◌⊎◌, inl, inr, ℕ, ◌/◌, List, [], ◌∷◌, map, length, Some, None, Result, Ok, Err, sym, ap, subst, ◌∙◌, IsPermutation, slice_get, append-nil, IsPermutation-cons, IsPermutation-map, IsPermutation-trans, IsPlain, command_of, one_step, runs_as, statement_of, Enforced, cast_row, Insert, Does, Tally, Applies, edit_of, with_rowid, Database, IsDatabase, value_rows, understood, Row, Chosen, Written, Schema, Values, Executes, State, mode_of, Table, Term, Holds, Lists, Listed, with_rows, columns_of}
 use Rattle.sqlite_rules.specs.Action.{works}
-use Rattle.one_table.specs.Listing.{Holds, Lists, Listed, with_rows, columns_of}
 use Rattle.one_table.proofs.Rowed.{plainly, put_one, carried, at_place, IsAlone}
 
 -- a part that gave a value did not stop on the way

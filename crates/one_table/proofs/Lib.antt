@@ -1,8 +1,8 @@
 pub mod Alteration
+pub mod Basics
 pub mod Distinct
 pub mod Found
 pub mod Insertion
-pub mod Lemmas
 pub mod Lent
 pub mod OneTable
 pub mod Parts

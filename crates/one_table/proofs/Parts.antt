@@ -1,9 +1,6 @@
 -- What the parts of a transaction leave of the last commit.
-use Rattle.std.proofs.Common.{◌≡◌, ◌⊎◌, inl, inr, ℕ, List, [], Some, None, Result, Ok, Err, OnOk, IsTrue, false, sym, subst, ◌∙◌, if◌then◌else◌}
-use Rattle.one_table.specs.Common.{understood, Row, ExecutesInside, Fails, FailsToQuery, FailsToShow, IsNotRun, IsRolledBack, IsTooLate, KeepsCommit, QueriesRow, QueriesRowInside, Shown, Shows, ShowsRows, State, Writes}
+use Rattle.one_table.proofs.Basics.{◌≡◌, ◌⊎◌, inl, inr, ℕ, List, [], Some, None, Result, Ok, Err, OnOk, IsTrue, subst, ◌∙◌, if◌then◌else◌, understood, Row, ExecutesInside, Fails, FailsToQuery, FailsToShow, IsNotRun, IsRolledBack, IsTooLate, KeepsCommit, QueriesRow, QueriesRowInside, Shown, Shows, ShowsRows, State, Writes, IsPlain, Rests}
 use Rattle.sqlite.specs.declared.error.Error.{Error}
-use Rattle.sqlite.proofs.Callers.{IsPlain}
-use Rattle.one_table.specs.Lending.{Rests}
 use Rattle.sqlite.specs.Clock.{timed}
 
 by_shows : (old new : State) (now : _) (mode : _) → Shows old new now old.committed mode → KeepsCommit old new
@@ -16,10 +13,6 @@ pub kept_inside : (sql : List ℕ) (params : Row) (old new : State) (r : Result 
 kept_inside sql params old new (Ok count) h = by_shows old new _ _ h.1
 kept_inside sql params old new (Err e) (inl h) = elim h.1 [ inl same ↦ by_shows old new _ _ same.0 | inr undone ↦ by_rollback old new undone ]
 kept_inside sql params old new (Err e) (inr h) = by_shows old new _ _ h.2.0
-
-pub inside_after : (sql : List ℕ) (params : Row) (old new : State) (r : Result ℕ Error) → ExecutesInside 0 sql params old new r → OnOk r (IsTrue new.in_transaction)
-inside_after sql params old new (Ok count) h = h.1.mode
-inside_after sql params old new (Err e) h = tt
 
 by_failing : (old new : State) (P : Type 0) (e : Error) → Fails old new P e → KeepsCommit old new
 by_failing old new P e f = by_rollback old new f.3

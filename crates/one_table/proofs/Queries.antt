@@ -1,7 +1,5 @@
 -- A text that is a query writes nothing, whatever the schema is.
-use Rattle.std.proofs.Common.{◌≡◌, ℕ, ◌+◌, List, true, false, None, Result, Ok, Err, [], refl}
-use Rattle.one_table.specs.Common.{if◌then◌else◌, Compiled, CompileError, if_select, is_select, listing_schema, reads_listing, understood, Schema}
-use Rattle.sqlite_tied.specs.Compute.{everything}
+use Rattle.one_table.proofs.Basics.{◌≡◌, ℕ, ◌+◌, List, true, false, None, Result, Ok, Err, [], refl, if◌then◌else◌, Compiled, CompileError, if_select, is_select, listing_schema, reads_listing, understood, Schema}
 use Rattle.sqlite_resolve.specs.Compile.{compiled, planned, meaning, first, returning, timed, command, small}
 use Rattle.sqlite_resolve.specs.Lowering.{and_then}
 use Rattle.sqlite_resolve.specs.declared.error.CompileError.TheVariants.{NoSuchTable}

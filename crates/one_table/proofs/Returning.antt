@@ -1,8 +1,6 @@
 -- A write with RETURNING.
-use Rattle.std.proofs.Common.{◌≡◌, inl, inr, ℕ, List, [], Some, Ok, sym, ap, subst₂, ◌∙◌, append-nil, slice_get}
-use Rattle.one_table.specs.Common.{Returning, understood, Row, Schema, Begins, QueriesRow, Shown, State, Writes}
+use Rattle.one_table.proofs.Basics.{◌≡◌, inl, inr, ℕ, List, [], Some, Ok, sym, ap, subst₂, ◌∙◌, append-nil, slice_get, Returning, understood, Row, Schema, Begins, QueriesRow, Shown, State, Writes, command_of, statement_of}
 use Rattle.sqlite.specs.Command.{Command}
-use Rattle.sqlite.proofs.Callers.{command_of, statement_of}
 use Rattle.one_table.proofs.Texts.{returning_of, formats_of}
 
 module _ (sql : List ℕ) (params : Row) (old new : State) (schema : Schema) (has : old.now.schema ≡ schema) (command : Command) (what : Returning)

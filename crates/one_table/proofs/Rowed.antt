@@ -1,11 +1,8 @@
 -- One row is put into a table, or takes the place of one that is there.
-use Rattle.std.proofs.Common.{◌≡◌, ◌≢◌, ◌⊎◌, ◌==◌, inl, inr, ℕ, zero, suc, ℤ, pos, List, [], ◌∷◌, map, filter, length, Bool, true, false, cond, not, ◌&&◌, ◌||◌, Some, refl, sym, ap, subst, ◌∙◌, arith, IsPermutation, slice_get, true≢false, IsTrue}
-use Rattle.one_table.specs.Common.{AllByRecursion, is_eq, is_lt, match_ordering, Ordering, Equal, Greater, Less, Enforced, cast, cast_row, Applies, are_fresh, edit_of, is_taken, with_rowid, unary, Row, value_cmp, Chosen, Schema, Table, IsTable, Trees, has_rowid, put_row, rowid, without_rowid, is_int, Value, Blob, Int, Null, Real, Text}
+use Rattle.one_table.proofs.Basics.{◌≡◌, ◌≢◌, ◌⊎◌, ◌==◌, inl, inr, ℕ, zero, suc, ℤ, pos, List, [], ◌∷◌, map, filter, length, Bool, true, false, cond, not, ◌&&◌, ◌||◌, Some, refl, sym, ap, subst, ◌∙◌, arith, IsPermutation, slice_get, true≢false, IsTrue, AllByRecursion, is_eq, is_lt, match_ordering, Ordering, Equal, Greater, Less, Enforced, cast, cast_row, Applies, are_fresh, edit_of, is_taken, with_rowid, unary, Row, value_cmp, Chosen, Schema, Table, IsTable, Trees, has_rowid, put_row, rowid, without_rowid, is_int, Value, Blob, Int, Null, Real, Text, tied_itself, IsPermutation-cons, IsPermutation-refl, IsPermutation-trans, all-filter, all_weaker, filter_all, IsShaped-put_row, later_rowids, value_cmp_total, IsNumbered, Holds, Listed, with_rows, columns_of}
 use Rattle.std.proofs.lemmas.Bool.Decides.{nat_tests}
-use Rattle.one_table.proofs.Lemmas.{tied_itself, IsPermutation-cons, IsPermutation-map, IsPermutation-refl, IsPermutation-trans, all-filter, all_weaker, filter_all, IsShaped-put_row, later_rowids, value_cmp_total}
 use Rattle.sqlite.specs.Kind.TheVariants.{Integer}
 use Rattle.one_table.specs.Columns.{no_stamps}
-use Rattle.one_table.specs.Listing.{IsNumbered, Holds, Listed, with_rows, columns_of}
 
 -- ---- a row that has a new number
 

@@ -1,6 +1,5 @@
 -- What a text means under a schema.
-use Rattle.one_table.specs.Common.{Err, List, None, Ok, Option, Result, Some, [], false, true, ℕ, ◌∷◌, ◌≡◌, Compiled, CompileError, Returning, Compare, Eq, Key, Binary, Insert, Select, Update, reads_listing, understood, Query, Schema, Values, Term, col, op2}
-use Rattle.sqlite.proofs.Callers.{IsPlain, command_of}
+use Rattle.one_table.proofs.Basics.{Err, List, None, Ok, Option, Result, Some, [], false, true, ℕ, ◌∷◌, ◌≡◌, Compiled, CompileError, Returning, Compare, Eq, Key, Binary, Insert, Select, Update, reads_listing, understood, Query, Schema, Values, Term, col, op2, IsPlain, command_of}
 
 -- the text is this query, which shows columns of these names, and nothing else
 abbrev pub Asks : Schema → List ℕ → Query → List (List ℕ) → Type 0

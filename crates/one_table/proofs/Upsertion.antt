@@ -1,15 +1,12 @@
 -- The upsert of one row, told by the rows that the tables hold.
-use Rattle.std.proofs.Common.{◌≡◌, ◌⊎◌, ◌++◌, inl, inr, ℕ, suc, ◌/◌, ℤ, List, [], ◌∷◌, map, filter, length, Bool, true, false, cond, Option, Some, None, Ok, refl, sym, ap, subst, ◌∙◌, arith, IsPermutation, append-nil, true≢false, IsTrue}
-use Rattle.one_table.specs.Common.{AllByRecursion, list_all, list_any, int_cmp, is_eq, Ordering, Equal, Less, at_least, next_rowid, Enforced, Compare, Eq, cast_row, Binary, InsertOr, Does, Tally, Applies, Edit, are_fresh, edit_of, is_taken, put_all, with_rowid, Database, value_rows, understood, binary, from_truth, is_true, Row, column, value_cmp, overlay, Query, Chosen, Given, Clears, Judged, Puts, Task, Tries, TriesEach, Updates, Upserts, Written, nothing, shown, Schema, Values, Executes, State, mode_of, Table, Term, IsTable, Trees, has_rowid, put_row, rowid, without_rowid, Value, Int, Null}
-use Rattle.one_table.proofs.Lemmas.{tied_itself, filter_agree, IsPermutation-cons, IsPermutation-map, IsPermutation-sym, IsPermutation-trans, length_permutation, IsPermutation-filter, filter-map, IsShaped-put_row, later_rowids, value_cmp_total, IsPlain, command_of, one_step, runs_as, statement_of}
+use Rattle.one_table.proofs.Basics.{◌≡◌, ◌⊎◌, ◌++◌, inl, inr, ℕ, suc, ◌/◌, ℤ, List, [], ◌∷◌, map, filter, length, Bool, true, false, cond, Option, Some, None, Ok, refl, sym, ap, subst, ◌∙◌, arith, IsPermutation, append-nil, true≢false, IsTrue, AllByRecursion, is_eq, Ordering, Equal, Less, at_least, next_rowid, Enforced, Compare, Eq, cast_row, Binary, InsertOr, Does, Tally, Applies, are_fresh, edit_of, is_taken, put_all, with_rowid, Database, value_rows, understood, binary, from_truth, is_true, Row, value_cmp, overlay, Chosen, Given, Clears, Judged, Puts, Task, Tries, TriesEach, Updates, Upserts, Written, nothing, shown, Schema, Values, Executes, State, mode_of, Table, Term, IsTable, Trees, has_rowid, put_row, rowid, Value, Int, Null, tied_itself, filter_agree, IsPermutation-cons, IsPermutation-map, IsPermutation-sym, IsPermutation-trans, length_permutation, IsPermutation-filter, filter-map, IsShaped-put_row, later_rowids, value_cmp_total, IsPlain, command_of, one_step, runs_as, statement_of, Holds, Lists, Listed, with_rows, columns_of, IsNumbered}
 use Rattle.sqlite_rules.specs.Keys.{conflicts, AreConflicts}
 use Rattle.sqlite_rules.specs.Lists.{Has}
 use Rattle.sqlite_rules.specs.declared.error.Refusal.{Refusal}
 use Rattle.sqlite_schema.specs.declared.command.Conflict.TheVariants.{Abort}
 use Rattle.sqlite_schema.specs.declared.command.Upsert.{Upsert}
-use Rattle.one_table.specs.Listing.{Holds, Lists, Listed, with_rows, columns_of, IsNumbered}
 use Rattle.one_table.proofs.OneTable.{over_table, passes, shows_of}
-use Rattle.one_table.proofs.Rowed.{plainly, carried, at_place, put_new, first_fresh, is_keyed}
+use Rattle.one_table.proofs.Rowed.{plainly, carried, at_place, put_new, first_fresh}
 use Rattle.one_table.proofs.Insertion.{IsPlace, went, same_value}
 use Rattle.one_table.proofs.Alteration as alter
 
@@ -45,9 +42,6 @@ truth_of false = refl
 same_number : (m n : ℤ) → is_true (binary (Compare Eq Binary) (Int m) (Int n)) ≡ is_eq (value_cmp (Int m) (Int n))
 unfolding binary
 same_number m n = truth_of _
-
-is_equal : (o : Ordering) → o ≡ Equal → is_eq o ≡ true
-is_equal o h = ap is_eq h
 
 -- one row has the number of a row
 pub one_numbered : (id : ℤ) (r : Row) (xs : List Row) → rowid r ≡ Int id → IsTable xs → AllByRecursion (λ x. (m : ℤ) × (rowid x ≡ Int m)) xs → Has xs r → filter (has_number id) xs ≡ r ∷ []

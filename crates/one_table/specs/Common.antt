@@ -1,8 +1,7 @@
 -- The library's words of tables, and of what statements do to them, gathered in one place.
 pub use Rattle.std.specs.List.{AllByRecursion, list_all, list_any, range_with_len}
 unfoldable pub use Rattle.std.specs.List.{IsDistinct}
-pub use Rattle.std.specs.Ordering.{eq_by_cmp, int_cmp, is_eq, is_lt, match_ordering}
-pub use Rattle.std.specs.Prelude.{Err, List, None, Ok, Option, Result, Some, [], false, if◌then◌else◌, true, ℕ, ◌∷◌, ◌≡◌}
+pub use Rattle.std.specs.Ordering.{eq_by_cmp, is_eq, is_lt, match_ordering}
 pub use Rattle.std.specs.declared.cmp.Ordering.{Ordering}
 pub use Rattle.std.specs.declared.cmp.Ordering.TheVariants.{Equal, Greater, Less}
 pub use Rattle.sqlite_resolve.specs.declared.compiled.Compiled.{Compiled}
@@ -18,7 +17,7 @@ pub use Rattle.sqlite.specs.Cast.{cast, cast_row}
 pub use Rattle.sqlite.specs.Collation.TheVariants.{Binary}
 pub use Rattle.sqlite.specs.Command.TheVariants.{Insert, InsertOr, Select, Update}
 pub use Rattle.sqlite.specs.Does.{Does, Tally}
-pub use Rattle.sqlite.specs.Edit.{Applies, Edit, are_fresh, edit_of, is_taken, put_all, with_rowid}
+pub use Rattle.sqlite.specs.Edit.{Applies, are_fresh, edit_of, is_taken, put_all, with_rowid}
 pub use Rattle.sqlite.specs.Effect.{Database, IsDatabase, value_rows}
 pub use Rattle.sqlite.specs.Held.{Held, state}
 pub use Rattle.sqlite.specs.Listing.{if_select, is_select, listing_schema, reads_listing}

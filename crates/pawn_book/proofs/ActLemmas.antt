@@ -1,9 +1,5 @@
 -- What is planned and made is the host's step.
-use Rattle.std.proofs.Common.{◌≡◌, ℕ, ◌<◌, ◌≤◌, Some, None, Ok, Err, refl, ◌∙◌, ap, sym, subst, arith, inl, inr}
-use Rattle.std.specs.Prelude.{Result, if◌then◌else◌, Option, true, false, nat_lt, ◌⊎◌}
-use Rattle.pawn_book.specs.Common.{Stamp, get}
-use Rattle.std.proofs.lemmas.Bool.Decides.{nat_tests}
-use Rattle.pawn_book.specs.Books.{Acts, BookValue, Change, Commits, Full, Host, IsLeftBy, IsLeftByAct, IsLeftByCommit, IsLeftByStep, IsSound, IsUnwell, Makes, Outcome, Plans, Refusal, Refuses, Reply, Request, Says, Told, book_number, book_step, changed_book, host_after, host_step, next_host, out_of, rows, with_book, with_change, within_limit}
+use Rattle.pawn_book.proofs.Basics.{◌≡◌, ℕ, ◌<◌, ◌≤◌, Some, None, Ok, Err, refl, ◌∙◌, ap, sym, subst, arith, inl, inr, Result, if◌then◌else◌, Option, true, false, nat_lt, ◌⊎◌, Stamp, get, nat_tests, Acts, BookValue, Change, Commits, Full, Host, IsLeftBy, IsLeftByAct, IsLeftByCommit, IsLeftByStep, IsSound, IsUnwell, Makes, Outcome, Plans, Refusal, Refuses, Reply, Request, Says, Told, book_number, book_step, changed_book, host_after, host_step, next_host, out_of, rows, with_book, with_change, within_limit}
 use Rattle.pawn_book.specs.declared.fault.SaveError.{SaveError}
 use Rattle.pawn_book.specs.declared.fault.SaveError.TheVariants as Save
 

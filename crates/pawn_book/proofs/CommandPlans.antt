@@ -1,9 +1,5 @@
 -- A plan of a command is the book's step.
-use Rattle.std.proofs.Common.{◌≡◌, ℕ, Some, None, Ok, Err, refl, ◌∙◌, ap, sym, subst, arith, inl, inr}
-use Rattle.std.specs.Prelude.{if◌then◌else◌, Option, Result, Bool, true, false, IfSome, IfOk}
-use Rattle.pawn_book.specs.Common.{Agreement, Answered, Changed, Command, Done, IsCommand, IsDayNumber, IsStampDay, IsStanding, IsUtf8, Judged, PledgeValue, Receipt, Refused, Stamp, get, pledge_step}
-use Rattle.pawn_pledge.proofs.Steps.{stays_standing}
-use Rattle.pawn_book.specs.Books.{AreDistinct, AreSound, AreWords, BookValue, CanSave, Change, Continues, HasTextsAndWords, Host, IsOutcome, IsSound, IsSoundBook, IsUnder, IsWord, Makes, Outcome, Planned, Plans, PutPledge, Refusal, Refuses, Reply, Says, bearer_commands, book_number, broker_commands, changed_book, is_live, judged_outcome, live_at, only_live, outcome_of, pledge_from, pledge_in, put_from, terms_at, with_book, with_change, within_window}
+use Rattle.pawn_book.proofs.Basics.{◌≡◌, ℕ, Some, None, Ok, Err, refl, ◌∙◌, ap, sym, subst, arith, inl, inr, if◌then◌else◌, Option, Result, Bool, true, false, IfSome, IfOk, Agreement, Answered, Changed, Command, Done, IsCommand, IsDayNumber, IsStampDay, IsStanding, IsUtf8, Judged, PledgeValue, Receipt, Refused, Stamp, get, pledge_step, stays_standing, AreDistinct, AreSound, AreWords, BookValue, CanSave, Change, Continues, HasTextsAndWords, Host, IsOutcome, IsSound, IsSoundBook, IsUnder, IsWord, Makes, Outcome, Planned, Plans, PutPledge, Refusal, Refuses, Reply, Says, bearer_commands, book_number, broker_commands, changed_book, is_live, judged_outcome, live_at, only_live, outcome_of, pledge_from, pledge_in, put_from, terms_at, with_book, with_change, within_window}
 use Rattle.pawn_book.proofs.KeptLemmas.{kept_moved}
 use Rattle.pawn_book.proofs.Places.{pledge_within}
 use Rattle.pawn_book.proofs.Words.{words_moved}
@@ -121,10 +117,3 @@ number_plans h b n at p stamp command planned result sound is stands day word gi
     )
     from (Err why) (inl unwell) as_planned = inl unwell
     from (Err why) (inr told) as_planned = inr (steps ∙ told)
-
--- what is refused of a command before its window is looked at
-pub number_refused : (h : Host) (b n : ℕ) (at : BookValue) (p : PledgeValue) (stamp : Stamp) (command : Command) (why : Refusal) → get h.books b ≡ Some at → Some p ≡ pledge_in (get h.books b) n
-    → IsOutcome (judged_outcome b n (pledge_step p stamp command)) (Err why) → Plans h b (broker_commands at b n stamp command (pledge_from 1 at.pledges n)) (Err why)
-number_refused h b n at p stamp command why is stands (inl unwell) = inl unwell
-number_refused h b n at p stamp command why is stands (inr judged) =
-    inr (ap (broker_commands at b n stamp command) (ap (λ o. pledge_in o n) (sym is) ∙ sym stands) ∙ ap (within_window at) judged)

@@ -1,9 +1,5 @@
 -- A book grows with each request.
-use Rattle.std.proofs.Common.{◌≡◌, ℕ, List, [], ◌∷◌, ◌++◌, length, Some, None, Ok, Err, refl, ◌∙◌, ap, sym, subst, arith, append_assoc}
-use Rattle.std.specs.Prelude.{if◌then◌else◌, Option, Result, ◌==◌, Bool, true, false, map}
-use Rattle.std.proofs.lemmas.List.{append-nil}
-use Rattle.pawn_book.specs.Common.{Answered, Changed, Command, Done, Judged, Opening, PledgeValue, Rates, Receipt, Refused, Stamp, pledge_step}
-use Rattle.pawn_book.specs.Books.{AddTerms, Bearer, BookFilled, BookNotEmpty, BookRows, BookValue, Broker, Caller, Export, Import, ImportBook, Imported, Makes, NewTerms, NoSuchReceipt, OnPledge, OnReceipt, Opened, Operator, Outcome, Present, PutPledge, PutTerms, Refusal, Refuses, Says, SheetOf, Show, Shown, TakePledge, TermsPut, WindowFull, are_same_rates, are_unknown, bearer_commands, book_after, book_head, book_run, book_step, broker_commands, confirmed_booking, filled_book, first_receipt, import_rows, is_empty, is_same_book, is_same_opening, is_window_full, judged_outcome, live_at, make_or_refuse, newest, next_pledge, next_terms, pledge_from, pledge_in, present_receipts, put_from, put_terms, show_pledge, take_pledge, terms_at, with_reference, within_window}
+use Rattle.pawn_book.proofs.Basics.{◌≡◌, ℕ, List, [], ◌∷◌, ◌++◌, length, Some, None, Ok, Err, refl, ◌∙◌, ap, sym, subst, arith, append_assoc, if◌then◌else◌, Option, Result, ◌==◌, Bool, true, false, map, append-nil, Answered, Changed, Command, Done, Judged, Opening, PledgeValue, Rates, Receipt, Refused, Stamp, pledge_step, AddTerms, Bearer, BookFilled, BookNotEmpty, BookRows, BookValue, Broker, Caller, Export, Import, ImportBook, Imported, Makes, NewTerms, NoSuchReceipt, OnPledge, OnReceipt, Opened, Operator, Outcome, Present, PutPledge, PutTerms, Refusal, Refuses, Says, SheetOf, Show, Shown, TakePledge, TermsPut, WindowFull, are_same_rates, are_unknown, bearer_commands, book_after, book_head, book_run, book_step, broker_commands, confirmed_booking, filled_book, first_receipt, import_rows, is_empty, is_same_book, is_same_opening, is_window_full, judged_outcome, live_at, make_or_refuse, newest, next_pledge, next_terms, pledge_from, pledge_in, present_receipts, put_from, put_terms, show_pledge, take_pledge, terms_at, with_reference, within_window}
 use Rattle.pawn_book.proofs.Sounds.{absurd_none, put_next}
 use Rattle.pawn_book.proofs.KeptLemmas.{AreKept, are_kept_on, are_kept_push, are_kept_put, are_kept_same, kept_moved}
 use Rattle.pawn_book.proofs.CommandPlans.{live_is}

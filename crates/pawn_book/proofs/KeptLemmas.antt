@@ -1,10 +1,6 @@
 -- What every change keeps of the pledges that stand.
-use Rattle.std.proofs.Common.{◌≡◌, ℕ, ◌+◌, List, [], ◌∷◌, ◌++◌, Some, refl, ◌∙◌, ap, sym, subst}
-use Rattle.std.specs.Prelude.{if◌then◌else◌, true, false, ◌==◌}
-use Rattle.pawn_book.specs.Common.{Agreement, Changed, Command, Done, PledgeValue, Stamp, pledge_step}
+use Rattle.pawn_book.proofs.Basics.{◌≡◌, ℕ, ◌+◌, List, [], ◌∷◌, ◌++◌, Some, refl, ◌∙◌, ap, sym, subst, if◌then◌else◌, true, false, ◌==◌, Agreement, Changed, Command, Done, PledgeValue, Stamp, pledge_step, agreement_stays, lists_of_step, Continues, is_same_text, pledge_from, put_from, with_reference}
 use Rattle.pawn_pledge.proofs.Growth.{grows-moved, grows-same, grows-then}
-use Rattle.pawn_pledge.proofs.Steps.{agreement_stays, lists_of_step}
-use Rattle.pawn_book.specs.Books.{Continues, is_same_text, pledge_from, put_from, with_reference}
 use Rattle.pawn_book.proofs.Sounds.{absurd_none, some_is}
 
 pub kept_same : (p : PledgeValue) → Continues p p

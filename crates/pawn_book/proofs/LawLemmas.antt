@@ -1,10 +1,6 @@
 -- The laws of books.
-use Rattle.std.proofs.Common.{◌≡◌, ℕ, ◌+◌, zero, suc, List, [], ◌∷◌, ◌++◌, length, Some, None, Ok, Err, refl, ◌∙◌, ap, sym, subst, arith, length-append}
-use Rattle.std.specs.Prelude.{if◌then◌else◌, is_some, Option, Result, ◌==◌, ◌&&◌, ◌||◌, Bool, true, false, nat_lt, nat_le, unwrap_or, slice_get}
-use Rattle.pawn_book.specs.Common.{Agreement, AreNumbered, Command, Fixed, IsStanding, Issued, Kind, Opening, PledgeValue, Rates, Receipt, Running, Stamp, TermsFault, most_keep, most_rate, result_unwrap_or, terms_answer}
-use Rattle.pawn_book.proofs.Lemmas.{and_from, changes_differ, equal_itself, grown, nat_tests, past_row-ok}
+use Rattle.pawn_book.proofs.Basics.{◌≡◌, ℕ, ◌+◌, zero, suc, List, [], ◌∷◌, ◌++◌, length, Some, None, Ok, Err, refl, ◌∙◌, ap, sym, subst, arith, if◌then◌else◌, is_some, Option, Result, ◌==◌, ◌&&◌, ◌||◌, Bool, true, false, nat_lt, nat_le, unwrap_or, slice_get, Agreement, AreNumbered, Command, Fixed, IsStanding, Issued, Kind, Opening, PledgeValue, Rates, Receipt, Running, Stamp, TermsFault, most_keep, most_rate, result_unwrap_or, terms_answer, and_from, changes_differ, equal_itself, grown, nat_tests, past_row-ok, AddTerms, Asks, Bearer, BookChangesDiffer, BookFilled, BookMade, BookNotEmpty, BookTaken, BookValue, Broker, Caller, Change, Continues, Export, Import, ImportBook, IsMaking, IsSoundBook, NewTerms, NoSuchBook, NotOperator, OnPledge, Opened, Operator, PutPledge, PutTerms, RefTaken, Refusal, Refuses, RepeatsActOnce, Reply, Says, SheetOf, Show, TakePledge, TermsFull, TermsPut, TermsSeq, Told, are_same_rates, book_head, book_run, book_step, changed_book, filled_book, first_receipt, first_secret, import_rows, is_live, is_same_book, is_same_end, is_same_flag, is_same_kind, is_same_opening, is_same_text, made_book, make_book, most_terms, newest, next_terms, only_live, pledge_from, put_from, put_terms, take_pledge, terms_at, under_terms, with_reference}
 use Rattle.pawn_terms.specs.declared.terms.TermsFault.TheVariants.{KeepTooHigh, KeepingRate, RateTooHigh}
-use Rattle.pawn_book.specs.Books.{AddTerms, Asks, Bearer, BookChangesDiffer, BookFilled, BookMade, BookNotEmpty, BookTaken, BookValue, Broker, Caller, Change, Continues, Export, Import, ImportBook, IsMaking, IsSoundBook, NewTerms, NoSuchBook, NotOperator, OnPledge, Opened, Operator, PutPledge, PutTerms, RefTaken, Refusal, Refuses, RepeatsActOnce, Reply, Says, SheetOf, Show, TakePledge, TermsFull, TermsPut, TermsSeq, Told, are_same_rates, book_head, book_run, book_step, changed_book, filled_book, first_receipt, first_secret, import_rows, is_live, is_same_book, is_same_end, is_same_flag, is_same_kind, is_same_opening, is_same_text, made_book, make_book, most_terms, newest, next_terms, only_live, pledge_from, put_from, put_terms, take_pledge, terms_at, under_terms, with_reference}
 use Rattle.pawn_book.proofs.Sounds.{absurd_none, each_at, some_is}
 use Rattle.pawn_book.proofs.KeptLemmas.{number_kept, put_there, reference_kept}
 use Rattle.pawn_book.proofs.Plans.{next_is, not_standing, taken_is}

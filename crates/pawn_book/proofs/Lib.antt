@@ -1,3 +1,4 @@
+pub mod Basics
 pub mod RowSums
 pub mod Places
 pub mod VisitLemmas
@@ -20,4 +21,3 @@ pub mod SlotRuns
 pub mod SlotAccepted
 pub mod SlotSpent
 pub mod ShardLemmas
-pub mod Lemmas

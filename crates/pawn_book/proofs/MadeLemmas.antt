@@ -1,8 +1,5 @@
 -- How a change came about.
-use Rattle.std.proofs.Common.{◌≡◌, ℕ, List, length, Some, None, Ok, Err, refl, ap, sym}
-use Rattle.std.specs.Prelude.{if◌then◌else◌, Option, Result, ◌==◌, Bool, true, false, map}
-use Rattle.pawn_book.specs.Common.{Answered, Changed, Command, Done, Judged, Opening, PledgeValue, Rates, Receipt, Refused, Stamp, pledge_step}
-use Rattle.pawn_book.specs.Books.{AddTerms, Asks, Bearer, BookFilled, BookMade, BookRows, BookValue, Broker, Caller, Change, Commanded, Export, Import, ImportBook, Imported, IsUnfilled, MakeBook, Makes, NewBook, NewTerms, NoSuchReceipt, OnPledge, OnReceipt, Opened, Operator, Out, Outcome, Present, PutPledge, PutTerms, Refusal, Refuses, Reply, Says, SheetOf, Show, Shown, TakePledge, TermsPut, WindowFull, are_same_rates, are_unknown, bearer_commands, book_head, book_step, broker_commands, confirmed_booking, first_receipt, import_rows, is_empty, is_same_book, is_same_opening, is_window_full, judged_outcome, live_at, make_or_refuse, newest, next_pledge, next_terms, pledge_from, pledge_in, present_receipts, put_terms, show_pledge, take_pledge, terms_at, with_reference, within_window}
+use Rattle.pawn_book.proofs.Basics.{◌≡◌, ℕ, List, length, Some, None, Ok, Err, refl, ap, sym, if◌then◌else◌, Option, Result, ◌==◌, Bool, true, false, map, Answered, Changed, Command, Done, Judged, Opening, PledgeValue, Rates, Receipt, Refused, Stamp, pledge_step, AddTerms, Asks, Bearer, BookFilled, BookMade, BookRows, BookValue, Broker, Caller, Change, Commanded, Export, Import, ImportBook, Imported, IsUnfilled, MakeBook, Makes, NewBook, NewTerms, NoSuchReceipt, OnPledge, OnReceipt, Opened, Operator, Out, Outcome, Present, PutPledge, PutTerms, Refusal, Refuses, Reply, Says, SheetOf, Show, Shown, TakePledge, TermsPut, WindowFull, are_same_rates, are_unknown, bearer_commands, book_head, book_step, broker_commands, confirmed_booking, first_receipt, import_rows, is_empty, is_same_book, is_same_opening, is_window_full, judged_outcome, live_at, make_or_refuse, newest, next_pledge, next_terms, pledge_from, pledge_in, present_receipts, put_terms, show_pledge, take_pledge, terms_at, with_reference, within_window}
 use Rattle.pawn_book.proofs.CommandPlans.{live_is}
 use Rattle.pawn_book.proofs.Plans.{empty_lists}
 

@@ -1,9 +1,5 @@
 -- Where a book's pledges and terms stand in its lists.
-use Rattle.std.proofs.Common.{◌≡◌, ◌≢◌, ◌∙◌, ℕ, zero, suc, ◌+◌, ◌<◌, ◌≤◌, List, [], ◌∷◌, length, Option, Some, None, eqb, refl, ap, arith}
-use Rattle.std.specs.Prelude.{if◌then◌else◌, ◌==◌, true, false, slice_get}
-use Rattle.std.proofs.lemmas.Bool.Decides.{nat_tests}
-use Rattle.pawn_book.specs.Common.{PledgeValue, Rates}
-use Rattle.pawn_book.specs.Books.{BookValue, pledge_from, pledge_in, pledges_of, put_from, terms_at}
+use Rattle.pawn_book.proofs.Basics.{◌≡◌, ◌≢◌, ◌∙◌, ℕ, zero, suc, ◌+◌, ◌<◌, ◌≤◌, List, [], ◌∷◌, length, Option, Some, None, eqb, refl, ap, arith, if◌then◌else◌, ◌==◌, true, false, slice_get, nat_tests, PledgeValue, Rates, BookValue, pledge_from, pledge_in, pledges_of, put_from, terms_at}
 
 pub pledge_below : (k : ℕ) (ps : List PledgeValue) (n : ℕ) → n < k → pledge_from k ps n ≡ None
 pledge_below k [] n lt = refl

@@ -1,10 +1,6 @@
 -- A plan by a keeper's answers is the book's step.
-use Rattle.std.proofs.Common.{◌≡◌, ◌≢◌, ℕ, ◌+◌, ◌<◌, ◌≤◌, zero, suc, List, [], ◌∷◌, ◌++◌, length, Some, None, Ok, Err, refl, ◌∙◌, ap, sym, subst, arith, inl}
-use Rattle.std.specs.Prelude.{if◌then◌else◌, Option, Result, ◌==◌, Bool, true, false, nat_lt, nat_le, option_map, ◌&&◌, IfErr, IfOk}
-use Rattle.pawn_book.specs.Common.{Each, IsChecked, IsDayNumber, IsNumber, IsStanding, IsText, IsUtf8, Issued, Opening, PledgeRefusal, PledgeValue, Rates, Stamp, credit_of, get, pledge_start, result_unwrap_or}
-use Rattle.pawn_book.proofs.Lemmas.{and_parts, nat_tests, past_row-ok}
+use Rattle.pawn_book.proofs.Basics.{◌≡◌, ◌≢◌, ℕ, ◌+◌, ◌<◌, ◌≤◌, zero, suc, List, [], ◌∷◌, ◌++◌, length, Some, None, Ok, Err, refl, ◌∙◌, ap, sym, subst, arith, inl, if◌then◌else◌, Option, Result, ◌==◌, true, false, nat_lt, nat_le, option_map, ◌&&◌, IfErr, IfOk, Each, IsChecked, IsDayNumber, IsNumber, IsStanding, IsText, IsUtf8, Issued, Opening, PledgeRefusal, PledgeValue, Rates, Stamp, credit_of, get, pledge_start, result_unwrap_or, and_parts, nat_tests, past_row-ok, AddTerms, AreNumberedFrom, AreReplayable, AreSound, AreWords, BookFilled, BookMade, BookNotEmpty, BookRows, BookValue, CanSave, Change, HasTextsAndWords, Host, ImportBook, IsCapacity, IsSound, IsUnfilled, IsWord, MakeBook, Makes, Memory, NewBook, NewTerms, Opened, Outcome, Planned, Plans, PledgesFull, PutPledge, Refusal, Refuses, TermsFull, TermsPut, TermsSeq, book_head, book_number, changed_book, filled_book, first_receipt, import_rows, is_empty, is_same_text, made_book, make_book, make_or_refuse, most_name_bytes, most_pledges, most_terms, newest, next_pledge, next_terms, number_of, pledge_from, pledge_in, pledges_of, put_from, put_terms, take_pledge, terms_at, terms_of, under_pledge, with_book, with_change, with_reference, with_room}
 use Rattle.pawn_debt.specs.Answers.{is_bad_amount}
-use Rattle.pawn_book.specs.Books.{AddTerms, AreNumberedFrom, AreReplayable, AreSound, AreWords, BookFilled, BookMade, BookNotEmpty, BookRows, BookValue, CanSave, Change, HasTextsAndWords, Host, ImportBook, IsCapacity, IsSound, IsUnfilled, IsWord, MakeBook, Makes, Memory, NewBook, NewTerms, Opened, Outcome, Planned, Plans, PledgesFull, PutPledge, Refusal, Refuses, TermsFull, TermsPut, TermsSeq, book_head, book_number, changed_book, filled_book, first_receipt, import_rows, is_empty, is_same_text, made_book, make_book, make_or_refuse, most_name_bytes, most_pledges, most_terms, newest, next_pledge, next_terms, number_of, pledge_from, pledge_in, pledges_of, put_from, put_terms, take_pledge, terms_at, terms_of, under_pledge, with_book, with_change, with_reference, with_room}
 use Rattle.pawn_book.specs.declared.change.BookHead.{BookHead}
 use Rattle.pawn_book.proofs.Sounds.{IsNext, absurd_none, some_is, sound_filled, sound_made, sound_next, sound_terms, sound_with}
 
@@ -130,14 +126,6 @@ found_by_number h b n reference sound is = from (get h.books b) refl is
     from : (o : Option BookValue) → get h.books b ≡ o → Some n ≡ number_of o reference → pledge_in o n ≡ with_reference (pledges_of o) reference
     from None e is = refl
     from (Some book) e is = at book (sound.books b book e).1.rows.numbered (with_reference book.pledges reference) refl is ∙ refl
-
--- a reference that no number has
-pub no_number : (h : Host) (b : ℕ) (reference : List ℕ) → None ≡ number_of (get h.books b) reference → with_reference (pledges_of (get h.books b)) reference ≡ None
-no_number h b reference is = from (with_reference (pledges_of (get h.books b)) reference) is
-  where
-    from : (o : Option PledgeValue) → None ≡ option_map (λ p. p.agreement.number) o → o ≡ None
-    from None is = refl
-    from (Some p) is = absurd_none is
 
 -- terms that are not refused have the next version, and there is room for them
 pub next_is : (standing : ℕ) (new : NewTerms) (terms : Rates) → next_terms standing new ≡ Ok terms

@@ -1,7 +1,5 @@
 -- One read of a keeper after another.
-use Rattle.std.proofs.Common.{◌≡◌, subst, Ok}
-use Rattle.std.specs.Prelude.{Result, IfOk}
-use Rattle.pawn_book.specs.Books.{GoesOn, Host, Keeping, Reads}
+use Rattle.pawn_book.proofs.Basics.{◌≡◌, subst, Ok, Result, IfOk, GoesOn, Host, Keeping, Reads}
 
 -- a keeper goes on after one call, and after another
 pub on_then : {K : Type 0} {k : Keeping K} {a b c : K} → GoesOn k a b → GoesOn k b c → GoesOn k a c

@@ -1,10 +1,6 @@
 -- What stands is told again, to whoever passes.
-use Rattle.std.proofs.Common.{◌≡◌, ℕ, List, Some, refl, ◌∙◌, ap, sym, subst, arith}
-use Rattle.std.specs.Prelude.{if◌then◌else◌, is_some, Option, ◌==◌, true}
-use Rattle.std.proofs.lemmas.Bool.Decides.{nat_tests}
-use Rattle.pawn_book.specs.Common.{Answered, Command, Done, PledgeValue, Stamp, end_of, entry_command, pledge_step}
+use Rattle.pawn_book.proofs.Basics.{◌≡◌, ℕ, List, Some, refl, ◌∙◌, ap, sym, subst, arith, if◌then◌else◌, is_some, Option, ◌==◌, true, nat_tests, Answered, Command, Done, PledgeValue, Stamp, end_of, entry_command, pledge_step, Asks, Bearer, BookEntriesActOnce, BookExtensionsActOnce, BookValue, Broker, Caller, Change, Commanded, EntriesActOnceForAll, Export, Import, Makes, NoSuchBook, OnPledge, OnReceipt, Operator, Passes, Present, PutTerms, Refuses, Reply, Says, SheetOf, Show, StandingEndIsTold, StillPasses, TakePledge, Told, bearer_commands, book_run, book_step, broker_commands, changed_book, judged_outcome, live_at, only_live, pledge_from, pledge_in, within_window}
 use Rattle.pawn_pledge.proofs.Repeats.{entered_again, extended-made, standing_end_is_answered}
-use Rattle.pawn_book.specs.Books.{Asks, Bearer, BookEntriesActOnce, BookExtensionsActOnce, BookValue, Broker, Caller, Change, Commanded, EntriesActOnceForAll, Export, Import, Makes, NoSuchBook, OnPledge, OnReceipt, Operator, Passes, Present, PutTerms, Refuses, Reply, Says, SheetOf, Show, StandingEndIsTold, StillPasses, TakePledge, Told, bearer_commands, book_run, book_step, broker_commands, changed_book, judged_outcome, live_at, only_live, pledge_from, pledge_in, within_window}
 use Rattle.pawn_book.proofs.LawLemmas.{live_found, numbered_in, stands_after}
 use Rattle.pawn_book.proofs.MadeLemmas.{DidOn, if_makes, number_made, receipt_made}
 use Rattle.pawn_book.proofs.Sounds.{some_is}

@@ -1,11 +1,7 @@
 -- a sum over a map's values, after an insertion
-use Rattle.std.proofs.Common.{◌≡◌, ℕ, ◌+◌, ◌<◌, List, [], ◌∷◌, map, Some, None, refl, ◌∙◌, ap, sym, arith, T, Ordering}
-use Rattle.std.specs.Prelude.{if◌then◌else◌, Option, Bool, true, false, ◌&&◌, sum_by}
+use Rattle.pawn_book.proofs.Basics.{◌≡◌, ℕ, ◌+◌, ◌<◌, List, [], ◌∷◌, map, Some, None, refl, ◌∙◌, ap, sym, arith, T, Ordering, if◌then◌else◌, Option, false, ◌&&◌, sum_by, entries, entries-insert, entries_sorted, eq_by_cmp, find, get, get-entries, is_eq, is_lt, is_sorted, nat_cmp, put, ranked, below, both_told, nat_cmp_total, BookValue, Host, book_rows, rows, with_book}
 use Rattle.std.specs.declared.cmp.Ordering.TheVariants.{Less, Equal, Greater}
-use Rattle.pawn_book.specs.Common.{entries, entries-insert, entries_sorted, eq_by_cmp, find, get, get-entries, is_eq, is_lt, is_sorted, nat_cmp, put, ranked}
-use Rattle.pawn_book.proofs.Lemmas.{below, both_told, nat_cmp_total}
 use Rattle.std.proofs.lemmas.List.Sums.{sum_by-cons}
-use Rattle.pawn_book.specs.Books.{BookValue, Host, book_rows, rows, with_book}
 
 -- f of the value, if there is one
 abbrev pub part : {X : Type 0} → (X → ℕ) → Option X → ℕ

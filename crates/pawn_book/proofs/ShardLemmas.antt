@@ -1,9 +1,5 @@
 -- The law of shards.
-use Rattle.std.proofs.Common.{◌≡◌, ℕ, List, [], ◌∷◌, ◌++◌, refl, ◌∙◌, ap, sym, arith}
-use Rattle.std.specs.Prelude.{◌≢◌, ◌==◌, Bool, true, false, if◌then◌else◌, cond}
-use Rattle.pawn_book.specs.Common.{Stamp, get}
-use Rattle.std.proofs.lemmas.Bool.Decides.{nat_tests}
-use Rattle.pawn_book.specs.Books.{HandedOutAnswersAsOne, HandsAll, Request, ShardsAnswerAsOne, book_run, book_trace, by_callers, handed, on_book, taken}
+use Rattle.pawn_book.proofs.Basics.{◌≡◌, ℕ, List, [], ◌∷◌, ◌++◌, refl, ◌∙◌, ap, sym, arith, ◌≢◌, ◌==◌, Bool, true, false, if◌then◌else◌, cond, Stamp, get, nat_tests, HandedOutAnswersAsOne, HandsAll, Request, ShardsAnswerAsOne, book_run, book_trace, by_callers, handed, on_book, taken}
 use Rattle.pawn_book.proofs.SlotRuns.{book_is_alone, equal_book_traces_answer_alike}
 
 -- what is handed, where it is known whether the first goes to the shard and whether it is on the book

@@ -1,8 +1,6 @@
 -- Handing over one list after another, and the windows of a day's sheet.
-use Rattle.std.proofs.Common.{◌≡◌, ◌∙◌, ℕ, ◌+◌, zero, suc, List, [], ◌∷◌, ◌++◌, refl, sym, ap, subst, inl, inr, arith, append_assoc, append-nil}
-use Rattle.std.specs.List.{flat_map}
+use Rattle.pawn_book.proofs.Basics.{◌≡◌, ◌∙◌, ℕ, ◌+◌, zero, suc, List, [], ◌∷◌, ◌++◌, refl, sym, ap, subst, inl, inr, arith, append_assoc, append-nil, flat_map, Flow, Go, Handed, HandsOver, Stop}
 use Rattle.std.proofs.lemmas.Grind.{flat_map-append}
-use Rattle.pawn_book.specs.Books.{Flow, Go, Handed, HandsOver, Stop}
 use Rattle.pawn_book.specs.Sheet.{windows_below}
 
 -- items at none of which it stopped, and then further ones

@@ -1,9 +1,5 @@
 -- Each command of a slot's trace is accepted where its turn comes.
-use Rattle.std.proofs.Common.{◌≡◌, ℕ, ◌+◌, List, [], ◌∷◌, ◌++◌, Some, None, Ok, Err, refl, ◌∙◌, ap, sym, subst, arith}
-use Rattle.std.specs.Prelude.{if◌then◌else◌, Option, ◌==◌, Bool, true, false, is_some, nat_lt}
-use Rattle.pawn_book.specs.Common.{PledgeValue, Receipt, Stamp, flat_map, get}
-use Rattle.std.proofs.lemmas.Bool.Decides.{nat_tests}
-use Rattle.pawn_book.specs.Books.{AreAccepted, BookValue, Caller, Change, Did, Entered, Event, Full, Host, ImportBook, IsAccepted, Makes, Mark, Outcome, PutPledge, Refuses, Reply, Says, SlotEvent, TracesAreAccepted, book_head, book_step, changed_book, command_of, did, enters, host_after_event, host_step, is_live_in, no_memory, no_pledge, no_store, numbered_pledges, pledge_from, pledges_of, read_as, request_in, rows, slot_events, slot_of, solo_from, solo_step, with_book, within_limit, within_slot}
+use Rattle.pawn_book.proofs.Basics.{◌≡◌, ℕ, ◌+◌, List, [], ◌∷◌, ◌++◌, Some, None, Ok, Err, refl, ◌∙◌, ap, sym, subst, arith, if◌then◌else◌, Option, ◌==◌, Bool, true, false, is_some, nat_lt, PledgeValue, Receipt, Stamp, flat_map, get, nat_tests, AreAccepted, BookValue, Caller, Change, Did, Entered, Event, Full, Host, ImportBook, IsAccepted, Makes, Mark, Outcome, PutPledge, Refuses, Reply, Says, SlotEvent, TracesAreAccepted, book_head, book_step, changed_book, command_of, did, enters, host_after_event, host_step, is_live_in, no_memory, no_pledge, no_store, numbered_pledges, pledge_from, pledges_of, read_as, request_in, rows, slot_events, slot_of, solo_from, solo_step, with_book, within_limit, within_slot}
 use Rattle.pawn_book.proofs.SlotMoments.{run_slot, slot_on, slot_step}
 use Rattle.pawn_book.proofs.MadeLemmas.{BookIs, CommandIs, MadeBy, PledgeIs, RowsAre, TermsAre, made_by}
 use Rattle.pawn_book.proofs.Places.{pledge_past}

@@ -1,9 +1,5 @@
 -- What one step of a book does to the machine of a slot.
-use Rattle.std.proofs.Common.{◌≡◌, ℕ, ◌+◌, ◌<◌, ◌≤◌, List, [], ◌∷◌, ◌++◌, length, Some, None, refl, ◌∙◌, ap, sym, subst, arith}
-use Rattle.std.specs.Prelude.{if◌then◌else◌, Option, ◌==◌, true, false, is_some, nat_lt}
-use Rattle.pawn_book.specs.Common.{Command, PledgeValue, Receipt, Stamp, flat_map}
-use Rattle.std.proofs.lemmas.Bool.Decides.{nat_tests}
-use Rattle.pawn_book.specs.Books.{Asks, Bearer, BookValue, Broker, Caller, Change, Did, Entered, Export, Import, ImportBook, Makes, OnPledge, OnReceipt, Operator, Outcome, Present, PutPledge, PutTerms, Refuses, Reply, Says, SheetOf, Show, SlotEvent, TakePledge, after_command, after_judgement, book_after, book_head, book_step, command_of, did, enters, is_live_in, no_pledge, numbered_pledges, pledge_from, slot_events, slot_of, solo_from, solo_step, touches, with_pledge, within_slot}
+use Rattle.pawn_book.proofs.Basics.{◌≡◌, ℕ, ◌+◌, ◌<◌, ◌≤◌, List, [], ◌∷◌, ◌++◌, length, Some, None, refl, ◌∙◌, ap, sym, subst, arith, if◌then◌else◌, Option, ◌==◌, true, false, is_some, nat_lt, Command, PledgeValue, Receipt, Stamp, flat_map, nat_tests, Asks, Bearer, BookValue, Broker, Caller, Change, Did, Entered, Export, Import, ImportBook, Makes, OnPledge, OnReceipt, Operator, Outcome, Present, PutPledge, PutTerms, Refuses, Reply, Says, SheetOf, Show, SlotEvent, TakePledge, after_command, after_judgement, book_after, book_head, book_step, command_of, did, enters, is_live_in, no_pledge, numbered_pledges, pledge_from, slot_events, slot_of, solo_from, solo_step, touches, with_pledge, within_slot}
 use Rattle.pawn_book.proofs.MadeLemmas.{BookIs, CommandIs, MadeBy, PledgeIs, RowsAre, TermsAre, made_by}
 use Rattle.pawn_book.proofs.Places.{pledge_below, pledge_from-put, pledge_past, pledge_within}
 use Rattle.pawn_book.proofs.Plans.{taken_is, without_lists}

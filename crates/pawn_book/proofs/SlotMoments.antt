@@ -1,7 +1,5 @@
 -- Runs request by request.
-use Rattle.std.proofs.Common.{◌≡◌, ℕ, List, [], ◌∷◌, ◌++◌, Option, None, Some, refl}
-use Rattle.pawn_book.specs.Common.{Receipt, Stamp, flat_map}
-use Rattle.pawn_book.specs.Books.{Caller, Event, Host, Moment, Request, SlotEvent, asked_of, host_after_event, moment_of, moments, request_in, seen_by}
+use Rattle.pawn_book.proofs.Basics.{◌≡◌, ℕ, List, [], ◌∷◌, ◌++◌, Option, None, Some, refl, Receipt, Stamp, flat_map, Caller, Event, Host, Moment, Request, SlotEvent, asked_of, host_after_event, moment_of, moments, request_in, seen_by}
 
 -- what a request is to a slot, if there is one
 abbrev pub slot_on : ℕ → List Receipt → Host → ℕ → Stamp → Option Request → List SlotEvent

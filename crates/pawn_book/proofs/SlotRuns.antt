@@ -1,9 +1,5 @@
 -- What a run does to each book, and to the machine of a slot.
-use Rattle.std.proofs.Common.{◌≡◌, ℕ, List, [], ◌∷◌, ◌++◌, Some, None, Ok, Err, refl, ◌∙◌, ap, sym, subst, arith}
-use Rattle.std.specs.Prelude.{if◌then◌else◌, Option, ◌==◌, Bool, true, false, nat_lt, ◌&&◌, map}
-use Rattle.pawn_book.specs.Common.{Answered, Changed, Command, Judged, PledgeValue, Receipt, Refused, Stamp, flat_map, get, list_all, pledge_step}
-use Rattle.pawn_book.proofs.Lemmas.{and_parts, nat_tests}
-use Rattle.pawn_book.specs.Books.{AddTerms, Bearer, BearerRequest, BearersJoin, BookValue, BooksAnswerAlone, Caller, Change, EqualBookTracesAnswerAlike, EqualTracesAnswerAlike, Event, Full, Host, ImportBook, MakeBook, Makes, Mark, OnReceipt, OtherBooksStay, Outcome, Present, PutPledge, Refuses, Request, Says, SlotsAnswerAlone, SlotsAreHeld, bearer_commands, bearer_step, book_after, book_run, book_step, book_trace, changed_book, enters, host_after, host_after_event, host_after_mark, host_step, is_in, is_live, is_live_in, is_settled, is_slots, joins, judged_outcome, live_at, no_memory, no_pledge, no_store, numbered_pledges, only_live, out_of, pledge_in, pledges_of, present_receipts, read_as, reply_alone, request_in, rows, run_host, slot_events, slot_of, slot_trace, solo, solo_from, solo_reply, with_book, within_limit, within_slot}
+use Rattle.pawn_book.proofs.Basics.{◌≡◌, ℕ, List, [], ◌∷◌, ◌++◌, Some, None, Ok, Err, refl, ◌∙◌, ap, sym, subst, arith, if◌then◌else◌, Option, ◌==◌, Bool, true, false, nat_lt, ◌&&◌, map, Answered, Changed, Command, Judged, PledgeValue, Receipt, Refused, Stamp, flat_map, get, list_all, pledge_step, and_parts, nat_tests, AddTerms, Bearer, BearerRequest, BearersJoin, BookValue, BooksAnswerAlone, Caller, Change, EqualBookTracesAnswerAlike, EqualTracesAnswerAlike, Event, Full, Host, ImportBook, MakeBook, Makes, Mark, OnReceipt, OtherBooksStay, Outcome, Present, PutPledge, Refuses, Request, Says, SlotsAnswerAlone, SlotsAreHeld, bearer_commands, bearer_step, book_after, book_run, book_step, book_trace, changed_book, enters, host_after, host_after_event, host_after_mark, host_step, is_in, is_live, is_live_in, is_settled, is_slots, joins, judged_outcome, live_at, no_memory, no_pledge, no_store, numbered_pledges, only_live, out_of, pledge_in, pledges_of, present_receipts, read_as, reply_alone, request_in, rows, run_host, slot_events, slot_of, slot_trace, solo, solo_from, solo_reply, with_book, within_limit, within_slot}
 use Rattle.pawn_book.proofs.SlotMoments.{book_trace_step, request_on, run_slot, slot_on, slot_step}
 use Rattle.pawn_book.proofs.Sounds.{get-with_book}
 use Rattle.pawn_book.proofs.SlotMachine.{Follows, enter_book, solo_from-append, step_follows}

@@ -1,10 +1,6 @@
 -- A receipt that was declared away or surrendered stays so.
-use Rattle.std.proofs.Common.{◌≡◌, ℕ, ◌+◌, ◌≤◌, List, [], ◌∷◌, length, Some, None, Ok, Err, refl, ◌∙◌, ap, sym, subst, arith}
-use Rattle.std.specs.Prelude.{if◌then◌else◌, Option, ◌==◌, Bool, true, false, nat_lt, map}
-use Rattle.pawn_book.specs.Common.{Each, IsSpent, PledgeValue, Receipt, Stamp, get, list_any, live_of}
-use Rattle.std.proofs.lemmas.Bool.Decides.{nat_tests}
+use Rattle.pawn_book.proofs.Basics.{◌≡◌, ℕ, ◌+◌, ◌≤◌, List, [], ◌∷◌, length, Some, None, Ok, Err, refl, ◌∙◌, ap, sym, subst, arith, if◌then◌else◌, Option, ◌==◌, Bool, true, false, nat_lt, map, Each, IsSpent, PledgeValue, Receipt, Stamp, get, list_any, live_of, nat_tests, BearerRequest, BookValue, Caller, Change, EarlierReceiptsAreSpent, Full, Host, IsSpentReceipt, Makes, Mark, NoSuchReceipt, OnReceipt, Outcome, Present, PresentsSpent, Refuses, Reply, Says, Shown, SpentIsUnknown, SpentReceiptsStaySpent, are_unknown, bearer_commands, bearer_step, book_after, book_head, book_step, changed_book, host_after, host_after_event, host_after_mark, host_step, is_secret, is_settled, live_at, no_memory, no_store, only_live, out_of, pledge_from, pledge_in, put_from, read_as, rows, with_book, within_limit}
 use Rattle.pawn_pledge.proofs.Receipts.{earlier_are_spent, spent-changed}
-use Rattle.pawn_book.specs.Books.{BearerRequest, BookValue, Caller, Change, EarlierReceiptsAreSpent, Full, Host, IsSpentReceipt, Makes, Mark, NoSuchReceipt, OnReceipt, Outcome, Present, PresentsSpent, Refuses, Reply, Says, Shown, SpentIsUnknown, SpentReceiptsStaySpent, are_unknown, bearer_commands, bearer_step, book_after, book_head, book_step, changed_book, host_after, host_after_event, host_after_mark, host_step, is_secret, is_settled, live_at, no_memory, no_store, only_live, out_of, pledge_from, pledge_in, put_from, read_as, rows, with_book, within_limit}
 use Rattle.pawn_book.proofs.KeptLemmas.{put_there}
 use Rattle.pawn_book.proofs.MadeLemmas.{BookIs, CommandIs, MadeBy, PledgeIs, RowsAre, TermsAre, made_by}
 use Rattle.pawn_book.proofs.Places.{pledge_from-put, pledge_within}

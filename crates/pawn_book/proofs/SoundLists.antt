@@ -1,10 +1,6 @@
 -- References that differ, and terms that stand, in a list of pledges.
-use Rattle.std.proofs.Common.{◌≡◌, ℕ, ◌+◌, ◌≤◌, zero, suc, List, [], ◌∷◌, ◌++◌, length, map, Some, None, refl, ◌∙◌, ap, sym, subst, arith}
-use Rattle.std.specs.Prelude.{if◌then◌else◌, Option, Bool, true, false, ◌==◌, ◌||◌, unwrap_or}
-use Rattle.pawn_book.specs.Common.{DoNotFall, Each, PledgeValue, Rates, list_any}
+use Rattle.pawn_book.proofs.Basics.{◌≡◌, ℕ, ◌+◌, ◌≤◌, zero, suc, List, [], ◌∷◌, ◌++◌, length, map, Some, None, refl, ◌∙◌, ap, sym, subst, arith, if◌then◌else◌, Option, true, false, ◌==◌, ◌||◌, unwrap_or, DoNotFall, Each, PledgeValue, Rates, list_any, AreDistinct, IsUnder, is_same_text, pledge_from, put_from, references_of, terms_at, version_of, with_reference, or_parts, or_from}
 use Rattle.std.proofs.lemmas.List.Folds.{list_any-append}
-use Rattle.pawn_book.specs.Books.{AreDistinct, IsUnder, is_same_text, pledge_from, put_from, references_of, terms_at, version_of, with_reference}
-use Rattle.std.proofs.lemmas.Bool.{or_parts, or_from}
 
 pub some_is : {A : Type 0} (x y : A) → Some x ≡ Some y → x ≡ y
 some_is {A} x y is = ap (λ (o : Option A). unwrap_or o x) is

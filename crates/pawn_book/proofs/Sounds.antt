@@ -1,9 +1,5 @@
 -- A host stays sound with a book that is.
-use Rattle.std.proofs.Common.{◌≡◌, ◌≢◌, ℕ, ◌+◌, ◌<◌, ◌≤◌, List, [], ◌∷◌, ◌++◌, length, Some, None, suc, refl, ◌∙◌, ap, sym, subst, arith, length-append}
-use Rattle.std.specs.Prelude.{if◌then◌else◌, Option, Bool, true, false, ◌==◌}
-use Rattle.pawn_book.specs.Common.{DoNotFall, Each, IsChecked, IsNumber, IsStanding, IsText, IsUtf8, PledgeValue, Rates, get, get-insert, unsigned_tied}
-use Rattle.pawn_book.proofs.Lemmas.{Each-push, nat_cmp_total, nat_tests}
-use Rattle.pawn_book.specs.Books.{AreDistinct, AreNumberedFrom, AreReplayable, AreSound, BookRows, BookValue, HasTextsAndWords, Host, IsCapacity, IsSound, IsSoundAt, IsSoundBook, IsUnder, IsWord, NewBook, filled_book, made_book, most_name_bytes, most_pledges, most_terms, pledge_from, pledge_in, put_from, references_of, version_of, with_book, with_reference}
+use Rattle.pawn_book.proofs.Basics.{◌≡◌, ◌≢◌, ℕ, ◌+◌, ◌<◌, ◌≤◌, List, [], ◌∷◌, ◌++◌, length, Some, None, suc, refl, ◌∙◌, ap, sym, subst, arith, length-append, if◌then◌else◌, Option, Bool, true, false, ◌==◌, DoNotFall, Each, IsChecked, IsNumber, IsStanding, IsText, IsUtf8, PledgeValue, Rates, get, get-insert, unsigned_tied, Each-push, nat_cmp_total, nat_tests, AreDistinct, AreNumberedFrom, AreReplayable, AreSound, BookRows, BookValue, HasTextsAndWords, Host, IsCapacity, IsSound, IsSoundAt, IsSoundBook, IsUnder, IsWord, NewBook, filled_book, made_book, most_name_bytes, most_pledges, most_terms, pledge_from, pledge_in, put_from, references_of, version_of, with_book, with_reference}
 pub use Rattle.pawn_book.proofs.SoundLists.{absurd_none, some_is}
 use Rattle.pawn_book.proofs.SoundLists.{each_under_more, references_push, versions_push}
 

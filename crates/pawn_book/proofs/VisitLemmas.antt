@@ -1,8 +1,6 @@
 -- What a visitor was handed, item by item.
-use Rattle.std.proofs.Common.{◌≡◌, ◌∙◌, ℕ, List, [], ◌∷◌, ◌++◌, refl, sym, ap, subst, inl, inr, ◌<◌, ◌+◌, length, take, drop, get_or, append_assoc, append-nil}
-use Rattle.std.proofs.lemmas.List.{drop_more, take-append-drop}
-use Rattle.pawn_book.specs.Books.{Flow, Go, Handed, Stop}
-use Rattle.std.specs.Prelude.{false}
+use Rattle.pawn_book.proofs.Basics.{◌≡◌, ◌∙◌, ℕ, List, [], ◌∷◌, ◌++◌, refl, sym, ap, subst, inl, inr, ◌<◌, ◌+◌, length, take, drop, get_or, append_assoc, append-nil, take-append-drop, Flow, Go, Handed, Stop, false}
+use Rattle.std.proofs.lemmas.List.{drop_more}
 use Rattle.pawn_book.specs.declared.gather.Gathering.{Gathering}
 use Rattle.pawn_book.specs.Gathering.{Gathers}
 

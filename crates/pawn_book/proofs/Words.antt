@@ -1,8 +1,5 @@
 -- The secrets of a pledge stay words.
-use Rattle.std.proofs.Common.{◌≡◌, ℕ, ◌==◌, List, false, subst, sym, inl, inr}
-use Rattle.pawn_book.specs.Common.{Changed, Command, Done, Issued, PledgeValue, Stamp, StaysOrGrows, list_any, pledge_step}
-use Rattle.pawn_book.proofs.Lemmas.{Each-push, lists_of_step}
-use Rattle.pawn_book.specs.Sound.{AreWords, IsWord}
+use Rattle.pawn_book.proofs.Basics.{◌≡◌, ℕ, ◌==◌, List, false, subst, sym, inl, inr, Changed, Command, Done, Issued, PledgeValue, Stamp, StaysOrGrows, list_any, pledge_step, Each-push, lists_of_step, AreWords, IsWord}
 
 -- a secret that is added is the stamp's word
 grown_words : (old new : List Issued) (word : ℕ) → IsWord word → AreWords old

@@ -1,5 +1,5 @@
 -- A book's day: who comes in which window, who asked to, and whose period ends.
-use Rattle.std.specs.Prelude.{ℕ, zero, suc, ◌+◌, List, [], ◌∷◌, ◌++◌, Bool, true, false, ◌&&◌, Option, Some, None, if◌then◌else◌, ◌==◌, length, filter_map}
+use Rattle.std.specs.Prelude.{ℕ, zero, suc, ◌+◌, List, [], ◌∷◌, ◌++◌, ◌&&◌, Option, Some, None, if◌then◌else◌, ◌==◌, length, filter_map}
 use Rattle.pawn_book.specs.Common.{Booking, PledgeValue, end_of, flat_map}
 use Rattle.pawn_pledge.specs.Limits.{last_window}
 use Rattle.pawn_pledge.specs.Words.{is_open}

@@ -6,11 +6,10 @@ pub use Rattle.pawn_pledge.specs.declared.command.Command.{Command}
 pub use Rattle.pawn_pledge.specs.declared.receipt.Receipt.{Receipt}
 pub use Rattle.pawn_pledge.specs.Pledge.{PledgeValue}
 pub use Rattle.pawn_pledge.specs.Step.{Judged, Changed, pledge_step}
-pub use Rattle.pawn_book.specs.declared.request.Request.{Request}
 pub use Rattle.pawn_book.specs.declared.request.Caller.{Caller}
 pub use Rattle.pawn_book.specs.declared.request.BearerRequest.{BearerRequest}
 pub use Rattle.pawn_book.specs.declared.request.BearerRequest.TheVariants.{Present, OnPledge as OnReceipt}
-pub use Rattle.pawn_book.specs.BookStep.{BookValue, Denied, Out, Outcome, Refuses, Says, Makes, bearer_step, book_step, is_live, out_of, pledge_in}
+pub use Rattle.pawn_book.specs.BookStep.{BookValue, Out, Outcome, Makes, bearer_step, book_step, is_live, out_of, pledge_in}
 pub use Rattle.pawn_book.specs.HostStep.{Host, host_step}
 pub use Rattle.pawn_book.specs.Changes.{numbered_pledges, touched_pledges}
 pub use Rattle.pawn_book.specs.Keeping.{pledges_of}

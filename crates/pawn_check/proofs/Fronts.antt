@@ -1,14 +1,9 @@
 -- The terms and the pledges of a book, judged one after the other.
-use Rattle.std.proofs.Common.{◌≡◌, ◌∙◌, ℕ, ◌+◌, ◌<◌, ◌≤◌, zero, suc, true, false, List, [], ◌∷◌, ◌++◌, length, take, Some, None, refl, sym, ap, subst, arith}
-use Rattle.std.specs.Prelude.{◌==◌, ◌||◌, if◌then◌else◌, Bool, Option, option_map, slice_get}
-use Rattle.pawn_check.specs.Common.{AreDistinct, AreNumberedFrom, BookValue, DoNotFall, Each, Err, HasTextsAndWords, HasUnsoundBook, Host, IfSome, IsCapacity, IsChecked, IsSoundBook, IsStanding, IsText, IsTrue, IsUnder, IsUtf8, IsWord, PledgeValue, Rates, Result, book_head, get, is_same_text, last_by, most_name_bytes, most_pledges, most_terms, pledge_from, pledge_in, pledge_rows, references_of, terms_at, terms_of, version_of, with_reference}
+use Rattle.pawn_check.proofs.Basics.{◌≡◌, ◌∙◌, ℕ, ◌+◌, ◌<◌, ◌≤◌, zero, suc, true, false, List, [], ◌∷◌, ◌++◌, length, take, Some, None, refl, sym, ap, subst, arith, ◌==◌, ◌||◌, if◌then◌else◌, Bool, Option, option_map, slice_get, AreDistinct, AreNumberedFrom, BookValue, DoNotFall, Each, Err, HasTextsAndWords, HasUnsoundBook, Host, IfSome, IsCapacity, IsChecked, IsSoundBook, IsStanding, IsText, IsTrue, IsUnder, IsUtf8, IsWord, PledgeValue, Rates, Result, book_head, get, is_same_text, last_by, most_name_bytes, most_pledges, most_terms, pledge_from, pledge_in, pledge_rows, references_of, terms_at, terms_of, version_of, with_reference, absurd_none, nat_tests, references_push, some_is, sum_by_push, BookHead, AreOfBook, Blames, FindsSound, FitsAt, IsFront}
 use Rattle.std.specs.List.{list_any}
-use Rattle.pawn_check.proofs.Lemmas.{absurd_none, nat_tests, references_push, some_is, sum_by_push}
 use Rattle.pawn_base.proofs.ListLemmas.{Each-push, take_each}
-use Rattle.pawn_book.specs.declared.change.BookHead.{BookHead}
 use Rattle.pawn_book.proofs.Sounds.{each_at, numbered_at}
 use Rattle.pawn_check.specs.declared.fault.CheckFault.{CheckFault}
-use Rattle.pawn_check.specs.Judging.{AreOfBook, Blames, FindsSound, FitsAt, IsFront}
 use Rattle.pawn_book.proofs.Places.{terms_at_place}
 
 -- ---- terms
@@ -18,9 +13,6 @@ stands : (terms : List Rates) (i : ℕ) → i < length terms → slice_get terms
 stands [] i less none = absurd (omega (arith, less))
 stands (t ∷ terms) zero less none = cc
 stands (t ∷ terms) (suc i) less none = stands terms i (omega (arith, less)) none
-
-pub version_there : (terms : List Rates) (i : ℕ) → i < length terms → terms_at terms (i + 1) ≡ None → ⊥
-version_there terms i less none = stands terms i less (sym (terms_at_place terms i) ∙ none)
 
 more_checked : (terms : List Rates) (i : ℕ) (t : Rates) → slice_get terms i ≡ Some t → IsChecked t → Each {X = Rates} IsChecked (take i terms) → Each {X = Rates} IsChecked (take (suc i) terms)
 more_checked [] i t at is all = absurd_none at
@@ -117,9 +109,6 @@ take_drop [] zero = ([], refl)
 take_drop [] (suc i) = ([], refl)
 take_drop (p ∷ ps) zero = (p ∷ ps, refl)
 take_drop (p ∷ ps) (suc i) = let more = take_drop ps i in (more.0, ap (λ qs. p ∷ qs) more.1)
-
-pub front_none : (k : BookValue) → IsFront k (take 0 k.pledges) 0 0
-front_none k = record { numbered = tt; standing = tt; references = tt; under = tt; versions = tt; written = tt; last = refl; counted = refl }
 
 number_is : (o : Option PledgeValue) (n : ℕ) → option_map (λ (p : PledgeValue). p.agreement.number) o ≡ Some n → (q : PledgeValue) × (o ≡ Some q) × (q.agreement.number ≡ n)
 number_is None n is = absurd_none is
@@ -221,9 +210,6 @@ both_ways true holds not' = cc not'
 both_ways false holds not' = cc holds
 
 -- ---- the terms of a book that stands
-
-pub unlisted : (h : Host) (b i : ℕ) (k : BookValue) → get h.books b ≡ Some k → i < length k.terms → None ≡ terms_at (terms_of (get h.books b)) (i + 1) → ⊥
-unlisted h b i k is less none = version_there k.terms i less (ap (λ o. terms_at (terms_of o) (i + 1)) (sym is) ∙ sym none)
 
 pub next_checked : (h : Host) (b i : ℕ) (k : BookValue) (t : Rates) → get h.books b ≡ Some k → Some t ≡ terms_at (terms_of (get h.books b)) (i + 1) → IsChecked t → Each {X = Rates} IsChecked (take i k.terms)
     → Each {X = Rates} IsChecked (take (i + 1) k.terms)

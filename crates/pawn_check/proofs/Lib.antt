@@ -1,3 +1,3 @@
+pub mod Basics
 pub mod Fronts
 pub mod Meeting
-pub mod Lemmas

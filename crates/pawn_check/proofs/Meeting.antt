@@ -1,15 +1,11 @@
 -- Books that are met one after the other, in order of their numbers from 1 on.
-use Rattle.std.proofs.Common.{◌≡◌, ◌∙◌, ℕ, ◌+◌, ◌<◌, ◌≤◌, zero, suc, List, [], ◌∷◌, length, map, ◌-◌, Some, None, T, cond, refl, sym, ap, subst, arith, Ordering}
-use Rattle.std.specs.Prelude.{if◌then◌else◌, Bool, true, false, ◌&&◌, Option, nat_lt, nat_le, sum_by}
+use Rattle.pawn_check.proofs.Basics.{◌≡◌, ◌∙◌, ℕ, ◌+◌, ◌<◌, ◌≤◌, zero, suc, List, [], ◌∷◌, length, map, ◌-◌, Some, None, T, cond, refl, sym, ap, subst, arith, Ordering, if◌then◌else◌, Bool, true, false, ◌&&◌, Option, nat_lt, nat_le, sum_by, AreSound, BookValue, HasUnsoundBook, Host, IsNextBook, IsSoundAt, book_rows, entries, entries_sorted, find, get, get-entries, is_sorted, rows, absurd_none, nat_tests, some_is, sum_by-cons, AreCounted, AreOfBook}
 use Rattle.std.specs.declared.cmp.Ordering.TheVariants.{Less, Equal, Greater}
 use Rattle.std.specs.Cmp.{ranked}
 use Rattle.std.specs.Ordering.{nat_cmp, is_eq}
-use Rattle.pawn_check.specs.Common.{AreSound, BookValue, HasUnsoundBook, Host, IsNextBook, IsSoundAt, book_rows, entries, entries_sorted, find, get, get-entries, is_sorted, rows}
 use Rattle.std.specs.FinMap.Entries.{below_all}
-use Rattle.pawn_check.proofs.Lemmas.{absurd_none, nat_tests, some_is, sum_by-cons}
 use Rattle.pawn_base.proofs.TestLemmas.{both_told, below}
 use Rattle.pawn_check.specs.declared.counts.BookCounts.{BookCounts}
-use Rattle.pawn_check.specs.Judging.{AreCounted, AreOfBook}
 
 abbrev pub Books : Type 0
 Books = List (ℕ × BookValue)

@@ -1,6 +1,5 @@
 -- The words of the crates below that many files of this crate use, gathered in one place.
 pub use Rattle.std.specs.FinMap.{entries, entries_sorted, find, get, get-entries, is_sorted}
-pub use Rattle.std.specs.Prelude.{Err, IfSome, IsTrue, Result, unwrap_or}
 pub use Rattle.std.specs.Str.{IsUtf8}
 pub use Rattle.pawn_base.specs.Lists.{DoNotFall, Each, last_by}
 pub use Rattle.pawn_base.specs.Text.{IsText}

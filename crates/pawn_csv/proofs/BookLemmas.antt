@@ -1,10 +1,6 @@
 -- Rows that were taken to their end are those of the book.
-use Rattle.std.proofs.Common.{◌≡◌, ◌∙◌, ◌+◌, ℕ, Bool, true, false, List, [], ◌∷◌, ◌++◌, length, map, Option, Some, None, Result, Ok, Err, refl, sym, ap, subst, append_assoc, arith, cond, nat_lt, nat_le}
-use Rattle.std.specs.Prelude.{◌==◌, ◌&&◌, ◌||◌, IfOk, IfSome}
-use Rattle.pawn_csv.specs.Common.{AreRecords, BookRows, Each, PledgeValue, Rates, default_config, flat_map, most_pledges, most_terms, strip_bom}
-use Rattle.pawn_csv.proofs.Lemmas.{Each-push, and_parts, append-nil, nat_tests}
+use Rattle.pawn_csv.proofs.Basics.{◌≡◌, ◌∙◌, ◌+◌, ℕ, Bool, true, false, List, [], ◌∷◌, ◌++◌, length, map, Option, Some, None, Result, Ok, Err, refl, sym, ap, subst, append_assoc, arith, cond, nat_lt, nat_le, ◌==◌, ◌&&◌, ◌||◌, IfOk, IfSome, AreRecords, BookRows, Each, PledgeValue, Rates, default_config, flat_map, most_pledges, most_terms, strip_bom, Each-push, and_parts, append-nil, nat_tests, AreTaken, Begun, Cause, FitsColumns, IsFinishedAs, IsHeldBy, IsReadAs, IsTextOf, Knows, PledgeColumns, RawPledge, Row, Version, hand, header, is_whole, may_end, on_hand, on_second, place, place_booking, place_entry, place_extension, place_pledge, place_secret, place_terms, pledge_csv_rows, pledges_begun, put_hand, raw_of, raw_pledge, raw_rows, row_fields, rows_of_csv, run, terms_rows, then_run, version_rows}
 use Rattle.csv.specs.declared.parser.State.TheVariants as st
-use Rattle.pawn_csv.specs.Csv.{AreTaken, Begun, Cause, FitsColumns, IsFinishedAs, IsHeldBy, IsReadAs, IsTextOf, Knows, PledgeColumns, RawPledge, Row, Version, hand, header, is_whole, may_end, on_hand, on_second, place, place_booking, place_entry, place_extension, place_pledge, place_secret, place_terms, pledge_csv_rows, pledges_begun, put_hand, raw_of, raw_pledge, raw_rows, row_fields, rows_of_csv, run, terms_rows, then_run, version_rows}
 use Rattle.pawn_csv.specs.declared.fault.Cause.TheVariants as cause
 use Rattle.pawn_csv.specs.declared.row.Version.TheVariants as version
 use Rattle.pawn_csv.proofs.OrderLemmas.{Shows, booking_shown, entry_shown, extension_shown, guard_err, guard_ok, ok_same, secret_shown}

@@ -1,7 +1,5 @@
 -- One column.
-use Rattle.std.proofs.Common.{◌≡◌, ◌∙◌, ◌^◌, ◌<◌, ℕ, zero, suc, List, [], ◌∷◌, None, Some, refl, ap, get_or}
-use Rattle.pawn_csv.specs.Common.{field_at, secret_of_text, secret_text}
-use Rattle.pawn_pledge.proofs.TextLemmas.{secret_texts_read_back}
+use Rattle.pawn_csv.proofs.Basics.{◌≡◌, ◌∙◌, ◌^◌, ◌<◌, ℕ, zero, suc, List, [], ◌∷◌, None, Some, refl, ap, get_or, field_at, secret_of_text, secret_text, secret_texts_read_back}
 
 -- the text of a secret is read as that secret
 pub secret_is : (field : List ℕ) (word : ℕ) → word < 2 ^ 128 → field ≡ secret_text word → secret_of_text field ≡ Some word

@@ -1,9 +1,5 @@
 -- Rows that are asked for one by one: the terms and the pledges of a book.
-use Rattle.std.proofs.Common.{◌≡◌, ◌∙◌, ℕ, ◌+◌, ◌<◌, ◌≤◌, zero, suc, true, false, List, [], ◌∷◌, ◌++◌, length, take, Option, Some, None, refl, sym, ap, subst, arith, append_assoc}
-use Rattle.std.specs.Prelude.{◌==◌, if◌then◌else◌, option_map, slice_get, unwrap_or}
-use Rattle.pawn_csv.specs.Common.{BookValue, BriefFields, Front, Host, IsNumber, IsSound, PledgeValue, Rates, Whole, brief_of, flat_map, get, most_pledges, pledge_from, pledge_in, pledges_of, terms_at}
-use Rattle.pawn_csv.proofs.Lemmas.{append-nil, flat_map-append, nat_tests, share_front, share_more, share_puts, share_then, take_each}
-use Rattle.pawn_csv.specs.Csv.{PutsRow, PutsRowsShare, Row, Sink, pledge_csv_rows, terms_rows, text_of_row}
+use Rattle.pawn_csv.proofs.Basics.{◌≡◌, ◌∙◌, ℕ, ◌+◌, ◌<◌, ◌≤◌, zero, suc, true, false, List, [], ◌∷◌, ◌++◌, length, take, Option, Some, None, refl, sym, ap, subst, arith, append_assoc, ◌==◌, if◌then◌else◌, option_map, slice_get, unwrap_or, BookValue, BriefFields, Front, Host, IsNumber, IsSound, PledgeValue, Rates, Whole, brief_of, flat_map, get, most_pledges, pledge_from, pledge_in, pledges_of, terms_at, append-nil, flat_map-append, nat_tests, share_front, share_more, share_puts, share_then, take_each, PutsRow, PutsRowsShare, Row, Sink, pledge_csv_rows, terms_rows, text_of_row}
 use Rattle.pawn_csv.proofs.ListLemmas.{lines_from}
 use Rattle.pawn_csv.proofs.SentLemmas.{rows_in_turn}
 use Rattle.pawn_book.proofs.Places.{terms_at_place}

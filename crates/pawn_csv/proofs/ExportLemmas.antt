@@ -1,11 +1,7 @@
 -- A book's text, put part by part, and how it ends.
-use Rattle.std.proofs.Common.{◌≡◌, ◌∙◌, ℕ, Bool, true, false, List, [], ◌∷◌, ◌++◌, length, Option, Some, None, Result, Ok, Err, refl, sym, ap, subst}
-use Rattle.std.specs.Prelude.{map, option_map, unwrap_or}
-use Rattle.pawn_csv.specs.Common.{BookValue, End, Front, KeepError, PutFront, ViewFault, Whole, Written, book_head, call_end, default_writer, end_by, flat_map, pledges_of, row_text, rows_of_book, terms_of, write_failed}
-use Rattle.pawn_csv.proofs.Lemmas.{flat_map-append, or_from, share_all, share_more, share_puts, share_then}
+use Rattle.pawn_csv.proofs.Basics.{◌≡◌, ◌∙◌, ℕ, Bool, true, false, List, [], ◌∷◌, ◌++◌, length, Option, Some, None, Result, Ok, Err, refl, sym, ap, subst, map, option_map, unwrap_or, BookValue, End, Front, KeepError, PutFront, ViewFault, Whole, Written, book_head, call_end, default_writer, end_by, flat_map, pledges_of, row_text, rows_of_book, terms_of, write_failed, flat_map-append, or_from, share_all, share_more, share_puts, share_then, Exports, PutsRow, PutsRowsShare, Row, Sink, csv_of, ending_by, has_ended, header, pledge_csv_rows, row_fields, seen, sink_ending, terms_rows, text_of_row}
 use Rattle.pawn_book.specs.declared.change.BookHead.{BookHead}
 use Rattle.pawn_book.specs.declared.fault.KeepError.TheVariants as error
-use Rattle.pawn_csv.specs.Csv.{Exports, PutsRow, PutsRowsShare, Row, Sink, csv_of, ending_by, has_ended, header, pledge_csv_rows, row_fields, seen, sink_ending, terms_rows, text_of_row}
 use Rattle.pawn_csv.specs.declared.row.Version.TheVariants as version
 use Rattle.pawn_csv.proofs.SentLemmas.{rows_in_turn}
 use Rattle.pawn_writing.proofs.PutLemmas.{front-more, now_by}

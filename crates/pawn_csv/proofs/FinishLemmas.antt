@@ -1,7 +1,5 @@
 -- The records of pledges whose rows are read.
-use Rattle.std.proofs.Common.{◌≡◌, ℕ, List, [], ◌∷◌, ◌++◌, map, Option, None, Some, Result, Ok, Err, true, sym, ◌∙◌, subst, refl, ap}
-use Rattle.pawn_csv.specs.Common.{AreReplayable, BookRows, Closing, Each, IfErr, IfNone, IfOk, IfSome, IsUnder, PledgeValue, Rates, terms_at}
-use Rattle.pawn_csv.specs.Csv.{AreRawOf, Begun, Cause, Ends, IsBegunOf, IsRawOf, RawPledge, closing_amount, closing_day, closing_word, is_whole, raw_of}
+use Rattle.pawn_csv.proofs.Basics.{◌≡◌, ℕ, List, [], ◌∷◌, ◌++◌, map, Option, None, Some, Result, Ok, Err, true, sym, ◌∙◌, subst, refl, ap, AreReplayable, BookRows, Closing, Each, IfErr, IfNone, IfOk, IfSome, IsUnder, PledgeValue, Rates, terms_at, AreRawOf, Begun, Cause, Ends, IsBegunOf, IsRawOf, RawPledge, closing_amount, closing_day, closing_word, is_whole, raw_of}
 use Rattle.pawn_pledge.specs.declared.record.Closing.TheVariants as closed
 use Rattle.pawn_csv.specs.declared.fault.Cause.TheVariants as cause
 

@@ -1,10 +1,8 @@
 -- The rows of a book that can have come about can be spelled.
-use Rattle.std.proofs.Common.{◌≡◌, ◌∙◌, ◌+◌, ◌-◌, ◌*◌, ◌≤◌, ℕ, zero, suc, Bool, true, false, List, [], ◌∷◌, ◌++◌, length, Option, Some, None, if◌then◌else◌, IsOk, Ok, sym, ap, subst, arith, nat_le}
-use Rattle.pawn_csv.specs.Common.{AreExtended, AreNumbered, AreOrdered, AreWords, Booking, Closing, DebtValue, DoNotFall, Draw, Due, Each, Entry, Extension, HasTextsAndWords, IfSome, IsBooked, IsClosed, IsStampDay, IsStanding, IsUnder, Issued, PledgeValue, Rates, Repay, Sort, after_days, debt_of, due, end_with, flat_map, keep_on, last_by, last_of, most_a_day, most_pence, total_on}
-use Rattle.pawn_csv.proofs.Lemmas.{last_by-le, nat_tests}
+use Rattle.pawn_csv.proofs.Basics.{◌≡◌, ◌∙◌, ◌+◌, ◌-◌, ◌*◌, ◌≤◌, ℕ, zero, suc, Bool, true, false, List, [], ◌∷◌, ◌++◌, length, Option, Some, None, if◌then◌else◌, IsOk, Ok, sym, ap, subst, arith, nat_le, AreExtended, AreNumbered, AreOrdered, AreWords, Booking, Closing, DebtValue, DoNotFall, Draw, Due, Each, Entry, Extension, HasTextsAndWords, IfSome, IsBooked, IsClosed, IsStampDay, IsStanding, IsUnder, Issued, PledgeValue, Rates, Repay, Sort, after_days, debt_of, due, end_with, flat_map, keep_on, last_by, last_of, most_a_day, most_pence, total_on, last_by-le, nat_tests, first_day, AreColumns, BooksAreHeld, FitsColumns, IsColumnNumber, Row, TextsAreRead, TextsOfHostsAreRead, booking_csv_rows, closing_amount, closing_day, entry_rows, extension_rows, pledge_columns, pledge_csv_rows, secret_rows, terms_rows}
 use Rattle.std.proofs.lemmas.Nat.{mul-le}
 use Rattle.pawn_base.proofs.RefusalLemmas.{first_of-is_ok}
-use Rattle.pawn_terms.specs.Limits.{first_day, last_stamp_day}
+use Rattle.pawn_terms.specs.Limits.{last_stamp_day}
 use Rattle.pawn_terms.specs.Terms.{IsChecked}
 use Rattle.pawn_debt.proofs.Bounds.{accepted-bounded}
 use Rattle.pawn_debt.proofs.DueLemmas.{after_days-principal}
@@ -12,7 +10,6 @@ use Rattle.pawn_debt.proofs.EntryLemmas.{due-from-last}
 use Rattle.pawn_debt.specs.Answers.{draw_rows, is_bad_amount, repay_rows, with_entry}
 use Rattle.pawn_debt.specs.Replay.{AreEntriesAccepted, sort_answer}
 use Rattle.pawn_pledge.specs.declared.record.Closing.TheVariants as closed
-use Rattle.pawn_csv.specs.Csv.{AreColumns, BooksAreHeld, FitsColumns, IsColumnNumber, Row, TextsAreRead, TextsOfHostsAreRead, booking_csv_rows, closing_amount, closing_day, entry_rows, extension_rows, pledge_columns, pledge_csv_rows, secret_rows, terms_rows}
 use Rattle.pawn_csv.specs.declared.row.Version.TheVariants as version
 use Rattle.pawn_csv.proofs.RoundLemmas.{held_texts_are_read}
 use Rattle.pawn_book.proofs.SoundLists.{under_length}

@@ -1,9 +1,5 @@
 -- Only rows that are laid out are taken, and why others are refused.
-use Rattle.std.proofs.Common.{◌≡◌, ◌∙◌, ◌⊎◌, inl, inr, ◌+◌, ◌≤◌, ◌<◌, ℕ, Bool, true, false, List, [], ◌∷◌, ◌++◌, length, map, Option, Some, None, Result, Ok, Err, refl, sym, ap, subst, arith, cond, nat_lt, nat_le}
-use Rattle.std.specs.Prelude.{◌==◌, ◌&&◌, ◌||◌}
-use Rattle.pawn_csv.specs.Common.{AreNumbered, BookRows, Booking, Each, Entry, Extension, Issued, PledgeValue, flat_map, most_entries, most_extensions, most_pledges, most_secrets, most_terms}
-use Rattle.pawn_csv.proofs.Lemmas.{and_parts, nat_tests}
-use Rattle.pawn_csv.specs.Csv.{AreLaidFrom, Begun, Cause, IsBegunOf, IsWithin, Knows, NotReplayableIsOfNoBook, PledgeColumns, RawPledge, RefusedAreNoFront, Row, TakenAreLaidOut, TooManyIsAboveALimit, Version, hand, has_secret, in_order, is_nil, is_none, is_whole, laid_rows, may_end, on_hand, on_second, place, place_book, place_booking, place_entry, place_extension, place_first, place_pledge, place_secret, pledges_begun, put_hand, raw_of, raw_pledge, raw_rows, run, terms_rows, then_run, unless_full}
+use Rattle.pawn_csv.proofs.Basics.{◌≡◌, ◌∙◌, ◌⊎◌, inl, inr, ◌+◌, ◌≤◌, ◌<◌, ℕ, Bool, true, false, List, [], ◌∷◌, ◌++◌, length, map, Option, Some, None, Result, Ok, Err, refl, sym, ap, subst, arith, cond, nat_lt, nat_le, ◌==◌, ◌&&◌, ◌||◌, AreNumbered, BookRows, Booking, Each, Entry, Extension, Issued, PledgeValue, flat_map, most_entries, most_extensions, most_pledges, most_secrets, most_terms, and_parts, nat_tests, AreLaidFrom, Begun, Cause, IsBegunOf, IsWithin, Knows, NotReplayableIsOfNoBook, PledgeColumns, RawPledge, RefusedAreNoFront, Row, TakenAreLaidOut, TooManyIsAboveALimit, Version, hand, has_secret, in_order, is_nil, is_none, is_whole, laid_rows, may_end, on_hand, on_second, place, place_book, place_booking, place_entry, place_extension, place_first, place_pledge, place_secret, pledges_begun, put_hand, raw_of, raw_pledge, raw_rows, run, terms_rows, then_run, unless_full}
 use Rattle.pawn_csv.specs.declared.fault.Cause.TheVariants as cause
 use Rattle.pawn_csv.specs.declared.row.Version.TheVariants as version
 use Rattle.pawn_csv.proofs.BookLemmas.{guard_then, run_grows, second_only}

@@ -1,3 +1,4 @@
+pub mod Basics
 pub mod ColumnLemmas
 pub mod RowLemmas
 pub mod FinishLemmas
@@ -17,4 +18,3 @@ pub mod RecordLemmas
 pub mod CountLemmas
 pub mod ExportLemmas
 pub mod PadLemmas
-pub mod Lemmas

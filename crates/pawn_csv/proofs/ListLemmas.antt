@@ -1,9 +1,5 @@
 -- The rows of a list that is handed out, put one by one.
-use Rattle.std.proofs.Common.{◌≡◌, ◌∙◌, ℕ, ◌+◌, ◌-◌, ◌^◌, ◌≤◌, suc, Bool, false, List, [], ◌∷◌, ◌++◌, length, Option, Some, None, refl, sym, ap, subst, inl, inr, arith, length-append, append_assoc}
-use Rattle.std.specs.Prelude.{if◌then◌else◌}
-use Rattle.pawn_csv.specs.Common.{End, Entry, Extension, Flow, Go, Handed, Host, IsShare, IsSound, Issued, PledgeValue, Stop, entries_of, extensions_of, flat_map, get, pledge_in, secrets_of}
-use Rattle.pawn_csv.proofs.Lemmas.{append-nil, standing_at}
-use Rattle.pawn_csv.specs.Csv.{PutsAt, PutsRow, PutsRowsShare, entry_row_text, entry_rows, extension_line, extension_rows, has_ended, secret_line, secret_rows, text_of_row}
+use Rattle.pawn_csv.proofs.Basics.{◌≡◌, ◌∙◌, ℕ, ◌+◌, ◌-◌, ◌^◌, ◌≤◌, suc, Bool, false, List, [], ◌∷◌, ◌++◌, length, Option, Some, None, refl, sym, ap, subst, inl, inr, arith, length-append, append_assoc, if◌then◌else◌, End, Entry, Extension, Flow, Go, Handed, Host, IsShare, IsSound, Issued, PledgeValue, Stop, entries_of, extensions_of, flat_map, get, pledge_in, secrets_of, append-nil, standing_at, PutsAt, PutsRow, PutsRowsShare, entry_row_text, entry_rows, extension_line, extension_rows, has_ended, secret_line, secret_rows, text_of_row}
 use Rattle.pawn_csv.specs.declared.exporting.RowWriter.{RowWriter}
 use Rattle.pawn_csv.proofs.SentLemmas.{puts_nil, puts_then}
 

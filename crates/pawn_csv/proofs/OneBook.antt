@@ -1,18 +1,10 @@
 -- A text holds one book.
-use Rattle.std.proofs.Common.{◌≡◌, ◌∙◌, ◌++◌, ◌∷◌, ◌≤◌, ℕ, [], Bool, true, false, List, length, Option, Some, refl, sym, ap, subst, arith, nat_le}
-use Rattle.pawn_csv.specs.Common.{Agreement, BookRows, Each, IsUnder, PledgeValue, Rates, Standing, default_config, map}
-use Rattle.pawn_csv.proofs.Lemmas.{append-nil, nat_tests}
+use Rattle.pawn_csv.proofs.Basics.{◌≡◌, ◌∙◌, ◌++◌, ◌∷◌, ◌≤◌, ℕ, [], Bool, true, false, List, length, Option, Some, refl, sym, ap, subst, arith, nat_le, Agreement, BookRows, Each, IsUnder, PledgeValue, Rates, Standing, default_config, map, append-nil, nat_tests, AreTaken, Begun, ClosingWord, IsBegunOf, IsFinishedAs, IsReadAs, RawPledge, TextsHoldOneBook, raw_of}
 use Rattle.csv.specs.declared.parser.State.TheVariants as st
-use Rattle.pawn_csv.specs.Csv.{AreTaken, Begun, ClosingWord, IsBegunOf, IsFinishedAs, IsReadAs, RawPledge, TextsHoldOneBook, raw_of}
 use Rattle.pawn_csv.specs.declared.row.ClosingWord.TheVariants as closing
 use Rattle.pawn_csv.proofs.OneReading.{no_further, reached_on, taken_same}
 use Rattle.pawn_csv.proofs.TakenLemmas.{texts_are_read_as}
 use Rattle.pawn_csv.proofs.FinishLemmas.{same_closing, same_rates}
-
-abbrev word_place : ClosingWord → ℕ
-word_place closing.Open = 0
-word_place closing.Redeemed = 1
-word_place closing.Sold = 2
 
 some_same : (a b : ℕ) → Some a ≡ Some b → a ≡ b
 some_same a b e = cc

@@ -1,10 +1,7 @@
 -- A text has one reading.
-use Rattle.std.proofs.Common.{◌≡◌, ◌≢◌, ◌⊎◌, ◌∙◌, ◌++◌, ◌∷◌, ◌+◌, ◌<◌, ◌≤◌, [], ℕ, Bool, true, false, List, length, Option, Some, None, Result, Ok, Err, refl, sym, ap, subst, inl, inr, arith, nat_le}
-use Rattle.pawn_csv.specs.Common.{BookRows, Each, Reached, Read, State, default_config, map, nat_eq, next_record}
-use Rattle.pawn_csv.proofs.Lemmas.{append-nil, nat_tests}
+use Rattle.pawn_csv.proofs.Basics.{◌≡◌, ◌≢◌, ◌⊎◌, ◌∙◌, ◌++◌, ◌∷◌, ◌+◌, ◌<◌, ◌≤◌, [], ℕ, Bool, true, false, List, length, Option, Some, None, Result, Ok, Err, refl, sym, ap, subst, inl, inr, arith, nat_le, BookRows, Each, Reached, Read, State, default_config, map, nat_eq, next_record, append-nil, nat_tests, AreTaken, Begun, Cause, EndsReadingAs, FirstFaultsAreOne, FirstFaultsExcludeBooks, FitsColumns, IsBegunOf, IsFinishedAs, IsFirstCause, IsNoRow, IsOfNoBook, IsReadAs, IsRowRefused, RefusesEnd, RefusesRow, Row, Taking, header, is_whole, place, row_fields, run, then_run}
 use Rattle.csv.specs.declared.parser.State.TheVariants as st
 use Rattle.csv.specs.declared.parser.Config.{Config}
-use Rattle.pawn_csv.specs.Csv.{AreTaken, Begun, Cause, EndsReadingAs, FirstFaultsAreOne, FirstFaultsExcludeBooks, FitsColumns, IsBegunOf, IsFinishedAs, IsFirstCause, IsNoRow, IsOfNoBook, IsReadAs, IsRowRefused, RefusesEnd, RefusesRow, Row, Taking, header, is_whole, place, row_fields, run, then_run}
 use Rattle.pawn_csv.specs.declared.fault.Cause.TheVariants as cause
 use Rattle.pawn_csv.proofs.OneSpelling.{one_row}
 use Rattle.pawn_csv.proofs.TakenLemmas.{texts_are_read_as}

@@ -1,15 +1,10 @@
 -- A row has one spelling: columns that two rows have are the columns of one row.
-use Rattle.std.proofs.Common.{◌≡◌, ◌∙◌, ◌^◌, ◌<◌, ◌-◌, ℕ, Bool, true, false, List, [], length, Option, None, Some, refl, sym, ap, arith, get_or}
-use Rattle.pawn_csv.specs.Common.{Booking, Draw, Entry, Extension, Fixed, IfSome, Issue, Issued, Kind, Opening, Rates, Repay, Running, Sort, credit_of, decimal, secret_of_text, secret_text, sort_text, state_text}
-use Rattle.std.proofs.lemmas.Fmt.{decimal_injective, decimal_nonempty}
-use Rattle.pawn_terms.specs.Calendar.{IsStampDay, civil_of, day_text, first_day}
+use Rattle.pawn_csv.proofs.Basics.{◌≡◌, ◌∙◌, ◌^◌, ◌<◌, ◌-◌, ℕ, Bool, true, false, List, [], length, Option, None, Some, refl, sym, ap, arith, get_or, Booking, Draw, Entry, Extension, Fixed, IfSome, Issue, Issued, Kind, Opening, Rates, Repay, Running, Sort, credit_of, decimal, secret_of_text, secret_text, sort_text, state_text, decimal_injective, decimal_nonempty, IsStampDay, civil_of, day_text, first_day, secret_texts_read_back, AreColumns, ClosingWord, FitsColumns, IsColumnNumber, PledgeColumns, Row, Version, closing_text, form_text, issue_text, kind_text, pledge_fields, row_fields, text_if_any, yes_text}
 use Rattle.pawn_terms.proofs.CalendarLemmas.{civil_after_is, count_of}
 use Rattle.pawn_terms.proofs.TextLemmas.{civil_of-stamp, civil_text-injective}
-use Rattle.pawn_pledge.proofs.TextLemmas.{secret_texts_read_back}
 use Rattle.pawn_pledge.specs.declared.record.BookingState.{BookingState}
 use Rattle.pawn_pledge.specs.declared.record.BookingState.TheVariants as state
 use Rattle.pawn_pledge.specs.declared.record.Issue.TheVariants as issue
-use Rattle.pawn_csv.specs.Csv.{AreColumns, ClosingWord, FitsColumns, IsColumnNumber, PledgeColumns, Row, Version, closing_text, form_text, issue_text, kind_text, pledge_fields, row_fields, text_if_any, yes_text}
 use Rattle.pawn_csv.specs.declared.row.ClosingWord.TheVariants as closing
 use Rattle.pawn_csv.specs.declared.row.Version.TheVariants as version
 

@@ -1,9 +1,5 @@
 -- Rows that were taken are shown by what they made.
-use Rattle.std.proofs.Common.{◌≡◌, ◌∙◌, ◌+◌, ℕ, Bool, true, false, List, [], ◌∷◌, ◌++◌, length, Option, Some, None, Result, Ok, Err, refl, sym, ap, subst, append_assoc, arith, cond, nat_le}
-use Rattle.std.specs.Prelude.{◌==◌, ◌&&◌}
-use Rattle.pawn_csv.proofs.Lemmas.{and_parts, append-nil, map-append, nat_tests}
-use Rattle.pawn_csv.specs.Common.{Booking, Entry, Extension, Issued, most_entries, most_extensions, most_secrets}
-use Rattle.pawn_csv.specs.Csv.{Cause, RawPledge, Row, entry_rows, extension_rows, has_secret, is_nil, is_none, list_rows, place_booking, place_entry, place_extension, place_secret, raw_rows, secret_rows}
+use Rattle.pawn_csv.proofs.Basics.{◌≡◌, ◌∙◌, ◌+◌, ℕ, Bool, true, false, List, [], ◌∷◌, ◌++◌, length, Option, Some, None, Result, Ok, Err, refl, sym, ap, subst, append_assoc, arith, cond, nat_le, ◌==◌, ◌&&◌, and_parts, append-nil, map-append, nat_tests, Booking, Entry, Extension, Issued, most_entries, most_extensions, most_secrets, Cause, RawPledge, Row, entry_rows, extension_rows, has_secret, is_nil, is_none, list_rows, place_booking, place_entry, place_extension, place_secret, raw_rows, secret_rows}
 use Rattle.pawn_csv.specs.declared.fault.Cause.TheVariants as cause
 
 pub ok_same : {A : Type 0} (x y : A) → (let r : Result A Cause = Ok x in r ≡ Ok y) → x ≡ y

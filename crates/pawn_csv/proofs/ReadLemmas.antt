@@ -1,13 +1,10 @@
 -- The records so far, and what they make.
-use Rattle.std.proofs.Common.{◌≡◌, ◌≢◌, ◌∙◌, ◌+◌, ℕ, Bool, true, false, List, [], ◌∷◌, ◌++◌, length, map, Option, Some, None, Result, Ok, Err, refl, sym, ap, subst, arith, nat_eq, inl, inr}
-use Rattle.pawn_csv.specs.Common.{BookRows, ErrorKind, ExplainsRead, IfSome, NextIs, Reached, Read, ReadRecord, ReadsNext, State, default_config, next_record, pending_of, source_of}
-use Rattle.pawn_csv.proofs.Lemmas.{Each-push, length-append, map-append, nat_tests}
+use Rattle.pawn_csv.proofs.Basics.{◌≡◌, ◌≢◌, ◌∙◌, ◌+◌, ℕ, Bool, true, false, List, [], ◌∷◌, ◌++◌, length, map, Option, Some, None, Result, Ok, Err, refl, sym, ap, subst, arith, nat_eq, inl, inr, BookRows, ErrorKind, ExplainsRead, IfSome, NextIs, Reached, Read, ReadRecord, ReadsNext, State, default_config, next_record, pending_of, source_of, Each-push, length-append, map-append, nat_tests, AnswersBegun, AreTaken, AreTakenBefore, Begun, Cause, CauseOf, Ends, EndsReadingAs, Fails, FitsColumns, IsFaultOf, IsFinishedAs, IsFirstCause, IsReadAs, IsSpelled, RefusesRow, Row, Taking, place, row_fields, run, then_run}
 use Rattle.csv.specs.declared.error.ErrorKind.TheVariants as kind
 use Rattle.pawn_csv.specs.declared.fault.Cause.TheVariants as cause
 use Rattle.csv.specs.declared.reader.Reader.{Reader}
 use Rattle.csv.specs.declared.parser.State.TheVariants as st
 use Rattle.csv.proofs.ReadFacts.{rows-end, rows-more}
-use Rattle.pawn_csv.specs.Csv.{AnswersBegun, AreTaken, AreTakenBefore, Begun, Cause, CauseOf, Ends, EndsReadingAs, Fails, FitsColumns, IsFaultOf, IsFinishedAs, IsFirstCause, IsReadAs, IsSpelled, RefusesRow, Row, Taking, place, row_fields, run, then_run}
 
 pub record SoFar {R : Type 0} (rem : R → Option (List ℕ)) (text : List ℕ) (reader : Reader R) (index : ℕ) (raw : Option Begun) : Type 0 where
   pub rest : List ℕ

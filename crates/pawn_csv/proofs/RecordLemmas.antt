@@ -1,8 +1,5 @@
 -- The rows of a pledge, put part by part.
-use Rattle.std.proofs.Common.{◌≡◌, ◌∙◌, ℕ, List, ◌++◌, Option, Some, sym, ap, subst}
-use Rattle.pawn_csv.specs.Common.{BriefFields, End, Front, Host, IsSound, PledgeValue, Whole, brief_of, entries_of, extensions_of, flat_map, get, pledge_in, secrets_of}
-use Rattle.pawn_csv.proofs.Lemmas.{flat_map-append, share_more, share_puts, share_then, standing_at}
-use Rattle.pawn_csv.specs.Csv.{PutsRow, PutsRowsShare, Row, Sink, booking_csv_rows, brief_columns, entry_rows, extension_rows, pledge_columns, pledge_csv_rows, secret_rows, text_of_row}
+use Rattle.pawn_csv.proofs.Basics.{◌≡◌, ◌∙◌, ℕ, List, ◌++◌, Option, Some, sym, ap, subst, BriefFields, End, Front, Host, IsSound, PledgeValue, Whole, brief_of, entries_of, extensions_of, flat_map, get, pledge_in, secrets_of, flat_map-append, share_more, share_puts, share_then, standing_at, PutsRow, PutsRowsShare, Row, Sink, booking_csv_rows, brief_columns, entry_rows, extension_rows, pledge_columns, pledge_csv_rows, secret_rows, text_of_row}
 use Rattle.pawn_csv.proofs.SentLemmas.{rows_in_turn}
 
 -- the parts of a pledge's text

@@ -1,10 +1,7 @@
 -- The text of a book, read back.
-use Rattle.std.proofs.Common.{◌≡◌, ◌++◌, ◌∷◌, [], List, refl, map}
-use Rattle.pawn_csv.specs.Common.{BookRows, Reached, default_config, default_writer, escaped, fields_text, flat_map, is_blank, next_record, read_back, row_text, strip_bom}
+use Rattle.pawn_csv.proofs.Basics.{◌≡◌, ◌++◌, ◌∷◌, [], List, refl, map, BookRows, Reached, default_config, default_writer, escaped, fields_text, flat_map, is_blank, next_record, read_back, row_text, strip_bom, ℕ, None, IsHeldBy, IsTextOf, Row, csv_of, header, row_fields, rows_of_csv}
 use Rattle.csv.specs.declared.parser.State.TheVariants as st
 use Rattle.csv.proofs.RoundTrip.{read-write}
-use Rattle.std.proofs.Common.{ℕ, None}
-use Rattle.pawn_csv.specs.Csv.{IsHeldBy, IsTextOf, Row, csv_of, header, row_fields, rows_of_csv}
 use Rattle.pawn_csv.specs.declared.row.Version.TheVariants as version
 
 -- a record of more than one column is read as it is

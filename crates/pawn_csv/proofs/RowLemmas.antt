@@ -1,9 +1,6 @@
 -- Rows from their columns.
-use Rattle.std.proofs.Common.{◌≡◌, ◌∙◌, ◌≤◌, ◌+◌, ℕ, zero, suc, List, [], ◌∷◌, length, ap, arith, drop}
-use Rattle.std.specs.Prelude.{replicate}
+use Rattle.pawn_csv.proofs.Basics.{◌≡◌, ◌∙◌, ◌≤◌, ◌+◌, ℕ, zero, suc, List, [], ◌∷◌, length, ap, arith, drop, replicate, drop_all, AreBlankFrom, COLUMNS, column_at}
 use Rattle.std.proofs.Math.Seq.{drop-cons}
-use Rattle.std.proofs.lemmas.List.{drop_all}
-use Rattle.pawn_csv.specs.Csv.{AreBlankFrom, COLUMNS, column_at}
 
 -- the columns from a place on are these
 abbrev pub Follow : List (List ℕ) → ℕ → List (List ℕ) → Type 0

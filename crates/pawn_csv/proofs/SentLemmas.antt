@@ -1,9 +1,7 @@
 -- Rows put one after the other.
-use Rattle.std.proofs.Common.{◌∙◌, ℕ, List, [], ◌++◌, Option, refl, ap}
+use Rattle.pawn_csv.proofs.Basics.{◌∙◌, ℕ, List, [], ◌++◌, Option, refl, ap, PutsInTurn, PutsRow, Sink, has_ended, seen}
 use Rattle.pawn_writing.specs.Ends as view
 use Rattle.pawn_writing.proofs.PutLemmas as put
-use Rattle.pawn_writing.proofs.ShareLemmas.{PutsInTurn}
-use Rattle.pawn_csv.specs.Csv.{PutsRow, Sink, has_ended, seen}
 
 -- what was put into a sink, as what was put into a writer
 as_writer : {W : Type 0} {contents : W → Option (List ℕ)} {a b : Sink W} {s : List ℕ} → PutsRow contents a s b → view.Puts contents (seen a) s (seen b)

@@ -1,10 +1,6 @@
 -- The rows of a book are taken to their end.
-use Rattle.std.proofs.Common.{◌≡◌, ◌∙◌, ◌+◌, ◌≤◌, ◌<◌, ℕ, Bool, true, false, List, [], ◌∷◌, ◌++◌, length, map, Option, Some, None, Result, Ok, Err, refl, sym, ap, subst, append_assoc, arith, cond, nat_lt, nat_le}
-use Rattle.std.specs.Prelude.{◌==◌, ◌&&◌, ◌||◌, not}
-use Rattle.pawn_csv.specs.Common.{AreIssued, AreNumbered, AreNumberedFrom, AreReplayable, BookRows, Booking, Each, Entry, Extension, IsNumber, IsStanding, IsUnder, Issued, PledgeValue, Rates, flat_map, most_entries, most_extensions, most_pledges, most_secrets, most_terms}
-use Rattle.pawn_csv.proofs.Lemmas.{and_from, append-nil, nat_tests}
+use Rattle.pawn_csv.proofs.Basics.{◌≡◌, ◌∙◌, ◌+◌, ◌≤◌, ◌<◌, ℕ, Bool, true, false, List, [], ◌∷◌, ◌++◌, length, map, Option, Some, None, Result, Ok, Err, refl, sym, ap, subst, append_assoc, arith, cond, nat_lt, nat_le, ◌==◌, ◌&&◌, ◌||◌, not, AreIssued, AreNumbered, AreNumberedFrom, AreReplayable, BookRows, Booking, Each, Entry, Extension, IsNumber, IsStanding, IsUnder, Issued, PledgeValue, Rates, flat_map, most_entries, most_extensions, most_pledges, most_secrets, most_terms, and_from, append-nil, nat_tests, AreLaidFrom, Begun, Cause, IsBegunOf, IsLaidOut, IsWithin, Knows, LayoutsAreTaken, PledgeColumns, RawPledge, Row, TextsAreReadAs, Version, booking_csv_rows, entry_rows, extension_rows, hand, has_secret, in_order, is_nil, is_whole, laid_rows, list_rows, may_end, on_hand, place, place_booking, place_entry, place_extension, place_secret, put_hand, raw_of, raw_pledge, raw_rows, rows_of_csv, run, secret_rows, terms_rows, then_run, unless_full, version_rows}
 use Rattle.pawn_base.proofs.TestLemmas.{equal}
-use Rattle.pawn_csv.specs.Csv.{AreLaidFrom, Begun, Cause, IsBegunOf, IsLaidOut, IsWithin, Knows, LayoutsAreTaken, PledgeColumns, RawPledge, Row, TextsAreReadAs, Version, booking_csv_rows, entry_rows, extension_rows, hand, has_secret, in_order, is_nil, is_whole, laid_rows, list_rows, may_end, on_hand, place, place_booking, place_entry, place_extension, place_secret, put_hand, raw_of, raw_pledge, raw_rows, rows_of_csv, run, secret_rows, terms_rows, then_run, unless_full, version_rows}
 use Rattle.pawn_csv.specs.declared.fault.Cause.TheVariants as cause
 use Rattle.pawn_csv.specs.declared.row.Version.TheVariants as version
 use Rattle.pawn_csv.proofs.BookLemmas.{flat_map-raw, length-raw}

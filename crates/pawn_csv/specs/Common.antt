@@ -1,7 +1,7 @@
 -- The words of the crates below that many files of this crate use, gathered in one place.
 pub use Rattle.std.specs.FinMap.{get}
 pub use Rattle.std.specs.List.{flat_map}
-pub use Rattle.std.specs.Prelude.{IfErr, IfNone, IfOk, IfSome, codes, decimal, map, nat_eq, option_map, ℕ}
+pub use Rattle.std.specs.Prelude.{IfErr, IfOk, IfSome, ℕ}
 pub use Rattle.std.specs.Str.{IsUtf8}
 pub use Rattle.csv.specs.Machine.{Read}
 unfoldable pub use Rattle.csv.specs.Machine.{next_record}
@@ -46,7 +46,7 @@ pub use Rattle.pawn_pledge.specs.declared.record.Opening.{Opening}
 pub use Rattle.pawn_pledge.specs.declared.record.Standing.{Standing}
 pub use Rattle.pawn_book.specs.BookStep.{BookValue, book_head, pledge_from, pledge_in, rows_of_book}
 pub use Rattle.pawn_book.specs.HostStep.{Host}
-pub use Rattle.pawn_book.specs.Keeping.{GoesOn, IsQuiet, IsSteady, Keeping, OfHost, Reads, entries_of, extensions_of, pledges_of, secrets_of, terms_of}
+pub use Rattle.pawn_book.specs.Keeping.{GoesOn, IsQuiet, IsSteady, OfHost, Reads, entries_of, extensions_of, pledges_of, secrets_of, terms_of}
 pub use Rattle.pawn_book.specs.Limits.{most_pledges, most_terms}
 pub use Rattle.pawn_book.specs.Rows.{AreNumberedFrom, AreReplayable, IsUnder, terms_at}
 pub use Rattle.pawn_book.specs.Sound.{IsSound}

@@ -1,9 +1,6 @@
 -- What accepted entries leave owing is within its bounds.
-use Rattle.std.proofs.Common.{◌≡◌, ℕ, zero, suc, ◌+◌, ◌-◌, ◌*◌, ◌≤◌, nat_lt, nat_le, Bool, true, false, if◌then◌else◌, List, [], ◌∷◌, ◌++◌, Ok, IsOk, refl, sym, ap, subst, ◌∙◌, arith, append_assoc}
+use Rattle.pawn_debt.proofs.Basics.{◌≡◌, ℕ, zero, suc, ◌+◌, ◌-◌, ◌*◌, ◌≤◌, nat_lt, nat_le, Bool, true, false, if◌then◌else◌, List, [], ◌∷◌, ◌++◌, Ok, IsOk, refl, sym, ap, subst, ◌∙◌, arith, append_assoc, DoNotFall-push, append-nil, first_of-is_ok, last_by-le, last_by-push, nat_tests, IsChecked, Rates, AreEntriesAccepted, AreOrdered, DebtValue, Draw, Due, Entry, IsEntryAccepted, Repay, Sort, after_days, after_sort, credit_of, draw_rows, due, due_after, first_principal, keep_on, last_of, most_a_day, most_pence, repay_rows, sort_answer, with_entry}
 use Rattle.std.proofs.lemmas.Nat.{mul-le}
-use Rattle.pawn_debt.proofs.Lemmas.{DoNotFall-push, append-nil, first_of-is_ok, last_by-le, last_by-push, nat_tests}
-use Rattle.pawn_debt.specs.Common.{IsChecked, Rates}
-use Rattle.pawn_debt.specs.Debts.{AreEntriesAccepted, AreOrdered, DebtValue, Draw, Due, Entry, IsEntryAccepted, Repay, Sort, after_days, after_sort, credit_of, draw_rows, due, due_after, first_principal, keep_on, last_of, most_a_day, most_pence, repay_rows, sort_answer, with_entry}
 use Rattle.pawn_debt.specs.declared.entry.Kind.{Kind}
 use Rattle.pawn_debt.specs.declared.entry.Kind.TheVariants.{Fixed, Running}
 use Rattle.pawn_debt.proofs.DueLemmas.{after_days-principal}

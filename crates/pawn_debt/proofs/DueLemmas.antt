@@ -1,9 +1,6 @@
 -- How charges grow over days without entries, by one multiplication.
-use Rattle.std.proofs.Common.{◌≡◌, ℕ, zero, suc, ◌+◌, ◌-◌, ◌*◌, ◌<◌, ◌≤◌, inl, inr, nat_le, true, false, min, refl, sym, ◌∙◌, arith}
+use Rattle.pawn_debt.proofs.Basics.{◌≡◌, ℕ, zero, suc, ◌+◌, ◌-◌, ◌*◌, ◌<◌, ◌≤◌, inl, inr, nat_le, true, false, min, refl, sym, ◌∙◌, arith, nat_tests, Rates, Due, after_days, keep_on}
 use Rattle.std.proofs.lemmas.Bool.{cases_lt}
-use Rattle.std.proofs.lemmas.Bool.Decides.{nat_tests}
-use Rattle.pawn_terms.specs.declared.terms.Rates.{Rates}
-use Rattle.pawn_debt.specs.Due.{Due, after_days, keep_on}
 
 -- the days of the n after x that are not past the end
 abbrev pub days_inside : ℕ → ℕ → ℕ → ℕ

@@ -1,8 +1,5 @@
 -- What a debt keeps beside its entries stays true.
-use Rattle.std.proofs.Common.{◌≡◌, ℕ, ◌+◌, ◌-◌, ◌*◌, ◌<◌, ◌≤◌, List, [], ◌∷◌, ◌++◌, length, refl, sym, ap, subst, ◌∙◌, arith, length-append}
-use Rattle.pawn_terms.specs.Calendar.{IsDayNumber}
-use Rattle.pawn_base.proofs.ListLemmas.{last_by-le, DoNotFall-push, last_by-push}
-use Rattle.pawn_debt.specs.Debts.{DebtValue, Due, Entry, IsDebtKept, Sort, after_days, after_sort, credit_of, due, due_after, first_principal, last_of, most_a_day, most_entries, most_pence, sums_of, with_entry}
+use Rattle.pawn_debt.proofs.Basics.{◌≡◌, ℕ, ◌+◌, ◌-◌, ◌*◌, ◌<◌, ◌≤◌, List, [], ◌∷◌, ◌++◌, length, refl, sym, ap, subst, ◌∙◌, arith, length-append, IsDayNumber, last_by-le, DoNotFall-push, last_by-push, DebtValue, Due, Entry, IsDebtKept, Sort, after_days, after_sort, credit_of, due, due_after, first_principal, last_of, most_a_day, most_entries, most_pence, sums_of, with_entry}
 use Rattle.pawn_debt.specs.declared.owing.Totals.{Totals}
 use Rattle.pawn_debt.proofs.EntryLemmas.{due-from-last, due-pushed, due-start, due-extended}
 

@@ -1,7 +1,6 @@
 -- Entries that the rules accept in turn.
-use Rattle.std.proofs.Common.{◌≡◌, ℕ, ◌+◌, ◌<◌, ◌≤◌, List, [], ◌∷◌, ◌++◌, take, drop, get_or, length, Ok, IsOk, sym, ap, subst, ◌∙◌, arith, false, nat_lt}
-use Rattle.pawn_debt.proofs.Lemmas.{append-nil, append_assoc, drop_more, first_of-accepts, first_of-is_ok, first_of-ok, last_by-le, not_below, not_most, take-append-drop, take_more}
-use Rattle.pawn_debt.specs.Debts.{AreEntriesAccepted, AreOrdered, DebtValue, Draw, Due, Entry, IsEntryAccepted, Repay, Sort, credit_of, draw_rows, due, last_of, most_entries, repay_rows, sort_answer, total_of, with_entry}
+use Rattle.pawn_debt.proofs.Basics.{◌≡◌, ℕ, ◌+◌, ◌<◌, ◌≤◌, List, [], ◌∷◌, ◌++◌, take, drop, get_or, length, Ok, IsOk, sym, ap, subst, ◌∙◌, arith, false, nat_lt, append-nil, append_assoc, first_of-accepts, first_of-is_ok, first_of-ok, last_by-le, not_below, not_most, take-append-drop, AreEntriesAccepted, AreOrdered, DebtValue, Draw, Due, Entry, IsEntryAccepted, Repay, Sort, credit_of, draw_rows, due, last_of, most_entries, repay_rows, sort_answer, total_of, with_entry}
+use Rattle.std.proofs.lemmas.List.{drop_more, take_more}
 use Rattle.pawn_debt.proofs.EntryLemmas.{due-extended}
 
 -- what the rules accept is one more entry
@@ -30,12 +29,6 @@ AreAccepted-next d prior [] e rest h =
 AreAccepted-next d prior (f ∷ es) e rest h =
     let P : List Entry → Type 0 = λ l. IsEntryAccepted (record d { entries = l }) e in
     subst P (append_assoc prior (f ∷ []) es) (AreAccepted-next d (prior ++ f ∷ []) es e rest h.1)
-
--- one more of a list
-pub AreAccepted-more : (d : DebtValue) (es : List Entry) (i : ℕ) (x : Entry) → i < length es → AreEntriesAccepted d [] (take i es) → IsEntryAccepted (record d { entries = take i es }) (get_or es i x) → AreEntriesAccepted d [] (take (i + 1) es)
-AreAccepted-more d es i x lt h last =
-    let P : List Entry → Type 0 = λ l. AreEntriesAccepted d [] l in
-    subst P (sym (take_more es i x lt)) (AreAccepted-push d [] (take i es) (get_or es i x) h last)
 
 split : (es : List Entry) (i : ℕ) (x : Entry) → i < length es → take i es ++ get_or es i x ∷ drop (i + 1) es ≡ es
 split es i x lt = ap (λ (l : List Entry). take i es ++ l) (sym (drop_more es i x lt)) ∙ take-append-drop i es

@@ -1,8 +1,7 @@
 -- What a crash may leave: in wider words, over two runs in turn, and as whole requests.
-use Rattle.std.proofs.Common.{◌≡◌, ◌∙◌, ◌⊎◌, ℕ, suc, List, [], ◌∷◌, ◌++◌, inl, inr, refl, ap, sym, subst, Ok, Err}
-use Rattle.pawn_host.specs.Common.{Host, IsLeftByStep, IsSound, Keeping, Makes, Mark, Outcome, Reads, Refuses, Says, Stamp, WireFault, host_after_event, host_after_mark, host_step, next_host, no_memory, no_store, read_as}
+use Rattle.pawn_host.proofs.Basics.{◌≡◌, ◌∙◌, ◌⊎◌, ℕ, suc, List, [], ◌∷◌, ◌++◌, inl, inr, refl, ap, sym, subst, Ok, Err, Host, IsLeftByStep, IsSound, Keeping, Makes, Mark, Outcome, Refuses, Says, Stamp, WireFault, host_after_event, host_after_mark, host_step, next_host, no_memory, no_store, read_as, GoesBy, GoesTo, IsDone, IsLeftByMark, IsLeftByRun, IsLeftWhole, IsOneMore, Item, Kept, Start, event_of, host_after_run, start_after}
+use Rattle.pawn_host.specs.Common.{Reads}
 use Rattle.pawn_book.specs.HostStep as book
-use Rattle.pawn_host.specs.Sessions.{GoesBy, GoesTo, IsDone, IsLeftByMark, IsLeftByRun, IsLeftWhole, IsOneMore, Item, Kept, Start, event_of, host_after_run, start_after}
 
 -- ---- where a crash might have left more before
 

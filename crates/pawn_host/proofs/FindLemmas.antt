@@ -1,10 +1,6 @@
 -- What was found in the buffer stands on the stream.
-use Rattle.std.proofs.Common.{◌≡◌, ◌≢◌, ℕ, ◌+◌, ◌<◌, ◌≤◌, Bool, true, false, List, [], ◌∷◌, ◌++◌, length, inl, inr, refl, arith, Option, Some, None, Result, Ok, sym, ◌∙◌, ap, subst, append_assoc, append-nil, length-append, IfSome}
-use Rattle.std.specs.Prelude.{◌==◌}
-use Rattle.pawn_host.proofs.Lemmas.{bad_head_stays, nat_tests, reads_more}
-use Rattle.pawn_host.specs.Common.{Consumes, Fault, HeadFacts, HeadFault, IsAtEnd, IsHeadRead, Keeps, Partial, ReadsHead, RequestHead, prepend_known, print_request}
+use Rattle.pawn_host.proofs.Basics.{◌≡◌, ◌≢◌, ℕ, ◌+◌, ◌<◌, ◌≤◌, Bool, true, false, List, [], ◌∷◌, ◌++◌, length, inl, inr, refl, arith, Option, Some, None, Ok, sym, ◌∙◌, ap, subst, append_assoc, append-nil, length-append, IfSome, ◌==◌, bad_head_stays, nat_tests, reads_more, Consumes, Fault, HeadFacts, HeadFault, IsAtEnd, IsHeadRead, Keeps, Partial, ReadsHead, RequestHead, prepend_known, print_request, AtEnd, Cause, CutOff, Faulty, FindsHead, FindsRest, HasFault, HasHead, IsCausedBy, IsCut, Read, Reads, Write}
 use Rattle.pawn_wire.specs.declared.head.HeadRead.{HeadRead}
-use Rattle.pawn_host.specs.Sessions.{AtEnd, Cause, CutOff, Faulty, FindsHead, FindsRest, HasFault, HasHead, IsCausedBy, IsCut, Read, Reads, Rest, Write}
 
 -- the buffer grew by what was read
 pub kept_more : (a b c : Option (List ℕ)) (old new piece : List ℕ) → Keeps a (prepend_known old b) → new ≡ old ++ piece → Consumes b c piece → Keeps a (prepend_known new c)
@@ -25,9 +21,6 @@ full_by_test n old new e len test none_left = grind (arith, nat_tests, ap length
 
 pub answers_at : (shown buffer : List ℕ) (answer : HeadRead) → shown ≡ buffer → IsHeadRead shown answer → IsHeadRead buffer answer
 answers_at shown buffer answer e h = subst (λ (b : List ℕ). IsHeadRead b answer) e h
-
-pub head_at : (shown buffer : List ℕ) (f : HeadFacts) → shown ≡ buffer → HasHead shown f → HasHead buffer f
-head_at shown buffer f e h = subst (λ (b : List ℕ). HasHead b f) e h
 
 -- ---- faults
 
@@ -74,12 +67,6 @@ found_request (Some x) (Some y) old f k has fits =
     let len = rest_length old has.0 has.1 has.2 in
     let more : f.body ≤ length (has.1 ++ y) = omega (arith, length-append has.1 y, len, has.3.len, fits) in
     subst (λ (s : List ℕ). FindsHead s (Ok f)) k (has.0, has.1 ++ y, reads_more old y has.0 has.1 has.2, has.3, more)
-
--- what a later search finds on the stream from its start
-pub found_later : (a b : Option (List ℕ)) (found : Result HeadFacts Rest) → Keeps a b → IfSome b (λ s. FindsHead s found) → IfSome a (λ s. FindsHead s found)
-found_later None b found k h = tt
-found_later (Some x) None found k h = absurd k
-found_later (Some x) (Some y) found k h = subst (λ (s : List ℕ). FindsHead s found) k h
 
 -- what stopped a search is not the writer
 pub not_by_writer : (cause : Cause) (failed : Bool) (reads : ℕ) → IsCausedBy cause failed reads false → cause ≢ Write

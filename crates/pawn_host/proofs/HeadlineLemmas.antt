@@ -1,11 +1,7 @@
 -- Each answer of a run is that of a machine alone.
-use Rattle.std.proofs.Common.{◌≡◌, ℕ, zero, suc, List, [], ◌∷◌, take, true, Some, Ok, refl, ◌∙◌, ap, sym, subst}
-use Rattle.pawn_host.specs.Common.{All, Denied, Exported, Host, Listed, Mark, Out, Refusal, Request, Result, SaysRequest, Shown, Stamp, Told, WireFault, book_trace, get, host_after_event, host_step, is_settled, mark_reply, no_memory, no_store, out_of, read_as, reply_alone, slice_get, slot_trace, solo_reply}
-use Rattle.pawn_host.proofs.Lemmas.{All-head, All-tail, reads_unique}
+use Rattle.pawn_host.proofs.Basics.{◌≡◌, ℕ, zero, suc, List, [], ◌∷◌, take, true, Some, Ok, refl, ◌∙◌, ap, sym, subst, All, Denied, Exported, Host, Listed, Mark, Out, Refusal, Request, Result, SaysRequest, Shown, Stamp, Told, WireFault, book_trace, get, host_after_event, host_step, is_settled, mark_reply, no_memory, no_store, out_of, read_as, reply_alone, slice_get, slot_trace, solo_reply, All-head, All-tail, reads_unique, absurd_none, some_is, AnswerAlone, EqualBookTracesReplyAlike, EqualTracesReplyAlike, IsMarkOf, IsMarked, IsRun, IsRunOfSlots, IsSettled, Item, Kept, RunsAnswerAlone, Start, by_bearer, event_of, events, host_after_run, replies, reply_bytes, said_text}
 use Rattle.pawn_book.specs.declared.refusal.Refusal.TheVariants as no
-use Rattle.pawn_book.proofs.Sounds.{absurd_none, some_is}
 use Rattle.pawn_book.proofs.SlotRuns.{books_answer_alone, slots_answer_alone}
-use Rattle.pawn_host.specs.Sessions.{AnswerAlone, EqualBookTracesReplyAlike, EqualTracesReplyAlike, IsMarkOf, IsMarked, IsRun, IsRunOfSlots, IsSettled, Item, Kept, RunsAnswerAlone, Start, by_bearer, event_of, events, host_after_run, replies, reply_bytes, said_text}
 use Rattle.pawn_host.proofs.RunMore.{marked_all}
 
 -- the answer at a place is what its item was told

@@ -1,8 +1,5 @@
 -- A stream has one split.
-use Rattle.std.proofs.Common.{◌≡◌, ℕ, ◌+◌, ◌<◌, ◌≤◌, Bool, true, false, List, [], ◌∷◌, ◌++◌, length, take, map, ◌⊎◌, inl, inr, refl, arith, sym, ◌∙◌, ap, subst, append_assoc, append-nil, length-append, Result, Ok, Err}
-use Rattle.pawn_host.specs.Common.{All, BadHead, EndsInTarget, Event, HasNoRequest, HeadFault, Host, IsBadHead, Mark, ReadsHead, ReadsRequest, RequestHead, Stamp, WireFault, body_length, closes_by, concat, fields_of, max_fields, max_head, nat_le, no_memory, no_store, print_request, read_as, run_host, run_replies}
-use Rattle.pawn_host.specs.Sessions.{AreCutAndFault, Begins, BeginsAndGoesOn, ClosesAfter, Ending, HasFault, HasNoWhole, IsCut, IsLeftOpen, IsMarkOf, IsMarked, IsOpen, IsRequest, IsWanting, Item, MayGoOn, PassesOver, Splits, StopsAt, at_end, at_limit, closed, cut, events, faulted, host_after_run, input_of, refusal_of_mark, refusals, replies, said_text}
-use Rattle.pawn_host.proofs.Lemmas.{All-head, All-tail, append_cancel_left, bad_head_never, head_some, nat_tests, nil_is_no_bad_head, reads_more, reads_unique, request_unique, take-append-le, take_all}
+use Rattle.pawn_host.proofs.Basics.{◌≡◌, ℕ, ◌+◌, ◌<◌, ◌≤◌, Bool, true, false, List, [], ◌∷◌, ◌++◌, length, take, map, ◌⊎◌, inl, inr, refl, arith, sym, ◌∙◌, ap, subst, append_assoc, append-nil, length-append, Result, Ok, Err, All, BadHead, EndsInTarget, Event, HasNoRequest, HeadFault, Host, IsBadHead, Mark, ReadsHead, ReadsRequest, RequestHead, Stamp, WireFault, body_length, closes_by, concat, fields_of, max_fields, max_head, nat_le, no_memory, no_store, print_request, read_as, run_host, run_replies, AreCutAndFault, Begins, BeginsAndGoesOn, ClosesAfter, Ending, HasFault, HasNoWhole, IsCut, IsLeftOpen, IsMarkOf, IsMarked, IsOpen, IsRequest, IsWanting, Item, MayGoOn, PassesOver, Splits, StopsAt, at_end, at_limit, closed, cut, events, faulted, host_after_run, input_of, refusal_of_mark, refusals, replies, said_text, All-head, All-tail, append_cancel_left, bad_head_never, head_some, nat_tests, nil_is_no_bad_head, reads_more, reads_unique, request_unique, take-append-le, take_all}
 use Rattle.pawn_host.proofs.SplitLemmas.{length_snoc, passes-snoc}
 
 -- ---- fronts

@@ -1,3 +1,4 @@
+pub mod Basics
 pub mod SplitLemmas
 pub mod FindLemmas
 pub mod ReadLemmas
@@ -11,4 +12,3 @@ pub mod ShardLemmas
 pub mod ViewLemmas
 pub mod SheetLemmas
 pub mod RowsLemmas
-pub mod Lemmas

@@ -1,9 +1,6 @@
 -- What was read while a request was looked for.
-use Rattle.std.proofs.Common.{◌≡◌, ℕ, ◌+◌, ◌<◌, ◌≤◌, Bool, false, List, [], ◌∷◌, ◌++◌, length, take, drop, refl, arith, Option, Some, None, Result, Ok, Err, sym, ◌∙◌, ap, subst, append_assoc, append-nil, length-append}
-use Rattle.pawn_host.specs.Common.{Consumes, HeadFacts, IfOk, IsHeadRead, Keeps, Partial, ReadsHead, body_length, concat, fields_of, print_request}
+use Rattle.pawn_host.proofs.Basics.{◌≡◌, ℕ, ◌+◌, ◌<◌, ◌≤◌, Bool, false, List, [], ◌∷◌, ◌++◌, length, take, drop, refl, arith, Option, Some, None, Result, Ok, Err, sym, ◌∙◌, ap, subst, append_assoc, append-nil, length-append, Consumes, HeadFacts, IfOk, IsHeadRead, Keeps, Partial, ReadsHead, body_length, concat, fields_of, print_request, Consumes-nil, Consumes-trans, reads_more, request_unique, take-append-drop, AreMissing, AreWanted, FindsHead, HasHead, HasNoWhole, IsFetched, IsReadWhileWanted, IsRequest, PassesOver, Rest, most_requests}
 use Rattle.std.proofs.lemmas.List.Folds.{concat-append}
-use Rattle.pawn_host.proofs.Lemmas.{Consumes-kept, Consumes-nil, Consumes-trans, reads_more, request_unique, take-append-drop}
-use Rattle.pawn_host.specs.Sessions.{AreMissing, AreWanted, FindsHead, HasHead, HasNoWhole, IsFetched, IsReadWhileWanted, IsRequest, PassesOver, Rest, most_requests}
 use Rattle.pawn_host.proofs.SplitLemmas.{front_request, length_snoc, passes-snoc}
 use Rattle.pawn_host.proofs.LawLemmas.{ok_same}
 
@@ -48,9 +45,6 @@ pub record FetchedSoFar (buffer now : List ℕ) (before after : Option (List ℕ
   pub gave : Consumes before after (concat pieces)
   pub grown : now ≡ buffer ++ concat pieces
 
-pub fetched_none : (buffer : List ℕ) (a : Option (List ℕ)) (reads : ℕ) → FetchedSoFar buffer buffer a a reads reads
-fetched_none buffer a reads = record { pieces = []; count = omega arith; missing = tt; gave = Consumes-nil a; grown = sym (append-nil buffer) }
-
 pub fetched_more : (buffer now now' piece : List ℕ) (a b c : Option (List ℕ)) (reads reads' reads'' : ℕ) (so : FetchedSoFar buffer now a b reads reads') → HasNoWhole now → reads'' ≡ reads' + 1 → Consumes b c piece → now' ≡ now ++ piece
     → FetchedSoFar buffer now' a c reads reads''
 fetched_more buffer now now' piece a b c reads reads' reads'' so none counted gave is = record {
@@ -66,14 +60,6 @@ keeps_is_none None c k = tt
 keeps_is_none (Some x) None k = k
 keeps_is_none (Some x) (Some y) k = sym k
 
--- a search that ended without a further read
-pub fetched_here : (found : Result HeadFacts Rest) (buffer now : List ℕ) (a b : Option (List ℕ)) (reads reads' : ℕ) → FetchedSoFar buffer now a b reads reads' → IsFetched found buffer now a b reads reads'
-fetched_here found buffer now a b reads reads' so = record { pieces = so.pieces; count = so.count; missing = so.missing; gave = so.gave; grown = if_ok found so.grown }
-  where
-    if_ok : (found : Result HeadFacts Rest) → now ≡ buffer ++ concat so.pieces → IfOk found (λ head. now ≡ buffer ++ concat so.pieces)
-    if_ok (Ok head) e = e
-    if_ok (Err rest) e = tt
-
 -- a search that ended by a read whose bytes found no room
 pub fetched_last : (buffer now piece : List ℕ) (a b c : Option (List ℕ)) (reads reads' reads'' : ℕ) → FetchedSoFar buffer now a b reads reads' → HasNoWhole now → reads'' ≡ reads' + 1 → Consumes b c piece → FetchedSoFar buffer (now ++ piece) a c reads reads''
 fetched_last buffer now piece a b c reads reads' reads'' so none counted gave = fetched_more buffer now (now ++ piece) piece a b c reads reads' reads'' so none counted gave refl
@@ -81,11 +67,6 @@ fetched_last buffer now piece a b c reads reads' reads'' so none counted gave = 
 -- a search that ended without a request, whatever is left of the buffer
 pub fetched_other : (rest : Rest) (buffer now now' : List ℕ) (a b : Option (List ℕ)) (reads reads' : ℕ) → FetchedSoFar buffer now a b reads reads' → IsFetched (Err rest) buffer now' a b reads reads'
 fetched_other rest buffer now now' a b reads reads' so = record { pieces = so.pieces; count = so.count; missing = so.missing; gave = so.gave; grown = tt }
-
--- no read was made
-pub fetched_kept : (buffer now : List ℕ) (a b c : Option (List ℕ)) (reads reads' reads'' : ℕ) → FetchedSoFar buffer now a b reads reads' → Keeps b c → reads'' ≡ reads' → FetchedSoFar buffer now a c reads reads''
-fetched_kept buffer now a b c reads reads' reads'' so kept same =
-    record { pieces = so.pieces; count = same ∙ so.count; missing = so.missing; gave = Consumes-kept a b c (concat so.pieces) so.gave kept; grown = so.grown }
 
 -- a read gave nothing
 pub fetched_nothing : (buffer now : List ℕ) (a b c : Option (List ℕ)) (reads reads' reads'' : ℕ) → FetchedSoFar buffer now a b reads reads' → HasNoWhole now → reads'' ≡ reads' + 1 → Keeps b c → FetchedSoFar buffer now a c reads reads''

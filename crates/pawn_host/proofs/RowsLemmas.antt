@@ -1,8 +1,6 @@
 -- Lemmas on a request for the rows of a book.
-use Rattle.std.proofs.Common.{◌≡◌, ◌∙◌, ℕ, List, ap, sym, Some, None, Ok, codes}
-use Rattle.pawn_host.specs.Common.{BookValue, Export, Exported, Host, Request, Says, SaysRequest, Stamp, csv_of, host_step, option_map, reply_text, rows_of_book}
+use Rattle.pawn_host.proofs.Basics.{◌≡◌, ◌∙◌, ℕ, List, ap, sym, Some, None, Ok, codes, BookValue, Export, Exported, Host, Request, Says, SaysRequest, Stamp, csv_of, host_step, option_map, reply_text, rows_of_book, Answer, GoesTo, IsActed, IsKeyOf, Kept, Start, Tells, answer_bytes}
 use Rattle.pawn_csv.specs.Exports.{text_of}
-use Rattle.pawn_host.specs.Sessions.{Answer, GoesTo, IsActed, IsKeyOf, Kept, Start, Tells, answer_bytes}
 use Rattle.pawn_host.proofs.RunLemmas.{acted_text, broker_request, some_same, step_past_gate}
 
 abbrev pub rows_request : ℕ → ℕ → Request

@@ -1,8 +1,5 @@
 -- Lemmas on one item of a run.
-use Rattle.std.proofs.Common.{◌≡◌, ◌∙◌, ℕ, Bool, true, false, List, [], ◌∷◌, ◌++◌, ◌⊎◌, ◌<◌, arith, inl, inr, refl, ap, sym, subst, Option, Some, None, Result, Ok, Err, codes, if◌then◌else◌}
-use Rattle.std.specs.Prelude.{unwrap_or, option_map, ◌==◌}
-use Rattle.pawn_host.specs.Common.{Acts, Answered, Bearer, BearerRequest, BookValue, Broker, BrokerRequest, Commits, Denied, Gates, Host, IsLeftByAct, IsLeftByStep, IsRefused, IsSound, IsUnwell, Out, Outcome, Present, Receipt, Refusal, Refuses, Request, Says, SaysRequest, Show, Shown, Stamp, Told, WireFault, are_unknown, broker_step, fault_text, gate_step, get, host_after, host_step, memory_text, next_host, no_memory, no_store, out_of, out_text, pledge_in, presented_text, read_as, reply_text, rows, show_pledge, statement_text, within_limit}
-use Rattle.pawn_host.proofs.Lemmas.{append-nil, nat_tests}
+use Rattle.pawn_host.proofs.Basics.{◌≡◌, ◌∙◌, ℕ, Bool, true, false, List, [], ◌∷◌, ◌++◌, ◌⊎◌, ◌<◌, arith, inl, inr, refl, ap, sym, subst, Option, Some, None, Result, Ok, Err, codes, if◌then◌else◌, unwrap_or, option_map, ◌==◌, Acts, Answered, Bearer, BearerRequest, BookValue, Broker, BrokerRequest, Commits, Denied, Gates, Host, IsLeftByAct, IsLeftByStep, IsRefused, IsSound, IsUnwell, Out, Outcome, Present, Receipt, Refusal, Refuses, Request, Says, SaysRequest, Show, Shown, Stamp, Told, WireFault, are_unknown, broker_step, fault_text, gate_step, get, host_after, host_step, memory_text, next_host, no_memory, no_store, out_of, out_text, pledge_in, presented_text, read_as, reply_text, rows, show_pledge, statement_text, within_limit, append-nil, nat_tests, Answer, GoesTo, IsActed, IsDone, IsKeyOf, Kept, Start, Tells, answer_bytes, said_text}
 use Rattle.pawn_pledge.specs.Pledge.{PledgeValue}
 use Rattle.pawn_book.specs.declared.request.Caller.{Caller}
 use Rattle.pawn_book.specs.declared.reply.Reply.{Reply}
@@ -12,7 +9,6 @@ use Rattle.pawn_book.specs.declared.change.Change.{Change}
 use Rattle.pawn_view.specs.Shown.{live_pledges, presentation_of, pledge_at, statement_of}
 use Rattle.pawn_wire.specs.declared.reply.Out.TheVariants as wire
 use Rattle.pawn_wire.specs.declared.fault.WireFault.TheVariants as f
-use Rattle.pawn_host.specs.Sessions.{Answer, GoesTo, IsActed, IsDone, IsKeyOf, Kept, Start, Tells, answer_bytes, said_text}
 use Rattle.pawn_host.specs.declared.service.Answer.TheVariants.{Bytes, Memory}
 use Rattle.pawn_host.proofs.CrashLemmas.{goes_wider}
 

@@ -1,8 +1,5 @@
 -- A run goes on by one item.
-use Rattle.std.proofs.Common.{◌≡◌, ℕ, ◌+◌, ◌<◌, List, [], ◌∷◌, ◌++◌, length, map, take, get_or, refl, ap, sym, ◌∙◌, subst, Vec, Global}
-use Rattle.pawn_host.specs.Common.{All, Host, Stamp, event_reply, host_after_event}
-use Rattle.pawn_host.proofs.Lemmas.{All-append, All-cons, All-head, All-nil, All-tail, map_more}
-use Rattle.pawn_host.specs.Sessions.{Answer, IsActed, IsMarked, IsRun, Item, Kept, Start, answer_bytes, event_of, host_after_run, input_of, replies, replies_by, said_text, start_after}
+use Rattle.pawn_host.proofs.Basics.{◌≡◌, ℕ, ◌+◌, ◌<◌, List, [], ◌∷◌, ◌++◌, length, map, take, get_or, refl, ap, sym, ◌∙◌, subst, Vec, Global, All, Host, Stamp, event_reply, host_after_event, All-append, All-cons, All-head, All-nil, All-tail, map_more, Answer, IsActed, IsMarked, IsRun, Item, Kept, Start, answer_bytes, event_of, host_after_run, input_of, replies, replies_by, said_text, start_after}
 use Rattle.pawn_host.proofs.CrashLemmas.{goes-append}
 use Rattle.pawn_host.proofs.SessionLemmas.{map-snoc, marked_since}
 

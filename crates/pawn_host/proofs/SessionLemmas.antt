@@ -1,9 +1,6 @@
 -- A session so far, and how it ends.
-use Rattle.std.proofs.Common.{◌≡◌, ◌≢◌, ℕ, suc, ◌+◌, ◌<◌, ◌≤◌, true, false, List, [], ◌∷◌, ◌++◌, length, take, drop, map, inl, inr, refl, arith, Option, Some, None, Result, Ok, Err, sym, ◌∙◌, ap, subst, append_assoc, append-nil, length-append, IfSome, Bool}
-use Rattle.pawn_host.specs.Common.{Appends, HeadFacts, Host, IfErr, Keeping, Keeps, Mark, OnOk, Stamp, WireFault, Yields, event_reply, fault_text, mark_reply, memory_text, no_memory, no_store, prepend_known, read_as, wire_fault}
-use Rattle.pawn_host.proofs.Lemmas.{All-append, All-cons, All-nil, Appends-nil, Appends-trans, take_all}
+use Rattle.pawn_host.proofs.Basics.{◌≡◌, ◌≢◌, ℕ, suc, ◌+◌, ◌<◌, ◌≤◌, true, false, List, [], ◌∷◌, ◌++◌, length, take, drop, map, inl, inr, refl, arith, Option, Some, None, Result, Ok, Err, sym, ◌∙◌, ap, subst, append_assoc, append-nil, length-append, IfSome, Bool, Appends, HeadFacts, Host, IfErr, Keeping, Keeps, Mark, OnOk, Stamp, WireFault, Yields, event_reply, fault_text, mark_reply, memory_text, no_memory, no_store, prepend_known, read_as, wire_fault, All-append, All-cons, All-nil, Appends-nil, Appends-trans, take_all, AreTaken, AtEnd, Begins, Cause, CutOff, DueAfter, Ending, EndsAs, Faulty, FindsHead, FindsRest, Given, GoesTo, HadRoom, HasRoom, IsActed, IsCausedBy, IsFinished, IsLeft, IsLeftBy, IsMarkOf, IsMarked, IsOver, IsServed, IsSession, IsUnderWay, IsWithinMost, Item, Kept, NoMemory, Read, Reads, Rest, Splits, Start, StaysOpen, Stopped, StopsAt, StopsBy, Write, acted_count, answer_text, at_end, at_limit, closed, cut, event_of, faulted, host_by, most_requests, requests_of, said_text, stamps_of, start_after, start_of}
 use Rattle.std.proofs.Math.Seq.{take-append-add}
-use Rattle.pawn_host.specs.Sessions.{AreTaken, AtEnd, Begins, Cause, CutOff, DueAfter, Ending, EndsAs, Faulty, FindsHead, FindsRest, Given, GoesTo, HadRoom, HasRoom, IsActed, IsCausedBy, IsFinished, IsLeft, IsLeftBy, IsMarkOf, IsMarked, IsOver, IsServed, IsSession, IsUnderWay, IsWithinMost, Item, Kept, NoMemory, Read, Reads, Rest, Splits, Start, StaysOpen, Stopped, StopsAt, StopsBy, Write, acted_count, answer_text, at_end, at_limit, closed, cut, event_of, faulted, host_by, most_requests, requests_of, said_text, stamps_of, start_after, start_of}
 use Rattle.pawn_book.proofs.Reading.{on_then}
 use Rattle.pawn_host.specs.declared.service.Service.{Service}
 use Rattle.pawn_host.proofs.CrashLemmas.{seen_from, goes_from, goes-append}
@@ -145,9 +142,6 @@ module _ {S : Type 0} (steps : S → Option Stamp → S → Type 0) (given : Giv
 
 few_requests : (items : List Item) (acted : ℕ) → length items ≡ acted → acted < 1000 → length (requests_of items) < 1000
 few_requests items acted count few = omega (arith, length-map (λ (i : Item). i.bytes) items)
-
-most_many : (items : List Item) (acted : ℕ) → length items ≡ acted → acted < 1000 → length (requests_of items) ≤ 1000
-most_many items acted count few = omega (arith, length-map (λ (i : Item). i.bytes) items)
 
 nothing_more : (old new : Option (List ℕ)) (text : List ℕ) → Appends old new text → Appends old new (text ++ [])
 nothing_more old new text h = subst (λ (t : List ℕ). Appends old new t) (sym (append-nil text)) h

@@ -1,8 +1,5 @@
 -- The law of shards in bytes.
-use Rattle.std.proofs.Common.{◌≡◌, ℕ, zero, suc, List, [], ◌∷◌, take, inl, inr, refl, ◌∙◌, ap, sym, subst}
-use Rattle.pawn_host.specs.Common.{Ok, SaysRequest, Stamp, concat}
-use Rattle.pawn_book.proofs.Sounds.{absurd_none, some_is}
-use Rattle.pawn_host.specs.Sessions.{HandedSplits, HandsToShards, IsFor, IsPlaced, Item, PassesOver, RequestsArePlaced, ShardsReplyAsOne, bytes_of, input_of, inputs}
+use Rattle.pawn_host.proofs.Basics.{◌≡◌, ℕ, zero, suc, List, [], ◌∷◌, take, inl, inr, refl, ◌∙◌, ap, sym, subst, Ok, SaysRequest, Stamp, concat, absurd_none, some_is, HandedSplits, HandsToShards, IsFor, IsPlaced, Item, PassesOver, RequestsArePlaced, ShardsReplyAsOne, bytes_of, input_of, inputs}
 use Rattle.pawn_host.proofs.HeadlineLemmas.{equal_book_traces_answer_alike}
 use Rattle.pawn_host.proofs.LawLemmas.{cons_head, cons_tail}
 

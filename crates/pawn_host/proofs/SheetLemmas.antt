@@ -1,8 +1,6 @@
 -- Lemmas on a request for the sheet of a day.
-use Rattle.std.proofs.Common.{◌≡◌, ◌∙◌, ℕ, List, ap, sym, Some, None, Ok}
-use Rattle.pawn_host.specs.Common.{BookValue, Host, Listed, Out, Request, Says, SaysRequest, SheetOf, Stamp, book_sheet, host_step, option_map, reply_text, sheet_of}
+use Rattle.pawn_host.proofs.Basics.{◌≡◌, ◌∙◌, ℕ, List, ap, sym, Some, None, Ok, BookValue, Host, Listed, Out, Request, Says, SaysRequest, SheetOf, Stamp, book_sheet, host_step, option_map, reply_text, sheet_of, Answer, GoesTo, IsActed, IsKeyOf, Kept, Start, Tells, answer_bytes}
 use Rattle.pawn_book.specs.Sheet.{day_sheet}
-use Rattle.pawn_host.specs.Sessions.{Answer, GoesTo, IsActed, IsKeyOf, Kept, Start, Tells, answer_bytes}
 use Rattle.pawn_host.proofs.RunLemmas.{acted_text, broker_request, plain, some_same, step_past_gate}
 
 abbrev pub sheet_request : ℕ → ℕ → ℕ → Request

@@ -1,8 +1,5 @@
 -- How the split of a stream goes on from what was taken of it.
-use Rattle.std.proofs.Common.{◌≡◌, ℕ, suc, ◌+◌, ◌<◌, ◌≤◌, Bool, true, false, List, [], ◌∷◌, ◌++◌, length, take, drop, inl, inr, refl, arith, Option, Some, None, sym, ◌∙◌, ap, subst, append_assoc, length-append, length-take, IfSome, Ok}
-use Rattle.pawn_host.proofs.Lemmas.{take-append-drop, take-append-le, whole_front}
-use Rattle.pawn_host.specs.Common.{HeadFacts, HeadFault, Keeps, ReadsHead, prepend_known, print_request}
-use Rattle.pawn_host.specs.Sessions.{AtEnd, Begins, BeginsAndGoesOn, CutOff, Ending, Faulty, FindsHead, FindsRest, IsRequest, IsUnderWay, PassesOver, Splits, StopsAt, at_end, at_limit, closed, cut, faulted}
+use Rattle.pawn_host.proofs.Basics.{◌≡◌, ℕ, suc, ◌+◌, ◌<◌, ◌≤◌, Bool, true, false, List, [], ◌∷◌, ◌++◌, length, take, drop, inl, inr, refl, arith, Option, Some, None, sym, ◌∙◌, ap, subst, append_assoc, length-append, length-take, IfSome, Ok, take-append-drop, take-append-le, whole_front, HeadFacts, HeadFault, Keeps, ReadsHead, prepend_known, print_request, AtEnd, Begins, BeginsAndGoesOn, CutOff, Ending, Faulty, FindsHead, FindsRest, IsRequest, IsUnderWay, PassesOver, Splits, StopsAt, at_end, at_limit, closed, cut, faulted}
 
 pub length_snoc : (requests : List (List ℕ)) (x : List ℕ) → length (requests ++ x ∷ []) ≡ suc (length requests)
 length_snoc requests x = length-append requests (x ∷ []) ∙ (omega arith)

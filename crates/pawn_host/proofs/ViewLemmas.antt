@@ -1,9 +1,7 @@
 -- A view that was written into memory, and told.
-use Rattle.std.proofs.Common.{◌≡◌, ℕ, List, Result, Ok, Err, inl, inr, refl, ap}
-use Rattle.pawn_host.specs.Common.{Refusal, Refuses, Request, SaysRequest, Stamp, ViewFault, host_step}
+use Rattle.pawn_host.proofs.Basics.{◌≡◌, ℕ, List, Result, Ok, Err, inl, inr, refl, ap, Refusal, Refuses, Request, SaysRequest, Stamp, ViewFault, host_step, Answer, GoesTo, IsActed, Kept, Start, Tells, TellsView, answer_bytes}
 use Rattle.pawn_book.specs.declared.refusal.Refusal.TheVariants as No
 use Rattle.pawn_writing.specs.declared.fault.ViewFault.TheVariants as fault
-use Rattle.pawn_host.specs.Sessions.{Answer, GoesTo, IsActed, Kept, Start, Tells, TellsView, answer_bytes}
 use Rattle.pawn_host.proofs.RunLemmas.{acted_memory, acted_refused}
 
 -- what is answered, if a text that was written whole is the step's, and one of which there is nothing to show is refused

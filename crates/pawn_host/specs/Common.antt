@@ -3,7 +3,6 @@ pub use Rattle.std.specs.FinMap.{get}
 pub use Rattle.std.specs.Io.KnownBytes.{Appends, Consumes, IsAtEnd, Keeps, prepend_known}
 pub use Rattle.std.specs.Iterator.{Yields}
 pub use Rattle.std.specs.List.{concat}
-pub use Rattle.std.specs.Prelude.{All, IfErr, IfOk, Ok, OnOk, Result, nat_le, option_map, slice_get}
 pub use Rattle.httparse.specs.Grammar.{EndsInTarget, HasNoRequest, MayBecomeRequest, ReadsRequest, RequestHead, print_request}
 pub use Rattle.pawn_pledge.specs.declared.command.Stamp.{Stamp}
 pub use Rattle.pawn_pledge.specs.declared.receipt.Receipt.{Receipt}

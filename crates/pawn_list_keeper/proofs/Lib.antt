@@ -1,3 +1,4 @@
+pub mod Basics
 pub mod PledgePlaces
 pub mod HandLemmas
 pub mod PartLemmas
@@ -5,4 +6,3 @@ pub mod ListReads
 pub mod NextLemmas
 pub mod ListKeeping
 pub mod ListSaves
-pub mod Lemmas

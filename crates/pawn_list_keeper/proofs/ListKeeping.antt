@@ -1,8 +1,5 @@
 -- What a list of books tells of its host.
-use Rattle.std.proofs.Common.{◌≡◌, ◌∙◌, ℕ, ap, sym, subst}
-use Rattle.pawn_list_keeper.specs.Common.{BookValue, Host, IsNextBook, None, Option, Reads, Some, get}
-use Rattle.pawn_list_keeper.specs.Books.{Books}
-use Rattle.pawn_list_keeper.specs.Listed.{IsLeastAbove, book_at, host_of, list_keeping}
+use Rattle.pawn_list_keeper.proofs.Basics.{◌≡◌, ◌∙◌, ℕ, ap, sym, subst, BookValue, Host, IsNextBook, None, Option, Reads, Some, get, Books, IsLeastAbove, book_at, host_of, list_keeping}
 use Rattle.pawn_list_keeper.proofs.ListReads.{get-book_at}
 
 -- a read tells what is so of the list's host

@@ -1,12 +1,7 @@
 -- Reads of books in a list.
-use Rattle.std.proofs.Common.{◌≡◌, ◌≢◌, ℕ, ◌+◌, ◌<◌, ◌≤◌, zero, suc, List, [], ◌∷◌, ◌++◌, length, map, drop, get_or, set, Some, None, refl, ◌∙◌, ap, sym, subst, arith}
-use Rattle.std.specs.Prelude.{if◌then◌else◌, Bool, true, false, ◌==◌}
-use Rattle.pawn_list_keeper.specs.Common.{BookValue, NewBook, PledgeValue, Rates, find, from_entries, from_entries_push, get, get-from_entries, insert, made_book, nat_cmp, nat_cmp-IsAntisymmetric, pledge_from}
+use Rattle.pawn_list_keeper.proofs.Basics.{◌≡◌, ◌≢◌, ℕ, ◌+◌, ◌<◌, ◌≤◌, zero, suc, List, [], ◌∷◌, ◌++◌, length, map, drop, get_or, set, Some, None, refl, ◌∙◌, ap, sym, subst, arith, if◌then◌else◌, Bool, true, false, ◌==◌, BookValue, NewBook, PledgeValue, Rates, find, from_entries, from_entries_push, get, get-from_entries, insert, made_book, nat_cmp, nat_cmp-IsAntisymmetric, pledge_from, get_or-map, length-map, nat_cmp_total, nat_tests, Kept, book_at, listed_book, IsPlace}
 use Rattle.std.specs.Cmp.{unsigned_tied}
-use Rattle.pawn_list_keeper.proofs.Lemmas.{get_or-map, length-map, nat_cmp_total, nat_tests}
 use Rattle.std.proofs.Math.Seq.{map-set_same}
-use Rattle.pawn_list_keeper.specs.declared.kept.Kept.{Kept}
-use Rattle.pawn_list_keeper.specs.Listed.{book_at, listed_book, IsPlace}
 
 find_book : (es : List (ℕ × BookValue)) (b : ℕ) → find nat_cmp b es ≡ book_at es b
 find_book [] b = refl
@@ -27,11 +22,6 @@ at_place [] b i d is = absurd is
 at_place (e ∷ es) b zero d is = let yes : (b == e.0) ≡ true = grind (arith, nat_tests, is) in ap (λ v. if v then Some e.1 else book_at es b) yes
 at_place (e ∷ es) b (suc i) d is =
     let other : (b == e.0) ≡ false = grind (arith, nat_tests, is.0) in ap (λ v. if v then Some e.1 else book_at es b) other ∙ at_place es b i d is.1
-
-pub place_in : (es : List (ℕ × BookValue)) (b i : ℕ) → IsPlace es b i → i < length es
-place_in [] b i is = absurd is
-place_in (e ∷ es) b zero is = omega arith
-place_in (e ∷ es) b (suc i) is = let less = place_in es b i is.1 in omega (arith, less)
 
 pub number_at : (es : List (ℕ × BookValue)) (b i : ℕ) (d : ℕ × BookValue) → IsPlace es b i → (get_or es i d).0 ≡ b
 number_at [] b i d is = absurd is
@@ -121,9 +111,6 @@ pub kept_is : (ks : List Kept) (b i : ℕ) (k : Kept) → i < length ks → k �
 kept_is ks b i k less is place =
     at_place (map listed_book ks) b i (listed_book k) place
     ∙ ap (λ (e : ℕ × BookValue). Some e.1) (get_or-map listed_book ks i k (listed_book k) less ∙ ap listed_book (sym is))
-
-pub within_kept : (ks : List Kept) (b i : ℕ) → IsPlace (map listed_book ks) b i → i < length ks
-within_kept ks b i place = let less = place_in (map listed_book ks) b i place in omega (arith, less, length-map ks listed_book)
 
 pub kept_number : (ks : List Kept) (b i : ℕ) (k : Kept) → i < length ks → k ≡ get_or ks i k → IsPlace (map listed_book ks) b i → k.number ≡ b
 kept_number ks b i k less is place =

@@ -1,16 +1,9 @@
 -- A list of books after a change.
-use Rattle.std.proofs.Common.{◌≡◌, ℕ, ◌+◌, ◌<◌, ◌≤◌, List, [], ◌∷◌, ◌++◌, length, map, set, get_or, Some, None, Ok, Err, refl, ◌∙◌, ap, sym, subst, arith, inl, inr, length-append}
-use Rattle.std.specs.Prelude.{if◌then◌else◌, true, false, ◌==◌, ◌⊎◌, sum_by}
-use Rattle.pawn_list_keeper.specs.Common.{AddTerms, AreSound, BookValue, CanSave, Change, Continues, Follows, Full, Host, ImportBook, IsSoundBook, MakeBook, NewBook, PledgeValue, PutPledge, Rates, book_number, book_rows, changed_book, empty, entries, filled_book, from_entries, get, get-empty, len-empty, len-entries, made_book, most_rows, nat_cmp, nat_cmp-IsAntisymmetric, pledge_from, pledge_in, pledge_rows, put_from, rows, same_map, with_book, with_change}
-use Rattle.pawn_list_keeper.proofs.Lemmas.{absurd_none, get-with_book, map-set, nat_cmp_total, nat_tests, some_is}
+use Rattle.pawn_list_keeper.proofs.Basics.{◌≡◌, ℕ, ◌+◌, ◌<◌, ◌≤◌, List, [], ◌∷◌, ◌++◌, length, map, set, get_or, Some, None, Ok, Err, refl, ◌∙◌, ap, sym, subst, arith, inl, inr, length-append, if◌then◌else◌, true, false, ◌==◌, ◌⊎◌, sum_by, AddTerms, AreSound, BookValue, CanSave, Change, Continues, Follows, Full, Host, ImportBook, IsSoundBook, MakeBook, NewBook, PledgeValue, PutPledge, Rates, book_number, book_rows, changed_book, empty, entries, filled_book, from_entries, get, get-empty, len-empty, len-entries, made_book, most_rows, nat_cmp, nat_cmp-IsAntisymmetric, pledge_from, pledge_in, pledge_rows, put_from, rows, same_map, with_book, with_change, absurd_none, get-with_book, map-set, nat_cmp_total, nat_tests, some_is, pledge_within, Books, Fits, HasChange, IsListed, IsPlace, SavesListed, added_rows, book_at, listed_book, host_of, replaced_rows, standing_rows, Kept}
 use Rattle.std.proofs.lemmas.List.Sums.{sum_by-cons}
 use Rattle.pawn_base.proofs.ListLemmas.{no_elements}
 use Rattle.pawn_book.specs.declared.rows.BookRows.{BookRows}
 use Rattle.pawn_book.proofs.RowSums.{part, rows-with_book}
-use Rattle.pawn_book.proofs.Places.{pledge_within}
-use Rattle.pawn_list_keeper.specs.Books.{Books}
-use Rattle.pawn_list_keeper.specs.Listed.{Fits, HasChange, IsListed, IsPlace, SavesListed, added_rows, book_at, listed_book, host_of, replaced_rows, standing_rows}
-use Rattle.pawn_list_keeper.specs.declared.kept.Kept.{Kept}
 use Rattle.pawn_list_keeper.proofs.ListReads.{book_at-set, get-book_at, kept_is, kept_number, pushed}
 
 -- no books have no rows

@@ -1,10 +1,5 @@
 -- The next book number above another.
-use Rattle.std.proofs.Common.{◌≡◌, ℕ, ◌+◌, ◌<◌, ◌≤◌, List, [], ◌∷◌, ◌++◌, length, map, take, get_or, Some, None, refl, ◌∙◌, ap, sym, arith, inl, inr}
-use Rattle.std.specs.Prelude.{if◌then◌else◌, nat_lt, unwrap_or, ◌&&◌, Option, Bool, true, false, ◌==◌, ◌⊎◌}
-use Rattle.pawn_list_keeper.proofs.Lemmas.{absurd_none, get_or-map, length-map, nat_tests, take_all, take_more}
-use Rattle.pawn_book.specs.BookStep.{BookValue}
-use Rattle.pawn_list_keeper.specs.Listed.{IsLeastAbove, book_at, listed_book}
-use Rattle.pawn_list_keeper.specs.declared.kept.Kept.{Kept}
+use Rattle.pawn_list_keeper.proofs.Basics.{◌≡◌, ℕ, ◌+◌, ◌<◌, ◌≤◌, List, [], ◌∷◌, ◌++◌, length, map, take, get_or, Some, None, refl, ◌∙◌, ap, sym, arith, inl, inr, if◌then◌else◌, nat_lt, unwrap_or, ◌&&◌, Option, Bool, true, false, ◌==◌, ◌⊎◌, absurd_none, get_or-map, length-map, nat_tests, take_all, take_more, BookValue, IsLeastAbove, book_at, listed_book, Kept}
 
 -- a book stands with one more behind it
 stands_before : (es : List (ℕ × BookValue)) (e : ℕ × BookValue) (b : ℕ) (book : BookValue) → book_at es b ≡ Some book → book_at (es ++ e ∷ []) b ≡ Some book

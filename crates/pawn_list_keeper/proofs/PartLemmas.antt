@@ -1,15 +1,8 @@
 -- The items of a day's sheet, part by part and window by window.
-use Rattle.std.proofs.Common.{◌≡◌, ◌≢◌, ◌∙◌, ℕ, ◌+◌, ◌-◌, ◌<◌, ◌≤◌, suc, List, [], ◌∷◌, ◌++◌, Option, None, Some, refl, sym, ap, subst, length, take, drop, get_or, arith, append-nil}
-use Rattle.pawn_list_keeper.specs.Common.{Flow, Go, HandsOver, PledgeValue, SheetItem, Stop, cond, cons_option, count_by, filter_map, flat_map, is_some, part_head, part_item, part_items, window_items, windows_below, with_head}
+use Rattle.pawn_list_keeper.proofs.Basics.{◌≡◌, ◌≢◌, ◌∙◌, ℕ, ◌+◌, ◌-◌, ◌<◌, ◌≤◌, suc, List, [], ◌∷◌, ◌++◌, Option, None, Some, refl, sym, ap, subst, length, take, drop, get_or, arith, append-nil, Flow, Go, HandsOver, PledgeValue, SheetItem, Stop, cond, cons_option, count_by, filter_map, flat_map, is_some, part_head, part_item, part_items, window_items, windows_below, with_head, take_more, take-append-drop, hands_one, hands_stop, hands_then, windows_begin, windows_more}
 use Rattle.std.proofs.lemmas.List.Recursion.{is_count_by}
-use Rattle.std.proofs.lemmas.List.{take_more, take-append-drop}
 use Rattle.pawn_book.specs.declared.sheet.Part.{Part}
-use Rattle.pawn_book.proofs.SheetLemmas.{hands_one, hands_stop, hands_then, windows_begin, windows_more}
 use Rattle.std.proofs.lemmas.List.Elements.{filter_map-append}
-
-put_before : {Y : Type 0} (o : Option Y) (xs ys : List Y) → cons_option o (xs ++ ys) ≡ cons_option o xs ++ ys
-put_before None xs ys = refl
-put_before (Some y) xs ys = refl
 
 -- of one element more
 pub filter_map_more : {X Y : Type 0} (h : X → Option Y) (xs : List X) (i : ℕ) (d : X) (o : Option Y) → i < length xs → h (get_or xs i d) ≡ o

@@ -1,8 +1,5 @@
 -- Where a pledge stands in a list, and where it is put.
-use Rattle.std.proofs.Common.{◌≡◌, ◌≢◌, ℕ, ◌+◌, ◌<◌, ◌≤◌, zero, suc, List, [], ◌∷◌, length, drop, get_or, set, Some, None, ◌∙◌, ap, sym, arith}
-use Rattle.std.specs.Prelude.{if◌then◌else◌, ◌==◌, true, false}
-use Rattle.pawn_list_keeper.proofs.Lemmas.{drop_all, drop_more, nat_tests}
-use Rattle.pawn_list_keeper.specs.Common.{PledgeValue, is_same_text, put_from, with_reference}
+use Rattle.pawn_list_keeper.proofs.Basics.{◌≡◌, ◌≢◌, ℕ, ◌+◌, ◌<◌, ◌≤◌, zero, suc, List, [], ◌∷◌, length, drop, get_or, set, Some, None, ◌∙◌, ap, sym, arith, if◌then◌else◌, ◌==◌, true, false, drop_all, drop_more, nat_tests, PledgeValue, is_same_text, put_from, with_reference}
 
 -- a pledge put at its place
 pub put_from_place : (k : ℕ) (ps : List PledgeValue) (i n : ℕ) (p : PledgeValue) → i < length ps → n ≡ k + i → set ps i p ≡ put_from k ps n p

@@ -2,7 +2,7 @@
 pub use Rattle.std.specs.FinMap.{empty, entries, find, from_entries, from_entries_push, get, get-empty, get-from_entries, insert, len-empty, len-entries, nat_cmp-IsAntisymmetric, same_map}
 pub use Rattle.std.specs.List.{cons_option, flat_map}
 pub use Rattle.std.specs.Ordering.{nat_cmp}
-pub use Rattle.std.specs.Prelude.{List, None, Option, Some, cond, count_by, filter_map, is_some, option_map, sum_by, ℕ}
+pub use Rattle.std.specs.Prelude.{List, ℕ}
 pub use Rattle.pawn_base.specs.Lists.{Each}
 pub use Rattle.pawn_terms.specs.Terms.{IsChecked}
 pub use Rattle.pawn_terms.specs.declared.terms.Rates.{Rates}

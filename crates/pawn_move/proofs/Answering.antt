@@ -1,10 +1,5 @@
 -- What the proofs of the functions use that judge, fill and move a store, gathered in one place.
-pub use Rattle.std.proofs.Common.{Bool, Err, None, Ok, Option, Some, ap, arith, false, refl, rules, subst, sym, true, ℕ, ◌+◌, ◌∙◌, ◌≡◌}
-pub use Rattle.pawn_tables.specs.Common.{HasUnsoundBook, IsNextBook, IsUnsoundAt, terms_of}
-pub use Rattle.pawn_saving.specs.Common.{Totals, get, option_map}
-pub use Rattle.pawn_opening.specs.Common.{Host, IfSome, is_ok, state}
-pub use Rattle.pawn_tables.proofs.OneHost.{tables_stand_for_one_host}
-pub use Rattle.pawn_move.specs.Moving.{AreAllOwed, AreOwedIn, AreTotalsAt, CanBeOwed, IsJudgedAt, IsNextJudged, ListFirstDebts, rows_if_any, totals_of_book}
+pub use Rattle.pawn_move.proofs.Basics.{Bool, Err, None, Ok, Option, Some, ap, arith, false, refl, rules, subst, sym, true, ℕ, ◌+◌, ◌∙◌, ◌≡◌, HasUnsoundBook, IsNextBook, IsUnsoundAt, terms_of, Totals, get, option_map, Host, IfSome, is_ok, state, AreAllOwed, AreOwedIn, AreTotalsAt, CanBeOwed, IsJudgedAt, IsNextJudged, ListFirstDebts, rows_if_any, totals_of_book}
 pub use Rattle.pawn_move.proofs.AllFilled.{AreFilledTo, all_books_filled, next_filled, next_not_put, next_put, next_unfilled, none_filled}
 pub use Rattle.pawn_move.proofs.Filled.{AreFilled, all_filled, one_filled, one_unfilled, put_stands}
 pub use Rattle.pawn_move.proofs.Judged.{HasWalked, next_judged, next_not_judged, none_walked, walk_ends, walk_fails, walk_on}

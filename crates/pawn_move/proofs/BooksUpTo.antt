@@ -1,9 +1,6 @@
 -- The books of a host up to a number.
-use Rattle.std.proofs.Common.{◌≡◌, ◌≢◌, ◌==◌, ◌≤◌, ◌<◌, ◌++◌, ℕ, [], ◌∷◌, List, Bool, true, false, cond, ◌&&◌, Some, None, T, filter, flat_map, nat_le, refl, sym, ap, subst, ◌∙◌, arith, append_assoc, append-nil}
-use Rattle.pawn_base.proofs.TestLemmas.{both_told, told, below, same_key}
-use Rattle.pawn_move.specs.Common.{entries, entries_sorted, find_key, get, get-entries, is_sorted, is_eq, is_lt, nat_cmp, Row, BookValue, Host, IsNextBook, of_books}
+use Rattle.pawn_move.proofs.Basics.{◌≡◌, ◌≢◌, ◌==◌, ◌≤◌, ◌<◌, ◌++◌, ℕ, [], ◌∷◌, List, Bool, true, false, cond, ◌&&◌, Some, None, T, filter, flat_map, nat_le, refl, sym, ap, subst, ◌∙◌, arith, append_assoc, append-nil, both_told, below, same_key, entries, entries_sorted, find_key, get, get-entries, is_sorted, is_eq, nat_cmp, Row, BookValue, Host, IsNextBook, of_books, nat_tests}
 use Rattle.std.specs.FinMap.Entries.{below_all}
-use Rattle.std.proofs.lemmas.Bool.Decides.{nat_tests}
 
 abbrev pub Entry : Type 0
 Entry = ℕ × BookValue

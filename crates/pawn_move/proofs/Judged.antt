@@ -1,9 +1,5 @@
 -- Debts are judged, pledge by pledge and book by book.
-use Rattle.std.proofs.Common.{ℕ, Bool, true, Option, Some, Result, Ok, Err, IsTrue, refl, sym, subst}
-use Rattle.pawn_move.specs.Common.{HasCleanDisk, State, Host, IsNextBook, HasUnsoundBook, IsUnsoundAt, KeepError, IsLent, Rests, Finds, FindsOf, ListDebts, IsCarried}
-use Rattle.one_table.proofs.Lent.{clean_before, rests_then}
-use Rattle.pawn_saving.proofs.RowsInOrder.{carried_none, carried_then, past}
-use Rattle.pawn_move.specs.Moving.{AreOwedIn, IsNextJudged, ListFirstDebts}
+use Rattle.pawn_move.proofs.Basics.{ℕ, Bool, true, Option, Some, Result, Ok, Err, IsTrue, refl, sym, subst, HasCleanDisk, State, Host, IsNextBook, HasUnsoundBook, IsUnsoundAt, KeepError, IsLent, Rests, Finds, FindsOf, ListDebts, IsCarried, clean_before, rests_then, carried_none, carried_then, past, AreOwedIn, IsNextJudged, ListFirstDebts}
 use Rattle.pawn_move.proofs.Reading.{handed, tell_then}
 
 -- ---- a walk that leaves the tables as they are

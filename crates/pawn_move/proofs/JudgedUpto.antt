@@ -1,21 +1,9 @@
 -- Which debts were judged so far.
-use Rattle.std.proofs.Common.{◌≡◌, ◌≢◌, ◌==◌, ◌+◌, ◌++◌, ◌<◌, ◌≤◌, ℕ, zero, suc, [], ◌∷◌, List, Bool, true, false, Option, Some, None, nat_le, take, slice_get, refl, sym, ap, subst, ◌∙◌, arith}
-use Rattle.pawn_base.proofs.ListLemmas.{Each-push, take_next, take_past}
-use Rattle.pawn_move.specs.Common.{IfSome, if◌then◌else◌, is_some, get, Totals, PledgeValue, Each, BookValue, pledge_from, pledge_in, Host, pledges_of, totals_in}
-use Rattle.std.proofs.lemmas.Bool.Decides.{nat_tests}
-use Rattle.pawn_move.specs.Moving.{AreAllOwed, AreOwedIn, AreTotalsAt, CanBeOwed, IsJudgedAt, IsNextJudged}
-use Rattle.pawn_book.proofs.Places.{pledge_at_place, pledge_at}
+use Rattle.pawn_move.proofs.Basics.{◌≡◌, ◌≢◌, ◌==◌, ◌+◌, ◌++◌, ◌<◌, ◌≤◌, ℕ, suc, [], ◌∷◌, Bool, true, false, Option, Some, None, nat_le, take, slice_get, refl, sym, ap, subst, ◌∙◌, arith, Each-push, take_next, take_past, IfSome, if◌then◌else◌, is_some, get, PledgeValue, Each, BookValue, pledge_in, Host, pledges_of, nat_tests, AreAllOwed, AreOwedIn, CanBeOwed, IsJudgedAt, IsNextJudged, pledge_at}
 
 -- ---- the place of a pledge in its book
 
 -- ---- a pledge
-
-pub stands_if : (h : Host) (b n : ℕ) (totals : Option Totals) → AreTotalsAt h b n totals → IsJudgedAt h b n (is_some totals)
-stands_if h b n totals are = (ap is_some are.0 ∙ same (pledge_in (get h.books b) n), are.1)
-  where
-    same : (o : Option PledgeValue) → is_some (totals_in o) ≡ is_some o
-    same None = refl
-    same (Some p) = refl
 
 -- ---- the pledges of a book
 

@@ -1,10 +1,10 @@
 pub mod AllFilled
 pub mod Answering
+pub mod Basics
 pub mod BooksUpTo
 pub mod Filled
 pub mod Judged
 pub mod JudgedUpto
-pub mod Lent
 pub mod Made
 pub mod Migrated
 pub mod Migrates

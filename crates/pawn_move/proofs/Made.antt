@@ -1,9 +1,7 @@
 -- Tables that are added beside others, and the number of the schema that is noted anew.
-use Rattle.std.proofs.Common.{◌≡◌, ℕ, pos, List, [], ◌∷◌, filter, codes, Bool, true, Ok, Err, Result, OnOk, IsTrue, refl}
+use Rattle.pawn_move.proofs.Basics.{◌≡◌, ℕ, pos, List, [], ◌∷◌, filter, codes, Bool, true, Ok, Err, Result, OnOk, IsTrue, refl, IsPermutation-refl, everything, Tables, understood, Row, column, value_cmp, Executes, HasCleanDisk, State, Host, rows, IsLent, meta_row, with_indexes, meta, meta_tree, SET_SCHEMA, AddsIndexes, GainsIndexes, row_set_by, with_tables, clean_before, gains_lists, IsMoving, NotesProgram, listed_with}
 use Rattle.std.specs.List.{list_all}
-use Rattle.std.proofs.lemmas.List.Sorted.{IsPermutation-refl}
 use Rattle.sqlite.specs.declared.types.Value.TheVariants.{Int, Text}
-use Rattle.pawn_move.specs.Common.{everything, Tables, understood, Row, column, value_cmp, Executes, HasCleanDisk, State, Host, rows, IsLent, meta_row, with_indexes, meta, meta_tree, SET_SCHEMA, AddsIndexes, GainsIndexes}
 use Rattle.sqlite.specs.Ops.{binary, is_true}
 use Rattle.sqlite.specs.Collation.TheVariants.{Binary}
 use Rattle.sqlite.specs.Term.{Term, lit, col, op2}
@@ -12,12 +10,8 @@ use Rattle.sqlite_sql.specs.declared.ops.CompareOp.TheVariants.{Eq}
 use Rattle.one_table.proofs.OneTable.{over_table}
 use Rattle.one_table.proofs.Rowed.{cast_int, cast_whole}
 use Rattle.one_table.proofs.Texts.{Sets}
-use Rattle.pawn_saving.proofs.OurTables.{row_set_by, with_tables}
 use Rattle.pawn_saving.proofs.Places.{meta_place}
 use Rattle.sqlite_schema.specs.declared.schema.Index.{Index}
-use Rattle.one_table.proofs.Lent.{clean_before}
-use Rattle.pawn_opening.proofs.Gained.{gains_lists}
-use Rattle.pawn_move.specs.Moving.{IsMoving, NotesProgram, listed_with}
 
 -- where a statement ran, what it wrote
 pub on_ran : {E : Type 0} (r : Result (Unit {0}) E) (P : ℕ → Type 0) (Q : Type 0) → OnOk r ((count : ℕ) × P count) → ((count : ℕ) → P count → Q) → OnOk r Q

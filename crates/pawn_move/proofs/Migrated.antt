@@ -1,16 +1,10 @@
 -- A store is moved: a transaction that moves its tables, and a commit.
-use Rattle.std.proofs.Common.{◌≡◌, ◌≢◌, inl, inr, ℕ, true, false, None, Result, Ok, Err, IsTrue, refl, sym, subst, ◌∙◌, arith}
-use Rattle.pawn_move.specs.Common.{get, HasCleanDisk, IsRolledBack, Shows, State, Survives, Trees, Host, HasUnsoundBook, KeepError, NoRecord, IsLent, StandForOne, HoldHost, StandsFor, OpensAs}
+use Rattle.pawn_move.proofs.Basics.{◌≡◌, ◌≢◌, ℕ, true, false, None, Result, Ok, Err, IsTrue, sym, subst, ◌∙◌, arith, get, HasCleanDisk, IsRolledBack, Shows, State, Survives, Trees, Host, HasUnsoundBook, KeepError, NoRecord, IsLent, StandForOne, HoldHost, StandsFor, OpensAs, survives_then, IsBegun, held, opens_as, rolled_back, uncommitted, HoldMoved, MovesStore, MovesStoreOwed, Moves, MovesOwed, StandsUnder}
 use Rattle.sqlite.specs.Steps.{FailsToCommit}
 use Rattle.sqlite.specs.declared.error.Error.{Error}
-use Rattle.sqlite.proofs.StateLemmas.{survives_then}
 use Rattle.pawn_book.specs.declared.fault.KeepError.TheVariants as Keeper
-use Rattle.pawn_opening.proofs.Begun.{IsBegun, held, opens_as, rolled_back, uncommitted}
 use Rattle.pawn_move.proofs.Filled.{untold}
 use Rattle.pawn_move.proofs.Reading.{handed}
-use Rattle.pawn_move.specs.Migrating.{HoldMoved, MovesStore, MovesStoreOwed}
-use Rattle.pawn_move.specs.Moving.{Moves, MovesOwed}
-use Rattle.pawn_move.specs.StandsUnder.{StandsUnder}
 
 module _ (n : ℕ) (old new begun lent : State) (was : IsBegun old begun) (ended : new.in_transaction ≡ false) where
   -- the debts that were judged

@@ -1,16 +1,7 @@
 -- A store tells its schema, and is moved where that is an older one.
-use Rattle.std.proofs.Common.{◌≡◌, ◌==◌, ◌⊎◌, inl, inr, ℕ, Bool, true, false, Option, Some, None, Ok, Err, Result, IsTrue, refl, sym, subst, ◌∙◌, arith}
-use Rattle.std.proofs.lemmas.Bool.Decides.{nat_tests}
-use Rattle.pawn_move.specs.Common.{get, Tables, HasCleanDisk, State, Survives, Trees, BookValue, Host, HasUnsoundBook, KeepError, Database, NoRecord, Finds, StandForOne, HoldHost, StandsFor, HoldGained, IndexesStore, IsAsBefore, OpensAs, NotesSchema, OpenFault}
-use Rattle.sqlite.proofs.StateLemmas.{survives_then, survives_weaker}
+use Rattle.pawn_move.proofs.Basics.{◌≡◌, ◌==◌, ◌⊎◌, inl, inr, ℕ, Bool, true, false, Option, Some, None, Ok, Err, Result, IsTrue, refl, sym, subst, ◌∙◌, arith, nat_tests, get, Tables, HasCleanDisk, State, Survives, Trees, BookValue, Host, HasUnsoundBook, KeepError, Database, NoRecord, Finds, StandForOne, HoldHost, StandsFor, HoldGained, IndexesStore, IsAsBefore, OpensAs, NotesSchema, OpenFault, survives_then, survives_weaker, held, opens_as, gains_stands, MoveFault, NotOurs, NewerSchema, Damaged, Store, Memory, HoldMoved, HoldSameHost, IsFailure, IsMoved, IsNotOurs, IsUnmovable, IsUntellable, Migrates, MigratesOwed, MovesStore, MovesStoreOwed, TellsNumber, move_fault_of, IsSchema, StandsUnder}
 use Rattle.pawn_book.specs.declared.fault.KeepError.TheVariants as Keeper
-use Rattle.pawn_opening.proofs.Begun.{held, opens_as}
-use Rattle.pawn_opening.proofs.Gained.{gains_stands}
 use Rattle.pawn_move.proofs.ToldSchema.{third_is_ours}
-use Rattle.pawn_move.specs.declared.fault.MoveFault.{MoveFault}
-use Rattle.pawn_move.specs.declared.fault.MoveFault.TheVariants.{NotOurs, NewerSchema, Damaged, Store, Memory}
-use Rattle.pawn_move.specs.Migrating.{HoldMoved, HoldSameHost, IsFailure, IsMoved, IsNotOurs, IsUnmovable, IsUntellable, Migrates, MigratesOwed, MovesStore, MovesStoreOwed, TellsNumber, move_fault_of}
-use Rattle.pawn_move.specs.StandsUnder.{IsSchema, StandsUnder}
 
 -- an older schema is the first or the second
 pub older : (n : ℕ) → IsSchema n → (n ≡ 3 → ⊥) → (n ≡ 1) ⊎ (n ≡ 2)

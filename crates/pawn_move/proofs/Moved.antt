@@ -1,15 +1,9 @@
 -- Tables of an older schema, moved to the program's.
-use Rattle.std.proofs.Common.{◌≡◌, ◌++◌, ℕ, List, [], Some, None, Result, Ok, Err, OnOk, Bool, true, false, IsTrue, refl, sym, ap, subst, ◌∙◌, arith, append-nil, T, flat_map, ◌∷◌}
-use Rattle.pawn_base.proofs.TestLemmas.{both_told}
-use Rattle.pawn_move.specs.Common.{◌≢◌, entries, entries_sorted, find_key, get, get-entries, is_sorted, nat_cmp, Tables, Row, HasCleanDisk, State, PledgeValue, Each, BookValue, Host, HasUnsoundBook, KeepError, NoRecord, IsLent, Rests, Holds, Lists, with_rows, Finds, FindsOf, extension_cells, extensions_listed, number_in_book, placed_from, totals_listed, under, extensions, extensions_tree, first_schema, keep_schema, second_schema, StandsFor, of_pledges, IsCarried, AddsTable}
+use Rattle.pawn_move.proofs.Basics.{◌≡◌, ◌++◌, ℕ, List, [], Some, None, Result, Ok, Err, OnOk, Bool, true, false, IsTrue, refl, sym, ap, subst, ◌∙◌, arith, append-nil, T, flat_map, ◌∷◌, both_told, ◌≢◌, entries, entries_sorted, find_key, get, get-entries, is_sorted, nat_cmp, Tables, Row, HasCleanDisk, State, PledgeValue, Each, BookValue, Host, HasUnsoundBook, KeepError, NoRecord, IsLent, Rests, Holds, Lists, with_rows, Finds, FindsOf, extension_cells, extensions_listed, number_in_book, placed_from, totals_listed, under, extensions, extensions_tree, first_schema, keep_schema, second_schema, StandsFor, of_pledges, IsCarried, AddsTable, clean_before, past, AreAllOwed, IsMoving, ListFirstDebts, Moves, MovesOwed, NotesProgram, PutsAll, listed_with, HasNoExtension, StandsUnder}
 use Rattle.pawn_move.proofs.Filled.{firsts, untold}
 use Rattle.pawn_move.proofs.Reading.{handed}
 use Rattle.pawn_move.proofs.BooksUpTo.{Entry, below_key, here_found, past_head}
 use Rattle.pawn_book.specs.declared.fault.KeepError.TheVariants as Keeper
-use Rattle.one_table.proofs.Lent.{clean_before}
-use Rattle.pawn_saving.proofs.RowsInOrder.{past}
-use Rattle.pawn_move.specs.Moving.{AreAllOwed, IsMoving, ListFirstDebts, Moves, MovesOwed, NotesProgram, PutsAll, listed_with}
-use Rattle.pawn_move.specs.StandsUnder.{HasNoExtension, StandsUnder}
 
 -- ---- what the tables list
 

@@ -1,13 +1,7 @@
 -- What was owed on a pledge, by what was read of it.
-use Rattle.std.proofs.Common.{◌≡◌, ℕ, [], ◌∷◌, List, Option, Some, None, Ok, IsTrue, refl, sym, ap, ◌∙◌}
-use Rattle.pawn_move.specs.Common.{is_some, option_map, true, get, HasCleanDisk, State, totals_of, Totals, PledgeValue, debt_of, pledge_in, Host, entries_of, terms_of, IsUnsoundAt, IsLent, Rests, FindsOf, credit_told, totals_in, totals_cells, totals_listed, under, AreBooksOrdered, ListDebts}
-use Rattle.pawn_terms.specs.declared.terms.Rates.{Rates}
+use Rattle.pawn_move.proofs.Basics.{◌≡◌, ℕ, [], ◌∷◌, List, Option, Some, None, Ok, IsTrue, refl, sym, ap, ◌∙◌, is_some, option_map, true, get, HasCleanDisk, State, totals_of, Totals, PledgeValue, debt_of, pledge_in, Host, entries_of, terms_of, IsUnsoundAt, IsLent, Rests, FindsOf, credit_told, totals_in, totals_cells, totals_listed, under, AreBooksOrdered, ListDebts, Rates, terms_at, clean_before, Credit, ListFirstDebts, rows_if_any}
 use Rattle.pawn_debt.specs.declared.entry.Entry.{Entry}
-use Rattle.pawn_book.specs.Rows.{terms_at}
-use Rattle.one_table.proofs.Lent.{clean_before}
-use Rattle.pawn_tables.specs.declared.credits.Credit.{Credit}
 use Rattle.pawn_tables.proofs.PledgeReads.{holds_in, number_in, under_in}
-use Rattle.pawn_move.specs.Moving.{ListFirstDebts, rows_if_any}
 use Rattle.pawn_move.proofs.Reading.{three_find}
 
 -- the row that was found is that of a pledge

@@ -1,18 +1,11 @@
 -- Tables that stand for a host under a schema note its number, and it is told.
-use Rattle.std.proofs.Common.{◌≡◌, ◌==◌, inl, inr, ℕ, Bool, true, false, Option, Some, None, Ok, Err, Result, IsTrue, refl, sym, ap, subst, ◌∙◌, arith}
-use Rattle.pawn_move.specs.Common.{IfErr, IfOk, IfSome, everything, listing_schema, understood, State, Host, rows, Holds, notes, with_indexes, first_schema, meta, meta_tree, second_schema, READ_SCHEMA, TellsSchema, IsEmptyStore, IsNoted, NotesNoSchema, NotesSchema, OpenFault}
+use Rattle.pawn_move.proofs.Basics.{◌≡◌, ◌==◌, inl, inr, ℕ, Bool, true, false, Option, Some, None, Ok, Err, Result, IsTrue, refl, sym, ap, subst, ◌∙◌, arith, IfErr, IfOk, IfSome, everything, listing_schema, understood, State, Host, rows, Holds, notes, with_indexes, first_schema, meta, meta_tree, second_schema, READ_SCHEMA, TellsSchema, IsEmptyStore, IsNoted, NotesNoSchema, NotesSchema, OpenFault, as_lists, as_stands, with_tables, MoveFault, NotOurs, NewerSchema, Damaged, Store, Memory, IsFailure, IsNumberJudged, IsMoveTold, IsNotOurs, IsUntellable, TellsNumber, IsSchema, ListsBy, StandsUnder, ThirdIsOurs, listed_under}
 use Rattle.sqlite.specs.Effect.{Database}
 use Rattle.sqlite_resolve.specs.declared.compiled.Compiled.{Compiled}
 use Rattle.sqlite_resolve.specs.declared.error.CompileError.{CompileError}
 use Rattle.one_table.specs.Columns.{no_schema}
 use Rattle.pawn_opening.proofs.Ours as ours
-use Rattle.pawn_saving.proofs.Hosting.{as_lists, as_stands}
 use Rattle.sqlite.specs.Schema.{Schema}
-use Rattle.pawn_saving.proofs.OurTables.{with_tables}
-use Rattle.pawn_move.specs.declared.fault.MoveFault.{MoveFault}
-use Rattle.pawn_move.specs.declared.fault.MoveFault.TheVariants.{NotOurs, NewerSchema, Damaged, Store, Memory}
-use Rattle.pawn_move.specs.Migrating.{IsFailure, IsNumberJudged, IsMoveTold, IsNotOurs, IsUntellable, TellsNumber}
-use Rattle.pawn_move.specs.StandsUnder.{IsSchema, ListsBy, StandsUnder, ThirdIsOurs, listed_under}
 
 -- ---- the third schema is the program's
 

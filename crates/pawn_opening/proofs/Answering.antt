@@ -1,12 +1,5 @@
 -- What the proofs of the functions use that open and lay out a store, gathered in one place.
-pub use Rattle.std.proofs.Common.{Err, Ok, arith, inl, inr, rules, subst, sym, true, ◌≡◌}
-pub use Rattle.pawn_tables.specs.Common.{is_ok, state}
-pub use Rattle.pawn_tables.specs.Tables.{bookings, books, entries, meta, pledges, secrets, terms}
-pub use Rattle.one_table.proofs.Lent.{lent_then}
-pub use Rattle.pawn_tables.proofs.OneHost.{tables_stand_for_one_host}
-pub use Rattle.pawn_opening.specs.Common.{Error, created, file_state, first_schema, image_of, keep_schema, no_schema, second_schema}
-pub use Rattle.pawn_opening.specs.Laying.{first_six, first_three}
-pub use Rattle.pawn_opening.specs.Stores.{HoldsIn, IndexesStore, IsBlank, IsRefusedStore, LaysOut, OpensFound, Recognises, StandsIn}
+pub use Rattle.pawn_opening.proofs.Basics.{Err, Ok, arith, inl, inr, rules, subst, sym, true, ◌≡◌, is_ok, state, bookings, books, entries, meta, pledges, secrets, terms, lent_then, tables_stand_for_one_host, Error, created, file_state, first_schema, image_of, keep_schema, no_schema, second_schema, first_six, first_three, HoldsIn, IndexesStore, IsBlank, IsRefusedStore, LaysOut, OpensFound, StandsIn}
 pub use Rattle.pawn_opening.proofs.Begun.{is_begun}
 pub use Rattle.pawn_opening.proofs.Creating.{adds_extensions, adds_totals, makes_extensions, makes_one, makes_then, makes_totals}
 pub use Rattle.pawn_opening.proofs.Found.{accepted, as_found, finds_database, finds_host, finds_none, refused}

@@ -1,9 +1,7 @@
 -- A transaction that begins, and what is left once it is rolled back.
-use Rattle.std.proofs.Common.{◌≡◌, inl, inr, true, false, Bool, IsTrue, refl, sym, ap, subst, ◌∙◌, arith}
+use Rattle.pawn_opening.proofs.Basics.{◌≡◌, inl, inr, true, false, Bool, IsTrue, refl, sym, ap, subst, ◌∙◌, arith, Database, Error, FailsToCommit, Held, state, HasCleanDisk, IsLive, IsRolledBack, State, Survives, Trees, Host, IsLent, StandForOne, HoldHost, StandsFor, IsAsBefore, OpensAs}
 use Rattle.sqlite_trees.specs.declared.store.Store.{Ghosts}
-use Rattle.pawn_opening.specs.Common.{Database, Error, FailsToCommit, Held, state, HasCleanDisk, IsLive, IsRolledBack, State, Survives, Trees, Host, IsLent, StandForOne, HoldHost, StandsFor}
 use Rattle.one_table.proofs.Parts.{rests_open, committed_rests}
-use Rattle.pawn_opening.specs.Opened.{IsAsBefore, OpensAs}
 
 -- of a live store at rest
 pub record IsBegun (a begun : State) : Type 0 where

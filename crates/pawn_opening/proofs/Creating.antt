@@ -1,12 +1,5 @@
 -- What CREATE TABLE makes of empty tables.
-use Rattle.std.proofs.Common.{◌≡◌, ℕ, List, [], ◌∷◌, map, Bool, true, false, None, Ok, Err, Result, OnOk, IsTrue, refl, sym, ap, subst, ◌∙◌, IsPermutation}
-use Rattle.pawn_opening.specs.Common.{AllByRecursion, KeepsRows, created, next_tree, CreateTable, Tally, lacks_sequence, Database, IsDatabase, Schema, Executes, HasCleanDisk, State, Writes, Table, Trees, IsLent, Holds, IsNumbered, Listed, Lists, columns_of, with_rows, extensions, extensions_tree, first_schema, keep_schema, second_schema, totals, totals_tree}
-use Rattle.std.proofs.lemmas.List.Sorted.{IsPermutation-refl}
-use Rattle.sqlite_trees.proofs.ListLemmas.{all-append}
-use Rattle.sqlite.proofs.Callers.{runs_as}
-use Rattle.one_table.proofs.Insertion.{went, same_value}
-use Rattle.one_table.proofs.Lent.{clean_before}
-use Rattle.pawn_opening.specs.Laying.{AddsTable, AreEmpty, Makes, no_rows}
+use Rattle.pawn_opening.proofs.Basics.{◌≡◌, ℕ, List, [], ◌∷◌, map, Bool, true, false, None, Ok, Err, Result, OnOk, IsTrue, refl, sym, ap, subst, ◌∙◌, IsPermutation, AllByRecursion, KeepsRows, created, next_tree, CreateTable, Tally, lacks_sequence, Database, IsDatabase, Schema, Executes, HasCleanDisk, State, Writes, Table, Trees, IsLent, Holds, IsNumbered, Listed, Lists, columns_of, with_rows, extensions, extensions_tree, first_schema, keep_schema, second_schema, totals, totals_tree, IsPermutation-refl, all-append, runs_as, went, same_value, clean_before, AddsTable, AreEmpty, Makes, no_rows}
 use Rattle.pawn_opening.proofs.TableTexts.{IsCreation, extensions_is, MAKE_EXTENSIONS, totals_is, MAKE_TOTALS}
 
 -- a tree without rows

@@ -1,12 +1,10 @@
 -- The tables of the empty host.
-use Rattle.std.proofs.Common.{◌≡◌, ℕ, List, [], ◌∷◌, map, flat_map, length, codes, Some, refl, sym, subst, ◌∙◌, arith, sum_by}
+use Rattle.pawn_opening.proofs.Basics.{◌≡◌, ℕ, [], ◌∷◌, map, flat_map, codes, Some, sym, subst, ◌∙◌, sum_by, Database, book_rows, Holds, Listed, Lists, with_rows, meta_row, meta_rows, bookings, bookings_tree, books, books_tree, entries_table, entries_tree, extensions, extensions_tree, keep_schema, meta, meta_tree, pledges, pledges_tree, secrets, secrets_tree, terms, terms_tree, totals, totals_tree, StandsFor, no_rows, empty_host}
 use Rattle.std.specs.FinMap.{entries, get, empty, get-empty, len-empty, len-entries}
 use Rattle.std.specs.Ordering.{nat_cmp}
 use Rattle.pawn_base.proofs.ListLemmas.{no_elements}
-use Rattle.pawn_opening.specs.Common.{Database, book_rows, Holds, Listed, Lists, with_rows, meta_row, meta_rows, bookings, bookings_tree, books, books_tree, entries_table, entries_tree, extensions, extensions_tree, keep_schema, meta, meta_tree, pledges, pledges_tree, secrets, secrets_tree, terms, terms_tree, totals, totals_tree, StandsFor}
 use Rattle.pawn_book.specs.BookStep.{BookValue}
 use Rattle.pawn_tables.specs.Rows.{book_row, terms_listed, pledge_listed, entries_listed, secrets_listed, booking_listed, totals_listed, extensions_listed}
-use Rattle.pawn_opening.specs.Stores.{no_rows, empty_host}
 
 no_entries : entries (empty {X = BookValue} {R = nat_cmp}) ≡ []
 no_entries = no_elements _ (sym (len-entries (empty {X = BookValue} {R = nat_cmp})) ∙ len-empty nat_cmp BookValue)

@@ -1,8 +1,5 @@
 -- An empty store, table by table, note by note, and then its indexes.
-use Rattle.std.proofs.Common.{ℕ, true, [], ◌∷◌, codes, Result, OnOk, Ok, Err, refl}
-use Rattle.pawn_opening.specs.Common.{is_ok, State, Error, no_schema, IsLent, with_rows, meta_row, keep_schema, StandsFor}
-use Rattle.one_table.proofs.Lent.{clean_before}
-use Rattle.pawn_opening.specs.Stores.{AddsIndexes, GainsIndexes, Makes, Notes, no_rows, Fills, empty_host}
+use Rattle.pawn_opening.proofs.Basics.{ℕ, true, [], ◌∷◌, codes, Result, OnOk, Ok, Err, refl, is_ok, State, Error, no_schema, IsLent, with_rows, meta_row, keep_schema, StandsFor, clean_before, AddsIndexes, GainsIndexes, Makes, Notes, no_rows, Fills, empty_host}
 use Rattle.pawn_opening.proofs.EmptyHost.{stands_empty}
 use Rattle.pawn_opening.proofs.Gained.{gains_stands}
 

@@ -1,7 +1,6 @@
 -- What an open finds in files.
-use Rattle.std.proofs.Common.{◌≡◌, ◌⊎◌, ℕ, inl, inr, false, [], Err, refl, sym, ap, subst, ◌∙◌, arith}
-use Rattle.pawn_opening.specs.Common.{MoreFaults, Ghosts, Files, faults, is_shielded, recovers, view, FileStore, catalog_tree, IsClean, IsQuiet, doubt, StoreError, Image, Database, IsDatabase, ExcusesClose, FailsToClose, Finds, IsCleanLeft, IsClosed, file_state, image_of, Held, Schema, HasCleanDisk, IsLive, Opens, State, store_error, Trees, Error, SqliteFailure, Host, no_schema, HoldHost, StandsFor}
-use Rattle.sqlite_trees.proofs.Doubt.{no_doubt}
+use Rattle.pawn_opening.proofs.Basics.{◌≡◌, ◌⊎◌, ℕ, inl, inr, false, [], Err, refl, sym, ap, subst, ◌∙◌, arith, MoreFaults, Files, faults, is_shielded, recovers, view, FileStore, catalog_tree, IsClean, IsQuiet, doubt, StoreError, Image, Database, IsDatabase, ExcusesClose, FailsToClose, Finds, IsCleanLeft, IsClosed, file_state, image_of, Held, Schema, HasCleanDisk, IsLive, Opens, State, store_error, Trees, Error, SqliteFailure, Host, no_schema, HoldHost, StandsFor, no_doubt, AreClosedFor, HasCommitted, IsLeftUnclosed, StandsAlone, HoldsIn, IsBlank, IsRefusedStore, OpensFound, StandsIn, GainsIndexes, AreMadeOf, IsOpenable, Prepares, IsEmptyStore, IsRefusedFor, IsStoreFault, NotesSchema, OpenFault}
+use Rattle.pawn_opening.specs.Common.{Ghosts}
 use Rattle.sqlite_trees.specs.declared.error.StoreError.TheVariants as stored
 use Rattle.sqlite.specs.declared.file.Leftover.TheVariants as left
 use Rattle.sqlite.specs.declared.error.ErrorCode.TheVariants as code
@@ -13,7 +12,6 @@ use Rattle.sqlite_trees.specs.Props.{Trees-set}
 use Rattle.sqlite.specs.Start.{FindsIn}
 use Rattle.sqlite.specs.Closing.{HoldsAlone, IsCopied}
 use Rattle.pawn_opening.proofs.Begun.{held}
-use Rattle.pawn_opening.specs.Stores.{AreClosedFor, HasCommitted, IsLeftUnclosed, StandsAlone, HoldsIn, IsBlank, IsRefusedStore, OpensFound, StandsIn, GainsIndexes, AreMadeOf, IsOpenable, Prepares, IsEmptyStore, IsRefusedFor, IsStoreFault, NotesSchema, OpenFault}
 use Rattle.pawn_opening.specs.declared.fault.OpenFault.TheVariants as Fault
 
 -- the trees list one schema

@@ -1,7 +1,5 @@
 -- What a database that has gained indexes stands for.
-use Rattle.std.proofs.Common.{◌≡◌, ◌++◌, List, [], ◌∷◌, false, refl, sym, ap, subst, ◌∙◌, append-nil, append_assoc, ℕ}
-use Rattle.pawn_opening.specs.Common.{AllByRecursion, KeepsRows, Index, Database, IsDatabase, Row, Schema, Table, Trees, Host, Holds, IsNumbered, Listed, columns_of, AreLoose, ListsOurs, with_indexes, keep_schema, StandsFor}
-use Rattle.pawn_opening.specs.Indexing.{GainsIndexes}
+use Rattle.pawn_opening.proofs.Basics.{◌≡◌, ◌++◌, List, [], ◌∷◌, refl, sym, ap, subst, ◌∙◌, append-nil, append_assoc, ℕ, AllByRecursion, KeepsRows, Index, Database, IsDatabase, Row, Schema, Table, Trees, Host, Holds, IsNumbered, Listed, columns_of, AreLoose, ListsOurs, with_indexes, keep_schema, StandsFor, GainsIndexes}
 
 loose_both : (xs ys : List Index) → AreLoose xs → AreLoose ys → AreLoose (xs ++ ys)
 loose_both [] ys p q = q

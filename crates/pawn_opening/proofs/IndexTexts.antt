@@ -1,8 +1,6 @@
 -- What CREATE INDEX makes of tables, whatever their schema is.
-use Rattle.std.proofs.Common.{◌≡◌, ℕ, ◌+◌, List, [], ◌∷◌, Bool, true, false, Option, None, Some, Ok, Err, Result, OnOk, refl, sym, ap, subst, ◌∙◌, slice_get, slice_range}
-use Rattle.pawn_opening.specs.Common.{if◌then◌else◌, is_some, KeepsRows, command, compiled, create_index, creates, first, index_in, is_reserved, meaning, planned, returning, small, target, timed, with_command, Compiled, CompileError, Index, everything, indexed, index_defined_by, AtPlace, Does, Tally, Database, IsDatabase, if_select, is_select, listing_schema, reads_listing, understood, Schema, Executes, ExecutesIn, State, Writes, mode_of, text_of, Table, IsLent}
+use Rattle.pawn_opening.proofs.Basics.{◌≡◌, ℕ, ◌+◌, List, [], ◌∷◌, Bool, true, false, Option, None, Some, Ok, Err, Result, OnOk, refl, sym, ap, subst, ◌∙◌, slice_get, slice_range, if◌then◌else◌, is_some, KeepsRows, command, compiled, create_index, creates, first, index_in, is_reserved, meaning, planned, returning, small, target, timed, with_command, Compiled, CompileError, Index, everything, index_defined_by, AtPlace, Does, Tally, Database, IsDatabase, if_select, is_select, listing_schema, reads_listing, understood, Schema, Executes, ExecutesIn, State, Writes, mode_of, text_of, Table, IsLent, IsPlain, command_of, runs_as, statement_of, went, same_value, clean_before, AddsIndexes, GainsIndexes, MAKE_BOOKINGS_BY_TIME, MAKE_PLEDGES_BY_END}
 use Rattle.std.specs.Option.{option_or}
-use Rattle.sqlite.proofs.Callers.{IsPlain, command_of, runs_as, statement_of}
 use Rattle.sqlite_ast.specs.declared.CreateIndex.{CreateIndex}
 use Rattle.sqlite_ast.specs.declared.Statement.TheVariants as written
 use Rattle.sqlite_resolve.specs.Body.{table_at}
@@ -13,12 +11,8 @@ use Rattle.sqlite_schema.specs.declared.command.Command.{Command}
 use Rattle.sqlite_schema.specs.declared.command.Command.TheVariants.{CreateIndex as MakeIndex, Nothing}
 use Rattle.sqlite_schema.specs.Names.{index_named, table_named, view_named}
 use Rattle.sqlite_syntax.specs.declared.statement.Parsed.{Parsed}
-use Rattle.one_table.proofs.Insertion.{went, same_value}
-use Rattle.one_table.proofs.Lent.{clean_before}
-use Rattle.pawn_opening.specs.Indexing.{AddsIndexes, GainsIndexes}
 use Rattle.pawn_opening.proofs.Creating.{Ran}
 use Rattle.pawn_opening.proofs.Gained.{gains_then}
-pub use Rattle.pawn_tables.specs.declared.texts.TheConstants.{MAKE_BOOKINGS_BY_TIME, MAKE_PLEDGES_BY_END}
 
 -- ---- the text
 

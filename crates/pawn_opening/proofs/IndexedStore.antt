@@ -1,8 +1,5 @@
 -- A store gets the indexes that it lacks: a transaction that makes them, and a commit.
-use Rattle.std.proofs.Common.{◌≡◌, inl, inr, true, false, Ok, Err, IsTrue, refl, sym, subst, ◌∙◌, arith}
-use Rattle.pawn_opening.specs.Common.{HasCleanDisk, IsLive, IsRolledBack, Shows, State, Survives, FailsToCommit, Trees, Error, IsLent}
-use Rattle.sqlite.proofs.StateLemmas.{survives_then}
-use Rattle.pawn_opening.specs.Stores.{AddsIndexes, GainsIndexes, HoldGained, IndexesStore, IsStoreFault, OpenFault}
+use Rattle.pawn_opening.proofs.Basics.{◌≡◌, inl, true, false, Ok, Err, IsTrue, refl, sym, subst, ◌∙◌, arith, HasCleanDisk, IsLive, IsRolledBack, Shows, State, Survives, FailsToCommit, Trees, Error, IsLent, survives_then, AddsIndexes, GainsIndexes, HoldGained, IndexesStore, IsStoreFault, OpenFault}
 use Rattle.pawn_opening.proofs.Begun.{IsBegun, rolled_back, uncommitted}
 use Rattle.pawn_opening.proofs.Gained.{gains_none}
 

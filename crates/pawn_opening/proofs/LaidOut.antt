@@ -1,8 +1,5 @@
 -- An empty store is laid out: a transaction that fills it, and a commit.
-use Rattle.std.proofs.Common.{◌≡◌, inl, inr, ℕ, true, false, Ok, Err, IsTrue, refl, sym, ap, subst, ◌∙◌, arith}
-use Rattle.pawn_opening.specs.Common.{Database, IsDatabase, HasCleanDisk, IsRolledBack, Shows, State, Survives, FailsToCommit, Trees, Error, no_schema, IsLent, StandForOne, HoldHost, StandsFor}
-use Rattle.sqlite.proofs.StateLemmas.{survives_then}
-use Rattle.pawn_opening.specs.Stores.{AreEmpty, Fills, LaysOut, empty_host, IsEmptyStore, IsStoreFault, OpenFault}
+use Rattle.pawn_opening.proofs.Basics.{◌≡◌, ℕ, true, false, Ok, Err, IsTrue, refl, sym, ap, subst, ◌∙◌, arith, Database, IsDatabase, HasCleanDisk, IsRolledBack, Shows, State, Survives, FailsToCommit, Trees, Error, no_schema, IsLent, StandForOne, HoldHost, StandsFor, survives_then, AreEmpty, Fills, LaysOut, empty_host, IsEmptyStore, IsStoreFault, OpenFault}
 use Rattle.pawn_opening.proofs.Begun.{IsBegun, held, opens_as, rolled_back, uncommitted}
 
 module _ (old new begun lent : State) (limit : ℕ) (was : IsBegun old begun) (ended : new.in_transaction ≡ false) where

@@ -1,4 +1,5 @@
 pub mod Answering
+pub mod Basics
 pub mod Begun
 pub mod Creating
 pub mod EmptyHost
@@ -8,7 +9,6 @@ pub mod Gained
 pub mod IndexedStore
 pub mod IndexTexts
 pub mod LaidOut
-pub mod Lent
 pub mod MetaRows
 pub mod Ours
 pub mod Prepared

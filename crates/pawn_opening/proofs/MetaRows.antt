@@ -1,11 +1,8 @@
 -- A row of what the store notes.
-use Rattle.std.proofs.Common.{◌≡◌, inl, inr, ℕ, pos, ◌==◌, List, [], ◌∷◌, length, false, Ok, Err, Result, OnOk, refl, arith}
-use Rattle.pawn_opening.specs.Common.{everything, understood, Row, Executes, State, Term, col, lit, Int, Null, Text, Listed, Lists, with_rows, meta_row, keep_schema, meta, meta_tree, PUT_NOTE}
+use Rattle.pawn_opening.proofs.Basics.{◌≡◌, inl, inr, ℕ, pos, ◌==◌, List, [], ◌∷◌, length, false, Ok, Err, Result, OnOk, refl, arith, everything, understood, Row, Executes, State, Term, col, lit, Int, Null, Text, Listed, Lists, with_rows, meta_row, keep_schema, meta, meta_tree, PUT_NOTE, IsPlace, inserted, Puts}
 use Rattle.sqlite_schema.specs.declared.schema.Keys.TheVariants.{Enforced}
 use Rattle.sqlite_rules.specs.Action.{works}
-use Rattle.one_table.proofs.Insertion.{IsPlace, inserted}
 use Rattle.one_table.proofs.Rowed.{cast_null, cast_int}
-use Rattle.one_table.proofs.Texts.{Puts}
 
 abbrev pub note_values : List Term
 note_values = lit Null ∷ col 0 0 ∷ col 0 1 ∷ []

@@ -1,18 +1,12 @@
 -- Tables that stand for a host note our schema.
-use Rattle.std.proofs.Common.{◌≡◌, inl, inr, ℕ, List, [], ◌∷◌, pos, map, filter, codes, Bool, refl, sym, ap, subst, ◌∙◌, arith, IsPermutation}
-use Rattle.pawn_opening.specs.Common.{list_all, Index, everything, Select, Database, Reads, IsSourceOf, reads_listing, understood, Row, column, value_cmp, Schema, Term, col, lit, op2, Int, Null, Text, Host, rows, Holds, columns_of, notes, with_indexes, keep_schema, meta, meta_tree, StandsFor, READ_SCHEMA}
+use Rattle.pawn_opening.proofs.Basics.{◌≡◌, inl, inr, ℕ, List, [], ◌∷◌, pos, map, filter, codes, Bool, refl, sym, ap, subst, ◌∙◌, arith, IsPermutation, list_all, Index, everything, Select, Database, Reads, IsSourceOf, reads_listing, understood, Row, column, value_cmp, Schema, Term, col, lit, op2, Int, Null, Text, Host, rows, Holds, columns_of, notes, with_indexes, keep_schema, meta, meta_tree, StandsFor, READ_SCHEMA, map-map, filter-map, IsPermutation-filter, IsPermutation-map, IsPlain, command_of, one_permutation, Asks, AnswersOpening, HasNoAnswer, IsEmptyStore, IsOneNumber, IsRefusedFor, IsStoreFault, NotesNoSchema, NotesSchema, OpenFault, Memory, NotOurs, OldSchema, Store}
 use Rattle.sqlite.specs.Ops.{binary, is_true}
 use Rattle.sqlite.specs.Collation.TheVariants.{Binary}
 use Rattle.sqlite.specs.Query.{IsAnswer}
 use Rattle.sqlite.specs.Program.{overlay}
 use Rattle.sqlite_sql.specs.declared.ops.BinaryOp.TheVariants.{Compare}
 use Rattle.sqlite_sql.specs.declared.ops.CompareOp.TheVariants.{Eq}
-use Rattle.sqlite_trees.proofs.ListLemmas.{map-map, filter-map, IsPermutation-filter}
-use Rattle.std.proofs.lemmas.List.Sorted.{IsPermutation-map}
-use Rattle.sqlite.proofs.Callers.{IsPlain, command_of, one_permutation}
 use Rattle.one_table.proofs.OneTable.{over_table, passes, shows_of, found}
-use Rattle.one_table.proofs.Texts.{Asks}
-use Rattle.pawn_opening.specs.Stores.{AnswersOpening, HasNoAnswer, IsEmptyStore, IsOneNumber, IsRefusedFor, IsStoreFault, NotesNoSchema, NotesSchema, OpenFault, Memory, NotOurs, OldSchema, Store}
 
 -- the text asks meta of a schema, where it stands in its tree
 abbrev pub AsksMeta : Schema → Type 0

@@ -1,8 +1,5 @@
 -- An empty store is laid out, any other recognised.
-use Rattle.std.proofs.Common.{◌≡◌, ◌⊎◌, inl, inr, ℕ, Ok, Err, Result, OnOk, OnErr, IsTrue, sym, subst, ◌∙◌, arith}
-use Rattle.pawn_opening.specs.Common.{IfErr, HasCleanDisk, State, Survives, Trees, Host, StandForOne, StandsFor}
-use Rattle.sqlite.proofs.StateLemmas.{survives_then, survives_weaker}
-use Rattle.pawn_opening.specs.Stores.{GainsIndexes, HoldGained, AreMadeOf, IndexesStore, IsAsBefore, IsIndexed, IsOpenable, LaysOut, OpensAs, Prepares, Recognises, IsEmptyStore, IsRefusedFor, IsStoreFault, OpenFault, Memory, NotOurs, OldSchema, Store}
+use Rattle.pawn_opening.proofs.Basics.{◌≡◌, ◌⊎◌, inl, inr, ℕ, Ok, Err, Result, OnOk, OnErr, IsTrue, sym, subst, ◌∙◌, arith, IfErr, HasCleanDisk, State, Survives, Trees, Host, StandForOne, StandsFor, survives_then, survives_weaker, GainsIndexes, HoldGained, AreMadeOf, IndexesStore, IsAsBefore, IsIndexed, IsOpenable, LaysOut, OpensAs, Prepares, Recognises, IsEmptyStore, IsRefusedFor, IsStoreFault, OpenFault, Memory, NotOurs, OldSchema, Store}
 use Rattle.pawn_opening.proofs.Begun.{opens_as}
 use Rattle.pawn_opening.proofs.Gained.{gains_stands}
 use Rattle.pawn_opening.proofs.Ours.{not_empty, only_faults}

@@ -1,7 +1,5 @@
 -- What the answer of a store makes of it.
-use Rattle.std.proofs.Common.{◌≡◌, inl, inr, ℕ, false, List, [], Option, Some, None, Ok, Err, Result, OnOk, IsTrue, sym, subst}
-use Rattle.pawn_opening.specs.Common.{IfErr, IfOk, IfSome, CompileError, Row, CommitsShowing, FailsToQuery, HasCleanDisk, Shown, State, Survives, Error, SqlInputError, READ_SCHEMA}
-use Rattle.pawn_opening.specs.Stores.{Recognises, TellsSchema, IsEmptyStore, IsJudged, IsNoted, IsNumberRead, IsRefusedFor, IsStoreFault, IsStrangeNumber, NotesSchema, OpenFault, Memory, NotOurs, OldSchema, Store}
+use Rattle.pawn_opening.proofs.Basics.{◌≡◌, inl, inr, ℕ, false, List, [], Option, Some, None, Ok, Err, Result, OnOk, IsTrue, sym, subst, IfErr, IfOk, IfSome, CompileError, Row, CommitsShowing, FailsToQuery, HasCleanDisk, Shown, State, Survives, Error, SqlInputError, READ_SCHEMA, Recognises, TellsSchema, IsEmptyStore, IsJudged, IsNoted, IsNumberRead, IsRefusedFor, IsStoreFault, IsStrangeNumber, NotesSchema, OpenFault, Memory, NotOurs, OldSchema, Store}
 use Rattle.pawn_opening.proofs.Recognition.{answered, asks_alone, left_as_before, unanswered, unchanged}
 
 -- ---- what is noted of the schema

@@ -1,13 +1,10 @@
 -- A store is asked for the number of its schema.
-use Rattle.std.proofs.Common.{◌≡◌, inl, inr, ℕ, List, [], Option, Some, None, Ok, IsSome, IsTrue, refl, sym, subst, ◌∙◌}
-use Rattle.pawn_opening.specs.Common.{first, Compiled, CompileError, everything, StoreError, Rows, Select, Database, Reads, RefusesToRead, understood, Row, CommitsShowing, Fails, FailsToQuery, FailsToShow, IsNoStatement, IsNotRun, IsRolledBack, IsUnchanged, Shown, ShowsRows, State, Survives, store_error, Trees, Error, SqlInputError, READ_SCHEMA}
+use Rattle.pawn_opening.proofs.Basics.{◌≡◌, inl, inr, ℕ, List, [], Option, Some, None, Ok, IsSome, IsTrue, refl, sym, subst, ◌∙◌, first, Compiled, CompileError, everything, StoreError, Rows, Select, Database, Reads, RefusesToRead, understood, Row, CommitsShowing, Fails, FailsToQuery, FailsToShow, IsNoStatement, IsNotRun, IsRolledBack, IsUnchanged, Shown, ShowsRows, State, Survives, store_error, Trees, Error, SqlInputError, READ_SCHEMA, survives_weaker, IsAsBefore, AnswersOpening, HasNoAnswer}
 use Rattle.sqlite.specs.Clock.{timed}
 use Rattle.sqlite.specs.Command.{Command}
-use Rattle.sqlite.proofs.StateLemmas.{survives_weaker}
 use Rattle.sqlite_schema.specs.declared.command.Returning.{Returning}
 use Rattle.sqlite_trees.specs.declared.error.StoreError.TheVariants.{OutOfMemory, Io, Corrupt, Full, Broken, Unstorable}
 use Rattle.one_table.proofs.Queries.{IsQuery, OnlyReads, only_reads}
-use Rattle.pawn_opening.specs.Stores.{IsAsBefore, AnswersOpening, HasNoAnswer}
 
 asks : IsQuery (first READ_SCHEMA.now)
 unfolding everything

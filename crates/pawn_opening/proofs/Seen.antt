@@ -1,7 +1,6 @@
 -- Files to which nothing was done yet.
-use Rattle.std.proofs.Common.{◌≡◌, ℕ, Bool, List, [], ◌∷◌, true, false, cond, ap₂}
+use Rattle.pawn_opening.proofs.Basics.{◌≡◌, ℕ, Bool, List, [], ◌∷◌, true, false, cond, ap₂, Image}
 use Rattle.sqlite_disk.specs.Events.{Event, replay, settled}
-use Rattle.sqlite_wal.specs.Recovery.{Image}
 
 abbrev pub image : List ℕ → List ℕ → Image
 image log db = record { log = log; db = db }

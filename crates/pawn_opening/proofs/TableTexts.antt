@@ -1,9 +1,5 @@
 -- What the texts of the tables mean.
-use Rattle.std.proofs.Common.{◌≡◌, List, ℕ, Ok, refl, false}
-use Rattle.pawn_opening.specs.Common.{everything, created, CreateTable, table_defined_by, lacks_sequence, understood, Schema, Table, no_schema, bookings, books, entries, extensions, meta, pledges, secrets, terms, totals}
-use Rattle.sqlite.proofs.Callers.{IsPlain, command_of, statement_of}
-use Rattle.pawn_opening.specs.Laying.{first_three, first_six}
-pub use Rattle.pawn_tables.specs.declared.texts.TheConstants.{MAKE_BOOKINGS, MAKE_BOOKS, MAKE_ENTRIES, MAKE_EXTENSIONS, MAKE_META, MAKE_PLEDGES, MAKE_SECRETS, MAKE_TERMS, MAKE_TOTALS}
+use Rattle.pawn_opening.proofs.Basics.{◌≡◌, List, ℕ, Ok, refl, false, everything, created, CreateTable, table_defined_by, lacks_sequence, understood, Schema, Table, no_schema, bookings, books, entries, extensions, meta, pledges, secrets, terms, totals, IsPlain, command_of, statement_of, first_three, first_six, MAKE_BOOKINGS, MAKE_BOOKS, MAKE_ENTRIES, MAKE_EXTENSIONS, MAKE_META, MAKE_PLEDGES, MAKE_SECRETS, MAKE_TERMS, MAKE_TOTALS}
 
 -- under this schema, the text makes this table and nothing else
 pub record IsCreation (schema : Schema) (text : List ℕ) (table : Table) : Type 0 where

@@ -1,5 +1,4 @@
 -- The words of the crates below with which stores are spoken of, gathered in one place.
-pub use Rattle.std.specs.Prelude.{IfErr, IfOk, if◌then◌else◌}
 pub use Rattle.sqlite_catalog.specs.Change.{KeepsRows}
 pub use Rattle.sqlite_disk.specs.Disk.{MoreFaults}
 pub use Rattle.sqlite_disk.specs.declared.Disk.{Ghosts}
@@ -14,7 +13,7 @@ pub use Rattle.sqlite_trees.specs.View.{IsClean, IsQuiet, doubt}
 pub use Rattle.sqlite_trees.specs.declared.error.StoreError.{StoreError}
 pub use Rattle.sqlite_wal.specs.Files.{image_at, outcomes}
 pub use Rattle.sqlite_wal.specs.Recovery.{Image}
-pub use Rattle.sqlite.specs.Change.{created, indexed, next_tree}
+pub use Rattle.sqlite.specs.Change.{created, next_tree}
 pub use Rattle.sqlite.specs.Command.TheVariants.{CreateTable, Rows}
 pub use Rattle.sqlite.specs.Compile.{table_defined_by}
 unfoldable pub use Rattle.sqlite.specs.Compile.{index_defined_by}
@@ -33,7 +32,7 @@ pub use Rattle.one_table.specs.Columns.{no_schema}
 pub use Rattle.one_table.specs.Common.{CompileError, Compiled, Database, Does, Fails, FailsToShow, IsDatabase, IsRolledBack, Select, Shows, ShowsRows, Survives, Tally, Writes, if_select, is_select, listing_schema, mode_of, reads_listing}
 unfoldable pub use Rattle.one_table.specs.Common.{FailsToQuery, IsNotRun, Shown}
 pub use Rattle.one_table.specs.Listing.{IsNumbered, with_rows}
-pub use Rattle.pawn_tables.specs.Common.{AllByRecursion, Executes, HasCleanDisk, Held, Holds, Host, IfSome, Index, Int, IsLent, Lends, Listed, Lists, Null, Row, Schema, State, Table, Term, Text, Trees, col, column, columns_of, is_ok, is_some, list_all, lit, op2, rows, state}
+pub use Rattle.pawn_tables.specs.Common.{AllByRecursion, Executes, HasCleanDisk, Held, Holds, Host, Index, Int, IsLent, Lends, Listed, Lists, Null, Row, Schema, State, Table, Term, Text, Trees, col, column, columns_of, list_all, lit, op2, rows, state}
 unfoldable pub use Rattle.pawn_tables.specs.Common.{understood, value_cmp}
 pub use Rattle.pawn_tables.specs.Meta.{notes}
 pub use Rattle.pawn_tables.specs.OneHost.{StandForOne}

@@ -1,8 +1,6 @@
 -- A brief of a pledge that can stand is within its limits.
-use Rattle.std.proofs.Common.{◌≤◌, Option, Some, None, arith}
-use Rattle.pawn_pledge.specs.Common.{IfSome, last_stamp_day}
+use Rattle.pawn_pledge.proofs.Basics.{◌≤◌, Option, Some, None, arith, IfSome, last_stamp_day, Booking, BriefIsWithin, Closing, IsBooked, IsClosed, PledgeValue, debt_of}
 use Rattle.pawn_debt.proofs.Bounds.{accepted-bounded}
-use Rattle.pawn_pledge.specs.Pledges.{Booking, BriefIsWithin, Closing, IsBooked, IsClosed, PledgeValue, debt_of}
 use Rattle.pawn_pledge.specs.Brief.{IsBookingWithin, IsClosingWithin}
 
 booked-within : (p : PledgeValue) (o : Option Booking) → IsBooked p o → IfSome o (λ (b : Booking). b.day ≤ last_stamp_day) → IfSome o IsBookingWithin

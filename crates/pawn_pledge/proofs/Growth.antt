@@ -1,8 +1,5 @@
 -- The lists of a pledge grow at their ends.
-use Rattle.std.proofs.Common.{◌≡◌, ℕ, ◌+◌, ◌<◌, ◌==◌, false, List, [], ◌∷◌, ◌++◌, length, refl, sym, ap, ◌∙◌, inl, inr, append_assoc}
-use Rattle.pawn_pledge.specs.Common.{Entry, list_any}
-use Rattle.std.proofs.lemmas.List.{append-nil}
-use Rattle.pawn_pledge.specs.Pledges.{Answered, Changed, Command, Extension, Grows, Issued, Judged, ListsGrow, PledgeValue, Refused, Stamp, StaysOrGrows, end_of, issue_of, new_entry, pledge_after, pledge_step}
+use Rattle.pawn_pledge.proofs.Basics.{◌≡◌, ℕ, ◌+◌, ◌<◌, ◌==◌, false, List, [], ◌∷◌, ◌++◌, length, refl, sym, ap, ◌∙◌, inl, inr, append_assoc, Entry, list_any, append-nil, Answered, Changed, Command, Extension, Grows, Issued, Judged, ListsGrow, PledgeValue, Refused, Stamp, StaysOrGrows, end_of, issue_of, new_entry, pledge_after, pledge_step}
 use Rattle.pawn_pledge.proofs.Moves.{Move, pledge_moves, Entering, Declaring, Extending, Settling}
 
 -- each list stays, or grows at its end by one

@@ -1,7 +1,5 @@
 -- What the fields of a pledge keep, after an extension.
-use Rattle.std.proofs.Common.{◌≡◌, ℕ, ◌<◌, ◌≤◌, List, [], ◌∷◌, ◌++◌, None, sym, ap, subst, ◌∙◌, arith}
-use Rattle.pawn_pledge.specs.Common.{DebtValue, Entry}
-use Rattle.pawn_pledge.specs.Pledges.{Extension, PledgeValue, debt_of, end_of, end_with, with_extension, with_last}
+use Rattle.pawn_pledge.proofs.Basics.{◌≡◌, ℕ, ◌<◌, ◌≤◌, List, [], ◌∷◌, ◌++◌, None, sym, ap, subst, ◌∙◌, arith, DebtValue, Entry, Extension, PledgeValue, debt_of, end_of, end_with, with_extension, with_last}
 use Rattle.pawn_pledge.specs.Kept.{IsPledgeKept}
 use Rattle.pawn_pledge.proofs.Pushes.{later_of-push}
 

@@ -1,3 +1,4 @@
+pub mod Basics
 pub mod Settled
 pub mod Moves
 pub mod Pushes
@@ -12,4 +13,3 @@ pub mod Keeping
 pub mod Stands
 pub mod NumberLemmas
 pub mod TextLemmas
-pub mod Lemmas

@@ -1,8 +1,5 @@
 -- Each step that changes a pledge is one of a few moves.
-use Rattle.std.proofs.Common.{◌≡◌, ℕ, ◌<◌, ◌≤◌, ◌==◌, nat_lt, Bool, true, false, not, if◌then◌else◌, List, [], ◌∷◌, ◌++◌, length, Option, Some, None, Result, Ok, Err, refl, sym, ap, subst, ◌∙◌, arith}
-use Rattle.pawn_pledge.proofs.Lemmas.{first_of-ok, nat_tests, not_below, not_most, sort_answer-ok, true≢false}
-use Rattle.pawn_pledge.specs.Common.{DebtFault, DebtValue, Draw, Entry, NoneApplies, Repay, Sort, draw_answer, first_of, last_of, last_stamp_day, most_entries, most_pence, repay_answer, sort_answer, with_entry}
-use Rattle.pawn_pledge.specs.Pledges.{Answered, Booking, BookingState, Changed, Closing, Command, Done, IsCommand, IsDrawnBy, IsNotPassed, Judged, Paper, PledgeValue, Refusal, Stamp, Standing, ask_bars, ask_once, ask_step, bars, cancel_in, cancel_step, confirm_in, debt_of, decide_step, declare_bars, declare_step, decline_in, end_of, entry_step, extend_bars, extend_step, hold_step, in_state, is_ahead, is_open, is_realisable, is_repeat, is_standing, issue_of, last_window, makes_booking, most_extensions, new_entry, numbered_step, open_status, past, period_bars, pledge_step, redeem_bars, redeem_step, same_flag, sell_bars, sell_step, stands_for, total_on, under_debt, unless, with_booking, with_extension, with_last, with_secret, with_standing}
+use Rattle.pawn_pledge.proofs.Basics.{◌≡◌, ℕ, ◌<◌, ◌≤◌, ◌==◌, nat_lt, Bool, true, false, not, if◌then◌else◌, List, [], ◌∷◌, ◌++◌, length, Option, Some, None, Result, Ok, Err, refl, sym, ap, subst, ◌∙◌, arith, first_of-ok, nat_tests, not_below, not_most, sort_answer-ok, true≢false, DebtFault, DebtValue, Draw, Entry, NoneApplies, Repay, Sort, draw_answer, first_of, last_of, last_stamp_day, most_entries, most_pence, repay_answer, sort_answer, with_entry, Answered, Booking, BookingState, Changed, Closing, Command, Done, IsCommand, IsDrawnBy, IsNotPassed, Judged, Paper, PledgeValue, Refusal, Stamp, Standing, ask_bars, ask_once, ask_step, bars, cancel_in, cancel_step, confirm_in, debt_of, decide_step, declare_bars, declare_step, decline_in, end_of, entry_step, extend_bars, extend_step, hold_step, in_state, is_ahead, is_open, is_realisable, is_repeat, is_standing, issue_of, last_window, makes_booking, most_extensions, new_entry, numbered_step, open_status, past, period_bars, pledge_step, redeem_bars, redeem_step, same_flag, sell_bars, sell_step, stands_for, total_on, under_debt, unless, with_booking, with_extension, with_last, with_secret, with_standing}
 use Rattle.pawn_pledge.specs.declared.record.Status.{Status}
 use Rattle.pawn_pledge.specs.declared.command.Decision.{Decision}
 use Rattle.pawn_pledge.specs.declared.command.Decision.TheVariants.{Confirm, Refuse}

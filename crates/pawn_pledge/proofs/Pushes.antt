@@ -1,8 +1,5 @@
 -- One more element at the end of a list of a record.
-use Rattle.std.proofs.Common.{◌≡◌, ℕ, ◌+◌, ◌<◌, ◌≤◌, ◌==◌, false, List, [], ◌∷◌, ◌++◌, drop, take, get_or, ◌-◌, length, Option, Some, None, suc, refl, sym, ap, subst, ◌∙◌, arith, slice_get, length-append}
-use Rattle.pawn_pledge.specs.Common.{Entry, last_by, later_of, list_any}
-use Rattle.pawn_pledge.proofs.Lemmas.{Each-push, drop_more, list_any-append, nat_tests, or_from, or_parts, take_rest}
-use Rattle.pawn_pledge.specs.Pledges.{AreDistinctSecrets, AreExtended, AreIssued, AreNumbered, Extension, IsLaterIssue, Issued, last_element, last_until}
+use Rattle.pawn_pledge.proofs.Basics.{◌≡◌, ℕ, ◌+◌, ◌<◌, ◌≤◌, ◌==◌, false, List, [], ◌∷◌, ◌++◌, drop, take, get_or, ◌-◌, length, Option, Some, None, suc, refl, sym, ap, subst, ◌∙◌, arith, slice_get, length-append, Entry, last_by, later_of, list_any, Each-push, drop_more, list_any-append, nat_tests, or_from, or_parts, take_rest, AreDistinctSecrets, AreExtended, AreIssued, AreNumbered, Extension, IsLaterIssue, Issued, last_element, last_until}
 
 last-push : {A : Type 0} (xs : List A) (x : A) → slice_get (xs ++ x ∷ []) (length xs) ≡ Some x
 last-push [] x = refl

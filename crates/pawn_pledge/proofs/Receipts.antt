@@ -1,8 +1,5 @@
 -- Which secret of a pledge is live.
-use Rattle.std.proofs.Common.{◌≡◌, None, ℕ, ◌==◌, ◌||◌, Bool, true, false, List, [], ◌∷◌, ◌++◌, Option, Some, option_map, refl, sym, ap, subst, ◌∙◌}
-use Rattle.std.specs.List.{list_any}
-use Rattle.pawn_pledge.proofs.Lemmas.{list_any-append, true≢false}
-use Rattle.pawn_pledge.specs.Pledges.{Answered, Changed, Closing, Command, Done, EarlierAreSpent, IsSpent, Issued, Judged, NeverLiveAgain, Paper, PledgeValue, Refused, Stamp, bars, close, declare_bars, declare_step, is_open, issue_of, last_secret, live_of, live_under, pledge_after, pledge_step, redeem_bars, redeem_step, unless, with_secret}
+use Rattle.pawn_pledge.proofs.Basics.{◌≡◌, None, ℕ, ◌==◌, ◌||◌, Bool, true, false, List, [], ◌∷◌, ◌++◌, Option, Some, option_map, refl, sym, ap, subst, ◌∙◌, list_any, list_any-append, true≢false, Answered, Changed, Closing, Command, Done, EarlierAreSpent, IsSpent, Issued, Judged, NeverLiveAgain, Paper, PledgeValue, Refused, Stamp, bars, close, declare_bars, declare_step, is_open, issue_of, last_secret, live_of, live_under, pledge_after, pledge_step, redeem_bars, redeem_step, unless, with_secret}
 use Rattle.pawn_pledge.proofs.Moves.{Move, changed-is, gate-is, unless-changed, pledge_moves, Entering, Declaring, Extending, Settling}
 use Rattle.pawn_pledge.proofs.Settled.{IsGated}
 use Rattle.pawn_pledge.proofs.Pushes.{last_element-push}

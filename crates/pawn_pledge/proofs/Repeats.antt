@@ -1,8 +1,5 @@
 -- What stands is answered again.
-use Rattle.std.proofs.Common.{◌≡◌, ◌≢◌, ℕ, ◌+◌, ◌≤◌, List, [], ◌∷◌, ◌++◌, length, Some, None, Ok, Err, refl, ◌∙◌, ap, sym, arith, ◌==◌, nat_lt, not, true, false, Bool, Option, Result, if◌then◌else◌, ◌&&◌}
-use Rattle.pawn_pledge.specs.Common.{DebtFault, DebtValue, Draw, Entry, NoneApplies, Repay, Sort, draw_answer, find, repay_answer, sort_answer}
-use Rattle.pawn_pledge.proofs.Lemmas.{first_of-past, nat_tests, sort_answer-ok}
-use Rattle.pawn_pledge.specs.Pledges.{Answered, AreNumbered, Changed, Command, Done, EntriesActOnce, ExtensionsActOnce, Grows, Judged, PledgeValue, Refusal, Stamp, StandingEndIsAnswered, bars, debt_of, end_of, entry_command, entry_of, entry_step, extend_bars, is_ahead, is_repeat, new_entry, numbered_step, past, period_bars, pledge_after_all, pledge_step, same_sort, under_debt, unless, with_extension, with_last}
+use Rattle.pawn_pledge.proofs.Basics.{◌≡◌, ◌≢◌, ℕ, ◌+◌, ◌≤◌, List, [], ◌∷◌, ◌++◌, length, Some, None, Ok, Err, refl, ◌∙◌, ap, sym, arith, ◌==◌, nat_lt, not, true, false, Bool, Option, Result, if◌then◌else◌, ◌&&◌, DebtFault, DebtValue, Draw, Entry, NoneApplies, Repay, Sort, draw_answer, find, repay_answer, sort_answer, first_of-past, nat_tests, sort_answer-ok, Answered, AreNumbered, Changed, Command, Done, EntriesActOnce, ExtensionsActOnce, Grows, Judged, PledgeValue, Refusal, Stamp, StandingEndIsAnswered, bars, debt_of, end_of, entry_command, entry_of, entry_step, extend_bars, is_ahead, is_repeat, new_entry, numbered_step, past, period_bars, pledge_after_all, pledge_step, same_sort, under_debt, unless, with_extension, with_last}
 use Rattle.pawn_pledge.proofs.Moves.{unless-changed, if-unanswered}
 use Rattle.pawn_pledge.proofs.Growth.{lists_grow}
 

@@ -1,8 +1,5 @@
 -- A step keeps a pledge one that can have come about.
-use Rattle.std.proofs.Common.{◌≡◌, ℕ, ◌+◌, ◌<◌, ◌≤◌, ◌==◌, nat_le, Bool, true, false, not, ◌&&◌, if◌then◌else◌, [], ◌∷◌, ◌++◌, length, Option, Some, None, Ok, refl, sym, ap, subst, ◌∙◌, arith, length-append}
-use Rattle.pawn_pledge.proofs.Lemmas.{AreAccepted-ended, AreAccepted-push, AreInside-ordered, DoNotFall-each, DoNotFall-push, Each-all, Each-map, Each-push, grown, last_by-push, nat_tests, not_most, true≢false, unequal}
-use Rattle.pawn_pledge.specs.Common.{Draw, Entry, IsEntryAccepted, NoneApplies, Repay, Sort, credit_of, last_of, last_stamp_day, later_of, period_end, six_months, sort_answer, with_entry}
-use Rattle.pawn_pledge.specs.Pledges.{Booking, Closing, Command, Extension, IsBooked, IsClosed, IsCommand, IsDrawnBy, IsLaterIssue, IsNotPassed, IsOverUnder, IsReplayable, IsWithinLimits, Issued, Paper, PledgeValue, Standing, debt_of, declare_bars, end_of, end_with, grace_days, is_passed, is_small, is_written, issue_of, last_until, most_secrets, new_entry, small_credit, with_extension, with_last, with_secret, with_standing}
+use Rattle.pawn_pledge.proofs.Basics.{◌≡◌, ℕ, ◌+◌, ◌<◌, ◌≤◌, ◌==◌, nat_le, Bool, true, false, not, ◌&&◌, if◌then◌else◌, [], ◌∷◌, ◌++◌, length, Option, Some, None, Ok, refl, sym, ap, subst, ◌∙◌, arith, length-append, AreAccepted-ended, AreAccepted-push, AreInside-ordered, DoNotFall-each, DoNotFall-push, Each-all, Each-map, Each-push, grown, last_by-push, nat_tests, not_most, true≢false, unequal, Draw, Entry, IsEntryAccepted, NoneApplies, Repay, Sort, credit_of, last_of, last_stamp_day, later_of, period_end, six_months, sort_answer, with_entry, Booking, Closing, Command, Extension, IsBooked, IsClosed, IsCommand, IsDrawnBy, IsLaterIssue, IsNotPassed, IsOverUnder, IsReplayable, IsWithinLimits, Issued, Paper, PledgeValue, Standing, debt_of, declare_bars, end_of, end_with, grace_days, is_passed, is_small, is_written, issue_of, last_until, most_secrets, new_entry, small_credit, with_extension, with_last, with_secret, with_standing}
 use Rattle.pawn_pledge.specs.declared.record.Status.TheVariants as Status
 use Rattle.pawn_pledge.proofs.Moves.{Move, Entering, Declaring, Extending, Settling}
 use Rattle.pawn_pledge.proofs.Settled.{IsGated, still-open}

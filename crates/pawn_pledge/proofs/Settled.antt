@@ -1,8 +1,5 @@
 -- How a pledge stands changes alone: what of it every such change keeps.
-use Rattle.std.proofs.Common.{◌≡◌, ℕ, ◌≤◌, Bool, true, false, Option, Some, None, refl, sym, ap, subst, ◌∙◌, arith, IfSome}
-use Rattle.std.proofs.lemmas.Bool.{true≢false, false≢true}
-use Rattle.pawn_terms.specs.Limits.{last_stamp_day}
-use Rattle.pawn_pledge.specs.Pledges.{Booking, BookingState, Closing, Command, IsBooked, IsBookingOver, IsClosed, IsCommand, IsNotPassed, IsOverUnder, PledgeValue, Standing, after_closing, booking_after, close, in_state, last_window, same_flag, with_booking, with_closing, with_hold, with_standing}
+use Rattle.pawn_pledge.proofs.Basics.{◌≡◌, ℕ, ◌≤◌, Bool, true, false, Option, Some, None, refl, sym, ap, subst, ◌∙◌, arith, IfSome, true≢false, false≢true, last_stamp_day, Booking, BookingState, Closing, Command, IsBooked, IsBookingOver, IsClosed, IsCommand, IsNotPassed, IsOverUnder, PledgeValue, Standing, after_closing, booking_after, close, in_state, last_window, same_flag, with_booking, with_closing, with_hold, with_standing}
 
 -- nothing bars a command
 pub record IsGated (p : PledgeValue) (x : ℕ) : Type 0 where

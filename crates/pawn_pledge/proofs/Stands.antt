@@ -1,8 +1,5 @@
 -- What the tests on parts find makes a record that can stand.
-use Rattle.std.proofs.Common.{◌≡◌, ℕ, ◌+◌, ◌≤◌, ◌==◌, nat_le, Bool, true, false, ◌&&◌, if◌then◌else◌, List, [], ◌∷◌, ◌++◌, length, None, refl, sym, ◌∙◌, arith, length-append}
-use Rattle.pawn_pledge.proofs.Lemmas.{DoNotFall-each, Each-map, false≢true, nat_tests}
-use Rattle.pawn_pledge.specs.Pledges.{AreExtended, AreIssuedIn, AreNumbered, IsBooked, IsClosed, IsDrawnBy, IsLimited, IsNotPassed, IsStanding, IsTyped, Issued, PledgeValue, debt_of, end_of, end_with, grace_days, is_passed, is_small}
-use Rattle.pawn_pledge.specs.Common.{AreEntriesAccepted, DebtValue, Each, Entry, IsChecked, IsDebtKept, Totals, credit_of, last_by, last_of, six_months}
+use Rattle.pawn_pledge.proofs.Basics.{◌≡◌, ℕ, ◌+◌, ◌≤◌, ◌==◌, nat_le, Bool, true, false, ◌&&◌, if◌then◌else◌, List, [], ◌∷◌, ◌++◌, length, None, refl, sym, ◌∙◌, arith, length-append, DoNotFall-each, Each-map, false≢true, nat_tests, AreExtended, AreIssuedIn, AreNumbered, IsBooked, IsClosed, IsDrawnBy, IsLimited, IsNotPassed, IsStanding, IsTyped, Issued, PledgeValue, debt_of, end_of, end_with, grace_days, is_passed, is_small, AreEntriesAccepted, DebtValue, Each, Entry, IsChecked, IsDebtKept, Totals, credit_of, last_by, last_of, six_months}
 use Rattle.pawn_pledge.specs.declared.record.Status.TheVariants as Status
 
 -- what is not passed on a day was not passed before

@@ -1,11 +1,8 @@
 -- A pledge as it is taken is one that can have come about.
-use Rattle.std.proofs.Common.{◌≡◌, ℕ, ◌≤◌, ◌==◌, nat_lt, nat_le, true, false, [], ◌∷◌, None, Result, Ok, Err, refl, subst, arith}
-use Rattle.pawn_pledge.specs.Common.{BadAmount, IfOk, credit_of, is_bad_amount, most_pence}
-use Rattle.pawn_pledge.proofs.Lemmas.{first_of-ok, nat_tests, not_below, or_parts}
+use Rattle.pawn_pledge.proofs.Basics.{◌≡◌, ℕ, ◌≤◌, ◌==◌, nat_lt, nat_le, true, false, [], ◌∷◌, None, Result, Ok, Err, refl, subst, arith, BadAmount, IfOk, credit_of, is_bad_amount, most_pence, first_of-ok, nat_tests, not_below, or_parts, IsNotPassed, IsStanding, IsStarted, PledgeValue, Refusal, StartsStanding, end_of}
 use Rattle.pawn_terms.proofs.SixMonths.{six_months-later}
 use Rattle.pawn_pledge.specs.declared.record.Issue.TheVariants as Issue
 use Rattle.pawn_pledge.specs.declared.record.Closing.TheVariants as Closing
-use Rattle.pawn_pledge.specs.Pledges.{IsNotPassed, IsStanding, IsStarted, PledgeValue, Refusal, StartsStanding, end_of}
 use Rattle.pawn_pledge.proofs.Replays.{period_end-late}
 
 inside-not_passed : (p : PledgeValue) (x : ℕ) → x ≤ end_of p → IsNotPassed p x

@@ -1,8 +1,6 @@
 -- What each step that changes a pledge keeps, by its move.
-use Rattle.std.proofs.Common.{◌≡◌, ap, sym, subst}
-use Rattle.pawn_terms.specs.Terms.{IsChecked}
+use Rattle.pawn_pledge.proofs.Basics.{◌≡◌, ap, sym, subst, IsChecked, AgreementStays, Changed, ChangesDiffer, Command, Done, PledgeValue, Stamp, StaysReplayable, StaysStanding, StaysWithin, pledge_step}
 use Rattle.pawn_pledge.specs.declared.record.Agreement.{Agreement}
-use Rattle.pawn_pledge.specs.Pledges.{AgreementStays, Changed, ChangesDiffer, Command, Done, PledgeValue, Stamp, StaysReplayable, StaysStanding, StaysWithin, pledge_step}
 use Rattle.pawn_pledge.proofs.Moves.{Move, pledge_moves, Entering, Declaring, Extending, Settling}
 use Rattle.pawn_pledge.proofs.Replays.{stays-moved, within-moved, differs-moved}
 use Rattle.pawn_pledge.proofs.Growth.{ListsMoved, lists-moved}

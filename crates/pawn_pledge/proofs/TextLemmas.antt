@@ -1,12 +1,9 @@
 -- The texts of secrets and receipts are read back.
-use Rattle.std.proofs.Common.{◌≡◌, ℕ, ◌+◌, ◌^◌, ◌<◌, ◌==◌, ◌%◌, true, false, List, [], ◌∷◌, ◌++◌, length, get_or, take, drop, Option, Some, None, option_map, zero, suc, nat_lt, inl, refl, sym, ap, ◌∙◌, arith, length-append, decimal}
-use Rattle.pawn_pledge.specs.Common.{byte_at, bytes_high_first, from_be_bytes, hyphenated_text, lower, parsed, position, position_or_len, to_be_bytes, w128}
-use Rattle.pawn_pledge.proofs.Lemmas.{append_assoc, decimal_by_steps, decimal_is_IsNumeral, drop_at, drop_more, nat_tests, take-append-drop, take_at}
+use Rattle.pawn_pledge.proofs.Basics.{◌≡◌, ℕ, ◌+◌, ◌^◌, ◌<◌, ◌==◌, ◌%◌, true, false, List, [], ◌∷◌, ◌++◌, length, get_or, take, drop, Option, Some, None, option_map, zero, suc, nat_lt, inl, refl, sym, ap, ◌∙◌, arith, length-append, decimal, byte_at, bytes_high_first, from_be_bytes, hyphenated_text, lower, parsed, position, position_or_len, to_be_bytes, w128, append_assoc, decimal_by_steps, decimal_is_IsNumeral, drop_at, drop_more, nat_tests, take-append-drop, take_at, secret_text, secret_of_text}
 use Rattle.std.proofs.lemmas.List.Quantifiers.{position-Some}
 use Rattle.std.specs.Str.Parse.{digits_value}
 use Rattle.uuid.proofs.RoundTrips.{parses_hyphenated}
 use Rattle.pawn_pledge.specs.declared.receipt.Receipt.{Receipt}
-use Rattle.pawn_pledge.specs.Secret.{secret_text, secret_of_text}
 use Rattle.uuid.proofs.OrderLemmas.{from_be_bytes-to_be_bytes_16}
 use Rattle.pawn_pledge.specs.Laws.{SecretTextsReadBack, ReceiptTextsReadBack, ReceiptTextsAreOne}
 

@@ -1,7 +1,7 @@
 -- The words of the crates below that many files of this crate use, gathered in one place.
 pub use Rattle.std.specs.Int.{byte_at, bytes_high_first, from_be_bytes, to_be_bytes, w128}
 pub use Rattle.std.specs.List.{list_any, position, position_or_len, repeat}
-pub use Rattle.std.specs.Prelude.{Bool, IfOk, IfSome, List, None, Option, Some, codes, false, find, option_map, true, ℕ}
+pub use Rattle.std.specs.Prelude.{Bool, List, None, Option, Some, codes, false, option_map, true, ℕ}
 pub use Rattle.uuid.specs.Text.{hyphenated_text, lower, parsed}
 unfoldable pub use Rattle.uuid.specs.Text.{by_index}
 pub use Rattle.pawn_base.specs.Lists.{DoNotFall, Each, last_by}

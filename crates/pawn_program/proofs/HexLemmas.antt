@@ -1,9 +1,6 @@
 -- The bytes that hexadecimal digits write.
-use Rattle.std.proofs.Common.{◌≡◌, ℕ, suc, ◌+◌, ◌*◌, ◌<◌, List, [], ◌∷◌, ◌++◌, length, take, drop, get_or, Option, Some, None, option_map, refl, sym, ap, ◌∙◌, arith, drop-cons, append_assoc}
-use Rattle.std.specs.Prelude.{option_and_then, slice_set}
-use Rattle.std.proofs.lemmas.Grind.{take-set_at}
-use Rattle.std.proofs.lemmas.List.{drop_all, take_all}
-use Rattle.pawn_program.specs.Settings.{hex_byte, hex_bytes}
+use Rattle.pawn_program.proofs.Basics.{◌≡◌, ℕ, suc, ◌+◌, ◌*◌, ◌<◌, List, [], ◌∷◌, ◌++◌, length, take, drop, get_or, Option, Some, None, option_map, refl, sym, ap, ◌∙◌, arith, drop-cons, append_assoc, option_and_then, slice_set, take-set_at, take_all, hex_byte, hex_bytes}
+use Rattle.std.proofs.lemmas.List.{drop_all}
 
 -- these bytes and then those
 abbrev pub after_bytes : List ℕ → Option (List ℕ) → Option (List ℕ)

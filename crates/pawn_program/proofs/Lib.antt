@@ -1,3 +1,4 @@
+pub mod Basics
 mod HexLemmas
 pub mod ServingLemmas
 mod StampLemmas

@@ -1,12 +1,7 @@
 -- One connection more.
-use Rattle.std.proofs.Common.{◌≡◌, ℕ, ◌+◌, ◌≤◌, List, [], ◌∷◌, ◌++◌, length, map, refl, arith, Option, Some, None, Result, Ok, Err, sym, ◌∙◌, ap, subst, append-nil, append_assoc, length-append}
-use Rattle.std.specs.Prelude.{All}
-use Rattle.std.specs.Iterator.{Yields}
+use Rattle.pawn_program.proofs.Basics.{◌≡◌, ℕ, ◌+◌, ◌≤◌, List, [], ◌∷◌, ◌++◌, length, map, refl, arith, Option, Some, None, Result, Ok, Err, sym, ◌∙◌, ap, subst, append-nil, append_assoc, length-append, All, Yields, Stamp, Start, Kept, GoesTo, GoesBy, host_by, start_after, goes-append, goes_from, GivesInOrder, stamps_among, items_of, IsSession, AreServed}
 use Rattle.std.proofs.lemmas.List.Elements.{All-append, All-cons, All-nil}
-use Rattle.pawn_pledge.specs.declared.command.Stamp.{Stamp}
 use Rattle.pawn_book.specs.HostStep.{Host}
-use Rattle.pawn_host.specs.Keeps.{Start, Kept, GoesTo, GoesBy, host_by, start_after}
-use Rattle.pawn_host.proofs.CrashLemmas.{goes-append, goes_from}
 use Rattle.pawn_host.specs.Run.{Item, IsMarked, host_after_run}
 use Rattle.pawn_host.specs.Crashes.{IsLeftByRun}
 use Rattle.pawn_host.specs.Split.{most_requests}
@@ -17,7 +12,6 @@ use Rattle.pawn_host.specs.declared.session.SessionEnd.TheVariants.{End, Cut, Cl
 use Rattle.pawn_host.specs.declared.session.Ended.{Ended}
 use Rattle.pawn_host.specs.declared.session.IoFault.{IoFault}
 use Rattle.pawn_host.proofs.RunMore.{marked_all}
-use Rattle.pawn_program.specs.Serving.{GivesInOrder, stamps_among, items_of, IsSession, AreServed}
 
 -- ---- what an iterator gave
 

@@ -1,8 +1,6 @@
 -- The stamps that are taken one after the other.
-use Rattle.std.proofs.Common.{◌≡◌, ℕ, ◌+◌, List, [], ◌∷◌, length, refl, ap, ◌∙◌, arith}
-use Rattle.std.specs.Iterator.{Yields}
+use Rattle.pawn_program.proofs.Basics.{◌≡◌, ℕ, ◌+◌, List, [], ◌∷◌, length, refl, ap, ◌∙◌, arith, Yields, Stamp}
 use Rattle.rand_chacha.specs.ChaCha.{ChaCha}
-use Rattle.pawn_pledge.specs.declared.command.Stamp.{Stamp}
 use Rattle.pawn_program.specs.Word.{generator, word_of, after_word}
 use Rattle.pawn_program.specs.Stamps.{IsTaken, GivesStamp, stamps_drawn}
 use Rattle.pawn_program.specs.declared.stamps.Stamps.{Stamps}

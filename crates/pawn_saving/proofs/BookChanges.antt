@@ -1,8 +1,6 @@
 -- What becomes of the rows of a host where a book is made, and where it gets terms.
-use Rattle.std.proofs.Common.{◌≡◌, ◌≢◌, ◌++◌, ◌==◌, ℕ, suc, ◌+◌, List, [], ◌∷◌, map, filter, flat_map, length, length-append, Bool, true, false, cond, ◌&&◌, Some, None, refl, sym, ap, subst, ◌∙◌, arith, IsPermutation}
-use Rattle.pawn_saving.specs.Common.{if◌then◌else◌, entries, get, Database, Row, Rates, BookValue, changed_book, made_book, with_change, Host, book_rows, rows, with_book, AddTerms, MakeBook, NewBook, with_rows, at_book, ListsOurs, book_row, booking_listed, entries_listed, extensions_listed, number, placed_from, pledge_listed, secrets_listed, terms_cells, terms_listed, totals_listed, of_books}
-use Rattle.pawn_saving.proofs.Lemmas.{and_left, cond-false, cond-true, flat_map_single, get-with_book, nat_tests, nil_from_length, IsPermutation-map, IsPermutation-refl, IsPermutation-sym, IsPermutation-trans, length_permutation, IsPermutation-filter, IsPermutation-flat_map, part, rows-with_book, equals, of_one_book, rows_at}
-use Rattle.pawn_saving.specs.Saving.{IsWrittenPart, ListsHost, listed_as, IsOnly}
+use Rattle.pawn_saving.proofs.Basics.{◌≡◌, ◌≢◌, ◌++◌, ◌==◌, ℕ, suc, ◌+◌, List, [], ◌∷◌, map, filter, flat_map, length, length-append, true, false, ◌&&◌, Some, None, refl, sym, ap, subst, ◌∙◌, arith, IsPermutation, if◌then◌else◌, entries, get, Database, Row, Rates, BookValue, changed_book, made_book, with_change, Host, book_rows, rows, with_book, AddTerms, MakeBook, NewBook, with_rows, at_book, ListsOurs, book_row, booking_listed, entries_listed, extensions_listed, number, pledge_listed, secrets_listed, terms_cells, terms_listed, totals_listed, of_books, and_left, cond-false, cond-true, get-with_book, nat_tests, nil_from_length, IsPermutation-map, IsPermutation-refl, IsPermutation-sym, IsPermutation-trans, length_permutation, IsPermutation-filter, IsPermutation-flat_map, part, rows-with_book, equals, of_one_book, rows_at, IsWrittenPart, ListsHost, listed_as, IsOnly}
+use Rattle.std.proofs.lemmas.List.Concat.{flat_map_single}
 use Rattle.pawn_saving.proofs.Hosting.{AreSame, relisted}
 use Rattle.pawn_saving.proofs.Changing.{joined, more_joined, replaced}
 use Rattle.pawn_saving.proofs.RowsInOrder.{placed_parts}

@@ -1,10 +1,7 @@
 -- What the statements on the rows of books write.
-use Rattle.std.proofs.Common.{◌≡◌, ℕ, ℤ, List, [], ◌∷◌, length, Some, None, Ok, refl, sym, ap, subst, ◌∙◌}
-use Rattle.pawn_saving.proofs.Lemmas.{over_table, passes, shows_of, cast_int, cast_null, cast_whole, Sets}
-use Rattle.pawn_saving.specs.Common.{Index, cast, BlobKind, Row, column, Executes, State, Term, Blob, Int, Null, Text, Rates, PledgeValue, BookValue, filled_book, made_book, NewBook, BookRows, Listed, columns_of, with_rows, at_book, ListsOurs, with_indexes, book_row, import_count, import_key, number, or_null, word, books, books_tree}
+use Rattle.pawn_saving.proofs.Basics.{◌≡◌, ℕ, ℤ, List, [], ◌∷◌, length, Some, None, Ok, refl, sym, ap, subst, ◌∙◌, over_table, passes, shows_of, cast_int, cast_null, cast_whole, Sets, Index, cast, BlobKind, Row, column, Executes, State, Term, Blob, Int, Null, Text, Rates, PledgeValue, BookValue, filled_book, made_book, NewBook, BookRows, Listed, columns_of, with_rows, at_book, ListsOurs, with_indexes, book_row, import_count, import_key, number, or_null, word, books, books_tree, IsOnly}
 use Rattle.pawn_tables.specs.Tables.{head_cells}
 use Rattle.pawn_tables.proofs.ReadTexts as read
-use Rattle.pawn_saving.specs.Writing.{IsOnly}
 use Rattle.pawn_saving.proofs.BookChanges.{own_passes}
 use Rattle.pawn_saving.proofs.OurTables.{row_joins, row_set_by}
 use Rattle.pawn_saving.proofs.WriteTexts as text

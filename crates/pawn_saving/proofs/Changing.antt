@@ -1,11 +1,9 @@
 -- What becomes of the rows of a host where a book is put, or put anew.
-use Rattle.std.proofs.Common.{◌≡◌, ◌++◌, ℕ, List, [], ◌∷◌, append_assoc, Bool, true, false, cond, ◌&&◌, Some, None, T, refl, sym, ap, subst, ◌∙◌, arith, IsPermutation, is_lt}
-use Rattle.pawn_saving.specs.Common.{FinMap, entries, entries-insert, entries_sorted, find, get, get-entries, insert, is_sorted, put, is_eq, nat_cmp}
+use Rattle.pawn_saving.proofs.Basics.{◌≡◌, ◌++◌, ℕ, List, [], ◌∷◌, append_assoc, false, cond, ◌&&◌, Some, None, T, refl, sym, ap, subst, ◌∙◌, arith, IsPermutation, is_lt, FinMap, entries, entries-insert, entries_sorted, find, get, get-entries, insert, is_sorted, put, is_eq, nat_cmp, both_pass, is_passed, nat_tests, IsPermutation-append, IsPermutation-append_comm, IsPermutation-cons, IsPermutation-refl, IsPermutation-same, IsPermutation-sym, IsPermutation-trans, swapped}
 use Rattle.std.specs.declared.cmp.Ordering.{Ordering}
 use Rattle.std.specs.declared.cmp.Ordering.TheVariants.{Less, Equal, Greater}
 use Rattle.std.specs.FinMap.Entries.{by_order, below_all}
 use Rattle.std.proofs.lemmas.Cmp.{nat_cmp_total}
-use Rattle.pawn_saving.proofs.Lemmas.{both_pass, is_passed, nat_tests, IsPermutation-append, IsPermutation-append_comm, IsPermutation-cons, IsPermutation-refl, IsPermutation-same, IsPermutation-sym, IsPermutation-trans, swapped}
 
 apart : (n m k : ℕ) → nat_cmp n m ≡ Less → T (is_lt (nat_cmp m k)) → is_eq (nat_cmp n k) ≡ false
 apart n m k h t = let e = is_passed _ t in grind (arith, nat_tests, h, e)

@@ -1,13 +1,10 @@
 -- The counter of rows goes up.
-use Rattle.std.proofs.Common.{◌≡◌, ◌++◌, ℕ, ℤ, Option, ◌+◌, ◌<◌, ◌^◌, pos, List, [], ◌∷◌, map, filter, get_or, codes, Bool, true, Some, Result, Ok, Err, IfOk, refl, sym, ap, ap₂, subst, ◌∙◌, arith, IsPermutation, slice_get, nat_lt}
-use Rattle.pawn_saving.specs.Common.{AllByRecursion, list_all, Returning, Index, Enforced, Add, Arith, Compare, Eq, cast_row, Binary, Update, Concludes, Does, ShowsEach, Tally, Database, understood, binary, is_true, Row, column, value_cmp, QueriesRow, Shown, State, mode_of, Table, Trees, Int, Text, Holds, Listed, with_rows, meta_row, meta_rows, other_rows, ListsOurs, with_indexes, keep_schema, meta, meta_tree}
-use Rattle.pawn_saving.proofs.Lemmas.{nat_tests, one_permutation, statement_of, same_value, went, over_table, shows_of, at_place, cast_int, cast_whole, swapped}
+use Rattle.pawn_saving.proofs.Basics.{◌≡◌, ◌++◌, ℕ, ℤ, Option, ◌+◌, ◌<◌, ◌^◌, pos, List, [], ◌∷◌, map, filter, get_or, codes, Bool, true, Some, Result, Ok, Err, IfOk, refl, sym, ap, ap₂, subst, ◌∙◌, arith, IsPermutation, slice_get, nat_lt, AllByRecursion, list_all, Returning, Index, Enforced, Add, Arith, Compare, Eq, cast_row, Binary, Update, Concludes, Does, ShowsEach, Tally, Database, understood, binary, is_true, Row, column, value_cmp, QueriesRow, Shown, State, mode_of, Table, Trees, Int, Text, Holds, Listed, with_rows, meta_row, meta_rows, other_rows, ListsOurs, with_indexes, keep_schema, meta, meta_tree, nat_tests, one_permutation, statement_of, same_value, went, over_table, shows_of, at_place, cast_int, cast_whole, swapped, is_limit, limit_alone}
 use Rattle.sqlite.specs.Rows.{Task, Written}
 use Rattle.sqlite.specs.declared.run.Mode.{Mode}
 use Rattle.one_table.proofs.Found.{shown_listed}
 use Rattle.one_table.proofs.Alteration as alter
 use Rattle.one_table.proofs.Returning.{row_returned}
-use Rattle.pawn_tables.proofs.OneHost.{is_limit, limit_alone}
 use Rattle.pawn_saving.proofs.OurTables.{under_same}
 use Rattle.pawn_saving.proofs.WriteTexts.{ADD_ROWS, count_tests, count_shows, count_returns, READ_LIMIT, limit_tests, limit_shows, texts}
 use Rattle.pawn_saving.proofs.Places.{meta_place}

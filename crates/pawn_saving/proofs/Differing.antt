@@ -1,7 +1,5 @@
 -- UPDATE of one row, where a value of it is to differ: a row that has the values stays unwritten.
-use Rattle.std.proofs.Common.{◌≡◌, ℕ, ℤ, pos, List, [], ◌∷◌, map, filter, Bool, true, false, cond, not, ◌&&◌, ◌||◌, Option, Some, None, Ok, refl, sym, ap, subst, ◌∙◌, arith, IsPermutation, int_cmp}
-use Rattle.pawn_saving.specs.Common.{AllByRecursion, is_eq, Enforced, Is, Or, Not, cast_row, Binary, Update, Does, Tally, Applies, edit_of, Database, understood, binary, from_truth, is_true, unary, Row, value_cmp, overlay, Given, Executes, State, mode_of, Table, Term, Trees, rowid, Value, Int, Holds, IsNumbered, Listed, Lists, columns_of, with_rows, number, or_null}
-use Rattle.pawn_saving.proofs.Lemmas.{and_right, cond-false, nat_tests, nil_from_length, truth_of, IsPermutation-sym, IsPermutation-trans, length_permutation, IsPermutation-filter, filter-map, IsPlain, command_of, runs_as, statement_of, set_one, updated_part, IsPlace, same_value, went, over_table, passes, shows_of, at_place, carried, plainly}
+use Rattle.pawn_saving.proofs.Basics.{◌≡◌, ℕ, ℤ, pos, List, [], ◌∷◌, map, filter, Bool, true, false, cond, not, ◌&&◌, ◌||◌, Option, Some, None, Ok, refl, sym, ap, subst, ◌∙◌, arith, IsPermutation, int_cmp, AllByRecursion, is_eq, Enforced, Is, Or, Not, cast_row, Binary, Update, Does, Tally, Applies, edit_of, Database, understood, binary, from_truth, is_true, unary, Row, value_cmp, overlay, Given, Executes, State, mode_of, Table, Term, Trees, rowid, Value, Int, Holds, IsNumbered, Listed, Lists, columns_of, with_rows, number, or_null, and_right, cond-false, nat_tests, nil_from_length, truth_of, IsPermutation-sym, IsPermutation-trans, length_permutation, IsPermutation-filter, filter-map, IsPlain, command_of, runs_as, statement_of, set_one, updated_part, IsPlace, same_value, went, over_table, passes, shows_of, at_place, carried, plainly}
 use Rattle.std.proofs.lemmas.List.Elements.{filter_agree}
 use Rattle.sqlite.specs.Schema.{Schema}
 use Rattle.sqlite_rules.specs.Calls.{ids_of}

@@ -1,12 +1,9 @@
 -- Tables that stand for a host, and tables that list its rows.
-use Rattle.std.proofs.Common.{◌≡◌, ◌≤◌, ℕ, List, [], ◌∷◌, codes, IsPermutation, subst, arith}
-use Rattle.pawn_saving.proofs.Lemmas.{IsPermutation-refl, IsPermutation-trans, swapped, numbered_rise}
-use Rattle.pawn_saving.specs.Common.{Database, Row, Table, Trees, Each, IsStanding, Host, rows, AreSound, HasTextsAndWords, Holds, Listed, with_rows, RiseFrom, meta_row, other_rows, ListsOurs, bookings_tree, books_tree, entries_tree, extensions_tree, meta_tree, pledges_tree, secrets_tree, terms_tree, totals_tree, AreBooksOrdered, AreStorable, HoldHost, StandsFor}
+use Rattle.pawn_saving.proofs.Basics.{◌≡◌, ◌≤◌, ℕ, List, [], ◌∷◌, codes, IsPermutation, subst, arith, IsPermutation-refl, IsPermutation-trans, swapped, numbered_rise, Database, Row, Table, Trees, IsStanding, Host, rows, AreSound, HasTextsAndWords, Holds, Listed, with_rows, RiseFrom, meta_row, other_rows, ListsOurs, bookings_tree, books_tree, entries_tree, extensions_tree, meta_tree, pledges_tree, secrets_tree, terms_tree, totals_tree, AreBooksOrdered, AreStorable, HoldHost, StandsFor, listed_as, ListsHost}
 use Rattle.pawn_terms.specs.Limits.{first_day}
 use Rattle.pawn_book.specs.Written.{AreWords}
 use Rattle.pawn_tables.proofs.SoundReads.{each_weaker}
 use Rattle.pawn_saving.proofs.OurTables.{with_tables}
-use Rattle.pawn_saving.specs.Counted.{listed_as, ListsHost}
 
 -- the tables that stand for a host list its rows, and count them
 pub as_lists : (db : Database) (h : Host) → StandsFor db h → ListsHost db h (rows h)

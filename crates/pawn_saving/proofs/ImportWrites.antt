@@ -1,13 +1,10 @@
 -- What is written where a book is filled: the rows of the changed host.
-use Rattle.std.proofs.Common.{◌≡◌, ◌≢◌, ◌++◌, ◌==◌, ◌&&◌, ℕ, ◌+◌, ◌<◌, ◌≤◌, zero, suc, List, [], ◌∷◌, take, map, filter, flat_map, length, get_or, append_assoc, append-nil, Bool, true, false, cond, Option, Some, None, IsTrue, Result, Ok, Err, IfOk, refl, sym, ap, subst, ◌∙◌, arith, IsPermutation}
-use Rattle.pawn_saving.specs.Common.{if◌then◌else◌, sum_by, get, Database, Row, HasCleanDisk, State, PledgeValue, Booking, BookValue, changed_book, filled_book, pledge_from, pledge_in, IsUnfilled, with_change, Host, book_rows, pledge_rows, rows, with_book, AreNumberedFrom, AreSound, ImportBook, BookRows, IsLent, Listed, with_rows, at_book, at_pledge, ListsOurs, at_most_one, book_row, booking_cells, booking_listed, entries_listed, extensions_listed, number, number_in_book, placed_from, pledge_listed, secrets_listed, terms_cells, terms_listed, totals_listed, under, bookings_tree, AreBooksOrdered, of_books, of_pledges}
-use Rattle.pawn_saving.proofs.Lemmas.{and_left, and_right, cond-false, nat_tests, take_all, IsPermutation-refl, sum_by_push, part, rows-with_book, clean_before, under_booked, equals, filter-append, flat_map_none, of_one_pledge, rows_at}
+use Rattle.pawn_saving.proofs.Basics.{◌≡◌, ◌≢◌, ◌++◌, ◌==◌, ◌&&◌, ℕ, ◌+◌, ◌<◌, ◌≤◌, zero, suc, List, [], ◌∷◌, take, filter, flat_map, length, get_or, append-nil, true, false, Option, Some, None, IsTrue, Result, Ok, Err, IfOk, refl, sym, ap, subst, ◌∙◌, arith, IsPermutation, if◌then◌else◌, sum_by, get, Database, Row, HasCleanDisk, State, PledgeValue, Booking, BookValue, changed_book, filled_book, pledge_from, pledge_in, IsUnfilled, with_change, Host, book_rows, pledge_rows, rows, with_book, AreNumberedFrom, AreSound, ImportBook, BookRows, IsLent, Listed, with_rows, at_pledge, ListsOurs, at_most_one, book_row, booking_cells, booking_listed, entries_listed, extensions_listed, number, number_in_book, placed_from, pledge_listed, secrets_listed, terms_cells, terms_listed, totals_listed, under, bookings_tree, AreBooksOrdered, of_pledges, and_left, and_right, cond-false, nat_tests, take_all, IsPermutation-refl, sum_by_push, part, rows-with_book, clean_before, under_booked, equals, filter-append, flat_map_none, of_one_pledge, rows_at, IsWrittenPart, ListsHost, listed_as, whole_pledges, beside, booking_under, whole_pledge, IsCarried}
 use Rattle.std.proofs.lemmas.Grind.{flat_map-append}
-use Rattle.pawn_saving.specs.Saving.{IsWrittenPart, ListsHost, listed_as, whole_pledges, beside, booking_under, whole_pledge, IsCarried, IsOnly}
 use Rattle.pawn_saving.proofs.BookChanges.{books_after, found_after, other_books, rows_more}
 use Rattle.pawn_saving.proofs.Changing.{more_joined}
 use Rattle.pawn_saving.proofs.Hosting.{AreSame, relisted, relisted_by}
-use Rattle.pawn_saving.proofs.RowsInOrder.{carried_none, carried_then, until}
+use Rattle.pawn_saving.proofs.RowsInOrder.{carried_then, until}
 
 -- ---- no booking of the next pledge stands among those before it
 
@@ -58,9 +55,6 @@ pub record ArePledgesPut (old new : State) (b : ℕ) (ps : List PledgeValue) (i 
   pub carried : IsCarried old new true
   pub wrote : HasCleanDisk new → IsTrue old.in_transaction → (listed : Listed) → ((n : ℕ) → filter (at_pledge b n) (listed bookings_tree) ≡ []) → AreNumberedFrom 1 ps → ListsOurs old.now listed
       → (counted ≡ sum_by pledge_rows (take i ps)) × ListsOurs new.now (beside (whole_pledges b (take i ps)) listed)
-
-pub no_pledge_put : (s : State) (b : ℕ) (ps : List PledgeValue) → ArePledgesPut s s b ps 0 0
-no_pledge_put s b ps = record { carried = carried_none s; wrote = λ clean within listed none numbered l. (refl, l) }
 
 pub one_pledge_put : (old mid new : State) (b i counted added sum : ℕ) (ps : List PledgeValue) (p : PledgeValue) → i < length ps → p ≡ get_or ps i p → sum ≡ counted + added → ArePledgesPut old mid b ps i counted → IsLent mid new true
     → (HasCleanDisk new → IsTrue mid.in_transaction → (listed : Listed) → filter (at_pledge b (number_in_book p)) (listed bookings_tree) ≡ [] → ListsOurs mid.now listed

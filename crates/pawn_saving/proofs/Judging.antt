@@ -1,7 +1,5 @@
 -- What tables stand for once a change is written and its rows are counted.
-use Rattle.std.proofs.Common.{◌≡◌, ◌+◌, ◌≤◌, ◌<◌, ◌↔◌, ℕ, Bool, true, false, Option, Some, None, IsTrue, refl, sym, subst, arith}
-use Rattle.pawn_saving.specs.Common.{get, Database, BookValue, changed_book, CanSave, book_number, with_change, Host, rows, with_book, IsSound, Change, StandsFor}
-use Rattle.pawn_saving.specs.Counted.{IsWrittenPart, ListsHost}
+use Rattle.pawn_saving.proofs.Basics.{◌≡◌, ◌+◌, ◌≤◌, ◌<◌, ◌↔◌, ℕ, Bool, true, false, Option, Some, None, IsTrue, refl, sym, subst, arith, get, Database, BookValue, changed_book, CanSave, book_number, with_change, Host, rows, with_book, IsSound, Change, StandsFor, IsWrittenPart, ListsHost}
 use Rattle.pawn_saving.proofs.Hosting.{are_ordered, are_storable, as_stands}
 
 limit_with : (h : Host) (b : ℕ) (o : Option BookValue) → (with_book h b o).limit ≡ h.limit

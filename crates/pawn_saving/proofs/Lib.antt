@@ -1,3 +1,4 @@
+pub mod Basics
 pub mod BookChanges
 pub mod BookStatements
 pub mod Changing
@@ -6,8 +7,6 @@ pub mod Differing
 pub mod Hosting
 pub mod ImportWrites
 pub mod Judging
-pub mod Lemmas
-pub mod Lent
 pub mod OurTables
 pub mod Places
 pub mod PledgeChanges

@@ -1,7 +1,5 @@
 -- What statements write, whatever indexes the program's tables have.
-use Rattle.std.proofs.Common.{◌≡◌, ◌&&◌, ◌||◌, ◌++◌, ℕ, ℤ, ◌/◌, List, [], ◌∷◌, length, Bool, true, false, Option, Ok, refl, ap, filter, IsPermutation}
-use Rattle.pawn_saving.specs.Common.{AllByRecursion, list_any, conflicts, shares, Index, cast_row, with_rowid, Database, value_rows, Row, overlay, Chosen, Executes, State, Table, Term, Trees, rowid, Int, Holds, Listed, Lists, columns_of, with_rows, AreLoose, ListsOurs, with_indexes, keep_schema}
-use Rattle.pawn_saving.proofs.Lemmas.{set_one, IsPlace, inserted, over_table, passes, shows_of, plainly, Puts, Sets}
+use Rattle.pawn_saving.proofs.Basics.{◌≡◌, ◌&&◌, ◌||◌, ◌++◌, ℕ, ℤ, ◌/◌, List, [], ◌∷◌, length, Bool, true, false, Option, Ok, refl, ap, filter, IsPermutation, AllByRecursion, list_any, conflicts, shares, Index, cast_row, with_rowid, Database, value_rows, Row, overlay, Chosen, Executes, State, Table, Term, Trees, rowid, Int, Holds, Listed, Lists, columns_of, with_rows, AreLoose, ListsOurs, with_indexes, keep_schema, set_one, IsPlace, inserted, over_table, passes, shows_of, plainly, Puts, Sets}
 use Rattle.pawn_saving.proofs.Differing.{set_where}
 
 -- the tables list other rows, under the schema that they had

@@ -1,9 +1,7 @@
 -- Where each table stands in the schema.
-use Rattle.std.proofs.Common.{◌≡◌, inl, inr, ℕ, ◌==◌, List, [], ◌∷◌, length, false, refl, arith}
-use Rattle.pawn_saving.specs.Common.{Index, Enforced, Row, with_indexes}
+use Rattle.pawn_saving.proofs.Basics.{◌≡◌, inl, inr, ℕ, ◌==◌, List, [], ◌∷◌, length, false, refl, arith, Index, Enforced, Row, with_indexes, books, terms, pledges, secrets, bookings, meta, totals, extensions, bookings_tree, books_tree, entries_tree, extensions_tree, meta_tree, pledges_tree, secrets_tree, terms_tree, totals_tree, IsPlace}
 use Rattle.sqlite_rules.specs.Action.{works}
-use Rattle.pawn_tables.specs.Schema.{books, terms, pledges, entries, secrets, bookings, meta, totals, extensions, bookings_tree, books_tree, entries_tree, extensions_tree, meta_tree, pledges_tree, secrets_tree, terms_tree, totals_tree}
-use Rattle.one_table.proofs.Insertion.{IsPlace}
+use Rattle.pawn_tables.specs.Schema.{entries}
 
 -- no foreign key of the schema acts on its own
 idle : (more : List Index) (tree : ℕ) (olds news : List Row) → works (with_indexes more) Enforced 0 tree olds news ≡ []

@@ -1,8 +1,5 @@
 -- What becomes of the rows of a host where a pledge is put.
-use Rattle.std.proofs.Common.{◌≡◌, ◌++◌, ◌==◌, ℕ, ◌+◌, ◌≤◌, List, [], ◌∷◌, map, filter, flat_map, length, length-append, append_assoc, Bool, true, false, Option, Some, None, refl, ap, subst, ◌∙◌, arith, IsPermutation}
-use Rattle.pawn_saving.specs.Common.{if◌then◌else◌, sum_by, entries, get, Row, Text, PledgeValue, BookValue, changed_book, pledge_from, pledge_in, put_from, with_change, Host, book_rows, pledge_rows, rows, with_book, AreNumberedFrom, AreSound, PutPledge, at_book, at_pledge, book_row, import_count, import_key, number, or_null, terms_listed, word, AreBooksOrdered, of_books, of_pledges}
-use Rattle.pawn_saving.proofs.Lemmas.{nat_tests, nil_from_length, IsPermutation-append, IsPermutation-cons, IsPermutation-map, IsPermutation-refl, IsPermutation-sym, IsPermutation-trans, length_permutation, sum_by-cons, IsPermutation-filter, IsPermutation-flat_map, IsPermutation-same, part, rows-with_book, get-with_book, swapped, number_in, AreUnder, all_under, filter-append, of_one_pledge, rows_at}
-use Rattle.pawn_saving.specs.Saving.{listed_as, IsOnly}
+use Rattle.pawn_saving.proofs.Basics.{◌≡◌, ◌++◌, ◌==◌, ℕ, ◌+◌, ◌≤◌, List, [], ◌∷◌, map, filter, flat_map, length, length-append, append_assoc, Bool, true, false, Option, Some, None, refl, ap, subst, ◌∙◌, arith, IsPermutation, if◌then◌else◌, sum_by, entries, get, Row, Text, PledgeValue, BookValue, changed_book, pledge_from, pledge_in, put_from, with_change, Host, book_rows, pledge_rows, rows, with_book, AreNumberedFrom, AreSound, PutPledge, at_pledge, book_row, import_count, import_key, number, or_null, word, AreBooksOrdered, of_pledges, nat_tests, nil_from_length, IsPermutation-append, IsPermutation-cons, IsPermutation-refl, IsPermutation-sym, IsPermutation-trans, length_permutation, sum_by-cons, IsPermutation-filter, IsPermutation-flat_map, IsPermutation-same, part, rows-with_book, swapped, number_in, AreUnder, all_under, filter-append, of_one_pledge, rows_at}
 use Rattle.pawn_saving.proofs.BookChanges.{books_after, found_after, only_book, other_books, rows_after, rows_before, rows_beside}
 use Rattle.pawn_saving.proofs.Changing.{more_joined}
 

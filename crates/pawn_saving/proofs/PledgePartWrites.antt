@@ -1,8 +1,5 @@
 -- What the parts of a pledge's put write, one after another.
-use Rattle.std.proofs.Common.{◌≡◌, ◌++◌, ◌∷◌, ℕ, List, Option, Some, None, IsPermutation, refl, sym, subst, ◌∙◌}
-use Rattle.pawn_saving.specs.Common.{option_map, Database, Row, PledgeValue, Listed, with_rows, ListsOurs, at_most_one, bookings_tree, entries_tree, extensions_tree, pledges_tree, secrets_tree, totals_tree}
-use Rattle.pawn_saving.proofs.Lemmas.{IsPermutation-sym, one_mapped}
-use Rattle.pawn_saving.specs.Saving.{beside, booking_under, entries_past, extensions_past, lists_past, row_under, secrets_past, sides_of, totals_under, whole_pledge, with_sides, Lengths}
+use Rattle.pawn_saving.proofs.Basics.{◌≡◌, ◌++◌, ◌∷◌, ℕ, List, Option, Some, None, IsPermutation, sym, subst, ◌∙◌, option_map, Database, Row, PledgeValue, Listed, with_rows, ListsOurs, at_most_one, bookings_tree, entries_tree, extensions_tree, pledges_tree, secrets_tree, totals_tree, IsPermutation-sym, one_mapped, beside, booking_under, entries_past, extensions_past, lists_past, row_under, secrets_past, sides_of, totals_under, whole_pledge, with_sides, Lengths}
 use Rattle.pawn_saving.proofs.OurTables.{with_tables}
 use Rattle.pawn_saving.proofs.RowsInOrder.{nothing_put, reordered}
 

@@ -1,9 +1,5 @@
 -- What the statement writes that changes the row of a pledge.
-use Rattle.std.proofs.Common.{◌≡◌, ℕ, Bool, List, [], ◌∷◌, Ok, refl, ap, ◌∙◌}
-use Rattle.pawn_saving.specs.Common.{Row, column, Executes, State, Value, Int, Text, PledgeValue, end_of, Agreement, Listed, columns_of, with_rows, at_pledge, ListsOurs, closed_amount, closed_day, closed_number, flag, flag_number, kind_number, number, or_null, pledge_cells, under, pledges, pledges_tree}
-use Rattle.pawn_debt.specs.Due.{credit_of}
-use Rattle.one_table.proofs.Rowed.{plainly, cast_int, cast_whole}
-use Rattle.pawn_saving.specs.Writing.{IsOnly}
+use Rattle.pawn_saving.proofs.Basics.{◌≡◌, ℕ, Bool, List, [], ◌∷◌, Ok, refl, ap, ◌∙◌, Row, column, Executes, State, Value, Int, Text, PledgeValue, end_of, Agreement, Listed, columns_of, with_rows, at_pledge, ListsOurs, closed_amount, closed_day, closed_number, flag, flag_number, kind_number, number, or_null, pledge_cells, under, pledges, pledges_tree, credit_of, plainly, cast_int, cast_whole, IsOnly}
 use Rattle.pawn_saving.proofs.OurTables.{row_set_where}
 use Rattle.pawn_saving.proofs.WriteTexts as text
 use Rattle.pawn_saving.proofs.Places.{pledges_place}

@@ -1,10 +1,7 @@
 -- What is written where a pledge is put: the rows of the changed host.
-use Rattle.std.proofs.Common.{◌≡◌, ◌⊎◌, inl, inr, ◌++◌, ◌==◌, ℕ, ◌+◌, ◌≤◌, List, [], ◌∷◌, map, drop, length, filter, IsPermutation, Some, None, refl, sym, ap, subst, ◌∙◌, arith}
-use Rattle.pawn_saving.specs.Common.{if◌then◌else◌, get, Database, Row, Entry, Grows, PledgeValue, Agreement, Extension, Issued, BookValue, pledge_from, pledge_in, Continues, with_change, Host, pledge_rows, rows, AreSound, PutPledge, Listed, with_rows, at_pledge, ListsOurs, book_row, booking_listed, entries_listed, entry_cells, extension_cells, extensions_listed, placed_from, pledge_listed, secret_cells, secrets_listed, terms_listed, totals_listed, under, bookings_tree, pledges_tree, AreBooksOrdered, of_pledges}
+use Rattle.pawn_saving.proofs.Basics.{◌≡◌, ◌⊎◌, inl, inr, ◌++◌, ◌==◌, ℕ, ◌+◌, ◌≤◌, List, [], ◌∷◌, map, drop, length, filter, IsPermutation, Some, None, refl, sym, ap, subst, ◌∙◌, arith, if◌then◌else◌, get, Database, Row, Entry, Grows, PledgeValue, Agreement, Extension, Issued, BookValue, pledge_from, pledge_in, Continues, with_change, Host, pledge_rows, rows, AreSound, PutPledge, Listed, with_rows, at_pledge, ListsOurs, book_row, booking_listed, entries_listed, entry_cells, extension_cells, extensions_listed, placed_from, pledge_listed, secret_cells, secrets_listed, terms_listed, totals_listed, under, bookings_tree, pledges_tree, AreBooksOrdered, of_pledges, IsPermutation-refl, map-append, part, number_in, of_one_pledge, under_booked, rows_at, IsWrittenPart, ListsHost, listed_as, AreSidesPut, beside, booking_under, entries_past, extensions_past, lists_past, row_under, secrets_past, totals_under, whole_pledge, with_sides, Lengths}
 use Rattle.std.proofs.Math.Seq.{drop-append_seam}
-use Rattle.pawn_saving.proofs.Lemmas.{IsPermutation-refl, map-append, part, number_in, of_one_pledge, under_booked, rows_at}
 use Rattle.pawn_book.proofs.Places.{pledge_within}
-use Rattle.pawn_saving.specs.Saving.{IsWrittenPart, ListsHost, listed_as, AreSidesPut, beside, booking_under, entries_past, extensions_past, lists_past, row_under, secrets_past, totals_under, whole_pledge, with_sides, Lengths}
 use Rattle.pawn_saving.proofs.Hosting.{AreSame, relisted}
 use Rattle.pawn_saving.proofs.BookChanges.{books_after, other_books, rows_stay}
 use Rattle.pawn_saving.proofs.PledgeChanges.{after_put, before_put, books_stay, changed, is_changed, next, none_rest, put_length, put_named, rest, rows_grown, rows_joined, rows_put, stood}

@@ -1,10 +1,6 @@
 -- Rows that are put one after another.
-use Rattle.std.proofs.Common.{◌≡◌, ◌++◌, ◌==◌, false, ℕ, zero, suc, ◌+◌, ◌<◌, ◌≤◌, List, [], ◌∷◌, map, take, length, get_or, Bool, true, IsTrue, refl, sym, ap, subst, ◌∙◌, arith, append_assoc, IsPermutation, Result, Ok, Err, OnOk}
-use Rattle.pawn_saving.specs.Common.{if◌then◌else◌, Database, Row, HasCleanDisk, State, IsLent, Listed, with_rows, ListsOurs, placed_from, bookings_tree, books_tree, entries_tree, extensions_tree, meta_tree, pledges_tree, secrets_tree, terms_tree, totals_tree}
-use Rattle.pawn_saving.proofs.Lemmas.{nat_tests, length-take-le, map-append, take_more, IsPermutation-append, IsPermutation-append_comm, IsPermutation-refl, clean_before, kept_then}
-use Rattle.one_table.proofs.Rowed.{same_tree}
+use Rattle.pawn_saving.proofs.Basics.{◌≡◌, ◌++◌, ◌==◌, false, ℕ, ◌+◌, ◌<◌, ◌≤◌, List, [], ◌∷◌, map, take, length, get_or, Bool, true, IsTrue, refl, sym, ap, subst, ◌∙◌, arith, IsPermutation, if◌then◌else◌, Database, Row, HasCleanDisk, State, IsLent, Listed, with_rows, ListsOurs, placed_from, nat_tests, length-take-le, map-append, take_more, IsPermutation-append, IsPermutation-append_comm, IsPermutation-refl, clean_before, kept_then, same_tree, IsCarried}
 use Rattle.sqlite.proofs.StateLemmas.{survives_then}
-use Rattle.pawn_saving.specs.Writing.{IsCarried}
 use Rattle.pawn_saving.proofs.Hosting.{relisted_by}
 
 -- nothing was done
@@ -36,10 +32,6 @@ pub lent_carried : (a b c : State) (ok : Bool) → IsLent a b true → IsCarried
 lent_carried a b c ok f s =
     let both = both_carried a b c ok (is_carried a b true f) s in
     record { kept = both.kept; opened = λ clean within is_ok. f.opened (past b c ok s clean) within refl; inside = both.inside; survives = both.survives }
-
--- what was carried so far, where the part then fails
-pub carried_failed : (a b : State) → IsCarried a b true → IsCarried a b false
-carried_failed a b f = record { kept = f.kept; inside = λ clean within is_ok. absurd (let e = is_ok in cc); survives = f.survives }
 
 -- what was lent and went well, whatever comes of it then
 pub lent_anyway : (a b : State) → IsLent a b true → (ok : Bool) → IsLent a b ok
@@ -73,9 +65,6 @@ as_is false t tree listed is = IsPermutation-refl _
 
 pub nothing_put : (db : Database) (listed : Listed) (tree : ℕ) → ListsOurs db listed → ListsOurs db (with_rows listed tree (listed tree))
 nothing_put db listed tree l = relisted_by db _ _ (λ t. as_is (t == tree) t tree listed refl) l
-
-pub none_put : (tree : ℕ) (s : State) → ArePut tree s s []
-none_put tree s = record { carried = carried_none s; lists = λ clean within listed l. nothing_put s.now listed tree l }
 
 at_end : (rows more : List Row) (row : Row) → IsPermutation ((rows ++ row ∷ []) ++ more) (row ∷ rows ++ more)
 at_end rows more row = IsPermutation-append _ _ more more (IsPermutation-append_comm rows (row ∷ [])) (IsPermutation-refl more)

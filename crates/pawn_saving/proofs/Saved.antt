@@ -1,12 +1,10 @@
 -- A change is saved: a transaction that is lent and goes well, and a commit.
-use Rattle.std.proofs.Common.{◌≡◌, ◌≢◌, ◌⊎◌, inl, inr, ◌≤◌, ◌<◌, Bool, true, false, Result, Ok, Err, IsTrue, refl, sym, ap, subst, ◌∙◌, arith}
-use Rattle.pawn_saving.specs.Common.{Database, HasCleanDisk, IsRolledBack, Shows, State, Survives, Trees, CanSave, with_change, Host, rows, GoesOn, IsFitting, IsLeftBy, OfHost, Saves, IsSound, Change, SaveError, IsLent, HoldSound, IsWhole, Keeps, Leaves, keeping_by, HoldHost, StandsFor}
+use Rattle.pawn_saving.proofs.Basics.{◌≡◌, ◌≢◌, ◌⊎◌, inl, inr, ◌≤◌, ◌<◌, Bool, true, false, Result, Ok, Err, IsTrue, refl, sym, ap, subst, ◌∙◌, arith, Database, HasCleanDisk, IsRolledBack, Shows, State, Survives, Trees, CanSave, with_change, Host, rows, GoesOn, IsFitting, IsLeftBy, OfHost, Saves, IsSound, Change, SaveError, IsLent, HoldSound, IsWhole, Keeps, Leaves, keeping_by, HoldHost, StandsFor, clean_before, committed_rests, rests_open}
 use Rattle.one_table.specs.Common.{Held, state as state_of}
 use Rattle.sqlite_trees.specs.declared.store.Store.{Ghosts}
 use Rattle.sqlite.specs.Steps.{FailsToCommit}
 use Rattle.sqlite.specs.declared.error.Error.{Error}
 use Rattle.pawn_book.specs.declared.fault.SaveError.TheVariants as Save
-use Rattle.pawn_saving.proofs.Lemmas.{clean_before, committed_rests, rests_open}
 use Rattle.pawn_tables.specs.OneHost.{StandForOne}
 use Rattle.pawn_saving.specs.Counted.{CountJudged, WritesChange}
 use Rattle.pawn_saving.proofs.Hosting.{held}

@@ -1,12 +1,9 @@
 -- What the statements of a change write.
-use Rattle.std.proofs.Common.{◌≡◌, ◌/◌, inl, inr, ℕ, ℤ, pos, List, [], ◌∷◌, ◌++◌, length, Bool, true, false, ◌&&◌, ◌||◌, ◌==◌, Option, Some, None, Result, Ok, Err, refl, subst, arith, ◌∙◌, IsPermutation, filter}
-use Rattle.pawn_debt.specs.Due.{credit_of}
-use Rattle.pawn_saving.specs.Common.{OnOk, option_map, list_all, conflicts, cast, cast_row, Chosen, Index, Integer, Row, Term, column, Executes, State, Table, Value, Blob, Int, Null, Text, Rates, Entry, Totals, Booking, Extension, Issued, Listed, PledgeValue, columns_of, end_of, value_rows, with_rowid, with_rows, at_pledge, is_at, AreLoose, ListsOurs, with_indexes, at_most_one, booking_cells, closed_amount, closed_day, closed_number, entry_cells, extension_cells, flag_number, issue_number, kind_number, number, or_null, pledge_cells, secret_cells, sort_number, state_number, terms_cells, totals_cells, under, word}
-use Rattle.pawn_saving.proofs.Lemmas.{IsPlace, Puts, nat_tests, cast_int, cast_null, cast_whole, plainly, equals, regroup}
+use Rattle.pawn_saving.proofs.Basics.{◌≡◌, ◌/◌, inl, inr, ℕ, ℤ, pos, List, [], ◌∷◌, ◌++◌, length, Bool, true, false, ◌&&◌, ◌||◌, ◌==◌, Option, Some, None, Result, Ok, Err, refl, subst, arith, ◌∙◌, IsPermutation, filter, credit_of, OnOk, option_map, list_all, conflicts, cast, cast_row, Chosen, Index, Integer, Row, Term, column, Executes, State, Table, Value, Blob, Int, Null, Text, Rates, Entry, Totals, Booking, Extension, Issued, Listed, PledgeValue, columns_of, end_of, value_rows, with_rowid, with_rows, at_pledge, is_at, AreLoose, ListsOurs, with_indexes, at_most_one, booking_cells, closed_amount, closed_day, closed_number, entry_cells, extension_cells, flag_number, issue_number, kind_number, number, or_null, pledge_cells, secret_cells, sort_number, state_number, terms_cells, totals_cells, under, word, IsPlace, Puts, nat_tests, cast_int, cast_null, cast_whole, plainly, equals, terms, pledges, secrets, bookings, totals, extensions, bookings_tree, entries_tree, extensions_tree, pledges_tree, secrets_tree, terms_tree, totals_tree, IsOnly}
+use Rattle.pawn_tables.proofs.PlacedRows.{regroup}
 use Rattle.sqlite_value.specs.Keys.{first_key}
 use Rattle.one_table.proofs.Upsertion.{upserted, Splits}
-use Rattle.pawn_tables.specs.Schema.{terms, entries, pledges, secrets, bookings, totals, extensions, bookings_tree, entries_tree, extensions_tree, pledges_tree, secrets_tree, terms_tree, totals_tree}
-use Rattle.pawn_saving.specs.Writing.{IsOnly}
+use Rattle.pawn_tables.specs.Schema.{entries}
 use Rattle.pawn_saving.proofs.Differing.{differ, all_equal, same_number}
 use Rattle.pawn_saving.proofs.OurTables.{meets_same, row_joins, row_set_where, under_same}
 use Rattle.pawn_saving.proofs.WriteTexts as text

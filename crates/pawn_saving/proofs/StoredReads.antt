@@ -1,14 +1,9 @@
 -- How much of a pledge stands, as it is looked up.
-use Rattle.std.proofs.Common.{◌≡◌, ◌⊎◌, inl, inr, ◌↔◌, ℕ, zero, suc, ◌+◌, ◌-◌, ◌≤◌, ◌<◌, List, [], ◌∷◌, Option, Some, None, Bool, true, false, length, IsTrue, refl, sym, ap, subst, ◌∙◌, arith}
-use Rattle.pawn_saving.specs.Common.{if◌then◌else◌, is_some, slice_get, ◌++◌, get, HasCleanDisk, State, Grows, PledgeValue, AreIssued, Booking, Issued, BookValue, pledge_from, pledge_in, CanSave, Continues, Host, booking_rows, pledge_rows, entries_of, IsSound, PutPledge, IsLent, Rests, with_seq, StandsFor}
+use Rattle.pawn_saving.proofs.Basics.{◌≡◌, ◌⊎◌, inl, inr, ◌↔◌, ℕ, zero, suc, ◌+◌, ◌-◌, ◌≤◌, ◌<◌, List, [], ◌∷◌, Option, Some, None, Bool, true, false, length, IsTrue, refl, sym, subst, ◌∙◌, arith, if◌then◌else◌, is_some, slice_get, ◌++◌, get, HasCleanDisk, State, Grows, PledgeValue, AreIssued, Booking, Issued, BookValue, pledge_from, pledge_in, CanSave, Continues, Host, entries_of, IsSound, PutPledge, IsLent, Rests, with_seq, StandsFor, standing_at, at_seq, AreLengths, IsLengthWithin, IsStored, IsCarried, Lengths, clean_before, rests_then}
 use Rattle.std.proofs.Math.Nat.{eq-or-lt_of_le}
-use Rattle.pawn_saving.proofs.Lemmas.{standing_at, at_seq}
 use Rattle.pawn_tables.specs.Places.{at_place}
-use Rattle.pawn_saving.specs.Saving.{AreLengths, IsLengthWithin, IsStored, IsCarried, Lengths}
 use Rattle.pawn_saving.specs.declared.stored.Stored.{Stored}
-use Rattle.pawn_saving.proofs.Lent.{clean_before, rests_then}
 use Rattle.pawn_saving.proofs.PledgeWrites.{continues_it}
-use Rattle.pawn_saving.proofs.RowsInOrder.{carried_none, carried_then}
 
 -- ---- an element stands at each place up to the length of a list
 
@@ -43,9 +38,6 @@ pub record IsSoFar (old new : State) (long : Host → ℕ) (most at : ℕ) : Typ
   pub carried : IsCarried old new true
   pub reads : HasCleanDisk new → IsTrue old.in_transaction → (h : Host) → IsSound h → StandsFor old.now h → (long h ≤ most → long h ≤ at) × Rests old new
 
-pub none_seen : (s : State) (long : Host → ℕ) (most : ℕ) → IsSoFar s s long most most
-none_seen s long most = record { carried = carried_none s; reads = λ clean within h sound st. ((λ le. le), record { now_is = refl; inside = within }) }
-
 module _ (a b c : State) (long : Host → ℕ) (most at : ℕ) (so_far : IsSoFar a b long most at) (lent : IsLent b c true) (low : 1 ≤ at) where
   seen : (stands : Bool) → HasCleanDisk c → IsTrue a.in_transaction → (h : Host) → IsSound h → StandsFor a.now h
       → (HasCleanDisk c → IsTrue b.in_transaction → (h : Host) → IsSound h → StandsFor b.now h → (1 ≤ at → IsTrue stands ↔ (at ≤ long h)) × Rests b c)
@@ -56,15 +48,7 @@ module _ (a b c : State) (long : Host → ℕ) (most at : ℕ) (so_far : IsSoFar
       let two = reads clean one.1.inside h sound (subst (λ d. StandsFor d h) (sym one.1.now_is) st) in
       (one.0, two.0 low, rests_then a b c one.1 two.1)
 
-  pub next_seen : (HasCleanDisk c → IsTrue b.in_transaction → (h : Host) → IsSound h → StandsFor b.now h → (1 ≤ at → IsTrue false ↔ (at ≤ long h)) × Rests b c) → IsSoFar a c long most (at - 1)
-  next_seen reads = record {
-    carried = carried_then a b c true so_far.carried lent;
-    reads = λ clean within h sound st. let it = seen false clean within h sound st reads in ((λ le. lower (long h) at (it.0 le) it.1.1 low), it.2);
   }
-
-  pub last_seen : (HasCleanDisk c → IsTrue b.in_transaction → (h : Host) → IsSound h → StandsFor b.now h → (1 ≤ at → IsTrue true ↔ (at ≤ long h)) × Rests b c)
-      → HasCleanDisk c → IsTrue a.in_transaction → (h : Host) → IsSound h → StandsFor a.now h → (long h ≤ most → at ≡ long h) × Rests a c
-  last_seen reads clean within h sound st = let it = seen true clean within h sound st reads in ((λ le. let few = it.0 le in let many = it.1.0 refl in omega (arith, few, many)), it.2)
 
 -- ---- a pledge that is to be put, and what stands of it
 
@@ -106,21 +90,9 @@ has_secret h b n p sound is = issued_some _ _ p.secrets (standing_at h b n p sou
 
 -- ---- the rows that are counted
 
-pub booking_counted : (b : Option Booking) → (if is_some b then 1 else 0) ≡ booking_rows b
-booking_counted None = refl
-booking_counted (Some b) = refl
-
 pub not_booked : (b : Option Booking) → is_some b ≡ false → b ≡ None
 not_booked None is = refl
 not_booked (Some b) is = absurd (let e = is in cc)
-
--- those of the pledge that stands
-pub rows_stored : (s : Stored) (p : PledgeValue) (stood : ℕ) → IsStored s (Some p) → stood ≡ 1 + s.lengths.entries + s.lengths.secrets + (if s.is_booked then 1 else 0) → stood ≡ pledge_rows p
-rows_stored s p stood is sum =
-    let entries = is.lengths.entries in
-    let secrets = is.lengths.secrets in
-    let bookings = ap (λ (b : Bool). if b then 1 else 0) is.booked ∙ booking_counted p.standing.booking in
-    omega (arith, sum, entries, secrets, bookings)
 
 -- ---- whether a pledge stands
 

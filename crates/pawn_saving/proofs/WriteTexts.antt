@@ -1,11 +1,9 @@
 -- What the texts of the changes mean.
-use Rattle.std.proofs.Common.{◌≡◌, List, [], ◌∷◌, ℕ, pos, codes, Some, refl}
-use Rattle.pawn_saving.specs.Common.{Returning, Index, Add, Arith, Compare, Is, Or, Eq, Not, Binary, InsertOr, understood, Term, col, lit, op1, op2, Int, Null, Text, with_indexes, bookings_tree, books_tree, meta_tree, pledges_tree, totals_tree}
+use Rattle.pawn_saving.proofs.Basics.{◌≡◌, List, [], ◌∷◌, ℕ, pos, codes, Some, refl, Returning, Index, Add, Arith, Compare, Is, Or, Eq, Not, Binary, InsertOr, understood, Term, col, lit, op1, op2, Int, Null, Text, with_indexes, bookings_tree, books_tree, meta_tree, pledges_tree, totals_tree, IsPlain, command_of, over_table, Asks, Puts, Returns, Sets, is_param}
 use Rattle.sqlite_tied.specs.Compute.{everything}
 use Rattle.sqlite.specs.Source.TheVariants.{Values}
 use Rattle.sqlite_schema.specs.declared.command.Conflict.TheVariants.{Abort}
 use Rattle.sqlite_schema.specs.declared.command.Upsert.{Upsert}
-use Rattle.pawn_saving.proofs.Lemmas.{IsPlain, command_of, over_table, Asks, Puts, Returns, Sets, is_param}
 use Rattle.pawn_tables.proofs.ReadTexts.{of_book}
 pub use Rattle.pawn_tables.specs.declared.texts.TheConstants.{ADD_ROWS, PUT_BOOK, PUT_BOOKING, PUT_ENTRY, PUT_EXTENSION, PUT_PLEDGE, PUT_SECRET, PUT_TERMS, PUT_TOTALS, READ_LIMIT, SET_IMPORT, SET_PLEDGE, SET_PLEDGES_COUNT, SET_TERMS_COUNT, SET_TOTALS}
 

@@ -1,6 +1,5 @@
 -- The words of the crates below with which writes are spoken of, gathered in one place.
 pub use Rattle.std.specs.FinMap.{FinMap, entries-insert, put}
-pub use Rattle.std.specs.Prelude.{OnOk, if◌then◌else◌, slice_get, sum_by, ◌++◌}
 pub use Rattle.sqlite_rules.specs.Keys.{conflicts, shares}
 pub use Rattle.sqlite_sql.specs.declared.ops.ArithOp.TheVariants.{Add}
 pub use Rattle.sqlite_sql.specs.declared.ops.BinaryOp.TheVariants.{Arith, Is, Or}
@@ -12,7 +11,7 @@ pub use Rattle.pawn_pledge.specs.Growth.{Grows}
 pub use Rattle.pawn_pledge.specs.declared.record.Agreement.{Agreement}
 pub use Rattle.pawn_book.specs.BookStep.{changed_book, filled_book, made_book, put_from}
 pub use Rattle.pawn_book.specs.Changes.{CanSave, Continues, IsUnfilled, book_number, with_change}
-pub use Rattle.pawn_book.specs.HostStep.{book_rows, booking_rows, pledge_rows, with_book}
+pub use Rattle.pawn_book.specs.HostStep.{book_rows, pledge_rows, with_book}
 pub use Rattle.pawn_book.specs.Keeping.{GoesOn, IsFitting, IsLeftBy, OfHost, Saves}
 pub use Rattle.pawn_book.specs.Sound.{AreSound, HasTextsAndWords}
 pub use Rattle.pawn_book.specs.declared.change.Change.{Change}
@@ -23,7 +22,7 @@ pub use Rattle.pawn_book.specs.declared.rows.BookRows.{BookRows}
 pub use Rattle.one_table.specs.Common.{Applies, Chosen, Database, Does, Enforced, Given, InsertOr, IsRolledBack, KeepsCommit, QueriesRow, Returning, Shows, Survives, Tally, Update, cast, cast_row, edit_of, mode_of, overlay, rowid, value_rows, with_rowid}
 unfoldable pub use Rattle.one_table.specs.Common.{unary}
 pub use Rattle.one_table.specs.Listing.{IsNumbered, with_rows}
-pub use Rattle.pawn_tables.specs.Common.{AllByRecursion, AreIssued, AreNumberedFrom, Binary, Blob, BookValue, Booking, Compare, Each, Entry, Eq, Executes, Extension, HasCleanDisk, Holds, Host, Index, Int, IsLent, IsSound, IsStanding, Issued, Lends, Listed, Lists, Null, PledgeValue, Rates, Rests, Row, Shown, State, Table, Term, Text, Totals, Trees, Value, col, column, columns_of, debt_of, end_of, entries, entries_of, entries_sorted, extensions_of, find, from_truth, get, get-entries, insert, is_eq, is_some, is_sorted, is_true, list_all, list_any, lit, nat_cmp, op2, option_map, pledge_from, pledge_in, rows, secrets_of, state}
+pub use Rattle.pawn_tables.specs.Common.{AllByRecursion, AreIssued, AreNumberedFrom, Binary, Blob, BookValue, Booking, Compare, Each, Entry, Eq, Executes, Extension, HasCleanDisk, Holds, Host, Index, Int, IsLent, IsSound, IsStanding, Issued, Lends, Listed, Lists, Null, PledgeValue, Rates, Rests, Row, Shown, State, Table, Term, Text, Totals, Trees, Value, col, column, columns_of, debt_of, end_of, entries, entries_of, entries_sorted, extensions_of, find, from_truth, get, get-entries, insert, is_eq, is_sorted, is_true, list_all, list_any, lit, nat_cmp, op2, pledge_from, pledge_in, rows, secrets_of, state}
 unfoldable pub use Rattle.pawn_tables.specs.Common.{binary, understood, value_cmp}
 pub use Rattle.pawn_tables.specs.Keeps.{HoldSound, IsWhole, Keeps, Leaves, keeping_by}
 pub use Rattle.pawn_tables.specs.Meta.{other_rows}

@@ -1,10 +1,8 @@
 -- The empty host is sound.
-use Rattle.std.proofs.Common.{◌≡◌, ◌∙◌, ℕ, List, [], ◌∷◌, map, length, refl, sym, ap, arith, sum_by}
-use Rattle.pawn_store.specs.Common.{BookValue, book_rows, empty, empty_host, entries, get, get-empty, len-empty, len-entries, rows}
+use Rattle.pawn_store.proofs.Basics.{◌≡◌, ◌∙◌, ℕ, [], ◌∷◌, map, sym, ap, arith, sum_by, BookValue, book_rows, empty, empty_host, entries, get-empty, len-empty, len-entries, rows, EmptyHostIsSound}
 use Rattle.std.specs.Ordering.{nat_cmp}
 use Rattle.pawn_base.proofs.ListLemmas.{no_elements}
 use Rattle.pawn_book.proofs.Sounds.{absurd_none}
-use Rattle.pawn_store.specs.Running.{EmptyHostIsSound}
 
 no_rows : (limit : ℕ) → rows (empty_host limit) ≡ 0
 no_rows limit =

@@ -1,3 +1,4 @@
+pub mod Basics
 mod Empty
 mod OtherRowLemmas
 mod Runs

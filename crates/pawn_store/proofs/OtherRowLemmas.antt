@@ -1,14 +1,13 @@
 -- The rows of one book are those of its own content.
-use Rattle.std.proofs.Common.{◌≡◌, ◌≢◌, ◌++◌, ◌==◌, ℕ, ◌+◌, List, [], ◌∷◌, map, filter, flat_map, Bool, true, false, cond, ◌&&◌, Option, Some, None, Ok, Err, refl, sym, ap, subst, ◌∙◌, arith, IsPermutation}
-use Rattle.pawn_store.specs.Common.{AllByRecursion, BookValue, Database, Event, Holds, Host, Mark, Request, Row, Stamp, StandsFor, Table, Trees, at_book, column, entries, get, host_after_event, is_at, no_memory, no_store, of_books, of_pledges, read_as, request_in, run_host}
+use Rattle.pawn_store.proofs.Basics.{◌≡◌, ◌≢◌, ◌++◌, ◌==◌, ℕ, ◌+◌, List, [], ◌∷◌, map, filter, flat_map, true, false, cond, ◌&&◌, Ok, Err, refl, sym, ap, subst, ◌∙◌, arith, IsPermutation, AllByRecursion, BookValue, Database, Event, Holds, Host, Mark, Row, Stamp, StandsFor, Table, Trees, at_book, column, entries, get, host_after_event, is_at, no_memory, no_store, of_books, of_pledges, read_as, request_in, run_host}
 use Rattle.std.proofs.lemmas.Bool.Decides.{nat_tests}
 use Rattle.std.proofs.lemmas.List.Sorted.{IsPermutation-trans, IsPermutation-sym}
 use Rattle.sqlite_trees.proofs.ListLemmas.{IsPermutation-filter}
 use Rattle.pawn_pledge.specs.Pledge.{PledgeValue}
 use Rattle.pawn_terms.specs.declared.terms.Rates.{Rates}
 use Rattle.pawn_book.proofs.SlotRuns.{other_books_stay}
-use Rattle.pawn_tables.specs.Rows.{number, book_row, terms_listed, placed_from, terms_cells, pledge_listed, entries_listed, secrets_listed, booking_listed, totals_listed, extensions_listed, under, entry_cells, secret_cells, extension_cells, number_in_book}
-use Rattle.pawn_tables.proofs.RowsUnderKey.{AreUnder, equals, rows_at, of_one_book, filter-flat_map}
+use Rattle.pawn_tables.specs.Rows.{number, book_row, terms_listed, placed_from, terms_cells, pledge_listed, entries_listed, secrets_listed, booking_listed, totals_listed, extensions_listed, entry_cells, secret_cells, extension_cells, number_in_book}
+use Rattle.pawn_tables.proofs.RowsUnderKey.{AreUnder, equals, rows_at, of_one_book}
 use Rattle.pawn_tables.proofs.PledgeReads.{under_map, under_placed, under_booked}
 use Rattle.pawn_store.specs.OtherRows.{AreElsewhere, HaveSameRows, IsElsewhere, OtherRowsStay, OtherRowsStayInRuns, rows_under_book}
 

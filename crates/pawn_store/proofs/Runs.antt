@@ -1,12 +1,8 @@
 -- A call over tables, from what the service says of it.
-use Rattle.std.proofs.Common.{◌≡◌, ◌∙◌, ◌++◌, ℕ, List, [], refl, sym, subst, Result, Ok, Err, inl}
-use Rattle.std.specs.Prelude.{All, Option}
+use Rattle.pawn_store.proofs.Basics.{◌≡◌, ◌∙◌, ◌++◌, ℕ, List, [], refl, sym, subst, Result, Ok, Err, inl, All, Option, Ended, Given, GoesBy, Host, Image, IoFault, IsLeftByRun, IsMarked, IsSession, IsSound, IsWhole, Item, Keeps, Kept, Leaves, OpensAs, Stamp, StandsIn, Start, State, host_after_run, crash_leaves_whole, host_after-append, left_by-append, run_wider, ActsOverTables, HasAnswered, HoldsSession, Reopens, acted_items, kept_in, start_at}
 use Rattle.std.proofs.lemmas.List.Elements.{All-append, All-nil}
-use Rattle.pawn_store.specs.Common.{Ended, Given, GoesBy, Host, Image, IoFault, IsLeftByRun, IsMarked, IsSession, IsSound, IsWhole, Item, Keeps, Kept, Leaves, OpensAs, Stamp, StandsIn, Start, State, Trees, host_after_run}
 use Rattle.pawn_tables.proofs.OneHost.{tables_stand_for_one_host}
-use Rattle.pawn_host.proofs.CrashLemmas.{crash_leaves_whole, host_after-append, left_by-append, run_wider}
 use Rattle.pawn_host.proofs.HeadlineLemmas.{runs_answer_alone}
-use Rattle.pawn_store.specs.Running.{ActsOverTables, HasAnswered, HoldsSession, Reopens, acted_items, kept_in, start_at}
 
 -- over a store that was opened nothing was answered yet
 pub nothing_answered : (store : State) (h : Host) (operator : ℕ) → IsSound h → OpensAs store h → HasAnswered store h operator []

@@ -1,9 +1,7 @@
 -- Connections in turn, behind each of which the keeper is asked.
-use Rattle.std.proofs.Common.{ℕ, ◌+◌, Option, refl}
-use Rattle.pawn_store.specs.Common.{AreServed, Host, Serves, Service, Stamp, StaysOpen, kept_by, service_keep, start_of}
+use Rattle.pawn_store.proofs.Basics.{ℕ, ◌+◌, Option, refl, AreServed, Host, Serves, Service, Stamp, StaysOpen, kept_by, service_keep, start_of, served_on, served_then}
 use Rattle.pawn_book.specs.Keeping.{GoesOn, Keeping, OfHost, Reads}
 use Rattle.pawn_book.proofs.Reading.{on_then}
-use Rattle.pawn_program.proofs.ServingLemmas.{served_on, served_then}
 
 module _ {K : Type 0} (k : Keeping K) {first a b : Service K} {new : K} {P : Host → Type 0} (stays : StaysOpen k first a) (more : StaysOpen k a b) (reads : Reads k (service_keep b) new P) where
   pub on_turn : GoesOn k (service_keep first) new

@@ -1,5 +1,5 @@
 -- The rows of one book: no request on another book changes them.
-use Rattle.std.specs.Prelude.{ℕ, ◌≡◌, ◌≢◌, All, List, [], ◌∷◌, filter, map, Option, None, Some, IsPermutation}
+use Rattle.std.specs.Prelude.{ℕ, ◌≡◌, ◌≢◌, List, [], ◌∷◌, filter, map, Option, None, Some, IsPermutation}
 use Rattle.pawn_store.specs.Common.{AllByRecursion, Database, Event, Host, Request, Row, Stamp, StandsFor, Table, Trees, at_book, columns_of, request_in, run_host}
 use Rattle.pawn_book.specs.Plans.{next_host}
 use Rattle.pawn_tables.specs.Schema.{books, terms, pledges, entries, secrets, bookings, totals, extensions, bookings_tree, books_tree, entries_tree, extensions_tree, pledges_tree, secrets_tree, terms_tree, totals_tree}

@@ -1,10 +1,6 @@
 -- Calls that hand over one list after another.
-use Rattle.std.proofs.Common.{◌≡◌, ◌++◌, ℕ, suc, ◌+◌, ◌-◌, ◌<◌, ◌≤◌, List, [], ◌∷◌, length, length-append, Result, Ok, Err, inl, inr, refl, sym, ap, subst, ◌∙◌, append_assoc, append-nil, arith}
-use Rattle.pawn_table_keeper.specs.Common.{IfErr, flat_map, Host, Errs, Keeping, Reads, windows, windows_below, Handed, HandsOver, IsShare, Visits, Whole, call_end, KeepError, NoRecord, Flow, Go, Stop}
+use Rattle.pawn_table_keeper.proofs.Basics.{◌≡◌, ◌++◌, ℕ, suc, ◌+◌, ◌-◌, ◌<◌, ◌≤◌, List, [], ◌∷◌, length, length-append, Result, Ok, Err, inl, inr, refl, sym, ap, subst, ◌∙◌, append_assoc, append-nil, arith, IfErr, flat_map, Host, Errs, Keeping, Reads, windows, windows_below, Handed, HandsOver, IsShare, Visits, Whole, call_end, KeepError, NoRecord, Flow, Go, Stop, reads_as, reads_none, reads_then, handed-append, windows_begin, windows_more, HandsRows, flow_of}
 use Rattle.pawn_book.specs.declared.fault.KeepError.TheVariants as Keeper
-use Rattle.pawn_book.proofs.Reading.{reads_as, reads_none, reads_then}
-use Rattle.pawn_book.proofs.SheetLemmas.{handed-append, windows_begin, windows_more}
-use Rattle.pawn_table_keeper.specs.Handing.{HandsRows, flow_of}
 use Rattle.pawn_table_keeper.proofs.Walks.{errs_ok}
 
 -- the errors of a call after a read

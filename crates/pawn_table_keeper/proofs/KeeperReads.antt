@@ -1,7 +1,6 @@
 -- A read of a keeper: a transaction that is lent, and rolled back.
-use Rattle.std.proofs.Common.{◌≡◌, ◌⊎◌, inl, inr, true, false, Result, Ok, Err, IsTrue, refl, sym, subst, ◌∙◌, arith}
+use Rattle.pawn_table_keeper.proofs.Basics.{◌≡◌, ◌⊎◌, inl, inr, true, false, Result, Ok, Err, IsTrue, refl, sym, subst, ◌∙◌, arith, IfOk, is_ok, Held, state, HasCleanDisk, IsRolledBack, KeepsCommit, State, Survives, Host, Errs, Reads, KeepError, NoRecord, IsWhole, Keeps, keeping_by, StandsFor}
 use Rattle.std.specs.Borrow.{MutBor}
-use Rattle.pawn_table_keeper.specs.Common.{IfOk, is_ok, Held, state, HasCleanDisk, IsRolledBack, KeepsCommit, State, Survives, Host, Errs, Reads, KeepError, NoRecord, IsWhole, Keeps, keeping_by, StandsFor}
 use Rattle.sqlite_trees.specs.declared.store.Store.{Ghosts}
 use Rattle.pawn_book.specs.declared.fault.KeepError.TheVariants as Keeper
 use Rattle.one_table.specs.Lending.{IsLent, Lends, Rests}

@@ -1,3 +1,4 @@
+pub mod Basics
 pub mod Calls
 pub mod Handings
 pub mod KeeperReads

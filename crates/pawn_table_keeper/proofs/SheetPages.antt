@@ -1,10 +1,6 @@
 -- The first page of a part's lines.
-use Rattle.std.proofs.Common.{◌≡◌, ◌≢◌, ◌==◌, ◌∙◌, ◌++◌, ◌<◌, ◌≤◌, ℕ, zero, suc, Bool, true, false, cond, List, [], ◌∷◌, length, map, refl, sym, ap, append-nil, arith}
-use Rattle.pawn_table_keeper.specs.Common.{flat_map, list_any, PledgeValue, part_items, window_items, window_sheet, windows_below, windows_sheet, with_head, Part, SheetItem, IsLinesPage, NamesWindows, item_of, items_past, most_page_rows, page_end}
+use Rattle.pawn_table_keeper.proofs.Basics.{◌≡◌, ◌≢◌, ◌==◌, ◌∙◌, ◌++◌, ◌<◌, ◌≤◌, ℕ, zero, suc, Bool, true, false, cond, List, [], ◌∷◌, length, map, refl, sym, ap, append-nil, arith, flat_map, list_any, PledgeValue, part_items, window_items, window_sheet, windows_below, windows_sheet, with_head, Part, SheetItem, IsLinesPage, NamesWindows, item_of, items_past, most_page_rows, page_end, windows_more, Line, named_sheet, named_sheets}
 use Rattle.pawn_book.specs.declared.sheet.Part.TheVariants as part_of
-use Rattle.pawn_book.proofs.SheetLemmas.{windows_more}
-use Rattle.pawn_tables.specs.declared.line.Line.{Line}
-use Rattle.pawn_table_keeper.specs.Windows.{named_sheet, named_sheets}
 
 abbrev items_of : Part → List Line → List SheetItem
 items_of part page = map (item_of part) page

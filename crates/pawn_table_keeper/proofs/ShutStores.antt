@@ -1,10 +1,7 @@
 -- A store that is asked whether it is shut.
-use Rattle.std.proofs.Common.{◌≡◌, ◌⊎◌, inl, inr, ℕ, Bool, true, false, IsTrue, List, [], Result, Ok, Err, IfOk, IfErr, refl, sym, subst, ◌∙◌, arith}
+use Rattle.pawn_table_keeper.proofs.Basics.{◌≡◌, ◌⊎◌, inl, inr, ℕ, Bool, true, false, IsTrue, List, [], Result, Ok, Err, IfOk, IfErr, refl, sym, subst, ◌∙◌, arith, HasCause, HasCleanDisk, IsNoStatement, IsNotRun, IsRolledBack, IsUnchanged, State, Survives, store_error, Host, Reads, Keeps, keeping_by, StandsFor, SqliteFailure, Closed}
 use Rattle.std.proofs.lemmas.Bool.{true_from_ne_false}
-use Rattle.pawn_table_keeper.specs.Common.{HasCause, HasCleanDisk, IsNoStatement, IsNotRun, IsRolledBack, IsUnchanged, State, Survives, store_error, Host, Reads, Keeps, keeping_by, StandsFor}
 use Rattle.sqlite.specs.declared.error.Error.{Error}
-use Rattle.sqlite.specs.declared.error.Error.TheVariants.{SqliteFailure}
-use Rattle.sqlite.specs.declared.error.ErrorCode.TheVariants.{Closed}
 use Rattle.sqlite_trees.specs.declared.error.StoreError.{StoreError}
 use Rattle.sqlite_trees.specs.declared.error.StoreError.TheVariants.{OutOfMemory, Io, Corrupt, Full, Broken, Unstorable}
 use Rattle.sqlite_trees.proofs.Doubt.{no_doubt}

@@ -1,10 +1,6 @@
 -- Lists that are longer than those of a sound book.
-use Rattle.std.proofs.Common.{◌≡◌, ◌≤◌, ◌<◌, ◌+◌, ◌==◌, ℕ, suc, List, [], ◌∷◌, length, Option, Some, None, refl, ap, arith}
-use Rattle.pawn_table_keeper.specs.Common.{get, cons_option, filter_map, PledgeValue, BookValue, pledge_in, Host, entries_of, extensions_of, pledges_of, secrets_of, part_item, part_items, IsSoundAt, IsUnsoundAt, Part}
-use Rattle.pawn_debt.specs.Limits.{most_entries}
-use Rattle.pawn_pledge.specs.Limits.{most_extensions, most_secrets}
+use Rattle.pawn_table_keeper.proofs.Basics.{◌≡◌, ◌≤◌, ◌<◌, ◌+◌, ◌==◌, ℕ, suc, List, [], ◌∷◌, length, Option, Some, None, refl, ap, arith, get, cons_option, filter_map, PledgeValue, BookValue, pledge_in, Host, entries_of, extensions_of, pledges_of, secrets_of, part_item, part_items, IsSoundAt, IsUnsoundAt, Part, most_entries, most_extensions, most_secrets, most_pledges}
 use Rattle.pawn_pledge.specs.Replayable.{IsStanding}
-use Rattle.pawn_book.specs.Limits.{most_pledges}
 use Rattle.pawn_book.proofs.Sounds.{each_at}
 
 -- of a pledge, where the rules bound the list of each that can stand

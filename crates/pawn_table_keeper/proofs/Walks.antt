@@ -1,13 +1,7 @@
 -- A list that is handed over element by element, each of them read by a call of its own.
-use Rattle.std.proofs.Common.{◌≡◌, ◌≤◌, ◌<◌, ◌++◌, ◌==◌, ℕ, zero, suc, ◌+◌, List, length, length-append, [], ◌∷◌, take, drop, slice_get, true, false, Option, Some, None, Result, Ok, Err, refl, sym, ap, subst, ◌∙◌, arith, append-nil}
+use Rattle.pawn_table_keeper.proofs.Basics.{◌≡◌, ◌≤◌, ◌<◌, ◌++◌, ◌==◌, ℕ, zero, suc, ◌+◌, List, length, length-append, [], ◌∷◌, take, drop, slice_get, Some, None, Result, Ok, Err, refl, sym, ap, subst, ◌∙◌, arith, append-nil, IfErr, if◌then◌else◌, Host, Errs, Keeping, Reads, Front, Handed, IsShare, Visits, Whole, KeepError, Database, NoRecord, Flow, Go, Stop, take-append-drop, reads_none, reads_then, handed-snoc}
 use Rattle.pawn_base.proofs.ListLemmas.{take_next, take_past}
-use Rattle.pawn_table_keeper.specs.Common.{IfErr, if◌then◌else◌, PledgeValue, BookValue, pledge_from, pledge_in, Host, Errs, Keeping, Reads, pledges_of, Front, Handed, IsShare, Visits, Whole, KeepError, Database, NoRecord, Flow, Go, Stop}
-use Rattle.std.proofs.lemmas.Bool.Decides.{nat_tests}
-use Rattle.std.proofs.lemmas.List.{take-append-drop}
 use Rattle.pawn_book.specs.declared.fault.KeepError.TheVariants as Keeper
-use Rattle.pawn_book.proofs.Reading.{reads_none, reads_then}
-use Rattle.pawn_book.proofs.VisitLemmas.{handed-snoc}
-use Rattle.pawn_book.proofs.Places.{pledge_at_place}
 
 take_at_most : {A : Type 0} (n : ℕ) (xs : List A) → length (take n xs) ≤ length xs
 take_at_most zero xs = omega arith
@@ -68,11 +62,6 @@ module _ {K V T : Type 0} (k : Keeping K) (step : V → T → Flow → V → Typ
 -- ---- errors
 
 module _ {K : Type 0} (k : Keeping K) (old now new : K) {P Q : Host → Type 0} (before : Reads k old now P) (read : Reads k now new Q) {IsUnsound : Host → Type 0} where
-  -- an error that is handed on
-  pub errs_then : {A B : Type 0} (r : Result A KeepError) (s : Result B KeepError) (e : KeepError) → r ≡ Err e → s ≡ Err e → Errs k now new IsUnsound r → Errs k old new IsUnsound s
-  errs_then r s e is same errs = record {
-    never = λ steady. subst (λ x. IfErr x (λ f. f ≡ Keeper.Memory)) (sym same) (subst (λ x. IfErr x (λ f. f ≡ Keeper.Memory)) is (errs.never (before.on.stays steady)));
-    no_record = λ bad honest h at. errs.no_record (is ∙ ap Err (let x = sym same ∙ bad in cc)) honest h (before.same (read.on.past honest) h at);
   }
 
 -- no error

@@ -1,9 +1,7 @@
 -- What the queries of a book show, where the tables stand for a host.
-use Rattle.std.proofs.Common.{◌≡◌, ◌==◌, ℕ, ◌≤◌, ◌<◌, List, [], ◌∷◌, map, filter, take, codes, Bool, true, false, cond, Option, Some, None, T, refl, sym, ap, subst, ◌∙◌, arith, IsPermutation, nat_lt, find, option_map}
-use Rattle.pawn_tables.specs.Common.{nat_le, entries, entries_sorted, find_key, get, get-entries, is_sorted, below_all, AllByRecursion, list_all, is_eq, is_ge, is_gt, is_lt, nat_cmp, Less, binary, Row, column, value_cmp, Shown, State, Table, IsAscending, Text, BookValue, Host, rows, IsNextBook, is_same_text}
+use Rattle.pawn_tables.proofs.Basics.{◌≡◌, ◌==◌, ℕ, ◌≤◌, ◌<◌, List, [], ◌∷◌, map, filter, take, codes, Bool, true, false, cond, Option, Some, None, T, refl, sym, ap, subst, ◌∙◌, arith, IsPermutation, nat_lt, find, option_map, nat_le, entries, entries_sorted, find_key, get, get-entries, is_sorted, below_all, AllByRecursion, list_all, is_eq, is_ge, is_gt, is_lt, nat_cmp, Less, binary, Row, column, value_cmp, Shown, State, Table, IsAscending, Text, BookValue, Host, rows, IsNextBook, is_same_text, at_book, is_above, is_at, is_below, is_from, number_cells, meta_row, meta_rows, with_indexes, at_most_one, book_row, head_cells, number, books, books_tree, meta, meta_tree, ListDebts, StandsFor}
 use Rattle.pawn_tables.proofs.Lemmas.{and-true, both_pass, flat_map_single, lower_key, same_key, truth_of, nat_tests, filter_agree, ascending-filter, filter-map, map-map, value_cmp-Int, value_cmp-Text, shown_first, shown_listed, equals, less, of_one_book, rows_at}
 use Rattle.std.specs.Cmp.Lexicographic.{texts_ties}
-use Rattle.pawn_tables.specs.Tables.{at_book, is_above, is_at, is_below, is_from, number_cells, meta_row, meta_rows, with_indexes, at_most_one, book_row, head_cells, number, books, books_tree, meta, meta_tree, ListDebts, StandsFor}
 use Rattle.pawn_tables.proofs.ReadTexts as text
 use Rattle.pawn_tables.proofs.PledgeReads.{few, one_mapped, short}
 

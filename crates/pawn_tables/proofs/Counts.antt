@@ -1,15 +1,11 @@
 -- What a query that counts the rows of a table shows.
-use Rattle.std.proofs.Common.{◌≡◌, ℕ, min, List, [], ◌∷◌, length, map, filter, Bool, false, sym, ap, ◌∙◌, IsPermutation}
-use Rattle.pawn_tables.specs.Common.{Some, AllZip, Binary, Row, Schema, Shown, State, Table, Env, Term, lit, Trees, Null, Holds, columns_of}
-use Rattle.pawn_tables.proofs.Lemmas.{length-map, filter_agree, length_permutation, IsPermutation-filter, filter-map, reads_as, around, gathered, over_table, passes, Asks}
+use Rattle.pawn_tables.proofs.Basics.{◌≡◌, ℕ, min, List, [], ◌∷◌, length, map, filter, Bool, false, sym, ap, ◌∙◌, IsPermutation, Some, AllZip, Binary, Row, Schema, Shown, State, Table, Env, Term, lit, Trees, Null, Holds, columns_of, length-map, filter_agree, length_permutation, IsPermutation-filter, filter-map, reads_as, around, gathered, over_table, passes, Asks, overlay, most_counted, number_cells}
 use Rattle.sqlite.specs.Query.{Query, IsAnswer}
-use Rattle.sqlite.specs.Program.{overlay}
 use Rattle.sqlite_sql.specs.declared.aggregate.AggregateOp.TheVariants.{CountRows}
 use Rattle.sqlite_sql.specs.Group.{Grouping, IsSummary, value_over}
 use Rattle.sqlite_sql.specs.Query.{matches}
 use Rattle.sqlite_sql.proofs.AggregateLemmas.{only_one}
 use Rattle.sqlite_tied.specs.Listing.{counting}
-use Rattle.pawn_tables.specs.Heads.{most_counted, number_cells}
 
 -- how many rows of a table pass
 abbrev pub how_many : ℕ → List Term → Query

@@ -1,12 +1,6 @@
 -- A pledge of what was read of it.
-use Rattle.std.proofs.Common.{◌≡◌, ◌≤◌, ◌<◌, ◌^◌, ℕ, zero, suc, List, [], ◌∷◌, length, Option, Some, None, Result, Ok, Err, refl, sym, ap, subst, ◌∙◌, arith}
-use Rattle.pawn_tables.specs.Common.{IfSome, is_ok, option_map, get, State, Rates, totals_of, Totals, PledgeValue, debt_of, end_of, BookValue, pledge_in, Host, entries_of, extensions_of, secrets_of, terms_of, terms_at, IsUnsoundAt, KeepError, IsLent, Rests}
+use Rattle.pawn_tables.proofs.Basics.{◌≡◌, ◌≤◌, ◌<◌, ◌^◌, ℕ, zero, suc, List, [], ◌∷◌, length, Option, Some, None, Result, Ok, Err, refl, sym, ap, subst, ◌∙◌, arith, IfSome, is_ok, option_map, get, State, Rates, totals_of, Totals, PledgeValue, debt_of, end_of, BookValue, pledge_in, Host, entries_of, extensions_of, secrets_of, terms_of, terms_at, IsUnsoundAt, KeepError, IsLent, Rests, FindsIn, IsRead, AreLists, AreSides, AreTold, booking_of, row_of, totals_in, AreBooksOrdered, AreStorable, Lists, RowsBeside, StoredPledge, PledgeRow}
 use Rattle.pawn_tables.proofs.Lent.{unfound}
-use Rattle.pawn_tables.specs.Tables.{FindsIn, IsRead, AreLists, AreSides, AreTold, booking_of, row_of, totals_in, AreBooksOrdered, AreStorable}
-use Rattle.pawn_tables.specs.declared.joining.Lists.{Lists}
-use Rattle.pawn_tables.specs.declared.joining.RowsBeside.{RowsBeside}
-use Rattle.pawn_tables.specs.declared.joining.StoredPledge.{StoredPledge}
-use Rattle.pawn_tables.specs.declared.records.PledgeRow.{PledgeRow}
 use Rattle.pawn_tables.proofs.PledgeReads.{number_in, under_in}
 
 -- the row that was found is that of a pledge

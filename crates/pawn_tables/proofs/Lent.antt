@@ -1,9 +1,7 @@
 -- One part of a transaction after another, and what they find together.
-use Rattle.std.proofs.Common.{◌≡◌, true, false, Result, Ok, Err, IsTrue, refl, sym, subst}
-use Rattle.pawn_tables.specs.Common.{Tables, HasCleanDisk, State, Host, HasUnsoundBook, KeepError, Database, NoRecord, IsLent, Rests}
+use Rattle.pawn_tables.proofs.Basics.{◌≡◌, true, false, Result, Ok, Err, IsTrue, refl, sym, subst, Tables, HasCleanDisk, State, Host, HasUnsoundBook, KeepError, Database, NoRecord, IsLent, Rests, Finds, FindsIn, Stood, ListDebts, StandsFor}
 use Rattle.pawn_book.specs.declared.fault.KeepError.TheVariants as Keeper
-pub use Rattle.one_table.proofs.Lent.{clean_before, lent_then, rests_then}
-use Rattle.pawn_tables.specs.Tables.{Finds, FindsIn, Stood, ListDebts, StandsFor}
+pub use Rattle.one_table.proofs.Lent.{clean_before, rests_then}
 
 -- the tables of a part that found stood for the host, and do after it
 pub stood_then : (a b : State) (h : Host) → IsLent a b true → HasCleanDisk b → IsTrue a.in_transaction → Stood a h → Rests a b → StandsFor b.now h

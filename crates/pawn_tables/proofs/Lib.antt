@@ -1,3 +1,4 @@
+pub mod Basics
 pub mod BookReads
 pub mod Counts
 pub mod Joins

@@ -1,12 +1,10 @@
 -- What the queries for the parts of a day's sheet show, where the tables stand for a host.
-use Rattle.std.proofs.Common.{◌≡◌, ◌==◌, ℕ, ◌+◌, List, [], ◌∷◌, map, filter, filter_map, take, length, nat_lt, Bool, true, false, cond, ◌&&◌, Option, Some, None, refl, sym, ap, ◌∙◌, arith, option_map}
-use Rattle.pawn_tables.specs.Common.{get, cons_option, list_all, Row, column, Shown, State, PledgeValue, end_of, Booking, BookingState, Closing, confirmed_count, is_asked, is_confirmed, is_confirmed_for, Host, pledges_of, part_item, part_items, Part, SheetItem, Confirmed}
+use Rattle.pawn_tables.proofs.Basics.{◌≡◌, ◌==◌, ℕ, ◌+◌, List, [], ◌∷◌, map, filter, filter_map, take, length, nat_lt, Bool, true, false, cond, ◌&&◌, Option, Some, None, refl, sym, ap, ◌∙◌, arith, option_map, get, cons_option, list_all, Row, column, Shown, State, PledgeValue, end_of, Booking, BookingState, Closing, confirmed_count, is_asked, is_confirmed, is_confirmed_for, Host, pledges_of, part_item, part_items, Part, SheetItem, Confirmed, is_above, is_at, number_cells, asked_cells, asked_line, confirmed_line, ends_line, item_of, line_cells, most_page_rows, booking_cells, closed_number, number, number_in_book, pledge_cells, state_number, under, bookings, bookings_tree, pledges, pledges_tree, StandsFor, Line}
 use Rattle.std.proofs.lemmas.List.Recursion.{is_count_by}
 use Rattle.pawn_tables.proofs.Lemmas.{and-true, length-map, map-map, take-map, equals}
 use Rattle.pawn_pledge.specs.declared.record.BookingState.TheVariants as state_is
 use Rattle.pawn_book.specs.declared.sheet.Part.TheVariants as part_of
 use Rattle.pawn_pledge.specs.Words.{is_open}
-use Rattle.pawn_tables.specs.Tables.{is_above, is_at, number_cells, asked_cells, asked_line, confirmed_line, ends_line, item_of, line_cells, most_page_rows, booking_cells, closed_number, number, number_in_book, pledge_cells, state_number, under, bookings, bookings_tree, pledges, pledges_tree, StandsFor, Line}
 use Rattle.pawn_tables.proofs.ReadTexts as text
 use Rattle.pawn_tables.proofs.BookReads as books
 use Rattle.pawn_tables.proofs.OneEach.{counted_each, first_each, tell_of}

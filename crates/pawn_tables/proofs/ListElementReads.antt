@@ -1,8 +1,6 @@
 -- What the queries of a pledge's lists show at a place, where the tables stand for a host.
-use Rattle.std.proofs.Common.{◌≡◌, ◌==◌, ℕ, zero, suc, List, [], ◌∷◌, map, filter, take, Bool, Option, Some, None, refl, sym, ap, ◌∙◌}
-use Rattle.pawn_tables.specs.Common.{IfSome, nat_le, get, Row, column, Shown, State, IsDayNumber, Entry, PledgeValue, Each, pledge_in, Host, entries_of, extensions_of, secrets_of, IsUnsoundAt}
+use Rattle.pawn_tables.proofs.Basics.{◌≡◌, ◌==◌, ℕ, zero, suc, List, [], ◌∷◌, map, filter, take, Bool, Option, Some, None, refl, sym, ap, ◌∙◌, IfSome, nat_le, get, Row, column, Shown, State, IsDayNumber, Entry, PledgeValue, Each, pledge_in, Host, entries_of, extensions_of, secrets_of, IsUnsoundAt, is_at, is_from, IsEntryTold, RiseFrom, entries_from, with_seq, most_page_rows, at_place, at_most_one, entries_listed, entry_cells, extension_cells, extensions_listed, number, secret_cells, secrets_listed, under, AreStorable, StandsFor}
 use Rattle.pawn_tables.proofs.Lemmas.{filter_agree, filter-map, map-map, filter_each, take-map, take_each, equals, rows_at}
-use Rattle.pawn_tables.specs.Tables.{is_at, is_from, IsEntryTold, RiseFrom, entries_from, with_seq, most_page_rows, at_place, at_most_one, entries_listed, entry_cells, extension_cells, extensions_listed, number, secret_cells, secrets_listed, under, AreStorable, StandsFor}
 use Rattle.pawn_tables.proofs.Lent.{debts_of}
 use Rattle.pawn_tables.proofs.ReadTexts as text
 use Rattle.pawn_tables.proofs.BookReads.{at_least}

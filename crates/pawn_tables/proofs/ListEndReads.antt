@@ -1,9 +1,7 @@
 -- What the queries for the ends of a pledge's lists show, where the tables stand for a host.
-use Rattle.std.proofs.Common.{◌≡◌, ℕ, suc, ◌+◌, ◌-◌, List, [], ◌∷◌, length, map, Option, Some, None, option_map, refl, sym, ap, ◌∙◌, arith}
-use Rattle.pawn_tables.specs.Common.{IfSome, unwrap_or, get, Row, column, Shown, State, IsDayNumber, PledgeValue, last_element, Each, Extension, Issued, pledge_in, Host, entries_of, extensions_of, secrets_of, IsUnsoundAt, AreWords, IsWord}
+use Rattle.pawn_tables.proofs.Basics.{◌≡◌, ℕ, suc, ◌+◌, ◌-◌, List, [], ◌∷◌, length, map, Option, Some, None, option_map, refl, sym, ap, ◌∙◌, arith, IfSome, unwrap_or, get, Row, column, Shown, State, IsDayNumber, PledgeValue, last_element, Each, Extension, Issued, pledge_in, Host, entries_of, extensions_of, secrets_of, IsUnsoundAt, AreWords, IsWord, number_cells, AreListEnds, last_cells, last_issued, with_indexes, at_most_one, entries_listed, entry_cells, extension_cells, extensions_listed, number, placed_from, secret_cells, secrets_listed, under, entries_tree, secrets, AreStorable, StandsFor, of_pledges, LastSecret, ListEnds}
 use Rattle.pawn_tables.proofs.Lemmas.{length-map, last_of, last_later, last_some, at_pledge, of_one_pledge, rows_at}
-use Rattle.pawn_tables.specs.Tables.{number_cells, AreListEnds, last_cells, last_issued, with_indexes, at_most_one, entries_listed, entry_cells, extension_cells, extensions_listed, number, placed_from, secret_cells, secrets_listed, under, entries, entries_tree, secrets, AreStorable, StandsFor, of_pledges, LastSecret}
-use Rattle.pawn_tables.specs.declared.joining.ListEnds.{ListEnds}
+use Rattle.pawn_tables.specs.Tables.{entries}
 use Rattle.pawn_tables.proofs.Counts.{count_of, shown_count}
 use Rattle.pawn_tables.proofs.ListElementReads.{at_each}
 use Rattle.pawn_tables.proofs.PledgeReads.{extensions_list, extensions_up, four, last_shown, one_mapped, secrets_list, secrets_up, under_map}

@@ -1,9 +1,7 @@
 -- What the queries of a pledge's lists show behind a place, where the tables stand for a host.
-use Rattle.std.proofs.Common.{◌≡◌, ℕ, zero, suc, ◌+◌, ◌<◌, List, [], ◌∷◌, map, filter, drop, take, nat_lt, Bool, true, false, Option, Some, None, refl, sym, ap, ◌∙◌, arith}
+use Rattle.pawn_tables.proofs.Basics.{◌≡◌, ℕ, zero, suc, ◌+◌, ◌<◌, List, [], ◌∷◌, map, filter, drop, take, nat_lt, Bool, true, false, Option, Some, None, refl, sym, ap, ◌∙◌, arith, get, Row, column, Shown, State, IsDayNumber, PledgeValue, Each, pledge_in, Host, extensions_of, secrets_of, IsUnsoundAt, AreWords, IsWord, is_above, most_page_rows, page_behind, extension_cells, extensions_listed, number, placed_from, secret_cells, secrets_listed, under, AreStorable, StandsFor}
 use Rattle.std.proofs.Math.Seq.{drop-nil}
-use Rattle.pawn_tables.specs.Common.{get, Row, column, Shown, State, IsDayNumber, PledgeValue, Each, pledge_in, Host, extensions_of, secrets_of, IsUnsoundAt, AreWords, IsWord}
 use Rattle.pawn_tables.proofs.Lemmas.{cond-false, cond-true, nat_tests, take_each, rows_at}
-use Rattle.pawn_tables.specs.Tables.{is_above, most_page_rows, page_behind, extension_cells, extensions_listed, number, placed_from, secret_cells, secrets_listed, under, AreStorable, StandsFor}
 use Rattle.pawn_tables.proofs.BookReads.{above}
 use Rattle.pawn_tables.proofs.PledgeReads.{extensions_list, extensions_up, four, page_shown, placed_cells, secrets_list, secrets_up, three}
 use Rattle.pawn_tables.proofs.ReadTexts as text

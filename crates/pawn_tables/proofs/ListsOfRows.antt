@@ -1,8 +1,6 @@
 -- Lists that are read of rows, one row for each element.
-use Rattle.std.proofs.Common.{◌≡◌, ◌++◌, ℕ, zero, suc, ◌+◌, ◌<◌, List, [], ◌∷◌, length, take, map, get_or, slice_get, Option, Some, None, Ok, Err, refl, sym, ap, subst, ◌∙◌, arith}
-use Rattle.pawn_tables.specs.Common.{IfSome, Row, Each, KeepError, Database, NoRecord}
+use Rattle.pawn_tables.proofs.Basics.{◌≡◌, ◌++◌, ℕ, zero, suc, ◌+◌, ◌<◌, List, [], ◌∷◌, length, take, map, get_or, slice_get, Option, Some, None, Ok, Err, refl, sym, ap, subst, ◌∙◌, arith, IfSome, Row, Each, KeepError, Database, NoRecord, IsRead, at_most_one, placed_from}
 use Rattle.pawn_book.specs.declared.fault.KeepError.TheVariants as Keeper
-use Rattle.pawn_tables.specs.Tables.{IsRead, at_most_one, placed_from}
 
 -- the element of a row, with its place
 pub element_at : {A : Type 0} (f : ℕ → A → Row) (k : ℕ) (xs : List A) (rows : List Row) (i : ℕ) (r : Row) → rows ≡ placed_from f k xs → i < length rows → r ≡ get_or rows i r

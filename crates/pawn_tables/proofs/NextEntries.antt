@@ -1,8 +1,6 @@
 -- The entries of a pledge, whose numbers rise.
-use Rattle.std.proofs.Common.{◌≡◌, ◌==◌, ℕ, zero, suc, ◌+◌, ◌≤◌, ◌<◌, List, [], ◌∷◌, map, filter, find, slice_get, take, Bool, true, false, cond, Some, None, refl, sym, ap, subst, ◌∙◌, arith}
-use Rattle.pawn_tables.specs.Common.{IfSome, nat_le, Row, Entry, AreNumbered, Each}
+use Rattle.pawn_tables.proofs.Basics.{◌≡◌, ◌==◌, ℕ, zero, suc, ◌+◌, ◌≤◌, ◌<◌, List, [], ◌∷◌, map, filter, find, slice_get, take, Bool, true, false, cond, Some, None, refl, sym, ap, subst, ◌∙◌, arith, IfSome, nat_le, Row, Entry, AreNumbered, Each, IsEntriesPage, RiseFrom, behind, entries_from, with_seq, most_page_rows, at_place, at_most_one}
 use Rattle.pawn_tables.proofs.Lemmas.{cond-false, cond-true, cond_both, nat_tests, is_page}
-use Rattle.pawn_tables.specs.Tables.{IsEntriesPage, RiseFrom, behind, entries_from, with_seq, most_page_rows, at_place, at_most_one}
 
 -- ---- entries that are numbered 1, 2, ..
 

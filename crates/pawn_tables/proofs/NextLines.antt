@@ -1,8 +1,6 @@
 -- The lines of numbered pledges, one after another.
-use Rattle.std.proofs.Common.{◌≡◌, ℕ, ◌+◌, ◌≤◌, ◌<◌, zero, suc, drop, List, [], ◌∷◌, map, filter, filter_map, length, take, nat_lt, Bool, true, false, cond, Option, Some, None, Result, refl, sym, ap, ◌∙◌, arith, option_map}
-use Rattle.pawn_tables.specs.Common.{get, cons_option, IsNumber, PledgeValue, Each, BookValue, Host, pledges_of, AreNumberedFrom, part_item, part_items, IsUnsoundAt, KeepError, Part, SheetItem}
+use Rattle.pawn_tables.proofs.Basics.{◌≡◌, ℕ, ◌+◌, ◌≤◌, ◌<◌, zero, suc, drop, List, [], ◌∷◌, map, filter, filter_map, length, take, nat_lt, Bool, true, false, cond, Option, Some, None, Result, refl, sym, ap, ◌∙◌, arith, option_map, get, cons_option, IsNumber, PledgeValue, Each, BookValue, Host, pledges_of, AreNumberedFrom, part_item, part_items, IsUnsoundAt, KeepError, Part, SheetItem, Finds, IsRead, IsLineOf, IsLinesPage, item_of, items_past, most_page_rows, number_in_book, AreBooksOrdered, Line}
 use Rattle.pawn_tables.proofs.Lemmas.{nat_tests, map-map, is_page, map_each, page_as, take_each}
-use Rattle.pawn_tables.specs.Tables.{Finds, IsRead, IsLineOf, IsLinesPage, item_of, items_past, most_page_rows, number_in_book, AreBooksOrdered, Line}
 use Rattle.pawn_tables.proofs.StatementFinds.{found_as}
 use Rattle.pawn_tables.proofs.SoundBooks.{unsound_book}
 

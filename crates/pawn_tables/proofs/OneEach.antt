@@ -1,10 +1,6 @@
 -- What a query shows of a table that has one row of a pledge at most.
-use Rattle.std.proofs.Common.{◌≡◌, ◌≢◌, ◌++◌, ◌==◌, ℕ, ◌+◌, ◌<◌, List, [], ◌∷◌, map, filter, filter_map, flat_map, length, take, Bool, true, false, cond, ◌&&◌, Option, Some, None, refl, sym, ap, subst, ◌∙◌, arith}
-use Rattle.pawn_tables.specs.Common.{Holds, Shown, State, Table, Term, Trees, columns_of, get, AllByRecursion, cons_option, Less, Row, column, value_cmp, IsAscending, PledgeValue, BookValue, Host, pledges_of, AreNumberedFrom}
-use Rattle.std.proofs.lemmas.Bool.{and_left}
+use Rattle.pawn_tables.proofs.Basics.{◌≡◌, ◌≢◌, ◌++◌, ◌==◌, ℕ, ◌+◌, ◌<◌, List, [], ◌∷◌, map, filter, filter_map, flat_map, length, take, Bool, true, false, cond, ◌&&◌, Option, Some, None, refl, sym, ap, subst, ◌∙◌, arith, Holds, Shown, State, Table, Term, Trees, columns_of, get, AllByRecursion, cons_option, Less, Row, column, value_cmp, IsAscending, PledgeValue, BookValue, Host, pledges_of, AreNumberedFrom, and_left, HasOurTables, at_most_one, number, number_in_book, under, with_indexes, AreBooksOrdered, of_pledges, overlay}
 use Rattle.pawn_tables.proofs.Lemmas.{Asks, cond-false, nat_tests, map-append, ascending-filter, by_column, few_of_table, filter-append, filter-flat_map, flat_map_none, length-map, less, of_one_book, passes, rows_at, shown_few, shows_of}
-use Rattle.pawn_tables.specs.Tables.{HasOurTables, at_most_one, number, number_in_book, under, with_indexes, AreBooksOrdered, of_pledges}
-use Rattle.one_table.specs.Common.{overlay}
 use Rattle.pawn_tables.proofs.Counts.{count_of, how_many, shown_count}
 
 -- what is told of what a pledge has, if it has it and it is such

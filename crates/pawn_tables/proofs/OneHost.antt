@@ -1,12 +1,10 @@
 -- Tables stand for one host at most.
-use Rattle.std.proofs.Common.{◌≡◌, ◌==◌, ℕ, suc, ◌+◌, ◌≤◌, List, [], ◌∷◌, map, filter, codes, Bool, true, false, Option, Some, None, refl, sym, ap, subst, ◌∙◌, arith, IsPermutation, slice_get}
-use Rattle.pawn_tables.specs.Common.{IfSome, if◌then◌else◌, nat_cmp_total, get, nat_cmp-IsAntisymmetric, same_map, list_all, binary, Row, column, value_cmp, State, Table, Trees, Text, Rates, PledgeValue, BookValue, pledge_from, pledge_in, Host, rows, WholeIsSound, entries_of, extensions_of, secrets_of, terms_of, terms_at, IsSound, IsWord}
+use Rattle.pawn_tables.proofs.Basics.{◌≡◌, ◌==◌, ℕ, suc, ◌+◌, ◌≤◌, List, [], ◌∷◌, map, filter, codes, Bool, true, false, Option, Some, None, refl, sym, ap, subst, ◌∙◌, arith, IsPermutation, slice_get, IfSome, if◌then◌else◌, nat_cmp_total, get, nat_cmp-IsAntisymmetric, same_map, list_all, binary, Row, column, value_cmp, State, Table, Trees, Text, Rates, PledgeValue, BookValue, pledge_from, pledge_in, Host, rows, WholeIsSound, entries_of, extensions_of, secrets_of, terms_of, terms_at, IsSound, IsWord, at_book, at_pledge, is_at, meta_row, meta_rows, booking_of, at_most_one, booking_cells, booking_listed, entry_cells, extension_cells, head_cells, pledge_cells, pledge_listed, secret_cells, terms_cells, under, books_tree, meta_tree, terms_tree, HoldHost, StandsFor, of_pledges}
 use Rattle.pawn_tables.proofs.Lemmas.{nat_tests, IsPermutation-map, IsPermutation-filter, one_permutation, of_one_pledge, rows_at}
 use Rattle.sqlite.specs.Effect.{Database}
 use Rattle.sqlite_trees.specs.Objects.{catalog_tree}
 use Rattle.sqlite_catalog.proofs.ReadLemmas.{lists_once}
 use Rattle.pawn_tables.specs.Keeps.{keeping_by}
-use Rattle.pawn_tables.specs.Tables.{at_book, at_pledge, is_at, meta_row, meta_rows, booking_of, at_most_one, booking_cells, booking_listed, entry_cells, extension_cells, head_cells, pledge_cells, pledge_listed, secret_cells, terms_cells, under, books_tree, meta_tree, terms_tree, HoldHost, StandsFor, of_pledges}
 use Rattle.pawn_tables.proofs.ListsOfRows.{mapped, each_any}
 use Rattle.pawn_tables.proofs.Lent.{debts_of}
 use Rattle.pawn_tables.proofs.PledgeReads.{ListsRows, booking_told, bookings_list, entries_list, entries_told, entries_up, extensions_list, extensions_told, extensions_up, few, four, fourteen, number_in, one_told, one_version, pledges_list, secrets_list, secrets_told, secrets_up, short, three, under_in}
@@ -115,10 +113,6 @@ book_of k l row a b c d terms' pledges' =
     let capacity = SameRows.same_number k.capacity l.capacity (ap (λ r. column r 2) row) in
     let imported = SameRows.same_imported k.imported l.imported c d (ap (λ r. column r 5) row) (ap (λ r. column r 6) row) in
     λ i. record { key = key i; name = name i; capacity = capacity i; terms = terms' i; pledges = pledges' i; imported = imported i }
-
-pledges_at : Option BookValue → List PledgeValue
-pledges_at None = []
-pledges_at (Some k) = k.pledges
 
 abbrev pub is_limit : Row → Bool
 is_limit v = list_all (λ (x : Bool). x) (is_at (column v 0) (Text (codes "limit")) ∷ [])

@@ -1,9 +1,6 @@
 -- The first elements of a list of which one knows what is left behind each.
-use Rattle.std.proofs.Common.{◌≡◌, ◌++◌, ℕ, zero, suc, ◌-◌, ◌<◌, List, [], ◌∷◌, length, map, take, slice_get, Bool, filter, Some, refl, sym, ap, subst, ◌∙◌, arith, option_map}
-use Rattle.pawn_tables.specs.Common.{unwrap_or, last_element, Each}
-use Rattle.std.proofs.lemmas.Bool.{cond_both}
-use Rattle.std.proofs.lemmas.List.{length-take, map-append, map-id}
-use Rattle.pawn_tables.specs.Pages.{IsPage, most_page_rows, page_end}
+use Rattle.pawn_tables.proofs.Basics.{◌≡◌, ◌++◌, ℕ, zero, suc, ◌-◌, ◌<◌, List, [], ◌∷◌, length, map, take, slice_get, Bool, filter, Some, refl, sym, ap, subst, ◌∙◌, arith, option_map, unwrap_or, last_element, Each, cond_both, length-take, map-append, map-id, most_page_rows}
+use Rattle.pawn_tables.specs.Pages.{IsPage, page_end}
 
 pub last_later : {A : Type 0} (x y : A) (ys : List A) → last_element (x ∷ y ∷ ys) ≡ last_element (y ∷ ys)
 last_later x y ys =

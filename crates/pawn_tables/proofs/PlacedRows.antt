@@ -1,8 +1,6 @@
 -- Rows that count their places in a column.
-use Rattle.std.proofs.Common.{◌≡◌, ◌==◌, ℕ, zero, suc, ◌+◌, ◌<◌, List, [], ◌∷◌, map, filter, Bool, true, false, cond, ◌&&◌, refl, ap, ◌∙◌, arith, slice_get}
-use Rattle.pawn_tables.specs.Common.{AllByRecursion, Row, column}
+use Rattle.pawn_tables.proofs.Basics.{◌≡◌, ◌==◌, ℕ, zero, suc, ◌+◌, ◌<◌, List, [], ◌∷◌, map, filter, Bool, true, false, cond, ◌&&◌, refl, ap, ◌∙◌, arith, slice_get, AllByRecursion, Row, column, is_at, at_place, at_most_one, number, placed_from}
 use Rattle.pawn_tables.proofs.Lemmas.{nat_tests, cond-false, cond-true, equals}
-use Rattle.pawn_tables.specs.Tables.{is_at, at_place, at_most_one, number, placed_from}
 
 pub regroup : (a b c : Bool) → (a && (b && (c && true))) ≡ ((a && (b && true)) && c)
 regroup true true true = refl

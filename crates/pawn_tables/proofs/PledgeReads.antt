@@ -1,11 +1,7 @@
 -- What the queries of a pledge show, where the tables stand for a host.
-use Rattle.std.proofs.Common.{◌≡◌, ℕ, zero, suc, ◌+◌, ◌≤◌, List, [], ◌∷◌, map, filter, length, take, Bool, ◌&&◌, Option, Some, None, refl, sym, ap, subst, ◌∙◌, arith, IsPermutation}
-use Rattle.sqlite_trees.proofs.ListLemmas.{filter_all, filter_none}
-use Rattle.one_table.specs.Common.{overlay}
-use Rattle.pawn_tables.specs.Common.{get, list_all, Less, Row, column, value_cmp, Shown, State, Table, Tables, Term, Trees, Value, Rates, PledgeValue, Each, Booking, BookValue, option_map, pledge_in, Host, entries_of, extensions_of, secrets_of, terms_of, IsUnder, terms_at, Holds, columns_of}
+use Rattle.pawn_tables.proofs.Basics.{◌≡◌, ℕ, zero, suc, ◌+◌, ◌≤◌, List, [], ◌∷◌, map, filter, length, take, Bool, ◌&&◌, Option, Some, None, refl, sym, ap, subst, ◌∙◌, arith, IsPermutation, filter_all, filter_none, overlay, get, list_all, Less, Row, column, value_cmp, Shown, State, Table, Tables, Term, Trees, Value, Rates, PledgeValue, Each, Booking, BookValue, option_map, pledge_in, Host, entries_of, extensions_of, secrets_of, terms_of, IsUnder, terms_at, Holds, columns_of, HasOurTables, RiseFrom, at_place, is_at, most_page_rows, with_indexes, booking_of, totals_in, at_most_one, booking_cells, booking_listed, credit_cells, entries_listed, entry_cells, extension_cells, extensions_listed, number, placed_from, pledge_cells, pledge_listed, secret_cells, secrets_listed, terms_cells, terms_listed, totals_cells, totals_listed, under, bookings, bookings_tree, entries_tree, extensions, extensions_tree, pledges, pledges_tree, secrets, secrets_tree, terms, terms_tree, totals, totals_tree, AreBooksOrdered, ListDebts, StandsFor, of_books, of_pledges, each_at}
 use Rattle.pawn_tables.proofs.Lemmas.{Asks, and-true, ascending-filter, few_of_table, nat_tests, shown_few, by_column, by_column_down, filter_agree, first_of_table, last_of, length_permutation, map-map, nil_from_length, one_permutation, over_table, passes, shown_in_order, shown_last, shown_listed, shows_of, AreUnder, Rise, at_pledge, entries_rise, equals, number_from, of_one_book, of_one_pledge, placed_rise, rows_at}
-use Rattle.pawn_tables.specs.Tables.{HasOurTables, RiseFrom, at_place, is_at, most_page_rows, with_indexes, booking_of, totals_in, at_most_one, booking_cells, booking_listed, credit_cells, entries_listed, entry_cells, extension_cells, extensions_listed, number, placed_from, pledge_cells, pledge_listed, secret_cells, secrets_listed, terms_cells, terms_listed, totals_cells, totals_listed, under, bookings, bookings_tree, entries, entries_tree, extensions, extensions_tree, pledges, pledges_tree, secrets, secrets_tree, terms, terms_tree, totals, totals_tree, AreBooksOrdered, ListDebts, StandsFor, of_books, of_pledges}
-use Rattle.pawn_book.proofs.Sounds.{each_at}
+use Rattle.pawn_tables.specs.Tables.{entries}
 use Rattle.pawn_tables.proofs.Lent.{debts_of}
 use Rattle.pawn_tables.proofs.PlacedRows.{filter_both, has_place, placed_all, placed_shown, regroup}
 use Rattle.pawn_tables.proofs.ReadTexts as text

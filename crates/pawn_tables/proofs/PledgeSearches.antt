@@ -1,8 +1,6 @@
 -- What the query for the pledge with a reference shows, where the tables stand for a host.
-use Rattle.std.proofs.Common.{◌≡◌, ◌==◌, ℕ, List, [], ◌∷◌, map, filter_map, find, take, Bool, true, false, cond, ◌&&◌, Option, Some, None, refl, ap, ◌∙◌, option_map}
-use Rattle.pawn_tables.specs.Common.{cons_option, get, list_all, Row, column, Shown, State, Text, PledgeValue, BookValue, Host, number_of, is_same_text}
+use Rattle.pawn_tables.proofs.Basics.{◌≡◌, ◌==◌, ℕ, List, [], ◌∷◌, map, filter_map, find, take, Bool, true, false, cond, ◌&&◌, Option, Some, None, refl, ap, ◌∙◌, option_map, cons_option, get, list_all, Row, column, Shown, State, Text, PledgeValue, BookValue, Host, number_of, is_same_text, is_at, number_cells, at_most_one, number, number_in_book, pledge_cells, pledges, pledges_tree, under, StandsFor}
 use Rattle.pawn_tables.proofs.Lemmas.{and-true, equals}
-use Rattle.pawn_tables.specs.Tables.{is_at, number_cells, at_most_one, number, number_in_book, pledge_cells, pledges, pledges_tree, under, StandsFor}
 use Rattle.pawn_tables.proofs.BookReads.{same_texts}
 use Rattle.pawn_tables.proofs.LineReads.{all_kept}
 use Rattle.pawn_tables.proofs.OneEach.{first_each, tell_of}

@@ -1,9 +1,6 @@
 -- What the texts of the queries mean.
-use Rattle.std.proofs.Common.{List, [], ◌∷◌, ℕ, pos, codes, refl}
+use Rattle.pawn_tables.proofs.Basics.{List, [], ◌∷◌, ℕ, pos, codes, refl, Index, Compare, Eq, Ge, Gt, Lt, Binary, understood, Term, col, lit, op2, Int, Text, once_of_table, few_of_table, first_of_table, over_table, Asks, by_column, by_column_down, is_param, with_indexes, most_page_rows, bookings_tree, books_tree, entries_tree, extensions_tree, meta_tree, pledges_tree, secrets_tree, terms_tree, totals_tree}
 use Rattle.sqlite_tied.specs.Compute.{everything}
-use Rattle.pawn_tables.specs.Common.{Index, Compare, Eq, Ge, Gt, Lt, Binary, understood, Term, col, lit, op2, Int, Text}
-use Rattle.pawn_tables.proofs.Lemmas.{once_of_table, few_of_table, first_of_table, over_table, Asks, by_column, by_column_down, is_param}
-use Rattle.pawn_tables.specs.Tables.{with_indexes, most_page_rows, bookings_tree, books_tree, entries_tree, extensions_tree, meta_tree, pledges_tree, secrets_tree, terms_tree, totals_tree}
 use Rattle.pawn_tables.proofs.Counts.{how_many}
 pub use Rattle.pawn_tables.specs.declared.texts.TheConstants.{COUNT_ASKED, COUNT_CONFIRMED, COUNT_ENDS, COUNT_ENTRIES, FIND_NEXT_BOOK, FIND_REFERENCE, READ_ASKED_PAGE, READ_BOOKING, READ_CONFIRMED_PAGE, READ_CREDIT, READ_ENDS_PAGE, READ_ENTRIES, READ_ENTRIES_PAGE, READ_ENTRY, READ_EXTENSION, READ_EXTENSIONS, READ_EXTENSIONS_PAGE, READ_HEAD, READ_LAST_PLACE, READ_LAST_SECRET, READ_PLEDGE, READ_ROWS, READ_SECRET, READ_SECRETS, READ_SECRETS_PAGE, READ_TERMS, READ_TOTALS, READ_WINDOWS}
 

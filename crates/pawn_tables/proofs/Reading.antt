@@ -1,9 +1,5 @@
 -- What the proofs of reads use: words of rows and hosts, and lemmas on what a query shows.
-pub use Rattle.std.proofs.Common.{Err, Ok, Some, ap, arith, length, map, refl, rules, subst, sym, ℕ, ◌+◌, ◌∙◌, ◌≡◌}
-pub use Rattle.one_table.specs.Common.{List, Option, state}
-pub use Rattle.pawn_tables.specs.Common.{Host, IfSome, IsNextBook, IsWord, entries_of, extensions_of, get, option_map, pledge_in, pledges_of, secrets_of, terms_of}
-pub use Rattle.pawn_tables.specs.Tables.{AreListEnds, AreLists, AreSides, AreTold, IsBriefTold, LastSecret, NamesWindows, asked_line, booking_of, confirmed_line, ends_line, last_cells, last_issued, line_cells, row_of, totals_in}
-pub use Rattle.pawn_tables.specs.declared.joining.StoredPledge.{StoredPledge}
+pub use Rattle.pawn_tables.proofs.Basics.{Err, Ok, Some, ap, arith, length, map, refl, rules, subst, sym, ℕ, ◌+◌, ◌∙◌, ◌≡◌, List, Option, state, Host, IfSome, IsNextBook, IsWord, entries_of, extensions_of, get, option_map, pledge_in, pledges_of, secrets_of, terms_of, AreListEnds, AreLists, AreSides, AreTold, IsBriefTold, LastSecret, NamesWindows, asked_line, booking_of, confirmed_line, ends_line, last_issued, line_cells, row_of, totals_in, StoredPledge}
 pub use Rattle.pawn_tables.proofs.BookReads.{head_shown, is_next, next_shown, rows_shown}
 pub use Rattle.pawn_tables.proofs.Joins.{joined_told, lists_told, none_under, row_is, sides_told, told_is, told_of, version_fits}
 pub use Rattle.pawn_tables.proofs.Lent.{debts_of, first_unfound, second_unfound, third_unfound, three_found, two_found}

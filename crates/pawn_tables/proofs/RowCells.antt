@@ -1,6 +1,5 @@
 -- The cells of a row.
-use Rattle.std.proofs.Common.{◌≡◌, ℕ, ◌<◌, length, sym, ap, subst, ◌∙◌}
-use Rattle.pawn_tables.specs.Common.{Row, column, Value}
+use Rattle.pawn_tables.proofs.Basics.{◌≡◌, ℕ, ◌<◌, length, sym, ap, subst, ◌∙◌, Row, column, Value}
 
 -- what stands in a column, where the row is known
 pub cell_at : (row cells : Row) (at : ℕ) (v : Value) → row ≡ cells → at < length cells → column cells at ≡ v → (at < length row) × (column row at ≡ v)

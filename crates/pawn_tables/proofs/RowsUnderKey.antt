@@ -1,13 +1,6 @@
 -- The rows of one book, and of one pledge, among those of a host.
-use Rattle.std.proofs.Common.{◌≡◌, ◌≢◌, ◌++◌, ◌==◌, ℕ, ◌+◌, ◌<◌, pos, List, [], ◌∷◌, map, filter, flat_map, Bool, true, false, cond, ◌&&◌, Option, Some, None, T, refl, sym, ap, subst, ◌∙◌, arith, append-nil}
-use Rattle.std.proofs.lemmas.Bool.{and_left, and_right, cond-false, cond-true}
-use Rattle.std.proofs.lemmas.List.Elements.{filter-append}
-use Rattle.sqlite_trees.proofs.ListLemmas.{flat_map_none}
-use Rattle.pawn_tables.specs.Common.{if◌then◌else◌, entries, entries_sorted, find, get, get-entries, is_sorted, below_all, AllByRecursion, is_eq, is_lt, nat_cmp, Less, binary, from_truth, is_true, Row, column, value_cmp, IsAscending, Value, Entry, PledgeValue, BookValue, pledge_from, pledge_in, Host, AreNumberedFrom}
-use Rattle.std.proofs.lemmas.Bool.Decides.{nat_tests}
-use Rattle.sqlite_value.proofs.OrderLemmas.{value_cmp-Int}
-use Rattle.pawn_tables.specs.Tables.{RiseFrom, number, placed_from, AreBooksOrdered, of_books, of_pledges}
-pub use Rattle.pawn_tables.specs.At.{is_at, at_book, at_pledge}
+use Rattle.pawn_tables.proofs.Basics.{◌≡◌, ◌≢◌, ◌++◌, ◌==◌, ℕ, ◌+◌, ◌<◌, pos, List, [], ◌∷◌, map, filter, flat_map, Bool, true, false, cond, ◌&&◌, Option, Some, None, T, refl, sym, ap, subst, ◌∙◌, arith, append-nil, and_left, and_right, cond-false, cond-true, filter-append, flat_map_none, if◌then◌else◌, entries, entries_sorted, get, get-entries, is_sorted, below_all, AllByRecursion, is_eq, is_lt, nat_cmp, Less, binary, from_truth, is_true, Row, column, value_cmp, IsAscending, Value, Entry, PledgeValue, BookValue, pledge_from, pledge_in, Host, AreNumberedFrom, nat_tests, value_cmp-Int, RiseFrom, number, placed_from, AreBooksOrdered, of_books, of_pledges, is_at, at_pledge}
+use Rattle.pawn_tables.specs.Common.{find}
 
 -- ---- SQL's = on numbers
 

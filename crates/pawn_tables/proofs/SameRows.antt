@@ -1,12 +1,9 @@
 -- What the rows of a table tell, they tell once.
-use Rattle.std.proofs.Common.{◌≡◌, ℕ, zero, suc, ◌+◌, ◌≤◌, ◌<◌, List, [], ◌∷◌, length, Bool, true, false, Option, Some, None, refl, sym, ap, ◌∙◌, arith, IsPermutation, get_or}
-use Rattle.pawn_tables.specs.Common.{IfSome, IsTotalOrder, on_total, from_be_bytes, to_be_bytes, w128, is_lt, ordering_reverse, Less, Row, column, value_cmp, Table, IsAscending, Trees, Value, Text, Rates, credit_of, Entry, Kind, Fixed, Running, Sort, Draw, Repay, PledgeValue, Each, Booking, BookingState, Closing, Extension, Issue, Issued, IsWord, Imported, Holds}
-use Rattle.pawn_tables.proofs.Lemmas.{IsPermutation-sym, IsPermutation-trans, ascending-get_or, value_cmp_total}
+use Rattle.pawn_tables.proofs.Basics.{◌≡◌, ℕ, zero, suc, ◌+◌, ◌≤◌, ◌<◌, List, [], ◌∷◌, length, Bool, true, false, Option, Some, None, refl, sym, ap, ◌∙◌, arith, IsPermutation, get_or, IfSome, IsTotalOrder, on_total, from_be_bytes, to_be_bytes, w128, is_lt, ordering_reverse, Less, Row, column, value_cmp, Table, IsAscending, Trees, Value, Text, Rates, credit_of, Entry, Kind, Fixed, Running, Sort, Draw, Repay, PledgeValue, Each, Booking, BookingState, Closing, Extension, Issue, Issued, IsWord, Imported, Holds, IsPermutation-sym, IsPermutation-trans, ascending-get_or, value_cmp_total, number, flag_number, or_null, word, kind_number, sort_number, issue_number, state_number, closed_number, closed_day, closed_amount, import_key, import_count, at_most_one, placed_from, pledge_cells, entry_cells, secret_cells, extension_cells, booking_cells, terms_cells}
 use Rattle.sqlite_keyed.proofs.SortLemmas.{sorted_unique}
 use Rattle.pawn_pledge.specs.declared.record.Issue.TheVariants as issue
 use Rattle.pawn_pledge.specs.declared.record.BookingState.TheVariants as state
 use Rattle.pawn_pledge.specs.declared.record.Closing.TheVariants as closing
-use Rattle.pawn_tables.specs.Rows.{number, flag_number, or_null, word, kind_number, sort_number, issue_number, state_number, closed_number, closed_day, closed_amount, import_key, import_count, at_most_one, placed_from, pledge_cells, entry_cells, secret_cells, extension_cells, booking_cells, terms_cells}
 use Rattle.pawn_tables.proofs.Words.{word_of_bytes}
 
 -- two lists that a table holds
@@ -48,12 +45,6 @@ same_optional None None e = refl
 same_optional None (Some n) e = absurd (let x = e in cc)
 same_optional (Some m) None e = absurd (let x = e in cc)
 same_optional (Some m) (Some n) e = ap Some (same_number m n e)
-
-same_optional_word : (o o' : Option ℕ) → IfSome o IsWord → IfSome o' IsWord → or_null word o ≡ or_null word o' → o ≡ o'
-same_optional_word None None fits fits' e = refl
-same_optional_word None (Some n) fits fits' e = absurd (let x = e in cc)
-same_optional_word (Some m) None fits fits' e = absurd (let x = e in cc)
-same_optional_word (Some m) (Some n) fits fits' e = ap Some (same_word m n fits fits' e)
 
 same_flag : (a b : Bool) → flag_number a ≡ flag_number b → a ≡ b
 same_flag true true e = refl

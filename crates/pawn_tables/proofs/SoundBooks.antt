@@ -1,9 +1,6 @@
 -- What is kept of a sound host's books can be read of their rows.
-use Rattle.std.proofs.Common.{◌≡◌, ℕ, ◌+◌, ◌≤◌, List, [], ◌∷◌, length, Option, Some, None, Result, Ok, Err, refl, arith, option_map}
-use Rattle.pawn_tables.specs.Common.{IfSome, get, IsNumber, PledgeValue, BookValue, with_reference, Host, IsNextBook, number_of, AreNumberedFrom, is_same_text, HasUnsoundBook, IsSoundAt, IsUnsoundAt, KeepError, Database, NoRecord}
+use Rattle.pawn_tables.proofs.Basics.{◌≡◌, ℕ, ◌+◌, ◌≤◌, List, [], ◌∷◌, length, Option, Some, None, Result, Ok, Err, refl, arith, option_map, IfSome, get, IsNumber, PledgeValue, BookValue, with_reference, Host, IsNextBook, number_of, AreNumberedFrom, is_same_text, HasUnsoundBook, IsSoundAt, IsUnsoundAt, KeepError, Database, NoRecord, Finds, HasKeys, IsHeadTold, AreStorable, cond_both}
 use Rattle.pawn_book.specs.declared.fault.KeepError.TheVariants as Keeper
-use Rattle.pawn_tables.specs.Tables.{Finds, HasKeys, IsHeadTold, AreStorable}
-use Rattle.std.proofs.lemmas.Bool.{cond_both}
 use Rattle.pawn_tables.proofs.BookReads.{next_of, is_next}
 
 module _ (h : Host) (b : ℕ) where

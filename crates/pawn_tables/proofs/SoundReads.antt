@@ -1,6 +1,6 @@
 -- What is kept of a sound host can be read of its rows.
-use Rattle.std.proofs.Common.{◌≡◌, ℕ, zero, suc, ◌-◌, ◌≤◌, List, [], ◌∷◌, slice_get, Option, Some, None, Result, Ok, Err, refl, sym, subst, arith, length, option_map, ◌++◌, IsOk, false}
-use Rattle.pawn_tables.specs.Common.{IfSome, IsTrue, is_some, get, IsDayNumber, IsStampDay, later_of, six_months, first_day, last_stamp_day, IsChecked, Rates, DebtValue, last_of, Entry, Sort, Draw, Repay, PledgeValue, debt_of, end_of, last_element, last_until, AreExtended, AreIssued, Each, IsBooked, IsClosed, IsStanding, Booking, Closing, Open, Redeemed, Sold, Extension, Issued, BookValue, pledge_from, pledge_in, Host, entries_of, extensions_of, secrets_of, terms_of, terms_at, IsSoundBook, IsUnsoundAt, AreWords, HasTextsAndWords, KeepError, Database, NoRecord}
+use Rattle.pawn_tables.proofs.Basics.{◌≡◌, ℕ, zero, suc, ◌-◌, ◌≤◌, List, [], ◌∷◌, slice_get, Option, Some, None, Result, Ok, Err, refl, sym, subst, arith, length, option_map, ◌++◌, IsOk, false, IfSome, IsTrue, is_some, get, IsDayNumber, IsStampDay, later_of, six_months, first_day, last_stamp_day, IsChecked, Rates, DebtValue, Entry, Sort, Draw, Repay, PledgeValue, debt_of, end_of, last_element, last_until, AreExtended, AreIssued, Each, IsBooked, IsClosed, IsStanding, Booking, Closing, Open, Redeemed, Sold, Extension, Issued, BookValue, pledge_from, pledge_in, Host, entries_of, extensions_of, secrets_of, terms_of, terms_at, IsSoundBook, IsUnsoundAt, AreWords, HasTextsAndWords, KeepError, Database, NoRecord, each_at, IsAmount, IsEntryTold, Finds, IsRead, IsBriefTold, IsCreditTold, IsRowTold, booking_of, totals_in, closed_day, AreStorable}
+use Rattle.pawn_tables.specs.Common.{last_of}
 use Rattle.pawn_tables.proofs.Lemmas.{nat_tests, last_some}
 use Rattle.pawn_base.specs.Lists.{DoNotFall, last_by}
 use Rattle.pawn_debt.specs.Answers.{draw_rows, is_bad_amount, repay_rows, with_entry}
@@ -11,8 +11,6 @@ use Rattle.pawn_base.proofs.RefusalLemmas.{first_of-is_ok}
 use Rattle.pawn_terms.proofs.SixMonths.{six_months_is}
 use Rattle.pawn_pledge.proofs.Briefs.{brief_is_within}
 use Rattle.pawn_book.specs.declared.fault.KeepError.TheVariants as Keeper
-use Rattle.pawn_book.proofs.Sounds.{each_at}
-use Rattle.pawn_tables.specs.Tables.{IsAmount, IsEntryTold, Finds, IsRead, IsBriefTold, IsCreditTold, IsRowTold, booking_of, totals_in, closed_day, AreStorable}
 
 -- ---- answers
 

@@ -1,10 +1,7 @@
 -- What a statement that is asked within a transaction finds.
-use Rattle.std.proofs.Common.{◌≡◌, List, ℕ, true, Result, Ok, Err, refl, sym, subst}
-use Rattle.pawn_tables.specs.Common.{Index, Tables, understood, Row, Schema, HasCleanDisk, Shown, State, Host, KeepError, Database, NoRecord, IsLent, Rests}
-use Rattle.sqlite.proofs.Callers.{IsPlain}
+use Rattle.pawn_tables.proofs.Basics.{◌≡◌, List, ℕ, true, Result, Ok, Err, refl, sym, subst, Index, Tables, understood, Row, Schema, HasCleanDisk, Shown, State, Host, KeepError, Database, NoRecord, IsLent, Rests, IsPlain, Finds, FindsIn, FindsOf, IsRead, HasOurTables, with_indexes, ListDebts, StandsFor}
 use Rattle.pawn_book.specs.declared.fault.KeepError.TheVariants as Keeper
 use Rattle.one_table.proofs.Parts.{plain_rests}
-use Rattle.pawn_tables.specs.Tables.{Finds, FindsIn, FindsOf, IsRead, HasOurTables, with_indexes, ListDebts, StandsFor}
 
 -- what was read has what holds of what stands, and what can't be kept is of a host that is not sound
 pub found_as : {A : Type 0} (r : Result A KeepError) (x : A) (P : A → Type 0) (Q U : Type 0) → IsRead r x Q → P x → ((Q → ⊥) → U) → Finds r P U

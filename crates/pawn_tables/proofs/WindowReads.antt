@@ -1,12 +1,10 @@
 -- What the query for the windows of a day shows, where the tables stand for a host.
-use Rattle.std.proofs.Common.{◌≡◌, ◌≢◌, ◌==◌, ℕ, ◌<◌, ◌≤◌, pos, List, [], ◌∷◌, map, filter, filter_map, nat_lt, Bool, true, false, cond, ◌&&◌, ◌||◌, Option, Some, None, refl, sym, ap, subst, ◌∙◌, arith, true≢false}
-use Rattle.pawn_tables.specs.Common.{get, AllByRecursion, IsDistinct, cons_option, list_all, list_any, eq_by_cmp, is_eq, ordering_then, Equal, Greater, Less, collated_cmp, Binary, Row, column, value_cmp, Shown, State, Table, PledgeValue, Booking, is_confirmed, is_confirmed_for, Host, pledges_of, part_items, Confirmed}
+use Rattle.pawn_tables.proofs.Basics.{◌≡◌, ◌≢◌, ◌==◌, ℕ, ◌<◌, ◌≤◌, pos, List, [], ◌∷◌, map, filter, filter_map, nat_lt, Bool, true, false, cond, ◌&&◌, ◌||◌, Option, Some, None, refl, sym, ap, subst, ◌∙◌, arith, true≢false, get, AllByRecursion, IsDistinct, cons_option, list_all, list_any, eq_by_cmp, is_eq, ordering_then, Equal, Greater, Less, collated_cmp, Binary, Row, column, value_cmp, Shown, State, Table, PledgeValue, Booking, is_confirmed, is_confirmed_for, Host, pledges_of, part_items, Confirmed, is_at, is_below, number_cells, NamesWindows, with_indexes, booking_cells, booking_listed, number, number_in_book, state_number, under, bookings, bookings_tree, StandsFor, of_pledges}
 use Rattle.std.specs.declared.cmp.Ordering.{Ordering}
 use Rattle.pawn_tables.proofs.Lemmas.{and-true, nat_tests, all-map, all_from_map, all_weaker, value_cmp-Int, each_shown_once, shown_apart, shown_once_each, equals}
 use Rattle.std.proofs.lemmas.Cmp.{alike_right, tied_itself}
 use Rattle.sqlite_value.proofs.KeyLemmas.{collated_cmp_total}
 use Rattle.pawn_book.specs.declared.sheet.Part.TheVariants as part_of
-use Rattle.pawn_tables.specs.Tables.{is_at, is_below, number_cells, NamesWindows, with_indexes, booking_cells, booking_listed, number, number_in_book, state_number, under, bookings, bookings_tree, StandsFor, of_pledges}
 use Rattle.pawn_tables.proofs.ReadTexts as text
 use Rattle.pawn_tables.proofs.BookReads as books
 use Rattle.pawn_tables.proofs.LineReads.{all_kept, booking_in, confirmed_state}

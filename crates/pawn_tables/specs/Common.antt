@@ -5,7 +5,6 @@ pub use Rattle.std.specs.FinMap.Entries.{below_all}
 pub use Rattle.std.specs.Int.{from_be_bytes, to_be_bytes, w128}
 pub use Rattle.std.specs.List.{AllZip, cons_option}
 pub use Rattle.std.specs.Ordering.{is_ge, is_gt, nat_cmp, ordering_reverse, ordering_then}
-pub use Rattle.std.specs.Prelude.{IfSome, IsTrue, if◌then◌else◌, is_ok, is_some, nat_le, option_map, unwrap_or}
 pub use Rattle.std.specs.Str.{IsUtf8}
 pub use Rattle.sqlite_schema.specs.declared.schema.Index.{Index}
 pub use Rattle.sqlite_sql.specs.declared.ops.CompareOp.TheVariants.{Ge, Gt, Lt}
@@ -56,7 +55,7 @@ pub use Rattle.pawn_book.specs.declared.fault.StoreFault.TheVariants.{Database, 
 pub use Rattle.pawn_book.specs.declared.sheet.Part.{Part}
 pub use Rattle.pawn_book.specs.declared.sheet.SheetItem.{SheetItem}
 pub use Rattle.pawn_book.specs.declared.sheet.SheetItem.TheVariants.{Confirmed}
-pub use Rattle.one_table.specs.Common.{AllByRecursion, Binary, Blob, Compare, Env, Eq, Equal, Executes, Greater, HasCleanDisk, Held, Int, Less, Null, Row, Schema, Shown, Some, State, Table, Term, Text, Trees, Value, col, column, eq_by_cmp, from_truth, is_eq, is_lt, is_true, list_all, list_any, lit, op2, state}
+pub use Rattle.one_table.specs.Common.{AllByRecursion, Binary, Blob, Compare, Env, Eq, Equal, Executes, Greater, HasCleanDisk, Held, Int, Less, Null, Row, Schema, Shown, State, Table, Term, Text, Trees, Value, col, column, eq_by_cmp, from_truth, is_eq, is_lt, is_true, list_all, list_any, lit, op2, state}
 unfoldable pub use Rattle.one_table.specs.Common.{IsDistinct, binary, understood}
 pub use Rattle.one_table.specs.Lending.{IsLent, Lends, Rests}
 pub use Rattle.one_table.specs.Listing.{Holds, Listed, Lists, columns_of}

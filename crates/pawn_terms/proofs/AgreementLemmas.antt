@@ -1,11 +1,5 @@
 -- The library's calendar counts the days as the rules' own does.
-use Rattle.std.proofs.Common.{◌≡◌, ℕ, zero, suc, ◌+◌, ◌-◌, ◌≤◌, refl, ap, ◌∙◌, arith, ℤ, pos}
-use Rattle.jiff_core.specs.Calendar.{day_count, days_from_civil}
-use Rattle.jiff_core.specs.declared.civil.date.Date.{Date}
-use Rattle.jiff_core.specs.Date.{epoch_day}
-use Rattle.jiff_core.proofs.SignedLemmas.{signed_arith}
-use Rattle.jiff_core.proofs.CalendarLemmas.{days_from_civil-day_count, day_count-day, day_count-next_month, day_count-next_year}
-use Rattle.pawn_terms.specs.Calendar.{Civil, IsDayNumber, civil_of, day_number, days_of_years, days_of_months, AgreesWithLibrary}
+use Rattle.pawn_terms.proofs.Basics.{◌≡◌, ℕ, zero, suc, ◌+◌, ◌-◌, ◌≤◌, refl, ap, ◌∙◌, arith, ℤ, pos, day_count, days_from_civil, Date, epoch_day, signed_arith, days_from_civil-day_count, day_count-day, day_count-next_month, day_count-next_year, Civil, IsDayNumber, civil_of, day_number, days_of_years, days_of_months, AgreesWithLibrary}
 use Rattle.pawn_terms.proofs.CalendarLemmas.{count_of-first, civil_of-year, page_date}
 
 -- the first day of a year

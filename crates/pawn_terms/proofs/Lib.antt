@@ -1,3 +1,4 @@
+pub mod Basics
 pub mod CalendarLemmas
 pub mod SixMonths
 pub mod TextLemmas

@@ -1,12 +1,6 @@
 -- The text of a day, and the day of a text.
-use Rattle.std.proofs.Common.{◌≡◌, ℕ, ◌+◌, ◌-◌, ◌*◌, ◌/◌, ◌<◌, List, [], ◌∷◌, length, get_or, Result, Ok, Err, IsOk, IfOk, refl, sym, ap, subst, ◌∙◌, arith, pos, ◌≤ℤ◌, unsigned_abs}
-use Rattle.std.proofs.lemmas.Bool.{false≢true}
-use Rattle.jiff_core.proofs.CalendarLemmas.{days_in_month_bounds}
+use Rattle.pawn_terms.proofs.Basics.{◌≡◌, ℕ, ◌+◌, ◌-◌, ◌*◌, ◌/◌, ◌<◌, List, [], ◌∷◌, length, get_or, Result, Ok, Err, IsOk, IfOk, refl, sym, ap, subst, ◌∙◌, arith, pos, ◌≤ℤ◌, unsigned_abs, false≢true, days_in_month_bounds, Date, epoch_day, signed_arith, Civil, civil_of, civil_text, day_text, digit, first_day, IsDayNumber, IsStampDay, IsStampCivil, IsWritable}
 use Rattle.pawn_terms.specs.declared.day.BadDay.{BadDay}
-use Rattle.jiff_core.specs.declared.civil.date.Date.{Date}
-use Rattle.jiff_core.specs.Date.{epoch_day}
-use Rattle.jiff_core.proofs.SignedLemmas.{signed_arith}
-use Rattle.pawn_terms.specs.Calendar.{Civil, civil_of, civil_text, day_text, digit, first_day, IsDayNumber, IsStampDay, IsStampCivil, IsWritable}
 use Rattle.pawn_terms.proofs.CalendarLemmas.{civil_after_is, civil_of-date, civil_of-year, same_civil}
 
 -- the text of a date of the library is that of its day number

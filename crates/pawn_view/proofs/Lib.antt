@@ -1,3 +1,4 @@
+pub mod Basics
 pub mod SoundLemmas
 pub mod StatementLemmas
 pub mod PresentedLemmas

@@ -1,11 +1,8 @@
 -- What is shown for receipts, one after the other.
-use Rattle.std.proofs.Common.{◌≡◌, ◌∙◌, ℕ, zero, suc, ◌+◌, ◌-◌, ◌<◌, ◌≤◌, arith, Bool, true, false, List, [], ◌∷◌, ◌++◌, length, take, drop, get_or, map, Option, Some, None, codes, refl, sym, ap, subst, if◌then◌else◌, Result}
-use Rattle.pawn_view.specs.Common.{BriefFields, End, Front, KeepError, PledgeValue, Puts, PutsShare, Receipt, ViewFault, Whole, Writing, are_unknown, brief_of, call_end, ending_of, is_live, live_at, not, only_live, option_map, write_failed}
+use Rattle.pawn_view.proofs.Basics.{◌≡◌, ◌∙◌, ℕ, zero, suc, ◌+◌, ◌-◌, ◌<◌, ◌≤◌, arith, Bool, true, false, List, [], ◌∷◌, ◌++◌, length, take, drop, get_or, map, Option, Some, None, codes, refl, sym, ap, subst, if◌then◌else◌, Result, BriefFields, End, Front, KeepError, PledgeValue, Puts, PutsShare, Receipt, ViewFault, Whole, Writing, are_unknown, brief_of, call_end, ending_of, is_live, live_at, not, only_live, option_map, write_failed, append-nil, Shows, further_texts, presented_text, shown_of, shown_text, statement_text, share_puts, share_more, share_then, writings_in_turn}
 use Rattle.std.proofs.lemmas.Grind.{flat_map-append}
-use Rattle.std.proofs.lemmas.List.{take_more, take_rest, append-nil, map-append}
+use Rattle.std.proofs.lemmas.List.{take_more, take_rest, map-append}
 use Rattle.pawn_book.proofs.VisitLemmas.{cut_at}
-use Rattle.pawn_view.specs.Views.{Shows, further_texts, presented_text, shown_of, shown_text, statement_text}
-use Rattle.pawn_writing.proofs.ShareLemmas.{share_puts, share_more, share_then, writings_in_turn}
 use Rattle.pawn_view.proofs.StatementLemmas.{some_same, shows_ended}
 
 -- ---- whether one of them is live

@@ -1,11 +1,8 @@
 -- A day's sheet, put item by item.
-use Rattle.std.proofs.Common.{◌≡◌, ◌∙◌, ℕ, false, List, [], ◌∷◌, Option, Some, None, Result, sym, ap, subst, inl, inr}
-use Rattle.pawn_view.specs.Common.{BookValue, End, Flow, Handed, IsShare, KeepError, PledgeValue, Puts, PutsLine, PutsShare, SheetItem, ViewFault, Writing, book_head, call_end, codes, day_sheet, ending_of, option_map, pledges_of, write_failed}
+use Rattle.pawn_view.proofs.Basics.{◌≡◌, ◌∙◌, ℕ, false, List, [], ◌∷◌, Option, Some, None, Result, sym, ap, subst, inl, inr, BookValue, End, Flow, Handed, IsShare, KeepError, PledgeValue, Puts, PutsLine, PutsShare, SheetItem, ViewFault, Writing, book_head, call_end, codes, day_sheet, ending_of, option_map, pledges_of, write_failed, Shows, day_line, lines_share, share_puts, share_then, writings_in_turn}
 use Rattle.pawn_book.specs.declared.change.BookHead.{BookHead}
 use Rattle.pawn_view.specs.declared.sheets.SheetLines.{SheetLines}
 use Rattle.pawn_view.specs.Sheets.{PutsItem, book_sheet, day_lines, sheet_line}
-use Rattle.pawn_view.specs.Views.{Shows, day_line}
-use Rattle.pawn_writing.proofs.ShareLemmas.{lines_share, share_puts, share_then, writings_in_turn}
 use Rattle.pawn_view.proofs.StatementLemmas.{shows_ended, some_same}
 
 -- to what a visitor holds, its items were handed as to a writer

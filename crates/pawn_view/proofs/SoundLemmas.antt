@@ -1,10 +1,8 @@
 -- What the pledges of a sound host are.
-use Rattle.std.proofs.Common.{◌≡◌, ◌∙◌, ℕ, ◌≤◌, arith, Some, sym, ap, subst}
-use Rattle.pawn_view.specs.Common.{AreOrdered, Closing, Host, IsSound, Open, PledgeValue, Redeemed, Sold, brief_of, brief_owing, debt_of, due, last_of, max, owing_of}
+use Rattle.pawn_view.proofs.Basics.{◌≡◌, ◌∙◌, ℕ, ◌≤◌, arith, Some, sym, ap, subst, AreOrdered, Closing, Host, IsSound, Open, PledgeValue, Redeemed, Sold, brief_of, brief_owing, debt_of, due, last_of, max, owing_of, open_or_last, pledge_at, shown_day}
 use Rattle.pawn_debt.proofs.EntryLemmas.{due-from-last}
 use Rattle.pawn_pledge.specs.Replayable.{IsReplayable, IsClosed}
 use Rattle.pawn_book.proofs.Sounds.{standing_at}
-use Rattle.pawn_view.specs.Views.{open_or_last, pledge_at, shown_day}
 
 -- what a statement rests on: the day that is shown, and what is owed on it
 pub record IsTold (p : PledgeValue) : Type 0 where

@@ -1,12 +1,8 @@
 -- A statement, put part by part.
-use Rattle.std.proofs.Common.{◌≡◌, ◌∙◌, ℕ, Bool, true, false, List, ◌++◌, Option, Some, None, Result, Ok, Err, refl, sym, ap, subst, [], ◌∷◌, inl, inr}
-use Rattle.pawn_view.specs.Common.{BriefFields, End, Flow, Front, Handed, IsShare, KeepError, Owing, PledgeValue, PutFront, Puts, PutsLine, PutsShare, ViewFault, Whole, Writing, Written, brief_of, brief_owing, brief_status, call_end, debt_of, due, end_of, ending_of, flat_map, max, option_map, owing_of, status_of, unwrap_or, write_failed}
+use Rattle.pawn_view.proofs.Basics.{◌≡◌, ◌∙◌, ℕ, Bool, true, false, List, ◌++◌, Option, Some, None, Result, Ok, Err, refl, sym, ap, subst, [], ◌∷◌, inl, inr, BriefFields, End, Flow, Front, Handed, IsShare, KeepError, Owing, PledgeValue, PutFront, Puts, PutsLine, PutsShare, ViewFault, Whole, Writing, Written, brief_of, brief_owing, brief_status, call_end, debt_of, due, end_of, ending_of, flat_map, max, option_map, owing_of, status_of, unwrap_or, write_failed, Shows, entry_line, extended_line, first_lines, open_or_last, shown_day, state_lines, state_on, statement_text, front-more, now_by, lines_share, share_all, share_puts, share_more, share_then, writings_in_turn}
 use Rattle.pawn_book.specs.declared.fault.KeepError.TheVariants as error
 use Rattle.pawn_view.specs.declared.statements.StatementLines.{StatementLines}
 use Rattle.pawn_view.specs.Shown.{PutsElement}
-use Rattle.pawn_view.specs.Views.{Shows, entry_line, extended_line, first_lines, open_or_last, shown_day, state_lines, state_on, statement_text}
-use Rattle.pawn_writing.proofs.PutLemmas.{front-more, now_by}
-use Rattle.pawn_writing.proofs.ShareLemmas.{lines_share, share_all, share_puts, share_more, share_then, writings_in_turn}
 use Rattle.pawn_view.proofs.SoundLemmas.{IsTold}
 
 -- the lines of a brief above the extensions, and below them

@@ -2,7 +2,6 @@
 pub use Rattle.std.specs.FinMap.{get}
 unfoldable pub use Rattle.std.specs.Fmt.{digits}
 pub use Rattle.std.specs.List.{flat_map}
-pub use Rattle.std.specs.Prelude.{codes, max, not, option_map, unwrap_or}
 pub use Rattle.pawn_terms.specs.Calendar.{day_text, digit}
 unfoldable pub use Rattle.pawn_terms.specs.Calendar.{civil_after, days_of_months, days_of_years}
 pub use Rattle.pawn_terms.specs.Worked.{date}
@@ -23,7 +22,7 @@ pub use Rattle.pawn_pledge.specs.declared.record.Closing.TheVariants.{Open, Rede
 pub use Rattle.pawn_pledge.specs.declared.record.Extension.{Extension}
 pub use Rattle.pawn_book.specs.BookStep.{BookValue, are_unknown, book_head, is_live, live_at, only_live, pledge_in}
 pub use Rattle.pawn_book.specs.HostStep.{Host}
-pub use Rattle.pawn_book.specs.Keeping.{IsSteady, Keeping, Reads, entries_of, extensions_of, pledges_of}
+pub use Rattle.pawn_book.specs.Keeping.{IsSteady, Reads, entries_of, extensions_of, pledges_of}
 pub use Rattle.pawn_book.specs.Sheet.{day_sheet}
 pub use Rattle.pawn_book.specs.Sound.{IsSound}
 pub use Rattle.pawn_book.specs.Visits.{End, Front, Handed, IsShare, Whole, call_end}
@@ -31,7 +30,7 @@ pub use Rattle.pawn_book.specs.declared.fault.KeepError.{KeepError}
 pub use Rattle.pawn_book.specs.declared.sheet.SheetItem.{SheetItem}
 pub use Rattle.pawn_book.specs.declared.sheet.SheetItem.TheVariants.{Asked, AskedHead, Confirmed, Ends, EndsHead, Window}
 pub use Rattle.pawn_book.specs.declared.visit.Flow.{Flow}
-pub use Rattle.pawn_writing.specs.Ends.{PutFront, Puts, PutsLine, PutsShare, Share, Written, write_failed}
+pub use Rattle.pawn_writing.specs.Ends.{PutFront, Puts, PutsLine, PutsShare, Written, write_failed}
 pub use Rattle.pawn_writing.specs.Fault.{IsQuietView, ending_of}
 pub use Rattle.pawn_writing.specs.declared.fault.ViewFault.{ViewFault}
 pub use Rattle.pawn_writing.specs.declared.writing.Writing.{Writing}

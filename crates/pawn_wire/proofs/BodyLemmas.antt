@@ -1,9 +1,5 @@
 -- Texts that JSON writes as they are.
-use Rattle.std.proofs.Common.{◌≡◌, ℕ, List, [], ◌∷◌, ◌++◌, refl, ap, ◌∙◌, arith, sym, append_assoc, Option, Some, None}
-use Rattle.std.specs.Prelude.{IsTrue, ◌&&◌, nat_le, not, ◌==◌, codes, decimal}
-use Rattle.pawn_wire.proofs.Lemmas.{common_steps, serde_json_on_literals}
-use Rattle.pawn_wire.specs.Common.{compact_text, escape, escape_byte, no_members, object}
-use Rattle.pawn_wire.specs.Http.{Row, Total, is_unescaped, number_member, opened_text, refusal_members, refusal_text, text_member}
+use Rattle.pawn_wire.proofs.Basics.{◌≡◌, ℕ, List, [], ◌∷◌, ◌++◌, refl, ap, ◌∙◌, arith, sym, append_assoc, Option, Some, None, IsTrue, ◌&&◌, nat_le, not, ◌==◌, codes, decimal, common_steps, serde_json_on_literals, compact_text, escape, escape_byte, no_members, object, Row, Total, is_unescaped, number_member, opened_text, refusal_members, refusal_text, text_member}
 use Rattle.pawn_wire.specs.declared.detail.Detail.{Detail}
 use Rattle.pawn_wire.proofs.DigitLemmas.{both_true}
 

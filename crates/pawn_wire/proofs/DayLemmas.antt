@@ -1,9 +1,5 @@
 -- The texts of days.
-use Rattle.std.proofs.Common.{◌≡◌, ℕ, zero, suc, ◌+◌, ◌<◌, ◌%◌, List, [], ◌∷◌, Bool, true, refl, arith}
-use Rattle.std.specs.Prelude.{IsTrue, ◌&&◌, nat_le, nat_lt, not, ◌==◌}
-use Rattle.pawn_wire.specs.Common.{Civil, IsAscii, civil_of, civil_text, day_text, list_all}
-use Rattle.pawn_wire.proofs.Lemmas.{common_steps, nat_tests}
-use Rattle.pawn_wire.specs.Http.{is_ascii_text, is_unescaped}
+use Rattle.pawn_wire.proofs.Basics.{◌≡◌, ℕ, zero, suc, ◌+◌, ◌<◌, ◌%◌, List, [], ◌∷◌, Bool, true, refl, arith, IsTrue, ◌&&◌, nat_le, nat_lt, not, ◌==◌, Civil, IsAscii, civil_of, civil_text, day_text, list_all, common_steps, nat_tests, is_ascii_text, is_unescaped}
 use Rattle.pawn_wire.proofs.DigitLemmas.{both_true}
 
 -- what digits and the hyphen pass, each byte of a day's text passes

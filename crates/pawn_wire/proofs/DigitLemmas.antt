@@ -1,8 +1,5 @@
 -- On short numerals.
-use Rattle.std.proofs.Common.{◌≡◌, ℕ, zero, suc, ◌+◌, ◌*◌, ◌-◌, ◌^◌, ◌<◌, ◌≤◌, List, [], ◌∷◌, length, take, get_or, refl, arith, Bool, true, false, length-take, lit<}
-use Rattle.std.specs.Prelude.{IsTrue, ◌&&◌, nat_lt, nat_le}
-use Rattle.pawn_wire.specs.Common.{AllDigits, digit_value, digits_value, is_ascii_digit, list_all}
-use Rattle.pawn_wire.proofs.Lemmas.{common_steps, digit_at, digits_value-lt, digits_value_push, pow-le-pow_right, take_more}
+use Rattle.pawn_wire.proofs.Basics.{◌≡◌, ℕ, zero, suc, ◌+◌, ◌*◌, ◌-◌, ◌^◌, ◌<◌, ◌≤◌, List, [], ◌∷◌, length, take, get_or, refl, arith, Bool, true, false, length-take, lit<, IsTrue, ◌&&◌, nat_lt, nat_le, AllDigits, digit_value, digits_value, is_ascii_digit, list_all, common_steps, digit_at, digits_value-lt, digits_value_push, pow-le-pow_right, take_more}
 use Rattle.pawn_wire.specs.Numeral.{is_short_numeral}
 use Rattle.pawn_wire.specs.Limits.{max_digits}
 

@@ -1,12 +1,9 @@
 -- The bodies of replies to commands are JSON.
-use Rattle.std.proofs.Common.{◌≡◌, ℕ, List, [], ◌∷◌, ◌++◌, Bool, true, false, refl, ap, ◌∙◌}
-use Rattle.pawn_wire.specs.Common.{Booking, Entry, IsTrue, boolean, codes, compact_text, day_text, decimal, escape, member, no_members, object, sort_text, state_text}
-use Rattle.serde_json.proofs.OnLiterals.{serde_json_on_literals}
+use Rattle.pawn_wire.proofs.Basics.{◌≡◌, ℕ, List, [], ◌∷◌, ◌++◌, Bool, true, false, refl, ap, ◌∙◌, Booking, Entry, IsTrue, boolean, codes, compact_text, day_text, decimal, escape, member, no_members, object, sort_text, state_text, serde_json_on_literals, booked_text, booking_members, declared_text, entered_text, entry_members, extended_text, held_text, is_unescaped, number_member, redeemed_text, text_member}
 use Rattle.pawn_debt.specs.declared.entry.Sort.{Sort}
 use Rattle.pawn_debt.specs.declared.entry.Sort.TheVariants.{Draw, Repay}
 use Rattle.pawn_pledge.specs.declared.record.BookingState.{BookingState}
 use Rattle.pawn_pledge.specs.declared.record.BookingState.TheVariants.{Asked, Confirmed, Refused, Cancelled}
-use Rattle.pawn_wire.specs.Http.{booked_text, booking_members, declared_text, entered_text, entry_members, extended_text, held_text, is_unescaped, number_member, redeemed_text, text_member}
 use Rattle.pawn_wire.proofs.BodyLemmas.{quoted}
 use Rattle.pawn_wire.proofs.DayLemmas.{day_plain}
 

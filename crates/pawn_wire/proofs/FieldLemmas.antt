@@ -1,12 +1,7 @@
 -- On the fields of a head.
-use Rattle.std.proofs.Common.{◌≡◌, ℕ, ◌+◌, ◌<◌, List, [], ◌∷◌, ◌++◌, length, map, take, get_or, refl, ap, subst, ◌∙◌, arith, Some, None, Bool, true, false, append-nil, length-append}
-use Rattle.pawn_wire.specs.Common.{Bor, HeaderSpan, cons_option, header_bytes, list_any, str_eq_ignore_ascii_case}
+use Rattle.pawn_wire.proofs.Basics.{◌≡◌, ℕ, ◌+◌, ◌<◌, List, [], ◌∷◌, ◌++◌, length, map, take, get_or, refl, ap, subst, ◌∙◌, arith, Some, None, Bool, true, false, append-nil, length-append, Bor, HeaderSpan, cons_option, header_bytes, list_any, str_eq_ignore_ascii_case, Missing, One, Several, ◌&&◌, ◌||◌, if◌then◌else◌, filter_map-append, list_any-append, map_more, values_of, value_under, IsFound}
 use Rattle.pawn_wire.specs.declared.fields.Found.{Found}
-use Rattle.pawn_wire.specs.declared.fields.Found.TheVariants.{Missing, One, Several}
-use Rattle.std.specs.Prelude.{◌&&◌, ◌||◌, if◌then◌else◌}
-use Rattle.pawn_wire.proofs.Lemmas.{filter_map-append, list_any-append, map_more}
 use Rattle.std.proofs.Math.Bool.{or-false}
-use Rattle.pawn_wire.specs.Fields.{values_of, value_under, IsFound}
 
 abbrev pub no_span : HeaderSpan
 no_span = record { name = record { start = 0; end = 0 }; value = record { start = 0; end = 0 } }

@@ -1,8 +1,5 @@
 -- On heads: what the first bytes of a stream say of the whole stream.
-use Rattle.std.proofs.Common.{◌≡◌, ℕ, ◌+◌, ◌-◌, ◌≤◌, List, ◌++◌, length, map, take, drop, sym, ap, ◌∙◌, arith, append_assoc, length-append, length-take, Result, Bool}
-use Rattle.pawn_wire.proofs.Lemmas.{ReadsRequest-append, length-map, take-append-add, take-append-drop, take-append-le}
-use Rattle.pawn_wire.specs.Common.{AreFieldsAt, HasNoRequest, HeaderSpan, IsRequestAt, ReadsRequest, RequestHead, RequestOverflows, RequestSpans, header_bytes, print_request}
-use Rattle.pawn_wire.specs.Http.{HeadFault, NeverHasHead, ReadsHead, body_length, closes_by, fields_of, max_fields, max_head}
+use Rattle.pawn_wire.proofs.Basics.{◌≡◌, ℕ, ◌+◌, ◌-◌, ◌≤◌, List, ◌++◌, length, map, take, drop, sym, ap, ◌∙◌, arith, append_assoc, length-append, length-take, Result, Bool, ReadsRequest-append, length-map, take-append-add, take-append-drop, take-append-le, AreFieldsAt, HasNoRequest, HeaderSpan, IsRequestAt, ReadsRequest, RequestHead, RequestOverflows, RequestSpans, header_bytes, print_request, HeadFault, NeverHasHead, ReadsHead, body_length, closes_by, fields_of, max_fields, max_head}
 
 -- what follows the front is no part of the head
 pub reads_on : (s : List ℕ) (n : ℕ) (h : RequestHead) (rest : List ℕ) → ReadsRequest (take n s) h rest → ReadsRequest s h (rest ++ drop n s)

@@ -1,3 +1,4 @@
+pub mod Basics
 pub mod BodyLemmas
 pub mod DayLemmas
 pub mod DigitLemmas
@@ -11,4 +12,3 @@ pub mod RouteLemmas
 pub mod StreamLemmas
 pub mod TargetFacts
 pub mod WithinLemmas
-pub mod Lemmas

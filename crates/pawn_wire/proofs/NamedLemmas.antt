@@ -1,12 +1,9 @@
 -- Numbers and days as texts.
-use Rattle.std.proofs.Common.{◌≡◌, ℕ, zero, suc, ◌+◌, ◌*◌, ◌/◌, ◌%◌, ◌^◌, ◌<◌, ◌≤◌, List, [], ◌∷◌, length, take, drop, get_or, lit<, subst, Bool, true, false, Option, Some, None, IfSome, IfNone, refl, sym, ap, ◌∙◌, arith}
-use Rattle.std.specs.Prelude.{IsTrue, ◌==◌, nat_lt, nat_le, not, ◌&&◌, slice_index, bytes_eq, if◌then◌else◌, decimal}
-use Rattle.pawn_wire.specs.Common.{AllDigits, Civil, IsNumber, IsStampDay, IsWritable, civil_of, civil_text, day_number, day_text, digit, digit_value, digits_value, first_day, is_ascii_digit, last_stamp_day, list_all}
-use Rattle.pawn_wire.proofs.Lemmas.{IsNumeralModel, common_steps, decimal-digits_value, decimal_digit, decimal_is_IsNumeral, digit_from_value, digit_value_digit, digits_value-lt, first_decimal, length-decimal-le, nat_tests, pow-le-pow_right}
+use Rattle.pawn_wire.proofs.Basics.{◌≡◌, ℕ, zero, suc, ◌+◌, ◌*◌, ◌/◌, ◌%◌, ◌^◌, ◌<◌, ◌≤◌, List, [], ◌∷◌, length, take, drop, get_or, lit<, subst, Bool, true, false, Option, Some, None, IfSome, IfNone, refl, sym, ap, ◌∙◌, arith, IsTrue, ◌==◌, nat_lt, nat_le, not, ◌&&◌, slice_index, bytes_eq, if◌then◌else◌, decimal, AllDigits, Civil, IsNumber, IsStampDay, IsWritable, civil_of, civil_text, day_number, day_text, digit, digit_value, digits_value, first_day, is_ascii_digit, last_stamp_day, list_all, IsNumeralModel, common_steps, decimal-digits_value, decimal_digit, decimal_is_IsNumeral, digit_from_value, digit_value_digit, digits_value-lt, first_decimal, length-decimal-le, nat_tests, pow-le-pow_right, number_said, day_said}
 use Rattle.std.proofs.lemmas.Slice.Eq.{bytes_eq-Decides}
 use Rattle.pawn_terms.proofs.AgreementLemmas.{day_number-of}
 use Rattle.pawn_terms.proofs.TextLemmas.{civil_of-stamp}
-use Rattle.pawn_wire.specs.Named.{is_numeral, number_said, civil_said, is_text_of_day, day_said}
+use Rattle.pawn_wire.specs.Named.{is_numeral, civil_said, is_text_of_day}
 use Rattle.pawn_wire.proofs.DigitLemmas.{both_true, all_digits}
 
 -- ---- numbers of books and pledges

@@ -1,12 +1,8 @@
 -- On receipts and the fields that name them.
-use Rattle.std.proofs.Common.{◌≡◌, ℕ, ◌+◌, ◌<◌, ◌≤◌, ◌^◌, ◌%◌, suc, List, [], ◌∷◌, ◌++◌, length, map, take, drop, get_or, refl, sym, ap, ◌∙◌, subst, arith, append_assoc, Option, Some, None, IfSome, Result, Ok, Bool, true, false, inl, inr}
-use Rattle.std.specs.Prelude.{IsTrue, not, ◌==◌, decimal, option_map, codes, nat_lt, IsSome, ◌↔◌}
-use Rattle.pawn_wire.specs.Common.{AreFew, HeaderSpan, IsReceiptText, MOST_RECEIPTS, Receipt, after_first, before_first, header_bytes, list_all, position_or_len, secret_of_text, str_eq_ignore_ascii_case}
+use Rattle.pawn_wire.proofs.Basics.{◌≡◌, ℕ, ◌+◌, ◌<◌, ◌≤◌, ◌^◌, ◌%◌, suc, List, [], ◌∷◌, ◌++◌, length, map, take, drop, get_or, refl, sym, ap, ◌∙◌, subst, arith, append_assoc, Option, Some, None, IfSome, Result, Ok, Bool, true, false, inl, inr, IsTrue, not, ◌==◌, decimal, option_map, codes, nat_lt, IsSome, ◌↔◌, AreFew, HeaderSpan, IsReceiptText, MOST_RECEIPTS, Receipt, after_first, before_first, header_bytes, list_all, position_or_len, secret_of_text, str_eq_ignore_ascii_case, Decides-eqb, common_steps, decimal_by_steps, drop_all, filter_map-append, list_all-append, map-append, nat_tests, take-append-drop, take-append-le, take_all, uuid_on_literals, BadReceipt, Says, WireFault, all_said, and_then, is_hyphen, number_said, receipt_said, receipt_values, receipts_said, value_under, values_of}
 use Rattle.std.specs.Option.{ok_or}
 use Rattle.std.proofs.lemmas.Bool.{cases_lt, false≢true}
-use Rattle.pawn_wire.proofs.Lemmas.{Decides-eqb, common_steps, decimal_by_steps, drop_all, filter_map-append, list_all-append, map-append, nat_tests, take-append-drop, take-append-le, take_all, uuid_on_literals}
 use Rattle.std.proofs.lemmas.List.Sums.{split_at_first, passes_at_first}
-use Rattle.pawn_wire.specs.Http.{BadReceipt, Says, WireFault, all_said, and_then, is_hyphen, number_said, receipt_said, receipt_values, receipts_said, value_under, values_of}
 use Rattle.pawn_wire.proofs.FieldLemmas.{values_hit, values_other}
 use Rattle.pawn_wire.proofs.DigitLemmas.{both_true}
 use Rattle.pawn_wire.proofs.NamedLemmas.{none_said, number_said-is, number_said-some}

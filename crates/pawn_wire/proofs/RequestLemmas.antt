@@ -1,8 +1,5 @@
 -- On requests.
-use Rattle.std.proofs.Common.{◌≡◌, ℕ, ◌+◌, ◌-◌, ◌≤◌, List, [], ◌++◌, length, map, take, drop, refl, subst, sym, ap, ◌∙◌, arith, append-nil, length-append, length-drop, min, Result, Ok, Err, inl, inr}
-use Rattle.pawn_wire.proofs.Lemmas.{drop-append-le, request_unique, take-append-add, take-append-drop, take-length}
-use Rattle.pawn_wire.specs.Common.{BookRows, Broker, Cause, CsvFault, HasNoRequest, HeaderSpan, Import, IsFaultOf, IsFirstCause, IsRequestAt, Request, RequestHead, RequestOverflows, RequestSpans, header_bytes, print_request, span_bytes, strip_bom}
-use Rattle.pawn_wire.specs.Http.{Asks, Csv, HoldsRows, IsAsked, IsOutlined, IsRequestRead, OrMemory, Outline, Pair, ReadsHead, SaysRequest, WireFault, after, fault_by, fields_of, max_fields, max_head, outline_by, text_fault}
+use Rattle.pawn_wire.proofs.Basics.{◌≡◌, ℕ, ◌+◌, ◌-◌, ◌≤◌, List, [], ◌++◌, length, map, take, drop, subst, sym, ap, ◌∙◌, arith, append-nil, length-append, length-drop, min, Result, Ok, Err, inl, inr, drop-append-le, request_unique, take-append-add, take-append-drop, take-length, BookRows, Broker, Cause, HasNoRequest, HeaderSpan, Import, IsRequestAt, Request, RequestHead, RequestOverflows, RequestSpans, header_bytes, print_request, span_bytes, strip_bom, Asks, Csv, HoldsRows, IsAsked, IsOutlined, IsRequestRead, OrMemory, Outline, Pair, ReadsHead, SaysRequest, WireFault, after, fields_of, max_fields, max_head, outline_by}
 use Rattle.pawn_csv.specs.declared.fault.Cause.TheVariants as cause
 use Rattle.pawn_wire.specs.declared.asking.Asks.TheVariants as asks
 use Rattle.pawn_csv.proofs.OneBook.{texts_hold_one_book}
@@ -14,35 +11,6 @@ pub is_read : (s : List ℕ) (r : Result Request WireFault) (h : RequestHead) (b
 is_read s (Ok v) h body x e = inl (h, body, x, e)
 is_read s (Err f) h body x (inl m) = inl m
 is_read s (Err f) h body x (inr e) = inr (inl (h, body, x, e))
-
--- the request of an outline is the one that is sent
-pub outlined_by : (body : List ℕ) (said : Result Outline WireFault) (outline : Outline) (r : Result Request WireFault) → said ≡ Ok outline
-    → OrMemory (IsAsked body outline.book outline.asks) r → OrMemory (IsOutlined body said) r
-outlined_by body said outline r is asked = subst (λ (x : Result Outline WireFault). OrMemory (IsOutlined body x) r) (sym is) asked
-
--- an import is asked for with the rows that its body holds
-pub asked_with : (body : List ℕ) (book key importing : ℕ) (held : Result BookRows WireFault) → OrMemory (HoldsRows body) held
-    → OrMemory (IsAsked body book (asks.Import key importing)) (after held (λ rows. Ok (record { book = book; caller = Broker key (Import importing rows) })))
-asked_with body book key importing (Ok rows) text = (Ok rows, text, refl)
-asked_with body book key importing (Err fault) (inl memory) = inl memory
-asked_with body book key importing (Err fault) (inr why) = inr (Err fault, why, refl)
-
--- what a text is found to be, as what a body holds
-pub held_fault : (body : List ℕ) (fault : CsvFault) → IsFaultOf (strip_bom body) fault.cause fault.row → OrMemory {A = BookRows} (HoldsRows body) (Err (text_fault fault))
-held_fault body fault why = by_cause fault.cause refl why
-  where
-    not_memory : (c : Cause) → fault.cause ≡ c → (c ≡ cause.Memory → ⊥) → fault.cause ≡ cause.Memory → ⊥
-    not_memory c is other memory = other (sym is ∙ memory)
-
-    by_cause : (c : Cause) → fault.cause ≡ c → IsFaultOf (strip_bom body) c fault.row → OrMemory {A = BookRows} (HoldsRows body) (Err (fault_by c fault))
-    by_cause cause.Memory is why = inl refl
-    by_cause cause.Read is why = inl refl
-    by_cause cause.Csv is why = inr (fault, refl, not_memory cause.Csv is (λ e. cc), subst (λ c. IsFirstCause (strip_bom body) c fault.row) (sym is) why)
-    by_cause cause.Columns is why = inr (fault, refl, not_memory cause.Columns is (λ e. cc), subst (λ c. IsFirstCause (strip_bom body) c fault.row) (sym is) why)
-    by_cause cause.BadField is why = inr (fault, refl, not_memory cause.BadField is (λ e. cc), subst (λ c. IsFirstCause (strip_bom body) c fault.row) (sym is) why)
-    by_cause cause.Order is why = inr (fault, refl, not_memory cause.Order is (λ e. cc), subst (λ c. IsFirstCause (strip_bom body) c fault.row) (sym is) why)
-    by_cause cause.NotReplayable is why = inr (fault, refl, not_memory cause.NotReplayable is (λ e. cc), subst (λ c. IsFirstCause (strip_bom body) c fault.row) (sym is) why)
-    by_cause cause.TooMany is why = inr (fault, refl, not_memory cause.TooMany is (λ e. cc), subst (λ c. IsFirstCause (strip_bom body) c fault.row) (sym is) why)
 
 -- what the spans cover says what the head says
 pub said_by_spans : (s : List ℕ) (n : ℕ) (headers : List HeaderSpan) (r : RequestSpans) (h : RequestHead) (answer : Result Request WireFault) → IsRequestAt (take n s) headers r h

@@ -1,10 +1,6 @@
 -- On the routes.
-use Rattle.std.proofs.Common.{◌≡◌, ℕ, ◌+◌, ◌<◌, List, [], ◌∷◌, ◌++◌, length, map, take, get_or, refl, sym, ap, ◌∙◌, subst, Result, Ok, Err}
-use Rattle.pawn_wire.proofs.Lemmas.{All-cons, All-head, All-nil, All-tail, IsAscii-drop, IsAscii-take, IsUtf8-from_ascii, map_more}
-use Rattle.std.specs.Prelude.{◌&&◌, cond, Bool, true, false, ◌-◌, drop, leb, All, Some, slice_get}
-use Rattle.pawn_wire.specs.Common.{Bor, InsertError, InsertsRead, IsAscii, Scan, Shows, parse_route, part_of, walk}
+use Rattle.pawn_wire.proofs.Basics.{◌≡◌, ℕ, ◌+◌, ◌<◌, List, [], ◌∷◌, ◌++◌, length, map, take, get_or, refl, sym, ap, ◌∙◌, subst, Result, Ok, Err, All-cons, All-head, All-nil, All-tail, IsAscii-drop, IsAscii-take, IsUtf8-from_ascii, map_more, ◌&&◌, cond, Bool, true, false, ◌-◌, drop, leb, All, Some, slice_get, Bor, InsertError, InsertsRead, IsAscii, Scan, Shows, parse_route, part_of, walk, Endpoint, Rows, plain, with_route, with_routes}
 use Rattle.std.proofs.lemmas.Str.Ascii.{IsAscii-nil}
-use Rattle.pawn_wire.specs.Http.{Endpoint, Rows, plain, with_route, with_routes}
 
 pub inserted : (x : Result Scan InsertError) (e : Endpoint) (old new : Rows) → InsertsRead x e old new (Ok tt) → new ≡ with_route x e old
 inserted (Ok s) e old new h = h.1

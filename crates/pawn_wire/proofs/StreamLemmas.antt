@@ -1,8 +1,5 @@
 -- Heads at the front of a stream, and what follows them.
-use Rattle.std.proofs.Common.{◌≡◌, ℕ, ◌+◌, ◌<◌, ◌≤◌, List, [], ◌∷◌, ◌++◌, length, refl, sym, ap, ◌∙◌, arith, append_assoc, append-nil, length-append, take, Ok, inl, inr, true, false}
-use Rattle.pawn_wire.specs.Common.{Bool, IsRequestHead, IsTrue, RequestHead, RequestOverflows, first_of, is_token_byte, is_uri_byte, lf, nat_lt, print_request, unwrap_or}
-use Rattle.pawn_wire.proofs.Lemmas.{All-cons, All-nil, ReadsRequest-append, nat_tests, print_request-append, take-append-add}
-use Rattle.pawn_wire.specs.Http.{IsBadHead, IsHead, NeverHasHead, Pair, ReadsHead, body_length, fields_of, length_by, max_body, max_fields, max_head}
+use Rattle.pawn_wire.proofs.Basics.{◌≡◌, ℕ, ◌+◌, ◌<◌, ◌≤◌, List, [], ◌∷◌, ◌++◌, length, refl, sym, ap, ◌∙◌, arith, append_assoc, append-nil, length-append, take, Ok, inl, inr, true, false, Bool, IsRequestHead, IsTrue, RequestHead, RequestOverflows, first_of, is_token_byte, is_uri_byte, lf, nat_lt, print_request, unwrap_or, All-cons, All-nil, ReadsRequest-append, nat_tests, print_request-append, take-append-add, IsBadHead, IsHead, NeverHasHead, Pair, ReadsHead, body_length, fields_of, length_by, max_body, max_fields, max_head}
 use Rattle.pawn_wire.specs.declared.fault.HeadFault.TheVariants.{Transfer, BadLength, BodyTooLong}
 use Rattle.pawn_wire.specs.declared.head.HeadFacts.{HeadFacts}
 

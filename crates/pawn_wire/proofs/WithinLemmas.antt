@@ -1,11 +1,8 @@
 -- What bytes say is within the limits of its parts.
-use Rattle.std.proofs.Common.{◌≡◌, ℕ, ◌≤◌, List, [], ◌∷◌, length, Bool, true, false, Option, Some, None, IfSome, Result, Ok, Err, refl, ap, subst, arith, inl, inr}
-use Rattle.std.specs.Prelude.{◌==◌, ◌&&◌, not, nat_le, nat_lt, bytes_eq, if◌then◌else◌, is_some, option_map, option_and_then, slice_get, codes}
-use Rattle.std.proofs.lemmas.Bool.Decides.{nat_tests}
-use Rattle.pawn_wire.specs.Common.{AreFew, Bearer, BookRows, Broker, Command, Data, IsCapacity, IsNumber, IsOpening, IsStampDay, IsText, MOST_ARTICLE_BYTES, MOST_BOOKINGS, MOST_NAME_BYTES, MOST_RECEIPTS, MOST_REFERENCE_BYTES, NewBook, Opening, Operator, Receipt, Request, after_first, as_null, as_number, as_str, as_u64, before_first, first_of, get, is_text, secret_of_text}
+use Rattle.pawn_wire.proofs.Basics.{◌≡◌, ℕ, ◌≤◌, List, [], ◌∷◌, length, Bool, true, false, Option, Some, None, IfSome, Result, Ok, Err, refl, ap, subst, arith, inl, inr, ◌==◌, ◌&&◌, not, nat_le, nat_lt, bytes_eq, if◌then◌else◌, is_some, option_map, option_and_then, slice_get, codes, nat_tests, AreFew, Bearer, BookRows, Broker, Command, Data, IsCapacity, IsNumber, IsOpening, IsStampDay, IsText, MOST_ARTICLE_BYTES, MOST_BOOKINGS, MOST_NAME_BYTES, MOST_RECEIPTS, MOST_REFERENCE_BYTES, NewBook, Opening, Operator, Receipt, Request, after_first, as_null, as_number, as_str, as_u64, before_first, first_of, get, is_text, secret_of_text, AskedFor, Asks, BadBody, BadReceipt, Create, Endpoint, Export, HoldsRows, IsAsked, IsBodyNumber, IsCallerWithin, IsCommandWithin, IsOutlined, NoReceipt, NoRoute, OnPledge, OnReceipt, Outline, Pair, Present, PutTerms, SaysRequest, Show, ShowDay, TakePledge, TooManyReceipts, WireFault, WrongMethod, after, all_said, and_then, asked_booking, asked_entry, asks_said, bearers_command_said, body_said, brokers_command_said, day_at, day_if_any, day_or_null, day_said, decision_of, fields_of, flag_at, framing_faults, if_text, in_range, is_ascii_text, is_hyphen, json_of, key_at, key_given, key_of, kind_of, max_number, method_of, new_book_of, new_terms_of, number_at, number_said, one_said, opening_of, optional_day_at, or_fault, outline_by, paper_of, place_asked, place_of, receipt_faults, receipt_said, receipt_values, receipts_said, route_of, string_at, target_said, text_at}
 use Rattle.pawn_book.specs.declared.request.BrokerRequest.TheVariants as broker
 use Rattle.pawn_book.specs.declared.request.BearerRequest.TheVariants as bearer
-use Rattle.pawn_wire.specs.Http.{AskedFor, Asks, BadBody, BadReceipt, Create, Endpoint, Export, HoldsRows, Import, IsAsked, IsBodyNumber, IsCallerWithin, IsCommandWithin, IsOutlined, NoReceipt, NoRoute, OnPledge, OnReceipt, Outline, Pair, Present, PutTerms, SaysRequest, Show, ShowDay, TakePledge, TooManyReceipts, WireFault, WrongMethod, after, all_said, and_then, asked_booking, asked_entry, asks_said, bearers_command_said, body_said, brokers_command_said, day_at, day_if_any, day_or_null, day_said, decision_of, fields_of, flag_at, framing_faults, if_text, in_range, is_ascii_text, is_hyphen, json_of, key_at, key_given, key_of, kind_of, max_number, method_of, new_book_of, new_terms_of, number_at, number_said, one_said, opening_of, optional_day_at, or_fault, outline_by, paper_of, place_asked, place_of, receipt_faults, receipt_said, receipt_values, receipts_said, route_of, string_at, target_said, text_at}
+use Rattle.pawn_wire.specs.Http.{Import}
 use Rattle.pawn_wire.specs.declared.commands.NewBooking.{NewBooking}
 use Rattle.pawn_wire.specs.declared.commands.NewEntry.{NewEntry}
 use Rattle.pawn_wire.specs.declared.asking.Asks.TheVariants as asks

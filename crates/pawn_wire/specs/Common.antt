@@ -2,7 +2,7 @@
 pub use Rattle.std.specs.Borrow.{Bor}
 pub use Rattle.std.specs.Char.{digit_value, is_ascii_digit}
 pub use Rattle.std.specs.List.{after_first, before_first, cons_option, filter_map, list_all, list_any, position_or_len}
-pub use Rattle.std.specs.Prelude.{All, Bool, Err, IsOk, IsTrue, List, MatchResult, None, Ok, Option, Result, Some, codes, decimal, length, nat_lt, unwrap_or, ℕ}
+pub use Rattle.std.specs.Prelude.{All, List, None, Option, Some, codes, length, ℕ}
 pub use Rattle.std.specs.Str.{IsAscii, str_eq_ignore_ascii_case}
 unfoldable pub use Rattle.std.specs.Str.{chars, is_utf8}
 pub use Rattle.std.specs.Str.Parse.{AllDigits, digits_value}
@@ -50,6 +50,6 @@ pub use Rattle.pawn_book.specs.declared.request.Caller.TheVariants.{Bearer, Brok
 pub use Rattle.pawn_book.specs.declared.request.NewBook.{NewBook}
 pub use Rattle.pawn_book.specs.declared.request.Request.{Request}
 pub use Rattle.pawn_book.specs.declared.rows.BookRows.{BookRows}
-pub use Rattle.pawn_csv.specs.Reading.{IsFaultOf, IsFirstCause, IsTextOf}
+pub use Rattle.pawn_csv.specs.Reading.{IsFirstCause, IsTextOf}
 pub use Rattle.pawn_csv.specs.declared.fault.Cause.{Cause}
 pub use Rattle.pawn_csv.specs.declared.fault.CsvFault.{CsvFault}

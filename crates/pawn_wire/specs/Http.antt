@@ -5,7 +5,7 @@ pub use Rattle.pawn_wire.specs.Body.{day_if_any, day_or_null, kind_named, kind_o
 pub use Rattle.pawn_wire.specs.Chain.{GivesPart, OrMemory, Says, after, and_then, or_fault}
 pub use Rattle.pawn_wire.specs.Commands.{asked_booking, asked_entry, bearers_command_said, brokers_command_said, decision_by, decision_of, paper_named, paper_of}
 pub use Rattle.pawn_wire.specs.Done.{booked_text, commanded_text, declared_text, entered_text, extended_text, held_text, redeemed_text}
-pub use Rattle.pawn_wire.specs.Fault.{fault_by, text_fault, wire_fault}
+pub use Rattle.pawn_wire.specs.Fault.{wire_fault}
 pub use Rattle.pawn_wire.specs.Fields.{Pair, pairs_of, value_under, values_of}
 pub use Rattle.pawn_wire.specs.Head.{IfWhole, IsBadHead, IsHead, IsHeadRead, NeverHasHead, ReadsHead, body_length, closes_by, fields_of, length_by}
 pub use Rattle.pawn_wire.specs.Laws.{IsBodyNumber, IsCallerWithin, IsCommandWithin, IsTargetFound, booking_members, entry_members, is_unescaped, number_member, refusal_members, text_member}

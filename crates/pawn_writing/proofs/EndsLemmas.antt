@@ -1,10 +1,6 @@
 -- Lemmas on what is written in several writes.
-use Rattle.std.proofs.Common.{◌≡◌, ℕ, ◌+◌, ◌-◌, Bool, false, List, [], ◌∷◌, length, take, drop, Option, Ok, subst, sym, arith}
-use Rattle.std.specs.Prelude.{◌||◌}
-use Rattle.pawn_writing.proofs.Lemmas.{Appends-trans, nat_tests, take_rest}
+use Rattle.pawn_writing.proofs.Basics.{◌≡◌, ℕ, ◌+◌, ◌-◌, Bool, false, List, [], ◌∷◌, length, take, drop, Option, Ok, subst, sym, arith, ◌||◌, Appends-trans, nat_tests, take_rest, Appends, is_write_failure}
 use Rattle.std.proofs.Math.Seq.{take-add}
-use Rattle.std.specs.Io.KnownBytes.{Appends}
-use Rattle.pawn_writing.specs.Ends.{is_write_failure}
 
 -- a write of the rest goes on where the writes before it stopped
 pub sent_more : (a b c : Option (List ℕ)) (xs : List ℕ) (s n : ℕ) → Appends a b (take s xs) → Appends b c (take n (take (length xs - s) (drop s xs))) → Appends a c (take (s + n) xs)

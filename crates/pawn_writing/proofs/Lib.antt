@@ -1,5 +1,5 @@
+pub mod Basics
 pub mod EndsLemmas
 pub mod PutLemmas
 pub mod ShareLemmas
 pub mod ListLemmas
-pub mod Lemmas

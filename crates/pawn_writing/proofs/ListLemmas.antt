@@ -1,7 +1,5 @@
 -- A list that has nothing is not asked for.
-use Rattle.std.proofs.Common.{◌≡◌, ◌∙◌, List, [], Option, Some, length, refl, ap}
-use Rattle.std.proofs.lemmas.List.{nil_from_length}
-use Rattle.pawn_writing.specs.Common.{Go, IsShare, PledgeValue, Whole}
+use Rattle.pawn_writing.proofs.Basics.{◌≡◌, ◌∙◌, List, [], Option, Some, length, refl, ap, nil_from_length, Go, IsShare, PledgeValue, Whole}
 
 -- nothing of a list of the pledge that has nothing is all of it
 pub nothing_shared : {T : Type 0} (list : Option PledgeValue → List T) {o : Option PledgeValue} {p : PledgeValue} → o ≡ Some p → length (list (Some p)) ≡ 0 → IsShare [] Go Whole (list o)

@@ -1,9 +1,5 @@
 -- Texts put one after the other.
-use Rattle.pawn_writing.specs.Common.{Appends, End, Front, Whole, flat_map}
-use Rattle.pawn_writing.proofs.Lemmas.{Appends-nil, Appends-trans, append-nil, cases_Bool, common_steps, eqb-true, flat_map-append, nat_tests, take-append-drop, take_more}
-use Rattle.std.proofs.Common.{◌<◌, ◌≤◌, ◌+◌, nat_eq, length, take, drop, get_or, arith, ◌≡◌, ◌∙◌, ℕ, Bool, true, false, List, [], ◌∷◌, ◌++◌, Option, refl, sym, inl, inr, ap, subst, append_assoc}
-use Rattle.pawn_writing.specs.Ends.{write_failed, written_bytes, end_by, PutFront, Written, Puts}
-use Rattle.pawn_writing.specs.declared.writing.Writing.{Writing}
+use Rattle.pawn_writing.proofs.Basics.{Appends, End, Front, Whole, flat_map, Appends-nil, Appends-trans, append-nil, cases_Bool, common_steps, eqb-true, flat_map-append, nat_tests, take-append-drop, take_more, ◌<◌, ◌≤◌, ◌+◌, nat_eq, length, take, drop, get_or, arith, ◌≡◌, ◌∙◌, ℕ, Bool, true, false, List, [], ◌∷◌, ◌++◌, Option, refl, sym, inl, inr, ap, subst, append_assoc, write_failed, written_bytes, end_by, PutFront, Written, Puts, Writing}
 
 -- a whole text, and then as much of another
 put-then : {W : Type 0} (contents : W → Option (List ℕ)) (a b c : Writing W) (s t : List ℕ) (end : End)

@@ -1,10 +1,5 @@
 -- Texts that are put line by line, in as many calls as it takes.
-use Rattle.std.proofs.Common.{◌≡◌, ◌∙◌, ℕ, Bool, true, false, List, [], ◌∷◌, ◌++◌, Option, refl, sym, ap, subst, inl, inr, append_assoc}
-use Rattle.pawn_writing.specs.Common.{End, Flow, Front, Go, Handed, IsShare, Stop, Whole, flat_map}
-use Rattle.std.specs.Prelude.{if◌then◌else◌}
-use Rattle.pawn_writing.proofs.Lemmas.{append-nil, cases_Bool, flat_map-append}
-use Rattle.pawn_writing.specs.declared.writing.Writing.{Writing}
-use Rattle.pawn_writing.specs.Ends.{write_failed, Puts, Share, PutsLine, PutsShare}
+use Rattle.pawn_writing.proofs.Basics.{◌≡◌, ◌∙◌, ℕ, Bool, true, false, List, [], ◌∷◌, ◌++◌, Option, refl, sym, ap, subst, inl, inr, append_assoc, End, Flow, Front, Go, Handed, IsShare, Stop, Whole, flat_map, if◌then◌else◌, append-nil, cases_Bool, flat_map-append, Writing, write_failed, Puts, Share, PutsLine, PutsShare}
 use Rattle.pawn_writing.proofs.PutLemmas.{puts_nil, puts_then}
 
 -- the lines of what was handed were put

@@ -1,5 +1,4 @@
-use Rattle.std.proofs.Common.{subst}
-use Rattle.pawn_book.specs.Plans.{Commits, IsLeftByCommit, Plans}
+use Rattle.pawn_book.proofs.Basics.{subst, Commits, IsLeftByCommit, Plans}
 use Rattle.pawn_book.proofs.ActLemmas.{made_acts, made_left, refused_acts, step_of, unmade_acts, unmade_left}
 use Rattle.pawn_book.proofs.acting.act.Goals as goal
 

@@ -1,4 +1,4 @@
-use Rattle.std.proofs.Common.{inl, inr, refl}
+use Rattle.pawn_book.proofs.Basics.{inl, inr, refl}
 use Rattle.pawn_book.specs.declared.refusal.Refusal.TheVariants as no
 use Rattle.pawn_book.proofs.ActLemmas.{refused_left, saved_left}
 use Rattle.pawn_book.proofs.acting.commit.Goals as goal

@@ -1,6 +1,4 @@
-use Rattle.std.proofs.Common.{◌∙◌, ap, Ok, subst}
-use Rattle.pawn_pledge.specs.Step.{pledge_step}
-use Rattle.pawn_book.specs.Books.{IsOutcome, judged_outcome}
+use Rattle.pawn_book.proofs.Basics.{◌∙◌, ap, Ok, subst, pledge_step, IsOutcome, judged_outcome}
 use Rattle.pawn_book.proofs.CommandPlans.{number_plans}
 use Rattle.pawn_book.proofs.Reading.{ok_is, reads_then}
 use Rattle.pawn_book.proofs.commands.plan_number.Goals as goal

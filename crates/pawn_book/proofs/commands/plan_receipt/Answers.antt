@@ -1,4 +1,4 @@
-use Rattle.std.proofs.Common.{◌∙◌, ap, Ok}
+use Rattle.pawn_book.proofs.Basics.{◌∙◌, ap, Ok}
 use Rattle.pawn_book.proofs.CommandPlans.{receipt_plans}
 use Rattle.pawn_book.proofs.Reading.{ok_is, reads_as}
 use Rattle.pawn_book.proofs.commands.plan_receipt.Goals as goal

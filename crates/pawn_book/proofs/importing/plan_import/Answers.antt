@@ -1,4 +1,4 @@
-use Rattle.std.proofs.Common.{◌∙◌, sym}
+use Rattle.pawn_book.proofs.Basics.{◌∙◌, sym}
 use Rattle.pawn_book.proofs.Plans.{import_plans, planned_so}
 use Rattle.pawn_book.proofs.importing.plan_import.Goals as goal
 

@@ -1,4 +1,4 @@
-use Rattle.std.proofs.Common.{◌∙◌, ap, Ok}
+use Rattle.pawn_book.proofs.Basics.{◌∙◌, ap, Ok}
 use Rattle.std.proofs.lemmas.Result.{IfOk-weaker}
 use Rattle.pawn_book.proofs.Plans.{found_by_number}
 use Rattle.pawn_book.proofs.Reading.{ok_is, reads_then}

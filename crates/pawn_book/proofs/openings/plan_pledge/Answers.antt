@@ -1,6 +1,4 @@
-use Rattle.std.proofs.Common.{◌∙◌, ap, Ok, Some, subst, sym}
-use Rattle.pawn_book.specs.Common.{Agreement, IsSaid}
-use Rattle.pawn_book.specs.Books.{IsUnwell, Opened, Plans, PutPledge, newest, next_pledge, take_pledge, with_reference}
+use Rattle.pawn_book.proofs.Basics.{◌∙◌, ap, Ok, Some, subst, sym, Agreement, IsSaid, IsUnwell, Opened, Plans, PutPledge, newest, next_pledge, take_pledge, with_reference}
 use Rattle.pawn_book.proofs.Plans.{taken_plans}
 use Rattle.pawn_book.proofs.Reading.{ok_is, reads_then}
 use Rattle.pawn_book.proofs.openings.plan_pledge.Goals as goal

@@ -1,6 +1,4 @@
-use Rattle.std.proofs.Common.{drop}
-use Rattle.pawn_base.specs.Lists.{DoNotFall}
-use Rattle.pawn_book.specs.Rows.{version_of}
+use Rattle.pawn_book.proofs.Basics.{drop, DoNotFall, version_of}
 use Rattle.pawn_book.proofs.replaying.do_not_fall.Given as goal
 
 abbrev pub invariant-loop-parts : goal.invariant-loop-parts

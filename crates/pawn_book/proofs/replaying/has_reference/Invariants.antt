@@ -1,6 +1,4 @@
-use Rattle.std.proofs.Common.{◌≡◌, drop}
-use Rattle.std.specs.List.{list_any}
-use Rattle.pawn_book.specs.Rows.{references_of, is_same_text}
+use Rattle.pawn_book.proofs.Basics.{◌≡◌, drop, list_any, references_of, is_same_text}
 use Rattle.pawn_book.proofs.replaying.has_reference.Given as goal
 
 abbrev pub invariant-loop-parts : goal.invariant-loop-parts

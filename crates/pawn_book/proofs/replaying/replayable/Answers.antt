@@ -1,6 +1,4 @@
-use Rattle.std.proofs.Common.{List, subst, sym}
-use Rattle.pawn_book.specs.Common.{PledgeValue, Rates}
-use Rattle.pawn_book.specs.Rows.{AreReplayable}
+use Rattle.pawn_book.proofs.Basics.{List, subst, sym, PledgeValue, Rates, AreReplayable}
 use Rattle.pawn_book.proofs.Sounds.{sound_filled}
 use Rattle.pawn_book.proofs.replaying.replayable.Goals as goal
 

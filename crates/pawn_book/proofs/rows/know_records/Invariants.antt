@@ -1,6 +1,4 @@
-use Rattle.std.proofs.Common.{drop}
-use Rattle.pawn_book.specs.Common.{Each, PledgeValue}
-use Rattle.pawn_book.specs.Written.{HasTextsAndWords}
+use Rattle.pawn_book.proofs.Basics.{drop, Each, PledgeValue, HasTextsAndWords}
 use Rattle.pawn_book.proofs.rows.know_records.Given as goal
 
 abbrev pub invariant-loop-parts : goal.invariant-loop-parts

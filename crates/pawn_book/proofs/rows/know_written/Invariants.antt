@@ -1,5 +1,4 @@
-use Rattle.std.proofs.Common.{drop}
-use Rattle.pawn_book.specs.Written.{AreWords}
+use Rattle.pawn_book.proofs.Basics.{drop, AreWords}
 use Rattle.pawn_book.proofs.rows.know_written.Given as goal
 
 abbrev pub invariant-loop-issued : goal.invariant-loop-issued

@@ -1,6 +1,4 @@
-use Rattle.std.proofs.Common.{◌∙◌, ap, Ok, Some, subst, sym}
-use Rattle.std.specs.FinMap.{get}
-use Rattle.pawn_book.specs.Books.{BookMade, MakeBook, Plans, make_book}
+use Rattle.pawn_book.proofs.Basics.{◌∙◌, ap, Ok, Some, subst, sym, get, BookMade, MakeBook, Plans, make_book}
 use Rattle.pawn_book.proofs.Plans.{book_plans, no_head}
 use Rattle.pawn_book.proofs.Reading.{ok_is, reads_as}
 use Rattle.pawn_book.proofs.set_up.plan_book.Goals as goal

@@ -1,8 +1,5 @@
-use Rattle.std.proofs.Common.{◌≡◌, ℕ, List, [], ◌∷◌, map, sum_by, refl, sym, ap, ◌∙◌}
-use Rattle.std.specs.Prelude.{if◌then◌else◌, Option, None, Some, nat_lt}
-use Rattle.pawn_book.specs.Common.{FinMap, Stamp, civil_after, days_of_months, days_of_years, due_after, empty, entries, entries-insert, find, get, get-entries, insert, len-empty, len-entries, nat_cmp, put}
-use Rattle.pawn_book.proofs.Lemmas.{nat_cmp_total, no_elements}
-use Rattle.pawn_book.specs.Books.{Answered, BookValue, Full, Host, Makes, Outcome, Refuses, Request, Said, Says, book_rows, book_step, changed_book, handed, host_after, host_step, out_of, with_book, within_limit}
+use Rattle.pawn_book.proofs.Basics.{◌≡◌, ℕ, List, [], ◌∷◌, map, sum_by, refl, sym, ap, ◌∙◌, if◌then◌else◌, Option, None, Some, nat_lt, FinMap, Stamp, civil_after, days_of_months, days_of_years, due_after, empty, entries, entries-insert, find, get, get-entries, insert, len-empty, len-entries, nat_cmp, put, nat_cmp_total, no_elements, BookValue, Full, Host, Makes, Outcome, Refuses, Request, Said, Says, book_rows, book_step, changed_book, handed, host_after, host_step, out_of, with_book, within_limit}
+use Rattle.pawn_book.specs.Books.{Answered}
 use Rattle.pawn_book.specs.WorkedShards.{a_ring, asked, book_of, first_shard, of_seven, one_host, second_shard, shard, told_of_run}
 use Rattle.pawn_book.proofs.worked.worked_shards.Goals as goal
 

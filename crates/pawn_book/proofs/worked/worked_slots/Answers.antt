@@ -1,5 +1,4 @@
-use Rattle.std.proofs.Common.{refl}
-use Rattle.pawn_book.specs.Common.{civil_after, days_of_months, days_of_years, due_after}
+use Rattle.pawn_book.proofs.Basics.{refl, civil_after, days_of_months, days_of_years, due_after}
 use Rattle.pawn_book.proofs.worked.worked_slots.Goals as goal
 
 pub returns : goal.returns

@@ -1,7 +1,4 @@
-use Rattle.std.proofs.Common.{◌≡◌, ◌+◌, ◌-◌, inl, inr, ℕ, Some, None, refl, sym, subst, arith}
-use Rattle.pawn_check.specs.Common.{AreSound, IsNextBook}
-use Rattle.pawn_book.proofs.Reading.{reads_as, reads_then, reads_both}
-use Rattle.pawn_check.specs.Judging.{AreCounted}
+use Rattle.pawn_check.proofs.Basics.{◌≡◌, ◌+◌, ◌-◌, inl, inr, ℕ, Some, None, refl, sym, subst, arith, AreSound, IsNextBook, reads_as, reads_then, reads_both, AreCounted}
 use Rattle.pawn_check.proofs.Meeting.{AreMet, all_are_met, fits, next_is, none_are_met, one_is_left, one_more}
 use Rattle.pawn_check.proofs.books.check.Goals as goal
 

@@ -1,5 +1,4 @@
-use Rattle.std.proofs.Common.{◌≡◌, ◌≤◌, ◌*◌, ◌-◌}
-use Rattle.pawn_check.specs.Common.{Reads, rows, unwrap_or}
+use Rattle.pawn_check.proofs.Basics.{◌≡◌, ◌≤◌, ◌*◌, ◌-◌, Reads, rows, unwrap_or}
 use Rattle.pawn_check.proofs.Meeting.{AreMet}
 use Rattle.pawn_check.proofs.books.check.Given as goal
 

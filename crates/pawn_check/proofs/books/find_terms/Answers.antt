@@ -1,5 +1,4 @@
-use Rattle.std.proofs.Common.{◌≡◌, length, arith}
-use Rattle.pawn_check.proofs.Lemmas.{nat_tests, reads_as, reads_then}
+use Rattle.pawn_check.proofs.Basics.{◌≡◌, length, arith, nat_tests, reads_as, reads_then}
 use Rattle.pawn_check.proofs.Fronts.{all_checked, next_checked}
 use Rattle.pawn_check.proofs.books.find_terms.Goals as goal
 

@@ -1,5 +1,4 @@
-use Rattle.std.proofs.Common.{◌≡◌, take, Some}
-use Rattle.pawn_check.specs.Common.{BookValue, Each, IsChecked, Rates, Reads, get}
+use Rattle.pawn_check.proofs.Basics.{◌≡◌, take, Some, BookValue, Each, IsChecked, Rates, Reads, get}
 use Rattle.pawn_check.proofs.books.find_terms.Given as goal
 
 abbrev pub invariant-loop-version : goal.invariant-loop-version

@@ -1,6 +1,4 @@
-use Rattle.std.proofs.Common.{rules, ◌≡◌, ◌≤◌, ℕ, Err, refl, arith}
-use Rattle.pawn_check.proofs.Lemmas.{nat_tests, reads_as, reads_both, reads_then}
-use Rattle.pawn_book.specs.Sound.{HasUnsoundBook}
+use Rattle.pawn_check.proofs.Basics.{rules, ◌≡◌, ◌≤◌, ℕ, Err, refl, arith, nat_tests, reads_as, reads_both, reads_then, HasUnsoundBook}
 use Rattle.pawn_check.proofs.Fronts.{both_ways, falls_below, handed_on, unfit_at}
 use Rattle.pawn_check.proofs.pledges.next_step.Goals as goal
 use Rattle.pawn_check.proofs.pledges.next_step.Goals.{then-not-under-via-then-not-under, then-not-under-via-else-not-under+then-not-first, then-ne-via-then-ne, then-ne-via-else-ne+then-next-version, then-ne-via-else-ne+else-next-version+then-not-can_stand}

@@ -1,5 +1,4 @@
-use Rattle.std.proofs.Common.{rules, ◌≡◌, ◌≤◌, ◌<◌, Err, length, arith}
-use Rattle.pawn_check.proofs.Lemmas.{nat_tests, reads_as, reads_then}
+use Rattle.pawn_check.proofs.Basics.{rules, ◌≡◌, ◌≤◌, ◌<◌, Err, length, arith, nat_tests, reads_as, reads_then}
 use Rattle.pawn_check.proofs.Fronts.{front_all, front_next, handed_on}
 use Rattle.pawn_check.proofs.pledges.pledges_rows.Goals as goal
 

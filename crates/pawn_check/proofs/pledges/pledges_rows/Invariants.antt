@@ -1,6 +1,4 @@
-use Rattle.std.proofs.Common.{◌≡◌, ◌≤◌, ◌*◌, length, take, Some}
-use Rattle.pawn_check.specs.Common.{BookValue, Reads, get}
-use Rattle.pawn_check.specs.Judging.{IsFront}
+use Rattle.pawn_check.proofs.Basics.{◌≡◌, ◌≤◌, ◌*◌, length, take, Some, BookValue, Reads, get, IsFront}
 use Rattle.pawn_check.proofs.pledges.pledges_rows.Given as goal
 
 abbrev pub invariant-loop-place : goal.invariant-loop-place

@@ -1,6 +1,4 @@
-use Rattle.std.proofs.Common.{◌≡◌, ℕ, ◌<◌, ◌≤◌, []}
-use Rattle.csv.specs.Records.{fields_of}
-use Rattle.pawn_csv.specs.Spelling.{column_at}
+use Rattle.pawn_csv.proofs.Basics.{◌≡◌, ℕ, ◌<◌, ◌≤◌, [], fields_of, column_at}
 use Rattle.pawn_csv.proofs.columns.are_blank.Given as goal
 
 abbrev pub invariant-loop-place : goal.invariant-loop-place

@@ -1,4 +1,4 @@
-use Rattle.csv.specs.Records.{fields_of}
+use Rattle.pawn_csv.proofs.Basics.{fields_of}
 use Rattle.pawn_csv.proofs.ColumnLemmas.{column_is, no_column}
 use Rattle.pawn_csv.proofs.columns.column.Goals as goal
 

@@ -1,8 +1,5 @@
-use Rattle.std.proofs.Common.{◌≡◌, ◌∙◌, sym, ap, arith, decimal}
-use Rattle.std.proofs.lemmas.Fmt.{parse-decimal, IsAscii-decimal}
+use Rattle.pawn_csv.proofs.Basics.{◌≡◌, ◌∙◌, sym, ap, arith, decimal, parse-decimal, IsAscii-decimal, nat_tests, other_text}
 use Rattle.std.proofs.lemmas.Str.{IsUtf8-from_ascii}
-use Rattle.std.proofs.lemmas.Bool.Decides.{nat_tests}
-use Rattle.std.specs.Cmp.Lexicographic.{other_text}
 use Rattle.pawn_csv.proofs.columns.read_number.Goals as goal
 
 pub returns-in_default : goal.returns-in_default

@@ -1,6 +1,4 @@
-use Rattle.std.proofs.Common.{rules, ◌∙◌, sym, ap, List, ℕ}
-use Rattle.std.specs.Cmp.Lexicographic.{same_text, other_text}
-use Rattle.pawn_csv.specs.Common.{hyphenated_text, lower, secret_text}
+use Rattle.pawn_csv.proofs.Basics.{rules, ◌∙◌, sym, ap, List, ℕ, same_text, other_text, hyphenated_text, lower, secret_text}
 use Rattle.pawn_csv.proofs.ColumnLemmas.{no_secret, same_secret}
 use Rattle.pawn_csv.proofs.columns.read_secret.Goals as goal
 

@@ -1,5 +1,4 @@
-use Rattle.std.specs.FinMap.{get}
-use Rattle.pawn_book.proofs.Reading.{reads_then}
+use Rattle.pawn_csv.proofs.Basics.{get, reads_then}
 use Rattle.pawn_csv.proofs.ExportLemmas.{book_exported}
 use Rattle.pawn_csv.proofs.exporting.export.Goals as goal
 

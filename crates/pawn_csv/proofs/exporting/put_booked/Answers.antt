@@ -1,6 +1,4 @@
-use Rattle.std.proofs.Common.{ℕ, List, sym, subst}
-use Rattle.std.proofs.lemmas.List.{append-nil}
-use Rattle.pawn_csv.specs.Csv.{PutsRow, Row, text_of_row}
+use Rattle.pawn_csv.proofs.Basics.{ℕ, List, sym, subst, append-nil, PutsRow, Row, text_of_row}
 use Rattle.pawn_csv.proofs.exporting.put_booked.Goals as goal
 
 pub returns-in-Some : goal.returns-in-Some

@@ -1,7 +1,4 @@
-use Rattle.std.proofs.Common.{refl, rules}
-use Rattle.pawn_csv.specs.Common.{call_end, entries_of, get, pledge_in}
-use Rattle.pawn_book.proofs.Reading.{reads_as}
-use Rattle.pawn_csv.specs.Exports.{entry_row_text}
+use Rattle.pawn_csv.proofs.Basics.{refl, rules, call_end, entries_of, get, pledge_in, reads_as, entry_row_text}
 use Rattle.pawn_csv.proofs.ListLemmas.{few_of, list_share, entry_lines}
 use Rattle.pawn_csv.proofs.exporting.put_entries.Goals as goal
 

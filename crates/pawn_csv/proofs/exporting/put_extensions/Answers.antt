@@ -1,7 +1,4 @@
-use Rattle.std.proofs.Common.{refl, rules}
-use Rattle.pawn_csv.specs.Common.{call_end, extensions_of, get, pledge_in}
-use Rattle.pawn_book.proofs.Reading.{reads_as}
-use Rattle.pawn_csv.specs.Exports.{extension_line}
+use Rattle.pawn_csv.proofs.Basics.{refl, rules, call_end, extensions_of, get, pledge_in, reads_as, extension_line}
 use Rattle.pawn_csv.proofs.ListLemmas.{few_of, list_share, extension_lines}
 use Rattle.pawn_csv.proofs.exporting.put_extensions.Goals as goal
 

@@ -1,6 +1,4 @@
-use Rattle.std.proofs.Common.{◌≡◌, ◌<◌, length, arith, subst, ℕ}
-use Rattle.pawn_csv.specs.Common.{get, pledges_of}
-use Rattle.pawn_csv.proofs.Lemmas.{nat_tests, reads_as, reads_both, reads_then}
+use Rattle.pawn_csv.proofs.Basics.{◌≡◌, ◌<◌, length, arith, subst, ℕ, get, pledges_of, nat_tests, reads_as, reads_both, reads_then}
 use Rattle.pawn_csv.proofs.CountLemmas.{has_number, record_missing, records_all, records_cut, records_front, records_next}
 use Rattle.pawn_csv.proofs.exporting.put_pledges.Goals as goal
 

@@ -1,6 +1,4 @@
-use Rattle.std.proofs.Common.{take}
-use Rattle.pawn_csv.specs.Common.{IsSound, Reads, Whole, get, pledges_of}
-use Rattle.pawn_csv.specs.Sent.{PutsRowsShare}
+use Rattle.pawn_csv.proofs.Basics.{take, IsSound, Reads, Whole, get, pledges_of, PutsRowsShare}
 use Rattle.pawn_csv.proofs.ListLemmas.{lines_from}
 use Rattle.pawn_csv.proofs.CountLemmas.{record_lines}
 use Rattle.pawn_csv.proofs.exporting.put_pledges.Given as goal

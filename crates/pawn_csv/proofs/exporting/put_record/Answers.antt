@@ -1,5 +1,4 @@
-use Rattle.pawn_csv.specs.Common.{get, pledge_in}
-use Rattle.pawn_book.proofs.Reading.{reads_as, reads_then, reads_both}
+use Rattle.pawn_csv.proofs.Basics.{get, pledge_in, reads_as, reads_then, reads_both}
 use Rattle.pawn_csv.proofs.RecordLemmas.{brief_at, cut_secrets, cut_entries, cut_extensions, record_whole}
 use Rattle.pawn_csv.proofs.exporting.put_record.Goals as goal
 

@@ -1,5 +1,4 @@
-use Rattle.std.specs.FinMap.{get}
-use Rattle.pawn_book.proofs.Reading.{reads_as, reads_then}
+use Rattle.pawn_csv.proofs.Basics.{get, reads_as, reads_then}
 use Rattle.pawn_csv.proofs.ExportLemmas.{rows_cut, rows_whole}
 use Rattle.pawn_csv.proofs.exporting.put_rows.Goals as goal
 

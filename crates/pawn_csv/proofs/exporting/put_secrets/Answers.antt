@@ -1,7 +1,4 @@
-use Rattle.std.proofs.Common.{refl, rules}
-use Rattle.pawn_csv.specs.Common.{call_end, get, pledge_in, secrets_of}
-use Rattle.pawn_book.proofs.Reading.{reads_as}
-use Rattle.pawn_csv.specs.Exports.{secret_line}
+use Rattle.pawn_csv.proofs.Basics.{refl, rules, call_end, get, pledge_in, secrets_of, reads_as, secret_line}
 use Rattle.pawn_csv.proofs.ListLemmas.{few_of, list_share, secret_lines}
 use Rattle.pawn_csv.proofs.exporting.put_secrets.Goals as goal
 

@@ -1,6 +1,4 @@
-use Rattle.std.proofs.Common.{◌≡◌, length, arith}
-use Rattle.pawn_csv.specs.Common.{get, terms_of}
-use Rattle.pawn_csv.proofs.Lemmas.{nat_tests, reads_as, reads_then}
+use Rattle.pawn_csv.proofs.Basics.{◌≡◌, length, arith, get, terms_of, nat_tests, reads_as, reads_then}
 use Rattle.pawn_csv.proofs.CountLemmas.{versions_all, versions_front, versions_next}
 use Rattle.pawn_csv.proofs.exporting.put_versions.Goals as goal
 

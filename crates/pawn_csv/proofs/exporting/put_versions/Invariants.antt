@@ -1,6 +1,4 @@
-use Rattle.std.proofs.Common.{take}
-use Rattle.pawn_csv.specs.Common.{Reads, Whole, get, terms_of}
-use Rattle.pawn_csv.specs.Sent.{PutsRowsShare}
+use Rattle.pawn_csv.proofs.Basics.{take, Reads, Whole, get, terms_of, PutsRowsShare}
 use Rattle.pawn_csv.proofs.ListLemmas.{lines_from}
 use Rattle.pawn_csv.proofs.CountLemmas.{version_line}
 use Rattle.pawn_csv.proofs.exporting.put_versions.Given as goal

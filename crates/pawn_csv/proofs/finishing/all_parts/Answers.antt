@@ -1,5 +1,4 @@
-use Rattle.std.proofs.Common.{◌≡◌, ◌∙◌, List, ◌∷◌, ◌++◌, ap, sym, subst, rules}
-use Rattle.pawn_csv.specs.Csv.{AreRawOf, RawPledge}
+use Rattle.pawn_csv.proofs.Basics.{◌≡◌, ◌∙◌, List, ◌∷◌, ◌++◌, ap, sym, subst, rules, AreRawOf, RawPledge}
 use Rattle.pawn_csv.proofs.FinishLemmas.{no_parts}
 use Rattle.pawn_csv.proofs.finishing.all_parts.Goals as goal
 

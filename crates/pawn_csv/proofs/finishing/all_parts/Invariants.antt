@@ -1,5 +1,4 @@
-use Rattle.std.proofs.Common.{◌≡◌, ◌++◌}
-use Rattle.pawn_csv.specs.Finishing.{AreRawOf}
+use Rattle.pawn_csv.proofs.Basics.{◌≡◌, ◌++◌, AreRawOf}
 use Rattle.pawn_csv.proofs.finishing.all_parts.Given as goal
 
 abbrev pub invariant-loop-raw : goal.invariant-loop-raw

@@ -1,5 +1,4 @@
-use Rattle.csv.specs.Records.{fields_of}
-use Rattle.pawn_csv.specs.Order.{begun_of}
+use Rattle.pawn_csv.proofs.Basics.{fields_of, begun_of}
 use Rattle.pawn_csv.proofs.ReadLemmas.{placed_is}
 use Rattle.pawn_csv.proofs.reading.take_record.Goals as goal
 

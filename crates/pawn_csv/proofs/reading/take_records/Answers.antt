@@ -1,9 +1,5 @@
-use Rattle.std.proofs.Common.{◌≡◌, ◌∙◌, [], refl, sym, ap, subst, inr, arith}
-use Rattle.pawn_csv.specs.Common.{Reached, fields_of, option_map, strip_bom}
-use Rattle.std.proofs.lemmas.Bool.Decides.{nat_tests}
-use Rattle.pawn_csv.specs.Csv.{AreTakenBefore, IsFaultOf, IsReadAs, begun_of}
+use Rattle.pawn_csv.proofs.Basics.{◌≡◌, ◌∙◌, [], refl, sym, ap, subst, inr, arith, Reached, fields_of, option_map, strip_bom, nat_tests, AreTakenBefore, IsFaultOf, IsReadAs, begun_of, ◌+◌}
 use Rattle.pawn_csv.specs.declared.fault.Cause.TheVariants as cause
-use Rattle.std.proofs.Common.{◌+◌}
 use Rattle.pawn_csv.proofs.ReadLemmas.{so_far_before, so_far_more, so_far_end, where_told, reader_fault, so_far_empty, so_far_unfinished, so_far_refused}
 use Rattle.pawn_csv.proofs.reading.take_records.Goals as goal
 

@@ -1,7 +1,4 @@
-use Rattle.std.proofs.Common.{◌≡◌, [], arith, length, refl}
-use Rattle.pawn_csv.proofs.Lemmas.{ext_get_or, nat_tests}
-use Rattle.csv.specs.Records.{fields_of}
-use Rattle.pawn_csv.specs.Csv.{COLUMNS, header}
+use Rattle.pawn_csv.proofs.Basics.{◌≡◌, [], arith, length, refl, ext_get_or, nat_tests, fields_of, COLUMNS, header}
 use Rattle.pawn_csv.proofs.spelling.is_header.Goals as goal
 
 pub returns : goal.returns

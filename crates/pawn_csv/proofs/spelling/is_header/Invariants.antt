@@ -1,6 +1,4 @@
-use Rattle.std.proofs.Common.{◌≡◌, ℕ, ◌<◌}
-use Rattle.csv.specs.Records.{fields_of}
-use Rattle.pawn_csv.specs.Csv.{column_at, header}
+use Rattle.pawn_csv.proofs.Basics.{◌≡◌, ℕ, ◌<◌, fields_of, column_at, header}
 use Rattle.pawn_csv.proofs.spelling.is_header.Given as goal
 
 abbrev pub invariant-loop-place : goal.invariant-loop-place

@@ -1,5 +1,4 @@
-use Rattle.std.proofs.Common.{◌∙◌, arith, refl, sym}
-use Rattle.csv.specs.Records.{fields_of}
+use Rattle.pawn_csv.proofs.Basics.{◌∙◌, arith, refl, sym, fields_of}
 use Rattle.pawn_csv.proofs.RowLemmas.{blank_follow, columns_are}
 use Rattle.pawn_csv.proofs.spelling.read_entry_row.Goals as goal
 

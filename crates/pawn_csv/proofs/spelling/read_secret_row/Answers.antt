@@ -1,6 +1,4 @@
-use Rattle.std.proofs.Common.{◌≡◌, ◌∙◌, ℕ, List, ap, arith, get_or, refl, sym}
-use Rattle.pawn_csv.specs.Common.{Issued, codes, fields_of}
-use Rattle.pawn_csv.specs.Csv.{FitsColumns, IsNoRow, Row, column_at, row_fields}
+use Rattle.pawn_csv.proofs.Basics.{◌≡◌, ◌∙◌, ℕ, List, ap, arith, get_or, refl, sym, Issued, codes, fields_of, FitsColumns, IsNoRow, Row, column_at, row_fields}
 use Rattle.pawn_csv.proofs.RowLemmas.{blank_follow, columns_are}
 use Rattle.pawn_csv.proofs.spelling.read_secret_row.Goals as goal
 

@@ -1,4 +1,4 @@
-use Rattle.std.proofs.Common.{◌∙◌, sym}
+use Rattle.pawn_csv.proofs.Basics.{◌∙◌, sym}
 use Rattle.pawn_csv.proofs.RowLemmas.{columns_are}
 use Rattle.pawn_csv.proofs.spelling.with_opening.Goals as goal
 

@@ -1,5 +1,4 @@
-use Rattle.std.proofs.Common.{ℕ, List, ap, ◌∙◌}
-use Rattle.pawn_csv.specs.Common.{hyphenated_text, lower, secret_text}
+use Rattle.pawn_csv.proofs.Basics.{ℕ, List, ap, ◌∙◌, hyphenated_text, lower, secret_text}
 use Rattle.pawn_csv.proofs.words.secret_text.Goals as goal
 
 pub returns : goal.returns

@@ -1,6 +1,5 @@
-use Rattle.std.proofs.Common.{refl}
+use Rattle.pawn_csv.proofs.Basics.{refl, by_index, civil_after, days_of_months, days_of_years, escaped, fields_text, is_blank}
 use Rattle.std.specs.Fmt.{digits}
-use Rattle.pawn_csv.specs.Common.{by_index, civil_after, days_of_months, days_of_years, escaped, fields_text, is_blank}
 use Rattle.pawn_csv.proofs.worked.worked_texts.Goals as goal
 
 pub returns : goal.returns

@@ -1,6 +1,4 @@
-use Rattle.std.proofs.Common.{arith}
-use Rattle.std.proofs.lemmas.Bool.Decides.{nat_tests}
-use Rattle.pawn_csv.specs.declared.row.TheConstants.{COLUMNS}
+use Rattle.pawn_csv.proofs.Basics.{arith, nat_tests, COLUMNS}
 use Rattle.pawn_csv.proofs.PadLemmas.{next_padded}
 use Rattle.pawn_csv.proofs.writing.put_padded.Goals as goal
 

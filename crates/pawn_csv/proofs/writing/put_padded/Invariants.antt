@@ -1,5 +1,4 @@
-use Rattle.std.proofs.Common.{◌≡◌, ◌-◌, ◌++◌, map, take}
-use Rattle.pawn_csv.specs.Csv.{COLUMNS, empty_columns}
+use Rattle.pawn_csv.proofs.Basics.{◌≡◌, ◌-◌, ◌++◌, map, take, COLUMNS, empty_columns}
 use Rattle.pawn_csv.proofs.writing.put_padded.Given as goal
 
 abbrev pub invariant-loop-place : goal.invariant-loop-place

@@ -1,4 +1,4 @@
-use Rattle.std.proofs.Common.{◌≡◌, ◌-◌, arith}
+use Rattle.pawn_debt.proofs.Basics.{◌≡◌, ◌-◌, arith}
 use Rattle.pawn_debt.proofs.DueLemmas.{days_inside, after_days-is}
 use Rattle.pawn_debt.proofs.owing.after_days.Goals as goal
 

@@ -1,4 +1,4 @@
-use Rattle.std.proofs.Common.{refl, ◌∙◌, arith}
+use Rattle.pawn_debt.proofs.Basics.{refl, ◌∙◌, arith}
 use Rattle.pawn_debt.proofs.KeptLemmas.{owed-later, millionths-later}
 use Rattle.pawn_debt.proofs.replay.owed_at.Goals as goal
 

@@ -1,6 +1,4 @@
-use Rattle.std.proofs.Common.{arith, ap, length, ◌∙◌}
-use Rattle.std.specs.Io.KnownBytes.{prepend_known}
-use Rattle.pawn_host.specs.Sessions.{CutOff, NoMemory, Read, Stopped, left_of, unanswered}
+use Rattle.pawn_host.proofs.Basics.{arith, ap, length, ◌∙◌, prepend_known, CutOff, NoMemory, Read, Stopped, left_of, unanswered}
 use Rattle.pawn_host.proofs.FindLemmas.{kept_more, head_more, found_short, found_request}
 use Rattle.pawn_host.proofs.ReadLemmas.{short_has_no_whole, fetched_more, fetched_last, fetched_nothing, fetched_other}
 use Rattle.pawn_host.proofs.session.await_body.Goals as goal

@@ -1,6 +1,4 @@
-use Rattle.std.proofs.Common.{◌≡◌, ◌-◌}
-use Rattle.std.specs.Io.KnownBytes.{Keeps, prepend_known}
-use Rattle.pawn_host.specs.Sessions.{HasHead, left_of, read_failed, reads, unanswered}
+use Rattle.pawn_host.proofs.Basics.{◌≡◌, ◌-◌, Keeps, prepend_known, HasHead, left_of, read_failed, reads, unanswered}
 use Rattle.pawn_host.proofs.ReadLemmas.{FetchedSoFar}
 use Rattle.pawn_host.proofs.session.await_body.Given as goal
 

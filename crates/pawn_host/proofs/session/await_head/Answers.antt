@@ -1,6 +1,4 @@
-use Rattle.std.proofs.Common.{ap, length, sym, ◌∙◌, ◌≡◌, []}
-use Rattle.pawn_host.specs.Common.{Fault, Partial, prepend_known}
-use Rattle.pawn_host.specs.Sessions.{AtEnd, CutOff, NoMemory, Read, Stopped, left_of, unanswered}
+use Rattle.pawn_host.proofs.Basics.{ap, length, sym, ◌∙◌, ◌≡◌, [], Fault, Partial, prepend_known, AtEnd, CutOff, NoMemory, Read, Stopped, left_of, unanswered}
 use Rattle.pawn_host.proofs.FindLemmas.{found_faulty, found_end, found_cut, kept_more, answers_at, empty_by_test, full_by_test}
 use Rattle.pawn_host.proofs.ReadLemmas.{partial_has_no_whole, fetched_more, fetched_last, fetched_nothing, fetched_other}
 use Rattle.pawn_host.proofs.session.await_head.Goals as goal

@@ -1,5 +1,4 @@
-use Rattle.std.proofs.Common.{◌≡◌, ◌≢◌, ◌∙◌, sym, arith}
-use Rattle.std.proofs.lemmas.Bool.Decides.{nat_tests}
+use Rattle.pawn_list_keeper.proofs.Basics.{◌≡◌, ◌≢◌, ◌∙◌, sym, arith, nat_tests}
 use Rattle.pawn_list_keeper.proofs.ListReads.{found_place, next_place, next_book}
 use Rattle.pawn_list_keeper.proofs.kept.place_of.Goals as goal
 

@@ -1,5 +1,4 @@
-use Rattle.std.proofs.Common.{subst, sym}
-use Rattle.pawn_list_keeper.specs.Listed.{IsLeastAbove, listed_book}
+use Rattle.pawn_list_keeper.proofs.Basics.{subst, sym, IsLeastAbove, listed_book}
 use Rattle.pawn_list_keeper.proofs.NextLemmas.{all_of, least_more, one_more}
 use Rattle.pawn_list_keeper.proofs.reading.next_number.Goals as goal
 

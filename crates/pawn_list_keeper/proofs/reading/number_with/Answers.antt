@@ -1,5 +1,4 @@
-use Rattle.std.proofs.Common.{◌≡◌, ◌∙◌, ap, sym, Some}
-use Rattle.pawn_list_keeper.specs.Common.{PledgeValue, is_same_text, option_map}
+use Rattle.pawn_list_keeper.proofs.Basics.{◌≡◌, ◌∙◌, ap, sym, Some, PledgeValue, is_same_text, option_map}
 use Rattle.pawn_pledge.specs.declared.record.Agreement.{Agreement}
 use Rattle.pawn_list_keeper.proofs.PledgePlaces.{reference_here, reference_next, reference_past}
 use Rattle.pawn_list_keeper.proofs.reading.number_with.Goals as goal

@@ -1,5 +1,4 @@
-use Rattle.std.proofs.Common.{◌≡◌, drop}
-use Rattle.pawn_book.specs.BookStep.{with_reference}
+use Rattle.pawn_list_keeper.proofs.Basics.{◌≡◌, drop, with_reference}
 use Rattle.pawn_list_keeper.proofs.reading.number_with.Given as goal
 
 abbrev pub invariant-loop-pledge : goal.invariant-loop-pledge

@@ -1,6 +1,4 @@
-use Rattle.std.proofs.Common.{◌∙◌, ◌++◌, ◌∷◌, [], ap, map}
-use Rattle.std.proofs.lemmas.List.{map-append}
-use Rattle.pawn_list_keeper.specs.Listed.{listed_book}
+use Rattle.pawn_list_keeper.proofs.Basics.{◌∙◌, ◌++◌, ◌∷◌, [], ap, map, map-append, listed_book}
 use Rattle.pawn_list_keeper.proofs.ListReads.{entry_made}
 use Rattle.pawn_list_keeper.proofs.ListSaves.{push_changes}
 use Rattle.pawn_list_keeper.proofs.saving.push_book.Goals as goal

@@ -1,7 +1,4 @@
-use Rattle.std.proofs.Common.{ℕ, Some, ap, refl}
-use Rattle.pawn_list_keeper.specs.Common.{AddTerms, BookValue}
-use Rattle.pawn_list_keeper.specs.declared.kept.Kept.{Kept}
-use Rattle.pawn_list_keeper.specs.Listed.{listed_book}
+use Rattle.pawn_list_keeper.proofs.Basics.{ℕ, Some, ap, refl, AddTerms, BookValue, Kept, listed_book}
 use Rattle.pawn_list_keeper.proofs.ListReads.{kept_same}
 use Rattle.pawn_list_keeper.proofs.ListSaves.{set_changes}
 use Rattle.pawn_list_keeper.proofs.saving.push_terms.Goals as goal

@@ -1,5 +1,4 @@
-use Rattle.std.proofs.Common.{◌∙◌, ◌+◌, sym, subst, take}
-use Rattle.pawn_list_keeper.specs.Common.{Go, HandsOver, part_item, part_items}
+use Rattle.pawn_list_keeper.proofs.Basics.{◌∙◌, ◌+◌, sym, subst, take, Go, HandsOver, part_item, part_items}
 use Rattle.pawn_list_keeper.proofs.PartLemmas.{item_goes, item_skips, item_stops}
 use Rattle.pawn_list_keeper.proofs.sheet.hand_part.Goals as goal
 use Rattle.pawn_list_keeper.proofs.sheet.hand_part.Goals.{in-Some+in-Go, in_default}

@@ -1,5 +1,4 @@
-use Rattle.std.proofs.Common.{◌≤◌, ◌+◌, arith}
-use Rattle.pawn_list_keeper.specs.Common.{Go, Stop, window_sheet}
+use Rattle.pawn_list_keeper.proofs.Basics.{◌≤◌, ◌+◌, arith, Go, Stop, window_sheet}
 use Rattle.pawn_list_keeper.proofs.PartLemmas.{window_next, windows_stop}
 use Rattle.pawn_list_keeper.proofs.sheet.hand_windows.Goals as goal
 

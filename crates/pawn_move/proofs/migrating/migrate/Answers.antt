@@ -1,4 +1,4 @@
-use Rattle.pawn_move.proofs.Answering.{Ok, rules, ◌≡◌, state, tables_stand_for_one_host}
+use Rattle.pawn_move.proofs.Basics.{Ok, rules, ◌≡◌, state, tables_stand_for_one_host}
 use Rattle.pawn_move.proofs.Migrates.{failed, not_indexed, not_told, older, stays, stays_owed, went, went_owed}
 use Rattle.pawn_move.proofs.migrating.migrate.Goals as goal
 

@@ -1,4 +1,4 @@
-use Rattle.sqlite.specs.Held.{state}
+use Rattle.pawn_move.proofs.Basics.{state}
 use Rattle.pawn_move.proofs.ToldSchema.{not_told, told}
 use Rattle.pawn_move.proofs.telling.schema_of.Goals as goal
 

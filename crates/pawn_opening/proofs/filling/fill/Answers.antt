@@ -1,4 +1,4 @@
-use Rattle.sqlite.specs.Held.{state}
+use Rattle.pawn_opening.proofs.Basics.{state}
 use Rattle.pawn_opening.proofs.Filled.{filled}
 use Rattle.pawn_opening.proofs.filling.fill.Goals as goal
 

@@ -1,4 +1,4 @@
-use Rattle.sqlite.specs.Held.{state}
+use Rattle.pawn_opening.proofs.Basics.{state}
 use Rattle.pawn_opening.proofs.MetaRows.{noted, on_ran}
 use Rattle.pawn_opening.proofs.noting.note.Goals as goal
 

@@ -1,6 +1,5 @@
 use Rattle.pawn_opening.proofs.Answering.{arith, inr, file_state, image_of, accepted, as_found, finds_host, finds_none, refused}
-use Rattle.sqlite_trees.proofs.Doubt.{no_doubt}
-use Rattle.sqlite.specs.State.{HasCleanDisk}
+use Rattle.pawn_opening.proofs.Basics.{no_doubt, HasCleanDisk}
 use Rattle.pawn_opening.proofs.opening.open_files.Goals as goal
 
 pub returns-in-Ok-prepare-clause-blank : goal.returns-in-Ok-prepare-clause-blank

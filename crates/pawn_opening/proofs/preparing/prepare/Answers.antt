@@ -1,4 +1,4 @@
-use Rattle.pawn_opening.proofs.Answering.{Err, rules, subst, sym, ◌≡◌, state, tables_stand_for_one_host, Recognises}
+use Rattle.pawn_opening.proofs.Basics.{Err, rules, subst, sym, ◌≡◌, state, tables_stand_for_one_host, Recognises}
 use Rattle.pawn_opening.proofs.Prepared.{when_empty, when_other, when_ours}
 use Rattle.pawn_opening.proofs.preparing.prepare.Goals as goal
 

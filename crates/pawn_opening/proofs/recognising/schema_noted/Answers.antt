@@ -1,5 +1,5 @@
 use Rattle.pawn_opening.proofs.Answering.{rules, subst, state, failed, told, untold}
-use Rattle.pawn_opening.specs.Refusing.{IsNumberRead}
+use Rattle.pawn_opening.proofs.Basics.{IsNumberRead}
 use Rattle.pawn_opening.proofs.recognising.schema_noted.Goals as goal
 
 pub returns-in-Ok : goal.returns-in-Ok

@@ -1,7 +1,5 @@
-use Rattle.std.proofs.Common.{ap, refl}
-use Rattle.pawn_pledge.specs.Common.{Due, owing_of}
+use Rattle.pawn_pledge.proofs.Basics.{ap, refl, Due, owing_of, debt_of}
 use Rattle.pawn_debt.proofs.EntryLemmas.{due-from-last}
-use Rattle.pawn_pledge.specs.Pledge.{debt_of}
 use Rattle.pawn_pledge.proofs.Briefs.{brief_is_within}
 use Rattle.pawn_pledge.proofs.laws.laws_of_briefs.Goals as goal
 

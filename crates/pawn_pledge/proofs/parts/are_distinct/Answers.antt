@@ -1,4 +1,4 @@
-use Rattle.std.proofs.Common.{sym, ◌∙◌}
+use Rattle.pawn_pledge.proofs.Basics.{sym, ◌∙◌}
 use Rattle.pawn_pledge.proofs.Pushes.{AreDistinct-step}
 use Rattle.pawn_pledge.proofs.parts.are_distinct.Goals as goal
 

@@ -1,6 +1,4 @@
-use Rattle.std.proofs.Common.{drop}
-use Rattle.pawn_pledge.specs.Common.{Each, Entry}
-use Rattle.pawn_pledge.specs.Replayable.{IsDrawnBy}
+use Rattle.pawn_pledge.proofs.Basics.{drop, Each, Entry, IsDrawnBy}
 use Rattle.pawn_pledge.proofs.parts.are_drawn.Given as goal
 
 abbrev pub invariant-loop-e : goal.invariant-loop-e

@@ -1,6 +1,4 @@
-use Rattle.std.proofs.Common.{drop}
-use Rattle.pawn_pledge.specs.Pledges.{IsLaterIssue, Issued}
-use Rattle.pawn_base.specs.Lists.{Each}
+use Rattle.pawn_pledge.proofs.Basics.{drop, IsLaterIssue, Issued, Each}
 use Rattle.pawn_pledge.proofs.parts.are_later_issues.Given as goal
 
 abbrev pub invariant-loop-i : goal.invariant-loop-i

@@ -1,4 +1,4 @@
-use Rattle.std.proofs.Common.{rules}
+use Rattle.pawn_pledge.proofs.Basics.{rules}
 use Rattle.pawn_pledge.proofs.Stands.{stands}
 use Rattle.pawn_pledge.proofs.parts.judge.Goals as goal
 

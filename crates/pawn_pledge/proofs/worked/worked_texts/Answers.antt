@@ -1,5 +1,4 @@
-use Rattle.std.proofs.Common.{refl, arith}
-use Rattle.pawn_pledge.specs.Common.{by_index, codes}
+use Rattle.pawn_pledge.proofs.Basics.{refl, arith, by_index, codes}
 use Rattle.std.specs.Fmt.{digits}
 use Rattle.pawn_pledge.proofs.worked.worked_texts.Goals as goal
 

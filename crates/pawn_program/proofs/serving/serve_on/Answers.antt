@@ -1,6 +1,4 @@
-use Rattle.std.proofs.Common.{arith, refl}
-use Rattle.pawn_host.specs.Keeps.{service_keep, start_of}
-use Rattle.pawn_host.proofs.CrashLemmas.{goes_none}
+use Rattle.pawn_program.proofs.Basics.{arith, refl, service_keep, start_of, goes_none}
 use Rattle.pawn_host.proofs.SessionLemmas.{open_then, within_most}
 use Rattle.pawn_program.proofs.ServingLemmas.{served_none, served_more}
 use Rattle.pawn_program.proofs.serving.serve_on.Goals as goal

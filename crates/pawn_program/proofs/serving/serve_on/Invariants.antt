@@ -1,7 +1,5 @@
-use Rattle.std.proofs.Common.{◌≡◌, ◌+◌}
-use Rattle.pawn_host.specs.Keeps.{StaysOpen, Serves}
+use Rattle.pawn_program.proofs.Basics.{◌≡◌, ◌+◌, StaysOpen, Serves, AreServed}
 use Rattle.pawn_program.specs.Clock.{GivesDated}
-use Rattle.pawn_program.specs.Serving.{AreServed}
 use Rattle.pawn_program.proofs.serving.serve_on.Given as goal
 
 abbrev pub invariant-loop-turn : goal.invariant-loop-turn

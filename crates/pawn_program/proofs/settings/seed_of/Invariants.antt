@@ -1,5 +1,4 @@
-use Rattle.std.proofs.Common.{◌≡◌, ◌*◌, length, take, drop}
-use Rattle.pawn_program.specs.Settings.{hex_bytes}
+use Rattle.pawn_program.proofs.Basics.{◌≡◌, ◌*◌, length, take, drop, hex_bytes}
 use Rattle.pawn_program.proofs.HexLemmas.{after_bytes}
 use Rattle.pawn_program.proofs.settings.seed_of.Given as goal
 

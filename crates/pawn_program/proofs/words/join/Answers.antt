@@ -1,4 +1,4 @@
-use Rattle.std.proofs.Common.{ℕ, ◌≡◌, List, [], ◌∷◌, ◌++◌, length, get_or, arith, refl}
+use Rattle.pawn_program.proofs.Basics.{ℕ, ◌≡◌, List, [], ◌∷◌, ◌++◌, length, get_or, arith, refl}
 use Rattle.pawn_program.proofs.words.join.Goals as goal
 
 four : (a : List ℕ) → length a ≡ 4 → a ≡ get_or a 0 0 ∷ get_or a 1 0 ∷ get_or a 2 0 ∷ get_or a 3 0 ∷ []

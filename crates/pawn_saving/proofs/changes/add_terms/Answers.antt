@@ -1,5 +1,5 @@
 use Rattle.pawn_saving.proofs.Writing.{[], arith, length, length-append, refl, subst, true, ℕ, ◌++◌, ◌+◌, ◌∙◌, ◌∷◌, ◌≡◌, state, Rates, with_change, rows, with_rows, number, terms_cells, IsWrittenPart, listed_as, as_lists, clean_before}
-use Rattle.pawn_book.specs.declared.change.Change.TheVariants.{AddTerms}
+use Rattle.pawn_saving.proofs.Basics.{AddTerms}
 use Rattle.pawn_saving.proofs.BookChanges.{longer_written, only_book, other_books}
 use Rattle.pawn_saving.proofs.changes.add_terms.Goals as goal
 

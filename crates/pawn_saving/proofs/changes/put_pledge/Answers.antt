@@ -1,5 +1,5 @@
 use Rattle.pawn_saving.proofs.Writing.{is_ok, rules, subst, sym, state, clean_before, can_within, none_stored, some_stored}
-use Rattle.pawn_tables.specs.StandsFor.{StandsFor}
+use Rattle.pawn_saving.proofs.Basics.{StandsFor}
 use Rattle.pawn_saving.proofs.changes.put_pledge.Goals as goal
 
 pub returns-then-stored-eq0-clause-wrote : goal.returns-then-stored-eq0-clause-wrote

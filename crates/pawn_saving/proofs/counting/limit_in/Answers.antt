@@ -1,6 +1,5 @@
 use Rattle.pawn_saving.proofs.Writing.{subst, sym, ◌∙◌, state, plain_rests, if_small, limit_shown, limit_told}
-use Rattle.sqlite.specs.Listing.{understood}
-use Rattle.sqlite.proofs.Callers.{IsPlain}
+use Rattle.pawn_saving.proofs.Basics.{understood, IsPlain}
 use Rattle.pawn_saving.proofs.WriteTexts.{READ_LIMIT, texts}
 use Rattle.pawn_saving.proofs.counting.limit_in.Goals as goal
 

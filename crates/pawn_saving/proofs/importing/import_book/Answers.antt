@@ -1,5 +1,5 @@
 use Rattle.pawn_saving.proofs.Writing.{refl, subst, sym, true, ◌++◌, ◌∙◌, ◌∷◌, state, rows, with_rows, number, placed_from, terms_cells, terms_tree, listed_as, as_lists, lent_anyway, lent_carried, only_book, other_books, past}
-use Rattle.pawn_tables.specs.Ours.{ListsOurs}
+use Rattle.pawn_saving.proofs.Basics.{ListsOurs}
 use Rattle.pawn_saving.proofs.ImportWrites.{brought_numbered, filled_counted, unbooked, with_own_row, with_terms}
 use Rattle.pawn_saving.proofs.importing.import_book.Goals as goal
 

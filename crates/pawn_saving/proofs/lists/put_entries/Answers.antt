@@ -1,5 +1,5 @@
-use Rattle.pawn_saving.proofs.Writing.{Err, Result, ap, false, is_ok, length, map, refl, rules, subst, sym, ◌∙◌, ◌≡◌, ◌≤◌, state, KeepError, entry_cells, under, entries_tree, IsCarried, carried_then, none_put, one_put, take_all, take_map}
-use Rattle.pawn_debt.specs.declared.entry.Entry.{Entry}
+use Rattle.pawn_saving.proofs.Writing.{ap, length, map, rules, ◌∙◌, ◌≡◌, ◌≤◌, state, entry_cells, under, one_put, take_all, take_map}
+use Rattle.pawn_saving.proofs.Basics.{Entry}
 use Rattle.pawn_saving.proofs.lists.put_entries.Goals as goal
 
 pub loop-entry-preserved : goal.loop-entry-preserved

@@ -1,5 +1,5 @@
 use Rattle.pawn_saving.proofs.Writing.{ap, arith, length, rules, ℕ, ◌∙◌, ◌≤◌, state, extension_cells, placed_from, under, one_put, take_all, take_placed}
-use Rattle.pawn_pledge.specs.declared.record.Extension.{Extension}
+use Rattle.pawn_saving.proofs.Basics.{Extension}
 use Rattle.pawn_saving.proofs.lists.put_extensions.Goals as goal
 
 pub loop-extension-preserved : goal.loop-extension-preserved

@@ -1,5 +1,5 @@
 use Rattle.pawn_saving.proofs.Writing.{ap, arith, length, rules, ℕ, ◌∙◌, ◌≤◌, state, placed_from, secret_cells, under, one_put, take_all, take_placed}
-use Rattle.pawn_pledge.specs.declared.record.Issued.{Issued}
+use Rattle.pawn_saving.proofs.Basics.{Issued}
 use Rattle.pawn_saving.proofs.lists.put_secrets.Goals as goal
 
 pub loop-issued-preserved : goal.loop-issued-preserved

@@ -1,5 +1,5 @@
 use Rattle.pawn_saving.proofs.Writing.{state, booking_cells, under, bookings_tree, none_stands, now_stands, stood_before, on_ok}
-use Rattle.pawn_pledge.specs.declared.record.Booking.{Booking}
+use Rattle.pawn_saving.proofs.Basics.{Booking}
 use Rattle.pawn_saving.proofs.putting.put_any_booking.Goals as goal
 
 pub returns-in-Some-clause-wrote : goal.returns-in-Some-clause-wrote

@@ -1,5 +1,5 @@
 use Rattle.pawn_saving.proofs.Writing.{None, is_ok, refl, true, ◌∷◌, state, with_rows, bookings_tree, pledges_tree, totals_tree, row_under, totals_under, clean_before, sides_put, on_ok, past}
-use Rattle.std.proofs.lemmas.List.Sorted.{IsPermutation-refl}
+use Rattle.pawn_saving.proofs.Basics.{IsPermutation-refl}
 use Rattle.pawn_saving.proofs.putting.put_sides.Goals as goal
 
 pub returns-clause-wrote : goal.returns-clause-wrote

@@ -1,6 +1,6 @@
 use Rattle.pawn_saving.proofs.Writing.{is_ok, refl, true, ◌∷◌, state, with_rows, bookings_tree, pledges_tree, totals_tree, row_under, totals_under, clean_before, sides_set, on_ok, past}
+use Rattle.pawn_saving.proofs.Basics.{debt_of}
 use Rattle.pawn_debt.specs.Kept.{totals_of}
-use Rattle.pawn_pledge.specs.Pledge.{debt_of}
 use Rattle.pawn_saving.proofs.renewing.set_sides.Goals as goal
 
 pub returns-clause-wrote : goal.returns-clause-wrote

@@ -1,5 +1,4 @@
-use Rattle.pawn_saving.proofs.Writing.{Err, Ok, refl, rules, state}
-use Rattle.pawn_tables.proofs.OneHost.{tables_stand_for_one_host}
+use Rattle.pawn_saving.proofs.Basics.{Err, Ok, rules, state, tables_stand_for_one_host}
 use Rattle.pawn_saving.proofs.Saved.{begins, given_back, saves_committed, saves_refused, saves_undone}
 use Rattle.pawn_saving.proofs.saving.save.Goals as goal
 

@@ -1,4 +1,4 @@
-use Rattle.pawn_saving.proofs.Writing.{refl, true, state, with_change, rows, clean_before}
+use Rattle.pawn_saving.proofs.Basics.{refl, true, state, with_change, rows, clean_before}
 use Rattle.pawn_saving.proofs.Judging.{few_before, full_after, stands_after}
 use Rattle.pawn_saving.proofs.saving.write_change.Goals as goal
 

@@ -1,5 +1,5 @@
 use Rattle.pawn_saving.proofs.Writing.{IsTrue, subst, sym, ◌↔◌, ◌∙◌, ◌≤◌, get, pledge_in, length_in, entry_placed, tells_place}
-use Rattle.pawn_book.specs.Keeping.{entries_of, extensions_of, secrets_of}
+use Rattle.pawn_saving.proofs.Basics.{entries_of, extensions_of, secrets_of}
 use Rattle.pawn_saving.specs.declared.stored.PledgeList.{PledgeList}
 use Rattle.pawn_saving.proofs.stored.stands_at.Goals as goal
 

@@ -1,5 +1,4 @@
-use Rattle.std.proofs.Common.{subst}
-use Rattle.pawn_store.specs.Common.{AreClean, AreClosedFor, HasCommitted, Host, IsLeftUnclosed, StandsFor, file_state}
+use Rattle.pawn_store.proofs.Basics.{subst, AreClean, AreClosedFor, HasCommitted, Host, IsLeftUnclosed, StandsFor, file_state}
 use Rattle.pawn_store.proofs.opening.close_keep.Goals as goal
 
 pub returns-in-Ok-clause-kept : goal.returns-in-Ok-clause-kept

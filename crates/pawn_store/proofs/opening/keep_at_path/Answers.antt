@@ -1,6 +1,4 @@
-use Rattle.std.proofs.Common.{subst, sym}
-use Rattle.pawn_store.specs.Common.{HasCleanDisk, Host, IsBlank, OpensAs, OpensFound, StandsIn, empty_host, file_state, image_at}
-use Rattle.pawn_store.specs.Running.{Reopens}
+use Rattle.pawn_store.proofs.Basics.{subst, sym, HasCleanDisk, Host, IsBlank, OpensAs, OpensFound, StandsIn, empty_host, file_state, image_at, Reopens}
 use Rattle.pawn_store.proofs.Runs.{reopens}
 use Rattle.pawn_store.proofs.opening.keep_at_path.Goals as goal
 

@@ -1,4 +1,4 @@
-use Rattle.pawn_store.specs.Common.{left_of, written_bytes}
+use Rattle.pawn_store.proofs.Basics.{left_of, written_bytes}
 use Rattle.pawn_store.proofs.Runs.{session_over_tables}
 use Rattle.pawn_store.proofs.running.answer_over_tables.Goals as goal
 

@@ -1,6 +1,6 @@
-use Rattle.std.proofs.Common.{refl}
+use Rattle.pawn_store.proofs.Basics.{refl}
 use Rattle.std.proofs.lemmas.Result.{IfOk-weaker}
-use Rattle.pawn_store.proofs.Runs.{acts_over_tables, answered_whole}
+use Rattle.pawn_store.proofs.Runs.{acts_over_tables}
 use Rattle.pawn_store.proofs.running.run_over_tables.Goals as goal
 
 pub returns-clause-headline : goal.returns-clause-headline

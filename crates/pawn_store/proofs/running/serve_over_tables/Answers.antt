@@ -1,7 +1,4 @@
-use Rattle.std.proofs.Common.{◌∙◌, arith, refl}
-use Rattle.pawn_store.specs.Common.{items_of, keeping_by, service_keep, state}
-use Rattle.pawn_host.proofs.CrashLemmas.{goes_none}
-use Rattle.pawn_program.proofs.ServingLemmas.{served_none}
+use Rattle.pawn_store.proofs.Basics.{◌∙◌, arith, refl, items_of, keeping_by, service_keep, state, goes_none, served_none}
 use Rattle.pawn_store.proofs.Runs.{acts_over_tables}
 use Rattle.pawn_store.proofs.Turns.{on_turn, served_turn}
 use Rattle.pawn_store.proofs.running.serve_over_tables.Goals as goal

@@ -1,5 +1,4 @@
-use Rattle.std.proofs.Common.{◌≡◌, ◌+◌}
-use Rattle.pawn_store.specs.Common.{AreServed, GivesDated, Serves, StaysOpen, keeping_by, state}
+use Rattle.pawn_store.proofs.Basics.{◌≡◌, ◌+◌, AreServed, GivesDated, Serves, StaysOpen, keeping_by, state}
 use Rattle.pawn_store.proofs.running.serve_over_tables.Given as goal
 
 abbrev pub invariant-loop-turn : goal.invariant-loop-turn

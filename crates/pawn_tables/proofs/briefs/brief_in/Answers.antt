@@ -1,6 +1,5 @@
 use Rattle.pawn_tables.proofs.Reading.{Err, IfSome, Ok, Option, Some, ap, option_map, rules, subst, sym, ◌∙◌, ◌≡◌, get, state, pledge_in, Host, AreListEnds, AreTold, IsBriefTold, StoredPledge, joined_told, told_is, first_unfound, two_found, brief_unsound, unjoined}
-use Rattle.pawn_pledge.specs.Brief.{brief_of}
-use Rattle.pawn_tables.specs.declared.joining.ListEnds.{ListEnds}
+use Rattle.pawn_tables.proofs.Basics.{brief_of, ListEnds}
 use Rattle.pawn_tables.proofs.briefs.brief_in.Goals as goal
 
 pub returns-in_err-told-clause-finds : goal.returns-in_err-told-clause-finds

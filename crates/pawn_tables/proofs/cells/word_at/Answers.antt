@@ -1,4 +1,4 @@
-use Rattle.std.proofs.Common.{rules, ◌∙◌}
+use Rattle.pawn_tables.proofs.Basics.{rules, ◌∙◌}
 use Rattle.pawn_tables.proofs.Words.{word_read}
 use Rattle.pawn_tables.proofs.cells.word_at.Goals as goal
 

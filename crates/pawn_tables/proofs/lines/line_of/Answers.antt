@@ -1,6 +1,5 @@
 use Rattle.pawn_tables.proofs.RowReading.{ap, arith, length, refl, rules, ◌<◌, ◌∙◌, ◌≡◌, IsNumber, line_cells, number, Line, always_read, cell_at}
-use Rattle.sqlite.specs.Order.{Row, column}
-use Rattle.pawn_book.specs.declared.sheet.Part.{Part}
+use Rattle.pawn_tables.proofs.Basics.{Row, column, Part}
 use Rattle.pawn_book.specs.declared.sheet.Part.TheVariants as part_of
 use Rattle.pawn_tables.proofs.lines.line_of.Goals as goal
 

@@ -1,5 +1,4 @@
-use Rattle.pawn_tables.proofs.Reading.{arith, rules, IsWord, last_cells, LastSecret}
-use Rattle.pawn_terms.specs.Calendar.{IsDayNumber}
+use Rattle.pawn_tables.proofs.Basics.{arith, rules, IsWord, last_cells, LastSecret, IsDayNumber}
 use Rattle.pawn_tables.proofs.ListsOfRows.{first_err_of, first_of}
 use Rattle.pawn_tables.proofs.list_ends.first_last.Goals as goal
 

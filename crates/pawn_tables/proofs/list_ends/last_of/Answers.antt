@@ -1,5 +1,4 @@
-use Rattle.std.proofs.Common.{rules, refl, arith}
-use Rattle.pawn_tables.specs.Rows.{number}
+use Rattle.pawn_tables.proofs.Basics.{rules, refl, arith, number}
 use Rattle.pawn_tables.proofs.RowCells.{cell_at}
 use Rattle.pawn_tables.proofs.list_ends.last_of.Goals as goal
 

@@ -1,5 +1,5 @@
 use Rattle.pawn_tables.proofs.Reading.{◌∙◌, get, state, pledge_in, entries_of, entries_page_shown, entries_page_unsound, entries_rising, READ_ENTRIES_PAGE, found, found_as, texts}
-use Rattle.pawn_tables.specs.Entries.{IsEntriesPage}
+use Rattle.pawn_tables.proofs.Basics.{IsEntriesPage}
 use Rattle.pawn_tables.proofs.NextEntries.{is_entries_page}
 use Rattle.pawn_tables.proofs.pages.entries_page.Goals as goal
 

@@ -1,5 +1,5 @@
 use Rattle.pawn_tables.proofs.RowReading.{arith, rules, terms_cells, first_err}
-use Rattle.pawn_terms.specs.Terms.{IsChecked}
+use Rattle.pawn_tables.proofs.Basics.{IsChecked}
 use Rattle.pawn_tables.proofs.records.first_terms.Goals as goal
 
 pub returns-in_err-terms_of : goal.returns-in_err-terms_of

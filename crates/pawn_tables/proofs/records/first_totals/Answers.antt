@@ -1,5 +1,5 @@
 use Rattle.pawn_tables.proofs.RowReading.{arith, rules, IsDayNumber, totals_cells, first_err}
-use Rattle.pawn_debt.specs.declared.owing.Totals.{Totals}
+use Rattle.pawn_tables.proofs.Basics.{Totals}
 use Rattle.pawn_tables.proofs.records.first_totals.Goals as goal
 
 pub returns-in_err-totals_of : goal.returns-in_err-totals_of

@@ -1,9 +1,6 @@
 use Rattle.pawn_tables.proofs.Reading.{length, ℕ, ◌∙◌, ◌≡◌, get, state, pledges_of, confirmed_items, finds_as}
-use Rattle.pawn_book.specs.Bookings.{confirmed_count}
-use Rattle.pawn_book.specs.Sheet.{part_items}
-use Rattle.pawn_book.specs.Sound.{IsUnsoundAt}
+use Rattle.pawn_tables.proofs.Basics.{confirmed_count, part_items, IsUnsoundAt, Rests}
 use Rattle.pawn_book.specs.declared.sheet.Part.TheVariants as part_of
-use Rattle.one_table.specs.Lending.{Rests}
 use Rattle.pawn_tables.proofs.sheets.count_in.Goals as goal
 
 pub returns-in-Confirmed-clause-finds : goal.returns-in-Confirmed-clause-finds

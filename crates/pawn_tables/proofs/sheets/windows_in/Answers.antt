@@ -1,5 +1,5 @@
 use Rattle.pawn_tables.proofs.Reading.{map, ◌∙◌, get, pledges_of, NamesWindows, READ_WINDOWS, found, found_as, texts}
-use Rattle.pawn_tables.specs.Heads.{number_cells}
+use Rattle.pawn_tables.proofs.Basics.{number_cells}
 use Rattle.pawn_tables.proofs.WindowReads.{windows_shown}
 use Rattle.pawn_tables.proofs.sheets.windows_in.Goals as goal
 

@@ -1,7 +1,5 @@
 use Rattle.pawn_tables.proofs.Reading.{List, rules, ◌≡◌, get, state, pledge_in, Host, entries_of, extensions_of, secrets_of, lists_told, first_unfound, second_unfound, third_unfound, three_found}
-use Rattle.pawn_debt.specs.declared.entry.Entry.{Entry}
-use Rattle.pawn_pledge.specs.declared.record.Issued.{Issued}
-use Rattle.pawn_pledge.specs.declared.record.Extension.{Extension}
+use Rattle.pawn_tables.proofs.Basics.{Entry, Issued, Extension}
 use Rattle.pawn_tables.proofs.whole.lists_in.Goals as goal
 
 pub returns-in_err-entries-clause-finds : goal.returns-in_err-entries-clause-finds

@@ -1,7 +1,5 @@
 use Rattle.pawn_tables.proofs.Reading.{Err, IfSome, Ok, Option, Some, ap, rules, subst, sym, ◌∙◌, ◌≡◌, get, state, pledge_in, Host, AreLists, AreTold, StoredPledge, joined_told, told_is, first_unfound, two_found, standing_unsound, unjoined}
-use Rattle.pawn_pledge.specs.Pledge.{PledgeValue}
-use Rattle.pawn_pledge.specs.Replayable.{IsStanding}
-use Rattle.pawn_tables.specs.declared.joining.Lists.{Lists}
+use Rattle.pawn_tables.proofs.Basics.{PledgeValue, IsStanding, Lists}
 use Rattle.pawn_tables.proofs.whole.pledge_of.Goals as goal
 
 pub returns-in_err-told-clause-finds : goal.returns-in_err-told-clause-finds

@@ -1,8 +1,5 @@
 use Rattle.pawn_tables.proofs.Reading.{Option, rules, ◌≡◌, get, state, pledge_in, Host, terms_of, booking_of, totals_in, sides_told, first_unfound, second_unfound, third_unfound, three_found}
-use Rattle.pawn_terms.specs.declared.terms.Rates.{Rates}
-use Rattle.pawn_pledge.specs.declared.record.Booking.{Booking}
-use Rattle.pawn_debt.specs.declared.owing.Totals.{Totals}
-use Rattle.pawn_book.specs.Rows.{terms_at}
+use Rattle.pawn_tables.proofs.Basics.{Rates, Booking, Totals, terms_at}
 use Rattle.pawn_tables.proofs.whole.sides_in.Goals as goal
 
 pub returns-in_err-terms-clause-finds : goal.returns-in_err-terms-clause-finds

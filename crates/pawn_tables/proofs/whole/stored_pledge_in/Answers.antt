@@ -1,6 +1,5 @@
 use Rattle.pawn_tables.proofs.Reading.{IfSome, Option, ap, arith, option_map, refl, rules, sym, ◌∙◌, ◌≡◌, get, state, pledge_in, Host, AreSides, row_of, row_is, told_of, version_fits, first_unfound, two_found}
-use Rattle.pawn_tables.specs.declared.joining.RowsBeside.{RowsBeside}
-use Rattle.pawn_tables.specs.declared.records.PledgeRow.{PledgeRow}
+use Rattle.pawn_tables.proofs.Basics.{RowsBeside, PledgeRow}
 use Rattle.pawn_tables.proofs.whole.stored_pledge_in.Goals as goal
 
 pub returns-in_err-row-clause-finds : goal.returns-in_err-row-clause-finds

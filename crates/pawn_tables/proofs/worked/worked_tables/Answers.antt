@@ -1,17 +1,9 @@
-use Rattle.std.proofs.Common.{◌≡◌, ℕ, List, [], ◌∷◌, map, flat_map, sum_by, refl, sym, ap, ◌∙◌, arith}
-use Rattle.std.specs.FinMap.{empty, entries, entries-insert, put, len-empty, len-entries}
-use Rattle.std.specs.Ordering.{nat_cmp}
+use Rattle.pawn_tables.proofs.Basics.{◌≡◌, ℕ, List, [], ◌∷◌, map, flat_map, sum_by, refl, sym, ap, ◌∙◌, arith, empty, entries, nat_cmp, nil_from_length, Row, PledgeValue, BookValue, meta_rows, book_row, terms_listed, pledge_listed, entries_listed, secrets_listed, booking_listed, totals_listed, extensions_listed, of_books, of_pledges}
+use Rattle.std.specs.FinMap.{entries-insert, put, len-empty, len-entries}
 use Rattle.std.proofs.lemmas.Cmp.{nat_cmp_total}
-use Rattle.std.proofs.lemmas.List.{nil_from_length}
-use Rattle.sqlite.specs.Order.{Row}
 use Rattle.pawn_terms.specs.Calendar.{days_of_years, days_of_months, civil_after}
 use Rattle.pawn_debt.specs.Due.{due_after}
-use Rattle.pawn_pledge.specs.Pledge.{PledgeValue}
-use Rattle.pawn_book.specs.BookStep.{BookValue}
 use Rattle.pawn_book.specs.HostStep.{book_rows}
-use Rattle.pawn_tables.specs.Meta.{meta_rows}
-use Rattle.pawn_tables.specs.Rows.{book_row, terms_listed, pledge_listed, entries_listed, secrets_listed, booking_listed, totals_listed, extensions_listed}
-use Rattle.pawn_tables.specs.StandsFor.{of_books, of_pledges}
 use Rattle.pawn_tables.specs.WorkedTables.{stored_book, host_of_stored_book}
 use Rattle.pawn_tables.proofs.worked.worked_tables.Goals as goal
 

@@ -1,6 +1,4 @@
-use Rattle.std.proofs.Common.{ap, sym}
-use Rattle.pawn_view.specs.Common.{get, live_at, not, pledge_in}
-use Rattle.pawn_book.proofs.Reading.{reads_then}
+use Rattle.pawn_view.proofs.Basics.{ap, sym, get, live_at, not, pledge_in, reads_then}
 use Rattle.pawn_view.proofs.PresentedLemmas.{any_known, unknown_more}
 use Rattle.pawn_view.proofs.receipts.is_any_live.Goals as goal
 

@@ -1,6 +1,4 @@
-use Rattle.pawn_book.proofs.Reading.{reads_as, reads_then}
-use Rattle.pawn_book.specs.Visits.{call_end}
-use Rattle.pawn_view.specs.Shown.{live_pledges}
+use Rattle.pawn_view.proofs.Basics.{reads_as, reads_then, call_end, live_pledges}
 use Rattle.pawn_view.proofs.PresentedLemmas.{statement_stops, statement_then}
 use Rattle.pawn_view.proofs.receipts.put_from.Goals as goal
 

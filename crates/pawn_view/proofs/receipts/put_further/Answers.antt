@@ -1,5 +1,4 @@
-use Rattle.pawn_view.specs.Common.{get, live_at, pledge_in}
-use Rattle.pawn_book.proofs.Reading.{reads_then}
+use Rattle.pawn_view.proofs.Basics.{get, live_at, pledge_in, reads_then}
 use Rattle.pawn_view.proofs.PresentedLemmas.{further_goes_on, further_stops}
 use Rattle.pawn_view.proofs.receipts.put_further.Goals as goal
 

@@ -1,5 +1,4 @@
-use Rattle.pawn_view.specs.Common.{call_end, get, pledge_in}
-use Rattle.pawn_book.proofs.Reading.{reads_then}
+use Rattle.pawn_view.proofs.Basics.{call_end, get, pledge_in, reads_then}
 use Rattle.pawn_view.proofs.PresentedLemmas.{shown_statement}
 use Rattle.pawn_view.proofs.receipts.put_shown.Goals as goal
 

@@ -1,7 +1,4 @@
-use Rattle.std.proofs.Common.{◌∙◌, sym}
-use Rattle.pawn_book.specs.BookStep.{are_unknown}
-use Rattle.pawn_book.proofs.Reading.{reads_then}
-use Rattle.pawn_view.specs.Shown.{live_pledges}
+use Rattle.pawn_view.proofs.Basics.{◌∙◌, sym, are_unknown, reads_then, live_pledges}
 use Rattle.pawn_view.proofs.PresentedLemmas.{dead_first_shows}
 use Rattle.pawn_view.proofs.receipts.show_others.Goals as goal
 

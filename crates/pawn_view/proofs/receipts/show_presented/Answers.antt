@@ -1,6 +1,4 @@
-use Rattle.pawn_view.specs.Common.{get, live_at, pledge_in}
-use Rattle.pawn_book.proofs.Reading.{reads_then}
-use Rattle.pawn_view.specs.Shown.{live_pledges}
+use Rattle.pawn_view.proofs.Basics.{get, live_at, pledge_in, reads_then, live_pledges}
 use Rattle.pawn_view.proofs.PresentedLemmas.{live_first_shows, dead_first, rest_of, shows_all}
 use Rattle.pawn_view.proofs.receipts.show_presented.Goals as goal
 

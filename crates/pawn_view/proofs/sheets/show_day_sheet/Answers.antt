@@ -1,6 +1,4 @@
-use Rattle.std.proofs.Common.{rules}
-use Rattle.std.specs.FinMap.{get}
-use Rattle.pawn_book.proofs.Reading.{reads_then}
+use Rattle.pawn_view.proofs.Basics.{rules, get, reads_then}
 use Rattle.pawn_view.proofs.SheetLemmas.{sheet_shows}
 use Rattle.pawn_view.proofs.sheets.show_day_sheet.Goals as goal
 

@@ -1,7 +1,4 @@
-use Rattle.std.proofs.Common.{rules, sym, subst, ◌≡◌}
-use Rattle.pawn_view.specs.Common.{Front, PutsShare, Writing, call_end}
-use Rattle.pawn_view.specs.Views.{statement_text}
-use Rattle.pawn_book.proofs.Reading.{reads_as, reads_then}
+use Rattle.pawn_view.proofs.Basics.{rules, sym, subst, ◌≡◌, Front, PutsShare, Writing, call_end, statement_text, reads_as, reads_then}
 use Rattle.pawn_view.proofs.SoundLemmas.{told_of_sound}
 use Rattle.pawn_view.proofs.StatementLemmas.{statement_cut, statement_whole}
 use Rattle.pawn_view.proofs.statements.put_statement.Goals as goal

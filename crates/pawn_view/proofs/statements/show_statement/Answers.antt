@@ -1,5 +1,4 @@
-use Rattle.pawn_view.specs.Shown.{pledge_at}
-use Rattle.pawn_book.proofs.Reading.{reads_then}
+use Rattle.pawn_view.proofs.Basics.{pledge_at, reads_then}
 use Rattle.pawn_view.proofs.StatementLemmas.{statement_shows}
 use Rattle.pawn_view.proofs.statements.show_statement.Goals as goal
 

@@ -1,6 +1,4 @@
-use Rattle.std.proofs.Common.{refl}
-use Rattle.pawn_wire.specs.Common.{Err, IsAscii, IsOk, MatchResult, Ok, Result}
-use Rattle.std.proofs.lemmas.Str.{IsUtf8-from_ascii}
+use Rattle.pawn_wire.proofs.Basics.{refl, Err, IsAscii, IsOk, MatchResult, Ok, Result, IsUtf8-from_ascii}
 use Rattle.pawn_wire.proofs.DayLemmas.{day_ascii}
 use Rattle.pawn_wire.proofs.done.day_text.Goals as goal
 

@@ -1,5 +1,4 @@
-use Rattle.std.proofs.Common.{arith, ◌≡◌, ◌≤◌, ◌∙◌, ap, refl, inl, inr}
-use Rattle.pawn_wire.specs.Http.{body_length, closes_by, max_fields, max_head}
+use Rattle.pawn_wire.proofs.Basics.{arith, ◌≡◌, ◌≤◌, ◌∙◌, ap, refl, inl, inr, body_length, closes_by, max_fields, max_head}
 use Rattle.pawn_wire.proofs.HeadLemmas.{whole_head, told_by_fields, closed_by_fields, overflows_on, never_by_length}
 use Rattle.pawn_wire.proofs.StreamLemmas.{head_within}
 use Rattle.pawn_wire.proofs.head.read_head.Goals as goal

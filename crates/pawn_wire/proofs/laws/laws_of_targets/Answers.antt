@@ -1,6 +1,4 @@
-use Rattle.std.proofs.Common.{refl, drop}
-use Rattle.pawn_terms.specs.Calendar.{day_text}
-use Rattle.pawn_wire.specs.Http.{IsTargetFound, table}
+use Rattle.pawn_wire.proofs.Basics.{refl, drop, day_text, IsTargetFound, table}
 use Rattle.pawn_wire.proofs.NamedLemmas.{number_said-is, number_said-some, number_said-leading_zero, day_said-is, day_said-some}
 use Rattle.pawn_wire.proofs.TargetFacts.{each_part, first_targets, second_targets, third_targets, fourth_targets, last_targets}
 use Rattle.pawn_wire.proofs.laws.laws_of_targets.Goals as goal

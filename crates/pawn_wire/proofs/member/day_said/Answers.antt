@@ -1,4 +1,4 @@
-use Rattle.std.proofs.Common.{◌≡◌, ℕ, Result, Ok, Err, IsOk, IfOk, Some, sym, ap, ◌∙◌}
+use Rattle.pawn_wire.proofs.Basics.{◌≡◌, ℕ, Result, Ok, Err, IsOk, IfOk, Some, sym, ap, ◌∙◌}
 use Rattle.std.specs.Result.{result_ok}
 use Rattle.pawn_terms.specs.declared.day.BadDay.{BadDay}
 use Rattle.pawn_wire.proofs.NamedLemmas.{day_said-some, day_said-none}

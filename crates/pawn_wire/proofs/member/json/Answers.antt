@@ -1,8 +1,4 @@
-use Rattle.std.proofs.Common.{◌≡◌, List, ℕ, Bool, true, false, None, refl, inr}
-use Rattle.std.specs.Prelude.{IsUtf8, if◌then◌else◌}
-use Rattle.pawn_wire.specs.Common.{is_utf8, read}
-use Rattle.std.proofs.lemmas.Str.{IsUtf8-from_is_utf8, is_utf8-from_IsUtf8}
-use Rattle.pawn_wire.specs.Member.{json_of}
+use Rattle.pawn_wire.proofs.Basics.{◌≡◌, List, ℕ, Bool, true, false, None, refl, inr, IsUtf8, if◌then◌else◌, is_utf8, read, IsUtf8-from_is_utf8, is_utf8-from_IsUtf8, json_of}
 use Rattle.pawn_wire.proofs.member.json.Goals as goal
 
 pub returns-in-Ok : goal.returns-in-Ok

@@ -1,4 +1,4 @@
-use Rattle.std.proofs.Common.{arith}
+use Rattle.pawn_wire.proofs.Basics.{arith}
 use Rattle.pawn_wire.proofs.DigitLemmas.{short_numeral, value_bound, value_more}
 use Rattle.pawn_wire.proofs.numeral.number.Goals as goal
 

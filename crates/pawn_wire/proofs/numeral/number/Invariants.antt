@@ -1,5 +1,4 @@
-use Rattle.std.proofs.Common.{◌≡◌, take}
-use Rattle.std.specs.Str.Parse.{digits_value}
+use Rattle.pawn_wire.proofs.Basics.{◌≡◌, take, digits_value}
 use Rattle.pawn_wire.proofs.numeral.number.Given as goal
 
 abbrev pub invariant-loop-digit : goal.invariant-loop-digit

@@ -1,5 +1,4 @@
-use Rattle.std.proofs.Common.{ap, ◌∙◌}
-use Rattle.pawn_wire.specs.Named.{number_said}
+use Rattle.pawn_wire.proofs.Basics.{ap, ◌∙◌, number_said}
 use Rattle.pawn_wire.proofs.NamedLemmas.{number_said-of}
 use Rattle.pawn_wire.proofs.place.number_said.Goals as goal
 

@@ -1,6 +1,4 @@
-use Rattle.std.proofs.Common.{arith}
-use Rattle.std.specs.Str.{IsAscii}
-use Rattle.pawn_wire.proofs.Lemmas.{IsUtf8-from_ascii, common_steps}
+use Rattle.pawn_wire.proofs.Basics.{arith, IsAscii, IsUtf8-from_ascii, common_steps}
 use Rattle.pawn_wire.proofs.place.place_of.Goals as goal
 
 pub returns-in_default : goal.returns-in_default

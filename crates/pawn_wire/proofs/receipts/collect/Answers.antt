@@ -1,5 +1,4 @@
-use Rattle.std.proofs.Common.{Some, refl, sym, ap, ◌∙◌, inr}
-use Rattle.pawn_wire.specs.Receipts.{receipt_said}
+use Rattle.pawn_wire.proofs.Basics.{Some, refl, sym, ap, ◌∙◌, inr, receipt_said}
 use Rattle.pawn_wire.proofs.FieldLemmas.{no_span}
 use Rattle.pawn_wire.proofs.ReceiptLemmas.{collect_hit, collect_other, collect_bad}
 use Rattle.pawn_wire.proofs.receipts.collect.Goals as goal

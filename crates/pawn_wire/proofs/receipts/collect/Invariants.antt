@@ -1,6 +1,4 @@
-use Rattle.std.proofs.Common.{◌≡◌, Some, map, take}
-use Rattle.httparse.specs.Spans.{header_bytes}
-use Rattle.pawn_wire.specs.Receipts.{all_said, receipt_values}
+use Rattle.pawn_wire.proofs.Basics.{◌≡◌, Some, map, take, header_bytes, all_said, receipt_values}
 use Rattle.pawn_wire.proofs.receipts.collect.Given as goal
 
 abbrev pub invariant-loop-field : goal.invariant-loop-field

@@ -1,6 +1,4 @@
-use Rattle.std.proofs.Common.{◌≡◌, ◌≤◌, arith, ◌∙◌, length}
-use Rattle.pawn_book.specs.declared.limits.TheConstants.{MOST_RECEIPTS}
-use Rattle.pawn_wire.specs.Http.{pairs_of, receipt_values}
+use Rattle.pawn_wire.proofs.Basics.{◌≡◌, ◌≤◌, arith, ◌∙◌, length, MOST_RECEIPTS, pairs_of, receipt_values}
 use Rattle.pawn_wire.proofs.ReceiptLemmas.{few_said}
 use Rattle.pawn_wire.proofs.receipts.receipts.Goals as goal
 

@@ -1,6 +1,4 @@
-use Rattle.std.proofs.Common.{sym, ap}
-use Rattle.std.specs.Fmt.{digits}
-use Rattle.pawn_wire.specs.Http.{HeadFault, fault_text, wire_fault}
+use Rattle.pawn_wire.proofs.Basics.{sym, ap, digits, HeadFault, fault_text, wire_fault}
 use Rattle.pawn_wire.proofs.reply.fault_reply.Goals as goal
 
 pub returns-in-BadHead : goal.returns-in-BadHead

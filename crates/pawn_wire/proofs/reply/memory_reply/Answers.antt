@@ -1,5 +1,4 @@
-use Rattle.std.proofs.Common.{refl}
-use Rattle.std.specs.Fmt.{digits}
+use Rattle.pawn_wire.proofs.Basics.{refl, digits}
 use Rattle.pawn_wire.proofs.reply.memory_reply.Goals as goal
 
 pub returns : goal.returns

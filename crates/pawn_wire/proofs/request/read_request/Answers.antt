@@ -1,5 +1,4 @@
-use Rattle.std.proofs.Common.{arith, ◌≤◌, refl, inr, length, ◌-◌, take, drop}
-use Rattle.pawn_wire.specs.Http.{IsOutlined, OrMemory, max_fields, max_head, outline_by, pairs_of}
+use Rattle.pawn_wire.proofs.Basics.{arith, ◌≤◌, refl, inr, length, ◌-◌, take, drop, IsOutlined, OrMemory, max_fields, max_head, outline_by, pairs_of}
 use Rattle.pawn_wire.proofs.HeadLemmas.{whole_head}
 use Rattle.pawn_wire.proofs.RequestLemmas.{is_read, said_by_spans, none_in_front, none_by_overflow}
 use Rattle.pawn_wire.proofs.request.read_request.Goals as goal

@@ -1,4 +1,4 @@
-use Rattle.std.proofs.Common.{sym, ◌∙◌}
+use Rattle.pawn_wire.proofs.Basics.{sym, ◌∙◌}
 use Rattle.pawn_wire.proofs.RouteLemmas.{walk_ascii, first_given, second_part}
 use Rattle.pawn_wire.proofs.router.first_two.Goals as goal
 

@@ -1,6 +1,4 @@
-use Rattle.std.proofs.Common.{refl}
-use Rattle.std.specs.Fmt.{digits}
-use Rattle.uuid.proofs.OnLiterals.{uuid_on_literals}
+use Rattle.pawn_wire.proofs.Basics.{refl, digits, uuid_on_literals}
 use Rattle.pawn_wire.proofs.worked.worked_replies.Goals as goal
 
 pub returns-clause-statuses : goal.returns-clause-statuses

@@ -1,8 +1,4 @@
-use Rattle.std.proofs.Common.{refl}
-use Rattle.pawn_wire.specs.Common.{chars, civil_after, days_of_months, days_of_years, is_utf8}
-use Rattle.matchit.proofs.OnLiterals.{matchit_on_literals}
-use Rattle.pawn_wire.specs.Http.{day_said, number_said, table_rows}
-use Rattle.pawn_wire.proofs.Lemmas.{serde_json_on_literals, uuid_on_literals}
+use Rattle.pawn_wire.proofs.Basics.{refl, chars, civil_after, days_of_months, days_of_years, is_utf8, matchit_on_literals, day_said, number_said, table_rows, serde_json_on_literals, uuid_on_literals}
 use Rattle.pawn_wire.proofs.worked.worked_requests.Goals as goal
 
 pub returns-clause-requests : goal.returns-clause-requests

@@ -1,7 +1,4 @@
-use Rattle.std.proofs.Common.{refl}
-use Rattle.matchit.proofs.OnLiterals.{matchit_on_literals}
-use Rattle.pawn_wire.specs.Http.{day_said, number_said, table_rows}
-use Rattle.pawn_terms.specs.Calendar.{civil_after, days_of_years, days_of_months}
+use Rattle.pawn_wire.proofs.Basics.{refl, matchit_on_literals, day_said, number_said, table_rows, civil_after, days_of_years, days_of_months}
 use Rattle.pawn_wire.proofs.worked.worked_targets.Goals as goal
 
 pub returns-clause-targets : goal.returns-clause-targets

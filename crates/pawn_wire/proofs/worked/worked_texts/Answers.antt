@@ -1,6 +1,4 @@
-use Rattle.std.proofs.Common.{refl}
-use Rattle.pawn_terms.specs.Calendar.{civil_after, days_of_years, days_of_months}
-use Rattle.pawn_wire.specs.Named.{number_said, day_said}
+use Rattle.pawn_wire.proofs.Basics.{refl, civil_after, days_of_years, days_of_months, number_said, day_said}
 use Rattle.pawn_wire.proofs.worked.worked_texts.Goals as goal
 
 pub returns-clause-numbers : goal.returns-clause-numbers

@@ -1,6 +1,4 @@
-use Rattle.std.proofs.Common.{◌∙◌, [], ap, refl, sym}
-use Rattle.pawn_writing.specs.Common.{BriefFields, Go, entries_of}
-use Rattle.pawn_book.proofs.Reading.{reads_none}
+use Rattle.pawn_writing.proofs.Basics.{◌∙◌, [], ap, refl, sym, BriefFields, Go, entries_of, reads_none}
 use Rattle.pawn_writing.proofs.ListLemmas.{nothing_shared}
 use Rattle.pawn_writing.proofs.lists.visit_entries.Goals as goal
 

@@ -1,6 +1,4 @@
-use Rattle.std.proofs.Common.{◌∙◌, [], ap, refl, sym}
-use Rattle.pawn_writing.specs.Common.{BriefFields, Go, extensions_of}
-use Rattle.pawn_book.proofs.Reading.{reads_none}
+use Rattle.pawn_writing.proofs.Basics.{◌∙◌, [], ap, refl, sym, BriefFields, Go, extensions_of, reads_none}
 use Rattle.pawn_writing.proofs.ListLemmas.{nothing_shared}
 use Rattle.pawn_writing.proofs.lists.visit_extensions.Goals as goal
 

@@ -1,4 +1,4 @@
-use Rattle.std.proofs.Common.{◌∙◌, sym}
+use Rattle.pawn_writing.proofs.Basics.{◌∙◌, sym}
 use Rattle.pawn_writing.proofs.PutLemmas.{puts_sent}
 use Rattle.pawn_writing.proofs.writing.put.Goals as goal
 

@@ -1,5 +1,4 @@
-use Rattle.std.proofs.Common.{◌∙◌, sym}
-use Rattle.pawn_csv.specs.Order.{view_begun}
+use Rattle.pawn_csv.proofs.Basics.{◌∙◌, sym, view_begun}
 use Rattle.pawn_csv.proofs.FinishLemmas.{ends}
 use Rattle.pawn_csv.proofs.order.BegunBook.finish.Goals as goal
 

@@ -1,4 +1,4 @@
-use Rattle.std.proofs.Common.{◌∙◌}
+use Rattle.pawn_debt.proofs.Basics.{◌∙◌}
 use Rattle.pawn_debt.proofs.KeptLemmas.{owed-later, millionths-later}
 use Rattle.pawn_debt.proofs.debt.Debt.owed_on.Goals as goal
 

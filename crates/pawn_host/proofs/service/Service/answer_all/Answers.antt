@@ -1,6 +1,4 @@
-use Rattle.std.proofs.Common.{ℕ, arith, refl, ap, subst, Bool, Ok, Err, ◌∙◌, take, ◌+◌}
-use Rattle.pawn_writing.specs.Ends.{write_failed, written_bytes}
-use Rattle.pawn_host.specs.Sessions.{StopsBy, host_by, left_of, read_failed, reads, service_keep, start_after, start_of, unanswered}
+use Rattle.pawn_host.proofs.Basics.{ℕ, arith, refl, ap, subst, Bool, Ok, Err, ◌∙◌, take, ◌+◌, write_failed, written_bytes, StopsBy, host_by, left_of, read_failed, reads, service_keep, start_after, start_of, unanswered}
 use Rattle.pawn_host.proofs.SessionLemmas.{over, over_leaves, ended_limit, ended_dry, broken_write, ended_closed, goes_on, acted_at, starts, taken_none, taken_more, are_taken, open_then, given_by, left_behind}
 use Rattle.pawn_host.proofs.ReadLemmas.{read_none, read_then, read_more, read_all}
 use Rattle.pawn_host.proofs.CrashLemmas.{goes_none}

@@ -1,6 +1,4 @@
-use Rattle.std.proofs.Common.{◌≡◌, ◌≤◌, ◌*◌, ◌^◌, false}
-use Rattle.pawn_host.specs.Common.{prepend_known, write_failed, written_bytes}
-use Rattle.pawn_host.specs.Sessions.{Serves, StaysOpen, left_of, read_failed, reads, unanswered}
+use Rattle.pawn_host.proofs.Basics.{◌≡◌, ◌≤◌, ◌*◌, ◌^◌, false, prepend_known, write_failed, written_bytes, Serves, StaysOpen, left_of, read_failed, reads, unanswered}
 use Rattle.pawn_host.proofs.ReadLemmas.{ReadSoFar}
 use Rattle.pawn_host.proofs.SessionLemmas.{SoFar, TakenSoFar}
 use Rattle.pawn_host.proofs.service.Service.answer_all.Given as goal

@@ -1,4 +1,4 @@
-use Rattle.pawn_book.specs.declared.request.BrokerRequest.TheVariants.{Export, SheetOf, Show}
+use Rattle.pawn_host.proofs.Basics.{Export, SheetOf, Show}
 use Rattle.pawn_host.proofs.RunLemmas.{read_broker}
 use Rattle.pawn_host.proofs.service.Service.answer_broker.Goals as goal
 

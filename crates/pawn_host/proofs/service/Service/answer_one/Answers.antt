@@ -1,4 +1,4 @@
-use Rattle.pawn_host.specs.Keeps.{service_keep, start_of}
+use Rattle.pawn_host.proofs.Basics.{service_keep, start_of}
 use Rattle.pawn_host.proofs.CrashLemmas.{goes_none}
 use Rattle.pawn_host.proofs.RunLemmas.{acted_fault}
 use Rattle.pawn_host.proofs.service.Service.answer_one.Goals as goal

@@ -1,5 +1,4 @@
-use Rattle.std.proofs.Common.{refl}
-use Rattle.pawn_host.specs.Sessions.{service_operator, start_of, view_asked}
+use Rattle.pawn_host.proofs.Basics.{refl, service_operator, start_of, view_asked}
 use Rattle.pawn_host.proofs.CrashLemmas.{goes_read}
 use Rattle.pawn_host.proofs.RunLemmas.{acted_refused, broker_request, err_is, gate_refused}
 use Rattle.pawn_host.proofs.SessionLemmas.{acted_at}

@@ -1,7 +1,5 @@
-use Rattle.std.proofs.Common.{◌∙◌, ℕ, ap, Vec, Global, codes}
+use Rattle.pawn_host.proofs.Basics.{◌∙◌, ℕ, ap, Vec, Global, codes, reply_text, start_of}
 use Rattle.pawn_book.specs.declared.refusal.Refusal.TheVariants as No
-use Rattle.pawn_wire.specs.Reply.{reply_text}
-use Rattle.pawn_host.specs.Keeps.{start_of}
 use Rattle.pawn_host.proofs.CrashLemmas.{goes_read}
 use Rattle.pawn_host.proofs.RunLemmas.{all_written}
 use Rattle.pawn_host.proofs.RowsLemmas.{acted_rows, no_text, rows_request}

@@ -1,6 +1,4 @@
-use Rattle.std.proofs.Common.{◌∙◌, ap, arith, ◌+◌, ℕ, refl}
-use Rattle.std.proofs.lemmas.List.{take_all}
-use Rattle.pawn_host.specs.Keeps.{start_of, start_after, answer_bytes, host_by}
+use Rattle.pawn_host.proofs.Basics.{◌∙◌, ap, arith, ◌+◌, ℕ, refl, take_all, start_of, start_after, answer_bytes, host_by}
 use Rattle.pawn_host.proofs.SessionLemmas.{acted_at, open_then}
 use Rattle.pawn_host.proofs.HeadlineLemmas.{run_of_slots}
 use Rattle.pawn_host.proofs.RunMore.{run_turn}

@@ -1,7 +1,5 @@
-use Rattle.std.proofs.Common.{◌∙◌, ℕ, ap, Vec, Global}
+use Rattle.pawn_host.proofs.Basics.{◌∙◌, ℕ, ap, Vec, Global, reply_text, service_operator, start_of}
 use Rattle.pawn_book.specs.declared.refusal.Refusal.TheVariants as No
-use Rattle.pawn_wire.specs.Reply.{reply_text}
-use Rattle.pawn_host.specs.Keeps.{service_operator, start_of}
 use Rattle.pawn_host.proofs.CrashLemmas.{goes_read}
 use Rattle.pawn_host.proofs.RunLemmas.{acted_shown, all_written, nothing_shown, plain, present_request}
 use Rattle.pawn_host.proofs.ViewLemmas.{view_acted}

@@ -1,7 +1,4 @@
-use Rattle.std.proofs.Common.{◌≡◌, ◌+◌, ◌≤◌, List, arith, map, refl, subst, sym}
-use Rattle.pawn_book.specs.Sound.{IsSound}
-use Rattle.pawn_list_keeper.specs.declared.kept.Kept.{Kept}
-use Rattle.pawn_list_keeper.specs.Listed.{Fits, added_rows, host_of, listed_book, replaced_rows}
+use Rattle.pawn_list_keeper.proofs.Basics.{◌≡◌, ◌+◌, ◌≤◌, List, arith, map, refl, subst, sym, IsSound, Kept, Fits, added_rows, host_of, listed_book, replaced_rows}
 use Rattle.pawn_list_keeper.proofs.ListSaves.{change_counted, change_fits, change_full, change_saved}
 use Rattle.pawn_list_keeper.proofs.list.ListKeep.make.Goals as goal
 

@@ -1,6 +1,4 @@
-use Rattle.std.proofs.Common.{◌∙◌, ap, map}
-use Rattle.pawn_list_keeper.specs.Common.{book_head, option_map}
-use Rattle.pawn_list_keeper.specs.Listed.{book_at, listed_book}
+use Rattle.pawn_list_keeper.proofs.Basics.{◌∙◌, ap, map, book_head, option_map, book_at, listed_book}
 use Rattle.pawn_list_keeper.proofs.ListKeeping.{book_read, list_reads}
 use Rattle.pawn_list_keeper.proofs.list.ListKeepKeep.book_head.Goals as goal
 

@@ -1,6 +1,4 @@
-use Rattle.std.proofs.Common.{◌∙◌, ap, map}
-use Rattle.pawn_list_keeper.specs.Common.{brief_of, option_map, pledge_in}
-use Rattle.pawn_list_keeper.specs.Listed.{book_at, listed_book}
+use Rattle.pawn_list_keeper.proofs.Basics.{◌∙◌, ap, map, brief_of, option_map, pledge_in, book_at, listed_book}
 use Rattle.pawn_list_keeper.proofs.ListKeeping.{book_read, list_reads}
 use Rattle.pawn_list_keeper.proofs.list.ListKeepKeep.brief.Goals as goal
 

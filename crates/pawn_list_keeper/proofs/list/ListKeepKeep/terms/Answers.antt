@@ -1,6 +1,4 @@
-use Rattle.std.proofs.Common.{◌∙◌, ap, map}
-use Rattle.pawn_list_keeper.specs.Common.{terms_at, terms_of}
-use Rattle.pawn_list_keeper.specs.Listed.{book_at, listed_book}
+use Rattle.pawn_list_keeper.proofs.Basics.{◌∙◌, ap, map, terms_at, terms_of, book_at, listed_book}
 use Rattle.pawn_list_keeper.proofs.ListKeeping.{book_read, list_reads}
 use Rattle.pawn_list_keeper.proofs.list.ListKeepKeep.terms.Goals as goal
 

@@ -1,5 +1,4 @@
-use Rattle.std.proofs.Common.{◌≡◌, ◌∙◌, sym, ap, arith, decimal}
-use Rattle.pawn_pledge.proofs.Lemmas.{IsAscii-decimal, false≢true, parse-decimal}
+use Rattle.pawn_pledge.proofs.Basics.{◌≡◌, ◌∙◌, sym, ap, arith, decimal, IsAscii-decimal, false≢true, parse-decimal}
 use Rattle.std.proofs.lemmas.Str.{IsUtf8-from_ascii}
 use Rattle.pawn_pledge.proofs.NumberLemmas.{not_same}
 use Rattle.pawn_pledge.proofs.number.Number.of_text.Goals as goal

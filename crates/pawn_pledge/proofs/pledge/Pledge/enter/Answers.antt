@@ -1,6 +1,4 @@
-use Rattle.std.proofs.Common.{Option, ap, subst, ◌∙◌}
-use Rattle.pawn_debt.specs.declared.entry.Entry.{Entry}
-use Rattle.pawn_pledge.specs.Pledges.{IsApplied, PledgeValue, entry_of, numbered_step}
+use Rattle.pawn_pledge.proofs.Basics.{Option, ap, subst, ◌∙◌, Entry, IsApplied, PledgeValue, entry_of, numbered_step}
 use Rattle.pawn_pledge.proofs.pledge.Pledge.enter.Goals as goal
 
 pub returns : goal.returns

@@ -1,6 +1,4 @@
-use Rattle.std.proofs.Common.{◌≡◌, ◌+◌, List, ℕ, ◌∷◌, ◌++◌, Some, None, drop, sym, ap, ◌∙◌, arith}
-use Rattle.std.proofs.lemmas.List.{take_rest}
-use Rattle.pawn_pledge.specs.Secret.{secret_of_text}
+use Rattle.pawn_pledge.proofs.Basics.{◌≡◌, ◌+◌, List, ℕ, ◌∷◌, ◌++◌, Some, None, drop, sym, ap, ◌∙◌, arith, take_rest, secret_of_text}
 use Rattle.pawn_pledge.proofs.TextLemmas.{has_hyphen, cut_at, cut_by}
 use Rattle.pawn_pledge.proofs.receipt.Receipt.of_text.Goals as goal
 

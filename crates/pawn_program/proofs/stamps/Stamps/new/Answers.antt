@@ -1,4 +1,4 @@
-use Rattle.std.proofs.Common.{refl, arith}
+use Rattle.pawn_program.proofs.Basics.{refl, arith}
 use Rattle.pawn_program.proofs.StampLemmas.{taken_in_order, taken_are_fewer}
 use Rattle.pawn_program.proofs.stamps.Stamps.new.Goals as goal
 

@@ -1,6 +1,6 @@
 use Rattle.pawn_table_keeper.proofs.Calls.{Err, List, [], ap, arith, length, refl, rules, ℕ, ◌++◌, ◌+◌, ◌<◌, ◌∙◌, ◌≡◌, ◌≤◌, nat_tests, map-id, get, state, pledge_in, Host, Keeping, Reads, entries_of, IsEntriesPage, behind, entries_from, keeping_by, most_page_rows, page_end, reads_as, reads_none, begins_at, ends_by, fails_at, goes_by, handed_past, stops_by, too_many_entries, errs_database}
+use Rattle.pawn_table_keeper.proofs.Basics.{most_entries}
 use Rattle.pawn_debt.specs.declared.entry.Entry.{Entry}
-use Rattle.pawn_debt.specs.Limits.{most_entries}
 use Rattle.pawn_tables.proofs.NextEntries.{from_zero}
 use Rattle.pawn_table_keeper.proofs.keeper.TableKeep.hand_entries.Goals as goal
 

@@ -1,6 +1,4 @@
-use Rattle.pawn_table_keeper.proofs.Calls.{Ok, ◌≤◌, get, flat_map, state, pledges_of, windows_below, Go, keeping_by, named_sheet}
-use Rattle.pawn_book.specs.Sound.{IsUnsoundAt}
-use Rattle.pawn_table_keeper.specs.Handing.{HandsRows}
+use Rattle.pawn_table_keeper.proofs.Basics.{Ok, ◌≤◌, get, flat_map, state, pledges_of, windows_below, Go, keeping_by, named_sheet, IsUnsoundAt, HandsRows}
 use Rattle.pawn_table_keeper.proofs.keeper.TableKeep.hand_these.Given as goal
 
 abbrev pub invariant-loop-window : goal.invariant-loop-window

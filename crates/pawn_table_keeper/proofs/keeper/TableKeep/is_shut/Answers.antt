@@ -1,7 +1,5 @@
-use Rattle.pawn_table_keeper.proofs.Calls.{Err, rules, ◌≡◌, state}
+use Rattle.pawn_table_keeper.proofs.Basics.{Err, rules, ◌≡◌, state, SqliteFailure, Closed}
 use Rattle.sqlite.specs.Outline.{Outline}
-use Rattle.sqlite.specs.declared.error.Error.TheVariants.{SqliteFailure}
-use Rattle.sqlite.specs.declared.error.ErrorCode.TheVariants.{Closed}
 use Rattle.pawn_table_keeper.proofs.ShutStores.{asked, left_by, told_shut}
 use Rattle.pawn_table_keeper.proofs.keeper.TableKeep.is_shut.Goals as goal
 use Rattle.pawn_table_keeper.proofs.keeper.TableKeep.is_shut.Goals.{in-Err-SqliteFailure-Closed, in_default, in_default-2, in_default-3}

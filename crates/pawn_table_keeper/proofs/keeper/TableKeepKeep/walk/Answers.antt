@@ -1,5 +1,5 @@
 use Rattle.pawn_table_keeper.proofs.Calls.{Err, None, Option, Some, arith, refl, rules, slice_get, sym, ℕ, ◌+◌, ◌<◌, ◌∙◌, ◌≡◌, nat_tests, get, state, pledge_in, Keeping, Reads, pledges_of, most_pledges, keeping_by, reads_as, reads_none, too_many_pledges, ended, failed, more, pledge_at, stopped, walked_past}
-use Rattle.pawn_pledge.specs.Pledge.{PledgeValue}
+use Rattle.pawn_table_keeper.proofs.Basics.{PledgeValue}
 use Rattle.pawn_table_keeper.proofs.keeper.TableKeepKeep.walk.Goals as goal
 
 -- the pledge that was read stands at the place

@@ -1,5 +1,4 @@
-use Rattle.pawn_table_keeper.proofs.Calls.{List, [], ap, length, map, subst, sym, ◌∙◌, ◌∷◌, ◌≡◌, length-map, part_head, with_head, HandsOver, Part, SheetItem, Go, Stop, item_of, Line}
-use Rattle.pawn_book.proofs.SheetLemmas.{hands_one, hands_then, hands_stop}
+use Rattle.pawn_table_keeper.proofs.Basics.{List, [], ap, length, map, subst, sym, ◌∙◌, ◌∷◌, ◌≡◌, length-map, part_head, with_head, HandsOver, Part, SheetItem, Go, Stop, item_of, Line, hands_one, hands_then, hands_stop}
 use Rattle.pawn_table_keeper.proofs.keeper.handing.hand_whole.Goals as goal
 
 headed : (part : Part) (lines : List Line) (heading : SheetItem) → heading ≡ part_head part (length lines) → heading ∷ map (item_of part) lines ≡ with_head part (map (item_of part) lines)

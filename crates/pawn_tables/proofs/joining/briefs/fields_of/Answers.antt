@@ -1,6 +1,6 @@
 use Rattle.pawn_tables.proofs.RowReading.{ap, ◌∙◌, last_secret, live_under, joined}
+use Rattle.pawn_tables.proofs.Basics.{PledgeRow}
 use Rattle.pawn_pledge.specs.declared.record.Standing.{Standing}
-use Rattle.pawn_tables.specs.declared.records.PledgeRow.{PledgeRow}
 use Rattle.pawn_tables.proofs.joining.briefs.fields_of.Goals as goal
 
 pub returns : goal.returns

@@ -1,6 +1,5 @@
 use Rattle.pawn_tables.proofs.RowReading.{rules, IsDayNumber, end_of, read_part}
-use Rattle.pawn_pledge.specs.Brief.{brief_of}
-use Rattle.pawn_tables.specs.PledgeRows.{HasSecret, IsBriefTold}
+use Rattle.pawn_tables.proofs.Basics.{brief_of, HasSecret, IsBriefTold}
 use Rattle.pawn_tables.proofs.joining.briefs.join.Goals as goal
 
 pub returns-in_err-fields : goal.returns-in_err-fields

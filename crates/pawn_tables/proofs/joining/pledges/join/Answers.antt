@@ -1,5 +1,5 @@
 use Rattle.pawn_tables.proofs.RowReading.{ap, rules, sym, ◌∙◌, ◌≡◌, debt_of, ends_joined, joined}
-use Rattle.pawn_debt.specs.Kept.{totals_of}
+use Rattle.pawn_tables.proofs.Basics.{totals_of}
 use Rattle.pawn_tables.proofs.joining.pledges.join.Goals as goal
 
 pub returns-then-not-agrees-clause-read : goal.returns-then-not-agrees-clause-read

@@ -1,5 +1,4 @@
-use Rattle.pawn_view.specs.Common.{call_end, get, pledges_of}
-use Rattle.pawn_book.proofs.Reading.{reads_as}
+use Rattle.pawn_view.proofs.Basics.{call_end, get, pledges_of, reads_as}
 use Rattle.pawn_view.proofs.SheetLemmas.{lines_handed, day_put}
 use Rattle.pawn_view.proofs.sheets.SheetLines.put_day.Goals as goal
 

@@ -1,6 +1,4 @@
-use Rattle.pawn_view.specs.Common.{call_end, entries_of}
-use Rattle.pawn_view.specs.Views.{entry_line, pledge_at}
-use Rattle.pawn_book.proofs.Reading.{reads_as}
+use Rattle.pawn_view.proofs.Basics.{call_end, entries_of, entry_line, pledge_at, reads_as}
 use Rattle.pawn_view.proofs.StatementLemmas.{elements_put, elements_writer}
 use Rattle.pawn_view.proofs.statements.StatementLines.put_entries.Goals as goal
 

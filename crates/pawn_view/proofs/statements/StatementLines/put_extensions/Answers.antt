@@ -1,6 +1,4 @@
-use Rattle.pawn_view.specs.Common.{call_end, extensions_of}
-use Rattle.pawn_view.specs.Views.{extended_line, pledge_at}
-use Rattle.pawn_book.proofs.Reading.{reads_as}
+use Rattle.pawn_view.proofs.Basics.{call_end, extensions_of, extended_line, pledge_at, reads_as}
 use Rattle.pawn_view.proofs.StatementLemmas.{elements_put, elements_writer}
 use Rattle.pawn_view.proofs.statements.StatementLines.put_extensions.Goals as goal
 

@@ -1,4 +1,4 @@
-use Rattle.std.proofs.Common.{arith, sym, ◌∙◌, ap, ◌+◌}
+use Rattle.pawn_wire.proofs.Basics.{arith, sym, ◌∙◌, ap, ◌+◌}
 use Rattle.pawn_wire.proofs.FieldLemmas.{no_span, count_hit, count_other}
 use Rattle.pawn_wire.proofs.fields.Fields.count.Goals as goal
 use Rattle.pawn_wire.proofs.fields.Fields.count.Goals.{then-is_named, else-is_named}

@@ -1,6 +1,4 @@
-use Rattle.std.proofs.Common.{◌≡◌, ◌≤◌, length, map, take}
-use Rattle.httparse.specs.Spans.{header_bytes}
-use Rattle.pawn_wire.specs.Fields.{values_of}
+use Rattle.pawn_wire.proofs.Basics.{◌≡◌, ◌≤◌, length, map, take, header_bytes, values_of}
 use Rattle.pawn_wire.proofs.fields.Fields.count.Given as goal
 
 abbrev pub invariant-loop-field : goal.invariant-loop-field

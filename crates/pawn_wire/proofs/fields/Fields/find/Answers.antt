@@ -1,5 +1,4 @@
-use Rattle.std.proofs.Common.{◌≡◌}
-use Rattle.pawn_wire.specs.declared.fields.Found.TheVariants.{Missing}
+use Rattle.pawn_wire.proofs.Basics.{◌≡◌, Missing}
 use Rattle.pawn_wire.proofs.FieldLemmas.{no_span, find_first, find_again, find_other}
 use Rattle.pawn_wire.proofs.fields.Fields.find.Goals as goal
 use Rattle.pawn_wire.proofs.fields.Fields.find.Goals.{then-is_named+in-Missing, then-is_named+in_default, else-is_named}

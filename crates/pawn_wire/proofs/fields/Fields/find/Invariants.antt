@@ -1,6 +1,4 @@
-use Rattle.std.proofs.Common.{map, take}
-use Rattle.httparse.specs.Spans.{header_bytes}
-use Rattle.pawn_wire.specs.Fields.{values_of, IsFound}
+use Rattle.pawn_wire.proofs.Basics.{map, take, header_bytes, values_of, IsFound}
 use Rattle.pawn_wire.proofs.fields.Fields.find.Given as goal
 
 abbrev pub invariant-loop-field : goal.invariant-loop-field

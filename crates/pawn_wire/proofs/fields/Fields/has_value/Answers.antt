@@ -1,6 +1,4 @@
-use Rattle.std.specs.Prelude.{◌||◌}
-use Rattle.std.specs.Str.{str_eq_ignore_ascii_case}
-use Rattle.std.proofs.Common.{sym, ◌∙◌}
+use Rattle.pawn_wire.proofs.Basics.{◌||◌, str_eq_ignore_ascii_case, sym, ◌∙◌}
 use Rattle.pawn_wire.proofs.FieldLemmas.{no_span, says_more}
 use Rattle.pawn_wire.proofs.fields.Fields.has_value.Goals as goal
 
