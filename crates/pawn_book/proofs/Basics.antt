@@ -1,5 +1,5 @@
 -- What these proofs use from elsewhere: the standard words and lemmas, those of the crates below, and this crate's specs.
-pub use Rattle.std.proofs.Common.{Bool, Err, IfErr, IfOk, IfSome, List, None, Ok, Option, Ordering, Result, Some, T, [], ap, append-nil, append_assoc, arith, cond, drop, eqb, false, get_or, if◌then◌else◌, inl, inr, is_some, length, length-append, map, nat_le, nat_lt, option_map, refl, slice_get, subst, suc, sum_by, sym, take, take-append-drop, true, unwrap_or, zero, ℕ, ◌&&◌, ◌++◌, ◌+◌, ◌<◌, ◌==◌, ◌||◌, ◌∙◌, ◌∷◌, ◌≡◌, ◌≢◌, ◌≤◌, ◌⊎◌}
+pub use Rattle.std.proofs.Common.{Bool, Err, IfErr, IfOk, IfSome, List, None, Ok, Option, Ordering, Result, Some, T, [], ap, append-nil, append_assoc, arith, cond, drop, eqb, false, get_or, if◌then◌else◌, inl, inr, is_some, length, length-append, map, nat_le, nat_lt, option_map, refl, rules, slice_get, subst, suc, sum_by, sym, take, take-append-drop, true, unwrap_or, zero, ℕ, ◌&&◌, ◌++◌, ◌+◌, ◌<◌, ◌==◌, ◌||◌, ◌∙◌, ◌∷◌, ◌≡◌, ◌≢◌, ◌≤◌, ◌⊎◌}
 pub use Rattle.std.proofs.lemmas.Bool.{and_from, and_parts, or_from, or_parts}
 pub use Rattle.std.proofs.lemmas.Bool.Decides.{nat_tests}
 pub use Rattle.std.proofs.lemmas.Cmp.{nat_cmp_total}

@@ -52,13 +52,7 @@ pub fn act<K: Keep>(
         → IsLeftByAct h operator stamp.now request.now (K.keeping.leaves keep.old) result left) }
     ensures steady { IsQuiet K.keeping keep.old result }
 {
-    let planned = match plan(alloc, keep, operator, stamp, request) {
-        Err(refusal) => return Err(refusal),
-        Ok(planned) => planned,
-    };
-    match commit(keep, &planned) {
-        Err(refusal) => return Err(refusal),
-        Ok(()) => {}
-    }
+    let planned = plan(alloc, keep, operator, stamp, request)?;
+    commit(keep, &planned)?;
     Ok(planned.reply)
 }

@@ -33,10 +33,7 @@ pub(crate) fn plan_number<K: Keep>(
         Ok(None) => return Err(Refusal::NoSuchPledge),
         Ok(Some(pledge)) => pledge,
     };
-    let planned = match plan_command(book, number, pledge, stamp, command) {
-        Err(refusal) => return Err(refusal),
-        Ok(planned) => planned,
-    };
+    let planned = plan_command(book, number, pledge, stamp, command)?;
     find_room(keep, book, head, planned)
 }
 

@@ -49,10 +49,7 @@ pub fn day_sheet<K: Keep>(
         items: Vec::new(alloc),
         is_full: false,
     };
-    match keep.sheet_each(book, day, &mut gathering) {
-        Ok(()) => {}
-        Err(error) => return Err(error),
-    }
+    keep.sheet_each(book, day, &mut gathering)?;
     if gathering.is_full {
         return Err(KeepError::Memory);
     }
