@@ -4,6 +4,8 @@ import os
 import shutil
 import subprocess
 
+from tests.library.checks import main, not_tried
+
 # What the scripts of the pages need, each program with its package.
 PACKAGES = {"nginx": "nginx-light", "chromium": "chromium", "chromedriver": "chromium-driver"}
 PATHS = os.environ.get("PATH", "") + ":/usr/sbin"
@@ -27,3 +29,11 @@ def provide(packages=PACKAGES):
                     stderr=subprocess.DEVNULL, timeout=300,
                 )
     return missing(packages)
+
+
+def main_with(packages, *tests):
+    """Runs a script's tests if what they need is here or can be installed, and else says what is not."""
+    if provide(packages):
+        not_tried("all of it", f"there is no {' and no '.join(missing(packages))}")
+        main()
+    main(*tests)

@@ -109,3 +109,15 @@ def expect_files_stay(path, step, do):
     )
     kept = log_after in (log, log + end_mark(log)) or max(len(log), len(log_after)) <= EMPTY_LOG
     expect(f"the log stays, of {len(log)} bytes and now of {len(log_after)}, {step}", kept, True)
+
+
+def files_of_other_programs():
+    """Files of tables that are none of ours: what they are, and how each is made at a path."""
+    pledges = "CREATE TABLE pledges (id INTEGER PRIMARY KEY, owner TEXT)"
+    ann = "INSERT INTO pledges VALUES (7, 'Ann')"
+    return [
+        ("another program's table of pledges", database_of(pledges, ann)),
+        ("that table in the log", with_its_log(pledges, ann)),
+        ("that table in a log whose salt begins with a zero", with_its_log(pledges, ann, salt=0)),
+        ("a view alone", database_of("CREATE VIEW note AS SELECT 1")),
+    ]

@@ -13,14 +13,14 @@ import tempfile
 import threading
 import time
 
-from tests.library.checks import expect, main, not_tried
+from tests.library.checks import expect
 from tests.library.hosting import (
     MEMORY, PACKAGES, Hosted, Recorder, Shard, open_text, proxys, read_reply, status, writers,
 )
 from tests.library.keys import BROKER, OPERATOR
 from tests.library.operator.cutting import QUIET, each_cut, traced, two_at_once
 from tests.library.operator.shards import mapped, shut_at
-from tests.library.packages import PATHS, missing, provide
+from tests.library.packages import PATHS, main_with
 from tests.library.paths import PROGRAM, TOP
 from tests.library.program import check
 from tests.library.requests import request
@@ -551,7 +551,4 @@ TESTS = (
 )
 
 if __name__ == "__main__":
-    if provide(NEEDED):
-        not_tried("all of it", f"there is no {' and no '.join(missing(NEEDED))}")
-        main()
-    main(*TESTS)
+    main_with(NEEDED, *TESTS)

@@ -9,13 +9,13 @@ import tempfile
 import threading
 import time
 
-from tests.library.checks import expect, main, not_tried
+from tests.library.checks import expect, not_tried
 from tests.library.hosting import (
     PACKAGES, Hosted, long_book, open_pledge, open_text, proxys, run_shards, status, writers,
 )
 from tests.library.keys import BROKER, KEY, OPERATOR
 from tests.library.operator.shards import btrfs, mapped, shut_at
-from tests.library.packages import missing, provide
+from tests.library.packages import main_with, provide
 from tests.library.paths import PROGRAM, TOP
 from tests.library.program import Server, check
 from tests.library.tables import copied
@@ -527,7 +527,4 @@ TESTS = (
 )
 
 if __name__ == "__main__":
-    if provide(PACKAGES):
-        not_tried("all of it", f"there is no {' and no '.join(missing(PACKAGES))}")
-        main()
-    main(*TESTS)
+    main_with(PACKAGES, *TESTS)

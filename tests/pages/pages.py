@@ -9,8 +9,8 @@ from tests.library.checks import Failed, expect
 from tests.library.keys import BROKER, OPERATOR
 from tests.library.pages.browser import Pages
 from tests.library.pages.steps import (
-    ago, book_text, browser, command, fill_book, find, main, make_book, no_faults, open_book, part, read,
-    show_receipt, take_a_ring, the_book_is_read,
+    a_pledge_by_its_receipt, ago, book_text, browser, command, fill_book, find, main, make_book, no_faults, open_book,
+    part, read, show_receipt, take_a_ring, the_book_is_read,
 )
 from tests.library.paths import TOP
 
@@ -71,10 +71,7 @@ def by_the_keyboard_alone():
 
 
 def what_nginx_sends_and_notes():
-    with Pages() as pages:
-        make_book(pages)
-        receipt = pages.session.open_pledge(1)
-        show_receipt(pages, receipt)
+    with a_pledge_by_its_receipt() as (pages, receipt):
         browser.says("Gold ring", "#cards")
         for path, status, keeping in (
             ("/", 200, "no-cache"), ("/pawn/", 200, "no-cache"), ("/shared/api.js", 200, "no-cache"),

@@ -6,8 +6,9 @@ from tests.library.checks import expect
 from tests.library.dates import six_months_after, today
 from tests.library.pages.browser import Pages
 from tests.library.pages.steps import (
-    ago, agree, book_text, browser, command, entries, fill_book, find, in_short, in_words, main, make_book,
-    no_faults, open_book, part, receipts_made, secret_of, send_taking, take_a_ring, the_book_is_read, unfold,
+    a_pledge_at_the_counter, ago, agree, an_open_book, book_text, browser, command, entries, fill_book, find,
+    in_short, in_words, main, make_book, no_faults, open_book, part, receipts_made, secret_of, send_taking,
+    take_a_ring, the_book_is_read, unfold,
 )
 
 
@@ -23,9 +24,7 @@ def redeem_by(pages, receipt, pence=10000):
 
 
 def a_dead_receipt_is_not_printed_as_new():
-    with Pages() as pages:
-        make_book(pages)
-        open_book(pages)
+    with an_open_book() as pages:
         receipt, _ = take_a_ring()
         redeem_by(pages, receipt)
         part("take")
@@ -61,9 +60,7 @@ window.fetch = async (path, how) => {
 
 
 def a_receipt_that_dies_while_it_is_taken_is_not_printed():
-    with Pages() as pages:
-        make_book(pages)
-        open_book(pages)
+    with an_open_book() as pages:
         the_book_is_read()
         browser.run(MEANWHILE)
         part("take")
@@ -74,9 +71,7 @@ def a_receipt_that_dies_while_it_is_taken_is_not_printed():
 
 def a_receipt_has_the_terms_of_its_pledge():
     """Newer terms that another till put are those of the pledge; and a receipt that is printed again keeps its own."""
-    with Pages() as pages:
-        make_book(pages)
-        open_book(pages)
+    with an_open_book() as pages:
         the_book_is_read()
         put = {"keep_after": 0, "keep_before": 1000000, "rate": 1000, "version": 2}
         expect("newer terms", pages.session.broker("POST", "/books/7/terms", put), (200, {"version": 2}))
@@ -96,11 +91,7 @@ def a_receipt_has_the_terms_of_its_pledge():
 
 
 def a_new_receipt_that_another_replaced_is_not_printed():
-    with Pages() as pages:
-        make_book(pages)
-        pages.session.open_pledge(1)
-        open_book(pages)
-        find("1")
+    with a_pledge_at_the_counter() as (pages, _):
         browser.says("£100.00 owed today", "#statement")
         browser.run(DECLARED_TWICE)
         command("Replace a lost receipt", "Make a new receipt")
@@ -164,11 +155,7 @@ def what_was_done_is_told_where_it_can_no_longer_be_looked_at():
 
 
 def two_equal_payments_are_two():
-    with Pages() as pages:
-        make_book(pages)
-        pages.session.open_pledge(1)
-        open_book(pages)
-        find("1")
+    with a_pledge_at_the_counter() as (pages, _):
         browser.says("£100.00 owed today", "#statement")
         pages.session.broker("POST", "/books/7/pledges/1/repay", {"pence": 1000, "seq": 1})
         command("Repayment", "Record the repayment", amount="10")
@@ -201,9 +188,7 @@ def two_equal_payments_are_two():
 
 
 def redemption_by_the_paper():
-    with Pages() as pages:
-        make_book(pages)
-        open_book(pages)
+    with an_open_book() as pages:
         receipt, link = take_a_ring()
         find(link.upper().replace("HTTP", "http").replace("#BOOK", "#book").replace("RECEIPT=", "receipt="))
         browser.says("This receipt is live. £100.00 is owed today.", "#commands")
@@ -242,9 +227,7 @@ def redemption_by_the_paper():
 
 
 def a_receipt_is_printed_again():
-    with Pages() as pages:
-        make_book(pages)
-        open_book(pages)
+    with an_open_book() as pages:
         receipt, _ = take_a_ring(five="yes")
         browser.ask("POST", "/refresh", {})
         find("A1")
@@ -467,9 +450,7 @@ def back_reload_and_today():
 
 
 def what_is_typed_is_looked_at():
-    with Pages() as pages:
-        make_book(pages)
-        open_book(pages)
+    with an_open_book() as pages:
         part("take")
         for fields, says in (
             ({"article": "   ", "ref": "A1", "amount": "1"}, "The article is empty."),

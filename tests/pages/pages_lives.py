@@ -8,8 +8,8 @@ from tests.library.dates import six_months_after, today
 from tests.library.keys import BROKER
 from tests.library.pages.browser import Pages
 from tests.library.pages.steps import (
-    WRONG_SECRET, ago, book_text, browser, command, entries, find, in_words, main, make_book, no_faults, open_book,
-    part, receipts_made, show_receipt, take_a_ring,
+    WRONG_SECRET, a_pledge_at_the_counter, ago, an_open_book, book_text, browser, command, entries, find, in_words,
+    main, make_book, no_faults, open_book, part, receipts_made, show_receipt, take_a_ring,
 )
 from tests.library.waiting import wait_for
 
@@ -121,9 +121,7 @@ def pawnor_redeems(pages, receipt):
 
 
 def a_running_account_and_what_is_refused():
-    with Pages() as pages:
-        make_book(pages)
-        open_book(pages)
+    with an_open_book() as pages:
         part("take")
         browser.fill("#taking", article="Silver teapot", ref="R/1", kind="running", amount="1,000.00", five="yes")
         browser.press("#taking button", "Take the pledge")
@@ -160,11 +158,7 @@ def a_running_account_and_what_is_refused():
 
 
 def a_lost_receipt_is_replaced():
-    with Pages() as pages:
-        make_book(pages)
-        first = pages.session.open_pledge(1)
-        open_book(pages)
-        find("1")
+    with a_pledge_at_the_counter() as (pages, first):
         command("Replace a lost receipt", "Make a new receipt")
         browser.press("dialog button", "Make a new receipt")
         browser.says("A new receipt stands below.", "#commands")
@@ -212,9 +206,7 @@ def wrong_keys_and_receipts():
 
 
 def a_text_of_markup_stays_a_text():
-    with Pages() as pages:
-        make_book(pages)
-        open_book(pages)
+    with an_open_book() as pages:
         receipt, _ = take_a_ring(article=EVIL, reference=EVIL[:40])
         browser.says(EVIL, ".paper")
         browser.shoot("broker-markup")
@@ -300,11 +292,7 @@ def sell_and_show_ended(pages):
 
 
 def replies_that_are_lost():
-    with Pages() as pages:
-        make_book(pages)
-        receipt = pages.session.open_pledge(1)
-        open_book(pages)
-        find("1")
+    with a_pledge_at_the_counter() as (pages, receipt):
         with pages.relay.loses("/repay"):
             command("Repayment", "Record the repayment", amount="10")
             browser.says("Repaid: £10.00", "#commands")

@@ -10,8 +10,8 @@ from tests.library.packages import PACKAGES, missing, provide
 from tests.library.pages.browser import Pages
 from tests.library.pages.square_code import text_of_code
 from tests.library.pages.steps import (
-    ago, book_text, browser, command, fill_book, find, in_short, in_words, main, make_book, no_faults, open_book,
-    part, show_receipt, take_a_ring, the_book_is_read,
+    ago, an_open_book, book_text, browser, command, fill_book, find, in_short, in_words, main, make_book, no_faults,
+    open_book, part, show_receipt, take_a_ring, the_book_is_read,
 )
 
 READER = {"pdftotext": "poppler-utils"}
@@ -48,9 +48,7 @@ def is_printed(name, size, *says, never=()):
 
 
 def a_receipt_is_one_a5():
-    with Pages() as pages:
-        make_book(pages)
-        open_book(pages)
+    with an_open_book() as pages:
         part("shop")
         browser.fill(
             "#shop-form", name="High Street Pawnbrokers and Jewellers of Leeds, since 1884",
@@ -92,9 +90,7 @@ def a_receipt_is_one_a5():
 
 def a_receipt_without_more():
     """No agreed end, no days of grace, no shop: it says so."""
-    with Pages() as pages:
-        make_book(pages)
-        open_book(pages)
+    with an_open_book() as pages:
         part("shop")
         browser.fill("#shop-form", name="", address="", till="")
         browser.press("#shop-form button", "Keep these")

@@ -6,8 +6,8 @@ from tests.library.checks import expect
 from tests.library.dates import six_months_after, today
 from tests.library.pages.browser import Pages
 from tests.library.pages.steps import (
-    ago, agree, browser, command, entries, in_short, in_words, main, make_book, no_faults, open_book, show_receipt,
-    take_a_ring,
+    a_pledge_by_its_receipt, ago, agree, an_open_book, browser, command, entries, in_short, in_words, main, make_book,
+    no_faults, take_a_ring,
 )
 from tests.library.waiting import wait_for
 
@@ -20,10 +20,7 @@ def type_receipts(pages, receipts, book=""):
 
 
 def two_equal_payments_are_two():
-    with Pages() as pages:
-        make_book(pages)
-        receipt = pages.session.open_pledge(1)
-        show_receipt(pages, receipt)
+    with a_pledge_by_its_receipt() as (pages, receipt):
         browser.says("£100.00 owed today", "#cards")
         pages.session.broker("POST", "/books/7/pledges/1/repay", {"pence": 1000, "seq": 1})
         command("Record a part payment", "Record the payment", amount="10")
@@ -44,10 +41,7 @@ def two_equal_payments_are_two():
 
 
 def what_the_page_says_of_links():
-    with Pages() as pages:
-        make_book(pages)
-        receipt = pages.session.open_pledge(1)
-        show_receipt(pages, receipt)
+    with a_pledge_by_its_receipt() as (pages, receipt):
         browser.says("Gold ring", "#cards")
         browser.says("And a link that you opened may stay in the browser’s history, with the receipt.")
         browser.says("open the link in a private window")
@@ -55,10 +49,7 @@ def what_the_page_says_of_links():
 
 
 def without_a_line():
-    with Pages() as pages:
-        make_book(pages)
-        receipt = pages.session.open_pledge(1)
-        show_receipt(pages, receipt)
+    with a_pledge_by_its_receipt() as (pages, receipt):
         browser.says("£100.00 owed today", "#cards")
         with browser.without_a_line():
             command("Record a part payment", "Record the payment", amount="10")
@@ -80,10 +71,7 @@ def without_a_line():
 
 
 def a_payment_whose_reply_is_lost_for_good():
-    with Pages() as pages:
-        make_book(pages)
-        receipt = pages.session.open_pledge(1)
-        show_receipt(pages, receipt)
+    with a_pledge_by_its_receipt() as (pages, receipt):
         browser.says("£100.00 owed today", "#cards")
         with pages.relay.loses("/repay", times=10):
             command("Record a part payment", "Record the payment", amount="10")
@@ -94,10 +82,7 @@ def a_payment_whose_reply_is_lost_for_good():
 
 
 def a_visit_after_the_end():
-    with Pages() as pages:
-        make_book(pages)
-        receipt = pages.session.open_pledge(1)
-        show_receipt(pages, receipt)
+    with a_pledge_by_its_receipt() as (pages, receipt):
         end = six_months_after(today())
         late = ago(-200)
         command("Ask for a time to come", "Ask for this time", day=str(late), window="3")
@@ -165,9 +150,7 @@ def browser_joins(pages, receipts):
 
 
 def the_link_names_the_shop():
-    with Pages() as pages:
-        make_book(pages)
-        open_book(pages)
+    with an_open_book() as pages:
         receipt, link = take_a_ring()
         expect(
             "the link", re.sub(r"^.*#", "", link),

@@ -10,7 +10,7 @@ from tests.library.keys import OPERATOR, SEED
 from tests.library.paths import PROGRAM, TOP
 from tests.library.program import Server, a_sound_check, check, fault, free_port, how_it_ends
 from tests.library.requests import request
-from tests.library.stores import database_of, expect_files_stay, file_of, files_and_log, with_its_log
+from tests.library.stores import database_of, expect_files_stay, file_of, files_and_log, files_of_other_programs
 from tests.library.tables import counted, opened
 
 DAY = "2024-01-31"
@@ -140,8 +140,8 @@ def is_refused_and_stays(path, wanted, step):
 
 
 def files_that_are_no_store_of_ours_are_refused_and_stay():
-    pledges = "CREATE TABLE pledges (id INTEGER PRIMARY KEY, owner TEXT)"
     for step, make, wanted in [
+        *((step, make, fault(502, "NotOurs")) for step, make in files_of_other_programs()),
         ("a text", file_of(b"The books of High Street.\n" * 400), fault(503, "Store")),
         ("a short text", file_of(b"books"), fault(503, "Store")), ("zeros", file_of(bytes(8192)), fault(503, "Store")),
         ("a store cut in half", cut_at(20480), fault(503, "Store")),
@@ -156,22 +156,9 @@ def files_that_are_no_store_of_ours_are_refused_and_stay():
         ),
         ("a reference to no row", ours_but("INSERT INTO entries VALUES (7, 2, 1, 19753, 1, 100)"), fault(503, "Store")),
         (
-            "another program's table of pledges", database_of(pledges, "INSERT INTO pledges VALUES (7, 'Ann')"),
-            fault(502, "NotOurs"),
-        ),
-        (
-            "that table in the log", with_its_log(pledges, "INSERT INTO pledges VALUES (7, 'Ann')"),
-            fault(502, "NotOurs"),
-        ),
-        (
-            "that table in a log whose salt begins with a zero",
-            with_its_log(pledges, "INSERT INTO pledges VALUES (7, 'Ann')", salt=0), fault(502, "NotOurs"),
-        ),
-        (
             "other tables alone", database_of("CREATE TABLE note (id INTEGER PRIMARY KEY, title TEXT)"),
             fault(502, "NotOurs"),
         ),
-        ("a view alone", database_of("CREATE VIEW note AS SELECT 1"), fault(502, "NotOurs")),
         (
             "a table meta without a schema", database_of("CREATE TABLE meta (name TEXT PRIMARY KEY, value INTEGER)"),
             fault(502, "NotOurs"),

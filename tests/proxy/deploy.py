@@ -11,11 +11,11 @@ import socket
 import subprocess
 import tempfile
 
-from tests.library.checks import Failed, expect, main, not_tried
+from tests.library.checks import Failed, expect, not_tried
 from tests.library.dates import today
 from tests.library.hosting import BOOKS, NAME, PACKAGES, Caller, Hosted, Recorder, proxys, put, status
 from tests.library.keys import BROKER, KEY, OPERATOR
-from tests.library.packages import missing, provide
+from tests.library.packages import main_with
 from tests.library.paths import TOP
 from tests.library.program import free_port
 from tests.library.proxy.checks import no_secret_in_a_log, plainly
@@ -476,7 +476,4 @@ TESTS = (
 )
 
 if __name__ == "__main__":
-    if provide(PACKAGES):
-        not_tried("all of it", f"there is no {' and no '.join(missing(PACKAGES))}")
-        main()
-    main(*TESTS)
+    main_with(PACKAGES, *TESTS)

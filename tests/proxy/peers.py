@@ -14,7 +14,7 @@ import subprocess
 import tempfile
 import time
 
-from tests.library.checks import expect, main, not_tried
+from tests.library.checks import expect
 from tests.library.dates import today
 from tests.library.described import IMPORT, OPERATIONS, chosen, compact
 from tests.library.hosting import (
@@ -22,7 +22,7 @@ from tests.library.hosting import (
     status, writers,
 )
 from tests.library.keys import BROKER, KEY, OPERATOR, SECRET
-from tests.library.packages import PATHS, missing, provide
+from tests.library.packages import PATHS, main_with
 from tests.library.paths import TOP
 from tests.library.program import Server, free_port
 from tests.library.requests import request
@@ -397,7 +397,4 @@ TESTS = (
 )
 
 if __name__ == "__main__":
-    if provide(PACKAGES):
-        not_tried("all of it", f"there is no {' and no '.join(missing(PACKAGES))}")
-        main()
-    main(*TESTS)
+    main_with(PACKAGES, *TESTS)

@@ -8,9 +8,9 @@ import socket
 import threading
 import time
 
-from tests.library.checks import Failed, expect, main, not_tried
+from tests.library.checks import Failed, expect
 from tests.library.hosting import BOOKS, NAME, PACKAGES, Hosted, Recorder, proxys, read_reply, status
-from tests.library.packages import missing, provide
+from tests.library.packages import main_with
 from tests.library.proxy.checks import no_secret_in_a_log, plainly
 from tests.library.requests import request
 
@@ -177,7 +177,4 @@ TESTS = (
 )
 
 if __name__ == "__main__":
-    if provide(PACKAGES):
-        not_tried("all of it", f"there is no {' and no '.join(missing(PACKAGES))}")
-        main()
-    main(*TESTS)
+    main_with(PACKAGES, *TESTS)

@@ -96,12 +96,7 @@ def fill_and_empty(path, filler):
         expect("an opening once there is room", status, 200)
         receipts.append(said["receipt"])
         session.close()
-    with Server(path) as server:
-        session = server.session()
-        for receipt in receipts:
-            expect("what was acknowledged", session.bearer(receipt, "GET", "/books/7/held")[0], 200)
-        session.close()
-    expect("its check", check(path)[0], 0)
+    all_is_served(path, receipts)
 
 
 def opens(session, number):

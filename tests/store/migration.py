@@ -18,7 +18,7 @@ from tests.library.older_stores import (
 from tests.library.paths import PROGRAM
 from tests.library.program import Server, a_sound_check, answer, check, fault, how_it_ends
 from tests.library.requests import held_request, keyed_request, opening_body, request, statement_request
-from tests.library.stores import bent_by, database_of, expect_files_stay, file_of, with_its_log
+from tests.library.stores import bent_by, database_of, expect_files_stay, file_of, files_of_other_programs
 from tests.library.tables import copied, opened, rows_by_python
 
 DAMAGED = fault(513, "Damaged")
@@ -287,24 +287,11 @@ def a_debt_that_cannot_be_is_refused_and_stays():
 
 
 def what_is_no_older_store_is_refused_and_stays():
-    pledges = "CREATE TABLE pledges (id INTEGER PRIMARY KEY, owner TEXT)"
     meta = "CREATE TABLE meta (name TEXT PRIMARY KEY, value INTEGER)"
     noted = "INSERT INTO meta VALUES ('schema', {})"
     for step, make, wanted in [
+        *((step, make, fault(512, "NotOurs")) for step, make in files_of_other_programs()),
         ("an empty file", file_of(b""), fault(512, "NotOurs")),
-        (
-            "another program's table of pledges", database_of(pledges, "INSERT INTO pledges VALUES (7, 'Ann')"),
-            fault(512, "NotOurs"),
-        ),
-        (
-            "that table in the log", with_its_log(pledges, "INSERT INTO pledges VALUES (7, 'Ann')"),
-            fault(512, "NotOurs"),
-        ),
-        (
-            "that table in a log whose salt begins with a zero",
-            with_its_log(pledges, "INSERT INTO pledges VALUES (7, 'Ann')", salt=0), fault(512, "NotOurs"),
-        ),
-        ("a view alone", database_of("CREATE VIEW note AS SELECT 1"), fault(512, "NotOurs")),
         ("a table meta without a schema", database_of(meta), fault(512, "NotOurs")),
         ("the schema 0", database_of(meta, noted.format(0)), fault(512, "NotOurs")),
         ("a schema below 0", database_of(meta, noted.format(-1)), fault(512, "NotOurs")),

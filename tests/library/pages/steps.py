@@ -10,7 +10,7 @@ from tests.library.checks import Failed, expect, main as run_tests
 from tests.library.dates import today
 from tests.library.keys import BROKER, OPERATOR
 from tests.library.packages import missing, provide
-from tests.library.pages.browser import Browser
+from tests.library.pages.browser import Browser, Pages
 from tests.library.paths import TOP
 
 WEB = os.path.join(TOP, "web")
@@ -108,6 +108,36 @@ def no_faults():
         "the console",
         [said for said in browser.faults() if said.startswith(origin) or not said.startswith("http://localhost:")], [],
     )
+
+
+@contextlib.contextmanager
+def an_open_book():
+    """A book without pledges, open at the counter."""
+    with Pages() as pages:
+        make_book(pages)
+        open_book(pages)
+        yield pages
+
+
+@contextlib.contextmanager
+def a_pledge_at_the_counter():
+    """A book with one pledge, which is looked at at the counter, and its receipt."""
+    with Pages() as pages:
+        make_book(pages)
+        receipt = pages.session.open_pledge(1)
+        open_book(pages)
+        find("1")
+        yield pages, receipt
+
+
+@contextlib.contextmanager
+def a_pledge_by_its_receipt():
+    """A book with one pledge, and its receipt, which the pawnor's page shows."""
+    with Pages() as pages:
+        make_book(pages)
+        receipt = pages.session.open_pledge(1)
+        show_receipt(pages, receipt)
+        yield pages, receipt
 
 
 def agree(patience=2):
