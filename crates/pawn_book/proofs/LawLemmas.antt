@@ -8,7 +8,7 @@ use Rattle.pawn_book.proofs.GrowLemmas.{Grown, grown_same, next_pledges, run_gro
 use Rattle.pawn_book.proofs.MadeLemmas.{BookIs, CommandIs, DidOn, MadeBy, PledgeIs, RowsAre, TermsAre, made_by}
 
 -- a text is itself
-text_same : (xs : List ℕ) → is_same_text xs xs ≡ true
+pub text_same : (xs : List ℕ) → is_same_text xs xs ≡ true
 text_same [] = refl
 text_same (x ∷ xs) = let here : (x == x) ≡ true = grind (arith, nat_tests) in ap (λ v. v && is_same_text xs xs) here ∙ text_same xs
 

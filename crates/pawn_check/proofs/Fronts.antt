@@ -2,6 +2,7 @@
 use Rattle.pawn_check.proofs.Basics.{◌≡◌, ◌∙◌, ℕ, ◌+◌, ◌<◌, ◌≤◌, zero, suc, true, false, List, [], ◌∷◌, ◌++◌, length, take, Some, None, refl, sym, ap, subst, arith, ◌==◌, ◌||◌, if◌then◌else◌, Bool, Option, option_map, slice_get, AreDistinct, AreNumberedFrom, BookValue, DoNotFall, Each, Err, HasTextsAndWords, HasUnsoundBook, Host, IfSome, IsCapacity, IsChecked, IsSoundBook, IsStanding, IsText, IsTrue, IsUnder, IsUtf8, IsWord, PledgeValue, Rates, Result, book_head, get, is_same_text, last_by, most_name_bytes, most_pledges, most_terms, pledge_from, pledge_in, pledge_rows, references_of, terms_at, terms_of, version_of, with_reference, absurd_none, nat_tests, references_push, some_is, sum_by_push, BookHead, AreOfBook, Blames, FindsSound, FitsAt, IsFront}
 use Rattle.std.specs.List.{list_any}
 use Rattle.pawn_base.proofs.ListLemmas.{Each-push, take_each}
+use Rattle.pawn_book.proofs.LawLemmas.{text_same}
 use Rattle.pawn_book.proofs.Sounds.{each_at, numbered_at}
 use Rattle.pawn_check.specs.declared.fault.CheckFault.{CheckFault}
 use Rattle.pawn_book.proofs.Places.{terms_at_place}
@@ -60,10 +61,6 @@ apart_at t k (q ∷ ps) n p none is =
     neither true b is = cc is
     neither false b is = (refl, is)
 
-same_as_itself : (t : List ℕ) → is_same_text t t ≡ true
-same_as_itself [] = refl
-same_as_itself (x ∷ t) = let here : (x == x) ≡ true = grind (arith, nat_tests) in grind (arith, nat_tests, here, same_as_itself t)
-
 pub first_is : (k : ℕ) (ps : List PledgeValue) (n : ℕ) (p : PledgeValue) → AreDistinct (references_of ps) → pledge_from k ps n ≡ Some p → with_reference ps p.agreement.opening.reference ≡ Some p
 first_is k [] n p all is = absurd_none is
 first_is k (q ∷ ps) n p all is =
@@ -71,7 +68,7 @@ first_is k (q ∷ ps) n p all is =
       | true ↦ λ here.
           let same : q ≡ p = some_is q p here in
           subst (λ (r : PledgeValue). with_reference (q ∷ ps) r.agreement.opening.reference ≡ Some r) same
-          (ap (λ v. if v then Some q else with_reference ps q.agreement.opening.reference) (same_as_itself q.agreement.opening.reference))
+          (ap (λ v. if v then Some q else with_reference ps q.agreement.opening.reference) (text_same q.agreement.opening.reference))
       | false ↦ λ past.
           ap (λ v. if v then Some q else with_reference ps p.agreement.opening.reference) (apart_at q.agreement.opening.reference (k + 1) ps n p all.0 past) ∙ first_is (k + 1) ps n p all.1 past
     ] is

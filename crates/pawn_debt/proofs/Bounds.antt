@@ -6,7 +6,7 @@ use Rattle.pawn_debt.specs.declared.entry.Kind.TheVariants.{Fixed, Running}
 use Rattle.pawn_debt.proofs.DueLemmas.{after_days-principal}
 use Rattle.pawn_debt.proofs.EntryLemmas.{due-from-last, due-pushed, due-start, pushed}
 
-keep-small : (t : Rates) (ends x : ℕ) → IsChecked t → keep_on t ends x ≤ 10000000
+pub keep-small : (t : Rates) (ends x : ℕ) → IsChecked t → keep_on t ends x ≤ 10000000
 keep-small t ends x h = from (nat_le x ends)
   where
     from : (b : Bool) → (if b then t.keep_before else t.keep_after) ≤ 10000000
@@ -14,7 +14,7 @@ keep-small t ends x h = from (nat_le x ends)
     from false = omega (arith, h.1, h.2)
 
 -- no day adds more than the most
-after_days-small : (t : Rates) (ends x n : ℕ) (o : Due) → IsChecked t → o.principal ≤ most_pence → (after_days t ends x n o).millionths ≤ o.millionths + n * most_a_day
+pub after_days-small : (t : Rates) (ends x n : ℕ) (o : Due) → IsChecked t → o.principal ≤ most_pence → (after_days t ends x n o).millionths ≤ o.millionths + n * most_a_day
 unfolding after_days
 after_days-small t ends x zero o h small = omega arith
 after_days-small t ends x (suc n) o h small =

@@ -86,10 +86,7 @@ fn push_book(
         (Change.MakeBook book new_book.now) (map listed_book books.new.items)) }
     ensures err { OnErr result (books.new.items ≡ books.old.items) }
 {
-    let made = match new_book.copy() {
-        Ok(made) => made,
-        Err(error) => return Err(error),
-    };
+    let made = new_book.copy()?;
     let kept = Kept {
         number: book,
         made,
@@ -139,10 +136,7 @@ fn put_pledge(
     let Some(place) = place_of(books, book) else {
         unreachable!();
     };
-    let pledge = match pledge.copy() {
-        Ok(pledge) => pledge,
-        Err(error) => return Err(error),
-    };
+    let pledge = pledge.copy()?;
     let kept = &mut books[place];
     put(&mut kept.pledges, number, pledge)
 }

@@ -20,7 +20,7 @@ returns c =
       ok = on_ok_weaker c.put.result (λ put.
           set_changes c.deref.result.now c.args.books.now.items c.in-Some.place kept next (PutPledge c.args.book c.args.number c.args.pledge.now) c.deref.ensures.value c.in-Some.ensures.within
           c.in-Some.ensures.some c.index_mut-kept.ensures.value refl
-          (ap (λ ps. let book : BookValue = record at { pledges = ps } in Some book) (put ∙ ap (put_from 1 kept.pledges.items c.args.number) c.in-Ok.ensures.ok))) c.put.ensures.ok;
+          (ap (λ ps. let book : BookValue = record at { pledges = ps } in Some book) (put ∙ ap (put_from 1 kept.pledges.items c.args.number) c.in_ok-pledge.ensures.ok))) c.put.ensures.ok;
       err = on_err_weaker c.put.result (λ same.
           kept_same c.args.books.now.items c.in-Some.place kept next c.index_mut-kept.ensures.value
           (ap (λ ps. let entry : ℕ × BookValue = (kept.number, record at { pledges = ps }) in entry) same)) c.put.ensures.err;
