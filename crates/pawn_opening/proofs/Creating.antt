@@ -1,6 +1,6 @@
 -- What CREATE TABLE makes of empty tables.
-use Rattle.pawn_opening.proofs.Basics.{◌≡◌, ℕ, List, [], ◌∷◌, map, Bool, true, false, None, Ok, Err, Result, OnOk, IsTrue, refl, sym, ap, subst, ◌∙◌, IsPermutation, AllByRecursion, KeepsRows, created, next_tree, CreateTable, Tally, lacks_sequence, Database, IsDatabase, Schema, Executes, HasCleanDisk, State, Writes, Table, Trees, IsLent, Holds, IsNumbered, Listed, Lists, columns_of, with_rows, extensions, extensions_tree, first_schema, keep_schema, second_schema, totals, totals_tree, IsPermutation-refl, all-append, runs_as, went, same_value, clean_before, AddsTable, AreEmpty, Makes, no_rows}
-use Rattle.pawn_opening.proofs.TableTexts.{IsCreation, extensions_is, MAKE_EXTENSIONS, totals_is, MAKE_TOTALS}
+use Rattle.pawn_opening.proofs.Basics.{◌≡◌, ℕ, List, [], ◌∷◌, map, Bool, true, false, None, Ok, Err, Result, OnOk, IsTrue, refl, sym, ap, subst, ◌∙◌, IsPermutation, AllByRecursion, KeepsRows, created, next_tree, CreateTable, Tally, lacks_sequence, Database, IsDatabase, Schema, Executes, HasCleanDisk, State, Writes, Table, Trees, IsLent, Holds, IsNumbered, Listed, Lists, columns_of, with_rows, extensions, extensions_tree, first_schema, keep_schema, second_schema, totals, totals_tree, IsPermutation-refl, all-append, runs_as, went, same_value, clean_before, AddsTable, AreEmpty, Makes, no_rows, MAKE_EXTENSIONS, MAKE_TOTALS}
+use Rattle.pawn_opening.proofs.TableTexts.{IsCreation, extensions_is, totals_is}
 
 -- a tree without rows
 empty_tree : (db : Trees) (tree : ℕ) (table : Table) → db tree ≡ [] → Holds db tree table []

@@ -1,5 +1,5 @@
-use Rattle.pawn_opening.proofs.Basics.{is_ok, state, Error}
-use Rattle.pawn_opening.proofs.IndexTexts.{MAKE_BOOKINGS_BY_TIME, MAKE_PLEDGES_BY_END, adds_both, adds_one, makes_by_end, makes_by_time}
+use Rattle.pawn_opening.proofs.Basics.{is_ok, state, Error, MAKE_BOOKINGS_BY_TIME, MAKE_PLEDGES_BY_END}
+use Rattle.pawn_opening.proofs.IndexTexts.{adds_both, adds_one, makes_by_end, makes_by_time}
 use Rattle.pawn_opening.proofs.indexing.make_indexes.Goals as goal
 
 pub returns-in-PledgesByEnd-clause-adds : goal.returns-in-PledgesByEnd-clause-adds
