@@ -2,7 +2,7 @@
 pub use Rattle.std.proofs.Common.{Bool, Err, IfErr, IfOk, IfSome, IsPermutation, IsTrue, List, None, Ok, OnOk, Option, Result, Some, T, [], ap, append-nil, append_assoc, arith, codes, cond, false, filter, flat_map, if◌then◌else◌, inl, inr, is_ok, is_some, nat_le, option_map, pos, refl, rules, slice_get, subst, suc, sym, take, true, ℕ, ◌&&◌, ◌++◌, ◌+◌, ◌<◌, ◌==◌, ◌∙◌, ◌∷◌, ◌≡◌, ◌≢◌, ◌≤◌, ◌⊎◌}
 pub use Rattle.std.proofs.lemmas.Bool.Decides.{nat_tests}
 pub use Rattle.std.proofs.lemmas.List.Sorted.{IsPermutation-append, IsPermutation-append_comm, IsPermutation-refl}
-pub use Rattle.one_table.proofs.Lent.{clean_before, rests_then}
+pub use Rattle.one_table.proofs.Lent.{clean_before, lent_then, rests_then}
 pub use Rattle.pawn_base.proofs.ListLemmas.{Each-push, take_next, take_past}
 pub use Rattle.pawn_base.proofs.TestLemmas.{below, both_told, same_key}
 pub use Rattle.pawn_book.proofs.Places.{pledge_at}

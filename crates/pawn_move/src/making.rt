@@ -59,7 +59,7 @@ fn make_indexes<S: Alter>(tx: &mut Transaction<'_, S>) -> Result<(), KeepError>
 }
 
 /// Notes the number of the program's schema, and makes its indexes.
-#[tactic(auto, using(crate::proofs::Lent::lent_then))]
+#[tactic(auto, using(crate::proofs::Basics::lent_then))]
 pub(crate) fn finish<S: Alter>(tx: &mut Transaction<'_, S>) -> Result<(), KeepError>
     ensures noted { NotesProgram (state S.Store tx.old.conn.now)
         (state S.Store tx.new.conn.now) result }

@@ -9,7 +9,7 @@ use crate::recognising::SCHEMA;
 use sqlite::{Alter, Error, Transaction};
 
 // Makes all tables of the program's schema, without rows.
-#[tactic(auto, using(crate::proofs::Lent::lent_then))]
+#[tactic(auto, using(crate::proofs::Basics::lent_then))]
 fn make_tables<S: Alter>(tx: &mut Transaction<'_, S>) -> Result<(), Error>
     ensures made { Makes (state S.Store tx.old.conn.now)
         (state S.Store tx.new.conn.now) result no_schema keep_schema }
@@ -22,7 +22,7 @@ fn make_tables<S: Alter>(tx: &mut Transaction<'_, S>) -> Result<(), Error>
 
 /// Makes the program's tables and indexes in an empty store. Notes the number of the schema, a count of no rows, and
 /// the limit.
-#[tactic(auto, using(crate::proofs::Lent::lent_then))]
+#[tactic(auto, using(crate::proofs::Basics::lent_then))]
 pub(crate) fn fill<S: Alter>(tx: &mut Transaction<'_, S>, limit: u32) -> Result<(), Error>
     ensures filled { Fills (state S.Store tx.old.conn.now)
         (state S.Store tx.new.conn.now) limit result }

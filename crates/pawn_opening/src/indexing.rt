@@ -23,7 +23,7 @@ pub enum Lacking {
 /// # Errors
 /// The database's own error: the name of an index is taken, a table or a column is missing, the store failed, or memory
 /// was refused.
-#[tactic(auto, using(crate::proofs::Lent::lent_then))]
+#[tactic(auto, using(crate::proofs::Basics::lent_then))]
 pub fn make_indexes<S: Alter>(tx: &mut Transaction<'_, S>, lacking: Lacking) -> Result<(), Error>
     ensures adds { AddsIndexes (state S.Store tx.old.conn.now)
         (state S.Store tx.new.conn.now) result }

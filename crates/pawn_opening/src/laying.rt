@@ -10,7 +10,7 @@ use pawn_tables::texts::{
 use sqlite::{Alter, Error, Transaction};
 
 /// Makes the tables of books, terms and pledges.
-#[tactic(auto, using(crate::proofs::Lent::lent_then))]
+#[tactic(auto, using(crate::proofs::Basics::lent_then))]
 pub(crate) fn make_books<S: Alter>(tx: &mut Transaction<'_, S>) -> Result<(), Error>
     ensures made { Makes (state S.Store tx.old.conn.now)
         (state S.Store tx.new.conn.now) result no_schema first_three }
@@ -22,7 +22,7 @@ pub(crate) fn make_books<S: Alter>(tx: &mut Transaction<'_, S>) -> Result<(), Er
 }
 
 /// Makes the tables of entries, secrets and bookings.
-#[tactic(auto, using(crate::proofs::Lent::lent_then))]
+#[tactic(auto, using(crate::proofs::Basics::lent_then))]
 pub(crate) fn make_lists<S: Alter>(tx: &mut Transaction<'_, S>) -> Result<(), Error>
     ensures made { Makes (state S.Store tx.old.conn.now)
         (state S.Store tx.new.conn.now) result first_three first_six }
@@ -34,7 +34,7 @@ pub(crate) fn make_lists<S: Alter>(tx: &mut Transaction<'_, S>) -> Result<(), Er
 }
 
 /// Makes the tables `meta`, which holds what the store notes, `totals` and `extensions`.
-#[tactic(auto, using(crate::proofs::Lent::lent_then))]
+#[tactic(auto, using(crate::proofs::Basics::lent_then))]
 pub(crate) fn make_notes<S: Alter>(tx: &mut Transaction<'_, S>) -> Result<(), Error>
     ensures made { Makes (state S.Store tx.old.conn.now)
         (state S.Store tx.new.conn.now) result first_six keep_schema }

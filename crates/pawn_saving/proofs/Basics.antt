@@ -6,7 +6,7 @@ pub use Rattle.std.proofs.lemmas.List.Sorted.{IsPermutation-append, IsPermutatio
 pub use Rattle.std.proofs.lemmas.List.Sums.{sum_by-cons, sum_by_push}
 pub use Rattle.one_table.proofs.Alteration.{set_one, updated_part}
 pub use Rattle.one_table.proofs.Insertion.{IsPlace, inserted, same_value, went}
-pub use Rattle.one_table.proofs.Lent.{clean_before, rests_then}
+pub use Rattle.one_table.proofs.Lent.{clean_before, lent_then, rests_then}
 pub use Rattle.one_table.proofs.OneTable.{shows_of}
 pub use Rattle.one_table.proofs.Parts.{committed_rests, inside_after_row, kept_by_row, kept_then, on_ok, open_by_row, plain_rests, rests_open}
 pub use Rattle.one_table.proofs.Rowed.{at_place, carried, cast_int, cast_null, cast_whole, plainly, same_tree, swapped}

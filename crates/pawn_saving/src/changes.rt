@@ -11,7 +11,7 @@ use pawn_tables::in_32_bits;
 use sqlite::{Alter, Transaction};
 
 /// Writes a new book. Returns how many counted rows that adds.
-#[tactic(auto, using(crate::proofs::Lent::lent_then))]
+#[tactic(auto, using(crate::proofs::Basics::lent_then))]
 pub(crate) fn make_book<S: Alter>(
     tx: &mut Transaction<'_, S>,
     book: Number,
@@ -26,7 +26,7 @@ pub(crate) fn make_book<S: Alter>(
 }
 
 /// Writes the next version of a book's terms. Returns how many counted rows that adds.
-#[tactic(auto, using(crate::proofs::Lent::lent_then))]
+#[tactic(auto, using(crate::proofs::Basics::lent_then))]
 pub(crate) fn add_terms<S: Alter>(
     tx: &mut Transaction<'_, S>,
     book: Number,
@@ -44,7 +44,7 @@ pub(crate) fn add_terms<S: Alter>(
 }
 
 /// Writes a pledge: the next of its book, or one that is stored already. Returns how many counted rows that adds.
-#[tactic(auto, using(crate::proofs::Lent::lent_then))]
+#[tactic(auto, using(crate::proofs::Basics::lent_then))]
 pub(crate) fn put_pledge<S: Alter>(
     tx: &mut Transaction<'_, S>,
     book: Number,

@@ -54,7 +54,7 @@ fn count_up<S: Alter>(tx: &mut Transaction<'_, S>, by: u32) -> Result<u64, KeepE
 }
 
 /// Adds to the stored count of rows. Returns whether the new count is within the limit.
-#[tactic(auto, using(crate::proofs::Lent::lent_then))]
+#[tactic(auto, using(crate::proofs::Basics::lent_then))]
 pub(crate) fn count_within<S: Alter>(
     tx: &mut Transaction<'_, S>,
     by: u32,

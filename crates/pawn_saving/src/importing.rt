@@ -35,7 +35,7 @@ fn sum_in_32_bits(one: u32, other: u32) -> Result<u32, KeepError>
 }
 
 // Inserts all rows of the pledge that has these parts. Returns how many of them are counted.
-#[tactic(auto, using(crate::proofs::Lent::lent_then))]
+#[tactic(auto, using(crate::proofs::Basics::lent_then))]
 fn put_parts<S: Alter>(
     tx: &mut Transaction<'_, S>,
     book: u32,
@@ -71,7 +71,7 @@ fn put_pledges<S: Alter>(
 
 /// Fills a book that has neither terms nor pledges, and notes the import's key. Returns how many counted rows that
 /// adds.
-#[tactic(auto, using(crate::proofs::Lent::lent_then, crate::proofs::RowsInOrder::lent_carried, crate::proofs::RowsInOrder::both_carried))]
+#[tactic(auto, using(crate::proofs::Basics::lent_then, crate::proofs::RowsInOrder::lent_carried, crate::proofs::RowsInOrder::both_carried))]
 pub(crate) fn import_book<S: Alter>(
     tx: &mut Transaction<'_, S>,
     book: Number,

@@ -38,7 +38,7 @@ pub(crate) fn rows_of(pledge: &Pledge) -> Result<u32, KeepError>
 }
 
 /// Inserts those rows of a pledge's lists that come after the first `lengths` of each list.
-#[tactic(auto, using(crate::proofs::Lent::lent_then, crate::proofs::RowsInOrder::lent_carried, crate::proofs::RowsInOrder::both_carried))]
+#[tactic(auto, using(crate::proofs::Basics::lent_then, crate::proofs::RowsInOrder::lent_carried, crate::proofs::RowsInOrder::both_carried))]
 pub(crate) fn put_lists<S: Alter>(
     tx: &mut Transaction<'_, S>,
     book: u32,
@@ -94,7 +94,7 @@ pub(crate) fn put_any_booking<S: Alter>(
 }
 
 /// Inserts the single rows of a new pledge: its own, its totals and its booking, if it has one.
-#[tactic(auto, using(crate::proofs::Lent::lent_then, crate::proofs::RowsInOrder::lent_carried, crate::proofs::RowsInOrder::both_carried))]
+#[tactic(auto, using(crate::proofs::Basics::lent_then, crate::proofs::RowsInOrder::lent_carried, crate::proofs::RowsInOrder::both_carried))]
 pub(crate) fn put_sides<S: Alter>(
     tx: &mut Transaction<'_, S>,
     book: u32,
@@ -111,7 +111,7 @@ pub(crate) fn put_sides<S: Alter>(
 }
 
 /// Inserts all rows of a pledge that has none stored. Returns how many of them are counted.
-#[tactic(auto, using(crate::proofs::Lent::lent_then, crate::proofs::RowsInOrder::lent_carried, crate::proofs::RowsInOrder::both_carried))]
+#[tactic(auto, using(crate::proofs::Basics::lent_then, crate::proofs::RowsInOrder::lent_carried, crate::proofs::RowsInOrder::both_carried))]
 pub(crate) fn put_whole<S: Alter>(
     tx: &mut Transaction<'_, S>,
     book: u32,

@@ -11,7 +11,7 @@ use pawn_tables::REFUSED;
 use sqlite::{Alter, Transaction};
 
 /// Writes the next pledge of a book. Returns how many counted rows that adds.
-#[tactic(auto, using(crate::proofs::Lent::lent_then))]
+#[tactic(auto, using(crate::proofs::Basics::lent_then))]
 pub(crate) fn add_pledge<S: Alter>(
     tx: &mut Transaction<'_, S>,
     book: Number,
@@ -29,7 +29,7 @@ pub(crate) fn add_pledge<S: Alter>(
 }
 
 /// Updates the single rows of a stored pledge: its own, its totals and its booking.
-#[tactic(auto, using(crate::proofs::Lent::lent_then, crate::proofs::RowsInOrder::lent_carried))]
+#[tactic(auto, using(crate::proofs::Basics::lent_then, crate::proofs::RowsInOrder::lent_carried))]
 fn set_sides<S: Alter>(
     tx: &mut Transaction<'_, S>,
     book: u32,
@@ -66,7 +66,7 @@ fn rows_added(stored: Stored, pledge: &Pledge) -> Result<u32, KeepError>
 }
 
 /// Writes a stored pledge as it is now. Returns how many counted rows that adds.
-#[tactic(auto, using(crate::proofs::Lent::lent_then, crate::proofs::RowsInOrder::lent_carried))]
+#[tactic(auto, using(crate::proofs::Basics::lent_then, crate::proofs::RowsInOrder::lent_carried))]
 pub(crate) fn renew_pledge<S: Alter>(
     tx: &mut Transaction<'_, S>,
     book: Number,

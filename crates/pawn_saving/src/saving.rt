@@ -44,7 +44,7 @@ fn write_rows<S: Alter>(tx: &mut Transaction<'_, S>, change: &Change) -> Result<
 
 /// Writes a change within the transaction and counts its rows. If the count is then above the limit, the result is
 /// `Full`, and the caller rolls back.
-#[tactic(auto, using(crate::proofs::Lent::lent_then))]
+#[tactic(auto, using(crate::proofs::Basics::lent_then))]
 pub(crate) fn write_change<S: Alter>(
     tx: &mut Transaction<'_, S>,
     change: &Change,

@@ -95,7 +95,7 @@ fn lengths_within<S: Alter>(
 }
 
 /// How much of a pledge is stored, if none of its stored lists is longer than `most` says.
-#[tactic(auto, using(crate::proofs::Lent::lent_then, crate::proofs::RowsInOrder::lent_carried))]
+#[tactic(auto, using(crate::proofs::Basics::lent_then, crate::proofs::RowsInOrder::lent_carried))]
 pub(crate) fn stored_within<S: Alter>(
     tx: &mut Transaction<'_, S>,
     book: u32,

@@ -9,6 +9,7 @@ pub use Rattle.one_table.proofs.Distinct.{each_shown_once, once_of_table, shown_
 pub use Rattle.one_table.proofs.OneTable.{around, few_of_table, first_of_table, gathered, over_table, passes, shows_of}
 pub use Rattle.one_table.proofs.Texts.{Asks, by_column, by_column_down, is_param}
 pub use Rattle.one_table.specs.Common.{overlay}
+pub use Rattle.one_table.proofs.Lent.{lent_then}
 pub use Rattle.pawn_book.proofs.Sounds.{each_at}
 pub use Rattle.sqlite.proofs.Callers.{IsPlain, one_permutation, reads_as}
 pub use Rattle.sqlite_trees.proofs.ListLemmas.{IsPermutation-filter, all-map, all_from_map, all_weaker, ascending-filter, ascending-get_or, filter-map, filter_all, filter_none, flat_map_none, map-map}

@@ -11,7 +11,7 @@ use std::alloc::Global;
 
 /// The pledge with this number in a book, without its lists, if there is one. No list is read: the totals and the
 /// end of the period are those that are stored.
-#[tactic(auto, using(crate::proofs::Lent::lent_then))]
+#[tactic(auto, using(crate::proofs::Basics::lent_then))]
 pub fn brief_in<S: Alter>(
     tx: &mut Transaction<'_, S>,
     alloc: Global,

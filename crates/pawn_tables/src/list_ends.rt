@@ -90,7 +90,7 @@ fn extension_count<S: Alter>(
 }
 
 /// How many entries and extensions a pledge has, and its last secret.
-#[tactic(auto, using(crate::proofs::Lent::lent_then))]
+#[tactic(auto, using(crate::proofs::Basics::lent_then))]
 pub(crate) fn list_ends_in<S: Alter>(
     tx: &mut Transaction<'_, S>,
     book: u32,
