@@ -48,8 +48,6 @@ module _ (a b c : State) (long : Host → ℕ) (most at : ℕ) (so_far : IsSoFar
       let two = reads clean one.1.inside h sound (subst (λ d. StandsFor d h) (sym one.1.now_is) st) in
       (one.0, two.0 low, rests_then a b c one.1 two.1)
 
-  }
-
 -- ---- a pledge that is to be put, and what stands of it
 
 pub stands_or_not : (o : Option PledgeValue) → (o ≡ None) ⊎ ((p : PledgeValue) × (o ≡ Some p))

@@ -61,9 +61,6 @@ module _ {K V T : Type 0} (k : Keeping K) (step : V → T → Flow → V → Typ
 
 -- ---- errors
 
-module _ {K : Type 0} (k : Keeping K) (old now new : K) {P Q : Host → Type 0} (before : Reads k old now P) (read : Reads k now new Q) {IsUnsound : Host → Type 0} where
-  }
-
 -- no error
 pub errs_ok : {K A : Type 0} {IsUnsound : Host → Type 0} (k : Keeping K) (old new : K) (r : Result A KeepError) (x : A) → r ≡ Ok x → Errs k old new IsUnsound r
 errs_ok k old new r x is = record {
