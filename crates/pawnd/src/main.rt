@@ -58,7 +58,7 @@ fn unsaid(why: SettingsFault) -> Stop {
     Stop::Fault(Fault::Settings(why))
 }
 
-// Answers the requests of standard input.
+// Answers the requests of standard input. This is `pawnd answer`.
 fn answer(rt: &HostRuntime, mut args: Args) -> Result<(), Stop> {
     let (Some(database), Some(day), Some(seed), Some(key), None) = (
         args.next(),
@@ -70,30 +70,7 @@ fn answer(rt: &HostRuntime, mut args: Args) -> Result<(), Stop> {
         return Err(Stop::Usage);
     };
     let settings = Settings::read(rt, day.as_str(), seed.as_str(), key.as_str()).map_err(unsaid)?;
-    if is_memory(database.as_str()) {
-        answer_over(rt, memory_keep(rt)?, settings)?.1
-    } else {
-        let (keep, end) = answer_over(rt, file_keep(rt, database.as_str())?, settings)?;
-        close(keep, end)
-    }
-}
-
-// Answers the requests of standard input over a keeper. Gives the keeper back, with how that ended.
-fn answer_over<S: Alter + Drop>(
-    rt: &HostRuntime,
-    keep: TableKeep<S>,
-    settings: Settings,
-) -> Result<(TableKeep<S>, Result<(), Stop>), Stop> {
-    let mut service = open(rt, keep, settings.operator)?;
-    let mut words = Words::of_seed(settings.seed);
-    let mut reader = Reading::new(rt.stdin());
-    let mut writer = Writing::new(rt.stdout());
-    let mut stamps = Stamps::new(&mut words, settings.day);
-    let end = match answer_over_tables(&mut service, &mut reader, &mut writer, &mut stamps) {
-        Ok(_) => Ok(()),
-        Err(_) => Err(Stop::Io),
-    };
-    Ok((service.into_keep(), end))
+    do_on(rt, database.as_str(), Work::Answer(settings))
 }
 
 // Answers the requests of connections to a port of this machine, one connection after the other. This is `pawnd serve`.
@@ -107,26 +84,76 @@ fn serve(rt: &HostRuntime, mut args: Args) -> Result<(), Stop> {
         return Err(Stop::Usage);
     };
     let settings = ServeSettings::read(rt, port.as_str(), key.as_str()).map_err(unsaid)?;
-    if is_memory(database.as_str()) {
-        serve_over(rt, memory_keep(rt)?, settings)?.1
-    } else {
-        let (keep, end) = serve_over(rt, folded_keep(rt, database.as_str())?, settings)?;
-        close(keep, end)
+    do_on(rt, database.as_str(), Work::Serve(settings))
+}
+
+// Judges a store, and prints what it holds. This is `pawnd check`.
+fn judge(rt: &HostRuntime, mut args: Args) -> Result<(), Stop> {
+    let (Some(database), None) = (args.next(), args.next()) else {
+        return Err(Stop::Usage);
+    };
+    do_on(rt, database.as_str(), Work::Judge)
+}
+
+// What is done over a store.
+#[derive(Clone, Copy)]
+enum Work {
+    Answer(Settings),
+    Serve(ServeSettings),
+    Judge,
+}
+
+// Opens the store that the command line names, does this over it, and closes it.
+fn do_on(rt: &HostRuntime, database: &str, work: Work) -> Result<(), Stop> {
+    if is_memory(database) {
+        return do_over(rt, memory_keep(rt)?, work)?.1;
+    }
+    let keep = match work {
+        Work::Serve(_) => folded_keep(rt, database)?,
+        Work::Answer(_) | Work::Judge => file_keep(rt, database)?,
+    };
+    let (keep, end) = do_over(rt, keep, work)?;
+    close(keep, end)
+}
+
+// Does this over a keeper. Gives the keeper back, with how that ended.
+fn do_over<S: Alter + Drop>(
+    rt: &HostRuntime,
+    mut keep: TableKeep<S>,
+    work: Work,
+) -> Result<(TableKeep<S>, Result<(), Stop>), Stop> {
+    match work {
+        Work::Answer(settings) => {
+            let mut service = open(rt, keep, settings.operator)?;
+            let end = answer_input(rt, &mut service, settings);
+            Ok((service.into_keep(), end))
+        }
+        Work::Serve(settings) => {
+            let mut service = open(rt, keep, settings.operator)?;
+            let end = listen(rt, &mut service, settings.port).map(|_| ());
+            Ok((service.into_keep(), end))
+        }
+        Work::Judge => {
+            let end = judge_over(rt, &mut keep);
+            Ok((keep, end))
+        }
     }
 }
 
-// Answers the requests of connections over a keeper. Gives the keeper back, with how that ended.
-fn serve_over<S: Alter + Drop>(
+// Answers the requests of standard input by a service.
+fn answer_input<S: Alter + Drop>(
     rt: &HostRuntime,
-    keep: TableKeep<S>,
-    settings: ServeSettings,
-) -> Result<(TableKeep<S>, Result<(), Stop>), Stop> {
-    let mut service = open(rt, keep, settings.operator)?;
-    let end = match listen(rt, &mut service, settings.port) {
+    service: &mut Service<TableKeep<S>>,
+    settings: Settings,
+) -> Result<(), Stop> {
+    let mut words = Words::of_seed(settings.seed);
+    let mut reader = Reading::new(rt.stdin());
+    let mut writer = Writing::new(rt.stdout());
+    let mut stamps = Stamps::new(&mut words, settings.day);
+    match answer_over_tables(service, &mut reader, &mut writer, &mut stamps) {
         Ok(_) => Ok(()),
-        Err(stop) => Err(stop),
-    };
-    Ok((service.into_keep(), end))
+        Err(_) => Err(Stop::Io),
+    }
 }
 
 // Listens on a port, and answers by a service until `CONNECTIONS` connections were accepted or failed to be. It reports
@@ -165,21 +192,6 @@ fn migrate(rt: &HostRuntime, mut args: Args) -> Result<(), Stop> {
     match println!(rt; "{schemas}") {
         Ok(()) => Ok(()),
         Err(_) => Err(Stop::Io),
-    }
-}
-
-// Judges a store, and prints what it holds.
-fn judge(rt: &HostRuntime, mut args: Args) -> Result<(), Stop> {
-    let (Some(database), None) = (args.next(), args.next()) else {
-        return Err(Stop::Usage);
-    };
-    if is_memory(database.as_str()) {
-        let mut keep = memory_keep(rt)?;
-        judge_over(rt, &mut keep)
-    } else {
-        let mut keep = file_keep(rt, database.as_str())?;
-        let end = judge_over(rt, &mut keep);
-        close(keep, end)
     }
 }
 
