@@ -56,9 +56,18 @@ pub fn crashed(mut disks: Disks) -> Disks {
     disks
 }
 
-/// The store on the disks. If there is none, it is made with room for a hundred rows. If it is not opened, the error is
-/// what a stop leaves of the disks.
-pub fn store_on(alloc: Global, disks: Disks) -> Result<Connection<FileStore<Fuse<Memory>>>, Disks> {
+/// What is done with a store, of whatever kind. One function that opens a store of disks serves all that do something
+/// with one.
+pub trait Visit {
+    type Found;
+
+    /// Does it. Returns what was found and the store, or none where the store has no keeper.
+    fn visit<S: Alter + Drop>(&self, conn: Connection<S>) -> Option<(Self::Found, S)>;
+}
+
+// The store on the disks. If there is none, it is made with room for a hundred rows. If it is not opened, the error is
+// what is left of the disks.
+fn store_on(alloc: Global, disks: Disks) -> Result<Connection<FileStore<Fuse<Memory>>>, Disks> {
     if !disks.log.may_be_used() {
         return Err(disks);
     }
@@ -67,62 +76,35 @@ pub fn store_on(alloc: Global, disks: Disks) -> Result<Connection<FileStore<Fuse
     }
     match open_files(alloc, disks, SMALL, 100) {
         Ok(conn) => Ok(conn),
-        Err((_, left)) => Err(crashed(left.into_files())),
+        Err((_, left)) => Err(left.into_files()),
     }
 }
 
-// Runs these statements on a store. Returns whether all were done. It has no clause, so that its callers carry no facts of
-// the statements into their own proofs.
-fn has_run<S: Alter>(conn: &mut Connection<S>, statements: &str) -> bool {
-    conn.execute_batch(statements).is_ok()
-}
-
-/// Closes a store, and gives its disks back. It has no clause, for the same reason.
-pub fn closed(conn: Connection<FileStore<Fuse<Memory>>>) -> Disks {
-    conn.into_store().close()
-}
-
-// Makes a store, runs these statements on it and closes it. None if the disks stop before that.
-fn bare_store_on(alloc: Global, disks: Disks, statements: &str) -> Option<Disks> {
-    let mut conn = store_on(alloc, disks).ok()?;
-    let made = has_run(&mut conn, statements);
-    let mut left = closed(conn);
-    if made && go_on(&mut left) {
-        return Some(left);
+/// Opens the store on the disks, which is made if there is none, visits it and closes it. Returns what was found, if the
+/// store was opened and has a keeper, and the disks that are left. None if it has none.
+pub fn visited<V: Visit>(
+    alloc: Global,
+    disks: Disks,
+    visit: &V,
+) -> Option<(Option<V::Found>, Disks)> {
+    match store_on(alloc, disks) {
+        Err(left) => Some((None, left)),
+        Ok(conn) => {
+            let (found, store) = visit.visit(conn)?;
+            Some((Some(found), store.close()))
+        }
     }
-    None
 }
 
-// Opens the store on the disks. Returns whether it is opened, and the disks that are left. None if they may not be used.
-fn opened_on(alloc: Global, disks: Disks) -> Option<(bool, Disks)> {
+/// What is found in the database on the disks, whatever it holds.
+pub fn looked_at<V: Visit>(alloc: Global, disks: Disks, visit: &V) -> Option<V::Found> {
     if !disks.log.may_be_used() {
         return None;
     }
     if !disks.db.may_be_used() {
         return None;
     }
-    match open_files(alloc, disks, SMALL, 100) {
-        Ok(conn) => Some((true, closed(conn))),
-        Err((_, left)) => Some((false, left.into_files())),
-    }
-}
-
-/// Makes a store, runs these statements on it, closes it and opens it again. Returns whether it is opened, and the
-/// disks that are left. None if the disks stop before that.
-pub fn bare_store_opened(alloc: Global, disks: Disks, statements: &str) -> Option<(bool, Disks)> {
-    match bare_store_on(alloc, disks, statements) {
-        Some(left) => opened_on(alloc, left),
-        None => None,
-    }
-}
-
-/// A connection to the database on the disks, whatever it holds.
-pub fn connected(alloc: Global, disks: Disks) -> Option<Connection<FileStore<Fuse<Memory>>>> {
-    if !disks.log.may_be_used() {
-        return None;
-    }
-    if !disks.db.may_be_used() {
-        return None;
-    }
-    Connection::open_files(alloc, disks, SMALL).ok()
+    let conn = Connection::open_files(alloc, disks, SMALL).ok()?;
+    let (found, _) = visit.visit(conn)?;
+    Some(found)
 }

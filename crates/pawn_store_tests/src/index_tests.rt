@@ -1,9 +1,11 @@
 //! A store without the two indexes is opened, and one of its files stops at some call. After that both indexes are
 //! there, or neither is, and every row is there. Each call of either file is such a stop in turn, until an opening
 //! meets none.
-use crate::disks::{Disks, Failing, bare_store_opened, connected, crashed, disks, go_on};
-use crate::move_tests::{BARE, COUNTS, INDEXES, counts_in};
-use pawn_check::{CheckFault, Counts};
+use crate::disks::{Disks, Failing, Visit, crashed, disks, go_on, looked_at, visited};
+use crate::move_tests::{BARE, COUNTS, INDEXES};
+use pawn_check::{CheckFault, Counts, check};
+use pawn_table_keeper::TableKeep;
+use sqlite::{Alter, Connection};
 use std::alloc::Global;
 use std::process::Abort;
 use std::test::Fail;
@@ -16,23 +18,63 @@ struct Run {
     left: Disks,
 }
 
+// Takes the indexes from a store. What is found is whether it was done.
+#[derive(Drop)]
+struct Baring;
+
+impl Visit for Baring {
+    type Found = bool;
+
+    fn visit<S: Alter + Drop>(&self, mut conn: Connection<S>) -> Option<(bool, S)> {
+        let is_bare = conn.execute_batch(BARE).is_ok();
+        Some((is_bare, conn.into_store()))
+    }
+}
+
+// Opens a store, and does nothing with it.
+#[derive(Drop)]
+struct Opening;
+
+impl Visit for Opening {
+    type Found = ();
+
+    fn visit<S: Alter + Drop>(&self, conn: Connection<S>) -> Option<((), S)> {
+        Some(((), conn.into_store()))
+    }
+}
+
 // Makes a store without indexes, closes it, and opens it. None if the disks stop before.
 fn run_on(alloc: Global, disks: Disks) -> Option<Run> {
-    let (is_opened, mut left) = bare_store_opened(alloc, disks, BARE)?;
-    let is_whole = go_on(&mut left);
-    let left = crashed(left);
+    let (is_bare, mut left) = visited(alloc, disks, &Baring)?;
+    if is_bare != Some(true) || !go_on(&mut left) {
+        return None;
+    }
+    let (opened, mut left) = visited(alloc, left, &Opening)?;
     Some(Run {
-        is_opened,
-        is_whole,
-        left,
+        is_opened: opened.is_some(),
+        is_whole: go_on(&mut left),
+        left: crashed(left),
     })
 }
 
-// How many indexes stand on the disks, and how the store is judged.
-fn found(alloc: Global, disks: Disks) -> Option<(usize, Result<Counts, CheckFault>)> {
-    let conn = connected(alloc, disks)?;
-    let indexes = conn.schema().indexes.as_slice().len();
-    Some((indexes, counts_in(alloc, conn)?))
+// Counts the indexes of a store, and judges it.
+#[derive(Drop)]
+struct Judging {
+    alloc: Global,
+}
+
+impl Visit for Judging {
+    type Found = (usize, Result<Counts, CheckFault>);
+
+    fn visit<S: Alter + Drop>(
+        &self,
+        conn: Connection<S>,
+    ) -> Option<((usize, Result<Counts, CheckFault>), S)> {
+        let indexes = conn.schema().indexes.as_slice().len();
+        let mut keep = TableKeep::over(self.alloc, conn).ok()?;
+        let judged = check(&mut keep);
+        Some(((indexes, judged), keep.into_connection().into_store()))
+    }
 }
 
 // Makes a file stop at that call. Returns whether no call failed.
@@ -40,7 +82,7 @@ fn stops(rt: &impl Abort, alloc: Global, failing: Failing, calls: u64) -> Result
     let Some(run) = run_on(alloc, disks(alloc, failing, calls)) else {
         return Ok(false);
     };
-    let (indexes, judged) = found(alloc, run.left).ok_or("opened again")?;
+    let (indexes, judged) = looked_at(alloc, run.left, &Judging { alloc }).ok_or("opened again")?;
     if run.is_opened {
         assert_eq!(rt; indexes, INDEXES, "{calls} calls of {failing:?}");
     } else {

@@ -1,7 +1,7 @@
 //! A store of an older schema, or of the program's without its indexes, is moved, and one of its files stops at some
 //! call. The tests check what is there when it is opened again. Each call of either file is such a stop in turn, until
 //! a migration meets none. The script `tests/store/migration.py` shows it by kills over files, and checks each total.
-use crate::disks::{Disks, Failing, closed, connected, crashed, disks, go_on, store_on};
+use crate::disks::{Disks, Failing, Visit, crashed, disks, go_on, looked_at, visited};
 use pawn_check::{CheckFault, Counts, check};
 use pawn_move::{MoveFault, migrate, schema_of};
 use pawn_table_keeper::TableKeep;
@@ -54,13 +54,22 @@ pub const COUNTS: Counts = Counts {
 // The numbers of the schemas from which and to which a store is moved.
 type Moved = Result<(u32, u32), MoveFault>;
 
-// Makes a store one of an older schema, and moves it. Returns how the migration ended. None if it stops before that.
-fn moved_from<S: Alter>(alloc: Global, conn: &mut Connection<S>, older: Older) -> Option<Moved> {
-    conn.execute_batch(older.made).ok()?;
-    if !conn.is_autocommit() {
-        return None;
+// Makes a store one of an older schema, and moves it. What is found is how the migration ended, or none if the store
+// stops before it.
+#[derive(Drop)]
+struct Moving {
+    alloc: Global,
+    older: Older,
+}
+
+impl Visit for Moving {
+    type Found = Option<Moved>;
+
+    fn visit<S: Alter + Drop>(&self, mut conn: Connection<S>) -> Option<(Option<Moved>, S)> {
+        let is_made = conn.execute_batch(self.older.made).is_ok() && conn.is_autocommit();
+        let end = is_made.then(|| migrate(self.alloc, &mut conn));
+        Some((end, conn.into_store()))
     }
-    Some(migrate(alloc, conn))
 }
 
 // A migration on disks: how it ended, whether no call failed, and what a stop then leaves of the disks.
@@ -73,37 +82,14 @@ struct Run {
 
 // A migration of a store of an older schema. None if the disks stop before it.
 fn run_on(alloc: Global, disks: Disks, older: Older) -> Option<Run> {
-    let mut conn = store_on(alloc, disks).ok()?;
-    let end = moved_from(alloc, &mut conn, older);
-    let mut left = closed(conn);
+    let (end, mut left) = visited(alloc, disks, &Moving { alloc, older })?;
+    let end = end??;
     let is_whole = go_on(&mut left);
-    let left = crashed(left);
-    match end {
-        Some(end) => Some(Run {
-            end,
-            is_whole,
-            left,
-        }),
-        None => None,
-    }
-}
-
-// The number of a store's schema, and how it is moved then.
-fn moved_again<S: Alter>(alloc: Global, conn: &mut Connection<S>) -> Option<(u32, Moved)> {
-    if !conn.is_autocommit() {
-        return None;
-    }
-    let number = schema_of(conn).ok()?;
-    Some((number, migrate(alloc, conn)))
-}
-
-/// What a check of a store finds.
-pub fn counts_in<S: Alter + Drop>(
-    alloc: Global,
-    conn: Connection<S>,
-) -> Option<Result<Counts, CheckFault>> {
-    let mut keep = TableKeep::over(alloc, conn).ok()?;
-    Some(check(&mut keep))
+    Some(Run {
+        end,
+        is_whole,
+        left: crashed(left),
+    })
 }
 
 // How many indexes a store of the program has: ten of keys, and two by which a day is read.
@@ -118,18 +104,32 @@ struct Found {
     judged: Result<Counts, CheckFault>,
 }
 
-fn found_on(alloc: Global, disks: Disks) -> Option<Found> {
-    let mut conn = connected(alloc, disks)?;
-    let moved = moved_again(alloc, &mut conn);
-    let indexes = conn.schema().indexes.as_slice().len();
-    let judged = counts_in(alloc, conn)?;
-    let (number, again) = moved?;
-    Some(Found {
-        number,
-        again,
-        indexes,
-        judged,
-    })
+// Moves a store once more, and judges it.
+#[derive(Drop)]
+struct Judging {
+    alloc: Global,
+}
+
+impl Visit for Judging {
+    type Found = Found;
+
+    fn visit<S: Alter + Drop>(&self, mut conn: Connection<S>) -> Option<(Found, S)> {
+        if !conn.is_autocommit() {
+            return None;
+        }
+        let number = schema_of(&mut conn).ok()?;
+        let again = migrate(self.alloc, &mut conn);
+        let indexes = conn.schema().indexes.as_slice().len();
+        let mut keep = TableKeep::over(self.alloc, conn).ok()?;
+        let judged = check(&mut keep);
+        let found = Found {
+            number,
+            again,
+            indexes,
+            judged,
+        };
+        Some((found, keep.into_connection().into_store()))
+    }
 }
 
 // Makes a file stop at that call. Then the old tables are there, or the new ones, and they are moved and judged.
@@ -144,7 +144,7 @@ fn stops(
     let Some(run) = run_on(alloc, disks(alloc, failing, calls), older) else {
         return Ok(false);
     };
-    let found = found_on(alloc, run.left).ok_or("opened again")?;
+    let found = looked_at(alloc, run.left, &Judging { alloc }).ok_or("opened again")?;
     let number = found.number;
     match run.end {
         Ok(numbers) => {

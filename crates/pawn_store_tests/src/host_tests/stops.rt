@@ -5,7 +5,7 @@
 
 use super::turns::{EXPORT, EXPORT_OTHER, TURNS};
 use super::{ROWS, bytes_of, service_of, service_over, stamp};
-use crate::disks::{Disks, Failing, crashed, disks, go_on, store_on};
+use crate::disks::{Disks, Failing, Visit, crashed, disks, go_on, visited};
 use pawn_book::Keep;
 use pawn_check::{CheckFault, Counts, check};
 use pawn_host::{Answer, Service};
@@ -65,17 +65,22 @@ fn played<K: Keep>(rt: &impl Abort, service: &mut Service<K>) -> usize {
     answered
 }
 
-// How many turns are answered over a store before the first that is not, and the store after them.
-fn played_over<S: Alter + Drop>(
-    rt: &impl Abort,
+// Plays the turns over a store. What is found is how many are answered before the first that is not.
+#[derive(Drop)]
+struct Playing<'a, R: Abort> {
+    rt: &'a R,
     alloc: Global,
-    conn: Connection<S>,
-) -> Option<(usize, S)> {
-    let keep = TableKeep::over(alloc, conn).ok()?;
-    let mut service = service_over(rt, alloc, keep);
-    let answered = played(rt, &mut service);
-    let store = service.into_keep().into_connection().into_store();
-    Some((answered, store))
+}
+
+impl<R: Abort> Visit for Playing<'_, R> {
+    type Found = usize;
+
+    fn visit<S: Alter + Drop>(&self, conn: Connection<S>) -> Option<(usize, S)> {
+        let keep = TableKeep::over(self.alloc, conn).ok()?;
+        let mut service = service_over(self.rt, self.alloc, keep);
+        let answered = played(self.rt, &mut service);
+        Some((answered, service.into_keep().into_connection().into_store()))
+    }
 }
 
 // A run over disks. It has how many turns were answered before the first that was not, or none if the store was not
@@ -88,39 +93,30 @@ struct Run {
 }
 
 fn run_on(rt: &impl Abort, alloc: Global, disks: Disks) -> Option<Run> {
-    let conn = match store_on(alloc, disks) {
-        Ok(conn) => conn,
-        Err(left) => {
-            return Some(Run {
-                answered: None,
-                is_whole: false,
-                left,
-            });
-        }
-    };
-    let (answered, store) = played_over(rt, alloc, conn)?;
-    let mut left = store.close();
+    let (answered, mut left) = visited(alloc, disks, &Playing { rt, alloc })?;
     Some(Run {
-        answered: Some(answered),
-        is_whole: go_on(&mut left),
+        answered,
+        is_whole: answered.is_some() && go_on(&mut left),
         left: crashed(left),
     })
 }
 
-fn shown_over<S: Alter + Drop>(
-    rt: &impl Abort,
+// Looks at what a store shows.
+#[derive(Drop)]
+struct Looking<'a, R: Abort> {
+    rt: &'a R,
     alloc: Global,
-    conn: Connection<S>,
-) -> Option<Shown> {
-    let keep = TableKeep::over(alloc, conn).ok()?;
-    let mut service = service_over(rt, alloc, keep);
-    Some(show_all(rt, &mut service))
 }
 
-// What is shown of the disks once they are opened again.
-fn shown_on(rt: &impl Abort, alloc: Global, disks: Disks) -> Option<Shown> {
-    let conn = store_on(alloc, disks).ok()?;
-    shown_over(rt, alloc, conn)
+impl<R: Abort> Visit for Looking<'_, R> {
+    type Found = Shown;
+
+    fn visit<S: Alter + Drop>(&self, conn: Connection<S>) -> Option<(Shown, S)> {
+        let keep = TableKeep::over(self.alloc, conn).ok()?;
+        let mut service = service_over(self.rt, self.alloc, keep);
+        let shown = show_all(self.rt, &mut service);
+        Some((shown, service.into_keep().into_connection().into_store()))
+    }
 }
 
 // Makes a file stop at that call. Then what was answered is there, with or without the turn in hand, or no book if the
@@ -133,7 +129,8 @@ fn stops(
     calls: u64,
 ) -> Result<bool, Fail> {
     let run = run_on(rt, alloc, disks(alloc, failing, calls)).ok_or("a keeper")?;
-    let found = shown_on(rt, alloc, run.left).ok_or("opened again")?;
+    let (found, _) = visited(alloc, run.left, &Looking { rt, alloc }).ok_or("a keeper")?;
+    let found = found.ok_or("opened again")?;
     let (first, last) = match run.answered {
         Some(answered) => (answered, answered.saturating_add(1)),
         None => (0, 0),
