@@ -6,6 +6,11 @@ pub use Rattle.std.proofs.lemmas.Bool.Decides.{nat_tests}
 pub use Rattle.std.proofs.lemmas.Grind.{common_steps, flat_map-append}
 pub use Rattle.std.proofs.lemmas.List.{nil_from_length, take_more, take_rest}
 pub use Rattle.pawn_book.proofs.Reading.{reads_none}
-pub use Rattle.pawn_writing.specs.Common.{Appends, BriefFields, End, Flow, Front, Go, Handed, IsShare, PledgeValue, Stop, Whole, entries_of, extensions_of, flat_map}
+pub use Rattle.std.specs.FinMap.{get}
+pub use Rattle.pawn_pledge.specs.Brief.{brief_of}
+pub use Rattle.pawn_book.specs.BookStep.{pledge_in}
+pub use Rattle.pawn_book.specs.HostStep.{Host}
+pub use Rattle.pawn_book.specs.Keeping.{Keeping}
+pub use Rattle.pawn_writing.specs.Common.{Appends, BriefFields, End, Flow, Front, Go, Handed, IsShare, PledgeValue, Reads, Stop, Whole, entries_of, extensions_of, flat_map}
 pub use Rattle.pawn_writing.specs.Ends.{PutFront, Puts, PutsLine, PutsShare, Share, Written, end_by, is_write_failure, write_failed, written_bytes}
 pub use Rattle.pawn_writing.specs.declared.writing.Writing.{Writing}
