@@ -1,8 +1,5 @@
 -- Rows that were taken to their end are those of the book.
-use Rattle.pawn_csv.proofs.Basics.{◌≡◌, ◌∙◌, ◌+◌, ℕ, Bool, true, false, List, [], ◌∷◌, ◌++◌, length, map, Option, Some, None, Result, Ok, Err, refl, sym, ap, subst, append_assoc, arith, cond, nat_lt, nat_le, ◌==◌, ◌&&◌, ◌||◌, IfOk, IfSome, AreRecords, BookRows, Each, PledgeValue, Rates, default_config, flat_map, most_pledges, most_terms, strip_bom, Each-push, and_parts, append-nil, nat_tests, AreTaken, Begun, Cause, FitsColumns, IsFinishedAs, IsHeldBy, IsReadAs, IsTextOf, Knows, PledgeColumns, RawPledge, Row, Version, hand, header, is_whole, may_end, on_hand, on_second, place, place_booking, place_entry, place_extension, place_pledge, place_secret, place_terms, pledge_csv_rows, pledges_begun, put_hand, raw_of, raw_pledge, raw_rows, row_fields, rows_of_csv, run, terms_rows, then_run, version_rows}
-use Rattle.csv.specs.declared.parser.State.TheVariants as st
-use Rattle.pawn_csv.specs.declared.fault.Cause.TheVariants as cause
-use Rattle.pawn_csv.specs.declared.row.Version.TheVariants as version
+use Rattle.pawn_csv.proofs.Basics.{◌≡◌, ◌∙◌, ◌+◌, ℕ, Bool, true, false, List, [], ◌∷◌, ◌++◌, length, map, Option, Some, None, Result, Ok, Err, refl, sym, ap, subst, append_assoc, arith, cond, nat_lt, nat_le, ◌==◌, ◌&&◌, ◌||◌, IfOk, IfSome, AreRecords, BookRows, Each, PledgeValue, Rates, default_config, flat_map, most_pledges, most_terms, strip_bom, Each-push, and_parts, append-nil, nat_tests, AreTaken, Begun, Cause, FitsColumns, IsFinishedAs, IsHeldBy, IsReadAs, IsTextOf, Knows, PledgeColumns, RawPledge, Row, Version, hand, header, is_whole, may_end, on_hand, on_second, place, place_booking, place_entry, place_extension, place_pledge, place_secret, place_terms, pledge_csv_rows, pledges_begun, put_hand, raw_of, raw_pledge, raw_rows, row_fields, rows_of_csv, run, terms_rows, then_run, version_rows, State}
 use Rattle.pawn_csv.proofs.OrderLemmas.{Shows, booking_shown, entry_shown, extension_shown, guard_err, guard_ok, ok_same, secret_shown}
 
 -- the rows that were taken
@@ -16,7 +13,7 @@ HasNone p = p.extensions ≡ []
 -- a text of the first version has no extensions
 abbrev pub IsPlain : Option Begun → Type 0
 IsPlain None = Unit {0}
-IsPlain (Some b) = b.version ≡ version.One → Each HasNone (pledges_begun b)
+IsPlain (Some b) = b.version ≡ Version.One → Each HasNone (pledges_begun b)
 
 abbrev pub Grows : Option Begun → Row → Begun → Type 0
 Grows s r b = (shown (Some b) ≡ shown s ++ r ∷ []) × IsPlain (Some b)
@@ -51,7 +48,7 @@ hand_shown first ts ps p q row shows =
     ∙ ap (λ (rs : List Row). rs ++ row ∷ []) (sym (flat_map-push ps p)))
     ∙ ap (λ (rs : List Row). first ∷ rs) (sym (append_assoc ts (flat_map raw_rows (ps ++ p ∷ [])) (row ∷ [])))
 
-hand_grows : (b : Begun) (p q : RawPledge) (row : Row) → b.at_hand ≡ Some p → Shows p q row → (b.version ≡ version.One → HasNone p → HasNone q) → IsPlain (Some b)
+hand_grows : (b : Begun) (p q : RawPledge) (row : Row) → b.at_hand ≡ Some p → Shows p q row → (b.version ≡ Version.One → HasNone p → HasNone q) → IsPlain (Some b)
     → Grows (Some b) row (record b { at_hand = Some q })
 hand_grows b p q row at shows none plain =
     let first = Row.Book b.version b.terms_due b.pledges_due in (
@@ -61,10 +58,10 @@ hand_grows b p q row at shows none plain =
     )
 
 on_hand_grows : (b c : Begun) (number : ℕ) (o : Option RawPledge) (f : RawPledge → Result RawPledge Cause) (row : Row) → b.at_hand ≡ o → on_hand b number o f ≡ Ok c
-    → ((p q : RawPledge) → p.columns.number ≡ number → f p ≡ Ok q → Shows p q row × (b.version ≡ version.One → HasNone p → HasNone q)) → IsPlain (Some b) → Grows (Some b) row c
+    → ((p q : RawPledge) → p.columns.number ≡ number → f p ≡ Ok q → Shows p q row × (b.version ≡ Version.One → HasNone p → HasNone q)) → IsPlain (Some b) → Grows (Some b) row c
 on_hand_grows b c number None f row at h step plain = cc
 on_hand_grows b c number (Some p) f row at h step plain =
-    let guard = guard_then (p.columns.number == number) (put_hand b (f p)) c cause.Order h in
+    let guard = guard_then (p.columns.number == number) (put_hand b (f p)) c Cause.Order h in
     let test = guard.0 in
     let same : p.columns.number ≡ number = grind (arith, nat_tests, test) in
     elim (f p) as (λ v. f p ≡ v → put_hand b v ≡ Ok c → Grows (Some b) row c) [
@@ -73,18 +70,18 @@ on_hand_grows b c number (Some p) f row at h step plain =
     ] refl guard.1
 
 secret_keeps : (p q : RawPledge) (at : ℕ) (x : _) → place_secret p at x ≡ Ok q → q.extensions ≡ p.extensions
-secret_keeps p q at x h = let g = guard_ok _ (record p { secrets = p.secrets ++ x ∷ [] }) q cause.Order (guard_err _ _ q cause.TooMany h) in sym (ap (λ (r : RawPledge). r.extensions) g.1)
+secret_keeps p q at x h = let g = guard_ok _ (record p { secrets = p.secrets ++ x ∷ [] }) q Cause.Order (guard_err _ _ q Cause.TooMany h) in sym (ap (λ (r : RawPledge). r.extensions) g.1)
 
 entry_keeps : (p q : RawPledge) (x : _) → place_entry p x ≡ Ok q → q.extensions ≡ p.extensions
-entry_keeps p q x h = let g = guard_ok _ (record p { entries = p.entries ++ x ∷ [] }) q cause.Order (guard_err _ _ q cause.TooMany h) in sym (ap (λ (r : RawPledge). r.extensions) g.1)
+entry_keeps p q x h = let g = guard_ok _ (record p { entries = p.entries ++ x ∷ [] }) q Cause.Order (guard_err _ _ q Cause.TooMany h) in sym (ap (λ (r : RawPledge). r.extensions) g.1)
 
 booking_keeps : (p q : RawPledge) (x : _) → place_booking p x ≡ Ok q → q.extensions ≡ p.extensions
-booking_keeps p q x h = let g = guard_ok _ (record p { booking = Some x }) q cause.Order h in sym (ap (λ (r : RawPledge). r.extensions) g.1)
+booking_keeps p q x h = let g = guard_ok _ (record p { booking = Some x }) q Cause.Order h in sym (ap (λ (r : RawPledge). r.extensions) g.1)
 
 terms_grows : (b c : Begun) (v : ℕ) (x : Rates) → place_terms b v x ≡ Ok c → IsPlain (Some b) → Grows (Some b) (Row.Terms v x) c
 terms_grows b c v x h plain =
     let new : Begun = record b { terms = b.terms ++ x ∷ [] } in
-    let guard = guard_ok ((v == length b.terms + 1) && nat_le v b.terms_due && (length (pledges_begun b) == 0)) new c cause.Order h in
+    let guard = guard_ok ((v == length b.terms + 1) && nat_le v b.terms_due && (length (pledges_begun b) == 0)) new c Cause.Order h in
     let w = and_parts ((v == length b.terms + 1) && nat_le v b.terms_due) (length (pledges_begun b) == 0) guard.0 in
     let u = and_parts (v == length b.terms + 1) (nat_le v b.terms_due) w.0 in
     let first = u.0 in
@@ -102,31 +99,26 @@ terms_grows b c v x h plain =
 pledge_grows : (b c : Begun) (x : PledgeColumns) → place_pledge b x ≡ Ok c → IsPlain (Some b) → Grows (Some b) (Row.Pledge x) c
 pledge_grows b c x h plain =
     let new : Begun = record b { pledges = pledges_begun b; at_hand = Some (raw_pledge x) } in
-    let guard = guard_ok _ new c cause.Order h in
+    let guard = guard_ok _ new c Cause.Order h in
     let head = Row.Book b.version b.terms_due b.pledges_due in
     let rows : shown (Some new) ≡ shown (Some b) ++ Row.Pledge x ∷ [] =
     ap (λ (rs : List Row). head ∷ (terms_rows 1 b.terms ++ rs)) (flat_map-push (pledges_begun b) (raw_pledge x))
     ∙ ap (λ (rs : List Row). head ∷ rs) (sym (append_assoc (terms_rows 1 b.terms) (flat_map raw_rows (pledges_begun b)) (Row.Pledge x ∷ []))) in
     subst (λ (d : Begun). Grows (Some b) (Row.Pledge x) d) guard.1 (rows, λ one. Each-push HasNone (pledges_begun b) (raw_pledge x) (plain one) refl)
 
-pub second_only : (v : Version) (x : Result Begun Cause) (c : Begun) → on_second v x ≡ Ok c → (v ≡ version.Two) × (x ≡ Ok c)
-second_only version.One x c h = cc
-second_only version.Two x c h = (refl, h)
+pub second_only : (v : Version) (x : Result Begun Cause) (c : Begun) → on_second v x ≡ Ok c → (v ≡ Version.Two) × (x ≡ Ok c)
+second_only Version.One x c h = cc
+second_only Version.Two x c h = (refl, h)
 
-pub not_one : (v : Version) → v ≡ version.Two → v ≡ version.One → ⊥
+pub not_one : (v : Version) → v ≡ Version.Two → v ≡ Version.One → ⊥
 not_one v a b = let e = sym a ∙ b in cc
 
 -- a row that is taken is shown at the end
 place_grows : (s : Option Begun) (r : Row) (c : Begun) → place s r ≡ Ok c → IsPlain s → Grows s r c
 place_grows None (Row.Book v t p) c h plain =
-    subst (λ (d : Begun). Grows None (Row.Book v t p) d) (ok_same _ c (guard_err (nat_lt most_terms t || nat_lt most_pledges p) _ c cause.TooMany h)) (refl, λ one. tt)
-place_grows None (Row.Terms v x) c h plain = cc
-place_grows None (Row.Pledge x) c h plain = cc
-place_grows None (Row.Secret n at x) c h plain = cc
-place_grows None (Row.Entry n x) c h plain = cc
-place_grows None (Row.Extension n at x) c h plain = cc
-place_grows None (Row.Booking n x) c h plain = cc
-place_grows (Some b) (Row.Book v t p) c h plain = let e = guard_err (nat_lt most_terms t || nat_lt most_pledges p) _ c cause.TooMany h in cc
+    subst (λ (d : Begun). Grows None (Row.Book v t p) d) (ok_same _ c (guard_err (nat_lt most_terms t || nat_lt most_pledges p) _ c Cause.TooMany h)) (refl, λ one. tt)
+place_grows None r c h plain = cc
+place_grows (Some b) (Row.Book v t p) c h plain = let e = guard_err (nat_lt most_terms t || nat_lt most_pledges p) _ c Cause.TooMany h in cc
 place_grows (Some b) (Row.Terms v x) c h plain = terms_grows b c v x h plain
 place_grows (Some b) (Row.Pledge x) c h plain = pledge_grows b c x h plain
 place_grows (Some b) (Row.Secret n at x) c h plain =
@@ -166,19 +158,23 @@ none_known : (ps : List PledgeValue) → Each HasNone (map raw_of ps) → Each (
 none_known [] h = tt
 none_known (p ∷ ps) h = (h.0, none_known ps h.1)
 
-knows : (v : Version) (k : BookRows) → (v ≡ version.One → Each (λ p. p.extensions ≡ []) k.pledges) → Knows v k
-knows version.One k h = h refl
-knows version.Two k h = tt
+knows : (v : Version) (k : BookRows) → (v ≡ Version.One → Each (λ p. p.extensions ≡ []) k.pledges) → Knows v k
+knows Version.One k h = h refl
+knows Version.Two k h = tt
 
--- what is shown once all is there
-pub whole_rows : (b : Begun) (k : BookRows) → is_whole (Some b) ≡ true → b.terms ≡ k.terms → pledges_begun b ≡ map raw_of k.pledges → shown (Some b) ≡ rows_of_csv b.version k
-whole_rows b k whole terms pledges =
+-- what is there once all is
+pub whole_counts : (b : Begun) → is_whole (Some b) ≡ true → (b.terms_due ≡ length b.terms) × (b.pledges_due ≡ length (pledges_begun b)) × (may_end b.at_hand ≡ true)
+whole_counts b whole =
     let w = and_parts ((length b.terms == b.terms_due) && (length (pledges_begun b) == b.pledges_due)) (may_end b.at_hand) whole in
     let u = and_parts (length b.terms == b.terms_due) (length (pledges_begun b) == b.pledges_due) w.0 in
     let first = u.0 in
     let second = u.1 in
-    let m : b.terms_due ≡ length b.terms = grind (arith, nat_tests, first) in
-    let n : b.pledges_due ≡ length (pledges_begun b) = grind (arith, nat_tests, second) in
+    (grind (arith, nat_tests, first), grind (arith, nat_tests, second), w.1)
+
+-- what is shown once all is there
+pub whole_rows : (b : Begun) (k : BookRows) → is_whole (Some b) ≡ true → b.terms ≡ k.terms → pledges_begun b ≡ map raw_of k.pledges → shown (Some b) ≡ rows_of_csv b.version k
+whole_rows b k whole terms pledges =
+    let (m, n, ended) = whole_counts b whole in
     let count = n ∙ ap (λ (ps : List RawPledge). length ps) pledges ∙ length-raw k.pledges in
     ap (λ (d : ℕ). Row.Book b.version d b.pledges_due ∷ (terms_rows 1 b.terms ++ flat_map raw_rows (pledges_begun b))) (m ∙ ap (λ (ts : List Rates). length ts) terms)
     ∙ ap (λ (d : ℕ). Row.Book b.version (length k.terms) d ∷ (terms_rows 1 b.terms ++ flat_map raw_rows (pledges_begun b))) count
@@ -205,7 +201,7 @@ taken_is (h ∷ rs) rows s k taken (b, is, whole, begun, replayable) =
 read_is : (text : List ℕ) (k : BookRows) → IsReadAs text k → IsTextOf text k
 read_is text k (records, rows, s, are, taken, done) =
     let (v, same, held) = taken_is records rows s k taken done in
-    (v, subst (λ (rs : List (List (List ℕ))). AreRecords default_config st.StartRecord text rs) same are, held)
+    (v, subst (λ (rs : List (List (List ℕ))). AreRecords default_config State.StartRecord text rs) same are, held)
 
 pub text_is : {E : Type 0} (o : Option (List ℕ)) (res : Result BookRows E) → IfOk res (λ k. IfSome o (λ text. IsReadAs (strip_bom text) k)) → IfOk res (λ k. IfSome o (λ text. IsTextOf (strip_bom text) k))
 text_is None (Ok k) h = tt

@@ -1,8 +1,6 @@
 -- A book's text, put part by part, and how it ends.
-use Rattle.pawn_csv.proofs.Basics.{◌≡◌, ◌∙◌, ℕ, Bool, true, false, List, [], ◌∷◌, ◌++◌, length, Option, Some, None, Result, Ok, Err, refl, sym, ap, subst, map, option_map, unwrap_or, BookValue, End, Front, KeepError, PutFront, ViewFault, Whole, Written, book_head, call_end, default_writer, end_by, flat_map, pledges_of, row_text, rows_of_book, terms_of, write_failed, flat_map-append, or_from, share_all, share_more, share_puts, share_then, Exports, PutsRow, PutsRowsShare, Row, Sink, csv_of, ending_by, has_ended, header, pledge_csv_rows, row_fields, seen, sink_ending, terms_rows, text_of_row}
+use Rattle.pawn_csv.proofs.Basics.{◌≡◌, ◌∙◌, ℕ, Bool, true, false, List, [], ◌∷◌, ◌++◌, length, Option, Some, None, Result, Ok, Err, refl, sym, ap, subst, map, option_map, unwrap_or, BookValue, End, Front, KeepError, PutFront, ViewFault, Whole, Written, book_head, call_end, default_writer, end_by, flat_map, pledges_of, row_text, rows_of_book, terms_of, write_failed, flat_map-append, or_from, share_all, share_more, share_puts, share_then, Exports, PutsRow, PutsRowsShare, Row, Sink, csv_of, ending_by, has_ended, header, pledge_csv_rows, row_fields, seen, sink_ending, terms_rows, text_of_row, Version}
 use Rattle.pawn_book.specs.declared.change.BookHead.{BookHead}
-use Rattle.pawn_book.specs.declared.fault.KeepError.TheVariants as error
-use Rattle.pawn_csv.specs.declared.row.Version.TheVariants as version
 use Rattle.pawn_csv.proofs.SentLemmas.{rows_in_turn}
 use Rattle.pawn_writing.proofs.PutLemmas.{front-more, now_by}
 
@@ -35,7 +33,7 @@ lines_mapped (r ∷ rs) = ap (λ (t : List ℕ). text_of_row r ++ t) (lines_mapp
 
 -- the first row of a book
 abbrev pub count_text : ℕ → ℕ → List ℕ
-count_text terms pledges = text_of_row (Row.Book version.Two terms pledges)
+count_text terms pledges = text_of_row (Row.Book Version.Two terms pledges)
 
 book_is : (at : BookValue) → row_text default_writer header ++ (count_text (length at.terms) (length at.pledges) ++ below_text at) ≡ csv_of (rows_of_book at)
 book_is at =
@@ -66,8 +64,8 @@ exports_by contents a w text done true starved fine now fed share = (text, refl,
 exports_by contents a w text done false true fine now fed share = (front_sent contents a w text (call_end done) fine share, now)
 exports_by contents a w text (Ok u) false false fine now fed share =
     let sent = whole_sent contents a w text fine (or_from (write_failed w.writer) w.is_starved now fed) share in (text, refl, sent)
-exports_by contents a w text (Err error.Memory) false false fine now fed share = (front_sent contents a w text Front fine share, now)
-exports_by contents a w text (Err (error.Store why)) false false fine now fed share = (front_sent contents a w text Front fine share, now)
+exports_by contents a w text (Err KeepError.Memory) false false fine now fed share = (front_sent contents a w text Front fine share, now)
+exports_by contents a w text (Err (KeepError.Store why)) false false fine now fed share = (front_sent contents a w text Front fine share, now)
 
 head_of : (head : BookHead) (at : BookValue) → Some head ≡ Some (book_head at) → head ≡ book_head at
 head_of head at e = ap (λ (x : Option BookHead). unwrap_or x head) e

@@ -1,7 +1,5 @@
 -- The records of pledges whose rows are read.
 use Rattle.pawn_csv.proofs.Basics.{◌≡◌, ℕ, List, [], ◌∷◌, ◌++◌, map, Option, None, Some, Result, Ok, Err, true, sym, ◌∙◌, subst, refl, ap, AreReplayable, BookRows, Closing, Each, IfErr, IfNone, IfOk, IfSome, IsUnder, PledgeValue, Rates, terms_at, AreRawOf, Begun, Cause, Ends, IsBegunOf, IsRawOf, RawPledge, closing_amount, closing_day, closing_word, is_whole, raw_of}
-use Rattle.pawn_pledge.specs.declared.record.Closing.TheVariants as closed
-use Rattle.pawn_csv.specs.declared.fault.Cause.TheVariants as cause
 
 same_first : (x y : RawPledge) (xs ys : List RawPledge) → x ∷ xs ≡ y ∷ ys → x ≡ y
 same_first x y xs ys e = cc
@@ -23,15 +21,10 @@ no_parts terms (d ∷ done) raw rest (p ∷ ps) none h =
 
 -- columns tell one closing
 pub same_closing : (a b : Closing) → closing_word a ≡ closing_word b → closing_day a ≡ closing_day b → closing_amount a ≡ closing_amount b → a ≡ b
-same_closing closed.Open closed.Open w d m = refl
-same_closing closed.Open (closed.Redeemed x y) w d m = cc
-same_closing closed.Open (closed.Sold x y) w d m = cc
-same_closing (closed.Redeemed x y) closed.Open w d m = cc
-same_closing (closed.Redeemed x y) (closed.Redeemed u v) w d m = cc
-same_closing (closed.Redeemed x y) (closed.Sold u v) w d m = cc
-same_closing (closed.Sold x y) closed.Open w d m = cc
-same_closing (closed.Sold x y) (closed.Redeemed u v) w d m = cc
-same_closing (closed.Sold x y) (closed.Sold u v) w d m = cc
+same_closing Closing.Open Closing.Open w d m = refl
+same_closing (Closing.Redeemed x y) (Closing.Redeemed u v) w d m = cc
+same_closing (Closing.Sold x y) (Closing.Sold u v) w d m = cc
+same_closing a b w d m = cc
 
 pub same_rates : (terms : List Rates) (v w : ℕ) (a b : Rates) → v ≡ w → terms_at terms v ≡ Some a → terms_at terms w ≡ Some b → a ≡ b
 same_rates terms v w a b same x y = let e = sym x ∙ ap (terms_at terms) same ∙ y in cc
@@ -74,7 +67,7 @@ one_book b j k x y h =
 pub ends : (b : Begun) (rows : Option BookRows) (res : Result BookRows Cause) → is_whole (Some b) ≡ true
     → IfSome rows (IsBegunOf b) → IfNone rows ((k : BookRows) → IsBegunOf b k → ⊥)
     → IfOk res (λ k. (rows ≡ Some k) × AreReplayable k.terms k.pledges)
-    → IfErr res (λ e. (e ≡ cause.NotReplayable) × IfSome rows (λ k. AreReplayable k.terms k.pledges → ⊥))
+    → IfErr res (λ e. (e ≡ Cause.NotReplayable) × IfSome rows (λ k. AreReplayable k.terms k.pledges → ⊥))
     → Ends (Some b) res
 ends b None (Ok k) whole some none found why = let e = found.0 in cc
 ends b (Some j) (Ok k) whole some none found why =

@@ -1,16 +1,14 @@
 -- The rows of a book that can have come about can be spelled.
-use Rattle.pawn_csv.proofs.Basics.{◌≡◌, ◌∙◌, ◌+◌, ◌-◌, ◌*◌, ◌≤◌, ℕ, zero, suc, Bool, true, false, List, [], ◌∷◌, ◌++◌, length, Option, Some, None, if◌then◌else◌, IsOk, Ok, sym, ap, subst, arith, nat_le, AreExtended, AreNumbered, AreOrdered, AreWords, Booking, Closing, DebtValue, DoNotFall, Draw, Due, Each, Entry, Extension, HasTextsAndWords, IfSome, IsBooked, IsClosed, IsStampDay, IsStanding, IsUnder, Issued, PledgeValue, Rates, Repay, Sort, after_days, debt_of, due, end_with, flat_map, keep_on, last_by, last_of, most_a_day, most_pence, total_on, last_by-le, nat_tests, first_day, AreColumns, BooksAreHeld, FitsColumns, IsColumnNumber, Row, TextsAreRead, TextsOfHostsAreRead, booking_csv_rows, closing_amount, closing_day, entry_rows, extension_rows, pledge_columns, pledge_csv_rows, secret_rows, terms_rows}
+use Rattle.pawn_csv.proofs.Basics.{◌≡◌, ◌∙◌, ◌+◌, ◌-◌, ◌*◌, ◌≤◌, ℕ, zero, suc, Bool, true, false, List, [], ◌∷◌, ◌++◌, length, Option, Some, None, if◌then◌else◌, IsOk, Ok, sym, ap, subst, arith, nat_le, AreExtended, AreNumbered, AreOrdered, AreWords, Booking, Closing, DebtValue, DoNotFall, Draw, Due, Each, Entry, Extension, HasTextsAndWords, IfSome, IsBooked, IsClosed, IsStampDay, IsStanding, IsUnder, Issued, PledgeValue, Rates, Repay, Sort, after_days, debt_of, due, end_with, flat_map, keep_on, last_by, last_of, most_a_day, most_pence, total_on, last_by-le, nat_tests, first_day, AreColumns, BooksAreHeld, FitsColumns, IsColumnNumber, Row, TextsAreRead, TextsOfHostsAreRead, booking_csv_rows, closing_amount, closing_day, entry_rows, extension_rows, pledge_columns, pledge_csv_rows, secret_rows, terms_rows, Version}
 use Rattle.std.proofs.lemmas.Nat.{mul-le}
 use Rattle.pawn_base.proofs.RefusalLemmas.{first_of-is_ok}
 use Rattle.pawn_terms.specs.Limits.{last_stamp_day}
 use Rattle.pawn_terms.specs.Terms.{IsChecked}
-use Rattle.pawn_debt.proofs.Bounds.{accepted-bounded}
+use Rattle.pawn_debt.proofs.Bounds.{accepted-bounded, after_days-small}
 use Rattle.pawn_debt.proofs.DueLemmas.{after_days-principal}
 use Rattle.pawn_debt.proofs.EntryLemmas.{due-from-last}
 use Rattle.pawn_debt.specs.Answers.{draw_rows, is_bad_amount, repay_rows, with_entry}
 use Rattle.pawn_debt.specs.Replay.{AreEntriesAccepted, sort_answer}
-use Rattle.pawn_pledge.specs.declared.record.Closing.TheVariants as closed
-use Rattle.pawn_csv.specs.declared.row.Version.TheVariants as version
 use Rattle.pawn_csv.proofs.RoundLemmas.{held_texts_are_read}
 use Rattle.pawn_book.proofs.SoundLists.{under_length}
 
@@ -32,24 +30,6 @@ all_pence : (d : DebtValue) (prior es : List Entry) → AreEntriesAccepted d pri
 all_pence d prior [] h = tt
 all_pence d prior (e ∷ es) h = (accepted_pence e.sort (record d { entries = prior }) e.day e.pence h.0.1, all_pence d (prior ++ e ∷ []) es h.1)
 
-keep_small : (t : Rates) (ends x : ℕ) → IsChecked t → keep_on t ends x ≤ 10000000
-keep_small t ends x h = from (nat_le x ends)
-  where
-    from : (b : Bool) → (if b then t.keep_before else t.keep_after) ≤ 10000000
-    from true = h.1
-    from false = omega (arith, h.1, h.2)
-
--- days without entries add no more than the most a day
-days_small : (t : Rates) (ends x n : ℕ) (o : Due) → IsChecked t → o.principal ≤ most_pence → (after_days t ends x n o).millionths ≤ o.millionths + n * most_a_day
-unfolding after_days
-days_small t ends x zero o h small = omega arith
-days_small t ends x (suc n) o h small =
-    let less = days_small t ends x n o h small in
-    let same = after_days-principal t ends x n o in
-    let interest : (after_days t ends x n o).principal * t.rate ≤ 100000000 * 20000 = mul-le _ _ 100000000 20000 (omega (arith, same, small)) h.0 in
-    let keep = keep_small t ends (x + suc n) h in
-    omega (arith, less, interest, keep)
-
 -- what is owing on a pledge's last day has twelve digits
 total_fits : (p : PledgeValue) → IsStanding p → IsColumnNumber (total_on p p.standing.last)
 total_fits p h =
@@ -62,7 +42,7 @@ total_fits p h =
     let low = last_by-le (λ (e : Entry). e.day) d.taken d.entries entered.ordered in
     let same = due-from-last d x entered.ordered entered.before in
     let principal = after_days-principal d.terms d.ends last (x - last) (due d last) in
-    let small = days_small d.terms d.ends last (x - last) (due d last) h.terms bounded.principal in
+    let small = after_days-small d.terms d.ends last (x - last) (due d last) h.terms bounded.principal in
     let millionths : (due d x).millionths ≤ 84005 * 2000010000000 = omega (arith, ap (λ (o : Due). o.millionths) same, small, bounded.millionths, low, entered.before, h.within.last) in
     let pence : (due d x).principal ≤ most_pence = omega (arith, ap (λ (o : Due). o.principal) same, principal, bounded.principal) in
     omega (arith, millionths, pence)
@@ -108,14 +88,14 @@ fit_booking p n (Some b) hn from booked before = ((hn, (omega (arith, from, book
 -- ---- the row of a pledge
 
 fit_closing_day : (p : PledgeValue) (c : Closing) → IsClosed p c → IsStampDay p.standing.last → IfSome (closing_day c) IsStampDay
-fit_closing_day p closed.Open h last = tt
-fit_closing_day p (closed.Redeemed day paid) h last = subst IsStampDay (sym h.0) last
-fit_closing_day p (closed.Sold day net) h last = subst IsStampDay (sym h.0) last
+fit_closing_day p Closing.Open h last = tt
+fit_closing_day p (Closing.Redeemed day paid) h last = subst IsStampDay (sym h.0) last
+fit_closing_day p (Closing.Sold day net) h last = subst IsStampDay (sym h.0) last
 
 fit_amount : (p : PledgeValue) (c : Closing) → IsClosed p c → IsColumnNumber (total_on p p.standing.last) → IfSome (closing_amount c) IsColumnNumber
-fit_amount p closed.Open h total = tt
-fit_amount p (closed.Redeemed day paid) h total = subst IsColumnNumber (sym (h.1 ∙ ap (total_on p) h.0)) total
-fit_amount p (closed.Sold day net) h total = omega (arith, h.2)
+fit_amount p Closing.Open h total = tt
+fit_amount p (Closing.Redeemed day paid) h total = subst IsColumnNumber (sym (h.1 ∙ ap (total_on p) h.0)) total
+fit_amount p (Closing.Sold day net) h total = omega (arith, h.2)
 
 fit_columns : (terms : List Rates) (p : PledgeValue) → length terms ≤ 1000 → IsUnder terms p → IsStanding p → HasTextsAndWords p → AreColumns (pledge_columns p)
 fit_columns terms p few under h written =
@@ -171,7 +151,7 @@ books_are_held v k h knows =
     )
 
 pub texts_are_read : TextsAreRead
-texts_are_read k h = held_texts_are_read k (books_are_held version.Two k h tt)
+texts_are_read k h = held_texts_are_read k (books_are_held Version.Two k h tt)
 
 pub texts_of_hosts_are_read : TextsOfHostsAreRead
 texts_of_hosts_are_read h b book sound at =

@@ -1,8 +1,6 @@
 -- Only rows that are laid out are taken, and why others are refused.
 use Rattle.pawn_csv.proofs.Basics.{◌≡◌, ◌∙◌, ◌⊎◌, inl, inr, ◌+◌, ◌≤◌, ◌<◌, ℕ, Bool, true, false, List, [], ◌∷◌, ◌++◌, length, map, Option, Some, None, Result, Ok, Err, refl, sym, ap, subst, arith, cond, nat_lt, nat_le, ◌==◌, ◌&&◌, ◌||◌, AreNumbered, BookRows, Booking, Each, Entry, Extension, Issued, PledgeValue, flat_map, most_entries, most_extensions, most_pledges, most_secrets, most_terms, and_parts, nat_tests, AreLaidFrom, Begun, Cause, IsBegunOf, IsWithin, Knows, NotReplayableIsOfNoBook, PledgeColumns, RawPledge, RefusedAreNoFront, Row, TakenAreLaidOut, TooManyIsAboveALimit, Version, hand, has_secret, in_order, is_nil, is_none, is_whole, laid_rows, may_end, on_hand, on_second, place, place_book, place_booking, place_entry, place_extension, place_first, place_pledge, place_secret, pledges_begun, put_hand, raw_of, raw_pledge, raw_rows, run, terms_rows, then_run, unless_full}
-use Rattle.pawn_csv.specs.declared.fault.Cause.TheVariants as cause
-use Rattle.pawn_csv.specs.declared.row.Version.TheVariants as version
-use Rattle.pawn_csv.proofs.BookLemmas.{guard_then, run_grows, second_only}
+use Rattle.pawn_csv.proofs.BookLemmas.{guard_then, run_grows, second_only, whole_counts}
 use Rattle.pawn_csv.proofs.OrderLemmas.{guard_err, guard_ok, ok_same}
 use Rattle.pawn_csv.proofs.TakenLemmas.{book_rows_are, layouts_are_taken, longer, run_book}
 
@@ -40,7 +38,7 @@ numbered_push k (x ∷ es) e numbered at = (numbered.0, numbered_push (k + 1) es
 not_full : {A : Type 0} (count most : ℕ) (answer : Result A Cause) (y : A) → unless_full count most answer ≡ Ok y → count < most
 not_full count most answer y h = go (nat_le most count) refl h
   where
-    go : (full : Bool) → nat_le most count ≡ full → cond full (Err cause.TooMany) answer ≡ Ok y → count < most
+    go : (full : Bool) → nat_le most count ≡ full → cond full (Err Cause.TooMany) answer ≡ Ok y → count < most
     go true is h = cc
     go false is h = grind (arith, nat_tests, is)
 
@@ -50,7 +48,7 @@ secret_within : (v : Version) (p q : RawPledge) (at : ℕ) (x : Issued) → plac
 secret_within v p q at x h within =
     let few = not_full (length p.secrets) most_secrets _ q h in
     let new : RawPledge = record p { secrets = p.secrets ++ x ∷ [] } in
-    let g = guard_ok _ new q cause.Order (guard_err (nat_le most_secrets (length p.secrets)) _ q cause.TooMany h) in
+    let g = guard_ok _ new q Cause.Order (guard_err (nat_le most_secrets (length p.secrets)) _ q Cause.TooMany h) in
     subst (λ (r : RawPledge). (r.columns ≡ p.columns) × IsWithin v r) g.1
     (refl, record { secrets = (let more = longer p.secrets x in omega (arith, more, few)); entries = within.entries; extensions = within.extensions; numbered = within.numbered; known = within.known })
 
@@ -58,7 +56,7 @@ entry_within : (v : Version) (p q : RawPledge) (x : Entry) → place_entry p x �
 entry_within v p q x h within =
     let few = not_full (length p.entries) most_entries _ q h in
     let new : RawPledge = record p { entries = p.entries ++ x ∷ [] } in
-    let g = guard_ok ((x.seq == length p.entries + 1) && has_secret p && is_nil p.extensions && is_none p.booking) new q cause.Order (guard_err (nat_le most_entries (length p.entries)) _ q cause.TooMany h) in
+    let g = guard_ok ((x.seq == length p.entries + 1) && has_secret p && is_nil p.extensions && is_none p.booking) new q Cause.Order (guard_err (nat_le most_entries (length p.entries)) _ q Cause.TooMany h) in
     let w = and_parts ((x.seq == length p.entries + 1) && has_secret p && is_nil p.extensions) (is_none p.booking) g.0 in
     let u = and_parts ((x.seq == length p.entries + 1) && has_secret p) (is_nil p.extensions) w.0 in
     let first = (and_parts (x.seq == length p.entries + 1) (has_secret p) u.0).0 in
@@ -66,17 +64,17 @@ entry_within v p q x h within =
     subst (λ (r : RawPledge). (r.columns ≡ p.columns) × IsWithin v r) g.1
     (refl, record { secrets = within.secrets; entries = (let more = longer p.entries x in omega (arith, more, few)); extensions = within.extensions; numbered = numbered_push 1 p.entries x within.numbered next; known = within.known })
 
-extension_within : (p q : RawPledge) (at : ℕ) (x : Extension) → place_extension p at x ≡ Ok q → IsWithin version.Two p → (q.columns ≡ p.columns) × IsWithin version.Two q
+extension_within : (p q : RawPledge) (at : ℕ) (x : Extension) → place_extension p at x ≡ Ok q → IsWithin Version.Two p → (q.columns ≡ p.columns) × IsWithin Version.Two q
 extension_within p q at x h within =
     let few = not_full (length p.extensions) most_extensions _ q h in
     let new : RawPledge = record p { extensions = p.extensions ++ x ∷ [] } in
-    let g = guard_ok _ new q cause.Order (guard_err (nat_le most_extensions (length p.extensions)) _ q cause.TooMany h) in
-    subst (λ (r : RawPledge). (r.columns ≡ p.columns) × IsWithin version.Two r) g.1
+    let g = guard_ok _ new q Cause.Order (guard_err (nat_le most_extensions (length p.extensions)) _ q Cause.TooMany h) in
+    subst (λ (r : RawPledge). (r.columns ≡ p.columns) × IsWithin Version.Two r) g.1
     (refl, record { secrets = within.secrets; entries = within.entries; extensions = (let more = longer p.extensions x in omega (arith, more, few)); numbered = within.numbered; known = λ one. cc })
 
 booking_within : (v : Version) (p q : RawPledge) (x : Booking) → place_booking p x ≡ Ok q → IsWithin v p → (q.columns ≡ p.columns) × IsWithin v q
 booking_within v p q x h within =
-    let g = guard_ok _ (record p { booking = Some x }) q cause.Order h in
+    let g = guard_ok _ (record p { booking = Some x }) q Cause.Order h in
     subst (λ (r : RawPledge). (r.columns ≡ p.columns) × IsWithin v r) g.1
     (refl, record { secrets = within.secrets; entries = within.entries; extensions = within.extensions; numbered = within.numbered; known = within.known })
 
@@ -85,7 +83,7 @@ hand_kept : (b c : Begun) (number : ℕ) (o : Option RawPledge) (f : RawPledge �
     → ((p q : RawPledge) → f p ≡ Ok q → IsWithin b.version p → (q.columns ≡ p.columns) × IsWithin b.version q) → IsLaidSoFar b → IsLaidSoFar c
 hand_kept b c number None f at h keeps laid = cc
 hand_kept b c number (Some p) f at h keeps laid =
-    let guard = guard_then (p.columns.number == number) (put_hand b (f p)) c cause.Order h in
+    let guard = guard_then (p.columns.number == number) (put_hand b (f p)) c Cause.Order h in
     let here : IsLaidHand b.version b.pledges (Some p) = subst (IsLaidHand b.version b.pledges) at laid.at_hand in
     elim (f p) as (λ v. f p ≡ v → put_hand b v ≡ Ok c → IsLaidSoFar c) [
       | Ok q ↦ λ is put.
@@ -102,7 +100,7 @@ hand_kept b c number (Some p) f at h keeps laid =
 pledge_kept : (b c : Begun) (x : PledgeColumns) → place_pledge b x ≡ Ok c → IsLaidSoFar b → IsLaidSoFar c
 pledge_kept b c x h laid =
     let new : Begun = record b { pledges = pledges_begun b; at_hand = Some (raw_pledge x) } in
-    let g = guard_ok ((length b.terms == b.terms_due) && may_end b.at_hand && (x.number == length (pledges_begun b) + 1) && nat_le x.number b.pledges_due) new c cause.Order h in
+    let g = guard_ok ((length b.terms == b.terms_due) && may_end b.at_hand && (x.number == length (pledges_begun b) + 1) && nat_le x.number b.pledges_due) new c Cause.Order h in
     let w = and_parts ((length b.terms == b.terms_due) && may_end b.at_hand && (x.number == length (pledges_begun b) + 1)) (nat_le x.number b.pledges_due) g.0 in
     let u = and_parts ((length b.terms == b.terms_due) && may_end b.at_hand) (x.number == length (pledges_begun b) + 1) w.0 in
     let over = (and_parts (length b.terms == b.terms_due) (may_end b.at_hand) u.0).1 in
@@ -124,18 +122,13 @@ place_kept None (Row.Book v t p) c h laid = go (nat_lt most_terms t || nat_lt mo
     new : Begun
     new = record { version = v; terms_due = t; pledges_due = p; terms = []; pledges = []; at_hand = None }
 
-    go : (many : Bool) → (nat_lt most_terms t || nat_lt most_pledges p) ≡ many → cond many (Err cause.TooMany) (Ok new) ≡ Ok c → IsLaidSoFar c
+    go : (many : Bool) → (nat_lt most_terms t || nat_lt most_pledges p) ≡ many → cond many (Err Cause.TooMany) (Ok new) ≡ Ok c → IsLaidSoFar c
     go true is h = cc
     go false is h = subst IsLaidSoFar (ok_same new c h) (record { few_terms = grind (arith, nat_tests, is); few_pledges = grind (arith, nat_tests, is); pledges = tt; at_hand = tt })
-place_kept None (Row.Terms v x) c h laid = cc
-place_kept None (Row.Pledge x) c h laid = cc
-place_kept None (Row.Secret n at x) c h laid = cc
-place_kept None (Row.Entry n x) c h laid = cc
-place_kept None (Row.Extension n at x) c h laid = cc
-place_kept None (Row.Booking n x) c h laid = cc
-place_kept (Some b) (Row.Book v t p) c h laid = let e = guard_err (nat_lt most_terms t || nat_lt most_pledges p) _ c cause.TooMany h in cc
+place_kept None r c h laid = cc
+place_kept (Some b) (Row.Book v t p) c h laid = let e = guard_err (nat_lt most_terms t || nat_lt most_pledges p) _ c Cause.TooMany h in cc
 place_kept (Some b) (Row.Terms v x) c h laid =
-    let g = guard_ok _ (record b { terms = b.terms ++ x ∷ [] }) c cause.Order h in
+    let g = guard_ok _ (record b { terms = b.terms ++ x ∷ [] }) c Cause.Order h in
     subst IsLaidSoFar g.1 (record { few_terms = laid.few_terms; few_pledges = laid.few_pledges; pledges = laid.pledges; at_hand = laid.at_hand })
 place_kept (Some b) (Row.Pledge x) c h laid = pledge_kept b c x h laid
 place_kept (Some b) (Row.Secret n at x) c h laid = hand_kept b c n b.at_hand (λ p. place_secret p at x) refl h (λ p q is. secret_within b.version p q at x is) laid
@@ -158,17 +151,12 @@ run_kept (r ∷ rows) s t h laid =
 
 pub taken_are_laid_out : TakenAreLaidOut
 taken_are_laid_out rows b ran whole =
-    let w = and_parts ((length b.terms == b.terms_due) && (length (pledges_begun b) == b.pledges_due)) (may_end b.at_hand) whole in
-    let u = and_parts (length b.terms == b.terms_due) (length (pledges_begun b) == b.pledges_due) w.0 in
-    let first = u.0 in
-    let second = u.1 in
-    let terms : b.terms_due ≡ length b.terms = grind (arith, nat_tests, first) in
-    let pledges : b.pledges_due ≡ length (pledges_begun b) = grind (arith, nat_tests, second) in
+    let (terms, pledges, ended) = whole_counts b whole in
     let laid = run_kept rows None (Some b) ran tt in
     let few_terms = laid.few_terms in
     let few_pledges = laid.few_pledges in
     let shown = (run_grows rows None (Some b) ran tt).0 in (
-      record { few_terms = omega (arith, terms, few_terms); few_pledges = omega (arith, pledges, few_pledges); laid = laid_all b.version b.pledges b.at_hand laid.pledges laid.at_hand w.1 },
+      record { few_terms = omega (arith, terms, few_terms); few_pledges = omega (arith, pledges, few_pledges); laid = laid_all b.version b.pledges b.at_hand laid.pledges laid.at_hand ended },
       sym shown ∙ (λ i. Row.Book b.version (terms i) (pledges i) ∷ (terms_rows 1 b.terms ++ flat_map raw_rows (pledges_begun b))),
     )
 
@@ -188,50 +176,45 @@ refused_are_no_front rows more c v terms pledges refused laid same =
     absurd (let e = sym (still_refused rows more None c refused) ∙ ap (run None) same ∙ took.1 in cc)
 
 -- a list that is full, or another answer
-full : {A : Type 0} (count most : ℕ) (answer : Result A Cause) → (answer ≡ Err cause.TooMany → ⊥) → unless_full count most answer ≡ Err cause.TooMany → most ≤ count
+full : {A : Type 0} (count most : ℕ) (answer : Result A Cause) → (answer ≡ Err Cause.TooMany → ⊥) → unless_full count most answer ≡ Err Cause.TooMany → most ≤ count
 full count most answer other h = go (nat_le most count) refl h
   where
-    go : (full' : Bool) → nat_le most count ≡ full' → cond full' (Err cause.TooMany) answer ≡ Err cause.TooMany → most ≤ count
+    go : (full' : Bool) → nat_le most count ≡ full' → cond full' (Err Cause.TooMany) answer ≡ Err Cause.TooMany → most ≤ count
     go true is h = grind (arith, nat_tests, is)
     go false is h = absurd (other h)
 
-in_order_not_many : {A : Type 0} (test : Bool) (x : A) → in_order test x ≡ Err cause.TooMany → ⊥
+in_order_not_many : {A : Type 0} (test : Bool) (x : A) → in_order test x ≡ Err Cause.TooMany → ⊥
 in_order_not_many true x h = cc
 in_order_not_many false x h = cc
 
-hand_many : (b : Begun) (number : ℕ) (o : Option RawPledge) (f : RawPledge → Result RawPledge Cause) → on_hand b number o f ≡ Err cause.TooMany → (p : RawPledge) × (o ≡ Some p) × (f p ≡ Err cause.TooMany)
+hand_many : (b : Begun) (number : ℕ) (o : Option RawPledge) (f : RawPledge → Result RawPledge Cause) → on_hand b number o f ≡ Err Cause.TooMany → (p : RawPledge) × (o ≡ Some p) × (f p ≡ Err Cause.TooMany)
 hand_many b number None f h = cc
 hand_many b number (Some p) f h = (p, refl, go (p.columns.number == number) (f p) h)
   where
-    go : (test : Bool) (x : Result RawPledge Cause) → cond test (put_hand b x) (Err cause.Order) ≡ Err cause.TooMany → x ≡ Err cause.TooMany
+    go : (test : Bool) (x : Result RawPledge Cause) → cond test (put_hand b x) (Err Cause.Order) ≡ Err Cause.TooMany → x ≡ Err Cause.TooMany
     go true (Ok q) h = cc
     go true (Err e) h = cc
     go false x h = cc
 
-second_many : (v : Version) (x : Result Begun Cause) → on_second v x ≡ Err cause.TooMany → x ≡ Err cause.TooMany
-second_many version.One x h = cc
-second_many version.Two x h = h
+second_many : (v : Version) (x : Result Begun Cause) → on_second v x ≡ Err Cause.TooMany → x ≡ Err Cause.TooMany
+second_many Version.One x h = cc
+second_many Version.Two x h = h
 
-book_many : (s : Option Begun) (v : Version) (t p : ℕ) → place_book s v t p ≡ Err cause.TooMany → (most_terms < t) ⊎ (most_pledges < p)
+book_many : (s : Option Begun) (v : Version) (t p : ℕ) → place_book s v t p ≡ Err Cause.TooMany → (most_terms < t) ⊎ (most_pledges < p)
 book_many s v t p h = go (nat_lt most_terms t) (nat_lt most_pledges p) refl refl h
   where
-    go : (a b : Bool) → nat_lt most_terms t ≡ a → nat_lt most_pledges p ≡ b → cond (a || b) (Err cause.TooMany) (place_first s v t p) ≡ Err cause.TooMany → (most_terms < t) ⊎ (most_pledges < p)
+    go : (a b : Bool) → nat_lt most_terms t ≡ a → nat_lt most_pledges p ≡ b → cond (a || b) (Err Cause.TooMany) (place_first s v t p) ≡ Err Cause.TooMany → (most_terms < t) ⊎ (most_pledges < p)
     go true b is at h = inl (grind (arith, nat_tests, is))
     go false true is at h = inr (grind (arith, nat_tests, at))
     go false false is at h = absurd (first s h)
       where
-        first : (o : Option Begun) → place_first o v t p ≡ Err cause.TooMany → ⊥
+        first : (o : Option Begun) → place_first o v t p ≡ Err Cause.TooMany → ⊥
         first None h = cc
         first (Some b) h = cc
 
 pub too_many_is_above_a_limit : TooManyIsAboveALimit
 too_many_is_above_a_limit None (Row.Book v t p) h = book_many None v t p h
-too_many_is_above_a_limit None (Row.Terms v x) h = cc
-too_many_is_above_a_limit None (Row.Pledge x) h = cc
-too_many_is_above_a_limit None (Row.Secret n at x) h = cc
-too_many_is_above_a_limit None (Row.Entry n x) h = cc
-too_many_is_above_a_limit None (Row.Extension n at x) h = cc
-too_many_is_above_a_limit None (Row.Booking n x) h = cc
+too_many_is_above_a_limit None r h = cc
 too_many_is_above_a_limit (Some b) (Row.Book v t p) h = book_many (Some b) v t p h
 too_many_is_above_a_limit (Some b) (Row.Terms v x) h = in_order_not_many _ _ h
 too_many_is_above_a_limit (Some b) (Row.Pledge x) h = in_order_not_many _ _ h
@@ -250,13 +233,13 @@ too_many_is_above_a_limit (Some b) (Row.Booking n x) h =
 
 -- ---- rows of no book
 
-known_from : (v : Version) (n : ℕ) (ps : List PledgeValue) → AreLaidFrom n v (map raw_of ps) → v ≡ version.One → Each (λ p. p.extensions ≡ []) ps
+known_from : (v : Version) (n : ℕ) (ps : List PledgeValue) → AreLaidFrom n v (map raw_of ps) → v ≡ Version.One → Each (λ p. p.extensions ≡ []) ps
 known_from v n [] laid one = tt
 known_from v n (p ∷ ps) laid one = (laid.2.known one, known_from v (n + 1) ps laid.3 one)
 
 knows : (v : Version) (k : BookRows) → AreLaidFrom 1 v (map raw_of k.pledges) → Knows v k
-knows version.One k laid = known_from version.One 1 k.pledges laid refl
-knows version.Two k laid = tt
+knows Version.One k laid = known_from Version.One 1 k.pledges laid refl
+knows Version.Two k laid = tt
 
 same_begun : (s : Option Begun) (b c : Begun) → s ≡ Some b → s ≡ Some c → b ≡ c
 same_begun s b c x y = let e = sym x ∙ y in cc

@@ -1,6 +1,6 @@
 -- The rows of a list that is handed out, put one by one.
 use Rattle.pawn_csv.proofs.Basics.{◌≡◌, ◌∙◌, ℕ, ◌+◌, ◌-◌, ◌^◌, ◌≤◌, suc, Bool, false, List, [], ◌∷◌, ◌++◌, length, Option, Some, None, refl, sym, ap, subst, inl, inr, arith, length-append, append_assoc, if◌then◌else◌, End, Entry, Extension, Flow, Go, Handed, Host, IsShare, IsSound, Issued, PledgeValue, Stop, entries_of, extensions_of, flat_map, get, pledge_in, secrets_of, append-nil, standing_at, PutsAt, PutsRow, PutsRowsShare, entry_row_text, entry_rows, extension_line, extension_rows, has_ended, secret_line, secret_rows, text_of_row}
-use Rattle.pawn_csv.specs.declared.exporting.RowWriter.{RowWriter}
+use Rattle.pawn_csv.specs.Types.{RowWriter}
 use Rattle.pawn_csv.proofs.SentLemmas.{puts_nil, puts_then}
 
 -- the rows of a list from a place on

@@ -1,7 +1,5 @@
 -- A text holds one book.
-use Rattle.pawn_csv.proofs.Basics.{◌≡◌, ◌∙◌, ◌++◌, ◌∷◌, ◌≤◌, ℕ, [], Bool, true, false, List, length, Option, Some, refl, sym, ap, subst, arith, nat_le, Agreement, BookRows, Each, IsUnder, PledgeValue, Rates, Standing, default_config, map, append-nil, nat_tests, AreTaken, Begun, ClosingWord, IsBegunOf, IsFinishedAs, IsReadAs, RawPledge, TextsHoldOneBook, raw_of}
-use Rattle.csv.specs.declared.parser.State.TheVariants as st
-use Rattle.pawn_csv.specs.declared.row.ClosingWord.TheVariants as closing
+use Rattle.pawn_csv.proofs.Basics.{◌≡◌, ◌∙◌, ◌++◌, ◌∷◌, ◌≤◌, ℕ, [], Bool, true, false, List, length, Option, Some, refl, sym, ap, subst, arith, nat_le, Agreement, BookRows, Each, IsUnder, PledgeValue, Rates, Standing, default_config, map, append-nil, nat_tests, AreTaken, Begun, ClosingWord, IsBegunOf, IsFinishedAs, IsReadAs, RawPledge, TextsHoldOneBook, raw_of, State}
 use Rattle.pawn_csv.proofs.OneReading.{no_further, reached_on, taken_same}
 use Rattle.pawn_csv.proofs.TakenLemmas.{texts_are_read_as}
 use Rattle.pawn_csv.proofs.FinishLemmas.{same_closing, same_rates}
@@ -52,7 +50,7 @@ one_finish s j k hj hk =
 
 shorter : (text : List ℕ) (j k : BookRows) (a : IsReadAs text j) (b : IsReadAs text k) → length a.0 ≤ length b.0 → j ≡ k
 shorter text j k a b short =
-    let (more, whole, on) = reached_on default_config a.0 b.0 st.StartRecord text a.3.0 a.3.1 b.3.0 b.3.1 a.3.2 b.3.2 short in
+    let (more, whole, on) = reached_on default_config a.0 b.0 State.StartRecord text a.3.0 a.3.1 b.3.0 b.3.1 a.3.2 b.3.2 short in
     let none = no_further a.3.0 a.3.1 more b.3.0 b.3.1 a.3.3 on in
     let same : a.0 ≡ b.0 = sym (append-nil a.0) ∙ ap (λ (x : List (List (List ℕ))). a.0 ++ x) (sym none) ∙ whole in
     let begun = taken_same a.0 a.1 b.1 a.2 b.2 a.4 (subst (λ (x : List (List (List ℕ))). AreTaken x b.1 b.2) (sym same) b.4) in

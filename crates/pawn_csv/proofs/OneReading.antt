@@ -1,8 +1,6 @@
 -- A text has one reading.
 use Rattle.pawn_csv.proofs.Basics.{◌≡◌, ◌≢◌, ◌⊎◌, ◌∙◌, ◌++◌, ◌∷◌, ◌+◌, ◌<◌, ◌≤◌, [], ℕ, Bool, true, false, List, length, Option, Some, None, Result, Ok, Err, refl, sym, ap, subst, inl, inr, arith, nat_le, BookRows, Each, Reached, Read, State, default_config, map, nat_eq, next_record, append-nil, nat_tests, AreTaken, Begun, Cause, EndsReadingAs, FirstFaultsAreOne, FirstFaultsExcludeBooks, FitsColumns, IsBegunOf, IsFinishedAs, IsFirstCause, IsNoRow, IsOfNoBook, IsReadAs, IsRowRefused, RefusesEnd, RefusesRow, Row, Taking, header, is_whole, place, row_fields, run, then_run}
-use Rattle.csv.specs.declared.parser.State.TheVariants as st
 use Rattle.csv.specs.declared.parser.Config.{Config}
-use Rattle.pawn_csv.specs.declared.fault.Cause.TheVariants as cause
 use Rattle.pawn_csv.proofs.OneSpelling.{one_row}
 use Rattle.pawn_csv.proofs.TakenLemmas.{texts_are_read_as}
 
@@ -81,7 +79,7 @@ no_refusal fields s r b c fits spelled placed a =
     no_answer (place s a.0) b c (subst (λ (x : Row). place s x ≡ Ok b) same placed) a.2
 
 -- columns that were taken are refused for no cause
-not_taken : (x : List (List ℕ)) (s : Option Begun) (r : Row) (u : Begun) → FitsColumns r → x ≡ row_fields r → place s r ≡ Ok u → (e : Cause) → e ≢ cause.Memory → RefusesRow x s e → ⊥
+not_taken : (x : List (List ℕ)) (s : Option Begun) (r : Row) (u : Begun) → FitsColumns r → x ≡ row_fields r → place s r ≡ Ok u → (e : Cause) → e ≢ Cause.Memory → RefusesRow x s e → ⊥
 not_taken x s r u fits spelled placed e other (inl memory) = other memory
 not_taken x s r u fits spelled placed e other (inr (inl few)) = few.1 (ap length spelled ∙ fifteen r)
 not_taken x s r u fits spelled placed e other (inr (inr (inl none))) = none.2 r fits spelled
@@ -100,7 +98,7 @@ tail_is : (r : Row) (rs : List Row) (f : List (List ℕ)) (fs : List (List (List
 tail_is r rs f fs e = cc
 
 -- a record behind others that were taken, and taken with them, is not refused where they leave off
-taken_after : (x : List (List ℕ)) (more fs : List (List (List ℕ))) (front whole : List Row) (from s t : Option Begun) (c : Cause) → c ≢ cause.Memory
+taken_after : (x : List (List ℕ)) (more fs : List (List (List ℕ))) (front whole : List Row) (from s t : Option Begun) (c : Cause) → c ≢ Cause.Memory
     → map row_fields front ≡ fs → Each FitsColumns front → run from front ≡ Ok s
     → map row_fields whole ≡ fs ++ x ∷ more → Each FitsColumns whole → run from whole ≡ Ok t → RefusesRow x s c → ⊥
 taken_after x more [] [] [] from s t c why e fits ran e2 fits2 ran2 refused = absurd (omega (arith, ap length e2))
@@ -120,7 +118,7 @@ taken_after x more (f ∷ fs) (g ∷ gs) (w ∷ ws) from s t c why e fits ran e2
     (subst (λ (b : Begun). run (Some b) ws ≡ Ok t) (sym one) on2) refused
 
 taken_next : (before : List (List (List ℕ))) (x : List (List ℕ)) (more : List (List (List ℕ))) (rows others : List Row) (s t : Option Begun) (c : Cause)
-    → c ≢ cause.Memory → AreTaken before rows s → AreTaken (before ++ x ∷ more) others t
+    → c ≢ Cause.Memory → AreTaken before rows s → AreTaken (before ++ x ∷ more) others t
     → Taking (nat_eq (length before) 0) x s (let r : Result (Unit {0}) Cause = Err c in r) s → ⊥
 taken_next [] x more rows others s t c why a b refused = refused.0 b.0
 taken_next (h ∷ rs) x more rows others s t c why a b refused =
@@ -136,7 +134,7 @@ Stops before state rest s c =
 
 -- they stop where no other reading goes on
 goes_on : (before : List (List (List ℕ))) (x : List (List ℕ)) (more : List (List (List ℕ))) (rows others : List Row) (s t : Option Begun) (c : Cause) (state : State) (rest : List ℕ) (s2 : State) (ys : List ℕ)
-    → c ≢ cause.Memory → AreTaken before rows s → AreTaken (before ++ x ∷ more) others t → Reached default_config state rest (x ∷ more) s2 ys → Stops before state rest s c → ⊥
+    → c ≢ Cause.Memory → AreTaken before rows s → AreTaken (before ++ x ∷ more) others t → Reached default_config state rest (x ∷ more) s2 ys → Stops before state rest s c → ⊥
 goes_on before x more rows others s t c state rest s2 ys why taken taken2 on (inl w) =
     let (p, next, is) = next_of default_config state rest x more s2 ys on in
     let same = same_read w.0 p _ w.1 next in
@@ -147,9 +145,9 @@ goes_on before x more rows others s t c state rest s2 ys why taken taken2 on (in
 
 -- why columns are refused: they are too few or too many, they spell no row, or their row is refused
 abbrev pub Verdict : List (List ℕ) → Option Begun → Cause → Type 0
-Verdict x s e = ((e ≡ cause.Csv) × (length x ≢ length header)) ⊎ (((e ≡ cause.BadField) × (length x ≡ length header) × IsNoRow x) ⊎ IsRowRefused x s e)
+Verdict x s e = ((e ≡ Cause.Csv) × (length x ≢ length header)) ⊎ (((e ≡ Cause.BadField) × (length x ≡ length header) × IsNoRow x) ⊎ IsRowRefused x s e)
 
-verdict_of : (x : List (List ℕ)) (s : Option Begun) (e : Cause) → e ≢ cause.Memory → RefusesRow x s e → Verdict x s e
+verdict_of : (x : List (List ℕ)) (s : Option Begun) (e : Cause) → e ≢ Cause.Memory → RefusesRow x s e → Verdict x s e
 verdict_of x s e other (inl memory) = absurd (other memory)
 verdict_of x s e other (inr verdict) = verdict
 
@@ -164,34 +162,34 @@ one_verdict x s c d (inr (inr a)) (inl b) = absurd (b.1 (ap length a.1.1 ∙ fif
 one_verdict x s c d (inr (inr a)) (inr (inl b)) = absurd (b.2 a.0 a.1.0 a.1.1)
 one_verdict x s c d (inr (inr a)) (inr (inr b)) = one_refusal x s c d a b
 
-one_taking : (first : Bool) (x : List (List ℕ)) (s : Option Begun) (c d : Cause) → c ≢ cause.Memory → d ≢ cause.Memory
+one_taking : (first : Bool) (x : List (List ℕ)) (s : Option Begun) (c d : Cause) → c ≢ Cause.Memory → d ≢ Cause.Memory
     → Taking first x s (let r : Result (Unit {0}) Cause = Err c in r) s → Taking first x s (let r : Result (Unit {0}) Cause = Err d in r) s → c ≡ d
 one_taking true x s c d hc hd a b = a.1 ∙ sym b.1
 one_taking false x s c d hc hd a b = one_verdict x s c d (verdict_of x s c hc a) (verdict_of x s d hd b)
 
 -- why the end is refused: rows are wanting, or they make no book
-end_of : (s : Option Begun) (e : Cause) → e ≢ cause.Memory → RefusesEnd s e → ((e ≡ cause.Order) × (is_whole s ≡ false)) ⊎ ((e ≡ cause.NotReplayable) × IsOfNoBook s)
-end_of s cause.Order other says = inl (refl, says)
-end_of s cause.NotReplayable other says = inr (refl, says)
-end_of s cause.Memory other says = absurd (other refl)
+end_of : (s : Option Begun) (e : Cause) → e ≢ Cause.Memory → RefusesEnd s e → ((e ≡ Cause.Order) × (is_whole s ≡ false)) ⊎ ((e ≡ Cause.NotReplayable) × IsOfNoBook s)
+end_of s Cause.Order other says = inl (refl, says)
+end_of s Cause.NotReplayable other says = inr (refl, says)
+end_of s Cause.Memory other says = absurd (other refl)
 end_of s e other says = absurd says
 
 whole_or_not : (v : Bool) → v ≡ false → v ≡ true → ⊥
 whole_or_not v a b = let e = sym a ∙ b in cc
 
-one_end : (before : List (List (List ℕ))) (s : Option Begun) (c d : Cause) → c ≢ cause.Memory → d ≢ cause.Memory → EndsReadingAs before s c → EndsReadingAs before s d → c ≡ d
+one_end : (before : List (List (List ℕ))) (s : Option Begun) (c d : Cause) → c ≢ Cause.Memory → d ≢ Cause.Memory → EndsReadingAs before s c → EndsReadingAs before s d → c ≡ d
 one_end [] s c d hc hd a b = a ∙ sym b
 one_end (h ∷ rs) s c d hc hd a b = from (end_of s c hc a) (end_of s d hd b)
   where
-    from : ((c ≡ cause.Order) × (is_whole s ≡ false)) ⊎ ((c ≡ cause.NotReplayable) × IsOfNoBook s)
-        → ((d ≡ cause.Order) × (is_whole s ≡ false)) ⊎ ((d ≡ cause.NotReplayable) × IsOfNoBook s) → c ≡ d
+    from : ((c ≡ Cause.Order) × (is_whole s ≡ false)) ⊎ ((c ≡ Cause.NotReplayable) × IsOfNoBook s)
+        → ((d ≡ Cause.Order) × (is_whole s ≡ false)) ⊎ ((d ≡ Cause.NotReplayable) × IsOfNoBook s) → c ≡ d
     from (inl x) (inl y) = x.0 ∙ sym y.0
     from (inl x) (inr y) = absurd (whole_or_not (is_whole s) x.1 y.1.2)
     from (inr x) (inl y) = absurd (whole_or_not (is_whole s) y.1 x.1.2)
     from (inr x) (inr y) = x.0 ∙ sym y.0
 
 -- they stop for one cause
-one_stop : (before : List (List (List ℕ))) (state : State) (rest : List ℕ) (s : Option Begun) (c d : Cause) → c ≢ cause.Memory → d ≢ cause.Memory
+one_stop : (before : List (List (List ℕ))) (state : State) (rest : List ℕ) (s : Option Begun) (c d : Cause) → c ≢ Cause.Memory → d ≢ Cause.Memory
     → Stops before state rest s c → Stops before state rest s d → c ≡ d
 one_stop before state rest s c d hc hd (inl a) (inl b) =
     let same = same_read b.0 a.0 _ b.1 a.1 in
@@ -202,7 +200,7 @@ one_stop before state rest s c d hc hd (inr a) (inl b) = absurd (no_read b.0 _ a
 one_stop before state rest s c d hc hd (inr a) (inr b) = one_end before s c d hc hd a.1 b.1
 
 -- of two first faults one reading goes on from the other, and so nowhere
-no_longer : (text : List ℕ) (c d : Cause) (m n : ℕ) (f : IsFirstCause text c m) (g : IsFirstCause text d n) → c ≢ cause.Memory
+no_longer : (text : List ℕ) (c d : Cause) (m n : ℕ) (f : IsFirstCause text c m) (g : IsFirstCause text d n) → c ≢ Cause.Memory
     → (more : List (List (List ℕ))) → f.at.before ++ more ≡ g.at.before → Reached default_config f.at.state f.at.rest more g.at.state g.at.rest → more ≡ []
 no_longer text c d m n f g why [] whole on = refl
 no_longer text c d m n f g why (x ∷ more) whole on =
@@ -210,10 +208,10 @@ no_longer text c d m n f g why (x ∷ more) whole on =
     (subst (λ (b : List (List (List ℕ))). AreTaken b g.at.rows g.at.begun) (sym whole) g.at.taken) on f.why)
 
 -- one that is no shorter has the same cause and the same row
-same_fault : (text : List ℕ) (c d : Cause) (m n : ℕ) (f : IsFirstCause text c m) (g : IsFirstCause text d n) → c ≢ cause.Memory → d ≢ cause.Memory
+same_fault : (text : List ℕ) (c d : Cause) (m n : ℕ) (f : IsFirstCause text c m) (g : IsFirstCause text d n) → c ≢ Cause.Memory → d ≢ Cause.Memory
     → length f.at.before ≤ length g.at.before → (c ≡ d) × (m ≡ n)
 same_fault text c d m n f g hc hd short =
-    let (more, whole, on) = reached_on default_config f.at.before g.at.before st.StartRecord text f.at.state f.at.rest g.at.state g.at.rest f.at.reached g.at.reached short in
+    let (more, whole, on) = reached_on default_config f.at.before g.at.before State.StartRecord text f.at.state f.at.rest g.at.state g.at.rest f.at.reached g.at.reached short in
     let none = no_longer text c d m n f g hc more whole on in
     let same : f.at.before ≡ g.at.before = sym (append-nil f.at.before) ∙ ap (λ (b : List (List (List ℕ))). f.at.before ++ b) (sym none) ∙ whole in
     let (states, rests) = ended default_config f.at.state f.at.rest g.at.state g.at.rest (subst (λ (b : List (List (List ℕ))). Reached default_config f.at.state f.at.rest b g.at.state g.at.rest) none on) in
@@ -231,7 +229,7 @@ first_faults_are_one text c d m n hc hd f g = from (nat_le (length f.at.before) 
 
 -- a text that is read to its end has no fault
 no_fault_in : (text : List ℕ) (c : Cause) (m : ℕ) (k : BookRows) (f : IsFirstCause text c m) (records : List (List (List ℕ))) (rows : List Row) (s : Option Begun) (s2 : State) (ys : List ℕ)
-    → c ≢ cause.Memory → Reached default_config st.StartRecord text records s2 ys → next_record default_config s2 [] [] ys ≡ None → AreTaken records rows s → IsFinishedAs s k
+    → c ≢ Cause.Memory → Reached default_config State.StartRecord text records s2 ys → next_record default_config s2 [] [] ys ≡ None → AreTaken records rows s → IsFinishedAs s k
     → (more : List (List (List ℕ))) → f.at.before ++ more ≡ records → Reached default_config f.at.state f.at.rest more s2 ys → ⊥
 no_fault_in text c m k f records rows s s2 ys hc all none taken finished (x ∷ more) whole on =
     goes_on f.at.before x more f.at.rows rows f.at.begun s c f.at.state f.at.rest s2 ys hc f.at.taken (subst (λ (b : List (List (List ℕ))). AreTaken b rows s) (sym whole) taken) on f.why
@@ -243,7 +241,7 @@ no_fault_in text c m k f records rows s s2 ys hc all none taken finished [] whol
     begun : f.at.begun ≡ s
     begun = taken_same f.at.before f.at.rows rows f.at.begun s f.at.taken (subst (λ (b : List (List (List ℕ))). AreTaken b rows s) (sym same) taken)
 
-    ends : (e : Option Begun) → e ≡ s → ((c ≡ cause.Order) × (is_whole e ≡ false)) ⊎ ((c ≡ cause.NotReplayable) × IsOfNoBook e) → ⊥
+    ends : (e : Option Begun) → e ≡ s → ((c ≡ Cause.Order) × (is_whole e ≡ false)) ⊎ ((c ≡ Cause.NotReplayable) × IsOfNoBook e) → ⊥
     ends e is (inl x) = whole_or_not (is_whole s) (subst (λ (o : Option Begun). is_whole o ≡ false) is x.1) finished.2
     ends e is (inr x) =
         let b : x.1.0 ≡ finished.0 = (let a = sym x.1.1 ∙ is ∙ finished.1 in cc) in
@@ -270,15 +268,15 @@ no_further state rest [] s2 ys none on = refl
 no_further state rest (x ∷ more) s2 ys none on = let (p, next, is) = next_of default_config state rest x more s2 ys on in absurd (no_read p _ none next)
 
 -- a text with a first fault is read as no book
-no_reading : (text : List ℕ) (c : Cause) (m : ℕ) (k : BookRows) → c ≢ cause.Memory → IsFirstCause text c m → IsReadAs text k → ⊥
+no_reading : (text : List ℕ) (c : Cause) (m : ℕ) (k : BookRows) → c ≢ Cause.Memory → IsFirstCause text c m → IsReadAs text k → ⊥
 no_reading text c m k hc f read = from (nat_le (length f.at.before) (length read.0)) refl
   where
     from : (v : Bool) → nat_le (length f.at.before) (length read.0) ≡ v → ⊥
     from true is =
-        let (more, whole, on) = reached_on default_config f.at.before read.0 st.StartRecord text f.at.state f.at.rest read.3.0 read.3.1 f.at.reached read.3.2 (grind (arith, nat_tests, is)) in
+        let (more, whole, on) = reached_on default_config f.at.before read.0 State.StartRecord text f.at.state f.at.rest read.3.0 read.3.1 f.at.reached read.3.2 (grind (arith, nat_tests, is)) in
         no_fault_in text c m k f read.0 read.1 read.2 read.3.0 read.3.1 hc read.3.2 read.3.3 read.4 read.5 more whole on
     from false is =
-        let (more, whole, on) = reached_on default_config read.0 f.at.before st.StartRecord text read.3.0 read.3.1 f.at.state f.at.rest read.3.2 f.at.reached (grind (arith, nat_tests, is)) in
+        let (more, whole, on) = reached_on default_config read.0 f.at.before State.StartRecord text read.3.0 read.3.1 f.at.state f.at.rest read.3.2 f.at.reached (grind (arith, nat_tests, is)) in
         let none = no_further read.3.0 read.3.1 more f.at.state f.at.rest read.3.3 on in
         let same : read.0 ≡ f.at.before = sym (append-nil read.0) ∙ ap (λ (b : List (List (List ℕ))). read.0 ++ b) (sym none) ∙ whole in
         let longer : length f.at.before < length read.0 + 1 = omega (arith, ap length same) in

@@ -3,10 +3,6 @@ use Rattle.pawn_csv.proofs.Basics.{◌≡◌, ◌∙◌, ◌^◌, ◌<◌, ◌-�
 use Rattle.pawn_terms.proofs.CalendarLemmas.{civil_after_is, count_of}
 use Rattle.pawn_terms.proofs.TextLemmas.{civil_of-stamp, civil_text-injective}
 use Rattle.pawn_pledge.specs.declared.record.BookingState.{BookingState}
-use Rattle.pawn_pledge.specs.declared.record.BookingState.TheVariants as state
-use Rattle.pawn_pledge.specs.declared.record.Issue.TheVariants as issue
-use Rattle.pawn_csv.specs.declared.row.ClosingWord.TheVariants as closing
-use Rattle.pawn_csv.specs.declared.row.Version.TheVariants as version
 
 -- columns
 
@@ -42,8 +38,8 @@ number_if_any (Some n) None ha hb e = absurd (omega (arith, ap length e, decimal
 number_if_any (Some n) (Some m) ha hb e = ap (λ (d : ℕ). Some d) (number n m ha hb e)
 
 version_word : (a b : Version) → form_text a ≡ form_text b → a ≡ b
-version_word version.One version.One e = refl
-version_word version.Two version.Two e = refl
+version_word Version.One Version.One e = refl
+version_word Version.Two Version.Two e = refl
 version_word a b e = absurd (omega (arith, letter 0 (form_text a) (form_text b) e))
 
 yes_word : (a b : Bool) → yes_text a ≡ yes_text b → a ≡ b
@@ -52,15 +48,15 @@ yes_word false false e = refl
 yes_word a b e = absurd (omega (arith, letter 0 (yes_text a) (yes_text b) e))
 
 closing_word : (a b : ClosingWord) → closing_text a ≡ closing_text b → a ≡ b
-closing_word closing.Open closing.Open e = refl
-closing_word closing.Redeemed closing.Redeemed e = refl
-closing_word closing.Sold closing.Sold e = refl
+closing_word ClosingWord.Open ClosingWord.Open e = refl
+closing_word ClosingWord.Redeemed ClosingWord.Redeemed e = refl
+closing_word ClosingWord.Sold ClosingWord.Sold e = refl
 closing_word a b e = absurd (omega (arith, letter 0 (closing_text a) (closing_text b) e))
 
 issue_word : (a b : Issue) → issue_text a ≡ issue_text b → a ≡ b
-issue_word issue.Opening issue.Opening e = refl
-issue_word issue.Sworn issue.Sworn e = refl
-issue_word issue.Written issue.Written e = refl
+issue_word Issue.Opening Issue.Opening e = refl
+issue_word Issue.Sworn Issue.Sworn e = refl
+issue_word Issue.Written Issue.Written e = refl
 issue_word a b e = absurd (omega (arith, letter 0 (issue_text a) (issue_text b) e))
 
 sort_word : (a b : Sort) → sort_text a ≡ sort_text b → a ≡ b
@@ -69,10 +65,10 @@ sort_word Repay Repay e = refl
 sort_word a b e = absurd (omega (arith, letter 0 (sort_text a) (sort_text b) e))
 
 state_word : (a b : BookingState) → state_text a ≡ state_text b → a ≡ b
-state_word state.Asked state.Asked e = refl
-state_word state.Confirmed state.Confirmed e = refl
-state_word state.Refused state.Refused e = refl
-state_word state.Cancelled state.Cancelled e = refl
+state_word BookingState.Asked BookingState.Asked e = refl
+state_word BookingState.Confirmed BookingState.Confirmed e = refl
+state_word BookingState.Refused BookingState.Refused e = refl
+state_word BookingState.Cancelled BookingState.Cancelled e = refl
 state_word a b e = absurd (omega (arith, letter 1 (state_text a) (state_text b) e))
 
 kind : (a b : Kind) → kind_text a ≡ kind_text b → credit_of a ≡ credit_of b → a ≡ b

@@ -1,6 +1,5 @@
 -- Rows that were taken are shown by what they made.
 use Rattle.pawn_csv.proofs.Basics.{◌≡◌, ◌∙◌, ◌+◌, ℕ, Bool, true, false, List, [], ◌∷◌, ◌++◌, length, Option, Some, None, Result, Ok, Err, refl, sym, ap, subst, append_assoc, arith, cond, nat_le, ◌==◌, ◌&&◌, and_parts, append-nil, map-append, nat_tests, Booking, Entry, Extension, Issued, most_entries, most_extensions, most_secrets, Cause, RawPledge, Row, entry_rows, extension_rows, has_secret, is_nil, is_none, list_rows, place_booking, place_entry, place_extension, place_secret, raw_rows, secret_rows}
-use Rattle.pawn_csv.specs.declared.fault.Cause.TheVariants as cause
 
 pub ok_same : {A : Type 0} (x y : A) → (let r : Result A Cause = Ok x in r ≡ Ok y) → x ≡ y
 ok_same x y h = cc
@@ -68,7 +67,7 @@ Shows p q row = raw_rows q ≡ raw_rows p ++ row ∷ []
 pub secret_shown : (p q : RawPledge) (at : ℕ) (x : Issued) → place_secret p at x ≡ Ok q → Shows p q (Row.Secret p.columns.number at x)
 secret_shown p q at x h =
     let new : RawPledge = record p { secrets = p.secrets ++ x ∷ [] } in
-    let guard = guard_ok ((at == length p.secrets + 1) && is_nil p.entries && is_nil p.extensions && is_none p.booking) new q cause.Order (guard_err (nat_le most_secrets (length p.secrets)) _ q cause.TooMany h) in
+    let guard = guard_ok ((at == length p.secrets + 1) && is_nil p.entries && is_nil p.extensions && is_none p.booking) new q Cause.Order (guard_err (nat_le most_secrets (length p.secrets)) _ q Cause.TooMany h) in
     let w = and_parts ((at == length p.secrets + 1) && is_nil p.entries && is_nil p.extensions) (is_none p.booking) guard.0 in
     let v = and_parts ((at == length p.secrets + 1) && is_nil p.entries) (is_nil p.extensions) w.0 in
     let u = and_parts (at == length p.secrets + 1) (is_nil p.entries) v.0 in
@@ -82,7 +81,7 @@ secret_shown p q at x h =
 pub entry_shown : (p q : RawPledge) (x : Entry) → place_entry p x ≡ Ok q → Shows p q (Row.Entry p.columns.number x)
 entry_shown p q x h =
     let new : RawPledge = record p { entries = p.entries ++ x ∷ [] } in
-    let guard = guard_ok ((x.seq == length p.entries + 1) && has_secret p && is_nil p.extensions && is_none p.booking) new q cause.Order (guard_err (nat_le most_entries (length p.entries)) _ q cause.TooMany h) in
+    let guard = guard_ok ((x.seq == length p.entries + 1) && has_secret p && is_nil p.extensions && is_none p.booking) new q Cause.Order (guard_err (nat_le most_entries (length p.entries)) _ q Cause.TooMany h) in
     let w = and_parts ((x.seq == length p.entries + 1) && has_secret p && is_nil p.extensions) (is_none p.booking) guard.0 in
     let v = and_parts ((x.seq == length p.entries + 1) && has_secret p) (is_nil p.extensions) w.0 in
     let n = p.columns.number in
@@ -93,7 +92,7 @@ entry_shown p q x h =
 pub extension_shown : (p q : RawPledge) (at : ℕ) (x : Extension) → place_extension p at x ≡ Ok q → Shows p q (Row.Extension p.columns.number at x)
 extension_shown p q at x h =
     let new : RawPledge = record p { extensions = p.extensions ++ x ∷ [] } in
-    let guard = guard_ok ((at == length p.extensions + 1) && has_secret p && is_none p.booking) new q cause.Order (guard_err (nat_le most_extensions (length p.extensions)) _ q cause.TooMany h) in
+    let guard = guard_ok ((at == length p.extensions + 1) && has_secret p && is_none p.booking) new q Cause.Order (guard_err (nat_le most_extensions (length p.extensions)) _ q Cause.TooMany h) in
     let w = and_parts ((at == length p.extensions + 1) && has_secret p) (is_none p.booking) guard.0 in
     let v = and_parts (at == length p.extensions + 1) (has_secret p) w.0 in
     let first = v.0 in
@@ -106,7 +105,7 @@ extension_shown p q at x h =
 pub booking_shown : (p q : RawPledge) (x : Booking) → place_booking p x ≡ Ok q → Shows p q (Row.Booking p.columns.number x)
 booking_shown p q x h =
     let new : RawPledge = record p { booking = Some x } in
-    let guard = guard_ok (has_secret p && is_none p.booking) new q cause.Order h in
+    let guard = guard_ok (has_secret p && is_none p.booking) new q Cause.Order h in
     let t = and_parts (has_secret p) (is_none p.booking) guard.0 in
     let n = p.columns.number in
     let rows : raw_rows new ≡ raw_rows p ++ Row.Booking n x ∷ [] =

@@ -1,9 +1,6 @@
 -- The records so far, and what they make.
 use Rattle.pawn_csv.proofs.Basics.{◌≡◌, ◌≢◌, ◌∙◌, ◌+◌, ℕ, Bool, true, false, List, [], ◌∷◌, ◌++◌, length, map, Option, Some, None, Result, Ok, Err, refl, sym, ap, subst, arith, nat_eq, inl, inr, BookRows, ErrorKind, ExplainsRead, IfSome, NextIs, Reached, Read, ReadRecord, ReadsNext, State, default_config, next_record, pending_of, source_of, Each-push, length-append, map-append, nat_tests, AnswersBegun, AreTaken, AreTakenBefore, Begun, Cause, CauseOf, Ends, EndsReadingAs, Fails, FitsColumns, IsFaultOf, IsFinishedAs, IsFirstCause, IsReadAs, IsSpelled, RefusesRow, Row, Taking, place, row_fields, run, then_run}
-use Rattle.csv.specs.declared.error.ErrorKind.TheVariants as kind
-use Rattle.pawn_csv.specs.declared.fault.Cause.TheVariants as cause
 use Rattle.csv.specs.declared.reader.Reader.{Reader}
-use Rattle.csv.specs.declared.parser.State.TheVariants as st
 use Rattle.csv.proofs.ReadFacts.{rows-end, rows-more}
 
 pub record SoFar {R : Type 0} (rem : R → Option (List ℕ)) (text : List ℕ) (reader : Reader R) (index : ℕ) (raw : Option Begun) : Type 0 where
@@ -11,7 +8,7 @@ pub record SoFar {R : Type 0} (rem : R → Option (List ℕ)) (text : List ℕ) 
   pub source : source_of rem reader ≡ Some rest
   pub records : List (List (List ℕ))
   pub rows : List Row
-  pub reached : Reached default_config st.StartRecord text records reader.state rest
+  pub reached : Reached default_config State.StartRecord text records reader.state rest
   pub taken : AreTaken records rows raw
   pub count : length records ≡ index
 
@@ -46,7 +43,7 @@ taken_more u (h ∷ rs) rows i f raw new count taken step =
 pub so_far_more : {R U : Type 0} (u : U) (rem : R → Option (List ℕ)) (text : List ℕ) (a b : Reader R) (i : ℕ) (f : List (List ℕ)) (raw new : Option Begun)
     → a.config ≡ default_config → SoFar rem text a i raw → ReadRecord rem a b true f → Taking (nat_eq i 0) f raw (let r : Result U Cause = Ok u in r) new → SoFar rem text b (i + 1) new
 so_far_more u rem text a b i f raw new config so read step =
-    let (z, at_z, reached) = rows-more rem a b f default_config st.StartRecord text so.rest so.records config so.source so.reached read in
+    let (z, at_z, reached) = rows-more rem a b f default_config State.StartRecord text so.rest so.records config so.source so.reached read in
     let (rows, taken) = taken_more u so.records so.rows i f raw new so.count so.taken step in
     record { rest = z; source = at_z; records = so.records ++ f ∷ []; rows = rows; reached = reached; taken = taken; count = grind (arith, length-append so.records (f ∷ []), so.count) }
 
@@ -63,8 +60,8 @@ where_told (Some x) P h = h x refl
 
 -- a first fault is the text's, whatever its cause
 pub first_is : (text : List ℕ) (c : Cause) (row : ℕ) → IsFirstCause text c row → IsFaultOf text c row
-first_is text cause.Memory row h = h.at
-first_is text cause.Read row h = h.at
+first_is text Cause.Memory row h = h.at
+first_is text Cause.Read row h = h.at
 first_is text c row h = h
 
 -- the records so far were taken before the next row
@@ -83,12 +80,12 @@ so_far_before rem text a i raw so = record {
 -- an error of a reader that takes any length is the reader's own or memory's
 pub reader_fault : {R : Type 0} (rem : R → Option (List ℕ)) (text : List ℕ) (a b : Reader R) (i : ℕ) (raw : Option Begun) (k : ErrorKind) (c : Cause)
     → a.flexible ≡ true → SoFar rem text a i raw → ExplainsRead rem a b false k → CauseOf k c → IsFaultOf text c (i + 1)
-reader_fault rem text a b i raw (kind.Io e) c flexible so why is = subst (λ (x : Cause). IsFaultOf text x (i + 1)) (sym is) (so_far_before rem text a i raw so)
-reader_fault rem text a b i raw kind.OutOfMemory c flexible so why is = subst (λ (x : Cause). IsFaultOf text x (i + 1)) (sym is) (so_far_before rem text a i raw so)
-reader_fault rem text a b i raw (kind.UnequalLengths pos expected len) c flexible so why is = absurd (let e = sym flexible ∙ why.0 in cc)
-reader_fault rem text a b i raw (kind.Utf8 pos err) c flexible so why is = absurd (let e = why.0 in cc)
-reader_fault rem text a b i raw (kind.Serialize t) c flexible so why is = absurd why
-reader_fault rem text a b i raw (kind.Deserialize pos err) c flexible so why is = absurd why
+reader_fault rem text a b i raw (ErrorKind.Io e) c flexible so why is = subst (λ (x : Cause). IsFaultOf text x (i + 1)) (sym is) (so_far_before rem text a i raw so)
+reader_fault rem text a b i raw ErrorKind.OutOfMemory c flexible so why is = subst (λ (x : Cause). IsFaultOf text x (i + 1)) (sym is) (so_far_before rem text a i raw so)
+reader_fault rem text a b i raw (ErrorKind.UnequalLengths pos expected len) c flexible so why is = absurd (let e = sym flexible ∙ why.0 in cc)
+reader_fault rem text a b i raw (ErrorKind.Utf8 pos err) c flexible so why is = absurd (let e = why.0 in cc)
+reader_fault rem text a b i raw (ErrorKind.Serialize t) c flexible so why is = absurd why
+reader_fault rem text a b i raw (ErrorKind.Deserialize pos err) c flexible so why is = absurd why
 
 -- the record that was read is the next one
 next_is : (o : Option Read) (f : List (List ℕ)) (s : State) (ys : List ℕ) → NextIs o true f s ys → (p : Read) × (o ≡ Some p) × (f ≡ p.0)
@@ -106,10 +103,10 @@ refused_as false f raw new other c h = h
 
 end_refused : (records : List (List (List ℕ))) (raw : Option Begun) (c : Cause) → length records ≢ 0 → (let r : Result BookRows Cause = Err c in Ends raw r) → EndsReadingAs records raw c
 end_refused [] raw c some h = absurd (some refl)
-end_refused (h ∷ rs) raw cause.Memory some is = tt
+end_refused (h ∷ rs) raw Cause.Memory some is = tt
 end_refused (h ∷ rs) raw c some is = is
 
-end_empty : (records : List (List (List ℕ))) (raw : Option Begun) → length records ≡ 0 → EndsReadingAs records raw cause.Columns
+end_empty : (records : List (List (List ℕ))) (raw : Option Begun) → length records ≡ 0 → EndsReadingAs records raw Cause.Columns
 end_empty [] raw none = refl
 end_empty (h ∷ rs) raw none = absurd (omega (arith, none))
 
@@ -134,15 +131,15 @@ so_far_unfinished rem text a b i f raw c config so read some refused =
 
 -- a text without records is refused
 pub so_far_empty : {R : Type 0} (rem : R → Option (List ℕ)) (text : List ℕ) (a b : Reader R) (i : ℕ) (f : List (List ℕ)) (raw : Option Begun)
-    → a.config ≡ default_config → SoFar rem text a i raw → ReadRecord rem a b false f → i ≡ 0 → IsFaultOf text cause.Columns 1
+    → a.config ≡ default_config → SoFar rem text a i raw → ReadRecord rem a b false f → i ≡ 0 → IsFaultOf text Cause.Columns 1
 so_far_empty rem text a b i f raw config so read none =
-    subst (λ (n : ℕ). IsFirstCause text cause.Columns (n + 1)) none (record {
+    subst (λ (n : ℕ). IsFirstCause text Cause.Columns (n + 1)) none (record {
       at = so_far_before rem text a i raw so;
       why = inr (rows-end rem a b f default_config so.rest config so.source read, end_empty so.records raw (so.count ∙ none));
     })
 
 refused_for : (fs : List (List ℕ)) (s : Option Begun) (r : Row) (c : Cause) → IsSpelled fs r → Fails (place s r) c → RefusesRow fs s c
-refused_for fs s r cause.Memory spelled h = inl refl
+refused_for fs s r Cause.Memory spelled h = inl refl
 refused_for fs s r c spelled h = inr (inr (inr (r, spelled, h)))
 
 -- a row that is placed, or refused there

@@ -1,8 +1,6 @@
 -- The text of a book, read back.
-use Rattle.pawn_csv.proofs.Basics.{◌≡◌, ◌++◌, ◌∷◌, [], List, refl, map, BookRows, Reached, default_config, default_writer, escaped, fields_text, flat_map, is_blank, next_record, read_back, row_text, strip_bom, ℕ, None, IsHeldBy, IsTextOf, Row, csv_of, header, row_fields, rows_of_csv}
-use Rattle.csv.specs.declared.parser.State.TheVariants as st
+use Rattle.pawn_csv.proofs.Basics.{◌≡◌, ◌++◌, ◌∷◌, [], List, refl, map, BookRows, Reached, default_config, default_writer, escaped, fields_text, flat_map, is_blank, next_record, read_back, row_text, strip_bom, ℕ, None, IsHeldBy, IsTextOf, Row, csv_of, header, row_fields, rows_of_csv, State, Version}
 use Rattle.csv.proofs.RoundTrip.{read-write}
-use Rattle.pawn_csv.specs.declared.row.Version.TheVariants as version
 
 -- a record of more than one column is read as it is
 row_back : (r : Row) → read_back (row_fields r) ≡ row_fields r
@@ -10,12 +8,12 @@ row_back (Row.Book v t p) = refl
 row_back r = refl
 
 -- written records are read back
-rows_reached : (rows : List Row) → Reached default_config st.StartRecord (flat_map (row_text default_writer) (map row_fields rows)) (map row_fields rows) st.StartRecord []
+rows_reached : (rows : List Row) → Reached default_config State.StartRecord (flat_map (row_text default_writer) (map row_fields rows)) (map row_fields rows) State.StartRecord []
 unfolding Reached
 rows_reached [] = (refl, refl)
-rows_reached (r ∷ rs) = ((row_fields r, st.StartRecord, flat_map (row_text default_writer) (map row_fields rs)), (rw (row_back r) at (read-write (row_fields r) (flat_map (row_text default_writer) (map row_fields rs)))), refl, rows_reached rs)
+rows_reached (r ∷ rs) = ((row_fields r, State.StartRecord, flat_map (row_text default_writer) (map row_fields rs)), (rw (row_back r) at (read-write (row_fields r) (flat_map (row_text default_writer) (map row_fields rs)))), refl, rows_reached rs)
 
-at_end : next_record default_config st.StartRecord [] [] [] ≡ None
+at_end : next_record default_config State.StartRecord [] [] [] ≡ None
 unfolding next_record
 at_end = refl
 
@@ -25,8 +23,8 @@ unfolding strip_bom escaped fields_text is_blank
 no_mark rest = refl
 
 -- the text of a book that a text can hold
-pub held_texts_are_read : (k : BookRows) → IsHeldBy version.Two k → IsTextOf (strip_bom (csv_of k)) k
+pub held_texts_are_read : (k : BookRows) → IsHeldBy Version.Two k → IsTextOf (strip_bom (csv_of k)) k
 unfolding Reached
 held_texts_are_read k held =
-    let tail = flat_map (row_text default_writer) (map row_fields (rows_of_csv version.Two k)) in
-    (version.Two, rw (no_mark tail) (st.StartRecord, [], ((header, st.StartRecord, tail), read-write header tail, refl, rows_reached (rows_of_csv version.Two k)), at_end), held)
+    let tail = flat_map (row_text default_writer) (map row_fields (rows_of_csv Version.Two k)) in
+    (Version.Two, rw (no_mark tail) (State.StartRecord, [], ((header, State.StartRecord, tail), read-write header tail, refl, rows_reached (rows_of_csv Version.Two k)), at_end), held)

@@ -1,8 +1,6 @@
 -- The rows of a book are taken to their end.
 use Rattle.pawn_csv.proofs.Basics.{◌≡◌, ◌∙◌, ◌+◌, ◌≤◌, ◌<◌, ℕ, Bool, true, false, List, [], ◌∷◌, ◌++◌, length, map, Option, Some, None, Result, Ok, Err, refl, sym, ap, subst, append_assoc, arith, cond, nat_lt, nat_le, ◌==◌, ◌&&◌, ◌||◌, not, AreIssued, AreNumbered, AreNumberedFrom, AreReplayable, BookRows, Booking, Each, Entry, Extension, IsNumber, IsStanding, IsUnder, Issued, PledgeValue, Rates, flat_map, most_entries, most_extensions, most_pledges, most_secrets, most_terms, and_from, append-nil, nat_tests, AreLaidFrom, Begun, Cause, IsBegunOf, IsLaidOut, IsWithin, Knows, LayoutsAreTaken, PledgeColumns, RawPledge, Row, TextsAreReadAs, Version, booking_csv_rows, entry_rows, extension_rows, hand, has_secret, in_order, is_nil, is_whole, laid_rows, list_rows, may_end, on_hand, place, place_booking, place_entry, place_extension, place_secret, put_hand, raw_of, raw_pledge, raw_rows, rows_of_csv, run, secret_rows, terms_rows, then_run, unless_full, version_rows}
 use Rattle.pawn_base.proofs.TestLemmas.{equal}
-use Rattle.pawn_csv.specs.declared.fault.Cause.TheVariants as cause
-use Rattle.pawn_csv.specs.declared.row.Version.TheVariants as version
 use Rattle.pawn_csv.proofs.BookLemmas.{flat_map-raw, length-raw}
 
 -- ---- tests that hold, and rows one after the other
@@ -14,7 +12,7 @@ ordered false x e = cc
 not_full : {A : Type 0} (count most : ℕ) (answer : Result A Cause) → count < most → unless_full count most answer ≡ answer
 not_full count most answer few =
     let test : nat_le most count ≡ false = grind (arith, nat_tests, few) in
-    ap (λ (v : Bool). cond v (Err cause.TooMany) answer) test
+    ap (λ (v : Bool). cond v (Err Cause.TooMany) answer) test
 
 at_most : (n m : ℕ) → n ≤ m → nat_le n m ≡ true
 at_most n m e = grind (arith, nat_tests, e)
@@ -60,7 +58,7 @@ put : (b : Begun) (o : Option RawPledge) (number : ℕ) (p q : RawPledge) (f : R
     → on_hand b number o f ≡ Ok (record b { at_hand = Some q })
 put b o number p q f at same e =
     ap (λ (x : Option RawPledge). on_hand b number x f) at
-    ∙ ap (λ (t : Bool). cond t (put_hand b (f p)) (Err cause.Order)) (equal p.columns.number number same)
+    ∙ ap (λ (t : Bool). cond t (put_hand b (f p)) (Err Cause.Order)) (equal p.columns.number number same)
     ∙ ap (put_hand b) e
 
 run_secrets : (v : Version) (m n k : ℕ) (terms : List Rates) (pledges : List RawPledge) (c : PledgeColumns) (done is : List Issued)
@@ -95,26 +93,26 @@ run_entries v m n k terms pledges c i is done (e ∷ es) numbered at few =
 
 run_extensions : (m n k : ℕ) (terms : List Rates) (pledges : List RawPledge) (c : PledgeColumns) (i : Issued) (is : List Issued) (entries : List Entry) (done xs : List Extension)
     → k ≡ length done + 1 → length done + length xs ≤ most_extensions
-    → run (Some (begun version.Two m n terms pledges (Some (raw c (i ∷ is) entries done None)))) (extension_rows c.number k xs)
-    ≡ Ok (Some (begun version.Two m n terms pledges (Some (raw c (i ∷ is) entries (done ++ xs) None))))
+    → run (Some (begun Version.Two m n terms pledges (Some (raw c (i ∷ is) entries done None)))) (extension_rows c.number k xs)
+    ≡ Ok (Some (begun Version.Two m n terms pledges (Some (raw c (i ∷ is) entries (done ++ xs) None))))
 run_extensions m n k terms pledges c i is entries done [] at few =
-    ap (λ (x : List Extension). let r : Result (Option Begun) Cause = Ok (Some (begun version.Two m n terms pledges (Some (raw c (i ∷ is) entries x None)))) in r) (sym (append-nil done))
+    ap (λ (x : List Extension). let r : Result (Option Begun) Cause = Ok (Some (begun Version.Two m n terms pledges (Some (raw c (i ∷ is) entries x None)))) in r) (sym (append-nil done))
 run_extensions m n k terms pledges c i is entries done (x ∷ xs) at few =
     let old = raw c (i ∷ is) entries done None in
     let new = raw c (i ∷ is) entries (done ++ x ∷ []) None in
-    let b = begun version.Two m n terms pledges (Some old) in
+    let b = begun Version.Two m n terms pledges (Some old) in
     let test = and_from ((k == length done + 1) && true) true (and_from (k == length done + 1) true (equal k (length done + 1) at) refl) refl in
     let taken : place_extension old k x ≡ Ok new = not_full (length done) most_extensions _ (omega (arith, few)) ∙ ordered _ new test in
     step (Some b) (Row.Extension c.number k x) (extension_rows c.number (k + 1) xs) (record b { at_hand = Some new }) (put b b.at_hand c.number old new (λ p. place_extension p k x) refl refl taken)
     ∙ run_extensions m n (k + 1) terms pledges c i is entries (done ++ x ∷ []) xs (omega (arith, at, longer done x)) (omega (arith, few, longer done x))
-    ∙ ap (λ (y : List Extension). let r : Result (Option Begun) Cause = Ok (Some (begun version.Two m n terms pledges (Some (raw c (i ∷ is) entries y None)))) in r) (append_assoc done (x ∷ []) xs)
+    ∙ ap (λ (y : List Extension). let r : Result (Option Begun) Cause = Ok (Some (begun Version.Two m n terms pledges (Some (raw c (i ∷ is) entries y None)))) in r) (append_assoc done (x ∷ []) xs)
 
 -- extensions, where the version knows them
 run_known : (v : Version) (m n : ℕ) (terms : List Rates) (pledges : List RawPledge) (c : PledgeColumns) (i : Issued) (is : List Issued) (entries : List Entry) (xs : List Extension)
-    → (v ≡ version.One → xs ≡ []) → length xs ≤ most_extensions
+    → (v ≡ Version.One → xs ≡ []) → length xs ≤ most_extensions
     → run (Some (begun v m n terms pledges (Some (raw c (i ∷ is) entries [] None)))) (extension_rows c.number 1 xs) ≡ Ok (Some (begun v m n terms pledges (Some (raw c (i ∷ is) entries xs None))))
-run_known version.One m n terms pledges c i is entries xs known few = rw (known refl) refl
-run_known version.Two m n terms pledges c i is entries xs known few = run_extensions m n 1 terms pledges c i is entries [] xs refl (omega (arith, few))
+run_known Version.One m n terms pledges c i is entries xs known few = rw (known refl) refl
+run_known Version.Two m n terms pledges c i is entries xs known few = run_extensions m n 1 terms pledges c i is entries [] xs refl (omega (arith, few))
 
 run_booking : (v : Version) (m n : ℕ) (terms : List Rates) (pledges : List RawPledge) (c : PledgeColumns) (i : Issued) (is : List Issued) (entries : List Entry) (xs : List Extension) (o : Option Booking)
     → run (Some (begun v m n terms pledges (Some (raw c (i ∷ is) entries xs None)))) (booking_csv_rows c.number o) ≡ Ok (Some (begun v m n terms pledges (Some (raw c (i ∷ is) entries xs o))))
@@ -127,7 +125,7 @@ run_booking v m n terms pledges c i is entries xs (Some x) =
 
 -- the rows of a pledge's lists
 run_lists : (v : Version) (m n : ℕ) (terms : List Rates) (pledges : List RawPledge) (c : PledgeColumns) (i : Issued) (is : List Issued) (entries : List Entry) (xs : List Extension) (o : Option Booking)
-    → length (i ∷ is) ≤ most_secrets → AreNumbered 1 entries → length entries ≤ most_entries → (v ≡ version.One → xs ≡ []) → length xs ≤ most_extensions
+    → length (i ∷ is) ≤ most_secrets → AreNumbered 1 entries → length entries ≤ most_entries → (v ≡ Version.One → xs ≡ []) → length xs ≤ most_extensions
     → run (Some (begun v m n terms pledges (Some (raw c [] [] [] None))))
     (secret_rows c.number 1 (i ∷ is) ++ (entry_rows c.number entries ++ (extension_rows c.number 1 xs ++ booking_csv_rows c.number o)))
     ≡ Ok (Some (begun v m n terms pledges (Some (raw c (i ∷ is) entries xs o))))
@@ -213,7 +211,7 @@ are_raw (p ∷ ps) h = (h.0.within.number, are_raw ps h.1)
 begins : (v : Version) (m n : ℕ) → m ≤ most_terms → n ≤ most_pledges → place None (Row.Book v m n) ≡ Ok (begun v m n [] [] None)
 begins v m n few_terms few_pledges =
     let few : (nat_lt most_terms m || nat_lt most_pledges n) ≡ false = grind (arith, nat_tests, few_terms, few_pledges) in
-    ap (λ (t : Bool). let r : Result Begun Cause = cond t (Err cause.TooMany) (Ok (begun v m n [] [] None)) in r) few
+    ap (λ (t : Bool). let r : Result Begun Cause = cond t (Err Cause.TooMany) (Ok (begun v m n [] [] None)) in r) few
 
 -- rows that are laid out are taken to their end
 pub layouts_are_taken : LayoutsAreTaken
@@ -237,7 +235,7 @@ begins_with : (is : List Issued) → has_first is → not (is_nil is) ≡ true
 begins_with [] h = absurd h
 begins_with (i ∷ is) h = refl
 
-laid_from : (v : Version) (k : ℕ) (ps : List PledgeValue) → AreNumberedFrom k ps → Each IsStanding ps → (v ≡ version.One → Each (λ p. p.extensions ≡ []) ps) → AreLaidFrom k v (map raw_of ps)
+laid_from : (v : Version) (k : ℕ) (ps : List PledgeValue) → AreNumberedFrom k ps → Each IsStanding ps → (v ≡ Version.One → Each (λ p. p.extensions ≡ []) ps) → AreLaidFrom k v (map raw_of ps)
 laid_from v k [] numbered stand known = tt
 laid_from v k (p ∷ ps) numbered stand known = (
   numbered.0,
@@ -252,9 +250,9 @@ laid_from v k (p ∷ ps) numbered stand known = (
   laid_from v (k + 1) ps numbered.1 stand.1 (λ one. (known one).1),
 )
 
-plain : (v : Version) (k : BookRows) → Knows v k → v ≡ version.One → Each (λ p. p.extensions ≡ []) k.pledges
-plain version.One k h e = h
-plain version.Two k h e = cc
+plain : (v : Version) (k : BookRows) → Knows v k → v ≡ Version.One → Each (λ p. p.extensions ≡ []) k.pledges
+plain Version.One k h e = h
+plain Version.Two k h e = cc
 
 laid_book : (v : Version) (k : BookRows) → AreReplayable k.terms k.pledges → Knows v k → IsLaidOut v k.terms (map raw_of k.pledges)
 laid_book v k replayable knows = record {

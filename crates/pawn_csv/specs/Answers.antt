@@ -1,12 +1,11 @@
 -- How calls of the code answer, compared with what the order of rows says.
 use Rattle.std.specs.Prelude.{◌≡◌, Option, Some, Result, Ok, Err}
-use Rattle.pawn_csv.specs.declared.fault.Cause.{Cause}
-use Rattle.pawn_csv.specs.declared.fault.Cause.TheVariants as cause
+use Rattle.pawn_csv.specs.Types.{Cause}
 use Rattle.pawn_csv.specs.Order.{Begun}
 
 -- a refusal is the expected one, unless memory was refused
 abbrev pub Fails : {A : Type 0} → Result A Cause → Cause → Type 0
-Fails said cause.Memory = Unit {0}
+Fails said Cause.Memory = Unit {0}
 Fails said e = said ≡ Err e
 
 -- a call answers as expected, and leaves the expected value

@@ -1,15 +1,11 @@
 -- How a column is spelled. Numbers are decimal, days `2024-01-31`, secrets hyphenated with small letters.
 use Rattle.std.specs.Prelude.{ℕ, Bool, true, false, List, [], Option, Some, None, codes}
 use Rattle.pawn_csv.specs.Common.{Fixed, Issue, Kind, Running}
-use Rattle.pawn_pledge.specs.declared.record.Issue.TheVariants as issue
-use Rattle.pawn_csv.specs.declared.row.Version.{Version}
-use Rattle.pawn_csv.specs.declared.row.Version.TheVariants as version
-use Rattle.pawn_csv.specs.declared.row.ClosingWord.{ClosingWord}
-use Rattle.pawn_csv.specs.declared.row.ClosingWord.TheVariants as closing
+use Rattle.pawn_csv.specs.Types.{ClosingWord, Version}
 
 abbrev pub form_text : Version → List ℕ
-form_text version.One = codes "1"
-form_text version.Two = codes "2"
+form_text Version.One = codes "1"
+form_text Version.Two = codes "2"
 
 abbrev pub yes_text : Bool → List ℕ
 yes_text true = codes "yes"
@@ -20,14 +16,14 @@ kind_text (Fixed sum) = codes "fixed"
 kind_text (Running limit) = codes "running"
 
 abbrev pub closing_text : ClosingWord → List ℕ
-closing_text closing.Open = codes "open"
-closing_text closing.Redeemed = codes "redeemed"
-closing_text closing.Sold = codes "sold"
+closing_text ClosingWord.Open = codes "open"
+closing_text ClosingWord.Redeemed = codes "redeemed"
+closing_text ClosingWord.Sold = codes "sold"
 
 abbrev pub issue_text : Issue → List ℕ
-issue_text issue.Opening = codes "opening"
-issue_text issue.Sworn = codes "sworn"
-issue_text issue.Written = codes "written"
+issue_text Issue.Opening = codes "opening"
+issue_text Issue.Sworn = codes "sworn"
+issue_text Issue.Written = codes "written"
 
 -- a column that is empty if there is no value
 abbrev pub text_if_any : (ℕ → List ℕ) → Option ℕ → List ℕ

@@ -10,11 +10,4 @@ pub use Rattle.pawn_csv.specs.Reading.{AreTaken, AreTakenBefore, CauseOf, EndsRe
 pub use Rattle.pawn_csv.specs.Rows.{AreColumns, FitsColumns, IsColumnNumber, Knows, booking_csv_rows, closing_amount, closing_day, closing_word, csv_of, empty_columns, entry_rows, extension_rows, header, pledge_columns, pledge_csv_rows, pledge_fields, row_fields, rows_of_csv, secret_rows, terms_rows, version_rows}
 pub use Rattle.pawn_csv.specs.Sent.{PutsRow, PutsRowsShare, brief_columns, has_ended, seen, text_of_row}
 pub use Rattle.pawn_csv.specs.Spelling.{AreBlankFrom, IsColumnNumberIfAny, IsOpeningOf, IsStampDayIfAny, IsTextColumn, ReadsAs, column_at}
-pub use Rattle.pawn_csv.specs.declared.fault.Cause.{Cause}
-pub use Rattle.pawn_csv.specs.declared.order.RawPledge.{RawPledge}
-pub use Rattle.pawn_csv.specs.declared.row.ClosingWord.{ClosingWord}
-pub use Rattle.pawn_csv.specs.declared.row.PledgeColumns.{PledgeColumns}
-pub use Rattle.pawn_csv.specs.declared.row.Row.{Row}
-pub use Rattle.pawn_csv.specs.declared.row.TheConstants.{COLUMNS}
-pub use Rattle.pawn_csv.specs.declared.row.Version.{Version}
-pub use Rattle.pawn_csv.specs.declared.writing.Sink.{Sink}
+pub use Rattle.pawn_csv.specs.Types.{COLUMNS, Cause, ClosingWord, PledgeColumns, RawPledge, Row, Sink, Version}

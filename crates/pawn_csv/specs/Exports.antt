@@ -2,12 +2,9 @@
 use Rattle.std.specs.Prelude.{◌≡◌, ℕ, ◌+◌, ◌-◌, ◌^◌, min, Bool, true, false, if◌then◌else◌, List, [], Option, Some, None, option_map, unwrap_or, Result, Ok, Err}
 use Rattle.pawn_csv.specs.Common.{Entry, Extension, Flow, Go, Host, Issued, KeepError, PutFront, Stop, ViewFault, Whole, Written, get, rows_of_book, write_failed}
 use Rattle.pawn_writing.specs.Fault.{view_fault}
-use Rattle.pawn_writing.specs.declared.fault.ViewFault.TheVariants as fault
 use Rattle.pawn_csv.specs.Rows.{csv_of}
 use Rattle.pawn_csv.specs.Sent.{PutsRow, has_ended, text_of_row, seen}
-use Rattle.pawn_csv.specs.declared.exporting.RowWriter.{RowWriter}
-use Rattle.pawn_csv.specs.declared.row.Row.{Row}
-use Rattle.pawn_csv.specs.declared.writing.Sink.{Sink}
+use Rattle.pawn_csv.specs.Types.{Row, RowWriter, Sink}
 
 -- the row of a pledge's secret, at its place
 abbrev pub secret_line : ℕ → ℕ → Issued → List ℕ
@@ -35,8 +32,8 @@ text_of h book = option_map (λ at. csv_of (rows_of_book at)) (get h.books book)
 
 -- how an export ends: by the keeper's last answer, whether the writer failed, and whether a row had no memory
 abbrev pub ending_by : Result (Unit {0}) KeepError → Bool → Bool → Result (Unit {0}) ViewFault
-ending_by done true starved = Err fault.Write
-ending_by done false true = Err fault.Memory
+ending_by done true starved = Err ViewFault.Write
+ending_by done false true = Err ViewFault.Memory
 ending_by (Ok u) false false = Ok u
 ending_by (Err error) false false = Err (view_fault error)
 
@@ -47,7 +44,7 @@ sink_ending done sink = ending_by done (write_failed sink.writer) sink.is_starve
 -- no such book. For any other reason the beginning of the text went out.
 abbrev pub Exports : {W U : Type 0} → (W → Option (List ℕ)) → Sink W → Option (List ℕ) → Result U ViewFault → Sink W → Type 0
 Exports contents old text (Ok u) new = (t : List ℕ) × (text ≡ Some t) × Written contents (seen old) t Whole (seen new)
-Exports contents old text (Err fault.Write) new = (t : List ℕ) × (text ≡ Some t) × PutFront contents (seen old) t (seen new) × (write_failed new.writer ≡ true)
-Exports contents old text (Err fault.Memory) new = PutFront contents (seen old) (unwrap_or text []) (seen new) × (write_failed new.writer ≡ false)
-Exports contents old text (Err fault.Store) new = PutFront contents (seen old) (unwrap_or text []) (seen new) × (write_failed new.writer ≡ false)
-Exports contents old text (Err fault.Unknown) new = (text ≡ None) × (new ≡ old)
+Exports contents old text (Err ViewFault.Write) new = (t : List ℕ) × (text ≡ Some t) × PutFront contents (seen old) t (seen new) × (write_failed new.writer ≡ true)
+Exports contents old text (Err ViewFault.Memory) new = PutFront contents (seen old) (unwrap_or text []) (seen new) × (write_failed new.writer ≡ false)
+Exports contents old text (Err ViewFault.Store) new = PutFront contents (seen old) (unwrap_or text []) (seen new) × (write_failed new.writer ≡ false)
+Exports contents old text (Err ViewFault.Unknown) new = (text ≡ None) × (new ≡ old)

@@ -1,26 +1,20 @@
 -- The faults of a text that is no book.
 use Rattle.std.specs.Prelude.{ℕ, List, codes}
-use Rattle.pawn_csv.specs.declared.fault.Cause.{Cause}
-use Rattle.pawn_csv.specs.declared.fault.Cause.TheVariants.{Csv, Columns, BadField, Order, NotReplayable, TooMany, Read, Memory}
+use Rattle.pawn_csv.specs.Types.{Cause}
 
--- a fault's number
+-- a fault's number and its name
+abbrev pub cause_row : Cause → ℕ × List ℕ
+cause_row Cause.Csv = (601, codes "Csv")
+cause_row Cause.Columns = (602, codes "Columns")
+cause_row Cause.BadField = (603, codes "BadField")
+cause_row Cause.Order = (604, codes "Order")
+cause_row Cause.NotReplayable = (605, codes "NotReplayable")
+cause_row Cause.TooMany = (606, codes "TooMany")
+cause_row Cause.Read = (607, codes "Read")
+cause_row Cause.Memory = (491, codes "Memory")
+
 abbrev pub cause_code : Cause → ℕ
-cause_code Csv = 601
-cause_code Columns = 602
-cause_code BadField = 603
-cause_code Order = 604
-cause_code NotReplayable = 605
-cause_code TooMany = 606
-cause_code Read = 607
-cause_code Memory = 491
+cause_code cause = (cause_row cause).0
 
--- a fault's name
 abbrev pub cause_name : Cause → List ℕ
-cause_name Csv = codes "Csv"
-cause_name Columns = codes "Columns"
-cause_name BadField = codes "BadField"
-cause_name Order = codes "Order"
-cause_name NotReplayable = codes "NotReplayable"
-cause_name TooMany = codes "TooMany"
-cause_name Read = codes "Read"
-cause_name Memory = codes "Memory"
+cause_name cause = (cause_row cause).1

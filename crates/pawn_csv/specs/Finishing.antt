@@ -1,10 +1,7 @@
 -- The book that rows make once all of them are read.
 use Rattle.std.specs.Prelude.{◌≡◌, true, false, List, map, Option, Some, Result, Ok, Err}
 use Rattle.pawn_csv.specs.Common.{AreReplayable, BookRows, Closing, Each, IsNumber, IsUnder, PledgeValue, Rates}
-use Rattle.pawn_csv.specs.declared.fault.Cause.{Cause}
-use Rattle.pawn_csv.specs.declared.fault.Cause.TheVariants as cause
-use Rattle.pawn_csv.specs.declared.order.RawPledge.{RawPledge}
-use Rattle.pawn_csv.specs.declared.row.PledgeColumns.{PledgeColumns}
+use Rattle.pawn_csv.specs.Types.{Cause, PledgeColumns, RawPledge}
 use Rattle.pawn_csv.specs.Order.{Begun, is_whole, pledges_begun}
 use Rattle.pawn_csv.specs.Rows.{closing_amount, closing_day, closing_word, pledge_columns}
 
@@ -41,7 +38,7 @@ IsOfNoBook s = (b : Begun) × (s ≡ Some b) × (is_whole s ≡ true) × ((k : B
 -- what the end of the rows comes to: a book, or the cause why there is none
 abbrev pub Ends : Option Begun → Result BookRows Cause → Type 0
 Ends s (Ok k) = IsFinishedAs s k
-Ends s (Err cause.Order) = is_whole s ≡ false
-Ends s (Err cause.NotReplayable) = IsOfNoBook s
-Ends s (Err cause.Memory) = Unit {0}
+Ends s (Err Cause.Order) = is_whole s ≡ false
+Ends s (Err Cause.NotReplayable) = IsOfNoBook s
+Ends s (Err Cause.Memory) = Unit {0}
 Ends s (Err e) = ⊥

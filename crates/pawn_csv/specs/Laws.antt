@@ -1,10 +1,7 @@
 -- Laws of texts and of their rows.
 use Rattle.std.specs.Prelude.{◌≡◌, ◌≢◌, ℕ, List, Some}
 use Rattle.pawn_csv.specs.Common.{BookRows, BookValue, Host, IsSound, get, rows_of_book, strip_bom}
-use Rattle.pawn_csv.specs.declared.fault.Cause.{Cause}
-use Rattle.pawn_csv.specs.declared.fault.Cause.TheVariants as cause
-use Rattle.pawn_csv.specs.declared.row.Row.{Row}
-use Rattle.pawn_csv.specs.declared.row.Version.{Version}
+use Rattle.pawn_csv.specs.Types.{Cause, Row, Version}
 use Rattle.pawn_csv.specs.Reading.{CanBeWritten, IsFirstCause, IsHeldBy, IsReadAs, IsTextOf}
 use Rattle.pawn_csv.specs.Rows.{FitsColumns, Knows, csv_of, row_fields}
 
@@ -33,13 +30,13 @@ RowsHaveOneSpelling = (r s : Row) → FitsColumns r → FitsColumns s → row_fi
 -- a text has only one first fault, in one row
 abbrev pub FirstFaultsAreOne : Type 0
 FirstFaultsAreOne =
-    (text : List ℕ) (c d : Cause) (m n : ℕ) → c ≢ cause.Memory → d ≢ cause.Memory
+    (text : List ℕ) (c d : Cause) (m n : ℕ) → c ≢ Cause.Memory → d ≢ Cause.Memory
     → IsFirstCause text c m → IsFirstCause text d n → (c ≡ d) × (m ≡ n)
 
 -- a text with a first fault holds no book
 abbrev pub FirstFaultsExcludeBooks : Type 0
 FirstFaultsExcludeBooks =
-    (text : List ℕ) (c : Cause) (m : ℕ) (k : BookRows) → c ≢ cause.Memory → IsFirstCause text c m → IsTextOf text k → ⊥
+    (text : List ℕ) (c : Cause) (m : ℕ) (k : BookRows) → c ≢ Cause.Memory → IsFirstCause text c m → IsTextOf text k → ⊥
 
 -- no text holds two books
 abbrev pub TextsHoldOneBook : Type 0

@@ -1,12 +1,7 @@
 -- How the rows of a book are laid out, whether or not it can have come about.
 use Rattle.std.specs.Prelude.{◌≡◌, ◌≢◌, ◌⊎◌, ◌↔◌, ℕ, ◌+◌, ◌≤◌, ◌<◌, true, List, [], ◌∷◌, ◌++◌, length, Option, None, Some, Ok, Err}
 use Rattle.pawn_csv.specs.Common.{AreNumbered, AreReplayable, BookRows, Booking, Entry, Extension, Issued, Rates, flat_map, most_entries, most_extensions, most_pledges, most_secrets, most_terms}
-use Rattle.pawn_csv.specs.declared.fault.Cause.{Cause}
-use Rattle.pawn_csv.specs.declared.fault.Cause.TheVariants as cause
-use Rattle.pawn_csv.specs.declared.order.RawPledge.{RawPledge}
-use Rattle.pawn_csv.specs.declared.row.Row.{Row}
-use Rattle.pawn_csv.specs.declared.row.Version.{Version}
-use Rattle.pawn_csv.specs.declared.row.Version.TheVariants as version
+use Rattle.pawn_csv.specs.Types.{Cause, RawPledge, Row, Version}
 use Rattle.pawn_csv.specs.Order.{Begun, has_secret, is_whole, place, pledges_begun, run}
 use Rattle.pawn_csv.specs.Reading.{RefusesEnd}
 use Rattle.pawn_csv.specs.Rows.{Knows, booking_csv_rows, entry_rows, extension_rows, rows_of_csv, secret_rows, terms_rows}
@@ -26,7 +21,7 @@ pub record IsWithin (v : Version) (p : RawPledge) : Type 0 where
   pub entries : length p.entries ≤ most_entries
   pub extensions : length p.extensions ≤ most_extensions
   pub numbered : AreNumbered 1 p.entries
-  pub known : v ≡ version.One → p.extensions ≡ []
+  pub known : v ≡ Version.One → p.extensions ≡ []
 
 -- pledges are numbered from n on, and each has a secret, of which the first is that of its opening
 abbrev pub AreLaidFrom : ℕ → Version → List RawPledge → Type 0
@@ -75,10 +70,10 @@ IsAboveALimit s (Row.Booking number x) = ⊥
 
 -- only such a row is refused with `TooMany`
 abbrev pub TooManyIsAboveALimit : Type 0
-TooManyIsAboveALimit = (s : Option Begun) (r : Row) → place s r ≡ Err cause.TooMany → IsAboveALimit s r
+TooManyIsAboveALimit = (s : Option Begun) (r : Row) → place s r ≡ Err Cause.TooMany → IsAboveALimit s r
 
 -- rows that are laid out are refused with `NotReplayable` exactly if no book that can have come about has these rows
 abbrev pub NotReplayableIsOfNoBook : Type 0
 NotReplayableIsOfNoBook =
     (v : Version) (terms : List Rates) (pledges : List RawPledge) (s : Option Begun) → IsLaidOut v terms pledges → run None (laid_rows v terms pledges) ≡ Ok s
-    → RefusesEnd s cause.NotReplayable ↔ ((k : BookRows) → AreReplayable k.terms k.pledges → Knows v k → laid_rows v terms pledges ≢ rows_of_csv v k)
+    → RefusesEnd s Cause.NotReplayable ↔ ((k : BookRows) → AreReplayable k.terms k.pledges → Knows v k → laid_rows v terms pledges ≢ rows_of_csv v k)

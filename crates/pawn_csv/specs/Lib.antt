@@ -1,3 +1,4 @@
+pub mod Types
 pub mod Columns
 pub mod Fault
 pub mod Rows

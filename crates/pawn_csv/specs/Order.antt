@@ -1,15 +1,7 @@
 -- The order of rows: what each row does to what was read so far.
 use Rattle.std.specs.Prelude.{ℕ, ◌+◌, nat_le, nat_lt, Bool, true, false, ◌==◌, ◌&&◌, ◌||◌, not, if◌then◌else◌, List, [], ◌∷◌, ◌++◌, length, Option, None, Some, Result, Ok, Err}
 use Rattle.pawn_csv.specs.Common.{Booking, Entry, Extension, Issued, Rates, most_entries, most_extensions, most_pledges, most_secrets, most_terms}
-use Rattle.pawn_csv.specs.declared.fault.Cause.{Cause}
-use Rattle.pawn_csv.specs.declared.fault.Cause.TheVariants as cause
-use Rattle.pawn_csv.specs.declared.order.BegunBook.{BegunBook}
-use Rattle.pawn_csv.specs.declared.order.RawBook.{RawBook}
-use Rattle.pawn_csv.specs.declared.order.RawPledge.{RawPledge}
-use Rattle.pawn_csv.specs.declared.row.PledgeColumns.{PledgeColumns}
-use Rattle.pawn_csv.specs.declared.row.Row.{Row}
-use Rattle.pawn_csv.specs.declared.row.Version.{Version}
-use Rattle.pawn_csv.specs.declared.row.Version.TheVariants as version
+use Rattle.pawn_csv.specs.Types.{BegunBook, Cause, PledgeColumns, RawBook, RawPledge, Row, Version}
 
 -- a book of which some rows were read: what its first row says, its terms, the pledges whose rows are over, and the one at hand
 pub record Begun : Type 0 where
@@ -40,11 +32,11 @@ begun_of raw = view_if_any raw.begun
 
 -- the answer if the test holds, else a row out of order
 abbrev pub in_order : {A : Type 0} → Bool → A → Result A Cause
-in_order test answer = if test then Ok answer else Err cause.Order
+in_order test answer = if test then Ok answer else Err Cause.Order
 
 -- a full list can't grow; this is judged before anything else of the row
 abbrev pub unless_full : {A : Type 0} → ℕ → ℕ → Result A Cause → Result A Cause
-unless_full count most answer = if nat_le most count then Err cause.TooMany else answer
+unless_full count most answer = if nat_le most count then Err Cause.TooMany else answer
 
 -- a pledge whose own row was read
 abbrev pub raw_pledge : PledgeColumns → RawPledge
@@ -80,11 +72,11 @@ may_end (Some p) = has_secret p
 abbrev pub place_first : Option Begun → Version → ℕ → ℕ → Result Begun Cause
 place_first None version terms pledges =
     Ok (record { version = version; terms_due = terms; pledges_due = pledges; terms = []; pledges = []; at_hand = None })
-place_first (Some b) version terms pledges = Err cause.Order
+place_first (Some b) version terms pledges = Err Cause.Order
 
 abbrev pub place_book : Option Begun → Version → ℕ → ℕ → Result Begun Cause
 place_book s version terms pledges =
-    if nat_lt most_terms terms || nat_lt most_pledges pledges then Err cause.TooMany else place_first s version terms pledges
+    if nat_lt most_terms terms || nat_lt most_pledges pledges then Err Cause.TooMany else place_first s version terms pledges
 
 -- the next version of terms, as long as some are due; the pledges come after all of them
 abbrev pub place_terms : Begun → ℕ → Rates → Result Begun Cause
@@ -130,13 +122,13 @@ put_hand b (Err e) = Err e
 
 -- a row of the pledge at hand, and of no other
 abbrev pub on_hand : Begun → ℕ → Option RawPledge → (RawPledge → Result RawPledge Cause) → Result Begun Cause
-on_hand b number None place = Err cause.Order
-on_hand b number (Some p) place = if p.columns.number == number then put_hand b (place p) else Err cause.Order
+on_hand b number None place = Err Cause.Order
+on_hand b number (Some p) place = if p.columns.number == number then put_hand b (place p) else Err Cause.Order
 
 -- an extension is refused in a text of the first version
 abbrev pub on_second : Version → Result Begun Cause → Result Begun Cause
-on_second version.One answer = Err cause.BadField
-on_second version.Two answer = answer
+on_second Version.One answer = Err Cause.BadField
+on_second Version.Two answer = answer
 
 -- a row after the first
 abbrev pub place_after : Begun → Row → Result Begun Cause
@@ -152,7 +144,7 @@ place_after b (Row.Booking number booking) = on_hand b number b.at_hand (λ p. p
 -- the first row
 abbrev pub place_before : Row → Result Begun Cause
 place_before (Row.Book version terms pledges) = place_book None version terms pledges
-place_before other = Err cause.Order
+place_before other = Err Cause.Order
 
 -- what a row does to what was read so far
 abbrev pub place : Option Begun → Row → Result Begun Cause

@@ -1,12 +1,7 @@
 -- What a text holds, and why it holds no book.
 use Rattle.std.specs.Prelude.{◌≡◌, ◌≢◌, ◌⊎◌, ℕ, ◌+◌, nat_eq, Bool, true, false, List, [], ◌∷◌, length, map, Option, None, Some, Result, Ok, Err}
 use Rattle.pawn_csv.specs.Common.{AreRecords, AreReplayable, BookRows, Each, ErrorKind, HasTextsAndWords, Reached, Read, State, default_config, next_record}
-use Rattle.csv.specs.declared.error.ErrorKind.TheVariants as kind
-use Rattle.csv.specs.declared.parser.State.TheVariants as st
-use Rattle.pawn_csv.specs.declared.fault.Cause.{Cause}
-use Rattle.pawn_csv.specs.declared.fault.Cause.TheVariants as cause
-use Rattle.pawn_csv.specs.declared.row.Row.{Row}
-use Rattle.pawn_csv.specs.declared.row.Version.{Version}
+use Rattle.pawn_csv.specs.Types.{Cause, Row, Version}
 use Rattle.pawn_csv.specs.Finishing.{IsFinishedAs, IsOfNoBook}
 use Rattle.pawn_csv.specs.Order.{Begun, place, run, is_whole}
 use Rattle.pawn_csv.specs.Rows.{FitsColumns, Knows, header, row_fields, rows_of_csv, version_rows}
@@ -23,7 +18,7 @@ pub record CanBeWritten (k : BookRows) : Type 0 where
 -- the records of this text are those of the book, in one of the versions
 abbrev pub IsTextOf : List ℕ → BookRows → Type 0
 IsTextOf text k =
-    (version : Version) × AreRecords default_config st.StartRecord text (version_rows version k) × IsHeldBy version k
+    (version : Version) × AreRecords default_config State.StartRecord text (version_rows version k) × IsHeldBy version k
 
 -- these columns spell this row
 abbrev pub IsSpelled : List (List ℕ) → Row → Type 0
@@ -41,15 +36,15 @@ IsRowRefused fields old c = (r : Row) × IsSpelled fields r × (place old r ≡ 
 -- or the row is refused there
 abbrev pub RefusesRow : List (List ℕ) → Option Begun → Cause → Type 0
 RefusesRow fields old c =
-    (c ≡ cause.Memory)
-    ⊎ (((c ≡ cause.Csv) × (length fields ≢ length header))
-    ⊎ (((c ≡ cause.BadField) × (length fields ≡ length header) × IsNoRow fields)
+    (c ≡ Cause.Memory)
+    ⊎ (((c ≡ Cause.Csv) × (length fields ≢ length header))
+    ⊎ (((c ≡ Cause.BadField) × (length fields ≡ length header) × IsNoRow fields)
     ⊎ IsRowRefused fields old c))
 
 -- what taking the next record does: the header is first, and then rows
 abbrev pub Taking : {U : Type 0} → Bool → List (List ℕ) → Option Begun → Result U Cause → Option Begun → Type 0
 Taking true fields old (Ok u) new = (fields ≡ header) × (new ≡ old)
-Taking true fields old (Err e) new = (fields ≢ header) × (e ≡ cause.Columns)
+Taking true fields old (Err e) new = (fields ≢ header) × (e ≡ Cause.Columns)
 Taking false fields old (Ok u) new = (r : Row) × (b : Begun) × IsSpelled fields r × (place old r ≡ Ok b) × (new ≡ Some b)
 Taking false fields old (Err e) new = RefusesRow fields old e
 
@@ -60,14 +55,14 @@ AreTaken (h ∷ rs) rows s = (h ≡ header) × (rs ≡ map row_fields rows) × E
 
 -- why the end of the records is refused: rows are missing, or they make no replayable book
 abbrev pub RefusesEnd : Option Begun → Cause → Type 0
-RefusesEnd s cause.Order = is_whole s ≡ false
-RefusesEnd s cause.NotReplayable = IsOfNoBook s
-RefusesEnd s cause.Memory = Unit {0}
+RefusesEnd s Cause.Order = is_whole s ≡ false
+RefusesEnd s Cause.NotReplayable = IsOfNoBook s
+RefusesEnd s Cause.Memory = Unit {0}
 RefusesEnd s _ = ⊥
 
 -- a text without a record lacks the header
 abbrev pub EndsReadingAs : List (List (List ℕ)) → Option Begun → Cause → Type 0
-EndsReadingAs [] s c = c ≡ cause.Columns
+EndsReadingAs [] s c = c ≡ Cause.Columns
 EndsReadingAs (h ∷ rs) s c = RefusesEnd s c
 
 -- each record before this row is taken: the header, and rows
@@ -77,7 +72,7 @@ pub record AreTakenBefore (text : List ℕ) (row : ℕ) : Type 0 where
   pub state : State
   pub rest : List ℕ
   pub begun : Option Begun
-  pub reached : Reached default_config st.StartRecord text before state rest
+  pub reached : Reached default_config State.StartRecord text before state rest
   pub taken : AreTaken before rows begun
   pub place : length before + 1 ≡ row
 
@@ -91,18 +86,18 @@ pub record IsFirstCause (text : List ℕ) (c : Cause) (row : ℕ) : Type 0 where
 -- refused memory or a failed read may come at any row, once those before it are taken; any other fault is the first of
 -- the text
 abbrev pub IsFaultOf : List ℕ → Cause → ℕ → Type 0
-IsFaultOf text cause.Memory row = AreTakenBefore text row
-IsFaultOf text cause.Read row = AreTakenBefore text row
+IsFaultOf text Cause.Memory row = AreTakenBefore text row
+IsFaultOf text Cause.Read row = AreTakenBefore text row
 IsFaultOf text c row = IsFirstCause text c row
 
 -- the records of this text are taken to their end, and make the book
 abbrev pub IsReadAs : List ℕ → BookRows → Type 0
 IsReadAs text k =
-    (records : List (List (List ℕ))) × (rows : List Row) × (s : Option Begun) × AreRecords default_config st.StartRecord text records × AreTaken records rows s × IsFinishedAs s k
+    (records : List (List (List ℕ))) × (rows : List Row) × (s : Option Begun) × AreRecords default_config State.StartRecord text records × AreTaken records rows s × IsFinishedAs s k
 
 -- the cause for an error of the CSV reader; since it takes any number of columns, the error is a failed read or refused
 -- memory
 abbrev pub CauseOf : ErrorKind → Cause → Type 0
-CauseOf (kind.Io e) c = c ≡ cause.Read
-CauseOf kind.OutOfMemory c = c ≡ cause.Memory
+CauseOf (ErrorKind.Io e) c = c ≡ Cause.Read
+CauseOf ErrorKind.OutOfMemory c = c ≡ Cause.Memory
 CauseOf other c = Unit {0}

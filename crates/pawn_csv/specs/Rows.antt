@@ -1,15 +1,8 @@
 -- A book as rows, and a row as columns.
 use Rattle.std.specs.Prelude.{◌≡◌, ℕ, ◌+◌, ◌-◌, ◌<◌, List, [], ◌∷◌, ◌++◌, length, map, replicate, Option, Some, None, IfSome, codes, decimal}
 use Rattle.pawn_csv.specs.Common.{Agreement, BookRows, Booking, Closing, Each, Entry, Extension, IsOpening, IsStampDay, IsUtf8, IsWord, Issued, PledgeValue, Rates, Standing, credit_of, day_text, default_writer, flat_map, row_text, secret_text, sort_text, state_text}
-use Rattle.pawn_pledge.specs.declared.record.Closing.TheVariants as closed
 use Rattle.pawn_csv.specs.Columns.{form_text, yes_text, kind_text, closing_text, issue_text, text_if_any}
-use Rattle.pawn_csv.specs.declared.row.ClosingWord.{ClosingWord}
-use Rattle.pawn_csv.specs.declared.row.ClosingWord.TheVariants as closing
-use Rattle.pawn_csv.specs.declared.row.PledgeColumns.{PledgeColumns}
-use Rattle.pawn_csv.specs.declared.row.Row.{Row}
-use Rattle.pawn_csv.specs.declared.row.TheConstants.{COLUMNS, NUMBERS_END}
-use Rattle.pawn_csv.specs.declared.row.Version.{Version}
-use Rattle.pawn_csv.specs.declared.row.Version.TheVariants as version
+use Rattle.pawn_csv.specs.Types.{COLUMNS, ClosingWord, NUMBERS_END, PledgeColumns, Row, Version}
 
 -- the first row: the names of the columns
 abbrev pub header : List (List ℕ)
@@ -75,20 +68,20 @@ FitsColumns (Row.Extension number place e) = IsColumnNumber number × IsColumnNu
 FitsColumns (Row.Booking number b) = IsColumnNumber number × IsStampDay b.day × IsColumnNumber b.window
 
 abbrev pub closing_word : Closing → ClosingWord
-closing_word closed.Open = closing.Open
-closing_word (closed.Redeemed day paid) = closing.Redeemed
-closing_word (closed.Sold day net) = closing.Sold
+closing_word Closing.Open = ClosingWord.Open
+closing_word (Closing.Redeemed day paid) = ClosingWord.Redeemed
+closing_word (Closing.Sold day net) = ClosingWord.Sold
 
 abbrev pub closing_day : Closing → Option ℕ
-closing_day closed.Open = None
-closing_day (closed.Redeemed day paid) = Some day
-closing_day (closed.Sold day net) = Some day
+closing_day Closing.Open = None
+closing_day (Closing.Redeemed day paid) = Some day
+closing_day (Closing.Sold day net) = Some day
 
 -- what was paid, or what a sale brought
 abbrev pub closing_amount : Closing → Option ℕ
-closing_amount closed.Open = None
-closing_amount (closed.Redeemed day paid) = Some paid
-closing_amount (closed.Sold day net) = Some net
+closing_amount Closing.Open = None
+closing_amount (Closing.Redeemed day paid) = Some paid
+closing_amount (Closing.Sold day net) = Some net
 
 -- the columns of a pledge's own row, from what was agreed and how it stands
 abbrev pub own_columns : Agreement → Standing → PledgeColumns
@@ -148,11 +141,11 @@ version_rows version k = header ∷ map row_fields (rows_of_csv version k)
 
 -- a book's records
 abbrev pub csv_rows : BookRows → List (List (List ℕ))
-csv_rows k = version_rows version.Two k
+csv_rows k = version_rows Version.Two k
 
 -- the records of a book without extensions, in the first version of the form
 abbrev pub csv1_rows : BookRows → List (List (List ℕ))
-csv1_rows k = version_rows version.One k
+csv1_rows k = version_rows Version.One k
 
 -- a book's text
 abbrev pub csv_of : BookRows → List ℕ
@@ -160,5 +153,5 @@ csv_of k = flat_map (row_text default_writer) (csv_rows k)
 
 -- only the second version has rows for extensions
 abbrev pub Knows : Version → BookRows → Type 0
-Knows version.One k = Each (λ p. p.extensions ≡ []) k.pledges
-Knows version.Two k = Unit {0}
+Knows Version.One k = Each (λ p. p.extensions ≡ []) k.pledges
+Knows Version.Two k = Unit {0}

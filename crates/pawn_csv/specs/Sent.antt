@@ -3,9 +3,7 @@ use Rattle.std.specs.Prelude.{ℕ, Bool, true, false, List, ◌||◌, ◌≡◌,
 use Rattle.pawn_csv.specs.Common.{BriefFields, End, Share, Written, default_writer, end_by, row_text, write_failed}
 use Rattle.pawn_writing.specs.declared.writing.Writing.{Writing}
 use Rattle.pawn_csv.specs.Rows.{own_columns, row_fields}
-use Rattle.pawn_csv.specs.declared.row.PledgeColumns.{PledgeColumns}
-use Rattle.pawn_csv.specs.declared.row.Row.{Row}
-use Rattle.pawn_csv.specs.declared.writing.Sink.{Sink}
+use Rattle.pawn_csv.specs.Types.{PledgeColumns, Row, Sink}
 
 -- the writer failed, or there was no memory for a row
 abbrev pub has_ended : {W : Type 0} → Sink W → Bool

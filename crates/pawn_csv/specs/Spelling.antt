@@ -3,7 +3,7 @@ use Rattle.std.specs.Prelude.{◌≡◌, ℕ, ◌≤◌, ◌<◌, List, [], Opti
 use Rattle.pawn_csv.specs.Common.{IsOpening, IsStampDay, IsUtf8, Opening, credit_of, day_text}
 use Rattle.pawn_base.specs.Text.{IsText}
 use Rattle.pawn_csv.specs.Columns.{kind_text, text_if_any, yes_text}
-use Rattle.pawn_csv.specs.declared.row.TheConstants.{COLUMNS}
+use Rattle.pawn_csv.specs.Types.{COLUMNS}
 use Rattle.pawn_csv.specs.Rows.{IsColumnNumber}
 
 -- what a spelling reads as: the value that is spelled so and keeps its rule, or none if there is no such value

@@ -5,11 +5,7 @@ use Rattle.pawn_terms.specs.Worked.{date}
 use Rattle.pawn_debt.specs.Worked.{free}
 use Rattle.pawn_pledge.specs.Worked.{ring}
 use Rattle.pawn_pledge.specs.declared.record.BookingState.TheVariants.{Asked}
-use Rattle.pawn_csv.specs.declared.fault.Cause.{Cause}
-use Rattle.pawn_csv.specs.declared.fault.Cause.TheVariants as cause
-use Rattle.pawn_csv.specs.declared.row.Row.{Row}
-use Rattle.pawn_csv.specs.declared.row.TheConstants.{NUMBERS_END}
-use Rattle.pawn_csv.specs.declared.row.Version.TheVariants as version
+use Rattle.pawn_csv.specs.Types.{Cause, NUMBERS_END, Row, Version}
 use Rattle.pawn_csv.specs.Order.{Begun, is_whole, run}
 use Rattle.pawn_csv.specs.Rows.{pledge_columns, csv1_rows, row_fields, rows_of_csv}
 
@@ -73,18 +69,18 @@ pub record WorkedRowTexts : Type 0 where
   -- a column with a comma or a quote is quoted
   pub quoted : row_text default_writer (codes "a,b" ∷ codes "\"" ∷ []) ≡ codes "\"a,b\",\"\"\"\"\n"
   -- the rows of a book may end
-  pub declared : comes_to (rows_of_csv version.One declared_book) ≡ Ok true
-  pub unbooked : comes_to (rows_of_csv version.One (record { terms = free ∷ []; pledges = record ring_tendered { standing = record ring_tendered.standing { booking = None } } ∷ [] })) ≡ Ok true
-  pub whole : comes_to (rows_of_csv version.Two ring_book) ≡ Ok true
-  pub extended : comes_to (rows_of_csv version.Two extended_book) ≡ Ok true
+  pub declared : comes_to (rows_of_csv Version.One declared_book) ≡ Ok true
+  pub unbooked : comes_to (rows_of_csv Version.One (record { terms = free ∷ []; pledges = record ring_tendered { standing = record ring_tendered.standing { booking = None } } ∷ [] })) ≡ Ok true
+  pub whole : comes_to (rows_of_csv Version.Two ring_book) ≡ Ok true
+  pub extended : comes_to (rows_of_csv Version.Two extended_book) ≡ Ok true
   -- the first version has no extensions
-  pub first_version : comes_to (rows_of_csv version.One extended_book) ≡ Err cause.BadField
+  pub first_version : comes_to (rows_of_csv Version.One extended_book) ≡ Err Cause.BadField
   -- no row at all, and rows of which one is missing
   pub empty : comes_to [] ≡ Ok false
-  pub wanting : comes_to (Row.Book version.Two 1 1 ∷ Row.Terms 1 free ∷ []) ≡ Ok false
+  pub wanting : comes_to (Row.Book Version.Two 1 1 ∷ Row.Terms 1 free ∷ []) ≡ Ok false
   -- counts above the limits are judged before the order of the row
-  pub counts : comes_to (Row.Book version.Two 0 0 ∷ Row.Book version.Two 100 0 ∷ []) ≡ Err cause.TooMany
-  pub twice : comes_to (Row.Book version.Two 0 0 ∷ Row.Book version.Two 0 0 ∷ []) ≡ Err cause.Order
+  pub counts : comes_to (Row.Book Version.Two 0 0 ∷ Row.Book Version.Two 100 0 ∷ []) ≡ Err Cause.TooMany
+  pub twice : comes_to (Row.Book Version.Two 0 0 ∷ Row.Book Version.Two 0 0 ∷ []) ≡ Err Cause.Order
   -- a gap in the versions of terms, and one version more than the first row says
-  pub gap : comes_to (Row.Book version.Two 2 0 ∷ Row.Terms 2 free ∷ []) ≡ Err cause.Order
-  pub more : comes_to (Row.Book version.Two 1 0 ∷ Row.Terms 1 free ∷ Row.Terms 2 free ∷ []) ≡ Err cause.Order
+  pub gap : comes_to (Row.Book Version.Two 2 0 ∷ Row.Terms 2 free ∷ []) ≡ Err Cause.Order
+  pub more : comes_to (Row.Book Version.Two 1 0 ∷ Row.Terms 1 free ∷ Row.Terms 2 free ∷ []) ≡ Err Cause.Order

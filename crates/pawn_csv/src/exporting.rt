@@ -178,18 +178,9 @@ fn put_record<K: Keep, W: Write>(
 {
     let fields = brief.fields();
     put_pledge(&mut rows.sink, fields);
-    match put_secrets(keep, book, number, rows) {
-        Ok(()) => {}
-        Err(error) => return Err(error),
-    }
-    match put_entries(keep, book, number, brief, rows) {
-        Ok(()) => {}
-        Err(error) => return Err(error),
-    }
-    match put_extensions(keep, book, number, brief, rows) {
-        Ok(()) => {}
-        Err(error) => return Err(error),
-    }
+    put_secrets(keep, book, number, rows)?;
+    put_entries(keep, book, number, brief, rows)?;
+    put_extensions(keep, book, number, brief, rows)?;
     put_booked(&mut rows.sink, number, fields.standing.booking);
     Ok(())
 }
@@ -209,11 +200,10 @@ fn put_versions<K: Keep, W: Write>(
     ensures steady { IsSteady K.keeping keep.old result }
 {
     for index in 0..count {
-        match keep.terms(book, index + 1) {
-            Ok(Some(terms)) => put_terms(&mut rows.sink, index + 1, terms.rates()),
-            Ok(None) => return Ok(()),
-            Err(error) => return Err(error),
-        }
+        let Some(terms) = keep.terms(book, index + 1)? else {
+            return Ok(());
+        };
+        put_terms(&mut rows.sink, index + 1, terms.rates());
     }
     Ok(())
 }
@@ -236,15 +226,10 @@ fn put_pledges<K: Keep, W: Write>(
         let Some(number) = Number::new(index + 1) else {
             return Ok(());
         };
-        let brief = match keep.brief(book, number) {
-            Ok(Some(brief)) => brief,
-            Ok(None) => return Ok(()),
-            Err(error) => return Err(error),
+        let Some(brief) = keep.brief(book, number)? else {
+            return Ok(());
         };
-        match put_record(keep, book, number, &brief, rows) {
-            Ok(()) => {}
-            Err(error) => return Err(error),
-        }
+        put_record(keep, book, number, &brief, rows)?;
     }
     Ok(())
 }
@@ -263,10 +248,8 @@ fn put_rows<K: Keep, W: Write>(
         (flat_map pledge_csv_rows at.pledges)) (call_end result) rows.new.sink) }
     ensures steady { IsSteady K.keeping keep.old result }
 {
-    match put_versions(keep, book, head.terms, rows) {
-        Ok(()) => put_pledges(keep, book, head.pledges, rows),
-        Err(error) => Err(error),
-    }
+    put_versions(keep, book, head.terms, rows)?;
+    put_pledges(keep, book, head.pledges, rows)
 }
 
 // The result of an export: `Write` if the writer failed, `Memory` if a row had no memory, else the keeper's error, if

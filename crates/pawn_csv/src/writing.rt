@@ -1,8 +1,7 @@
 //! Writing the rows of a book's text.
 ghost use Rattle.std.specs.Prelude.{◌≡◌, ◌≤◌, ◌-◌, ◌∷◌, ◌++◌, [], IfOk, true, false, codes, decimal, length, map};
 ghost use Rattle.pawn_csv.specs.Common.{credit_of, day_text, default_writer, row_text, write_failed, writing_inner};
-ghost use Rattle.pawn_csv.specs.Csv.{PutsRow, Row, brief_columns, empty_columns, has_ended, header, text_of_row};
-ghost use Rattle.pawn_csv.specs.declared.row.Version.TheVariants as version;
+ghost use Rattle.pawn_csv.specs.Csv.{PutsRow, Row, brief_columns, empty_columns, has_ended, header, text_of_row, Version};
 
 use crate::row::{COLUMNS, HEADER};
 use crate::words::{
@@ -115,7 +114,7 @@ pub(crate) fn put_header<W: Write>(sink: &mut Sink<W>)
 /// `B,2,1,1`: a text of the second version, with so many versions of terms and so many pledges.
 pub(crate) fn put_book<W: Write>(sink: &mut Sink<W>, terms: u64, pledges: u64)
     ensures puts { PutsRow W.contents sink.old
-        (text_of_row (Row.Book version.Two terms pledges)) sink.new }
+        (text_of_row (Row.Book Version.Two terms pledges)) sink.new }
 {
     put_padded(
         sink,

@@ -1,4 +1,4 @@
-use Rattle.pawn_csv.proofs.Basics.{refl, rules, call_end, entries_of, get, pledge_in, reads_as, entry_row_text}
+use Rattle.pawn_csv.proofs.Basics.{refl, rules, reads_as, entry_row_text}
 use Rattle.pawn_csv.proofs.ListLemmas.{few_of, list_share, entry_lines}
 use Rattle.pawn_csv.proofs.exporting.put_entries.Goals as goal
 
@@ -6,6 +6,5 @@ pub returns-clause-shares : goal.returns-clause-shares
 returns-clause-shares g c =
     let (given, flow, handed, reads) = c.visit_entries.ensures.reads in
     reads_as reads (λ h share sound p at is.
-    let items = entries_of (pledge_in (get h.books c.args.book) c.args.number) in
-    list_share g.W.Write.contents entry_row_text c.args.number items _ _ c.visit_entries.new.visitor given flow (call_end c.visit_entries.result)
-    (few_of h c.args.book c.args.number sound).entries (entry_lines c.args.number 1 items) (search rules) refl handed (share p at is))
+    list_share g.W.Write.contents entry_row_text c.args.number _ _ _ _ given flow _
+    (few_of h c.args.book c.args.number sound).entries (entry_lines c.args.number 1 _) (search rules) refl handed (share p at is))

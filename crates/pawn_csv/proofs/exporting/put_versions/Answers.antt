@@ -1,17 +1,17 @@
-use Rattle.pawn_csv.proofs.Basics.{◌≡◌, length, arith, get, terms_of, nat_tests, reads_as, reads_then}
+use Rattle.pawn_csv.proofs.Basics.{◌≡◌, length, arith, get, terms_of, nat_tests, reads_as, reads_then, Err, rules}
 use Rattle.pawn_csv.proofs.CountLemmas.{versions_all, versions_front, versions_next}
 use Rattle.pawn_csv.proofs.exporting.put_versions.Goals as goal
 
-pub returns-in-Err-clause-shares : goal.returns-in-Err-clause-shares
-returns-in-Err-clause-shares g c =
-    reads_then c.loop-index.invariant.shares c.terms.ensures.reads (λ h before said count_is.
-    versions_front (terms_of (get h.books c.args.book)) c.loop-index.index before)
+pub returns-in_err-terms-clause-shares : goal.returns-in_err-terms-clause-shares
+returns-in_err-terms-clause-shares g c =
+    let now : c.from_residual.result ≡ Err c.in_err-terms.field-0.0 = search rules in
+    reads_then c.loop-index.invariant.shares c.in_err-terms.ensures.reads (λ h before said count_is. rw now (versions_front (terms_of (get h.books c.args.book)) c.loop-index.index before))
 
 pub loop-index-preserved : goal.loop-index-preserved
 loop-index-preserved g c = record {
-  shares = reads_then c.loop-index.invariant.shares c.terms.ensures.reads (λ h before said.
-      versions_next (terms_of (get h.books c.args.book)) c.loop-index.index c.in-Ok-Some.terms
-      (rw (c.in-Ok-Some.is, c.in-Ok-Some.field-0-is) at said) before (rw c.rates.ensures.value at c.put_terms.ensures.puts));
+  shares = reads_then c.loop-index.invariant.shares c.in_ok-terms.ensures.reads (λ h before said.
+      versions_next (terms_of (get h.books c.args.book)) c.loop-index.index c.in-Some.terms
+      (rw c.in-Some.is at said) before (rw c.rates.ensures.value at c.put_terms.ensures.puts));
 }
 
 pub returns-clause-shares : goal.returns-clause-shares

@@ -1,5 +1,4 @@
-use Rattle.pawn_csv.proofs.Basics.{◌≡◌, ◌∙◌, [], refl, sym, ap, subst, inr, arith, Reached, fields_of, option_map, strip_bom, nat_tests, AreTakenBefore, IsFaultOf, IsReadAs, begun_of, ◌+◌}
-use Rattle.pawn_csv.specs.declared.fault.Cause.TheVariants as cause
+use Rattle.pawn_csv.proofs.Basics.{◌≡◌, ◌∙◌, [], refl, sym, ap, subst, inr, arith, Reached, fields_of, option_map, strip_bom, nat_tests, AreTakenBefore, IsFaultOf, IsReadAs, begun_of, ◌+◌, Cause}
 use Rattle.pawn_csv.proofs.ReadLemmas.{so_far_before, so_far_more, so_far_end, where_told, reader_fault, so_far_empty, so_far_unfinished, so_far_refused}
 use Rattle.pawn_csv.proofs.reading.take_records.Goals as goal
 
@@ -41,7 +40,7 @@ returns-then-index-eq0-clause-fault g c =
     let inv = c.loop-index.invariant in
     let reads = rw c.in-Ok-false.field-0-test at ((rw c.in-Ok-false.is at c.read_byte_record.ensures.reads) inv.trim inv.ready) in
     let test = c.if-index-eq0.true in
-    where_told (g.R.Read.remaining c.args.reader) (λ text. IsFaultOf (strip_bom text) cause.Columns 1) (λ text told. so_far_empty g.R.Read.remaining (strip_bom text) c.loop-index.csv_reader c.read_byte_record.new.self c.loop-index.index (fields_of c.read_byte_record.new.row) (begun_of c.loop-index.raw) inv.config (inv.so_far text told) reads (grind (arith, nat_tests, test)))
+    where_told (g.R.Read.remaining c.args.reader) (λ text. IsFaultOf (strip_bom text) Cause.Columns 1) (λ text told. so_far_empty g.R.Read.remaining (strip_bom text) c.loop-index.csv_reader c.read_byte_record.new.self c.loop-index.index (fields_of c.read_byte_record.new.row) (begun_of c.loop-index.raw) inv.config (inv.so_far text told) reads (grind (arith, nat_tests, test)))
 
 pub returns-in-Err-finish-clause-fault : goal.returns-in-Err-finish-clause-fault
 returns-in-Err-finish-clause-fault g c =
@@ -68,5 +67,5 @@ pub returns-clause-fault : goal.returns-clause-fault
 returns-clause-fault g c =
     let inv = c.loop-index.invariant in
     let ended : c.loop-index.index + 1 ≡ 18446744073709551615 = omega arith in
-    where_told (g.R.Read.remaining c.args.reader) (λ text. IsFaultOf (strip_bom text) cause.Memory 18446744073709551615)
+    where_told (g.R.Read.remaining c.args.reader) (λ text. IsFaultOf (strip_bom text) Cause.Memory 18446744073709551615)
     (λ text told. subst (AreTakenBefore (strip_bom text)) ended (so_far_before g.R.Read.remaining (strip_bom text) c.loop-index.csv_reader c.loop-index.index (begun_of c.loop-index.raw) (inv.so_far text told)))
