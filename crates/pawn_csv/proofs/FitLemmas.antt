@@ -1,6 +1,5 @@
 -- The rows of a book that can have come about can be spelled.
-use Rattle.pawn_csv.proofs.Basics.{◌≡◌, ◌∙◌, ◌+◌, ◌-◌, ◌*◌, ◌≤◌, ℕ, zero, suc, Bool, true, false, List, [], ◌∷◌, ◌++◌, length, Option, Some, None, if◌then◌else◌, IsOk, Ok, sym, ap, subst, arith, nat_le, AreExtended, AreNumbered, AreOrdered, AreWords, Booking, Closing, DebtValue, DoNotFall, Draw, Due, Each, Entry, Extension, HasTextsAndWords, IfSome, IsBooked, IsClosed, IsStampDay, IsStanding, IsUnder, Issued, PledgeValue, Rates, Repay, Sort, after_days, debt_of, due, end_with, flat_map, keep_on, last_by, last_of, most_a_day, most_pence, total_on, last_by-le, nat_tests, first_day, AreColumns, BooksAreHeld, FitsColumns, IsColumnNumber, Row, TextsAreRead, TextsOfHostsAreRead, booking_csv_rows, closing_amount, closing_day, entry_rows, extension_rows, pledge_columns, pledge_csv_rows, secret_rows, terms_rows, Version}
-use Rattle.std.proofs.lemmas.Nat.{mul-le}
+use Rattle.pawn_csv.proofs.Basics.{◌≡◌, ◌∙◌, ◌+◌, ◌-◌, ◌*◌, ◌≤◌, ℕ, false, List, [], ◌∷◌, ◌++◌, length, Option, Some, None, IsOk, Ok, sym, ap, subst, arith, AreExtended, AreNumbered, AreOrdered, AreWords, Booking, Closing, DebtValue, DoNotFall, Draw, Due, Each, Entry, Extension, HasTextsAndWords, IfSome, IsBooked, IsClosed, IsStampDay, IsStanding, IsUnder, Issued, PledgeValue, Rates, Repay, Sort, debt_of, due, end_with, flat_map, last_by, last_of, most_pence, total_on, last_by-le, nat_tests, first_day, AreColumns, BooksAreHeld, FitsColumns, IsColumnNumber, Row, TextsAreRead, TextsOfHostsAreRead, booking_csv_rows, closing_amount, closing_day, entry_rows, extension_rows, pledge_columns, pledge_csv_rows, secret_rows, terms_rows, Version}
 use Rattle.pawn_base.proofs.RefusalLemmas.{first_of-is_ok}
 use Rattle.pawn_terms.specs.Limits.{last_stamp_day}
 use Rattle.pawn_terms.specs.Terms.{IsChecked}

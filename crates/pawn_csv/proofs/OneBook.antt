@@ -1,5 +1,5 @@
 -- A text holds one book.
-use Rattle.pawn_csv.proofs.Basics.{◌≡◌, ◌∙◌, ◌++◌, ◌∷◌, ◌≤◌, ℕ, [], Bool, true, false, List, length, Option, Some, refl, sym, ap, subst, arith, nat_le, Agreement, BookRows, Each, IsUnder, PledgeValue, Rates, Standing, default_config, map, append-nil, nat_tests, AreTaken, Begun, ClosingWord, IsBegunOf, IsFinishedAs, IsReadAs, RawPledge, TextsHoldOneBook, raw_of, State}
+use Rattle.pawn_csv.proofs.Basics.{◌≡◌, ◌∙◌, ◌++◌, ◌∷◌, ◌≤◌, ℕ, [], Bool, true, false, List, length, Option, Some, refl, sym, ap, subst, arith, nat_le, Agreement, BookRows, Each, IsUnder, PledgeValue, Rates, Standing, default_config, map, append-nil, nat_tests, AreTaken, Begun, IsBegunOf, IsFinishedAs, IsReadAs, RawPledge, TextsHoldOneBook, raw_of, State}
 use Rattle.pawn_csv.proofs.OneReading.{no_further, reached_on, taken_same}
 use Rattle.pawn_csv.proofs.TakenLemmas.{texts_are_read_as}
 use Rattle.pawn_csv.proofs.FinishLemmas.{same_closing, same_rates}

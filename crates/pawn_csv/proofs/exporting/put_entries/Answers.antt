@@ -6,5 +6,4 @@ pub returns-clause-shares : goal.returns-clause-shares
 returns-clause-shares g c =
     let (given, flow, handed, reads) = c.visit_entries.ensures.reads in
     reads_as reads (λ h share sound p at is.
-    list_share g.W.Write.contents entry_row_text c.args.number _ _ _ _ given flow _
-    (few_of h c.args.book c.args.number sound).entries (entry_lines c.args.number 1 _) (search rules) refl handed (share p at is))
+    list_share _ entry_row_text c.args.number _ _ _ _ _ _ _ (few_of h _ _ sound).entries (entry_lines c.args.number 1 _) (search rules) refl handed (share p at is))
