@@ -21,4 +21,4 @@ unfoldable pub use Rattle.pawn_wire.specs.Common.{chars, civil_after, days_of_mo
 pub use Rattle.pawn_wire.specs.Fields.{IsFound}
 pub use Rattle.pawn_wire.specs.Http.{AskedFor, Asks, BadBody, BadReceipt, Create, Csv, Endpoint, Export, HeadFault, HoldsRows, IsAsked, IsBadHead, IsBodyNumber, IsCallerWithin, IsCommandWithin, IsHead, IsOutlined, IsRequestRead, IsTargetFound, NeverHasHead, NoReceipt, NoRoute, OnPledge, OnReceipt, OrMemory, Outline, Pair, Present, PutTerms, ReadsHead, Row, Rows, Says, SaysRequest, Show, ShowDay, TakePledge, TooManyReceipts, Total, WireFault, WrongMethod, after, all_said, and_then, asked_booking, asked_entry, asks_said, bearers_command_said, body_length, body_said, booked_text, booking_members, brokers_command_said, closes_by, day_at, day_if_any, day_or_null, decision_of, declared_text, entered_text, entry_members, extended_text, fault_text, fields_of, flag_at, framing_faults, held_text, if_text, in_range, is_ascii_text, is_hyphen, is_unescaped, json_of, key_at, key_given, key_of, kind_of, length_by, max_body, max_fields, max_head, max_number, method_of, new_book_of, new_terms_of, number_at, number_member, one_said, opened_text, opening_of, optional_day_at, or_fault, outline_by, pairs_of, paper_of, place_asked, place_of, plain, receipt_faults, receipt_said, receipt_values, receipts_said, redeemed_text, refusal_members, refusal_text, route_of, string_at, table, target_said, text_at, text_member, value_under, values_of, wire_fault, with_route, with_routes}
 unfoldable pub use Rattle.pawn_wire.specs.Http.{day_said, number_said, table_rows}
-pub use Rattle.pawn_wire.specs.declared.fields.Found.TheVariants.{Missing, One, Several}
+pub use Rattle.pawn_wire.specs.Types.{Missing, One, Several}

@@ -1,6 +1,6 @@
 -- Texts that JSON writes as they are.
 use Rattle.pawn_wire.proofs.Basics.{◌≡◌, ℕ, List, [], ◌∷◌, ◌++◌, refl, ap, ◌∙◌, arith, sym, append_assoc, Option, Some, None, IsTrue, ◌&&◌, nat_le, not, ◌==◌, codes, decimal, common_steps, serde_json_on_literals, compact_text, escape, escape_byte, no_members, object, Row, Total, is_unescaped, number_member, opened_text, refusal_members, refusal_text, text_member}
-use Rattle.pawn_wire.specs.declared.detail.Detail.{Detail}
+use Rattle.pawn_wire.specs.Types.{Detail}
 use Rattle.pawn_wire.proofs.DigitLemmas.{both_true}
 
 escape_plain_byte : (b : ℕ) → IsTrue (nat_le 32 b && not (b == 34) && not (b == 92)) → escape_byte b ≡ b ∷ []

@@ -1,6 +1,6 @@
 -- On the fields of a head.
 use Rattle.pawn_wire.proofs.Basics.{◌≡◌, ℕ, ◌+◌, ◌<◌, List, [], ◌∷◌, ◌++◌, length, map, take, get_or, refl, ap, subst, ◌∙◌, arith, Some, None, Bool, true, false, append-nil, length-append, Bor, HeaderSpan, cons_option, header_bytes, list_any, str_eq_ignore_ascii_case, Missing, One, Several, ◌&&◌, ◌||◌, if◌then◌else◌, filter_map-append, list_any-append, map_more, values_of, value_under, IsFound}
-use Rattle.pawn_wire.specs.declared.fields.Found.{Found}
+use Rattle.pawn_wire.specs.Types.{Found}
 use Rattle.std.proofs.Math.Bool.{or-false}
 
 abbrev pub no_span : HeaderSpan

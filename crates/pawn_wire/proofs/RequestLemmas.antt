@@ -1,7 +1,5 @@
 -- On requests.
-use Rattle.pawn_wire.proofs.Basics.{◌≡◌, ℕ, ◌+◌, ◌-◌, ◌≤◌, List, [], ◌++◌, length, map, take, drop, subst, sym, ap, ◌∙◌, arith, append-nil, length-append, length-drop, min, Result, Ok, Err, inl, inr, drop-append-le, request_unique, take-append-add, take-append-drop, take-length, BookRows, Broker, Cause, HasNoRequest, HeaderSpan, Import, IsRequestAt, Request, RequestHead, RequestOverflows, RequestSpans, header_bytes, print_request, span_bytes, strip_bom, Asks, Csv, HoldsRows, IsAsked, IsOutlined, IsRequestRead, OrMemory, Outline, Pair, ReadsHead, SaysRequest, WireFault, after, fields_of, max_fields, max_head, outline_by}
-use Rattle.pawn_csv.specs.declared.fault.Cause.TheVariants as cause
-use Rattle.pawn_wire.specs.declared.asking.Asks.TheVariants as asks
+use Rattle.pawn_wire.proofs.Basics.{◌≡◌, ℕ, ◌+◌, ◌-◌, ◌≤◌, List, [], ◌++◌, length, map, take, drop, subst, sym, ap, ◌∙◌, arith, append-nil, length-append, length-drop, min, Result, Ok, Err, inl, inr, drop-append-le, request_unique, take-append-add, take-append-drop, take-length, BookRows, Broker, HasNoRequest, HeaderSpan, Import, IsRequestAt, Request, RequestHead, RequestOverflows, RequestSpans, header_bytes, print_request, span_bytes, strip_bom, Asks, Csv, HoldsRows, IsAsked, IsOutlined, IsRequestRead, OrMemory, Outline, Pair, ReadsHead, SaysRequest, WireFault, after, fields_of, max_fields, max_head, outline_by}
 use Rattle.pawn_csv.proofs.OneBook.{texts_hold_one_book}
 use Rattle.pawn_csv.proofs.OneReading.{first_faults_are_one, first_faults_exclude_books}
 use Rattle.pawn_wire.proofs.HeadLemmas.{overflows_on}
@@ -61,8 +59,8 @@ held_once body (Err e) (Err f) x y =
     ap Err (x.1 ∙ ap Csv csv ∙ sym y.1)
 
 asked_once : (body : List ℕ) (book : ℕ) (asked : Asks) (a b : Result Request WireFault) → IsAsked body book asked a → IsAsked body book asked b → a ≡ b
-asked_once body book (asks.Whole caller) a b x y = x ∙ sym y
-asked_once body book (asks.Import key importing) a b x y =
+asked_once body book (Asks.Whole caller) a b x y = x ∙ sym y
+asked_once body book (Asks.Import key importing) a b x y =
     let once = held_once body x.0 y.0 x.1 y.1 in
     x.2 ∙ ap (λ held. after held (λ rows. Ok (record { book = book; caller = Broker key (Import importing rows) }))) once ∙ sym y.2
 

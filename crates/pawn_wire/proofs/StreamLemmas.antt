@@ -1,7 +1,7 @@
 -- Heads at the front of a stream, and what follows them.
 use Rattle.pawn_wire.proofs.Basics.{◌≡◌, ℕ, ◌+◌, ◌<◌, ◌≤◌, List, [], ◌∷◌, ◌++◌, length, refl, sym, ap, ◌∙◌, arith, append_assoc, append-nil, length-append, take, Ok, inl, inr, true, false, Bool, IsRequestHead, IsTrue, RequestHead, RequestOverflows, first_of, is_token_byte, is_uri_byte, lf, nat_lt, print_request, unwrap_or, All-cons, All-nil, ReadsRequest-append, nat_tests, print_request-append, take-append-add, IsBadHead, IsHead, NeverHasHead, Pair, ReadsHead, body_length, fields_of, length_by, max_body, max_fields, max_head}
 use Rattle.pawn_wire.specs.declared.fault.HeadFault.TheVariants.{Transfer, BadLength, BodyTooLong}
-use Rattle.pawn_wire.specs.declared.head.HeadFacts.{HeadFacts}
+use Rattle.pawn_wire.specs.Types.{HeadFacts}
 
 -- a head stays one, whatever follows
 pub reads_more : (s more : List ℕ) (h : RequestHead) (rest : List ℕ) → ReadsHead s h rest → ReadsHead (s ++ more) h (rest ++ more)

@@ -3,16 +3,7 @@ use Rattle.pawn_wire.proofs.Basics.{◌≡◌, ℕ, ◌≤◌, List, [], ◌∷�
 use Rattle.pawn_book.specs.declared.request.BrokerRequest.TheVariants as broker
 use Rattle.pawn_book.specs.declared.request.BearerRequest.TheVariants as bearer
 use Rattle.pawn_wire.specs.Http.{Import}
-use Rattle.pawn_wire.specs.declared.commands.NewBooking.{NewBooking}
-use Rattle.pawn_wire.specs.declared.commands.NewEntry.{NewEntry}
-use Rattle.pawn_wire.specs.declared.asking.Asks.TheVariants as asks
-use Rattle.pawn_wire.specs.declared.place.Place.{Place}
-use Rattle.pawn_wire.specs.declared.place.Target.{Target}
-use Rattle.pawn_wire.specs.declared.route.BearerAction.{BearerAction}
-use Rattle.pawn_wire.specs.declared.route.BearerAction.TheVariants as bearers
-use Rattle.pawn_wire.specs.declared.route.BrokerAction.{BrokerAction}
-use Rattle.pawn_wire.specs.declared.route.BrokerAction.TheVariants as brokers
-use Rattle.pawn_wire.specs.declared.route.Endpoint.TheVariants as endpoint
+use Rattle.pawn_wire.specs.Types.{BearerAction, BrokerAction, NewBooking, NewEntry, Place, Target}
 use Rattle.pawn_wire.proofs.NamedLemmas.{number_said-is, day_said-is}
 use Rattle.pawn_wire.proofs.ReceiptLemmas.{all_said-length}
 
@@ -25,6 +16,9 @@ after_ok (Err fault) next b e = absurd cc
 given_some : {A B : Type 0} (x : Option A) (next : A → Option B) (b : B) → and_then x next ≡ Some b → (a : A) × (x ≡ Some a) × (next a ≡ Some b)
 given_some None next b e = absurd cc
 given_some (Some a) next b e = (a, refl, e)
+
+some_same : {A : Type 0} {a b : A} → Some a ≡ Some b → a ≡ b
+some_same e = cc
 
 or_fault_ok : {A : Type 0} (fault : WireFault) (x : Option A) (a : A) → or_fault fault x ≡ Ok a → x ≡ Some a
 or_fault_ok fault None a e = absurd cc
@@ -124,57 +118,54 @@ number_within name d n e = number_chain (option_and_then as_u64 (option_and_then
     number_chain None same = absurd cc
     number_chain (Some m) same = (ranged 0 max_number m n same).1
 
-entry_within : (d : Data) (entry : NewEntry) → asked_entry d ≡ Some entry → IsBodyNumber entry.seq × IsBodyNumber entry.pence
-entry_within d entry e =
-    let pence = given_some (number_at (codes "pence") d) _ entry e in
-    let seq = given_some (number_at (codes "seq") d) _ entry pence.2 in
-    let same : ◌≡◌ {A = NewEntry} (record { seq = seq.0; pence = pence.0 }) entry = cc (seq.2) in
-    subst (λ (n : NewEntry). IsBodyNumber n.seq × IsBodyNumber n.pence) same
-    (number_within (codes "seq") d seq.0 seq.1, number_within (codes "pence") d pence.0 pence.1)
-
 day_at_within : (name : List ℕ) (d : Data) (day : ℕ) → day_at name d ≡ Some day → IsStampDay day
 day_at_within name d day e = let text = given_some (string_at name d) day_said day e in day_within text.0 day text.2
 
-booking_within : (d : Data) (booking : NewBooking) → asked_booking d ≡ Some booking → IsStampDay booking.day × IsBodyNumber booking.window
-booking_within d booking e =
-    let day = given_some (day_at (codes "day") d) _ booking e in
-    let window = given_some (number_at (codes "window") d) _ booking day.2 in
-    let same : ◌≡◌ {A = NewBooking} (record { day = day.0; window = window.0 }) booking = cc (window.2) in
-    subst (λ (b : NewBooking). IsStampDay b.day × IsBodyNumber b.window) same
-    (day_at_within (codes "day") d day.0 day.1, number_within (codes "window") d window.0 window.1)
+abbrev IsEntryWithin : NewEntry → Type 0
+IsEntryWithin n = IsBodyNumber n.seq × IsBodyNumber n.pence
+
+abbrev IsBookingWithin : NewBooking → Type 0
+IsBookingWithin b = IsStampDay b.day × IsBodyNumber b.window
+
+-- two parts of a body, one read after the other
+two_within : {C : Type 0} (P Q : ℕ → Type 0) (R : C → Type 0) (first second : Option ℕ) (make : ℕ → ℕ → C) (c : C) → ((n : ℕ) → first ≡ Some n → P n) → ((n : ℕ) → second ≡ Some n → Q n)
+    → ((a b : ℕ) → P a → Q b → R (make a b)) → and_then first (λ a. and_then second (λ b. Some (make a b))) ≡ Some c → R c
+two_within P Q R first second make c one two both e =
+    let a = given_some first _ c e in
+    let b = given_some second _ c a.2 in
+    subst R (some_same b.2) (both a.0 b.0 (one a.0 a.1) (two b.0 b.1))
+
+entry_within : (d : Data) (entry : NewEntry) → asked_entry d ≡ Some entry → IsEntryWithin entry
+entry_within d entry = two_within IsBodyNumber IsBodyNumber IsEntryWithin (number_at (codes "pence") d) (number_at (codes "seq") d) (λ pence seq. record { seq = seq; pence = pence }) entry
+    (number_within (codes "pence") d) (number_within (codes "seq") d) (λ pence seq p s. (s, p))
+
+booking_within : (d : Data) (booking : NewBooking) → asked_booking d ≡ Some booking → IsBookingWithin booking
+booking_within d booking = two_within IsStampDay IsBodyNumber IsBookingWithin (day_at (codes "day") d) (number_at (codes "window") d) (λ day window. record { day = day; window = window }) booking
+    (day_at_within (codes "day") d) (number_within (codes "window") d) (λ day window s n. (s, n))
 
 of_body : {A : Type 0} (P : A → Type 0) (part : Data → Option A) (body : List ℕ) (a : A) → body_said part body ≡ Some a → ((d : Data) → part d ≡ Some a → P a) → P a
 of_body P part body a e each = (let d = given_some (json_of body) part a e in each d.0 d.2)
 
+-- a command that is made of what a body says
+made_within : {A : Type 0} (P : A → Type 0) (part : Data → Option A) (make : A → Command) → ((d : Data) (a : A) → part d ≡ Some a → P a) → ((a : A) → P a → IsCommandWithin (make a))
+    → (body : List ℕ) (command : Command) → option_map make (body_said part body) ≡ Some command → IsCommandWithin command
+made_within P part make holds within body command e = mapped IsCommandWithin make (body_said part body) command e (λ a is. within a (of_body P part body a is (λ d. holds d a)))
+
 brokers_within : (action : BrokerAction) (body : List ℕ) (command : Command) → brokers_command_said action body ≡ Some command → IsCommandWithin command
-brokers_within brokers.Draw body command e =
-    mapped IsCommandWithin (λ entry. Command.Draw entry.seq entry.pence) (body_said asked_entry body) command e
-    (λ entry is. of_body (λ (n : NewEntry). IsBodyNumber n.seq × IsBodyNumber n.pence) asked_entry body entry is (λ d. entry_within d entry))
-brokers_within brokers.Repay body command e =
-    mapped IsCommandWithin (λ entry. Command.Repay entry.seq entry.pence) (body_said asked_entry body) command e
-    (λ entry is. of_body (λ (n : NewEntry). IsBodyNumber n.seq × IsBodyNumber n.pence) asked_entry body entry is (λ d. entry_within d entry))
-brokers_within brokers.Hold body command e = (let same : Command.Hold ≡ command = cc in subst IsCommandWithin same tt)
-brokers_within brokers.Release body command e = (let same : Command.Release ≡ command = cc in subst IsCommandWithin same tt)
-brokers_within brokers.Declare body command e = mapped IsCommandWithin Command.Declare (body_said paper_of body) command e (λ paper is. tt)
-brokers_within brokers.Decide body command e = mapped IsCommandWithin Command.DecideBooking (body_said decision_of body) command e (λ decision is. tt)
-brokers_within brokers.Sell body command e =
-    mapped IsCommandWithin Command.Sell (body_said (number_at (codes "net")) body) command e
-    (λ net is. of_body IsBodyNumber (number_at (codes "net")) body net is (λ d. number_within (codes "net") d net))
-brokers_within brokers.Extend body command e =
-    mapped IsCommandWithin Command.Extend (body_said (day_at (codes "until")) body) command e
-    (λ until is. of_body IsStampDay (day_at (codes "until")) body until is (λ d. day_at_within (codes "until") d until))
+brokers_within BrokerAction.Draw body command e = made_within IsEntryWithin asked_entry (λ entry. Command.Draw entry.seq entry.pence) entry_within (λ entry within. within) body command e
+brokers_within BrokerAction.Repay body command e = made_within IsEntryWithin asked_entry (λ entry. Command.Repay entry.seq entry.pence) entry_within (λ entry within. within) body command e
+brokers_within BrokerAction.Hold body command e = (let same : Command.Hold ≡ command = cc in subst IsCommandWithin same tt)
+brokers_within BrokerAction.Release body command e = (let same : Command.Release ≡ command = cc in subst IsCommandWithin same tt)
+brokers_within BrokerAction.Declare body command e = mapped IsCommandWithin Command.Declare (body_said paper_of body) command e (λ paper is. tt)
+brokers_within BrokerAction.Decide body command e = mapped IsCommandWithin Command.DecideBooking (body_said decision_of body) command e (λ decision is. tt)
+brokers_within BrokerAction.Sell body command e = made_within IsBodyNumber (number_at (codes "net")) Command.Sell (number_within (codes "net")) (λ net within. within) body command e
+brokers_within BrokerAction.Extend body command e = made_within IsStampDay (day_at (codes "until")) Command.Extend (day_at_within (codes "until")) (λ until within. within) body command e
 
 bearers_within : (action : BearerAction) (body : List ℕ) (command : Command) → bearers_command_said action body ≡ Some command → IsCommandWithin command
-bearers_within bearers.Repay body command e =
-    mapped IsCommandWithin (λ entry. Command.Repay entry.seq entry.pence) (body_said asked_entry body) command e
-    (λ entry is. of_body (λ (n : NewEntry). IsBodyNumber n.seq × IsBodyNumber n.pence) asked_entry body entry is (λ d. entry_within d entry))
-bearers_within bearers.Ask body command e =
-    mapped IsCommandWithin (λ booking. Command.AskBooking booking.day booking.window) (body_said asked_booking body) command e
-    (λ booking is. of_body (λ (b : NewBooking). IsStampDay b.day × IsBodyNumber b.window) asked_booking body booking is (λ d. booking_within d booking))
-bearers_within bearers.Cancel body command e = (let same : Command.CancelBooking ≡ command = cc in subst IsCommandWithin same tt)
-bearers_within bearers.Redeem body command e =
-    mapped IsCommandWithin Command.Redeem (body_said (number_at (codes "paid")) body) command e
-    (λ paid is. of_body IsBodyNumber (number_at (codes "paid")) body paid is (λ d. number_within (codes "paid") d paid))
+bearers_within BearerAction.Repay body command e = made_within IsEntryWithin asked_entry (λ entry. Command.Repay entry.seq entry.pence) entry_within (λ entry within. within) body command e
+bearers_within BearerAction.Ask body command e = made_within IsBookingWithin asked_booking (λ booking. Command.AskBooking booking.day booking.window) booking_within (λ booking within. within) body command e
+bearers_within BearerAction.Cancel body command e = (let same : Command.CancelBooking ≡ command = cc in subst IsCommandWithin same tt)
+bearers_within BearerAction.Redeem body command e = made_within IsBodyNumber (number_at (codes "paid")) Command.Redeem (number_within (codes "paid")) (λ paid within. within) body command e
 
 receipt_within : (text : List ℕ) (receipt : Receipt) → receipt_said text ≡ Some receipt → IsNumber receipt.number
 receipt_within text receipt e =
@@ -197,59 +188,53 @@ one_within values receipt e =
 
 -- the number of a pledge is one, and a day is one that a request may name
 abbrev IsTargetWithin : Target → Type 0
-IsTargetWithin Create = Unit {0}
-IsTargetWithin PutTerms = Unit {0}
-IsTargetWithin TakePledge = Unit {0}
 IsTargetWithin (Show number) = IsNumber number
 IsTargetWithin (OnPledge number action) = IsNumber number
 IsTargetWithin (ShowDay day) = IsStampDay day
-IsTargetWithin Export = Unit {0}
-IsTargetWithin Import = Unit {0}
-IsTargetWithin Present = Unit {0}
-IsTargetWithin (OnReceipt action) = Unit {0}
+IsTargetWithin other = Unit {0}
 
 -- what is asked whole is within its limits
 abbrev AreAsksWithin : Asks → Type 0
-AreAsksWithin (asks.Whole caller) = IsCallerWithin caller
-AreAsksWithin (asks.Import key importing) = Unit {0}
+AreAsksWithin (Asks.Whole caller) = IsCallerWithin caller
+AreAsksWithin (Asks.Import key importing) = Unit {0}
 
 asks_within : (target : Target) (fields : List Pair) (body : List ℕ) (caller : Asks) → IsTargetWithin target
     → asks_said target fields body ≡ Ok caller → AreAsksWithin caller
 asks_within Create fields body caller within e =
     let key = after_ok (key_of fields) _ caller e in
-    mapped AreAsksWithin (λ new. asks.Whole (Operator key.0 new)) (body_said new_book_of body) caller (or_fault_ok BadBody _ caller key.2)
+    mapped AreAsksWithin (λ new. Asks.Whole (Operator key.0 new)) (body_said new_book_of body) caller (or_fault_ok BadBody _ caller key.2)
     (λ new is. of_body (λ (b : NewBook). IsText MOST_NAME_BYTES b.name × IsCapacity b.capacity) new_book_of body new is (λ d. new_book_within d new))
 asks_within PutTerms fields body caller within e =
     let key = after_ok (key_of fields) _ caller e in
-    mapped AreAsksWithin (λ terms. asks.Whole (Broker key.0 (broker.PutTerms terms))) (body_said new_terms_of body) caller (or_fault_ok BadBody _ caller key.2) (λ terms is. tt)
+    mapped AreAsksWithin (λ terms. Asks.Whole (Broker key.0 (broker.PutTerms terms))) (body_said new_terms_of body) caller (or_fault_ok BadBody _ caller key.2) (λ terms is. tt)
 asks_within TakePledge fields body caller within e =
     let key = after_ok (key_of fields) _ caller e in
-    mapped AreAsksWithin (λ opening. asks.Whole (Broker key.0 (broker.TakePledge opening))) (body_said opening_of body) caller (or_fault_ok BadBody _ caller key.2)
+    mapped AreAsksWithin (λ opening. Asks.Whole (Broker key.0 (broker.TakePledge opening))) (body_said opening_of body) caller (or_fault_ok BadBody _ caller key.2)
     (λ opening is. of_body IsOpening opening_of body opening is (λ d. opening_within d opening))
 asks_within (Show number) fields body caller within e =
     let key = after_ok (key_of fields) _ caller e in
-    let same : asks.Whole (Broker key.0 (broker.Show number)) ≡ caller = cc (key.2) in subst AreAsksWithin same within
+    let same : Asks.Whole (Broker key.0 (broker.Show number)) ≡ caller = cc (key.2) in subst AreAsksWithin same within
 asks_within (OnPledge number action) fields body caller within e =
     let key = after_ok (key_of fields) _ caller e in
-    mapped AreAsksWithin (λ command. asks.Whole (Broker key.0 (broker.OnPledge number command))) (brokers_command_said action body) caller (or_fault_ok BadBody _ caller key.2)
+    mapped AreAsksWithin (λ command. Asks.Whole (Broker key.0 (broker.OnPledge number command))) (brokers_command_said action body) caller (or_fault_ok BadBody _ caller key.2)
     (λ command is. (within, brokers_within action body command is))
 asks_within (ShowDay day) fields body caller within e =
     let key = after_ok (key_of fields) _ caller e in
-    let same : asks.Whole (Broker key.0 (broker.SheetOf day)) ≡ caller = cc (key.2) in subst AreAsksWithin same within
+    let same : Asks.Whole (Broker key.0 (broker.SheetOf day)) ≡ caller = cc (key.2) in subst AreAsksWithin same within
 asks_within Export fields body caller within e =
     let key = after_ok (key_of fields) _ caller e in
-    let same : asks.Whole (Broker key.0 broker.Export) ≡ caller = cc (key.2) in subst AreAsksWithin same tt
+    let same : Asks.Whole (Broker key.0 broker.Export) ≡ caller = cc (key.2) in subst AreAsksWithin same tt
 asks_within Import fields body caller within e =
     let key = after_ok (key_of fields) _ caller e in
     let importing = after_ok (key_given (codes "import-key") fields) _ caller key.2 in
-    let same : asks.Import key.0 importing.0 ≡ caller = cc (importing.2) in subst AreAsksWithin same tt
+    let same : Asks.Import key.0 importing.0 ≡ caller = cc (importing.2) in subst AreAsksWithin same tt
 asks_within Present fields body caller within e =
     let receipts = after_ok (receipts_said (receipt_values fields)) _ caller e in
-    let same : asks.Whole (Bearer (bearer.Present receipts.0)) ≡ caller = cc (receipts.2) in
+    let same : Asks.Whole (Bearer (bearer.Present receipts.0)) ≡ caller = cc (receipts.2) in
     subst AreAsksWithin same (few_within (receipt_values fields) receipts.0 receipts.1)
 asks_within (OnReceipt action) fields body caller within e =
     let receipt = after_ok (one_said (receipt_values fields)) _ caller e in
-    mapped AreAsksWithin (λ command. asks.Whole (Bearer (bearer.OnPledge receipt.0 command))) (bearers_command_said action body) caller (or_fault_ok BadBody _ caller receipt.2)
+    mapped AreAsksWithin (λ command. Asks.Whole (Bearer (bearer.OnPledge receipt.0 command))) (bearers_command_said action body) caller (or_fault_ok BadBody _ caller receipt.2)
     (λ command is. (one_within (receipt_values fields) receipt.0 receipt.1, bearers_within action body command is))
 
 -- a place is of a book's number, and what it names beside is within its limits
@@ -264,18 +249,12 @@ numbered of text target each e =
     (λ n is. let s = given_some text number_said n is in each n (number_said-is n s.0 s.2).0)
 
 target_within : (endpoint : Endpoint) (text : Option (List ℕ)) (target : Target) → target_said endpoint text ≡ Some target → IsTargetWithin target
-target_within endpoint.Create text target e = (let same : Create ≡ target = cc in subst IsTargetWithin same tt)
-target_within endpoint.PutTerms text target e = (let same : PutTerms ≡ target = cc in subst IsTargetWithin same tt)
-target_within endpoint.TakePledge text target e = (let same : TakePledge ≡ target = cc in subst IsTargetWithin same tt)
-target_within endpoint.Show text target e = numbered Show text target (λ n range. range) e
-target_within (endpoint.OnPledge action) text target e = numbered (λ n. OnPledge n action) text target (λ n range. range) e
-target_within endpoint.ShowDay text target e =
+target_within Endpoint.Show text target e = numbered Show text target (λ n range. range) e
+target_within (Endpoint.OnPledge action) text target e = numbered (λ n. OnPledge n action) text target (λ n range. range) e
+target_within Endpoint.ShowDay text target e =
     mapped IsTargetWithin ShowDay (and_then text day_said) target e
     (λ day is. let s = given_some text day_said day is in day_within s.0 day s.2)
-target_within endpoint.Export text target e = (let same : Export ≡ target = cc in subst IsTargetWithin same tt)
-target_within endpoint.Import text target e = (let same : Import ≡ target = cc in subst IsTargetWithin same tt)
-target_within endpoint.Present text target e = (let same : Present ≡ target = cc in subst IsTargetWithin same tt)
-target_within (endpoint.OnReceipt action) text target e = (let same : OnReceipt action ≡ target = cc in subst IsTargetWithin same tt)
+target_within endpoint text target e = subst IsTargetWithin (some_same e) tt
 
 asked_within : (asked : AskedFor) (place : Place) → place_asked asked ≡ Some place → IsPlaceWithin place
 asked_within asked place e =
@@ -317,9 +296,9 @@ filled_within body book key importing (Ok rows) request range text same =
 filled_within body book key importing (Err fault) request range text same = absurd cc
 
 asked_in : (body : List ℕ) (book : ℕ) (asked : Asks) (request : Request) → IsNumber book → AreAsksWithin asked → IsAsked body book asked (Ok request) → IsWithin request
-asked_in body book (asks.Whole caller) request range within same =
+asked_in body book (Asks.Whole caller) request range within same =
     let is : ◌≡◌ {A = Request} (record { book = book; caller = caller }) request = cc in subst IsWithin is (range, within)
-asked_in body book (asks.Import key importing) request range within it = filled_within body book key importing it.0 request range it.1 it.2
+asked_in body book (Asks.Import key importing) request range within it = filled_within body book key importing it.0 request range it.1 it.2
 
 outlined : (body : List ℕ) (said : Result Outline WireFault) (request : Request) → ((outline : Outline) → said ≡ Ok outline → IsOutlineWithin outline)
     → IsOutlined body said (Ok request) → IsWithin request

@@ -1,6 +1,6 @@
 -- What the router found, as values.
 use Rattle.std.specs.Prelude.{option_copied}
-use Rattle.pawn_wire.specs.declared.router.Asked.{Asked}
+use Rattle.pawn_wire.specs.Types.{Asked}
 use Rattle.pawn_wire.specs.Route.{AskedFor}
 
 -- the router's answer, with its texts as bytes

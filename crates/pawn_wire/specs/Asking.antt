@@ -9,12 +9,7 @@ use Rattle.pawn_wire.specs.Commands.{brokers_command_said, bearers_command_said}
 use Rattle.pawn_wire.specs.Fields.{Pair, values_of}
 use Rattle.pawn_wire.specs.Member.{body_said}
 use Rattle.pawn_wire.specs.Receipts.{receipt_values, receipts_said, one_said}
-use Rattle.pawn_wire.specs.declared.asking.Asks.{Asks}
-use Rattle.pawn_wire.specs.declared.asking.Asks.TheVariants as asks
-use Rattle.pawn_wire.specs.declared.fault.WireFault.{WireFault}
-use Rattle.pawn_wire.specs.declared.fault.WireFault.TheVariants.{BadBody, BadKey}
-use Rattle.pawn_wire.specs.declared.place.Target.{Target}
-use Rattle.pawn_wire.specs.declared.place.Target.TheVariants.{Create, PutTerms, TakePledge, Show, OnPledge, ShowDay, Export, Import, Present, OnReceipt}
+use Rattle.pawn_wire.specs.Types.{Asks, BadBody, BadKey, Create, Export, Import, OnPledge, OnReceipt, Present, PutTerms, Show, ShowDay, TakePledge, Target, WireFault}
 
 -- the key in these values, if there is exactly one value
 abbrev pub key_said : List (List ℕ) → Option ℕ
@@ -33,21 +28,21 @@ key_of fields = key_given (codes "pledge-key") fields
 -- Who asks at a target, and what for. The key or the receipts are read first, and then the body. An import has two keys.
 abbrev pub asks_said : Target → List Pair → List ℕ → Result Asks WireFault
 asks_said Create fields body =
-    after (key_of fields) (λ key. or_fault BadBody (option_map (λ new_book. asks.Whole (Operator key new_book)) (body_said new_book_of body)))
+    after (key_of fields) (λ key. or_fault BadBody (option_map (λ new_book. Asks.Whole (Operator key new_book)) (body_said new_book_of body)))
 asks_said PutTerms fields body =
-    after (key_of fields) (λ key. or_fault BadBody (option_map (λ terms. asks.Whole (Broker key (broker.PutTerms terms))) (body_said new_terms_of body)))
+    after (key_of fields) (λ key. or_fault BadBody (option_map (λ terms. Asks.Whole (Broker key (broker.PutTerms terms))) (body_said new_terms_of body)))
 asks_said TakePledge fields body =
-    after (key_of fields) (λ key. or_fault BadBody (option_map (λ opening. asks.Whole (Broker key (broker.TakePledge opening))) (body_said opening_of body)))
-asks_said (Show number) fields body = after (key_of fields) (λ key. Ok (asks.Whole (Broker key (broker.Show number))))
+    after (key_of fields) (λ key. or_fault BadBody (option_map (λ opening. Asks.Whole (Broker key (broker.TakePledge opening))) (body_said opening_of body)))
+asks_said (Show number) fields body = after (key_of fields) (λ key. Ok (Asks.Whole (Broker key (broker.Show number))))
 asks_said (OnPledge number action) fields body =
     after (key_of fields) (λ key. or_fault BadBody
-    (option_map (λ command. asks.Whole (Broker key (broker.OnPledge number command))) (brokers_command_said action body)))
-asks_said (ShowDay day) fields body = after (key_of fields) (λ key. Ok (asks.Whole (Broker key (broker.SheetOf day))))
-asks_said Export fields body = after (key_of fields) (λ key. Ok (asks.Whole (Broker key broker.Export)))
+    (option_map (λ command. Asks.Whole (Broker key (broker.OnPledge number command))) (brokers_command_said action body)))
+asks_said (ShowDay day) fields body = after (key_of fields) (λ key. Ok (Asks.Whole (Broker key (broker.SheetOf day))))
+asks_said Export fields body = after (key_of fields) (λ key. Ok (Asks.Whole (Broker key broker.Export)))
 asks_said Import fields body =
-    after (key_of fields) (λ key. after (key_given (codes "import-key") fields) (λ importing. Ok (asks.Import key importing)))
+    after (key_of fields) (λ key. after (key_given (codes "import-key") fields) (λ importing. Ok (Asks.Import key importing)))
 asks_said Present fields body =
-    after (receipts_said (receipt_values fields)) (λ receipts. Ok (asks.Whole (Bearer (bearer.Present receipts))))
+    after (receipts_said (receipt_values fields)) (λ receipts. Ok (Asks.Whole (Bearer (bearer.Present receipts))))
 asks_said (OnReceipt action) fields body =
     after (one_said (receipt_values fields)) (λ receipt. or_fault BadBody
-    (option_map (λ command. asks.Whole (Bearer (bearer.OnPledge receipt command))) (bearers_command_said action body)))
+    (option_map (λ command. Asks.Whole (Bearer (bearer.OnPledge receipt command))) (bearers_command_said action body)))

@@ -1,7 +1,6 @@
 -- The JSON bodies of replies.
 use Rattle.std.specs.Prelude.{ℕ, List, ◌++◌, codes, decimal, Option, Some, None}
-use Rattle.pawn_wire.specs.declared.detail.Detail.{Detail}
-use Rattle.pawn_wire.specs.declared.detail.Detail.TheVariants.{Row, Total}
+use Rattle.pawn_wire.specs.Types.{Detail, Row, Total}
 
 -- which book was made
 abbrev pub book_text : ℕ → List ℕ

@@ -5,12 +5,7 @@ use Rattle.pawn_pledge.specs.declared.command.Paper.{Paper}
 use Rattle.pawn_pledge.specs.declared.command.Decision.{Decision}
 use Rattle.pawn_wire.specs.Chain.{and_then}
 use Rattle.pawn_wire.specs.Member.{number_at, string_at, flag_at, day_at, body_said}
-use Rattle.pawn_wire.specs.declared.commands.NewBooking.{NewBooking}
-use Rattle.pawn_wire.specs.declared.commands.NewEntry.{NewEntry}
-use Rattle.pawn_wire.specs.declared.route.BearerAction.{BearerAction}
-use Rattle.pawn_wire.specs.declared.route.BearerAction.TheVariants as bearers
-use Rattle.pawn_wire.specs.declared.route.BrokerAction.{BrokerAction}
-use Rattle.pawn_wire.specs.declared.route.BrokerAction.TheVariants as brokers
+use Rattle.pawn_wire.specs.Types.{BearerAction, BrokerAction, NewBooking, NewEntry}
 
 -- an entry to be made: its number and its sum in pence
 abbrev pub asked_entry : Data → Option NewEntry
@@ -45,18 +40,18 @@ asked_booking d =
 
 -- the command for a broker's action, with what its body says if it takes one
 abbrev pub brokers_command_said : BrokerAction → List ℕ → Option Command
-brokers_command_said brokers.Draw body = option_map (λ entry. Command.Draw entry.seq entry.pence) (body_said asked_entry body)
-brokers_command_said brokers.Repay body = option_map (λ entry. Command.Repay entry.seq entry.pence) (body_said asked_entry body)
-brokers_command_said brokers.Hold body = Some Command.Hold
-brokers_command_said brokers.Release body = Some Command.Release
-brokers_command_said brokers.Declare body = option_map Command.Declare (body_said paper_of body)
-brokers_command_said brokers.Decide body = option_map Command.DecideBooking (body_said decision_of body)
-brokers_command_said brokers.Sell body = option_map Command.Sell (body_said (number_at (codes "net")) body)
-brokers_command_said brokers.Extend body = option_map Command.Extend (body_said (day_at (codes "until")) body)
+brokers_command_said BrokerAction.Draw body = option_map (λ entry. Command.Draw entry.seq entry.pence) (body_said asked_entry body)
+brokers_command_said BrokerAction.Repay body = option_map (λ entry. Command.Repay entry.seq entry.pence) (body_said asked_entry body)
+brokers_command_said BrokerAction.Hold body = Some Command.Hold
+brokers_command_said BrokerAction.Release body = Some Command.Release
+brokers_command_said BrokerAction.Declare body = option_map Command.Declare (body_said paper_of body)
+brokers_command_said BrokerAction.Decide body = option_map Command.DecideBooking (body_said decision_of body)
+brokers_command_said BrokerAction.Sell body = option_map Command.Sell (body_said (number_at (codes "net")) body)
+brokers_command_said BrokerAction.Extend body = option_map Command.Extend (body_said (day_at (codes "until")) body)
 
 -- the command for a bearer's action, with what its body says if it takes one
 abbrev pub bearers_command_said : BearerAction → List ℕ → Option Command
-bearers_command_said bearers.Repay body = option_map (λ entry. Command.Repay entry.seq entry.pence) (body_said asked_entry body)
-bearers_command_said bearers.Ask body = option_map (λ booking. Command.AskBooking booking.day booking.window) (body_said asked_booking body)
-bearers_command_said bearers.Cancel body = Some Command.CancelBooking
-bearers_command_said bearers.Redeem body = option_map Command.Redeem (body_said (number_at (codes "paid")) body)
+bearers_command_said BearerAction.Repay body = option_map (λ entry. Command.Repay entry.seq entry.pence) (body_said asked_entry body)
+bearers_command_said BearerAction.Ask body = option_map (λ booking. Command.AskBooking booking.day booking.window) (body_said asked_booking body)
+bearers_command_said BearerAction.Cancel body = Some Command.CancelBooking
+bearers_command_said BearerAction.Redeem body = option_map Command.Redeem (body_said (number_at (codes "paid")) body)

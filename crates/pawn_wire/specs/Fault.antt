@@ -1,45 +1,30 @@
 -- The faults of bytes that are no request.
 use Rattle.pawn_wire.specs.Common.{Cause, CsvFault, List, None, Option, Some, codes, ℕ}
-use Rattle.pawn_csv.specs.Fault as csv
-use Rattle.pawn_csv.specs.declared.fault.Cause.TheVariants as cause
-use Rattle.pawn_wire.specs.declared.detail.Detail.{Detail}
-use Rattle.pawn_wire.specs.declared.detail.Detail.TheVariants.{Row}
-use Rattle.pawn_wire.specs.declared.fault.HeadFault.{HeadFault}
-use Rattle.pawn_wire.specs.declared.fault.HeadFault.TheVariants as head
-use Rattle.pawn_wire.specs.declared.fault.WireFault.{WireFault}
+use Rattle.pawn_csv.specs.Fault.{cause_row}
+use Rattle.pawn_wire.specs.Types.{Detail, HeadFault, Row, WireFault}
 use Rattle.pawn_wire.specs.declared.fault.WireFault.TheVariants.{BadHead, Transfer, BadLength, BodyTooLong, NoRoute, WrongMethod, BadBody, BadKey, BadReceipt, TooManyReceipts, NoReceipt, Csv, Memory}
 
--- a fault's number
-abbrev pub wire_fault_code : WireFault → ℕ
-wire_fault_code BadHead = 701
-wire_fault_code Transfer = 703
-wire_fault_code BadLength = 704
-wire_fault_code BodyTooLong = 705
-wire_fault_code NoRoute = 706
-wire_fault_code WrongMethod = 707
-wire_fault_code BadBody = 708
-wire_fault_code BadKey = 709
-wire_fault_code BadReceipt = 710
-wire_fault_code TooManyReceipts = 711
-wire_fault_code NoReceipt = 712
-wire_fault_code (Csv fault) = csv.cause_code fault.cause
-wire_fault_code Memory = 491
+-- a fault's number and its name
+abbrev pub wire_fault_row : WireFault → ℕ × List ℕ
+wire_fault_row BadHead = (701, codes "BadHead")
+wire_fault_row Transfer = (703, codes "Transfer")
+wire_fault_row BadLength = (704, codes "BadLength")
+wire_fault_row BodyTooLong = (705, codes "BodyTooLong")
+wire_fault_row NoRoute = (706, codes "NoRoute")
+wire_fault_row WrongMethod = (707, codes "WrongMethod")
+wire_fault_row BadBody = (708, codes "BadBody")
+wire_fault_row BadKey = (709, codes "BadKey")
+wire_fault_row BadReceipt = (710, codes "BadReceipt")
+wire_fault_row TooManyReceipts = (711, codes "TooManyReceipts")
+wire_fault_row NoReceipt = (712, codes "NoReceipt")
+wire_fault_row (Csv fault) = cause_row fault.cause
+wire_fault_row Memory = (491, codes "Memory")
 
--- a fault's name
+abbrev pub wire_fault_code : WireFault → ℕ
+wire_fault_code fault = (wire_fault_row fault).0
+
 abbrev pub wire_fault_name : WireFault → List ℕ
-wire_fault_name BadHead = codes "BadHead"
-wire_fault_name Transfer = codes "Transfer"
-wire_fault_name BadLength = codes "BadLength"
-wire_fault_name BodyTooLong = codes "BodyTooLong"
-wire_fault_name NoRoute = codes "NoRoute"
-wire_fault_name WrongMethod = codes "WrongMethod"
-wire_fault_name BadBody = codes "BadBody"
-wire_fault_name BadKey = codes "BadKey"
-wire_fault_name BadReceipt = codes "BadReceipt"
-wire_fault_name TooManyReceipts = codes "TooManyReceipts"
-wire_fault_name NoReceipt = codes "NoReceipt"
-wire_fault_name (Csv fault) = csv.cause_name fault.cause
-wire_fault_name Memory = codes "Memory"
+wire_fault_name fault = (wire_fault_row fault).1
 
 -- what a reply gives besides the fault's number and name: the row, for a fault of a text
 abbrev pub detail_of : WireFault → Option Detail
@@ -48,22 +33,16 @@ detail_of other = None
 
 -- a head's fault, as one of a request
 abbrev pub wire_fault : HeadFault → WireFault
-wire_fault head.BadHead = BadHead
-wire_fault head.Transfer = Transfer
-wire_fault head.BadLength = BadLength
-wire_fault head.BodyTooLong = BodyTooLong
+wire_fault HeadFault.BadHead = BadHead
+wire_fault HeadFault.Transfer = Transfer
+wire_fault HeadFault.BadLength = BadLength
+wire_fault HeadFault.BodyTooLong = BodyTooLong
 
--- a fault of a text, by its cause; bytes in memory can always be read, so a read fault counts as refused memory
+-- a text's fault, as one of a request; bytes in memory can always be read, so a read fault counts as refused memory
 abbrev pub fault_by : Cause → CsvFault → WireFault
-fault_by cause.Memory fault = Memory
-fault_by cause.Read fault = Memory
-fault_by cause.Csv fault = Csv fault
-fault_by cause.Columns fault = Csv fault
-fault_by cause.BadField fault = Csv fault
-fault_by cause.Order fault = Csv fault
-fault_by cause.NotReplayable fault = Csv fault
-fault_by cause.TooMany fault = Csv fault
+fault_by Cause.Memory fault = Memory
+fault_by Cause.Read fault = Memory
+fault_by cause fault = Csv fault
 
--- a text's fault, as one of a request
 abbrev pub text_fault : CsvFault → WireFault
 text_fault fault = fault_by fault.cause fault

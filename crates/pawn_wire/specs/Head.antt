@@ -4,11 +4,7 @@ use Rattle.pawn_wire.specs.Common.{HasNoRequest, MayBecomeRequest, ReadsRequest,
 use Rattle.pawn_wire.specs.Fields.{Pair, values_of}
 use Rattle.pawn_wire.specs.Limits.{max_head, max_fields, max_body}
 use Rattle.pawn_wire.specs.Numeral.{decimal_of}
-use Rattle.pawn_wire.specs.declared.fault.HeadFault.{HeadFault}
-use Rattle.pawn_wire.specs.declared.fault.HeadFault.TheVariants.{BadHead, Transfer, BadLength, BodyTooLong}
-use Rattle.pawn_wire.specs.declared.head.HeadRead.{HeadRead}
-use Rattle.pawn_wire.specs.declared.head.HeadRead.TheVariants.{Whole, Partial, Fault}
-use Rattle.pawn_wire.specs.declared.head.HeadFacts.{HeadFacts}
+use Rattle.pawn_wire.specs.Types.{HeadFacts, HeadFault, HeadRead}
 
 -- the names and values of a head
 abbrev pub fields_of : RequestHead → List Pair
@@ -39,9 +35,9 @@ length_by fields = length_said (values_of (codes "content-length") fields)
 -- the faults of a head's fields, in their order
 abbrev pub field_faults : List Pair → List (Bool × HeadFault)
 field_faults fields =
-    (nat_lt 0 (length (values_of (codes "transfer-encoding") fields)), Transfer)
-    ∷ (is_none (length_by fields), BadLength)
-    ∷ (nat_lt max_body (unwrap_or (length_by fields) 0), BodyTooLong)
+    (nat_lt 0 (length (values_of (codes "transfer-encoding") fields)), HeadFault.Transfer)
+    ∷ (is_none (length_by fields), HeadFault.BadLength)
+    ∷ (nat_lt max_body (unwrap_or (length_by fields) 0), HeadFault.BodyTooLong)
     ∷ []
 
 -- the length of the body, or the first fault of the fields
@@ -61,14 +57,14 @@ pub record IsHead (h : RequestHead) (f : HeadFacts) : Type 0 where
 
 -- P holds of the facts, if the head is whole
 abbrev pub IfWhole : HeadRead → (HeadFacts → Type 0) → Type 0
-IfWhole (Whole f) P = P f
-IfWhole Partial P = Unit {0}
-IfWhole (Fault e) P = Unit {0}
+IfWhole (HeadRead.Whole f) P = P f
+IfWhole HeadRead.Partial P = Unit {0}
+IfWhole (HeadRead.Fault e) P = Unit {0}
 
 -- what the bytes begin with: a whole head with these facts, one that is not complete yet, or a fault
 abbrev pub IsHeadRead : List ℕ → HeadRead → Type 0
-IsHeadRead stream (Whole f) = (h : RequestHead) × (rest : List ℕ) × ReadsHead stream h rest × IsHead h f
-IsHeadRead stream Partial = (length stream < max_head) × HasNoRequest stream × MayBecomeRequest stream
-IsHeadRead stream (Fault e) =
-    (IsBadHead stream × (e ≡ BadHead))
+IsHeadRead stream (HeadRead.Whole f) = (h : RequestHead) × (rest : List ℕ) × ReadsHead stream h rest × IsHead h f
+IsHeadRead stream HeadRead.Partial = (length stream < max_head) × HasNoRequest stream × MayBecomeRequest stream
+IsHeadRead stream (HeadRead.Fault e) =
+    (IsBadHead stream × (e ≡ HeadFault.BadHead))
     ⊎ ((h : RequestHead) × (rest : List ℕ) × ReadsHead stream h rest × (body_length (fields_of h) ≡ Err e))

@@ -18,11 +18,4 @@ pub use Rattle.pawn_wire.specs.Reply.{done_text, fault_text, head_text, json_tex
 pub use Rattle.pawn_wire.specs.Request.{HoldsRows, IsAsked, IsOutlined, IsRequestRead, SaysRequest, framing_faults, outline_by}
 pub use Rattle.pawn_wire.specs.Route.{AskedFor, Rows, plain, route_of, table, with_route, with_routes}
 unfoldable pub use Rattle.pawn_wire.specs.Route.{table_rows}
-pub use Rattle.pawn_wire.specs.declared.asking.Asks.{Asks}
-pub use Rattle.pawn_wire.specs.declared.detail.Detail.TheVariants.{Row, Total}
-pub use Rattle.pawn_wire.specs.declared.fault.HeadFault.{HeadFault}
-pub use Rattle.pawn_wire.specs.declared.fault.WireFault.{WireFault}
-pub use Rattle.pawn_wire.specs.declared.fault.WireFault.TheVariants.{BadBody, BadReceipt, Csv, Memory, NoReceipt, NoRoute, TooManyReceipts, WrongMethod}
-pub use Rattle.pawn_wire.specs.declared.place.Target.TheVariants.{Create, Export, Import, OnPledge, OnReceipt, Present, PutTerms, Show, ShowDay, TakePledge}
-pub use Rattle.pawn_wire.specs.declared.request.Outline.{Outline}
-pub use Rattle.pawn_wire.specs.declared.route.Endpoint.{Endpoint}
+pub use Rattle.pawn_wire.specs.Types.{Asks, BadBody, BadReceipt, Create, Csv, Endpoint, Export, HeadFault, Import, Memory, NoReceipt, NoRoute, OnPledge, OnReceipt, Outline, Present, PutTerms, Row, Show, ShowDay, TakePledge, TooManyReceipts, Total, WireFault, WrongMethod}

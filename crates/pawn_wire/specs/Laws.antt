@@ -13,11 +13,7 @@ use Rattle.pawn_wire.specs.Limits.{max_number}
 use Rattle.pawn_wire.specs.Named.{number_said, day_said}
 use Rattle.pawn_wire.specs.Request.{SaysRequest}
 use Rattle.pawn_wire.specs.Route.{table, route_of}
-use Rattle.pawn_wire.specs.declared.detail.Detail.{Detail}
-use Rattle.pawn_wire.specs.declared.detail.Detail.TheVariants.{Row, Total}
-use Rattle.pawn_wire.specs.declared.fault.WireFault.{WireFault}
-use Rattle.pawn_wire.specs.declared.route.Endpoint.{Endpoint}
-use Rattle.pawn_wire.specs.declared.route.Endpoint.TheVariants as e
+use Rattle.pawn_wire.specs.Types.{Detail, Endpoint, Row, Total, WireFault}
 
 -- no byte that a JSON text escapes
 abbrev pub is_unescaped : List ℕ → Bool
@@ -139,16 +135,16 @@ fill false (c ∷ form) = if c == 123 then fill true form else c ∷ fill false 
 
 -- the example that a target for the endpoint has besides its book
 abbrev pub item_for : Endpoint → Option (List ℕ)
-item_for e.Create = None
-item_for e.PutTerms = None
-item_for e.TakePledge = None
-item_for e.Show = Some (codes "12")
-item_for (e.OnPledge action) = Some (codes "12")
-item_for e.ShowDay = Some (codes "2024-03-04")
-item_for e.Export = None
-item_for e.Import = None
-item_for e.Present = None
-item_for (e.OnReceipt action) = None
+item_for Endpoint.Create = None
+item_for Endpoint.PutTerms = None
+item_for Endpoint.TakePledge = None
+item_for Endpoint.Show = Some (codes "12")
+item_for (Endpoint.OnPledge action) = Some (codes "12")
+item_for Endpoint.ShowDay = Some (codes "2024-03-04")
+item_for Endpoint.Export = None
+item_for Endpoint.Import = None
+item_for Endpoint.Present = None
+item_for (Endpoint.OnReceipt action) = None
 
 -- the target of a row of the table is found, with its endpoint and what it names
 abbrev pub IsTargetFound : List ℕ × Endpoint → Type 0

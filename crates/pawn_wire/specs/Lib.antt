@@ -1,3 +1,4 @@
+pub mod Types
 pub mod Asked
 pub mod Asking
 pub mod Bodies

@@ -5,8 +5,7 @@ use Rattle.serde_json.specs.declared.value.Value.{Value}
 use Rattle.pawn_wire.specs.Chain.{and_then}
 use Rattle.pawn_wire.specs.Limits.{max_number}
 use Rattle.pawn_wire.specs.Named.{day_said}
-use Rattle.pawn_wire.specs.declared.fault.WireFault.{WireFault}
-use Rattle.pawn_wire.specs.declared.fault.WireFault.TheVariants.{BadBody, Memory}
+use Rattle.pawn_wire.specs.Types.{BadBody, Memory, WireFault}
 
 -- the JSON value that the bytes write
 abbrev pub json_of : List ℕ → Option Data

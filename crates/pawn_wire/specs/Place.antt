@@ -4,11 +4,7 @@ use Rattle.std.specs.List.{list_all}
 use Rattle.pawn_wire.specs.Chain.{and_then}
 use Rattle.pawn_wire.specs.Named.{number_said, day_said}
 use Rattle.pawn_wire.specs.Route.{AskedFor, route_of}
-use Rattle.pawn_wire.specs.declared.place.Place.{Place}
-use Rattle.pawn_wire.specs.declared.place.Target.{Target}
-use Rattle.pawn_wire.specs.declared.place.Target.TheVariants.{Create, PutTerms, TakePledge, Show, OnPledge, ShowDay, Export, Import, Present, OnReceipt}
-use Rattle.pawn_wire.specs.declared.route.Endpoint.{Endpoint}
-use Rattle.pawn_wire.specs.declared.route.Endpoint.TheVariants as endpoint
+use Rattle.pawn_wire.specs.Types.{Create, Endpoint, Export, Import, OnPledge, OnReceipt, Place, Present, PutTerms, Show, ShowDay, TakePledge, Target}
 
 abbrev pub is_ascii_text : List ℕ → Bool
 is_ascii_text text = list_all (λ b. nat_lt b 128) text
@@ -28,16 +24,16 @@ method_of (OnReceipt action) = codes "POST"
 
 -- what is asked at an endpoint, with the pledge or the day that the second part of a target names
 abbrev pub target_said : Endpoint → Option (List ℕ) → Option Target
-target_said endpoint.Create item = Some Create
-target_said endpoint.PutTerms item = Some PutTerms
-target_said endpoint.TakePledge item = Some TakePledge
-target_said endpoint.Show item = option_map Show (and_then item number_said)
-target_said (endpoint.OnPledge action) item = option_map (λ number. OnPledge number action) (and_then item number_said)
-target_said endpoint.ShowDay item = option_map ShowDay (and_then item day_said)
-target_said endpoint.Export item = Some Export
-target_said endpoint.Import item = Some Import
-target_said endpoint.Present item = Some Present
-target_said (endpoint.OnReceipt action) item = Some (OnReceipt action)
+target_said Endpoint.Create item = Some Create
+target_said Endpoint.PutTerms item = Some PutTerms
+target_said Endpoint.TakePledge item = Some TakePledge
+target_said Endpoint.Show item = option_map Show (and_then item number_said)
+target_said (Endpoint.OnPledge action) item = option_map (λ number. OnPledge number action) (and_then item number_said)
+target_said Endpoint.ShowDay item = option_map ShowDay (and_then item day_said)
+target_said Endpoint.Export item = Some Export
+target_said Endpoint.Import item = Some Import
+target_said Endpoint.Present item = Some Present
+target_said (Endpoint.OnReceipt action) item = Some (OnReceipt action)
 
 -- the book that was asked for, and what was asked of it
 abbrev pub place_asked : AskedFor → Option Place

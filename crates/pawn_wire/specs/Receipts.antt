@@ -4,8 +4,7 @@ use Rattle.pawn_wire.specs.Common.{MOST_RECEIPTS, Receipt, after_first, before_f
 use Rattle.pawn_wire.specs.Chain.{and_then, or_fault}
 use Rattle.pawn_wire.specs.Fields.{Pair, values_of}
 use Rattle.pawn_wire.specs.Named.{number_said}
-use Rattle.pawn_wire.specs.declared.fault.WireFault.{WireFault}
-use Rattle.pawn_wire.specs.declared.fault.WireFault.TheVariants.{NoReceipt, TooManyReceipts, BadReceipt}
+use Rattle.pawn_wire.specs.Types.{BadReceipt, NoReceipt, TooManyReceipts, WireFault}
 
 -- the byte `-`
 abbrev pub is_hyphen : ℕ → Bool

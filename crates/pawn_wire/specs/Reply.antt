@@ -8,12 +8,7 @@ use Rattle.pawn_wire.specs.Bodies.{book_text, version_text, filled_text, opened_
 use Rattle.pawn_wire.specs.Done.{commanded_text}
 use Rattle.pawn_wire.specs.Status.{reply_status}
 use Rattle.pawn_wire.specs.Fault.{wire_fault_code, detail_of, wire_fault_name}
-use Rattle.pawn_wire.specs.declared.detail.Detail.{Detail}
-use Rattle.pawn_wire.specs.declared.detail.Detail.TheVariants.{Total}
-use Rattle.pawn_wire.specs.declared.reply.Out.{Out}
-use Rattle.pawn_wire.specs.declared.reply.Out.TheVariants.{Done, Refused, Fault, Plain, Csv}
-use Rattle.pawn_wire.specs.declared.fault.WireFault.{WireFault}
-use Rattle.pawn_wire.specs.declared.fault.WireFault.TheVariants.{Memory}
+use Rattle.pawn_wire.specs.Types.{Detail, Memory, Out, Total, WireFault}
 
 -- the head of a reply: its status, the length of its body and the body's type
 abbrev pub head_text : ℕ → ℕ → List ℕ → List ℕ
@@ -51,8 +46,8 @@ done_text (Commanded number done) = commanded_text number done
 
 -- the whole reply
 abbrev pub out_text : Out → List ℕ
-out_text (Done reply) = json_text 200 (done_text reply)
-out_text (Refused why) = refused_text (book.book_refusal_code why) (book.book_refusal_name why) (option_map Total (book.total_told why))
-out_text (Fault fault) = fault_text fault
-out_text (Plain text) = reply_text 200 (codes "text/plain; charset=utf-8") text.items
-out_text (Csv text) = reply_text 200 (codes "text/csv; charset=utf-8") text.items
+out_text (Out.Done reply) = json_text 200 (done_text reply)
+out_text (Out.Refused why) = refused_text (book.book_refusal_code why) (book.book_refusal_name why) (option_map Total (book.total_told why))
+out_text (Out.Fault fault) = fault_text fault
+out_text (Out.Plain text) = reply_text 200 (codes "text/plain; charset=utf-8") text.items
+out_text (Out.Csv text) = reply_text 200 (codes "text/csv; charset=utf-8") text.items

@@ -1,24 +1,19 @@
 -- Requests.
 use Rattle.std.specs.Prelude.{◌≡◌, ◌≢◌, ℕ, ◌⊎◌, ◌==◌, Bool, not, List, [], ◌∷◌, ◌++◌, map, length, bytes_eq, unwrap_or, Result, Ok, Err}
-use Rattle.pawn_wire.specs.Common.{BookRows, Broker, CsvFault, Import, IsFirstCause, IsTextOf, Request, RequestHead, first_of, strip_bom}
-use Rattle.pawn_csv.specs.declared.fault.Cause.TheVariants as cause
+use Rattle.pawn_wire.specs.Common.{BookRows, Broker, CsvFault, Import, IsFirstCause, IsTextOf, Request, RequestHead, first_of, strip_bom, Cause}
 use Rattle.pawn_wire.specs.Asking.{asks_said}
 use Rattle.pawn_wire.specs.Chain.{OrMemory, after, or_fault}
 use Rattle.pawn_wire.specs.Fault.{wire_fault}
 use Rattle.pawn_wire.specs.Fields.{Pair}
 use Rattle.pawn_wire.specs.Head.{ReadsHead, fields_of, length_by, field_faults}
 use Rattle.pawn_wire.specs.Place.{method_of, place_of}
-use Rattle.pawn_wire.specs.declared.asking.Asks.{Asks}
-use Rattle.pawn_wire.specs.declared.asking.Asks.TheVariants as asks
-use Rattle.pawn_wire.specs.declared.fault.WireFault.{WireFault}
-use Rattle.pawn_wire.specs.declared.fault.WireFault.TheVariants.{BadHead, BadLength, NoRoute, WrongMethod, Csv}
-use Rattle.pawn_wire.specs.declared.request.Outline.{Outline}
+use Rattle.pawn_wire.specs.Types.{Asks, Csv, NoRoute, Outline, WireFault, WrongMethod}
 
 -- the faults of a head's fields and of the body's length, in their order
 abbrev pub framing_faults : List Pair → List ℕ → List (Bool × WireFault)
 framing_faults fields body =
     map (λ row. (row.0, wire_fault row.1)) (field_faults fields)
-    ++ (not (unwrap_or (length_by fields) 0 == length body), BadLength)
+    ++ (not (unwrap_or (length_by fields) 0 == length body), WireFault.BadLength)
     ∷ []
 
 -- What the parts of a head and a body ask, or the first fault that applies. The framing is judged first, then the
@@ -35,12 +30,12 @@ outline_by method target fields body =
 abbrev pub HoldsRows : List ℕ → Result BookRows WireFault → Type 0
 HoldsRows body (Ok rows) = IsTextOf (strip_bom body) rows
 HoldsRows body (Err fault) =
-    (csv : CsvFault) × (fault ≡ Csv csv) × (csv.cause ≢ cause.Memory) × IsFirstCause (strip_bom body) csv.cause csv.row
+    (csv : CsvFault) × (fault ≡ Csv csv) × (csv.cause ≢ Cause.Memory) × IsFirstCause (strip_bom body) csv.cause csv.row
 
 -- the request that results; an import has the rows that its body holds, or the fault of its text
 abbrev pub IsAsked : List ℕ → ℕ → Asks → Result Request WireFault → Type 0
-IsAsked body book (asks.Whole caller) said = said ≡ Ok (record { book = book; caller = caller })
-IsAsked body book (asks.Import key importing) said =
+IsAsked body book (Asks.Whole caller) said = said ≡ Ok (record { book = book; caller = caller })
+IsAsked body book (Asks.Import key importing) said =
     (held : Result BookRows WireFault) × HoldsRows body held
     × (said ≡ after held (λ rows. Ok (record { book = book; caller = Broker key (Import importing rows) })))
 
@@ -53,7 +48,7 @@ IsOutlined body (Err fault) said = said ≡ Err fault
 abbrev pub SaysRequest : List ℕ → Result Request WireFault → Type 0
 SaysRequest bytes said =
     ((h : RequestHead) × (body : List ℕ) × ReadsHead bytes h body × IsOutlined body (outline_by h.method h.target (fields_of h) body) said)
-    ⊎ (((h : RequestHead) (body : List ℕ) → ReadsHead bytes h body → ⊥) × (said ≡ Err BadHead))
+    ⊎ (((h : RequestHead) (body : List ℕ) → ReadsHead bytes h body → ⊥) × (said ≡ Err WireFault.BadHead))
 
 -- the answer is the request in the bytes, or their fault, or memory was refused
 abbrev pub IsRequestRead : List ℕ → Result Request WireFault → Type 0

@@ -4,34 +4,31 @@ use Rattle.pawn_wire.specs.Common.{Bor, InsertError, RouteOf, Scan, parse_route,
 use Rattle.matchit.specs.Rows.{RowsOf}
 use Rattle.matchit.specs.Order.{placed}
 use Rattle.matchit.specs.Seek.{first}
-use Rattle.pawn_wire.specs.declared.route.BearerAction.TheVariants as bearers
-use Rattle.pawn_wire.specs.declared.route.BrokerAction.TheVariants as brokers
-use Rattle.pawn_wire.specs.declared.route.Endpoint.{Endpoint}
-use Rattle.pawn_wire.specs.declared.route.Endpoint.TheVariants.{Create, PutTerms, TakePledge, Show, OnPledge, ShowDay, Export, Import, Present, OnReceipt}
+use Rattle.pawn_wire.specs.Types.{BearerAction, BrokerAction, Endpoint}
 
 -- the targets, each with its endpoint
 abbrev pub table : List (List ℕ × Endpoint)
 table =
-    (codes "/books/{b}", Create)
-    ∷ (codes "/books/{b}/terms", PutTerms)
-    ∷ (codes "/books/{b}/pledges", TakePledge)
-    ∷ (codes "/books/{b}/pledges/{n}", Show)
-    ∷ (codes "/books/{b}/pledges/{n}/draw", OnPledge brokers.Draw)
-    ∷ (codes "/books/{b}/pledges/{n}/repay", OnPledge brokers.Repay)
-    ∷ (codes "/books/{b}/pledges/{n}/hold", OnPledge brokers.Hold)
-    ∷ (codes "/books/{b}/pledges/{n}/release", OnPledge brokers.Release)
-    ∷ (codes "/books/{b}/pledges/{n}/declare", OnPledge brokers.Declare)
-    ∷ (codes "/books/{b}/pledges/{n}/decide", OnPledge brokers.Decide)
-    ∷ (codes "/books/{b}/pledges/{n}/sell", OnPledge brokers.Sell)
-    ∷ (codes "/books/{b}/pledges/{n}/extend", OnPledge brokers.Extend)
-    ∷ (codes "/books/{b}/days/{d}", ShowDay)
-    ∷ (codes "/books/{b}/export", Export)
-    ∷ (codes "/books/{b}/import", Import)
-    ∷ (codes "/books/{b}/held", Present)
-    ∷ (codes "/books/{b}/held/repay", OnReceipt bearers.Repay)
-    ∷ (codes "/books/{b}/held/ask", OnReceipt bearers.Ask)
-    ∷ (codes "/books/{b}/held/cancel", OnReceipt bearers.Cancel)
-    ∷ (codes "/books/{b}/held/redeem", OnReceipt bearers.Redeem)
+    (codes "/books/{b}", Endpoint.Create)
+    ∷ (codes "/books/{b}/terms", Endpoint.PutTerms)
+    ∷ (codes "/books/{b}/pledges", Endpoint.TakePledge)
+    ∷ (codes "/books/{b}/pledges/{n}", Endpoint.Show)
+    ∷ (codes "/books/{b}/pledges/{n}/draw", Endpoint.OnPledge BrokerAction.Draw)
+    ∷ (codes "/books/{b}/pledges/{n}/repay", Endpoint.OnPledge BrokerAction.Repay)
+    ∷ (codes "/books/{b}/pledges/{n}/hold", Endpoint.OnPledge BrokerAction.Hold)
+    ∷ (codes "/books/{b}/pledges/{n}/release", Endpoint.OnPledge BrokerAction.Release)
+    ∷ (codes "/books/{b}/pledges/{n}/declare", Endpoint.OnPledge BrokerAction.Declare)
+    ∷ (codes "/books/{b}/pledges/{n}/decide", Endpoint.OnPledge BrokerAction.Decide)
+    ∷ (codes "/books/{b}/pledges/{n}/sell", Endpoint.OnPledge BrokerAction.Sell)
+    ∷ (codes "/books/{b}/pledges/{n}/extend", Endpoint.OnPledge BrokerAction.Extend)
+    ∷ (codes "/books/{b}/days/{d}", Endpoint.ShowDay)
+    ∷ (codes "/books/{b}/export", Endpoint.Export)
+    ∷ (codes "/books/{b}/import", Endpoint.Import)
+    ∷ (codes "/books/{b}/held", Endpoint.Present)
+    ∷ (codes "/books/{b}/held/repay", Endpoint.OnReceipt BearerAction.Repay)
+    ∷ (codes "/books/{b}/held/ask", Endpoint.OnReceipt BearerAction.Ask)
+    ∷ (codes "/books/{b}/held/cancel", Endpoint.OnReceipt BearerAction.Cancel)
+    ∷ (codes "/books/{b}/held/redeem", Endpoint.OnReceipt BearerAction.Redeem)
     ∷ []
 
 -- a router's rows, as `matchit` orders them

@@ -3,7 +3,7 @@ use Rattle.std.specs.Prelude.{◌≡◌, ℕ, List, [], ◌∷◌, codes, false,
 use Rattle.httparse.specs.Grammar.{Field, RequestHead, crlf, print_request}
 use Rattle.pawn_wire.specs.Fields.{Pair}
 use Rattle.pawn_wire.specs.Head.{IsHead, fields_of, body_length, closes_by}
-use Rattle.pawn_wire.specs.declared.fault.HeadFault.TheVariants.{Transfer, BadLength, BodyTooLong}
+use Rattle.pawn_wire.specs.Types.{HeadFault}
 
 -- a field's line: its name, and its value with the white space round it
 abbrev pub line : List ℕ → List ℕ → Field
@@ -50,15 +50,15 @@ WorkedLengths =
     × (body_length (tells_length (codes "80") ∷ []) ≡ Ok 80)
     × (body_length ((codes "content-LENGTH", codes "0080") ∷ []) ≡ Ok 80)
     × (body_length (tells_length (codes "1048576") ∷ []) ≡ Ok 1048576)
-    × (body_length (tells_length (codes "1048577") ∷ []) ≡ Err BodyTooLong)
+    × (body_length (tells_length (codes "1048577") ∷ []) ≡ Err HeadFault.BodyTooLong)
     × (body_length (tells_length (codes "0000000000000000001") ∷ []) ≡ Ok 1)
-    × (body_length (tells_length (codes "9999999999999999999") ∷ []) ≡ Err BodyTooLong)
-    × (body_length (tells_length (codes "00000000000000000001") ∷ []) ≡ Err BadLength)
-    × (body_length (tells_length [] ∷ []) ≡ Err BadLength)
-    × (body_length (tells_length (codes "+5") ∷ []) ≡ Err BadLength)
-    × (body_length (tells_length (codes "5") ∷ tells_length (codes "5") ∷ []) ≡ Err BadLength)
-    × (body_length (chunked_coding ∷ []) ≡ Err Transfer)
-    × (body_length (tells_length (codes "+5") ∷ chunked_coding ∷ []) ≡ Err Transfer)
+    × (body_length (tells_length (codes "9999999999999999999") ∷ []) ≡ Err HeadFault.BodyTooLong)
+    × (body_length (tells_length (codes "00000000000000000001") ∷ []) ≡ Err HeadFault.BadLength)
+    × (body_length (tells_length [] ∷ []) ≡ Err HeadFault.BadLength)
+    × (body_length (tells_length (codes "+5") ∷ []) ≡ Err HeadFault.BadLength)
+    × (body_length (tells_length (codes "5") ∷ tells_length (codes "5") ∷ []) ≡ Err HeadFault.BadLength)
+    × (body_length (chunked_coding ∷ []) ≡ Err HeadFault.Transfer)
+    × (body_length (tells_length (codes "+5") ∷ chunked_coding ∷ []) ≡ Err HeadFault.Transfer)
 
 -- a field that says whether the connection closes
 abbrev pub tells_connection : List ℕ → Pair

@@ -1,12 +1,10 @@
 -- Examples of replies, worked out.
 use Rattle.std.specs.Prelude.{◌≡◌, codes}
-use Rattle.pawn_wire.specs.Common.{BookFilled, BookMade, Opened, Receipt, TermsPut}
+use Rattle.pawn_wire.specs.Common.{BookFilled, BookMade, Opened, Receipt, TermsPut, Cause}
 use Rattle.pawn_book.specs.declared.refusal.Refusal.TheVariants.{NoSuchReceipt, NotOperator, BookTaken, Full}
-use Rattle.pawn_csv.specs.declared.fault.Cause.TheVariants as cause
 use Rattle.pawn_wire.specs.Reply.{memory_text, out_text}
 use Rattle.pawn_wire.specs.Status.{reply_status}
-use Rattle.pawn_wire.specs.declared.fault.WireFault.TheVariants.{BadHead, NoRoute, BadBody, Csv}
-use Rattle.pawn_wire.specs.declared.reply.Out.TheVariants.{Done, Refused, Fault}
+use Rattle.pawn_wire.specs.Types.{BadBody, Csv, NoRoute, Out, WireFault}
 
 -- the first number and the last of each kind: bad requests, forbidden, not found, unavailable, and conflicts between them
 abbrev pub WorkedReplyStatuses : Type 0
@@ -22,25 +20,25 @@ WorkedReplyStatuses =
 -- whole replies to refusals, with the statuses 404, 403, 409 and 503
 abbrev pub WorkedRefusals : Type 0
 WorkedRefusals =
-    (out_text (Refused NoSuchReceipt)
+    (out_text (Out.Refused NoSuchReceipt)
     ≡ codes "HTTP/1.1 404 Not Found\r\nContent-Length: 35\r\nContent-Type: application/json\r\n\r\n{\"code\":402,\"name\":\"NoSuchReceipt\"}")
-    × (out_text (Refused NotOperator)
+    × (out_text (Out.Refused NotOperator)
     ≡ codes "HTTP/1.1 403 Forbidden\r\nContent-Length: 33\r\nContent-Type: application/json\r\n\r\n{\"code\":410,\"name\":\"NotOperator\"}")
-    × (out_text (Refused BookTaken)
+    × (out_text (Out.Refused BookTaken)
     ≡ codes "HTTP/1.1 409 Conflict\r\nContent-Length: 31\r\nContent-Type: application/json\r\n\r\n{\"code\":404,\"name\":\"BookTaken\"}")
-    × (out_text (Refused Full)
+    × (out_text (Out.Refused Full)
     ≡ codes "HTTP/1.1 503 Service Unavailable\r\nContent-Length: 26\r\nContent-Type: application/json\r\n\r\n{\"code\":490,\"name\":\"Full\"}")
 
 -- whole replies to bytes that are no request, and the one when memory is refused
 abbrev pub WorkedFaults : Type 0
 WorkedFaults =
-    (out_text (Fault BadHead)
+    (out_text (Out.Fault WireFault.BadHead)
     ≡ codes "HTTP/1.1 400 Bad Request\r\nContent-Length: 29\r\nContent-Type: application/json\r\n\r\n{\"code\":701,\"name\":\"BadHead\"}")
-    × (out_text (Fault NoRoute)
+    × (out_text (Out.Fault NoRoute)
     ≡ codes "HTTP/1.1 404 Not Found\r\nContent-Length: 29\r\nContent-Type: application/json\r\n\r\n{\"code\":706,\"name\":\"NoRoute\"}")
-    × (out_text (Fault BadBody)
+    × (out_text (Out.Fault BadBody)
     ≡ codes "HTTP/1.1 400 Bad Request\r\nContent-Length: 29\r\nContent-Type: application/json\r\n\r\n{\"code\":708,\"name\":\"BadBody\"}")
-    × (out_text (Fault (Csv (record { cause = cause.BadField; row = 7 })))
+    × (out_text (Out.Fault (Csv (record { cause = Cause.BadField; row = 7 })))
     ≡ codes "HTTP/1.1 400 Bad Request\r\nContent-Length: 38\r\nContent-Type: application/json\r\n\r\n{\"code\":603,\"name\":\"BadField\",\"row\":7}")
     × (memory_text
     ≡ codes "HTTP/1.1 503 Service Unavailable\r\nContent-Length: 28\r\nContent-Type: application/json\r\n\r\n{\"code\":491,\"name\":\"Memory\"}")
@@ -52,11 +50,11 @@ first_receipt_of_ring = record { number = 1; secret = 0xda41597c_5157_488d_7724_
 -- whole replies to requests that were done
 abbrev pub WorkedAnswers : Type 0
 WorkedAnswers =
-    (out_text (Done (BookMade 7))
+    (out_text (Out.Done (BookMade 7))
     ≡ codes "HTTP/1.1 200 OK\r\nContent-Length: 10\r\nContent-Type: application/json\r\n\r\n{\"book\":7}")
-    × (out_text (Done (TermsPut 1))
+    × (out_text (Out.Done (TermsPut 1))
     ≡ codes "HTTP/1.1 200 OK\r\nContent-Length: 13\r\nContent-Type: application/json\r\n\r\n{\"version\":1}")
-    × (out_text (Done (BookFilled 2))
+    × (out_text (Out.Done (BookFilled 2))
     ≡ codes "HTTP/1.1 200 OK\r\nContent-Length: 14\r\nContent-Type: application/json\r\n\r\n{\"imported\":2}")
-    × (out_text (Done (Opened first_receipt_of_ring))
+    × (out_text (Out.Done (Opened first_receipt_of_ring))
     ≡ codes "HTTP/1.1 200 OK\r\nContent-Length: 63\r\nContent-Type: application/json\r\n\r\n{\"number\":1,\"receipt\":\"1-da41597c-5157-488d-7724-e03fb8d84a37\"}")

@@ -15,13 +15,7 @@ use Rattle.pawn_wire.specs.Asking.{key_of}
 use Rattle.pawn_wire.specs.Place.{place_of}
 use Rattle.pawn_wire.specs.Request.{outline_by}
 use Rattle.pawn_wire.specs.WorkedHeads.{chunked_coding, tells_length}
-use Rattle.pawn_wire.specs.declared.asking.Asks.TheVariants as asks
-use Rattle.pawn_wire.specs.declared.fault.WireFault.TheVariants.{Transfer, BadLength, BodyTooLong, NoRoute, WrongMethod, BadBody, BadKey, BadReceipt, TooManyReceipts, NoReceipt}
-use Rattle.pawn_wire.specs.declared.place.Place.{Place}
-use Rattle.pawn_wire.specs.declared.place.Target.{Target}
-use Rattle.pawn_wire.specs.declared.place.Target.TheVariants.{Create, PutTerms, TakePledge, Show, OnPledge, ShowDay, Export, Import, Present, OnReceipt}
-use Rattle.pawn_wire.specs.declared.route.BearerAction.TheVariants.{Ask, Redeem}
-use Rattle.pawn_wire.specs.declared.route.BrokerAction.TheVariants.{Draw, Hold, Declare, Decide, Extend}
+use Rattle.pawn_wire.specs.Types.{Asks, BadBody, BadKey, BadReceipt, BearerAction, BrokerAction, Create, Export, Import, NoReceipt, NoRoute, OnPledge, OnReceipt, Place, Present, PutTerms, Show, ShowDay, TakePledge, Target, TooManyReceipts, WireFault, WrongMethod}
 
 -- the limits of a request: the bytes and the fields of its head, the bytes of its body, the digits of the number that
 -- gives the body's length, and the largest number in a body
@@ -44,14 +38,14 @@ WorkedTargets =
     × (place_of (codes "/books/7/terms") ≡ of_book 7 PutTerms)
     × (place_of (codes "/books/12/pledges") ≡ of_book 12 TakePledge)
     × (place_of (codes "/books/12/pledges/3") ≡ of_book 12 (Show 3))
-    × (place_of (codes "/books/7/pledges/12/draw") ≡ of_book 7 (OnPledge 12 Draw))
-    × (place_of (codes "/books/7/pledges/12/extend") ≡ of_book 7 (OnPledge 12 Extend))
+    × (place_of (codes "/books/7/pledges/12/draw") ≡ of_book 7 (OnPledge 12 BrokerAction.Draw))
+    × (place_of (codes "/books/7/pledges/12/extend") ≡ of_book 7 (OnPledge 12 BrokerAction.Extend))
     × (place_of (codes "/books/7/days/2024-02-29") ≡ of_book 7 (ShowDay (date 2024 2 29)))
     × (place_of (codes "/books/7/days/2199-12-31") ≡ of_book 7 (ShowDay (date 2199 12 31)))
     × (place_of (codes "/books/7/export") ≡ of_book 7 Export)
     × (place_of (codes "/books/7/import") ≡ of_book 7 Import)
     × (place_of (codes "/books/7/held") ≡ of_book 7 Present)
-    × (place_of (codes "/books/7/held/redeem") ≡ of_book 7 (OnReceipt Redeem))
+    × (place_of (codes "/books/7/held/redeem") ≡ of_book 7 (OnReceipt BearerAction.Redeem))
 
 -- what is no target: a number or day that is malformed or in another spelling, and anything more or less
 abbrev pub WorkedNoTargets : Type 0
@@ -169,25 +163,25 @@ WorkedBodies =
 -- bodies of commands
 abbrev pub WorkedCommands : Type 0
 WorkedCommands =
-    (brokers_command_said Draw (codes "{\"pence\":500,\"seq\":1}") ≡ Some (Command.Draw 1 500))
-    × (brokers_command_said Declare (codes "{\"paper\":\"sworn\"}") ≡ Some (Command.Declare Sworn))
-    × (brokers_command_said Declare (codes "{\"paper\":\"torn\"}") ≡ None)
-    × (brokers_command_said Decide (codes "{\"yes\":true}") ≡ Some (Command.DecideBooking Confirm))
-    × (brokers_command_said Hold (codes "not read") ≡ Some Command.Hold)
-    × (brokers_command_said Extend (codes "{\"until\":\"2001-02-28\"}") ≡ Some (Command.Extend 11381))
-    × (brokers_command_said Extend (codes "{\"until\":\"2001-02-29\"}") ≡ None)
-    × (brokers_command_said Extend (codes "{\"until\":null}") ≡ None)
-    × (bearers_command_said Ask (codes "{\"day\":\"2001-02-28\",\"window\":3}") ≡ Some (Command.AskBooking 11381 3))
-    × (bearers_command_said Redeem (codes "{\"paid\":10000}") ≡ Some (Command.Redeem 10000))
-    × (bearers_command_said Redeem (codes "{\"paid\":\"10000\"}") ≡ None)
+    (brokers_command_said BrokerAction.Draw (codes "{\"pence\":500,\"seq\":1}") ≡ Some (Command.Draw 1 500))
+    × (brokers_command_said BrokerAction.Declare (codes "{\"paper\":\"sworn\"}") ≡ Some (Command.Declare Sworn))
+    × (brokers_command_said BrokerAction.Declare (codes "{\"paper\":\"torn\"}") ≡ None)
+    × (brokers_command_said BrokerAction.Decide (codes "{\"yes\":true}") ≡ Some (Command.DecideBooking Confirm))
+    × (brokers_command_said BrokerAction.Hold (codes "not read") ≡ Some Command.Hold)
+    × (brokers_command_said BrokerAction.Extend (codes "{\"until\":\"2001-02-28\"}") ≡ Some (Command.Extend 11381))
+    × (brokers_command_said BrokerAction.Extend (codes "{\"until\":\"2001-02-29\"}") ≡ None)
+    × (brokers_command_said BrokerAction.Extend (codes "{\"until\":null}") ≡ None)
+    × (bearers_command_said BearerAction.Ask (codes "{\"day\":\"2001-02-28\",\"window\":3}") ≡ Some (Command.AskBooking 11381 3))
+    × (bearers_command_said BearerAction.Redeem (codes "{\"paid\":10000}") ≡ Some (Command.Redeem 10000))
+    × (bearers_command_said BearerAction.Redeem (codes "{\"paid\":\"10000\"}") ≡ None)
 
 -- each fault is reported before those that come after it
 abbrev pub WorkedOrder : Type 0
 WorkedOrder =
-    (outline_by (codes "PUT") (codes "/nowhere") (tells_length (codes "x") ∷ chunked_coding ∷ []) (codes "{}") ≡ Err Transfer)
-    × (outline_by (codes "PUT") (codes "/nowhere") (tells_length (codes "x") ∷ []) (codes "{}") ≡ Err BadLength)
-    × (outline_by (codes "PUT") (codes "/nowhere") (tells_length (codes "1048577") ∷ []) (codes "{}") ≡ Err BodyTooLong)
-    × (outline_by (codes "PUT") (codes "/nowhere") (tells_length (codes "3") ∷ []) (codes "{}") ≡ Err BadLength)
+    (outline_by (codes "PUT") (codes "/nowhere") (tells_length (codes "x") ∷ chunked_coding ∷ []) (codes "{}") ≡ Err WireFault.Transfer)
+    × (outline_by (codes "PUT") (codes "/nowhere") (tells_length (codes "x") ∷ []) (codes "{}") ≡ Err WireFault.BadLength)
+    × (outline_by (codes "PUT") (codes "/nowhere") (tells_length (codes "1048577") ∷ []) (codes "{}") ≡ Err WireFault.BodyTooLong)
+    × (outline_by (codes "PUT") (codes "/nowhere") (tells_length (codes "3") ∷ []) (codes "{}") ≡ Err WireFault.BadLength)
     × (outline_by (codes "PUT") (codes "/nowhere") (tells_length (codes "2") ∷ []) (codes "{}") ≡ Err NoRoute)
     × (outline_by (codes "PUT") (codes "/books/7") (tells_length (codes "2") ∷ []) (codes "{}") ≡ Err WrongMethod)
     × (outline_by (codes "POST") (codes "/books/7/days/2024-02-30") [] [] ≡ Err NoRoute)
@@ -205,16 +199,16 @@ WorkedOrder =
 abbrev pub WorkedRequests : Type 0
 WorkedRequests =
     (outline_by (codes "GET") (codes "/books/7/pledges/3") (gives_key operator_key ∷ []) []
-    ≡ Ok (record { book = 7; asks = asks.Whole (Broker 0x11111111_1111_1111_1111_111111111111 (broker.Show 3)) }))
+    ≡ Ok (record { book = 7; asks = Asks.Whole (Broker 0x11111111_1111_1111_1111_111111111111 (broker.Show 3)) }))
     × (outline_by (codes "GET") (codes "/books/7/days/2024-02-29") (gives_key operator_key ∷ []) []
-    ≡ Ok (record { book = 7; asks = asks.Whole (Broker 0x11111111_1111_1111_1111_111111111111 (broker.SheetOf (date 2024 2 29))) }))
+    ≡ Ok (record { book = 7; asks = Asks.Whole (Broker 0x11111111_1111_1111_1111_111111111111 (broker.SheetOf (date 2024 2 29))) }))
     × (outline_by (codes "GET") (codes "/books/7/export") (gives_key operator_key ∷ []) []
-    ≡ Ok (record { book = 7; asks = asks.Whole (Broker 0x11111111_1111_1111_1111_111111111111 broker.Export) }))
+    ≡ Ok (record { book = 7; asks = Asks.Whole (Broker 0x11111111_1111_1111_1111_111111111111 broker.Export) }))
     × (outline_by (codes "POST") (codes "/books/7/import") (gives_import_key ∷ gives_key operator_key ∷ []) []
-    ≡ Ok (record { book = 7; asks = asks.Import 0x11111111_1111_1111_1111_111111111111 0x33333333_3333_3333_3333_333333333333 }))
+    ≡ Ok (record { book = 7; asks = Asks.Import 0x11111111_1111_1111_1111_111111111111 0x33333333_3333_3333_3333_333333333333 }))
     × (outline_by (codes "POST") (codes "/books/7/pledges/3/hold") (gives_key operator_key ∷ []) []
-    ≡ Ok (record { book = 7; asks = asks.Whole (Broker 0x11111111_1111_1111_1111_111111111111 (broker.OnPledge 3 Command.Hold)) }))
+    ≡ Ok (record { book = 7; asks = Asks.Whole (Broker 0x11111111_1111_1111_1111_111111111111 (broker.OnPledge 3 Command.Hold)) }))
     × (outline_by (codes "GET") (codes "/books/7/held") (presents some_receipt_text ∷ []) []
-    ≡ Ok (record { book = 7; asks = asks.Whole (Bearer (bearer.Present (some_receipt ∷ []))) }))
+    ≡ Ok (record { book = 7; asks = Asks.Whole (Bearer (bearer.Present (some_receipt ∷ []))) }))
     × (outline_by (codes "POST") (codes "/books/7/held/cancel") (presents some_receipt_text ∷ []) []
-    ≡ Ok (record { book = 7; asks = asks.Whole (Bearer (bearer.OnPledge some_receipt Command.CancelBooking)) }))
+    ≡ Ok (record { book = 7; asks = Asks.Whole (Bearer (bearer.OnPledge some_receipt Command.CancelBooking)) }))

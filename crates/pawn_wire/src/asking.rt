@@ -61,10 +61,14 @@ fn put_terms(alloc: Global, sent: &Sent<'_>) -> Result<Asks, WireFault>
     let key = key(&sent.fields)?;
     let value = member::json(alloc, sent.body)?;
     let terms = body::new_terms(&value).ok_or(WireFault::BadBody)?;
-    Ok(Asks::Whole(Caller::Broker {
-        key,
-        asked: BrokerRequest::PutTerms(terms),
-    }))
+    Ok(by_broker(key, BrokerRequest::PutTerms(terms)))
+}
+
+// What a broker asks with this key.
+fn by_broker(key: Secret, asked: BrokerRequest) -> Asks
+    ensures value { result ≡ Asks.Whole (Caller.Broker key asked) }
+{
+    Asks::Whole(Caller::Broker { key, asked })
 }
 
 // A broker, who takes a pledge.
@@ -75,10 +79,7 @@ fn take_pledge(alloc: Global, sent: &Sent<'_>) -> Result<Asks, WireFault>
     let key = key(&sent.fields)?;
     let value = member::json(alloc, sent.body)?;
     let opening = body::opening(alloc, &value)?;
-    Ok(Asks::Whole(Caller::Broker {
-        key,
-        asked: BrokerRequest::TakePledge(opening),
-    }))
+    Ok(by_broker(key, BrokerRequest::TakePledge(opening)))
 }
 
 // A broker, who sees the pledge of this number.
@@ -87,10 +88,7 @@ fn show(number: Number, sent: &Sent<'_>) -> Result<Asks, WireFault>
         (pairs_of sent.now.fields) sent.now.body.now) }
 {
     let key = key(&sent.fields)?;
-    Ok(Asks::Whole(Caller::Broker {
-        key,
-        asked: BrokerRequest::Show(number),
-    }))
+    Ok(by_broker(key, BrokerRequest::Show(number)))
 }
 
 // A broker, with a command for the pledge of this number.
@@ -105,10 +103,7 @@ fn command_pledge(
 {
     let key = key(&sent.fields)?;
     let command = commands::brokers_command(alloc, action, sent.body)?;
-    Ok(Asks::Whole(Caller::Broker {
-        key,
-        asked: BrokerRequest::OnPledge { number, command },
-    }))
+    Ok(by_broker(key, BrokerRequest::OnPledge { number, command }))
 }
 
 // A broker, who sees a day's sheet.
@@ -117,10 +112,7 @@ fn show_day(day: RequestDay, sent: &Sent<'_>) -> Result<Asks, WireFault>
         (pairs_of sent.now.fields) sent.now.body.now) }
 {
     let key = key(&sent.fields)?;
-    Ok(Asks::Whole(Caller::Broker {
-        key,
-        asked: BrokerRequest::SheetOf(day),
-    }))
+    Ok(by_broker(key, BrokerRequest::SheetOf(day)))
 }
 
 // A broker, who exports the book as a text.
@@ -129,10 +121,7 @@ fn export(sent: &Sent<'_>) -> Result<Asks, WireFault>
         (pairs_of sent.now.fields) sent.now.body.now) }
 {
     let key = key(&sent.fields)?;
-    Ok(Asks::Whole(Caller::Broker {
-        key,
-        asked: BrokerRequest::Export,
-    }))
+    Ok(by_broker(key, BrokerRequest::Export))
 }
 
 // A broker, who fills the book with the rows of an import: the broker's key and the import's.

@@ -1,0 +1,24 @@
+-- This crate's own declared types, handed on from one place.
+pub use Rattle.pawn_wire.specs.declared.asking.Asks.{Asks}
+pub use Rattle.pawn_wire.specs.declared.commands.NewBooking.{NewBooking}
+pub use Rattle.pawn_wire.specs.declared.commands.NewEntry.{NewEntry}
+pub use Rattle.pawn_wire.specs.declared.detail.Detail.{Detail}
+pub use Rattle.pawn_wire.specs.declared.detail.Detail.TheVariants.{Row, Total}
+pub use Rattle.pawn_wire.specs.declared.fault.HeadFault.{HeadFault}
+pub use Rattle.pawn_wire.specs.declared.fault.WireFault.{WireFault}
+pub use Rattle.pawn_wire.specs.declared.fault.WireFault.TheVariants.{BadBody, BadKey, BadReceipt, Csv, Memory, NoReceipt, NoRoute, TooManyReceipts, WrongMethod}
+pub use Rattle.pawn_wire.specs.declared.fields.Fields.{Fields}
+pub use Rattle.pawn_wire.specs.declared.fields.Found.{Found}
+pub use Rattle.pawn_wire.specs.declared.fields.Found.TheVariants.{Missing, One, Several}
+pub use Rattle.pawn_wire.specs.declared.head.HeadFacts.{HeadFacts}
+pub use Rattle.pawn_wire.specs.declared.head.HeadRead.{HeadRead}
+pub use Rattle.pawn_wire.specs.declared.limits.TheConstants.{MAX_BODY, MAX_DIGITS, MAX_FIELDS, MAX_HEAD, MAX_NUMBER}
+pub use Rattle.pawn_wire.specs.declared.place.Place.{Place}
+pub use Rattle.pawn_wire.specs.declared.place.Target.{Target}
+pub use Rattle.pawn_wire.specs.declared.place.Target.TheVariants.{Create, PutTerms, TakePledge, Show, OnPledge, ShowDay, Export, Import, Present, OnReceipt}
+pub use Rattle.pawn_wire.specs.declared.reply.Out.{Out}
+pub use Rattle.pawn_wire.specs.declared.request.Outline.{Outline}
+pub use Rattle.pawn_wire.specs.declared.route.BearerAction.{BearerAction}
+pub use Rattle.pawn_wire.specs.declared.route.BrokerAction.{BrokerAction}
+pub use Rattle.pawn_wire.specs.declared.route.Endpoint.{Endpoint}
+pub use Rattle.pawn_wire.specs.declared.router.Asked.{Asked}
