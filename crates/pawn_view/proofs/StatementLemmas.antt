@@ -1,6 +1,5 @@
 -- A statement, put part by part.
 use Rattle.pawn_view.proofs.Basics.{◌≡◌, ◌∙◌, ℕ, Bool, true, false, List, ◌++◌, Option, Some, None, Result, Ok, Err, refl, sym, ap, subst, [], ◌∷◌, inl, inr, BriefFields, End, Flow, Front, Handed, IsShare, KeepError, Owing, PledgeValue, PutFront, Puts, PutsLine, PutsShare, ViewFault, Whole, Writing, Written, brief_of, brief_owing, brief_status, call_end, debt_of, due, end_of, ending_of, flat_map, max, option_map, owing_of, status_of, unwrap_or, write_failed, Shows, entry_line, extended_line, first_lines, open_or_last, shown_day, state_lines, state_on, statement_text, front-more, now_by, lines_share, share_all, share_puts, share_more, share_then, writings_in_turn}
-use Rattle.pawn_book.specs.declared.fault.KeepError.TheVariants as error
 use Rattle.pawn_view.specs.declared.statements.StatementLines.{StatementLines}
 use Rattle.pawn_view.specs.Shown.{PutsElement}
 use Rattle.pawn_view.proofs.SoundLemmas.{IsTold}
@@ -93,8 +92,8 @@ shows_by : {W : Type 0} (contents : W → Option (List ℕ)) (a w : Writing W) (
     → write_failed a ≡ false → write_failed w ≡ failed → PutsShare contents a text (call_end done) w → Shows contents a (Some text) (ending_of done failed) w
 shows_by contents a w text done true fine now share = (text, refl, ended_failed contents a w text (call_end done) fine now share)
 shows_by contents a w text (Ok u) false fine now share = (text, refl, ended_whole contents a w text fine now share)
-shows_by contents a w text (Err error.Memory) false fine now share = ended_cut contents a w text Front fine now share
-shows_by contents a w text (Err (error.Store why)) false fine now share = ended_cut contents a w text Front fine now share
+shows_by contents a w text (Err KeepError.Memory) false fine now share = ended_cut contents a w text Front fine now share
+shows_by contents a w text (Err (KeepError.Store why)) false fine now share = ended_cut contents a w text Front fine now share
 
 -- the text was put, and the answer says how that ended
 pub shows_ended : {W : Type 0} (contents : W → Option (List ℕ)) (a w : Writing W) (text : List ℕ) (done : Result (Unit {0}) KeepError) (answer : Result (Unit {0}) ViewFault)

@@ -1,7 +1,6 @@
 -- What a call that writes a text has written, and what it answers.
 use Rattle.std.specs.Prelude.{ℕ, false, max, List, [], Option, Some, None, Result, Ok, Err, ◌≡◌, map, option_map, unwrap_or, if◌then◌else◌}
 use Rattle.pawn_view.specs.Common.{Closing, Flow, Front, Host, Open, PledgeValue, PutFront, PutsLine, Receipt, Redeemed, Sold, ViewFault, Whole, Writing, Written, are_unknown, get, live_at, pledge_in, write_failed}
-use Rattle.pawn_writing.specs.declared.fault.ViewFault.TheVariants as fault
 use Rattle.pawn_view.specs.declared.statements.StatementLines.{StatementLines}
 use Rattle.pawn_view.specs.Text.{statement_text, presented_text}
 
@@ -35,10 +34,10 @@ presentation_of h book receipts day = shown_of day (live_pledges h book receipts
 -- nothing to show. For any other reason the beginning of the text went out.
 abbrev pub Shows : {W U : Type 0} → (W → Option (List ℕ)) → Writing W → Option (List ℕ) → Result U ViewFault → Writing W → Type 0
 Shows contents old text (Ok u) new = (t : List ℕ) × (text ≡ Some t) × Written contents old t Whole new
-Shows contents old text (Err fault.Write) new = (t : List ℕ) × (text ≡ Some t) × Written contents old t Front new
-Shows contents old text (Err fault.Memory) new = PutFront contents old (unwrap_or text []) new × (write_failed new ≡ false)
-Shows contents old text (Err fault.Store) new = PutFront contents old (unwrap_or text []) new × (write_failed new ≡ false)
-Shows contents old text (Err fault.Unknown) new = (text ≡ None) × (new ≡ old)
+Shows contents old text (Err ViewFault.Write) new = (t : List ℕ) × (text ≡ Some t) × Written contents old t Front new
+Shows contents old text (Err ViewFault.Memory) new = PutFront contents old (unwrap_or text []) new × (write_failed new ≡ false)
+Shows contents old text (Err ViewFault.Store) new = PutFront contents old (unwrap_or text []) new × (write_failed new ≡ false)
+Shows contents old text (Err ViewFault.Unknown) new = (text ≡ None) × (new ≡ old)
 
 -- a visitor that writes a line for each element to the writer that it borrows; the writer stays the same
 pub record PutsElement {W T : Type 0} (contents : W → Option (List ℕ)) (line : T → List ℕ) (v : StatementLines W) (x : T) (flow : Flow) (w : StatementLines W) : Type 0 where

@@ -8,7 +8,6 @@ use Rattle.pawn_pledge.specs.declared.record.Standing.{Standing}
 use Rattle.pawn_pledge.specs.declared.record.Booking.{Booking}
 use Rattle.pawn_pledge.specs.Words.{state_text}
 use Rattle.pawn_pledge.specs.declared.record.Status.{Status}
-use Rattle.pawn_pledge.specs.declared.record.Status.TheVariants as status
 
 -- pounds, a point and two digits of pence
 abbrev pub money : ℕ → List ℕ
@@ -40,16 +39,16 @@ abbrev pub extended_line : Extension → List ℕ
 extended_line e = codes "Extended " ++ (date_text e.day ++ (codes " to " ++ (date_text e.until ++ codes "\n")))
 
 abbrev pub status_line : Status → List ℕ
-status_line status.Inside = codes "Status inside\n"
-status_line status.Grace = codes "Status grace\n"
-status_line status.Realisable = codes "Status realisable\n"
-status_line status.Passed = codes "Status passed\n"
-status_line status.Redeemed = codes "Status redeemed\n"
-status_line status.Sold = codes "Status sold\n"
+status_line Status.Inside = codes "Status inside\n"
+status_line Status.Grace = codes "Status grace\n"
+status_line Status.Realisable = codes "Status realisable\n"
+status_line Status.Passed = codes "Status passed\n"
+status_line Status.Redeemed = codes "Status redeemed\n"
+status_line Status.Sold = codes "Status sold\n"
 
 -- the lines of what is owed; none if the article has passed to the broker
 abbrev pub owed_lines : Status → Owing → List ℕ
-owed_lines status.Passed owing = []
+owed_lines Status.Passed owing = []
 owed_lines _ owing =
     amount_line (codes "Principal ") owing.principal ++ (amount_line (codes "Charges ") owing.charges ++ amount_line (codes "Owing ") owing.total)
 

@@ -21,10 +21,9 @@ fn live_brief<K: Keep>(
         ≡ option_map brief_of (live_at (pledge_in (get h.books book)) receipt.now))) }
     ensures steady { IsSteady K.keeping keep.old result }
 {
-    match keep.brief(book, receipt.number) {
-        Ok(Some(brief)) if brief.fields().live == Some(receipt.secret) => Ok(Some(brief)),
-        Ok(_) => Ok(None),
-        Err(error) => Err(error),
+    match keep.brief(book, receipt.number)? {
+        Some(brief) if brief.fields().live == Some(receipt.secret) => Ok(Some(brief)),
+        _ => Ok(None),
     }
 }
 
@@ -35,10 +34,9 @@ fn is_any_live<K: Keep>(keep: &mut K, book: Number, receipts: &[Receipt]) -> Res
     ensures steady { IsSteady K.keeping keep.old result }
 {
     for receipt in receipts {
-        match live_brief(keep, book, receipt) {
-            Ok(Some(_)) => return Ok(true),
-            Ok(None) => {}
-            Err(error) => return Err(error),
+        match live_brief(keep, book, receipt)? {
+            Some(_) => return Ok(true),
+            None => {}
         }
     }
     Ok(false)
@@ -85,10 +83,7 @@ fn put_further<K: Keep, W: Write>(
 {
     for receipt in receipts {
         put(writer, b"\n");
-        match put_shown(keep, book, receipt, day, writer) {
-            Ok(()) => {}
-            Err(error) => return Err(error),
-        }
+        put_shown(keep, book, receipt, day, writer)?;
     }
     Ok(())
 }
@@ -111,10 +106,8 @@ fn put_from<K: Keep, W: Write>(
         (call_end result) writer.new) }
     ensures steady { IsSteady K.keeping keep.old result }
 {
-    match put_statement(keep, book, number, brief, day, writer) {
-        Ok(()) => put_further(keep, book, receipts, day, writer),
-        Err(error) => Err(error),
-    }
+    put_statement(keep, book, number, brief, day, writer)?;
+    put_further(keep, book, receipts, day, writer)
 }
 
 // Writes the line for a receipt that is not live, and then what is shown for these other receipts. If none of them is

@@ -36,44 +36,6 @@ impl<'a, W: Write> Visitor<Extension> for StatementLines<'a, W> {
     }
 }
 
-impl<'a, W: Write> StatementLines<'a, W> {
-    // Writes the lines of the extensions of the pledge that this brief is of.
-    fn put_extensions<K: Keep>(
-        &mut self,
-        keep: &mut K,
-        book: Number,
-        number: Number,
-        brief: &Brief,
-    ) -> Result<(), KeepError>
-        ensures shares { Reads K.keeping keep.old keep.new (λ h. (p : PledgeValue)
-            → pledge_at h book number ≡ Some p → brief.now ≡ brief_of p
-            → PutsShare W.contents self.old.writer.now (flat_map extended_line p.extensions)
-            (call_end result) self.new.writer.now) }
-        ensures same_writer { self.new.writer.ghost_name ≡ self.old.writer.ghost_name }
-        ensures steady { IsSteady K.keeping keep.old result }
-    {
-        visit_extensions(keep, book, number, brief, self)
-    }
-
-    // Writes the lines of the entries of the pledge that this brief is of.
-    fn put_entries<K: Keep>(
-        &mut self,
-        keep: &mut K,
-        book: Number,
-        number: Number,
-        brief: &Brief,
-    ) -> Result<(), KeepError>
-        ensures shares { Reads K.keeping keep.old keep.new (λ h. (p : PledgeValue)
-            → pledge_at h book number ≡ Some p → brief.now ≡ brief_of p
-            → PutsShare W.contents self.old.writer.now (flat_map entry_line p.entries)
-            (call_end result) self.new.writer.now) }
-        ensures same_writer { self.new.writer.ghost_name ≡ self.old.writer.ghost_name }
-        ensures steady { IsSteady K.keeping keep.old result }
-    {
-        visit_entries(keep, book, number, brief, self)
-    }
-}
-
 // Writes the lines above the extensions: the number, the article, the kind, the day taken and the end of the period.
 fn put_first<W: Write>(writer: &mut Writing<W>, brief: &Brief)
     ensures puts { Puts W.contents writer.old
@@ -136,12 +98,9 @@ pub(crate) fn put_statement<K: Keep, W: Write>(
 {
     put_first(writer, brief);
     let mut lines = StatementLines { writer };
-    match lines.put_extensions(keep, book, number, brief) {
-        Ok(()) => {}
-        Err(error) => return Err(error),
-    }
+    visit_extensions(keep, book, number, brief, &mut lines)?;
     put_state(lines.writer, brief, shown_day(brief, day));
-    lines.put_entries(keep, book, number, brief)
+    visit_entries(keep, book, number, brief, &mut lines)
 }
 
 /// Writes the statement of a pledge, asked for on this day. The keeper's content stays as it is.

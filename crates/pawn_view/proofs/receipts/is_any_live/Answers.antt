@@ -2,15 +2,15 @@ use Rattle.pawn_view.proofs.Basics.{ap, sym, get, live_at, not, pledge_in, reads
 use Rattle.pawn_view.proofs.PresentedLemmas.{any_known, unknown_more}
 use Rattle.pawn_view.proofs.receipts.is_any_live.Goals as goal
 
-pub returns-in-Ok-Some-clause-reads : goal.returns-in-Ok-Some-clause-reads
-returns-in-Ok-Some-clause-reads g c =
-    reads_then c.loop-receipt.invariant.reads c.live_brief.ensures.reads (λ h before said.
-    sym (ap not (any_known (live_at (pledge_in (get h.books c.args.book))) c.args.receipts.now c.loop-receipt.receipt-index c.receipt-item.result c.in-Ok-Some.field-0-0
-    c.loop-receipt-test.true c.receipt-item.is (rw (c.in-Ok-Some.is, c.in-Ok-Some.field-0-is) at said))))
+pub returns-in-Some-clause-reads : goal.returns-in-Some-clause-reads
+returns-in-Some-clause-reads g c =
+    reads_then c.loop-receipt.invariant.reads c.in_ok-live_brief.ensures.reads (λ h before said.
+    sym (ap not (any_known (live_at (pledge_in (get h.books c.args.book))) c.args.receipts.now c.loop-receipt.receipt-index c.receipt-item.result c.in-Some.field-0
+    c.loop-receipt-test.true c.receipt-item.is (rw c.in-Some.is at said))))
 
 pub loop-receipt-preserved : goal.loop-receipt-preserved
 loop-receipt-preserved g c = record {
-  reads = reads_then c.loop-receipt.invariant.reads c.live_brief.ensures.reads (λ h before said.
+  reads = reads_then c.loop-receipt.invariant.reads c.in_ok-live_brief.ensures.reads (λ h before said.
       unknown_more (live_at (pledge_in (get h.books c.args.book))) c.args.receipts.now c.loop-receipt.receipt-index c.receipt-item.result
-      c.loop-receipt-test.true c.receipt-item.is before (rw (c.in-Ok-None.is, c.in-Ok-None.field-0-is) at said));
+      c.loop-receipt-test.true c.receipt-item.is before (rw c.in-None.is at said));
 }
