@@ -1,6 +1,5 @@
 -- Each answer of a run is that of a machine alone.
 use Rattle.pawn_host.proofs.Basics.{◌≡◌, ℕ, zero, suc, List, [], ◌∷◌, take, true, Some, Ok, refl, ◌∙◌, ap, sym, subst, All, Denied, Exported, Host, Listed, Mark, Out, Refusal, Request, Result, SaysRequest, Shown, Stamp, Told, WireFault, book_trace, get, host_after_event, host_step, is_settled, mark_reply, no_memory, no_store, out_of, read_as, reply_alone, slice_get, slot_trace, solo_reply, All-head, All-tail, reads_unique, absurd_none, some_is, AnswerAlone, EqualBookTracesReplyAlike, EqualTracesReplyAlike, IsMarkOf, IsMarked, IsRun, IsRunOfSlots, IsSettled, Item, Kept, RunsAnswerAlone, Start, by_bearer, event_of, events, host_after_run, replies, reply_bytes, said_text}
-use Rattle.pawn_book.specs.declared.refusal.Refusal.TheVariants as no
 use Rattle.pawn_book.proofs.SlotRuns.{books_answer_alone, slots_answer_alone}
 use Rattle.pawn_host.proofs.RunMore.{marked_all}
 
@@ -20,23 +19,10 @@ marked_at Steady (x ∷ items) (suc i) item marked is = marked_at Steady items i
 
 -- what is none of the three texts is settled
 settled_refusal : (why : Refusal) → IsSettled (reply_bytes (Denied why)) → is_settled (Denied why) ≡ true
-settled_refusal (no.Pledge refusal) settled = refl
-settled_refusal (no.Terms fault) settled = refl
-settled_refusal no.NoSuchBook settled = refl
-settled_refusal no.NoSuchReceipt settled = refl
-settled_refusal no.NoSuchPledge settled = refl
-settled_refusal no.BookTaken settled = refl
-settled_refusal no.NoTerms settled = refl
-settled_refusal no.TermsSeq settled = refl
-settled_refusal no.RefTaken settled = refl
-settled_refusal no.WindowFull settled = refl
-settled_refusal no.BookNotEmpty settled = refl
-settled_refusal no.NotOperator settled = refl
-settled_refusal no.TermsFull settled = refl
-settled_refusal no.PledgesFull settled = refl
-settled_refusal no.Full settled = absurd (settled.0 refl)
-settled_refusal no.Memory settled = absurd (settled.1 refl)
-settled_refusal no.Store settled = absurd (settled.2 refl)
+settled_refusal Refusal.Full settled = absurd (settled.0 refl)
+settled_refusal Refusal.Memory settled = absurd (settled.1 refl)
+settled_refusal Refusal.Store settled = absurd (settled.2 refl)
+settled_refusal why settled = refl
 
 settled_out : (out : Out) → IsSettled (reply_bytes out) → is_settled out ≡ true
 settled_out (Told reply) settled = refl

@@ -3,12 +3,10 @@ use Rattle.pawn_host.proofs.Basics.{◌≡◌, ◌∙◌, ℕ, Bool, true, false
 use Rattle.pawn_pledge.specs.Pledge.{PledgeValue}
 use Rattle.pawn_book.specs.declared.request.Caller.{Caller}
 use Rattle.pawn_book.specs.declared.reply.Reply.{Reply}
-use Rattle.pawn_book.specs.declared.refusal.Refusal.TheVariants as No
 use Rattle.pawn_book.specs.Changes.{with_change}
 use Rattle.pawn_book.specs.declared.change.Change.{Change}
 use Rattle.pawn_view.specs.Shown.{live_pledges, presentation_of, pledge_at, statement_of}
 use Rattle.pawn_wire.specs.declared.reply.Out.TheVariants as wire
-use Rattle.pawn_wire.specs.declared.fault.WireFault.TheVariants as f
 use Rattle.pawn_host.specs.declared.service.Answer.TheVariants.{Bytes, Memory}
 use Rattle.pawn_host.proofs.CrashLemmas.{goes_wider}
 
@@ -19,40 +17,40 @@ acted_memory start stamp bytes reply kept is goes =
 
 -- ---- bytes that are no request
 
-is_memory : (e : WireFault) → (e ≡ f.Memory) ⊎ (e ≡ f.Memory → ⊥)
-is_memory f.BadHead = inr (λ m. cc)
-is_memory f.Transfer = inr (λ m. cc)
-is_memory f.BadLength = inr (λ m. cc)
-is_memory f.BodyTooLong = inr (λ m. cc)
-is_memory f.NoRoute = inr (λ m. cc)
-is_memory f.WrongMethod = inr (λ m. cc)
-is_memory f.BadKey = inr (λ m. cc)
-is_memory f.NoReceipt = inr (λ m. cc)
-is_memory (f.Csv fault) = inr (λ m. cc)
-is_memory f.TooManyReceipts = inr (λ m. cc)
-is_memory f.BadReceipt = inr (λ m. cc)
-is_memory f.BadBody = inr (λ m. cc)
-is_memory f.Memory = inl refl
+is_memory : (e : WireFault) → (e ≡ WireFault.Memory) ⊎ (e ≡ WireFault.Memory → ⊥)
+is_memory WireFault.BadHead = inr (λ m. cc)
+is_memory WireFault.Transfer = inr (λ m. cc)
+is_memory WireFault.BadLength = inr (λ m. cc)
+is_memory WireFault.BodyTooLong = inr (λ m. cc)
+is_memory WireFault.NoRoute = inr (λ m. cc)
+is_memory WireFault.WrongMethod = inr (λ m. cc)
+is_memory WireFault.BadKey = inr (λ m. cc)
+is_memory WireFault.NoReceipt = inr (λ m. cc)
+is_memory (WireFault.Csv fault) = inr (λ m. cc)
+is_memory WireFault.TooManyReceipts = inr (λ m. cc)
+is_memory WireFault.BadReceipt = inr (λ m. cc)
+is_memory WireFault.BadBody = inr (λ m. cc)
+is_memory WireFault.Memory = inl refl
 
-not_memory : No.Full ≡ No.Memory → ⊥
+not_memory : Refusal.Full ≡ Refusal.Memory → ⊥
 not_memory e = cc
 
-not_store : No.Full ≡ No.Store → ⊥
+not_store : Refusal.Full ≡ Refusal.Store → ⊥
 not_store e = cc
 
 err_same : (a b : WireFault) → ◌≡◌ {A = Result Request WireFault} (Err a) (Err b) → a ≡ b
 err_same a b e = cc
 
 faulted_bytes : (start : Start) (stamp : Stamp) (bytes reply : List ℕ) (kept : Kept) (e : WireFault)
-    → (e ≡ f.Memory) ⊎ SaysRequest bytes (Err e) → reply ≡ fault_text e → GoesTo kept start.host start.leaves → IsActed start stamp bytes reply kept
+    → (e ≡ WireFault.Memory) ⊎ SaysRequest bytes (Err e) → reply ≡ fault_text e → GoesTo kept start.host start.leaves → IsActed start stamp bytes reply kept
 faulted_bytes start stamp bytes reply kept e (inl m) is goes = acted_memory start stamp bytes reply kept (is ∙ ap fault_text m) goes
 faulted_bytes start stamp bytes reply kept e (inr x) is goes = elim (is_memory e) [
   | inl m ↦ acted_memory start stamp bytes reply kept (is ∙ ap fault_text m) goes
-  | inr other ↦ record { mark = read_as (Err e); marked = (x, λ m. other (err_same e f.Memory m)); text = is; goes = goes }
+  | inr other ↦ record { mark = read_as (Err e); marked = (x, λ m. other (err_same e WireFault.Memory m)); text = is; goes = goes }
 ]
 
 pub acted_fault : (start : Start) (stamp : Stamp) (bytes : List ℕ) (answer : Answer) (kept : Kept) (e : WireFault)
-    → (e ≡ f.Memory) ⊎ SaysRequest bytes (Err e) → Tells answer (out_text (wire.Fault e)) → GoesTo kept start.host start.leaves → IsActed start stamp bytes (answer_bytes answer) kept
+    → (e ≡ WireFault.Memory) ⊎ SaysRequest bytes (Err e) → Tells answer (out_text (wire.Fault e)) → GoesTo kept start.host start.leaves → IsActed start stamp bytes (answer_bytes answer) kept
 acted_fault start stamp bytes (Bytes v) kept e read is goes = faulted_bytes start stamp bytes v.items kept e read is goes
 acted_fault start stamp bytes Memory kept e read is goes = acted_memory start stamp bytes memory_text kept refl goes
 
@@ -98,7 +96,7 @@ goes_unwell start stamp bytes request why kept read goes = goes_wider goes from
 
 -- it was refused, and that was told
 pub acted_unmade : (start : Start) (stamp : Stamp) (bytes : List ℕ) (answer : Answer) (kept : Kept) (request : Request) (why : Refusal)
-    → SaysRequest bytes (Ok request) → Tells answer (out_text (wire.Refused why)) → GoesUnmade start stamp request why kept → (start.Steady → why ≡ No.Store → ⊥)
+    → SaysRequest bytes (Ok request) → Tells answer (out_text (wire.Refused why)) → GoesUnmade start stamp request why kept → (start.Steady → why ≡ Refusal.Store → ⊥)
     → IsActed start stamp bytes (answer_bytes answer) kept
 acted_unmade start stamp bytes Memory kept request why read is (inl unwell) calm =
     record { mark = no_memory; marked = tt; text = refl; goes = goes_unwell start stamp bytes request why kept read unwell.1 }
@@ -112,7 +110,7 @@ acted_unmade start stamp bytes (Bytes v) kept request why read is (inr refused) 
 
 -- the same, where the keeper was read alone
 pub acted_refused : (start : Start) (stamp : Stamp) (bytes : List ℕ) (answer : Answer) (kept : Kept) (request : Request) (why : Refusal)
-    → SaysRequest bytes (Ok request) → Tells answer (out_text (wire.Refused why)) → GoesTo kept start.host start.leaves → IsRefused (host_step start.host start.operator stamp request) why → (start.Steady → why ≡ No.Store → ⊥)
+    → SaysRequest bytes (Ok request) → Tells answer (out_text (wire.Refused why)) → GoesTo kept start.host start.leaves → IsRefused (host_step start.host start.operator stamp request) why → (start.Steady → why ≡ Refusal.Store → ⊥)
     → IsActed start stamp bytes (answer_bytes answer) kept
 acted_refused start stamp bytes answer kept request why read is goes (inl unwell) calm =
     acted_unmade start stamp bytes answer kept request why read is (inl (unwell, goes_wider goes (λ left by. inl by))) calm
@@ -133,16 +131,16 @@ goes_unmade start stamp request kept change why sound made (at, inl unwell) cras
 goes_unmade start stamp request kept None why sound made (at, inr step) crash = absurd made
 goes_unmade start stamp request kept (Some change) why sound made (at, inr step) crash = from made.1
   where
-    still : (left : Host) → why ≡ No.Full → IsLeftByAct start.host start.operator stamp request start.leaves (Err why) left → start.leaves left
+    still : (left : Host) → why ≡ Refusal.Full → IsLeftByAct start.host start.operator stamp request start.leaves (Err why) left → start.leaves left
     still left full (inl same) = same
     still left full (inr (inl memory, done)) = absurd (not_memory (sym full ∙ memory))
     still left full (inr (inr store, done)) = absurd (not_store (sym full ∙ store))
 
-    from : IsUnwell why ⊎ ((why ≡ No.Full) × (start.host.limit < rows (with_change start.host change))) → GoesUnmade start stamp request why kept
+    from : IsUnwell why ⊎ ((why ≡ Refusal.Full) × (start.host.limit < rows (with_change start.host change))) → GoesUnmade start stamp request why kept
     from (inl unwell) = inl (unwell, record { stands_for = at; sound = sound; crash = crash })
     from (inr full) = inr (step, record { stands_for = at; sound = sound; crash = λ left by. still left full.0 (crash left by) })
 
-pub err_is : {V : Type 0} (r : Result V Refusal) (why : Refusal) → r ≡ Err why → why ≡ No.Store → r ≡ Err No.Store
+pub err_is : {V : Type 0} (r : Result V Refusal) (why : Refusal) → r ≡ Err why → why ≡ Refusal.Store → r ≡ Err Refusal.Store
 err_is r why is store = is ∙ ap (λ (w : Refusal). Err w) store
 
 -- a text was told that the step says
@@ -164,14 +162,14 @@ present_request book receipts = record { book = book; caller = Bearer (Present r
 
 -- what comes of receipts, by whether one of them is live
 step_unknown : (h : Host) (operator : ℕ) (stamp : Stamp) (book : ℕ) (receipts : List Receipt) → are_unknown (live_pledges h book receipts) ≡ true
-    → host_step h operator stamp (present_request book receipts) ≡ Refuses No.NoSuchReceipt
+    → host_step h operator stamp (present_request book receipts) ≡ Refuses Refusal.NoSuchReceipt
 step_unknown h operator stamp book receipts is =
-    ap (λ (b : Bool). within_limit h book (if b then Refuses No.NoSuchReceipt else Says (Shown stamp.day (live_pledges h book receipts)))) is
+    ap (λ (b : Bool). within_limit h book (if b then Refuses Refusal.NoSuchReceipt else Says (Shown stamp.day (live_pledges h book receipts)))) is
 
 step_known : (h : Host) (operator : ℕ) (stamp : Stamp) (book : ℕ) (receipts : List Receipt) → are_unknown (live_pledges h book receipts) ≡ false
     → host_step h operator stamp (present_request book receipts) ≡ Says (Shown stamp.day (live_pledges h book receipts))
 step_known h operator stamp book receipts is =
-    ap (λ (b : Bool). within_limit h book (if b then Refuses No.NoSuchReceipt else Says (Shown stamp.day (live_pledges h book receipts)))) is
+    ap (λ (b : Bool). within_limit h book (if b then Refuses Refusal.NoSuchReceipt else Says (Shown stamp.day (live_pledges h book receipts)))) is
 
 pub some_same : {A : Type 0} {a b : A} → Some a ≡ Some b → a ≡ b
 some_same {a = a} e = ap (λ (o : Option _). unwrap_or o a) e
@@ -186,7 +184,7 @@ text_unknown false shown is = cc
 
 -- nothing was to show
 pub nothing_shown : (h : Host) (operator : ℕ) (stamp : Stamp) (book day : ℕ) (receipts : List Receipt) → presentation_of h book receipts day ≡ None
-    → host_step h operator stamp (present_request book receipts) ≡ Refuses No.NoSuchReceipt
+    → host_step h operator stamp (present_request book receipts) ≡ Refuses Refusal.NoSuchReceipt
 nothing_shown h operator stamp book day receipts is =
     step_unknown h operator stamp book receipts (text_unknown (are_unknown (live_pledges h book receipts)) (presented_text day (live_pledges h book receipts)) is)
 
@@ -217,7 +215,7 @@ step_past_gate h operator stamp book key asked with_key =
     let at = with_key.0 in
     let same : (at.key == key) ≡ true = grind (arith, nat_tests, with_key.2) in
     ap (λ (o : Option BookValue). within_limit h book (gate_step o key (λ (k : BookValue). broker_step k book stamp asked))) with_key.1
-    ∙ ap (λ (v : Bool). within_limit h book (if v then broker_step at book stamp asked else Refuses No.NoSuchBook)) same
+    ∙ ap (λ (v : Bool). within_limit h book (if v then broker_step at book stamp asked else Refuses Refusal.NoSuchBook)) same
 
 -- .. for a pledge
 step_key : (h : Host) (operator : ℕ) (stamp : Stamp) (book key number : ℕ) → IsKeyOf h book key
@@ -228,10 +226,10 @@ step_key h operator stamp book key number with_key =
 
 -- there is no such pledge
 pub no_pledge : (h : Host) (operator : ℕ) (stamp : Stamp) (book key number day : ℕ) → IsKeyOf h book key → statement_of h book number day ≡ None
-    → host_step h operator stamp (show_request book key number) ≡ Refuses No.NoSuchPledge
+    → host_step h operator stamp (show_request book key number) ≡ Refuses Refusal.NoSuchPledge
 no_pledge h operator stamp book key number day with_key none = step_key h operator stamp book key number with_key ∙ from (pledge_at h book number) none
   where
-    from : (o : Option PledgeValue) → option_map (statement_text day) o ≡ None → within_limit h book (show_pledge stamp o) ≡ Refuses No.NoSuchPledge
+    from : (o : Option PledgeValue) → option_map (statement_text day) o ≡ None → within_limit h book (show_pledge stamp o) ≡ Refuses Refusal.NoSuchPledge
     from None none = refl
     from (Some p) none = cc none
 

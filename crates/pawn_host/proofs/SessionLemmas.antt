@@ -2,13 +2,10 @@
 use Rattle.pawn_host.proofs.Basics.{◌≡◌, ◌≢◌, ℕ, suc, ◌+◌, ◌<◌, ◌≤◌, true, false, List, [], ◌∷◌, ◌++◌, length, take, drop, map, inl, inr, refl, arith, Option, Some, None, Result, Ok, Err, sym, ◌∙◌, ap, subst, append_assoc, append-nil, length-append, IfSome, Bool, Appends, HeadFacts, Host, IfErr, Keeping, Keeps, Mark, OnOk, Stamp, WireFault, Yields, event_reply, fault_text, mark_reply, memory_text, no_memory, no_store, prepend_known, read_as, wire_fault, All-append, All-cons, All-nil, Appends-nil, Appends-trans, take_all, AreTaken, AtEnd, Begins, Cause, CutOff, DueAfter, Ending, EndsAs, Faulty, FindsHead, FindsRest, Given, GoesTo, HadRoom, HasRoom, IsActed, IsCausedBy, IsFinished, IsLeft, IsLeftBy, IsMarkOf, IsMarked, IsOver, IsServed, IsSession, IsUnderWay, IsWithinMost, Item, Kept, NoMemory, Read, Reads, Rest, Splits, Start, StaysOpen, Stopped, StopsAt, StopsBy, Write, acted_count, answer_text, at_end, at_limit, closed, cut, event_of, faulted, host_by, most_requests, requests_of, said_text, stamps_of, start_after, start_of}
 use Rattle.std.proofs.Math.Seq.{take-append-add}
 use Rattle.pawn_book.proofs.Reading.{on_then}
-use Rattle.pawn_host.specs.declared.service.Service.{Service}
+use Rattle.pawn_host.specs.Types.{Ended, IoFault, Service, SessionEnd}
 use Rattle.pawn_host.proofs.CrashLemmas.{seen_from, goes_from, goes-append}
 use Rattle.pawn_host.proofs.FindLemmas.{not_by_writer}
-use Rattle.pawn_host.specs.declared.session.SessionEnd.{SessionEnd}
 use Rattle.pawn_host.specs.declared.session.SessionEnd.TheVariants.{End, Cut, Closed, Faulted, Limit, NoStamp, Memory}
-use Rattle.pawn_host.specs.declared.session.Ended.{Ended}
-use Rattle.pawn_host.specs.declared.session.IoFault.{IoFault}
 use Rattle.pawn_host.proofs.SplitLemmas.{SplitsOn, splits_start, splits_more, splits_closed, splits_begun, splits_under_way, splits_goes_on, splits_ending, stops_end, stops_cut, stops_fault, stops_limit}
 
 -- ---- one more item
@@ -375,15 +372,9 @@ within_most (Ok ended) room = by_how ended.how ended.acted room
   where
     by_how : (how : SessionEnd) (acted : ℕ) → HasRoom how acted → acted ≤ most_requests
     by_how End acted room = omega arith
-    by_how Cut acted room = omega arith
-    by_how Closed acted room = omega arith
-    by_how Faulted acted room = omega arith
-    by_how Limit acted room = omega arith
-    by_how NoStamp acted room = omega arith
-    by_how Memory acted room = omega arith
+    by_how how acted room = omega arith
 within_most (Err fault) room = by_cause fault.cause fault.acted room
   where
     by_cause : (cause : Cause) (acted : ℕ) → HadRoom cause acted → acted ≤ most_requests
     by_cause Read acted room = omega arith
-    by_cause Write acted room = omega arith
-    by_cause Reads acted room = omega arith
+    by_cause cause acted room = omega arith

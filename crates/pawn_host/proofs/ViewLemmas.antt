@@ -1,22 +1,20 @@
 -- A view that was written into memory, and told.
 use Rattle.pawn_host.proofs.Basics.{◌≡◌, ℕ, List, Result, Ok, Err, inl, inr, refl, ap, Refusal, Refuses, Request, SaysRequest, Stamp, ViewFault, host_step, Answer, GoesTo, IsActed, Kept, Start, Tells, TellsView, answer_bytes}
-use Rattle.pawn_book.specs.declared.refusal.Refusal.TheVariants as No
-use Rattle.pawn_writing.specs.declared.fault.ViewFault.TheVariants as fault
 use Rattle.pawn_host.proofs.RunLemmas.{acted_memory, acted_refused}
 
 -- what is answered, if a text that was written whole is the step's, and one of which there is nothing to show is refused
 pub view_acted : (start : Start) (stamp : Stamp) (bytes : List ℕ) (answer : Answer) (kept : Kept) (request : Request) (unknown : Refusal) (told : List ℕ) (shown : Result (Unit {0}) ViewFault)
-    → SaysRequest bytes (Ok request) → TellsView answer shown told unknown → GoesTo kept start.host start.leaves → (unknown ≡ No.Store → ⊥)
+    → SaysRequest bytes (Ok request) → TellsView answer shown told unknown → GoesTo kept start.host start.leaves → (unknown ≡ Refusal.Store → ⊥)
     → ((u : Unit {0}) → shown ≡ Ok u → Tells answer told → IsActed start stamp bytes (answer_bytes answer) kept)
-    → (shown ≡ Err fault.Unknown → host_step start.host start.operator stamp request ≡ Refuses unknown)
-    → (start.Steady → shown ≡ Err fault.Store → ⊥)
+    → (shown ≡ Err ViewFault.Unknown → host_step start.host start.operator stamp request ≡ Refuses unknown)
+    → (start.Steady → shown ≡ Err ViewFault.Store → ⊥)
     → IsActed start stamp bytes (answer_bytes answer) kept
 view_acted start stamp bytes answer kept request unknown told (Ok u) read tells goes other whole none calm = whole u refl tells
-view_acted start stamp bytes answer kept request unknown told (Err fault.Unknown) read tells goes other whole none calm =
+view_acted start stamp bytes answer kept request unknown told (Err ViewFault.Unknown) read tells goes other whole none calm =
     acted_refused start stamp bytes answer kept request unknown read tells goes (inr (none refl)) (λ steady store. other store)
-view_acted start stamp bytes answer kept request unknown told (Err fault.Store) read tells goes other whole none calm =
-    acted_refused start stamp bytes answer kept request No.Store read tells goes (inl (inr refl)) (λ steady store. calm steady refl)
-view_acted start stamp bytes answer kept request unknown told (Err fault.Memory) read tells goes other whole none calm =
+view_acted start stamp bytes answer kept request unknown told (Err ViewFault.Store) read tells goes other whole none calm =
+    acted_refused start stamp bytes answer kept request Refusal.Store read tells goes (inl (inr refl)) (λ steady store. calm steady refl)
+view_acted start stamp bytes answer kept request unknown told (Err ViewFault.Memory) read tells goes other whole none calm =
     acted_memory start stamp bytes (answer_bytes answer) kept (ap answer_bytes tells) goes
-view_acted start stamp bytes answer kept request unknown told (Err fault.Write) read tells goes other whole none calm =
+view_acted start stamp bytes answer kept request unknown told (Err ViewFault.Write) read tells goes other whole none calm =
     acted_memory start stamp bytes (answer_bytes answer) kept (ap answer_bytes tells) goes

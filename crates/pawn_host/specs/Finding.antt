@@ -3,20 +3,15 @@ use Rattle.pawn_host.specs.Limits.{most_reads}
 use Rattle.std.specs.Prelude.{◌≡◌, ℕ, ◌+◌, ◌<◌, ◌≤◌, Bool, true, false, List, [], ◌∷◌, ◌++◌, length, Option, Result, Ok, Err, IfOk}
 use Rattle.pawn_host.specs.Common.{Consumes, HeadFacts, IsAtEnd, IsHead, Keeps, ReadsHead, RequestHead, concat}
 use Rattle.pawn_host.specs.Split.{IsCut, HasFault, HasNoWhole}
-use Rattle.pawn_host.specs.declared.session.Filled.{Filled}
-use Rattle.pawn_host.specs.declared.session.Filled.TheVariants.{More, Done, Failed, OutOfReads, NoRoom}
-use Rattle.pawn_host.specs.declared.session.Rest.{Rest}
-use Rattle.pawn_host.specs.declared.session.Rest.TheVariants.{AtEnd, CutOff, Faulty, NoMemory, Stopped}
-use Rattle.pawn_host.specs.declared.session.Cause.{Cause}
-use Rattle.pawn_host.specs.declared.session.Cause.TheVariants.{Read, Write, Reads}
+use Rattle.pawn_host.specs.Types.{AtEnd, Cause, CutOff, Faulty, Filled, NoMemory, Read, Reads, Rest, Stopped, Write}
 
 -- what a read did to the reader and the buffer
 abbrev pub IsFilled : Filled → Option (List ℕ) → Option (List ℕ) → List ℕ → List ℕ → Type 0
-IsFilled More a b old new = (piece : List ℕ) × (0 < length piece) × (new ≡ old ++ piece) × Consumes a b piece
-IsFilled Done a b old new = (new ≡ old) × Keeps a b × IsAtEnd b
-IsFilled Failed a b old new = Keeps a b
-IsFilled OutOfReads a b old new = Keeps a b
-IsFilled NoRoom a b old new = (piece : List ℕ) × Consumes a b piece
+IsFilled Filled.More a b old new = (piece : List ℕ) × (0 < length piece) × (new ≡ old ++ piece) × Consumes a b piece
+IsFilled Filled.Done a b old new = (new ≡ old) × Keeps a b × IsAtEnd b
+IsFilled Filled.Failed a b old new = Keeps a b
+IsFilled Filled.OutOfReads a b old new = Keeps a b
+IsFilled Filled.NoRoom a b old new = (piece : List ℕ) × Consumes a b piece
 
 -- why there is no further request in the stream
 abbrev pub FindsRest : List ℕ → Rest → Type 0
@@ -52,11 +47,11 @@ StopsBy (Err (Stopped cause)) was failed reads = IsCausedBy cause failed reads f
 
 -- how many reads were made, and whether one failed
 abbrev pub FilledBy : Filled → Bool → Bool → ℕ → ℕ → Type 0
-FilledBy More was failed old new = (old < most_reads) × (new ≡ old + 1) × (failed ≡ was)
-FilledBy Done was failed old new = (new ≡ old + 1) × (failed ≡ was)
-FilledBy Failed was failed old new = (new ≡ old + 1) × (failed ≡ true)
-FilledBy OutOfReads was failed old new = (new ≡ most_reads) × (new ≡ old)
-FilledBy NoRoom was failed old new = (new ≡ old + 1) × (failed ≡ was)
+FilledBy Filled.More was failed old new = (old < most_reads) × (new ≡ old + 1) × (failed ≡ was)
+FilledBy Filled.Done was failed old new = (new ≡ old + 1) × (failed ≡ was)
+FilledBy Filled.Failed was failed old new = (new ≡ old + 1) × (failed ≡ true)
+FilledBy Filled.OutOfReads was failed old new = (new ≡ most_reads) × (new ≡ old)
+FilledBy Filled.NoRoom was failed old new = (new ≡ old + 1) × (failed ≡ was)
 
 -- each read gave a piece, and was made while the buffer held no whole request
 abbrev pub AreMissing : List ℕ → List (List ℕ) → Type 0

@@ -1,9 +1,7 @@
 -- What contracts say of a service and its answers.
 use Rattle.std.specs.Prelude.{◌≡◌, ℕ, List, Some, Ok, map, All}
 use Rattle.pawn_host.specs.Common.{BookValue, GoesOn, Host, IsSound, Keeping, Mark, OfHost, Request, SaysRequest, Stamp, WireFault, get, host_after_mark, mark_reply, memory_text}
-use Rattle.pawn_host.specs.declared.service.Service.{Service}
-use Rattle.pawn_host.specs.declared.service.Answer.{Answer}
-use Rattle.pawn_host.specs.declared.service.Answer.TheVariants.{Bytes, Memory}
+use Rattle.pawn_host.specs.Types.{Answer, Service}
 use Rattle.pawn_host.specs.Run.{Item, IsMarkOf, IsMarked, input_of, said_text, host_after_run, replies}
 use Rattle.pawn_host.specs.Crashes.{IsLeftByMark, IsLeftByRun}
 
@@ -16,8 +14,8 @@ service_operator s = s.operator
 
 -- the bytes that are sent for an answer
 abbrev pub answer_bytes : Answer → List ℕ
-answer_bytes (Bytes v) = v.items
-answer_bytes Memory = memory_text
+answer_bytes (Answer.Bytes v) = v.items
+answer_bytes Answer.Memory = memory_text
 
 -- the key is that of a book of the host
 abbrev pub IsKeyOf : Host → ℕ → ℕ → Type 0
@@ -25,8 +23,8 @@ IsKeyOf h book key = (at : BookValue) × (get h.books book ≡ Some at) × (at.k
 
 -- an answer with this text, or that memory was refused
 abbrev pub Tells : Answer → List ℕ → Type 0
-Tells (Bytes v) text = v.items ≡ text
-Tells Memory text = Unit {0}
+Tells (Answer.Bytes v) text = v.items ≡ text
+Tells Answer.Memory text = Unit {0}
 
 -- where a call of the service starts: whether its keeper is steady, the operator's key, the host, and which hosts a
 -- crash may leave

@@ -3,15 +3,8 @@ use Rattle.std.specs.Prelude.{◌≡◌, ◌≢◌, ℕ, ◌+◌, ◌<◌, ◌�
 use Rattle.pawn_host.specs.Common.{Appends, Consumes, HeadFault, Stamp, Yields, concat, fault_text, memory_text, wire_fault}
 use Rattle.pawn_host.specs.Split.{at_end, cut, closed, faulted, at_limit, Splits, Begins, BeginsAndGoesOn, IsUnderWay, AreWanted, most_requests}
 use Rattle.pawn_host.specs.Keeps.{Start, Kept, GoesBy, replies_by}
-use Rattle.pawn_host.specs.declared.session.Rest.{Rest}
-use Rattle.pawn_host.specs.declared.session.Rest.TheVariants.{AtEnd, CutOff, Faulty, NoMemory, Stopped}
+use Rattle.pawn_host.specs.Types.{AtEnd, Cause, CutOff, Ended, Faulty, IoFault, NoMemory, Read, Reads, Rest, SessionEnd, Stopped, Write}
 use Rattle.pawn_host.specs.Run.{Item, IsMarked}
-use Rattle.pawn_host.specs.declared.session.SessionEnd.{SessionEnd}
-use Rattle.pawn_host.specs.declared.session.SessionEnd.TheVariants.{End, Cut, Closed, Faulted, Limit, NoStamp, Memory}
-use Rattle.pawn_host.specs.declared.session.Ended.{Ended}
-use Rattle.pawn_host.specs.declared.session.IoFault.{IoFault}
-use Rattle.pawn_host.specs.declared.session.Cause.{Cause}
-use Rattle.pawn_host.specs.declared.session.Cause.TheVariants.{Read, Write, Reads}
 
 abbrev pub stamps_of : List Item → List Stamp
 stamps_of items = map (λ i. i.stamp) items
@@ -29,13 +22,13 @@ due_text start items last = answer_text start items ++ last
 
 -- what is so of the stream and of the last text, by how the session ended
 abbrev pub EndsAs : SessionEnd → Option (List ℕ) → List (List ℕ) → List ℕ → Type 0
-EndsAs End left requests last = (last ≡ []) × IfSome left (λ s. Splits s requests at_end)
-EndsAs Cut left requests last = (last ≡ []) × IfSome left (λ s. Splits s requests cut)
-EndsAs Closed left requests last = (last ≡ []) × IfSome left (λ s. Splits s requests closed)
-EndsAs Limit left requests last = (last ≡ []) × IfSome left (λ s. Splits s requests at_limit)
-EndsAs Faulted left requests last = (f : HeadFault) × (last ≡ fault_text (wire_fault f)) × IfSome left (λ s. Splits s requests (faulted f))
-EndsAs NoStamp left requests last = (last ≡ []) × IfSome left (λ s. BeginsAndGoesOn s requests)
-EndsAs Memory left requests last = (last ≡ memory_text) × IfSome left (λ s. IsUnderWay s requests)
+EndsAs SessionEnd.End left requests last = (last ≡ []) × IfSome left (λ s. Splits s requests at_end)
+EndsAs SessionEnd.Cut left requests last = (last ≡ []) × IfSome left (λ s. Splits s requests cut)
+EndsAs SessionEnd.Closed left requests last = (last ≡ []) × IfSome left (λ s. Splits s requests closed)
+EndsAs SessionEnd.Limit left requests last = (last ≡ []) × IfSome left (λ s. Splits s requests at_limit)
+EndsAs SessionEnd.Faulted left requests last = (f : HeadFault) × (last ≡ fault_text (wire_fault f)) × IfSome left (λ s. Splits s requests (faulted f))
+EndsAs SessionEnd.NoStamp left requests last = (last ≡ []) × IfSome left (λ s. BeginsAndGoesOn s requests)
+EndsAs SessionEnd.Memory left requests last = (last ≡ memory_text) × IfSome left (λ s. IsUnderWay s requests)
 
 -- What was still due after the replies when a session was broken off. A failed or missing read came before a further
 -- request was found, so the stream was still under way. A write may have failed at a request's reply, or at the last
@@ -55,13 +48,13 @@ acted_count (Err fault) = fault.acted
 -- If a further request was looked for, fewer than the limit were acted on. A session that ended by its limit acted on
 -- exactly so many. One that was closed, or broke off over a reply, may have acted on the last of them.
 abbrev pub HasRoom : SessionEnd → ℕ → Type 0
-HasRoom End acted = acted < most_requests
-HasRoom Cut acted = acted < most_requests
-HasRoom Closed acted = acted ≤ most_requests
-HasRoom Faulted acted = acted < most_requests
-HasRoom Limit acted = acted ≡ most_requests
-HasRoom NoStamp acted = acted < most_requests
-HasRoom Memory acted = acted < most_requests
+HasRoom SessionEnd.End acted = acted < most_requests
+HasRoom SessionEnd.Cut acted = acted < most_requests
+HasRoom SessionEnd.Closed acted = acted ≤ most_requests
+HasRoom SessionEnd.Faulted acted = acted < most_requests
+HasRoom SessionEnd.Limit acted = acted ≡ most_requests
+HasRoom SessionEnd.NoStamp acted = acted < most_requests
+HasRoom SessionEnd.Memory acted = acted < most_requests
 
 abbrev pub HadRoom : Cause → ℕ → Type 0
 HadRoom Read acted = acted < most_requests
@@ -82,13 +75,13 @@ pub record IsReadWhileWanted (count : ℕ) (before after : Option (List ℕ)) : 
 module _ {S : Type 0} (steps : S → Option Stamp → S → Type 0) where
   -- the state of the stamps after a session: if it ended for want of a stamp, one further call was made, and gave none
   abbrev pub IsLeftBy : SessionEnd → S → S → Type 0
-  IsLeftBy NoStamp to new = steps to None new
-  IsLeftBy End to new = to ≡ new
-  IsLeftBy Cut to new = to ≡ new
-  IsLeftBy Closed to new = to ≡ new
-  IsLeftBy Limit to new = to ≡ new
-  IsLeftBy Faulted to new = to ≡ new
-  IsLeftBy Memory to new = to ≡ new
+  IsLeftBy SessionEnd.NoStamp to new = steps to None new
+  IsLeftBy SessionEnd.End to new = to ≡ new
+  IsLeftBy SessionEnd.Cut to new = to ≡ new
+  IsLeftBy SessionEnd.Closed to new = to ≡ new
+  IsLeftBy SessionEnd.Limit to new = to ≡ new
+  IsLeftBy SessionEnd.Faulted to new = to ≡ new
+  IsLeftBy SessionEnd.Memory to new = to ≡ new
 
   abbrev pub IsLeft : Result Ended IoFault → S → S → Type 0
   IsLeft (Ok ended) to new = IsLeftBy ended.how to new
@@ -154,9 +147,9 @@ IsFinished how acted sent text old new failed (Err fault) =
 
 -- how a session ends to which no further request came
 abbrev pub IsOver : Rest → ℕ → ℕ → Option (List ℕ) → Option (List ℕ) → Bool → Result Ended IoFault → Type 0
-IsOver AtEnd acted sent old new failed result = IsFinished End acted sent [] old new failed result
-IsOver CutOff acted sent old new failed result = IsFinished Cut acted sent [] old new failed result
-IsOver (Faulty f) acted sent old new failed result = IsFinished Faulted acted sent (fault_text (wire_fault f)) old new failed result
-IsOver NoMemory acted sent old new failed result = IsFinished Memory acted sent memory_text old new failed result
+IsOver AtEnd acted sent old new failed result = IsFinished SessionEnd.End acted sent [] old new failed result
+IsOver CutOff acted sent old new failed result = IsFinished SessionEnd.Cut acted sent [] old new failed result
+IsOver (Faulty f) acted sent old new failed result = IsFinished SessionEnd.Faulted acted sent (fault_text (wire_fault f)) old new failed result
+IsOver NoMemory acted sent old new failed result = IsFinished SessionEnd.Memory acted sent memory_text old new failed result
 IsOver (Stopped cause) acted sent old new failed result =
     (result ≡ Err (record { cause = cause; acted = acted; sent = sent })) × (new ≡ old) × (failed ≡ false)

@@ -10,9 +10,5 @@ pub use Rattle.pawn_host.specs.Session.{AreTaken, DueAfter, EndsAs, Given, HadRo
 pub use Rattle.pawn_host.specs.Shards.{HandedSplits, HandsToShards, IsFor, IsPlaced, RequestsArePlaced, ShardsReplyAsOne, bytes_of, inputs}
 pub use Rattle.pawn_host.specs.Split.{AreWanted, Begins, BeginsAndGoesOn, ClosesAfter, Ending, HasFault, HasNoWhole, IsCut, IsRequest, IsUnderWay, IsWanting, PassesOver, Splits, StopsAt, at_end, at_limit, closed, cut, faulted, most_requests}
 pub use Rattle.pawn_host.specs.Unanswered.{unanswered}
-pub use Rattle.pawn_host.specs.Views.{TellsView, view_asked}
-pub use Rattle.pawn_host.specs.declared.service.Answer.{Answer}
-pub use Rattle.pawn_host.specs.declared.session.Cause.{Cause}
-pub use Rattle.pawn_host.specs.declared.session.Cause.TheVariants.{Read, Reads, Write}
-pub use Rattle.pawn_host.specs.declared.session.Rest.{Rest}
-pub use Rattle.pawn_host.specs.declared.session.Rest.TheVariants.{AtEnd, CutOff, Faulty, NoMemory, Stopped}
+pub use Rattle.pawn_host.specs.Views.{ServesHolder, ServesRequest, TellsView, view_asked}
+pub use Rattle.pawn_host.specs.Types.{Answer, AtEnd, Cause, CutOff, Faulty, NoMemory, Read, Reads, Rest, Stopped, Write}

@@ -1,27 +1,30 @@
 -- What the holder of a book's key may ask to see, and how it is answered.
 use Rattle.std.specs.Prelude.{◌≡◌, ℕ, List, Result, Ok, Err}
-use Rattle.pawn_host.specs.Common.{BrokerRequest, Refusal, ViewFault, out_text}
-use Rattle.pawn_book.specs.declared.request.BrokerRequest.TheVariants as broker
-use Rattle.pawn_book.specs.declared.refusal.Refusal.TheVariants as No
-use Rattle.pawn_writing.specs.declared.fault.ViewFault.TheVariants as fault
+use Rattle.pawn_host.specs.Common.{Broker, BrokerRequest, Keeping, Refusal, Request, Stamp, ViewFault, out_text}
 use Rattle.pawn_wire.specs.declared.reply.Out.TheVariants as wire
-use Rattle.pawn_host.specs.declared.service.Answer.{Answer}
-use Rattle.pawn_host.specs.declared.service.Answer.TheVariants.{Memory}
-use Rattle.pawn_host.specs.declared.service.View.{View}
-use Rattle.pawn_host.specs.declared.service.View.TheVariants.{Pledge, Sheet, Rows}
-use Rattle.pawn_host.specs.Keeps.{Tells}
+use Rattle.pawn_host.specs.Types.{Answer, Pledge, Rows, Service, Sheet, View}
+use Rattle.pawn_host.specs.Keeps.{Answers, IsKeyOf, Serves, Tells, answer_bytes}
 
 -- the request for a view
 abbrev pub view_asked : View → BrokerRequest
-view_asked (Pledge number) = broker.Show number
-view_asked (Sheet day) = broker.SheetOf day
-view_asked Rows = broker.Export
+view_asked (Pledge number) = BrokerRequest.Show number
+view_asked (Sheet day) = BrokerRequest.SheetOf day
+view_asked Rows = BrokerRequest.Export
+
+-- a call of the service answers this request
+abbrev pub ServesRequest : {K : Type 0} → Keeping K → Service K → Service K → Stamp → Request → Answer → Type 0
+ServesRequest k old new stamp request answer = Serves k old new (λ start. Answers start stamp request (answer_bytes answer))
+
+-- a call of the service answers what was asked of a book, if its key was given
+abbrev pub ServesHolder : {K : Type 0} → Keeping K → Service K → Service K → Stamp → ℕ → ℕ → BrokerRequest → Answer → Type 0
+ServesHolder k old new stamp book key asked answer =
+    Serves k old new (λ start kept. IsKeyOf start.host book key → Answers start stamp (record { book = book; caller = Broker key asked }) (answer_bytes answer) kept)
 
 -- The answer to a view. It is the text if that was written whole, this refusal if there is nothing to show, or that the
 -- store failed. In all other cases, and in place of any of these, it may be that memory was refused.
 abbrev pub TellsView : {U : Type 0} → Answer → Result U ViewFault → List ℕ → Refusal → Type 0
 TellsView answer (Ok u) text unknown = Tells answer text
-TellsView answer (Err fault.Unknown) text unknown = Tells answer (out_text (wire.Refused unknown))
-TellsView answer (Err fault.Store) text unknown = Tells answer (out_text (wire.Refused No.Store))
-TellsView answer (Err fault.Memory) text unknown = answer ≡ Memory
-TellsView answer (Err fault.Write) text unknown = answer ≡ Memory
+TellsView answer (Err ViewFault.Unknown) text unknown = Tells answer (out_text (wire.Refused unknown))
+TellsView answer (Err ViewFault.Store) text unknown = Tells answer (out_text (wire.Refused Refusal.Store))
+TellsView answer (Err ViewFault.Memory) text unknown = answer ≡ Answer.Memory
+TellsView answer (Err ViewFault.Write) text unknown = answer ≡ Answer.Memory

@@ -1,7 +1,7 @@
 //! The service over a keeper: one request, or a list of them.
 ghost use Rattle.std.specs.Prelude.{◌≡◌, IfOk, OnErr, map};
 ghost use Rattle.pawn_host.specs.Common.{Bearer, Broker, Export, IsWritten, Present, SheetOf, Show, out_text};
-ghost use Rattle.pawn_host.specs.Sessions.{Answers, IsActed, IsKeyOf, IsRun, IsRunOfSlots, Serves, StaysOpen, Tells, TellsView, answer_bytes, service_keep, service_operator, view_asked};
+ghost use Rattle.pawn_host.specs.Sessions.{IsActed, IsRun, IsRunOfSlots, Serves, ServesHolder, ServesRequest, StaysOpen, Tells, TellsView, answer_bytes, service_keep, service_operator, view_asked};
 
 use pawn_book::{
     BearerRequest, BrokerRequest, Caller, Keep, Number, Receipts, Refusal, Request, RequestDay,
@@ -92,10 +92,8 @@ impl<K: Keep> Service<K> {
     // Shows a bearer the pledges of these receipts. The text goes into memory first, because its length is in the head.
     fn show_receipts(&mut self, stamp: &Stamp, book: Number, receipts: &Receipts) -> Answer
         ensures stays { StaysOpen K.keeping self.old self.new }
-        ensures acted { Serves K.keeping self.old self.new
-            (λ start. Answers start stamp.now
-            (record { book = book; caller = Bearer (Present receipts.now) })
-            (answer_bytes result)) }
+        ensures acted { ServesRequest K.keeping self.old self.new stamp.now
+            (record { book = book; caller = Bearer (Present receipts.now) }) result }
     {
         let mut writer = Writing::new(Vec::new(self.alloc));
         let day = stamp.day.day();
@@ -107,10 +105,8 @@ impl<K: Keep> Service<K> {
     // Checks the key of a book, and shows its holder what was asked for.
     fn gate_and_show(&mut self, stamp: &Stamp, book: Number, key: Secret, view: View) -> Answer
         ensures stays { StaysOpen K.keeping self.old self.new }
-        ensures acted { Serves K.keeping self.old self.new
-            (λ start. Answers start stamp.now
-            (record { book = book; caller = Broker key (view_asked view) })
-            (answer_bytes result)) }
+        ensures acted { ServesRequest K.keeping self.old self.new stamp.now
+            (record { book = book; caller = Broker key (view_asked view) }) result }
     {
         match gate(&mut self.keep, book, key) {
             Err(refusal) => return tell(self.alloc, &Out::Refused(refusal)),
@@ -122,31 +118,19 @@ impl<K: Keep> Service<K> {
     // Shows what was asked for of a book whose key was given.
     fn show_past_gate(&mut self, stamp: &Stamp, book: Number, key: Secret, view: View) -> Answer
         ensures stays { StaysOpen K.keeping self.old self.new }
-        ensures acted { Serves K.keeping self.old self.new
-            (λ start kept. IsKeyOf start.host book key
-            → Answers start stamp.now (record { book = book; caller = Broker key (view_asked view) })
-            (answer_bytes result) kept) }
+        ensures acted { ServesHolder K.keeping self.old self.new stamp.now book key (view_asked view) result }
     {
         match view {
-            View::Pledge(number) => self.pledge_past_gate(stamp, book, key, number),
-            View::Sheet(day) => self.sheet_past_gate(stamp, book, key, day),
-            View::Rows => self.rows_past_gate(stamp, book, key),
+            View::Pledge(number) => self.show_pledge(stamp, book, key, number),
+            View::Sheet(day) => self.show_sheet(stamp, book, key, day),
+            View::Rows => self.show_rows(stamp, book, key),
         }
     }
 
     // Shows a pledge of a book whose key was given.
-    fn pledge_past_gate(
-        &mut self,
-        stamp: &Stamp,
-        book: Number,
-        key: Secret,
-        number: Number,
-    ) -> Answer
+    fn show_pledge(&mut self, stamp: &Stamp, book: Number, key: Secret, number: Number) -> Answer
         ensures stays { StaysOpen K.keeping self.old self.new }
-        ensures acted { Serves K.keeping self.old self.new
-            (λ start kept. IsKeyOf start.host book key
-            → Answers start stamp.now (record { book = book; caller = Broker key (Show number) })
-            (answer_bytes result) kept) }
+        ensures acted { ServesHolder K.keeping self.old self.new stamp.now book key (Show number) result }
     {
         let mut writer = Writing::new(Vec::new(self.alloc));
         let day = stamp.day.day();
@@ -156,18 +140,9 @@ impl<K: Keep> Service<K> {
     }
 
     // Shows the sheet of a day of a book whose key was given.
-    fn sheet_past_gate(
-        &mut self,
-        stamp: &Stamp,
-        book: Number,
-        key: Secret,
-        day: RequestDay,
-    ) -> Answer
+    fn show_sheet(&mut self, stamp: &Stamp, book: Number, key: Secret, day: RequestDay) -> Answer
         ensures stays { StaysOpen K.keeping self.old self.new }
-        ensures acted { Serves K.keeping self.old self.new
-            (λ start kept. IsKeyOf start.host book key
-            → Answers start stamp.now (record { book = book; caller = Broker key (SheetOf day) })
-            (answer_bytes result) kept) }
+        ensures acted { ServesHolder K.keeping self.old self.new stamp.now book key (SheetOf day) result }
     {
         let mut writer = Writing::new(Vec::new(self.alloc));
         let shown = show_day_sheet(&mut self.keep, book, day.day(), &mut writer);
@@ -176,12 +151,9 @@ impl<K: Keep> Service<K> {
     }
 
     // Shows the rows of a book whose key was given.
-    fn rows_past_gate(&mut self, stamp: &Stamp, book: Number, key: Secret) -> Answer
+    fn show_rows(&mut self, stamp: &Stamp, book: Number, key: Secret) -> Answer
         ensures stays { StaysOpen K.keeping self.old self.new }
-        ensures acted { Serves K.keeping self.old self.new
-            (λ start kept. IsKeyOf start.host book key
-            → Answers start stamp.now (record { book = book; caller = Broker key Export })
-            (answer_bytes result) kept) }
+        ensures acted { ServesHolder K.keeping self.old self.new stamp.now book key Export result }
     {
         let mut rows = RowWriter::new(self.alloc, Vec::new(self.alloc));
         let shown = export(&mut self.keep, book, &mut rows);
@@ -199,8 +171,7 @@ impl<K: Keep> Service<K> {
     ) -> Answer
         requires asks { request.now.caller ≡ Broker key asked.now }
         ensures stays { StaysOpen K.keeping self.old self.new }
-        ensures acted { Serves K.keeping self.old self.new
-            (λ start. Answers start stamp.now request.now (answer_bytes result)) }
+        ensures acted { ServesRequest K.keeping self.old self.new stamp.now request.now result }
     {
         match asked {
             BrokerRequest::PutTerms(_) => self.act(stamp, request),
@@ -221,8 +192,7 @@ impl<K: Keep> Service<K> {
     fn answer_bearer(&mut self, stamp: &Stamp, request: &Request, asked: &BearerRequest) -> Answer
         requires asks { request.now.caller ≡ Bearer asked.now }
         ensures stays { StaysOpen K.keeping self.old self.new }
-        ensures acted { Serves K.keeping self.old self.new
-            (λ start. Answers start stamp.now request.now (answer_bytes result)) }
+        ensures acted { ServesRequest K.keeping self.old self.new stamp.now request.now result }
     {
         match asked {
             BearerRequest::Present(receipts) => self.show_receipts(stamp, request.book, receipts),
@@ -234,8 +204,7 @@ impl<K: Keep> Service<K> {
     fn act(&mut self, stamp: &Stamp, request: &Request) -> Answer
         requires written { IsWritten request.now.caller }
         ensures stays { StaysOpen K.keeping self.old self.new }
-        ensures acted { Serves K.keeping self.old self.new
-            (λ start. Answers start stamp.now request.now (answer_bytes result)) }
+        ensures acted { ServesRequest K.keeping self.old self.new stamp.now request.now result }
     {
         match plan(self.alloc, &mut self.keep, self.operator, stamp, request) {
             Err(refusal) => tell(self.alloc, &Out::Refused(refusal)),

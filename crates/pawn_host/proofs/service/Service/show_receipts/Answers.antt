@@ -1,5 +1,4 @@
-use Rattle.pawn_host.proofs.Basics.{◌∙◌, ℕ, ap, Vec, Global, reply_text, service_operator, start_of}
-use Rattle.pawn_book.specs.declared.refusal.Refusal.TheVariants as No
+use Rattle.pawn_host.proofs.Basics.{◌∙◌, ℕ, ap, Vec, Global, reply_text, service_operator, start_of, Refusal}
 use Rattle.pawn_host.proofs.CrashLemmas.{goes_read}
 use Rattle.pawn_host.proofs.RunLemmas.{acted_shown, all_written, nothing_shown, plain, present_request}
 use Rattle.pawn_host.proofs.ViewLemmas.{view_acted}
@@ -10,7 +9,7 @@ returns-clause-acted g c = λ honest h sound at bytes read.
     let start = start_of g.K.Keep.keeping c.args.self.now h in
     let goes = goes_read c.show_presented-shown.ensures.shows honest h at sound in
     let shows = rw c.as_slice.ensures.list at (c.show_presented-shown.ensures.shows.tells honest h at sound) in
-    view_acted start c.args.stamp.now bytes c.tell_view.result _ (present_request c.args.book c.args.receipts.now) No.NoSuchReceipt
+    view_acted start c.args.stamp.now bytes c.tell_view.result _ (present_request c.args.book c.args.receipts.now) Refusal.NoSuchReceipt
     (reply_text 200 plain c.into_inner.result.items) c.show_presented-shown.result read c.tell_view.ensures.tells goes (λ store. cc)
     (λ u is tells. let whole = rw is at shows in
     acted_shown start c.args.stamp.now bytes c.tell_view.result _ c.args.book c.day-day.result c.args.receipts.now

@@ -1,17 +1,16 @@
-use Rattle.pawn_host.proofs.Basics.{◌∙◌, ℕ, ap, Vec, Global, reply_text, start_of}
-use Rattle.pawn_book.specs.declared.refusal.Refusal.TheVariants as No
+use Rattle.pawn_host.proofs.Basics.{◌∙◌, ℕ, ap, Vec, Global, reply_text, start_of, Refusal}
 use Rattle.pawn_host.proofs.CrashLemmas.{goes_read}
 use Rattle.pawn_host.proofs.RunLemmas.{all_written, plain}
 use Rattle.pawn_host.proofs.SheetLemmas.{acted_sheet, no_sheet, sheet_request}
 use Rattle.pawn_host.proofs.ViewLemmas.{view_acted}
-use Rattle.pawn_host.proofs.service.Service.sheet_past_gate.Goals as goal
+use Rattle.pawn_host.proofs.service.Service.show_sheet.Goals as goal
 
 pub returns-clause-acted : goal.returns-clause-acted
 returns-clause-acted g c = λ honest h sound at with_key bytes read.
     let start = start_of g.K.Keep.keeping c.args.self.now h in
     let goes = goes_read c.show_day_sheet-shown.ensures.shows honest h at sound in
     let shows = c.show_day_sheet-shown.ensures.shows.tells honest h at in
-    view_acted start c.args.stamp.now bytes c.tell_view.result _ (sheet_request c.args.book c.args.key c.args.day) No.NoSuchBook
+    view_acted start c.args.stamp.now bytes c.tell_view.result _ (sheet_request c.args.book c.args.key c.args.day) Refusal.NoSuchBook
     (reply_text 200 plain c.into_inner.result.items) c.show_day_sheet-shown.result read c.tell_view.ensures.tells goes (λ store. cc)
     (λ u is tells. let whole = rw is at shows in
     acted_sheet start c.args.stamp.now bytes c.tell_view.result _ c.args.book c.args.key c.args.day c.day.result

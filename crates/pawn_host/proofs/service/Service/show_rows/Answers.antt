@@ -1,17 +1,16 @@
-use Rattle.pawn_host.proofs.Basics.{◌∙◌, ℕ, ap, Vec, Global, codes, reply_text, start_of}
-use Rattle.pawn_book.specs.declared.refusal.Refusal.TheVariants as No
+use Rattle.pawn_host.proofs.Basics.{◌∙◌, ℕ, ap, Vec, Global, codes, reply_text, start_of, Refusal}
 use Rattle.pawn_host.proofs.CrashLemmas.{goes_read}
 use Rattle.pawn_host.proofs.RunLemmas.{all_written}
 use Rattle.pawn_host.proofs.RowsLemmas.{acted_rows, no_text, rows_request}
 use Rattle.pawn_host.proofs.ViewLemmas.{view_acted}
-use Rattle.pawn_host.proofs.service.Service.rows_past_gate.Goals as goal
+use Rattle.pawn_host.proofs.service.Service.show_rows.Goals as goal
 
 pub returns-clause-acted : goal.returns-clause-acted
 returns-clause-acted g c = λ honest h sound at with_key bytes read.
     let start = start_of g.K.Keep.keeping c.args.self.now h in
     let goes = goes_read c.export-shown.ensures.exports honest h at sound in
     let shows = c.export-shown.ensures.exports.tells honest h at sound in
-    view_acted start c.args.stamp.now bytes c.tell_view.result _ (rows_request c.args.book c.args.key) No.NoSuchBook
+    view_acted start c.args.stamp.now bytes c.tell_view.result _ (rows_request c.args.book c.args.key) Refusal.NoSuchBook
     (reply_text 200 (codes "text/csv; charset=utf-8") c.into_inner.result.items) c.export-shown.result read c.tell_view.ensures.tells goes (λ store. cc)
     (λ u is tells. let whole = rw is at shows in
     acted_rows start c.args.stamp.now bytes c.tell_view.result _ c.args.book c.args.key

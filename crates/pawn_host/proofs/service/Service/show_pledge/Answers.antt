@@ -1,16 +1,15 @@
-use Rattle.pawn_host.proofs.Basics.{◌∙◌, ℕ, ap, Vec, Global, reply_text, service_operator, start_of}
-use Rattle.pawn_book.specs.declared.refusal.Refusal.TheVariants as No
+use Rattle.pawn_host.proofs.Basics.{◌∙◌, ℕ, ap, Vec, Global, reply_text, service_operator, start_of, Refusal}
 use Rattle.pawn_host.proofs.CrashLemmas.{goes_read}
 use Rattle.pawn_host.proofs.RunLemmas.{acted_statement, all_written, no_pledge, plain, show_request}
 use Rattle.pawn_host.proofs.ViewLemmas.{view_acted}
-use Rattle.pawn_host.proofs.service.Service.pledge_past_gate.Goals as goal
+use Rattle.pawn_host.proofs.service.Service.show_pledge.Goals as goal
 
 pub returns-clause-acted : goal.returns-clause-acted
 returns-clause-acted g c = λ honest h sound at with_key bytes read.
     let start = start_of g.K.Keep.keeping c.args.self.now h in
     let goes = goes_read c.show_statement-shown.ensures.shows honest h at sound in
     let shows = c.show_statement-shown.ensures.shows.tells honest h at sound in
-    view_acted start c.args.stamp.now bytes c.tell_view.result _ (show_request c.args.book c.args.key c.args.number) No.NoSuchPledge
+    view_acted start c.args.stamp.now bytes c.tell_view.result _ (show_request c.args.book c.args.key c.args.number) Refusal.NoSuchPledge
     (reply_text 200 plain c.into_inner.result.items) c.show_statement-shown.result read c.tell_view.ensures.tells goes (λ store. cc)
     (λ u is tells. let whole = rw is at shows in
     acted_statement start c.args.stamp.now bytes c.tell_view.result _ c.args.book c.args.key c.args.number c.day-day.result
