@@ -136,36 +136,39 @@ two_within P Q R first second make c one two both e =
     subst R (some_same b.2) (both a.0 b.0 (one a.0 a.1) (two b.0 b.1))
 
 entry_within : (d : Data) (entry : NewEntry) → asked_entry d ≡ Some entry → IsEntryWithin entry
-entry_within d entry = two_within IsBodyNumber IsBodyNumber IsEntryWithin (number_at (codes "pence") d) (number_at (codes "seq") d) (λ pence seq. record { seq = seq; pence = pence }) entry
-    (number_within (codes "pence") d) (number_within (codes "seq") d) (λ pence seq p s. (s, p))
+entry_within d entry =
+    two_within IsBodyNumber IsBodyNumber IsEntryWithin (number_at (codes "pence") d) (number_at (codes "seq") d)
+    (λ pence seq. record { seq = seq; pence = pence }) entry (number_within (codes "pence") d) (number_within (codes "seq") d) (λ pence seq p s. (s, p))
 
 booking_within : (d : Data) (booking : NewBooking) → asked_booking d ≡ Some booking → IsBookingWithin booking
-booking_within d booking = two_within IsStampDay IsBodyNumber IsBookingWithin (day_at (codes "day") d) (number_at (codes "window") d) (λ day window. record { day = day; window = window }) booking
-    (day_at_within (codes "day") d) (number_within (codes "window") d) (λ day window s n. (s, n))
+booking_within d booking =
+    two_within IsStampDay IsBodyNumber IsBookingWithin (day_at (codes "day") d) (number_at (codes "window") d)
+    (λ day window. record { day = day; window = window }) booking (day_at_within (codes "day") d) (number_within (codes "window") d) (λ day window s n. (s, n))
 
 of_body : {A : Type 0} (P : A → Type 0) (part : Data → Option A) (body : List ℕ) (a : A) → body_said part body ≡ Some a → ((d : Data) → part d ≡ Some a → P a) → P a
 of_body P part body a e each = (let d = given_some (json_of body) part a e in each d.0 d.2)
 
 -- a command that is made of what a body says
-made_within : {A : Type 0} (P : A → Type 0) (part : Data → Option A) (make : A → Command) → ((d : Data) (a : A) → part d ≡ Some a → P a) → ((a : A) → P a → IsCommandWithin (make a))
+made_within : {A : Type 0} (part : Data → Option A) (make : A → Command) → ((d : Data) (a : A) → part d ≡ Some a → IsCommandWithin (make a))
     → (body : List ℕ) (command : Command) → option_map make (body_said part body) ≡ Some command → IsCommandWithin command
-made_within P part make holds within body command e = mapped IsCommandWithin make (body_said part body) command e (λ a is. within a (of_body P part body a is (λ d. holds d a)))
+made_within part make holds body command e =
+    mapped IsCommandWithin make (body_said part body) command e (λ a is. of_body (λ (x : _). IsCommandWithin (make x)) part body a is (λ d. holds d a))
 
 brokers_within : (action : BrokerAction) (body : List ℕ) (command : Command) → brokers_command_said action body ≡ Some command → IsCommandWithin command
-brokers_within BrokerAction.Draw body command e = made_within IsEntryWithin asked_entry (λ entry. Command.Draw entry.seq entry.pence) entry_within (λ entry within. within) body command e
-brokers_within BrokerAction.Repay body command e = made_within IsEntryWithin asked_entry (λ entry. Command.Repay entry.seq entry.pence) entry_within (λ entry within. within) body command e
+brokers_within BrokerAction.Draw body command e = made_within asked_entry (λ entry. Command.Draw entry.seq entry.pence) entry_within body command e
+brokers_within BrokerAction.Repay body command e = made_within asked_entry (λ entry. Command.Repay entry.seq entry.pence) entry_within body command e
 brokers_within BrokerAction.Hold body command e = (let same : Command.Hold ≡ command = cc in subst IsCommandWithin same tt)
 brokers_within BrokerAction.Release body command e = (let same : Command.Release ≡ command = cc in subst IsCommandWithin same tt)
 brokers_within BrokerAction.Declare body command e = mapped IsCommandWithin Command.Declare (body_said paper_of body) command e (λ paper is. tt)
 brokers_within BrokerAction.Decide body command e = mapped IsCommandWithin Command.DecideBooking (body_said decision_of body) command e (λ decision is. tt)
-brokers_within BrokerAction.Sell body command e = made_within IsBodyNumber (number_at (codes "net")) Command.Sell (number_within (codes "net")) (λ net within. within) body command e
-brokers_within BrokerAction.Extend body command e = made_within IsStampDay (day_at (codes "until")) Command.Extend (day_at_within (codes "until")) (λ until within. within) body command e
+brokers_within BrokerAction.Sell body command e = made_within (number_at (codes "net")) Command.Sell (number_within (codes "net")) body command e
+brokers_within BrokerAction.Extend body command e = made_within (day_at (codes "until")) Command.Extend (day_at_within (codes "until")) body command e
 
 bearers_within : (action : BearerAction) (body : List ℕ) (command : Command) → bearers_command_said action body ≡ Some command → IsCommandWithin command
-bearers_within BearerAction.Repay body command e = made_within IsEntryWithin asked_entry (λ entry. Command.Repay entry.seq entry.pence) entry_within (λ entry within. within) body command e
-bearers_within BearerAction.Ask body command e = made_within IsBookingWithin asked_booking (λ booking. Command.AskBooking booking.day booking.window) booking_within (λ booking within. within) body command e
+bearers_within BearerAction.Repay body command e = made_within asked_entry (λ entry. Command.Repay entry.seq entry.pence) entry_within body command e
+bearers_within BearerAction.Ask body command e = made_within asked_booking (λ booking. Command.AskBooking booking.day booking.window) booking_within body command e
 bearers_within BearerAction.Cancel body command e = (let same : Command.CancelBooking ≡ command = cc in subst IsCommandWithin same tt)
-bearers_within BearerAction.Redeem body command e = made_within IsBodyNumber (number_at (codes "paid")) Command.Redeem (number_within (codes "paid")) (λ paid within. within) body command e
+bearers_within BearerAction.Redeem body command e = made_within (number_at (codes "paid")) Command.Redeem (number_within (codes "paid")) body command e
 
 receipt_within : (text : List ℕ) (receipt : Receipt) → receipt_said text ≡ Some receipt → IsNumber receipt.number
 receipt_within text receipt e =

@@ -24,7 +24,7 @@ returns-clause-shares g c =
     reads_then reads reads' (λ h share share' sound p at is.
     let found = pledge_at h c.args.book c.args.number in
     subst (λ (w : Writing _). PutsShare g.W.Write.contents c.args.writer.now (statement_text c.args.day p) (call_end c.visit_entries.result) w) (sym same)
-    (statement_whole g.W.Write.contents c.args.writer.now c.put_first.new.writer c.visit_extensions.new.visitor.writer.now c.put_state.new.writer c.visit_entries.new.visitor.writer.now c.args.day c.shown_day.result p c.args.brief.now
-    (call_end c.visit_entries.result) is (told_of_sound h sound c.args.book c.args.number p at) c.shown_day.ensures.answer c.put_first.ensures.puts
+    (statement_whole g.W.Write.contents c.args.writer.now c.put_first.new.writer c.visit_extensions.new.visitor.writer.now c.put_state.new.writer c.visit_entries.new.visitor.writer.now
+    c.args.day c.shown_day.result p c.args.brief.now (call_end c.visit_entries.result) is (told_of_sound h sound c.args.book c.args.number p at) c.shown_day.ensures.answer c.put_first.ensures.puts
     (elements_put g.W.Write.contents extended_line _ _ extensions_of found p given flow Whole handed at (share p at is)) c.put_state.ensures.puts
     (elements_put g.W.Write.contents entry_line _ _ entries_of found p given' flow' _ handed' at (share' p at is))))

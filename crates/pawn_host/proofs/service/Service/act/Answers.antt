@@ -27,7 +27,8 @@ returns-in-Ok-commit-clause-acted g c = λ honest h sound at bytes read.
     let acts = made_acts h operator c.args.stamp.now c.args.request.now stands made.change made.reply sound plans commits in
     acted_done (start_of g.K.Keep.keeping c.args.self.now h) c.args.stamp.now bytes c.in-Ok-write_reply.reply.items _ c.args.request.now made.reply read
     (rw c.in-Ok-write_reply.is at c.write_reply.ensures.text) acts
-    (λ left by. made_left h operator c.args.stamp.now c.args.request.now made.change made.reply stands (leaves c.args.self.now.keep) (leaves c.plan.new.keep) left plans commits (c.plan.ensures.reads.crash before)
+    (λ left by. made_left h operator c.args.stamp.now c.args.request.now made.change made.reply stands (leaves c.args.self.now.keep) (leaves c.plan.new.keep)
+    left plans commits (c.plan.ensures.reads.crash before)
     (rw c.in-Ok-commit.is at (c.commit.ensures.crash honest h sound stood left by)))
 
 pub returns-clause-acted : goal.returns-clause-acted
@@ -44,7 +45,8 @@ returns-clause-acted g c = λ honest h sound at bytes read.
     let acts = unmade_acts h operator c.args.stamp.now c.args.request.now stands made.change made.reply why plans commits in
     let start = start_of g.K.Keep.keeping c.args.self.now h in
     let goes = goes_unmade start c.args.stamp.now c.args.request.now _ made.change why sound commits acts
-    (λ left by. unmade_left h operator c.args.stamp.now c.args.request.now made.change made.reply why (leaves c.args.self.now.keep) (leaves c.plan.new.keep) left plans (c.plan.ensures.reads.crash before)
+    (λ left by. unmade_left h operator c.args.stamp.now c.args.request.now made.change made.reply why (leaves c.args.self.now.keep) (leaves c.plan.new.keep)
+    left plans (c.plan.ensures.reads.crash before)
     (rw c.in-Err-commit.is at (c.commit.ensures.crash honest h sound stood left by))) in
     acted_unmade start c.args.stamp.now bytes c.tell-in-Err-commit.result _ c.args.request.now why read c.tell-in-Err-commit.ensures.tells goes
     (λ steady store. c.commit.ensures.steady (c.plan.ensures.reads.on.stays steady) (err_is c.commit.result why c.in-Err-commit.is store))
