@@ -12,5 +12,5 @@ pub use Rattle.sqlite_trees.proofs.Doubt.{no_doubt}
 pub use Rattle.sqlite_trees.proofs.ListLemmas.{IsPermutation-filter, all-append, filter-map, map-map}
 pub use Rattle.pawn_opening.specs.Common.{AllByRecursion, AreLoose, AtPlace, CompileError, Compiled, CreateTable, Database, Does, Error, ExcusesClose, Executes, Fails, FailsToClose, FailsToCommit, FailsToShow, FileStore, Files, Finds, HasCleanDisk, Held, HoldHost, Holds, Host, Image, Index, Int, IsClean, IsCleanLeft, IsClosed, IsDatabase, IsLent, IsLive, IsNoStatement, IsNumbered, IsQuiet, IsRolledBack, IsSourceOf, IsUnchanged, KeepsRows, Listed, Lists, ListsOurs, MoreFaults, Null, Opens, PUT_NOTE, READ_SCHEMA, Reads, RefusesToRead, Row, Rows, Schema, Select, Shows, ShowsRows, SqlInputError, SqliteFailure, StandForOne, StandsFor, State, StoreError, Survives, Table, Tally, Term, Text, Trees, Writes, book_rows, bookings, bookings_tree, books, books_tree, catalog_tree, col, column, columns_of, created, doubt, entries, entries_table, entries_tree, extensions, extensions_tree, faults, file_state, first, first_schema, if_select, image_of, is_reserved, is_select, is_shielded, keep_schema, lacks_sequence, list_all, listing_schema, lit, meta, meta_row, meta_rows, meta_tree, mode_of, next_tree, no_schema, notes, op2, pledges, pledges_tree, reads_listing, recovers, rows, second_schema, secrets, secrets_tree, small, state, store_error, table_defined_by, target, terms, terms_tree, text_of, totals, totals_tree, view, with_command, with_indexes, with_rows}
 unfoldable pub use Rattle.pawn_opening.specs.Common.{CommitsShowing, ExecutesIn, FailsToQuery, IsNotRun, Shown, command, compiled, create_index, creates, everything, index_defined_by, index_in, meaning, planned, returning, timed, understood, value_cmp}
-pub use Rattle.pawn_opening.specs.Laying.{AddsTable, first_six, first_three}
+pub use Rattle.pawn_opening.specs.Laying.{AddsTable}
 pub use Rattle.pawn_opening.specs.Stores.{AddsIndexes, AnswersOpening, AreClosedFor, AreEmpty, AreMadeOf, Fills, GainsIndexes, HasCommitted, HasNoAnswer, HoldGained, HoldsIn, IndexesStore, IsAsBefore, IsBlank, IsEmptyStore, IsIndexed, IsJudged, IsLeftUnclosed, IsNoted, IsNumberRead, IsOneNumber, IsOpenable, IsRefusedFor, IsRefusedStore, IsStoreFault, IsStrangeNumber, LaysOut, Makes, Memory, NotOurs, Notes, NotesNoSchema, NotesSchema, OldSchema, OpenFault, OpensAs, OpensFound, Prepares, Recognises, StandsAlone, StandsIn, Store, TellsSchema, empty_host, no_rows}

@@ -1,6 +1,6 @@
 -- Tables that are made, one after another.
 use Rattle.std.specs.Prelude.{ℕ, [], ◌∷◌, IsTrue, Result, OnOk}
-use Rattle.pawn_opening.specs.Common.{created, Database, Row, Schema, HasCleanDisk, State, no_schema, Listed, Lists, with_rows, bookings, books, entries, keep_schema, meta_tree, pledges, secrets, terms}
+use Rattle.pawn_opening.specs.Common.{Database, Row, Schema, HasCleanDisk, State, Listed, Lists, with_rows, keep_schema, meta_tree}
 
 -- no table has a row
 abbrev pub no_rows : Listed
@@ -9,14 +9,6 @@ no_rows tree = []
 -- the database has the tables of this schema, and they have no rows
 abbrev pub AreEmpty : Schema → Database → Type 0
 AreEmpty schema db = Lists schema db no_rows
-
--- the tables of books, terms and pledges
-abbrev pub first_three : Schema
-first_three = created (created (created no_schema books) terms) pledges
-
--- and those of entries, secrets and bookings
-abbrev pub first_six : Schema
-first_six = created (created (created first_three entries) secrets) bookings
 
 -- a part of a transaction adds empty tables to empty tables, so that the first schema becomes the second
 abbrev pub Makes : {E : Type 0} → State → State → Result (Unit {0}) E → Schema → Schema → Type 0

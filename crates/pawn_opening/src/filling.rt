@@ -1,24 +1,12 @@
 ghost use Rattle.std.specs.Prelude.{is_ok};
-ghost use Rattle.pawn_opening.specs.Common.{state, no_schema, Lends, keep_schema};
-ghost use Rattle.pawn_opening.specs.Stores.{Makes, Fills};
+ghost use Rattle.pawn_opening.specs.Common.{state, Lends};
+ghost use Rattle.pawn_opening.specs.Stores.{Fills};
 
 use crate::indexing::{Lacking, make_indexes};
-use crate::laying::{make_books, make_lists, make_notes};
+use crate::laying::make_tables;
 use crate::noting::note;
 use crate::recognising::SCHEMA;
 use sqlite::{Alter, Error, Transaction};
-
-// Makes all tables of the program's schema, without rows.
-#[tactic(auto, using(crate::proofs::Basics::lent_then))]
-fn make_tables<S: Alter>(tx: &mut Transaction<'_, S>) -> Result<(), Error>
-    ensures made { Makes (state S.Store tx.old.conn.now)
-        (state S.Store tx.new.conn.now) result no_schema keep_schema }
-    ensures lent { Lends S.Store tx.old.conn tx.new.conn (is_ok result) }
-{
-    make_books(tx)?;
-    make_lists(tx)?;
-    make_notes(tx)
-}
 
 /// Makes the program's tables and indexes in an empty store. Notes the number of the schema, a count of no rows, and
 /// the limit.

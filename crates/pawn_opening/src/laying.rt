@@ -1,6 +1,6 @@
 ghost use Rattle.std.specs.Prelude.{is_ok};
 ghost use Rattle.pawn_opening.specs.Common.{state, no_schema, Lends, extensions_tree, first_schema, keep_schema, second_schema, totals_tree};
-ghost use Rattle.pawn_opening.specs.Laying.{AddsTable, Makes, first_three, first_six};
+ghost use Rattle.pawn_opening.specs.Laying.{AddsTable, Makes};
 
 use one_table::run;
 use pawn_tables::texts::{
@@ -9,40 +9,22 @@ use pawn_tables::texts::{
 };
 use sqlite::{Alter, Error, Transaction};
 
-/// Makes the tables of books, terms and pledges.
+/// Makes all tables of the program's schema, without rows.
 #[tactic(auto, using(crate::proofs::Basics::lent_then))]
-pub(crate) fn make_books<S: Alter>(tx: &mut Transaction<'_, S>) -> Result<(), Error>
+pub(crate) fn make_tables<S: Alter>(tx: &mut Transaction<'_, S>) -> Result<(), Error>
     ensures made { Makes (state S.Store tx.old.conn.now)
-        (state S.Store tx.new.conn.now) result no_schema first_three }
+        (state S.Store tx.new.conn.now) result no_schema keep_schema }
     ensures lent { Lends S.Store tx.old.conn tx.new.conn (is_ok result) }
 {
     run(tx, MAKE_BOOKS, &[])?;
     run(tx, MAKE_TERMS, &[])?;
-    run(tx, MAKE_PLEDGES, &[])
-}
-
-/// Makes the tables of entries, secrets and bookings.
-#[tactic(auto, using(crate::proofs::Basics::lent_then))]
-pub(crate) fn make_lists<S: Alter>(tx: &mut Transaction<'_, S>) -> Result<(), Error>
-    ensures made { Makes (state S.Store tx.old.conn.now)
-        (state S.Store tx.new.conn.now) result first_three first_six }
-    ensures lent { Lends S.Store tx.old.conn tx.new.conn (is_ok result) }
-{
+    run(tx, MAKE_PLEDGES, &[])?;
     run(tx, MAKE_ENTRIES, &[])?;
     run(tx, MAKE_SECRETS, &[])?;
-    run(tx, MAKE_BOOKINGS, &[])
-}
-
-/// Makes the tables `meta`, which holds what the store notes, `totals` and `extensions`.
-#[tactic(auto, using(crate::proofs::Basics::lent_then))]
-pub(crate) fn make_notes<S: Alter>(tx: &mut Transaction<'_, S>) -> Result<(), Error>
-    ensures made { Makes (state S.Store tx.old.conn.now)
-        (state S.Store tx.new.conn.now) result first_six keep_schema }
-    ensures lent { Lends S.Store tx.old.conn tx.new.conn (is_ok result) }
-{
+    run(tx, MAKE_BOOKINGS, &[])?;
     run(tx, MAKE_META, &[])?;
-    make_totals(tx)?;
-    make_extensions(tx)
+    run(tx, MAKE_TOTALS, &[])?;
+    run(tx, MAKE_EXTENSIONS, &[])
 }
 
 /// Adds the table of totals to those of the first schema, within a transaction. It has no rows.
