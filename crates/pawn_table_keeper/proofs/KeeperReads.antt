@@ -1,7 +1,8 @@
 -- A read of a keeper: a transaction that is lent, and rolled back.
-use Rattle.pawn_table_keeper.proofs.Basics.{◌≡◌, ◌⊎◌, inl, inr, true, false, Result, Ok, Err, IsTrue, refl, sym, subst, ◌∙◌, arith, IfOk, is_ok, Held, state, HasCleanDisk, IsRolledBack, KeepsCommit, State, Survives, Host, Errs, Reads, KeepError, NoRecord, IsWhole, Keeps, keeping_by, StandsFor}
+use Rattle.pawn_table_keeper.proofs.Basics.{◌≡◌, ◌⊎◌, inl, inr, true, false, Result, Ok, Err, IsTrue, refl, sym, subst, ◌∙◌, arith, IfOk, is_ok, Held, state, HasCleanDisk, IsRolledBack, KeepsCommit, State, Survives, Host, Errs, Reads, KeepError, NoRecord, IsWhole, Keeps, keeping_by, keeping_of, StandsFor, Tells, IsUnsoundAt, ℕ}
 use Rattle.std.specs.Borrow.{MutBor}
 use Rattle.sqlite_trees.specs.declared.store.Store.{Ghosts}
+use Rattle.pawn_table_keeper.specs.declared.keeper.TableKeep.{TableKeep}
 use Rattle.pawn_book.specs.declared.fault.KeepError.TheVariants as Keeper
 use Rattle.one_table.specs.Lending.{IsLent, Lends, Rests}
 use Rattle.one_table.proofs.Lent.{clean_before}
@@ -98,3 +99,8 @@ read_in {S} g conn old new {tx} {lent} {IsUnsound} P r ended settled begun lends
     let was = was_read (state g (conn old)) r ended settled (subst (λ (h : Held S). IsLent (state g h) (state g lent.now) (is_ok r)) begun lends.leaves) undone after
     (subst (λ (h : Held S). FindsIn IsUnsound (state g h) (state g lent.now) r P) begun finds) in
     record { reads = read_by (λ k. state g (conn k)) old new was; errs = errs_by (λ k. state g (conn k)) old new was }
+
+-- .. of one book
+pub told : {S A : Type 0} {g : Ghosts S} {old new : TableKeep S g} {book : ℕ} {r : Result A KeepError} {P : Host → A → Type 0}
+    → record { reads : Reads (keeping_of g) old new (λ h. IfOk r (P h)); errs : Errs (keeping_of g) old new (IsUnsoundAt book) r } → record { tells : Tells g old new book r P }
+told it = record { tells = record { reads = it.reads; errs = it.errs } }

@@ -74,5 +74,3 @@ errs_database k old new r may is = record {
   never = λ steady. absurd (may steady);
   no_record = λ bad. absurd (let e = sym is ∙ bad in cc);
 }
-
--- ---- the pledge at a number

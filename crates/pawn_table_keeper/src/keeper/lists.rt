@@ -1,8 +1,8 @@
 ghost use Rattle.std.specs.Prelude.{◌≡◌, IfErr, IfOk};
-ghost use Rattle.pawn_table_keeper.specs.Common.{get, state, pledge_in, Errs, Reads, entries_of, extensions_of, secrets_of, IsUnsoundAt, Database, keeping_by, page_end, page_behind};
+ghost use Rattle.pawn_table_keeper.specs.Common.{get, pledge_in, entries_of, extensions_of, secrets_of, Database, page_end, page_behind};
 ghost use Rattle.pawn_book.specs.declared.fault.KeepError.TheVariants as Keeper;
 ghost use Rattle.pawn_tables.specs.Entries.{IsEntriesPage, behind};
-ghost use Rattle.pawn_table_keeper.specs.Handing.{HandsRows};
+ghost use Rattle.pawn_table_keeper.specs.Handing.{Hands, Tells};
 
 use super::handing::hand_all;
 use super::{BEYOND, TOO_MANY, TableKeep};
@@ -24,11 +24,8 @@ impl<S: Alter> TableKeep<S> {
         number: Number,
         from: u32,
     ) -> Result<Entries, KeepError>
-        ensures reads { Reads (keeping_by (λ k. state S.Store k.conn)) self.old self.new
-            (λ h. IfOk result
-            (λ page. IsEntriesPage from (entries_of (pledge_in (get h.books book) number)) page)) }
-        ensures errs { Errs (keeping_by (λ k. state S.Store k.conn)) self.old self.new
-            (IsUnsoundAt book) result }
+        ensures tells { Tells S.Store self.old self.new book result
+            (λ h page. IsEntriesPage from (entries_of (pledge_in (get h.books book) number)) page) }
     {
         know_settled(&self.conn);
         let mut tx = self.conn.transaction();
@@ -45,8 +42,7 @@ impl<S: Alter> TableKeep<S> {
         number: Number,
         visitor: &mut V,
     ) -> Result<Flow, KeepError>
-        ensures hands { HandsRows (keeping_by (λ k. state S.Store k.conn))
-            (IsUnsoundAt book) V.step self.old self.new visitor.old visitor.new result
+        ensures hands { Hands S.Store book V.step self.old self.new visitor.old visitor.new result
             (λ h. entries_of (pledge_in (get h.books book) number)) }
     {
         let mut from = 0;
@@ -71,12 +67,8 @@ impl<S: Alter> TableKeep<S> {
         number: Number,
         behind: u32,
     ) -> Result<Secrets, KeepError>
-        ensures reads { Reads (keeping_by (λ k. state S.Store k.conn)) self.old self.new
-            (λ h. IfOk result
-            (λ page. page ≡ page_behind behind
-            (secrets_of (pledge_in (get h.books book) number)))) }
-        ensures errs { Errs (keeping_by (λ k. state S.Store k.conn)) self.old self.new
-            (IsUnsoundAt book) result }
+        ensures tells { Tells S.Store self.old self.new book result
+            (λ h page. page ≡ page_behind behind (secrets_of (pledge_in (get h.books book) number))) }
     {
         know_settled(&self.conn);
         let mut tx = self.conn.transaction();
@@ -92,8 +84,7 @@ impl<S: Alter> TableKeep<S> {
         number: Number,
         visitor: &mut V,
     ) -> Result<Flow, KeepError>
-        ensures hands { HandsRows (keeping_by (λ k. state S.Store k.conn))
-            (IsUnsoundAt book) V.step self.old self.new visitor.old visitor.new result
+        ensures hands { Hands S.Store book V.step self.old self.new visitor.old visitor.new result
             (λ h. secrets_of (pledge_in (get h.books book) number)) }
     {
         for turn in 0..MOST_SECRETS as u32 + 1 {
@@ -116,12 +107,8 @@ impl<S: Alter> TableKeep<S> {
         number: Number,
         behind: u32,
     ) -> Result<Extensions, KeepError>
-        ensures reads { Reads (keeping_by (λ k. state S.Store k.conn)) self.old self.new
-            (λ h. IfOk result
-            (λ page. page ≡ page_behind behind
-            (extensions_of (pledge_in (get h.books book) number)))) }
-        ensures errs { Errs (keeping_by (λ k. state S.Store k.conn)) self.old self.new
-            (IsUnsoundAt book) result }
+        ensures tells { Tells S.Store self.old self.new book result
+            (λ h page. page ≡ page_behind behind (extensions_of (pledge_in (get h.books book) number))) }
     {
         know_settled(&self.conn);
         let mut tx = self.conn.transaction();
@@ -137,8 +124,7 @@ impl<S: Alter> TableKeep<S> {
         number: Number,
         visitor: &mut V,
     ) -> Result<Flow, KeepError>
-        ensures hands { HandsRows (keeping_by (λ k. state S.Store k.conn))
-            (IsUnsoundAt book) V.step self.old self.new visitor.old visitor.new result
+        ensures hands { Hands S.Store book V.step self.old self.new visitor.old visitor.new result
             (λ h. extensions_of (pledge_in (get h.books book) number)) }
     {
         for turn in 0..MOST_EXTENSIONS as u32 + 1 {

@@ -1,6 +1,6 @@
-ghost use Rattle.std.specs.Prelude.{◌∷◌, ◌≡◌, IfOk, length};
-ghost use Rattle.pawn_table_keeper.specs.Common.{get, state, Errs, Reads, pledges_of, day_sheet, part_head, part_items, window_sheet, windows_sheet, with_head, IsUnsoundAt, keeping_by, IsLinesPage, NamesWindows, page_end};
-ghost use Rattle.pawn_table_keeper.specs.Handing.{HandsRows};
+ghost use Rattle.std.specs.Prelude.{◌≡◌, length};
+ghost use Rattle.pawn_table_keeper.specs.Common.{get, pledges_of, day_sheet, part_items, window_sheet, windows_sheet, with_head, IsLinesPage, NamesWindows, page_end};
+ghost use Rattle.pawn_table_keeper.specs.Handing.{Hands, Tells};
 ghost use Rattle.pawn_table_keeper.specs.Windows.{named_sheet, named_sheets};
 
 use super::handing::{hand_lines, hand_whole};
@@ -15,11 +15,8 @@ use sqlite::Alter;
 impl<S: Alter> TableKeep<S> {
     // How many items a part of a day's sheet has.
     fn count_part(&mut self, book: Number, day: Day, part: Part) -> Result<u64, KeepError>
-        ensures reads { Reads (keeping_by (λ k. state S.Store k.conn)) self.old self.new
-            (λ h. IfOk result
-            (λ count. count ≡ length (part_items part day (pledges_of (get h.books book))))) }
-        ensures errs { Errs (keeping_by (λ k. state S.Store k.conn)) self.old self.new
-            (IsUnsoundAt book) result }
+        ensures tells { Tells S.Store self.old self.new book result
+            (λ h count. count ≡ length (part_items part day (pledges_of (get h.books book)))) }
     {
         know_settled(&self.conn);
         let mut tx = self.conn.transaction();
@@ -36,11 +33,8 @@ impl<S: Alter> TableKeep<S> {
         part: Part,
         above: u32,
     ) -> Result<Rows<Line>, KeepError>
-        ensures reads { Reads (keeping_by (λ k. state S.Store k.conn)) self.old self.new
-            (λ h. IfOk result
-            (λ page. IsLinesPage part day above (pledges_of (get h.books book)) page)) }
-        ensures errs { Errs (keeping_by (λ k. state S.Store k.conn)) self.old self.new
-            (IsUnsoundAt book) result }
+        ensures tells { Tells S.Store self.old self.new book result
+            (λ h page. IsLinesPage part day above (pledges_of (get h.books book)) page) }
     {
         know_settled(&self.conn);
         let mut tx = self.conn.transaction();
@@ -57,8 +51,7 @@ impl<S: Alter> TableKeep<S> {
         part: Part,
         visitor: &mut V,
     ) -> Result<Flow, KeepError>
-        ensures hands { HandsRows (keeping_by (λ k. state S.Store k.conn))
-            (IsUnsoundAt book) V.step self.old self.new visitor.old visitor.new result
+        ensures hands { Hands S.Store book V.step self.old self.new visitor.old visitor.new result
             (λ h. part_items part day (pledges_of (get h.books book))) }
     {
         let mut above = 0;
@@ -76,26 +69,6 @@ impl<S: Alter> TableKeep<S> {
         Err(TOO_MANY)
     }
 
-    // Hands a part's heading, which gives `count`, and then the part's items, until the visitor wants no more.
-    fn hand_under<V: Visitor<SheetItem>>(
-        &mut self,
-        book: Number,
-        day: Day,
-        part: Part,
-        count: u64,
-        visitor: &mut V,
-    ) -> Result<Flow, KeepError>
-        ensures hands { HandsRows (keeping_by (λ k. state S.Store k.conn))
-            (IsUnsoundAt book) V.step self.old self.new visitor.old visitor.new result
-            (λ h. part_head part count ∷ part_items part day (pledges_of (get h.books book))) }
-    {
-        let heading = part.heading(count);
-        match visitor.visit(&heading) {
-            Flow::Go => self.hand_part(book, day, part, visitor),
-            Flow::Stop => Ok(Flow::Stop),
-        }
-    }
-
     // Hands a part's heading and then its items, until the visitor wants no more. The tables are asked how many items
     // there are.
     fn hand_counted<V: Visitor<SheetItem>>(
@@ -105,12 +78,15 @@ impl<S: Alter> TableKeep<S> {
         part: Part,
         visitor: &mut V,
     ) -> Result<Flow, KeepError>
-        ensures hands { HandsRows (keeping_by (λ k. state S.Store k.conn))
-            (IsUnsoundAt book) V.step self.old self.new visitor.old visitor.new result
+        ensures hands { Hands S.Store book V.step self.old self.new visitor.old visitor.new result
             (λ h. with_head part (part_items part day (pledges_of (get h.books book)))) }
     {
         let count = self.count_part(book, day, part)?;
-        self.hand_under(book, day, part, count, visitor)
+        let heading = part.heading(count);
+        match visitor.visit(&heading) {
+            Flow::Go => self.hand_part(book, day, part, visitor),
+            Flow::Stop => Ok(Flow::Stop),
+        }
     }
 
     // Hands a part's heading and then its items, until the visitor wants no more. If they fit on one page, the page
@@ -122,8 +98,7 @@ impl<S: Alter> TableKeep<S> {
         part: Part,
         visitor: &mut V,
     ) -> Result<Flow, KeepError>
-        ensures hands { HandsRows (keeping_by (λ k. state S.Store k.conn))
-            (IsUnsoundAt book) V.step self.old self.new visitor.old visitor.new result
+        ensures hands { Hands S.Store book V.step self.old self.new visitor.old visitor.new result
             (λ h. with_head part (part_items part day (pledges_of (get h.books book)))) }
     {
         let page = self.lines_above(book, day, part, 0)?;
@@ -141,8 +116,7 @@ impl<S: Alter> TableKeep<S> {
         window: u64,
         visitor: &mut V,
     ) -> Result<Flow, KeepError>
-        ensures hands { HandsRows (keeping_by (λ k. state S.Store k.conn))
-            (IsUnsoundAt book) V.step self.old self.new visitor.old visitor.new result
+        ensures hands { Hands S.Store book V.step self.old self.new visitor.old visitor.new result
             (λ h. window_sheet (pledges_of (get h.books book)) day window) }
     {
         let part = Part::Confirmed { window };
@@ -158,11 +132,8 @@ impl<S: Alter> TableKeep<S> {
 
     // The windows in which somebody comes on a day.
     fn windows_on(&mut self, book: Number, day: Day) -> Result<Rows<u64>, KeepError>
-        ensures reads { Reads (keeping_by (λ k. state S.Store k.conn)) self.old self.new
-            (λ h. IfOk result
-            (λ windows. NamesWindows day (pledges_of (get h.books book)) windows)) }
-        ensures errs { Errs (keeping_by (λ k. state S.Store k.conn)) self.old self.new
-            (IsUnsoundAt book) result }
+        ensures tells { Tells S.Store self.old self.new book result
+            (λ h windows. NamesWindows day (pledges_of (get h.books book)) windows) }
     {
         know_settled(&self.conn);
         let mut tx = self.conn.transaction();
@@ -180,8 +151,7 @@ impl<S: Alter> TableKeep<S> {
         window: u64,
         visitor: &mut V,
     ) -> Result<Flow, KeepError>
-        ensures hands { HandsRows (keeping_by (λ k. state S.Store k.conn))
-            (IsUnsoundAt book) V.step self.old self.new visitor.old visitor.new result
+        ensures hands { Hands S.Store book V.step self.old self.new visitor.old visitor.new result
             (λ h. named_sheet windows.now (pledges_of (get h.books book)) day window) }
     {
         if windows.contains(&window) {
@@ -199,8 +169,7 @@ impl<S: Alter> TableKeep<S> {
         windows: &[u64],
         visitor: &mut V,
     ) -> Result<Flow, KeepError>
-        ensures hands { HandsRows (keeping_by (λ k. state S.Store k.conn))
-            (IsUnsoundAt book) V.step self.old self.new visitor.old visitor.new result
+        ensures hands { Hands S.Store book V.step self.old self.new visitor.old visitor.new result
             (λ h. named_sheets windows.now (pledges_of (get h.books book)) day) }
     {
         for window in 0..LAST_WINDOW + 1 {
@@ -219,8 +188,7 @@ impl<S: Alter> TableKeep<S> {
         day: Day,
         visitor: &mut V,
     ) -> Result<Flow, KeepError>
-        ensures hands { HandsRows (keeping_by (λ k. state S.Store k.conn))
-            (IsUnsoundAt book) V.step self.old self.new visitor.old visitor.new result
+        ensures hands { Hands S.Store book V.step self.old self.new visitor.old visitor.new result
             (λ h. windows_sheet (pledges_of (get h.books book)) day) }
     {
         let windows = self.windows_on(book, day)?;
@@ -234,8 +202,7 @@ impl<S: Alter> TableKeep<S> {
         day: Day,
         visitor: &mut V,
     ) -> Result<Flow, KeepError>
-        ensures hands { HandsRows (keeping_by (λ k. state S.Store k.conn))
-            (IsUnsoundAt book) V.step self.old self.new visitor.old visitor.new result
+        ensures hands { Hands S.Store book V.step self.old self.new visitor.old visitor.new result
             (λ h. day_sheet (pledges_of (get h.books book)) day) }
     {
         match self.hand_windows(book, day, visitor)? {

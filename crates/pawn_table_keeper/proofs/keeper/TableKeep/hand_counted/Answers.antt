@@ -1,13 +1,27 @@
-use Rattle.pawn_table_keeper.proofs.Calls.{Err, ap, length, refl, rules, ◌∷◌, ◌≡◌, get, state, Host, pledges_of, part_head, part_items, with_head, keeping_by, hands_after, hands_unread}
+use Rattle.pawn_table_keeper.proofs.Calls.{Err, List, Ok, [], ap, length, refl, rules, ◌∷◌, ◌∙◌, ◌≡◌, get, Host, pledges_of, part_head, part_items, SheetItem, with_head, Go, Stop, keeping_of, hands_after, hands_ended, hands_item, hands_then, hands_unread}
 use Rattle.pawn_table_keeper.proofs.keeper.TableKeep.hand_counted.Goals as goal
 
 pub returns-in_err-count : goal.returns-in_err-count
-returns-in_err-count g c = record { hands = hands_unread (keeping_by (λ k. state g.S.Store k.conn)) g.V.Visitor.step c.args.self.now c.count_part.new.self c.args.visitor.now (Err c.in_err-count.field-0.0) c.from_residual.result c.in_err-count.field-0.0 (λ h. with_head c.args.part (part_items c.args.part c.args.day (pledges_of (get h.books c.args.book)))) {P = λ h. Unit {0}} refl (search rules) c.in_err-count.ensures.reads c.in_err-count.ensures.errs }
+returns-in_err-count g c = record { hands = hands_unread (keeping_of g.S.Store) g.V.Visitor.step c.args.self.now c.count_part.new.self c.args.visitor.now (Err c.in_err-count.field-0.0) c.from_residual.result c.in_err-count.field-0.0 (λ h. with_head c.args.part (part_items c.args.part c.args.day (pledges_of (get h.books c.args.book)))) {P = λ h. Unit {0}} refl (search rules) c.in_err-count.ensures.tells.reads c.in_err-count.ensures.tells.errs }
 
-pub returns : goal.returns
-returns g c =
-    let told : Host → Type 0 = λ h. c.in_ok-count.count ≡ length (part_items c.args.part c.args.day (pledges_of (get h.books c.args.book))) in
+pub returns-in-Go : goal.returns-in-Go
+returns-in-Go g c =
+    let items : Host → List SheetItem = λ h. part_items c.args.part c.args.day (pledges_of (get h.books c.args.book)) in
+    let heading = c.heading-heading.result in
     record {
-      hands = hands_after (keeping_by (λ k. state g.S.Store k.conn)) g.V.Visitor.step c.args.self.now c.count_part.new.self c.hand_under.new.self c.args.visitor.now c.hand_under.new.visitor c.hand_under.result (λ h. part_head c.args.part c.in_ok-count.count ∷ part_items c.args.part c.args.day (pledges_of (get h.books c.args.book))) (λ h. with_head c.args.part (part_items c.args.part c.args.day (pledges_of (get h.books c.args.book))))
-          {P = told} c.in_ok-count.ensures.reads (λ h count. ap (λ n. part_head c.args.part n ∷ part_items c.args.part c.args.day (pledges_of (get h.books c.args.book))) count) c.hand_under.ensures.hands;
+      hands = hands_after (keeping_of g.S.Store) g.V.Visitor.step c.args.self.now c.count_part.new.self c.hand_part.new.self c.args.visitor.now c.hand_part.new.visitor c.hand_part.result (λ h. heading ∷ items h) (λ h. with_head c.args.part (items h))
+          {P = λ h. c.in_ok-count.count ≡ length (items h)} c.in_ok-count.ensures.tells.reads (λ h count. ap (λ i. i ∷ items h) (c.heading-heading.ensures.value ∙ ap (part_head c.args.part) count))
+          (hands_then (keeping_of g.S.Store) g.V.Visitor.step c.count_part.new.self c.count_part.new.self c.hand_part.new.self c.args.visitor.now c.visit.new.self c.hand_part.new.visitor c.hand_part.result (λ h. heading ∷ []) items
+          (hands_item (keeping_of g.S.Store) g.V.Visitor.step c.count_part.new.self c.args.visitor.now c.visit.new.self heading Go (rw c.in-Go.is at c.visit.ensures.steps)) c.hand_part.ensures.hands);
+    }
+
+pub returns-in-Stop : goal.returns-in-Stop
+returns-in-Stop g c =
+    let items : Host → List SheetItem = λ h. part_items c.args.part c.args.day (pledges_of (get h.books c.args.book)) in
+    let heading = c.heading-heading.result in
+    record {
+      hands = hands_after (keeping_of g.S.Store) g.V.Visitor.step c.args.self.now c.count_part.new.self c.count_part.new.self c.args.visitor.now c.visit.new.self (Ok Stop) (λ h. heading ∷ items h) (λ h. with_head c.args.part (items h))
+          {P = λ h. c.in_ok-count.count ≡ length (items h)} c.in_ok-count.ensures.tells.reads (λ h count. ap (λ i. i ∷ items h) (c.heading-heading.ensures.value ∙ ap (part_head c.args.part) count))
+          (hands_ended (keeping_of g.S.Store) g.V.Visitor.step c.count_part.new.self c.count_part.new.self c.args.visitor.now c.visit.new.self (Ok Stop) (Ok Stop) (λ h. heading ∷ []) items (λ e. cc e) refl
+          (hands_item (keeping_of g.S.Store) g.V.Visitor.step c.count_part.new.self c.args.visitor.now c.visit.new.self heading Stop (rw c.in-Stop.is at c.visit.ensures.steps)));
     }

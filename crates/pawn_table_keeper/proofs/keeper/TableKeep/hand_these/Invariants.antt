@@ -1,8 +1,8 @@
-use Rattle.pawn_table_keeper.proofs.Basics.{Ok, ◌≤◌, get, flat_map, state, pledges_of, windows_below, Go, keeping_by, named_sheet, IsUnsoundAt, HandsRows}
+use Rattle.pawn_table_keeper.proofs.Basics.{Ok, ◌≤◌, get, flat_map, pledges_of, windows_below, Go, keeping_of, named_sheet, IsUnsoundAt, HandsRows}
 use Rattle.pawn_table_keeper.proofs.keeper.TableKeep.hand_these.Given as goal
 
 abbrev pub invariant-loop-window : goal.invariant-loop-window
 invariant-loop-window g l = record {
   within : l.window ≤ 16;
-  handed : HandsRows (keeping_by (λ k. state g.S.Store k.conn)) (IsUnsoundAt l.book) g.V.Visitor.step l.fn.self l.self l.fn.visitor l.visitor (Ok Go) (λ h. flat_map (named_sheet l.windows (pledges_of (get h.books l.book)) l.day) (windows_below l.window));
+  handed : HandsRows (keeping_of g.S.Store) (IsUnsoundAt l.book) g.V.Visitor.step l.fn.self l.self l.fn.visitor l.visitor (Ok Go) (λ h. flat_map (named_sheet l.windows (pledges_of (get h.books l.book)) l.day) (windows_below l.window));
 }

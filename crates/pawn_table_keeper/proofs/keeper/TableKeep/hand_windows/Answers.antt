@@ -1,13 +1,13 @@
-use Rattle.pawn_table_keeper.proofs.Calls.{Err, refl, rules, get, state, Host, pledges_of, windows_sheet, keeping_by, NamesWindows, named_sheets, hands_after, hands_unread, named_all}
+use Rattle.pawn_table_keeper.proofs.Calls.{Err, refl, rules, get, Host, pledges_of, windows_sheet, keeping_of, NamesWindows, named_sheets, hands_after, hands_unread, named_all}
 use Rattle.pawn_table_keeper.proofs.keeper.TableKeep.hand_windows.Goals as goal
 
 pub returns-in_err-windows : goal.returns-in_err-windows
-returns-in_err-windows g c = record { hands = hands_unread (keeping_by (λ k. state g.S.Store k.conn)) g.V.Visitor.step c.args.self.now c.windows_on.new.self c.args.visitor.now (Err c.in_err-windows.field-0.0) c.from_residual.result c.in_err-windows.field-0.0 (λ h. windows_sheet (pledges_of (get h.books c.args.book)) c.args.day) {P = λ h. Unit {0}} refl (search rules) c.in_err-windows.ensures.reads c.in_err-windows.ensures.errs }
+returns-in_err-windows g c = record { hands = hands_unread (keeping_of g.S.Store) g.V.Visitor.step c.args.self.now c.windows_on.new.self c.args.visitor.now (Err c.in_err-windows.field-0.0) c.from_residual.result c.in_err-windows.field-0.0 (λ h. windows_sheet (pledges_of (get h.books c.args.book)) c.args.day) {P = λ h. Unit {0}} refl (search rules) c.in_err-windows.ensures.tells.reads c.in_err-windows.ensures.tells.errs }
 
 pub returns : goal.returns
 returns g c =
     let told : Host → Type 0 = λ h. NamesWindows c.args.day (pledges_of (get h.books c.args.book)) c.in_ok-windows.windows in
     record {
-      hands = hands_after (keeping_by (λ k. state g.S.Store k.conn)) g.V.Visitor.step c.args.self.now c.windows_on.new.self c.hand_these.new.self c.args.visitor.now c.hand_these.new.visitor c.hand_these.result (λ h. named_sheets c.in_ok-windows.windows (pledges_of (get h.books c.args.book)) c.args.day) (λ h. windows_sheet (pledges_of (get h.books c.args.book)) c.args.day)
-          {P = told} c.in_ok-windows.ensures.reads (λ h named. named_all c.args.day (pledges_of (get h.books c.args.book)) c.in_ok-windows.windows named) (rw c.as_slice.ensures.value at c.hand_these.ensures.hands);
+      hands = hands_after (keeping_of g.S.Store) g.V.Visitor.step c.args.self.now c.windows_on.new.self c.hand_these.new.self c.args.visitor.now c.hand_these.new.visitor c.hand_these.result (λ h. named_sheets c.in_ok-windows.windows (pledges_of (get h.books c.args.book)) c.args.day) (λ h. windows_sheet (pledges_of (get h.books c.args.book)) c.args.day)
+          {P = told} c.in_ok-windows.ensures.tells.reads (λ h named. named_all c.args.day (pledges_of (get h.books c.args.book)) c.in_ok-windows.windows named) (rw c.as_slice.ensures.value at c.hand_these.ensures.hands);
     }

@@ -1,4 +1,4 @@
-use Rattle.pawn_table_keeper.proofs.Calls.{Err, None, Option, Some, arith, refl, rules, slice_get, sym, ℕ, ◌+◌, ◌<◌, ◌∙◌, ◌≡◌, nat_tests, get, state, pledge_in, Keeping, Reads, pledges_of, most_pledges, keeping_by, reads_as, reads_none, too_many_pledges, ended, failed, more, pledge_at, stopped, walked_past}
+use Rattle.pawn_table_keeper.proofs.Calls.{Err, None, Option, Some, arith, refl, rules, slice_get, sym, ℕ, ◌+◌, ◌<◌, ◌∙◌, ◌≡◌, nat_tests, get, pledge_in, Keeping, Reads, pledges_of, most_pledges, keeping_of, reads_as, reads_none, too_many_pledges, ended, failed, more, pledge_at, stopped, walked_past}
 use Rattle.pawn_table_keeper.proofs.Basics.{PledgeValue}
 use Rattle.pawn_table_keeper.proofs.keeper.TableKeepKeep.walk.Goals as goal
 
@@ -10,26 +10,26 @@ next book place number read told is at reads = reads_as reads (λ h found. sym i
 pub returns-in_err-pledge-clause-reads : goal.returns-in_err-pledge-clause-reads
 returns-in_err-pledge-clause-reads g c =
     let is : c.from_residual.result ≡ Err c.in_err-pledge.field-0.0 = search rules in
-    rw is (failed (keeping_by (λ k. state g.S.Store k.conn)) g.V.Visitor.step (λ h. pledges_of (get h.books c.args.book)) _ _ _ _ _ c.loop-place.visitor c.loop-place.place c.loop-place.invariant {P = λ h. Unit {0}} c.in_err-pledge.ensures.reads)
+    rw is (failed (keeping_of g.S.Store) g.V.Visitor.step (λ h. pledges_of (get h.books c.args.book)) _ _ _ _ _ c.loop-place.visitor c.loop-place.place c.loop-place.invariant {P = λ h. Unit {0}} c.in_err-pledge.ensures.reads)
 
 pub returns-in_default-2-clause-reads : goal.returns-in_default-2-clause-reads
 returns-in_default-2-clause-reads g c =
-    ended (keeping_by (λ k. state g.S.Store k.conn)) g.V.Visitor.step (λ h. pledges_of (get h.books c.args.book)) _ _ _ _ _ c.loop-place.visitor c.loop-place.place c.loop-place.invariant (next c.args.book c.loop-place.place c.in-Some.number c.in_ok-pledge.field-0 None (search rules) (search rules) c.in_ok-pledge.ensures.reads)
+    ended (keeping_of g.S.Store) g.V.Visitor.step (λ h. pledges_of (get h.books c.args.book)) _ _ _ _ _ c.loop-place.visitor c.loop-place.place c.loop-place.invariant (next c.args.book c.loop-place.place c.in-Some.number c.in_ok-pledge.field-0 None (search rules) (search rules) c.in_ok-pledge.ensures.reads)
 
 pub returns-in-Stop-clause-reads : goal.returns-in-Stop-clause-reads
 returns-in-Stop-clause-reads g c =
-    stopped (keeping_by (λ k. state g.S.Store k.conn)) g.V.Visitor.step (λ h. pledges_of (get h.books c.args.book)) _ _ _ _ _ c.visit.new.self c.loop-place.place c.loop-place.invariant c.in-Some-2.pledge (next c.args.book c.loop-place.place c.in-Some.number c.in_ok-pledge.field-0 (Some c.in-Some-2.pledge) (search rules) (search rules) c.in_ok-pledge.ensures.reads) (rw c.in-Stop.is at c.visit.ensures.steps)
+    stopped (keeping_of g.S.Store) g.V.Visitor.step (λ h. pledges_of (get h.books c.args.book)) _ _ _ _ _ c.visit.new.self c.loop-place.place c.loop-place.invariant c.in-Some-2.pledge (next c.args.book c.loop-place.place c.in-Some.number c.in_ok-pledge.field-0 (Some c.in-Some-2.pledge) (search rules) (search rules) c.in_ok-pledge.ensures.reads) (rw c.in-Stop.is at c.visit.ensures.steps)
 
 pub loop-place-preserved : goal.loop-place-preserved
 loop-place-preserved g c =
-    more (keeping_by (λ k. state g.S.Store k.conn)) g.V.Visitor.step (λ h. pledges_of (get h.books c.args.book)) _ _ _ _ _ c.visit.new.self c.loop-place.place c.loop-place.invariant c.in-Some-2.pledge (next c.args.book c.loop-place.place c.in-Some.number c.in_ok-pledge.field-0 (Some c.in-Some-2.pledge) (search rules) (search rules) c.in_ok-pledge.ensures.reads) (rw c.in-Go.is at c.visit.ensures.steps)
+    more (keeping_of g.S.Store) g.V.Visitor.step (λ h. pledges_of (get h.books c.args.book)) _ _ _ _ _ c.visit.new.self c.loop-place.place c.loop-place.invariant c.in-Some-2.pledge (next c.args.book c.loop-place.place c.in-Some.number c.in_ok-pledge.field-0 (Some c.in-Some-2.pledge) (search rules) (search rules) c.in_ok-pledge.ensures.reads) (rw c.in-Go.is at c.visit.ensures.steps)
 
 pub returns-clause-reads : goal.returns-clause-reads
 returns-clause-reads g c =
-    failed (keeping_by (λ k. state g.S.Store k.conn)) g.V.Visitor.step (λ h. pledges_of (get h.books c.args.book)) _ _ _ _ _ c.loop-place.visitor c.loop-place.place c.loop-place.invariant
-    (reads_none (keeping_by (λ k. state g.S.Store k.conn)) c.loop-place.self (λ h. Unit {0}) (λ h. tt))
+    failed (keeping_of g.S.Store) g.V.Visitor.step (λ h. pledges_of (get h.books c.args.book)) _ _ _ _ _ c.loop-place.visitor c.loop-place.place c.loop-place.invariant
+    (reads_none (keeping_of g.S.Store) c.loop-place.self (λ h. Unit {0}) (λ h. tt))
 
 pub returns-clause-errs : goal.returns-clause-errs
 returns-clause-errs g c =
     let past : most_pledges < c.loop-place.place = grind (arith, nat_tests, c.loop-place-test.false) in
-    walked_past (keeping_by (λ k. state g.S.Store k.conn)) g.V.Visitor.step (λ h. pledges_of (get h.books c.args.book)) most_pledges (λ h. too_many_pledges h c.args.book) _ _ _ c.loop-place.visitor c.loop-place.place (λ steady. steady) c.loop-place.invariant past _ refl
+    walked_past (keeping_of g.S.Store) g.V.Visitor.step (λ h. pledges_of (get h.books c.args.book)) most_pledges (λ h. too_many_pledges h c.args.book) _ _ _ c.loop-place.visitor c.loop-place.place (λ steady. steady) c.loop-place.invariant past _ refl
