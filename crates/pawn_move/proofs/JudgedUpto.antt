@@ -1,11 +1,15 @@
 -- Which debts were judged so far.
-use Rattle.pawn_move.proofs.Basics.{◌≡◌, ◌≢◌, ◌==◌, ◌+◌, ◌++◌, ◌<◌, ◌≤◌, ℕ, suc, [], ◌∷◌, Bool, true, false, Option, Some, None, nat_le, take, slice_get, refl, sym, ap, subst, ◌∙◌, arith, Each-push, take_next, take_past, IfSome, if◌then◌else◌, is_some, get, PledgeValue, Each, BookValue, pledge_in, Host, pledges_of, nat_tests, AreAllOwed, AreOwedIn, CanBeOwed, IsJudgedAt, IsNextJudged, pledge_at}
-
--- ---- the place of a pledge in its book
-
--- ---- a pledge
+use Rattle.pawn_move.proofs.Basics.{◌≡◌, ◌≢◌, ◌==◌, ◌+◌, ◌++◌, ◌<◌, ◌≤◌, ℕ, suc, [], ◌∷◌, Bool, true, false, Option, Some, None, nat_le, take, slice_get, refl, sym, ap, subst, ◌∙◌, arith, Each-push, take_next, take_past, IfSome, if◌then◌else◌, is_some, get, Totals, totals_in, PledgeValue, Each, BookValue, pledge_in, Host, pledges_of, nat_tests, AreAllOwed, AreOwedIn, AreTotalsAt, CanBeOwed, IsJudgedAt, IsNextJudged, pledge_at}
 
 -- ---- the pledges of a book
+
+-- where totals are looked for, what is judged
+pub judged_at : (h : Host) (b n : ℕ) (totals : Option Totals) → AreTotalsAt h b n totals → IsJudgedAt h b n (is_some totals)
+judged_at h b n totals are = (ap is_some are.0 ∙ told (pledge_in (get h.books b) n), are.1)
+  where
+    told : (o : Option PledgeValue) → is_some (totals_in o) ≡ is_some o
+    told None = refl
+    told (Some p) = refl
 
 -- so many of them can be owed
 abbrev pub AreOwedTo : ℕ → ℕ → Host → Type 0

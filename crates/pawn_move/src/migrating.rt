@@ -67,10 +67,7 @@ pub fn migrate<S: Alter>(alloc: Global, conn: &mut Connection<S>) -> Result<(u32
     ensures judges { MigratesOwed (state S.Store conn.old) (state S.Store conn.new) result }
 {
     know_settled(conn);
-    let from = match schema_of(conn) {
-        Ok(from) => from,
-        Err(why) => return Err(why),
-    };
+    let from = schema_of(conn)?;
     if from == SCHEMA {
         if let Err(why) = add_indexes(conn) {
             return Err(MoveFault::of_opening(why));
