@@ -18,12 +18,15 @@ later_texts =
     (MAKE_TERMS.now, terms) ∷ (MAKE_PLEDGES.now, pledges) ∷ (MAKE_ENTRIES.now, entries) ∷ (MAKE_SECRETS.now, secrets) ∷ (MAKE_BOOKINGS.now, bookings)
     ∷ (MAKE_META.now, meta) ∷ (MAKE_TOTALS.now, totals) ∷ (MAKE_EXTENSIONS.now, extensions) ∷ []
 
+and : {A B : Type 0} → A → B → A × B
+and a b = (a, b)
+
 pub are_creations : AreCreations no_schema ((MAKE_BOOKS.now, books) ∷ later_texts)
 unfolding understood everything
 are_creations =
-    ((refl, refl, refl, (refl, refl), refl), ((refl, refl, refl, (refl, refl), refl), ((refl, refl, refl, (refl, refl), refl),
-    ((refl, refl, refl, (refl, refl), refl), ((refl, refl, refl, (refl, refl), refl), ((refl, refl, refl, (refl, refl), refl),
-    ((refl, refl, refl, (refl, refl), refl), ((refl, refl, refl, (refl, refl), refl), ((refl, refl, refl, (refl, refl), refl), tt)))))))))
+    and (refl, refl, refl, (refl, refl), refl) (and (refl, refl, refl, (refl, refl), refl) (and (refl, refl, refl, (refl, refl), refl)
+    (and (refl, refl, refl, (refl, refl), refl) (and (refl, refl, refl, (refl, refl), refl) (and (refl, refl, refl, (refl, refl), refl)
+    (and (refl, refl, refl, (refl, refl), refl) (and (refl, refl, refl, (refl, refl), refl) (and (refl, refl, refl, (refl, refl), refl) tt))))))))
 
 pub totals_is : IsCreation first_schema MAKE_TOTALS.now totals
 totals_is = are_creations.1.1.1.1.1.1.1.0

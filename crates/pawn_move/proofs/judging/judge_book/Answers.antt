@@ -23,5 +23,5 @@ loop-place-preserved g c =
     let some : is_some c.in_ok-totals.totals ≡ true = search rules in (
       c.totals_for.ensures.lent.same_reference ∙ c.loop-place.invariant.0,
       walk_on (AreOwedTo c.args.book c.loop-place.place) _ _ _ c.loop-place.invariant.1 (IsUnsoundAt c.args.book) c.in_ok-totals.totals R (AreOwedTo c.args.book (c.loop-place.place + 1))
-      (λ h so_far are. one_judged c.args.book c.loop-place.place (c.loop-place.place + 1) refl h so_far (rw some at (judged_at h c.args.book (c.loop-place.place + 1) c.in_ok-totals.totals are))) c.in_ok-totals.ensures.lent.leaves c.in_ok-totals.ensures.finds,
+          (λ h so_far are. one_judged c.args.book c.loop-place.place (c.loop-place.place + 1) refl h so_far (rw some at (judged_at h c.args.book (c.loop-place.place + 1) c.in_ok-totals.totals are))) c.in_ok-totals.ensures.lent.leaves c.in_ok-totals.ensures.finds,
     )
