@@ -8,7 +8,6 @@ mod judging;
 mod laws;
 mod making;
 mod migrating;
-mod moving;
 mod telling;
 
 pub use fault::MoveFault;

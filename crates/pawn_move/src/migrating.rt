@@ -4,7 +4,9 @@ ghost use Rattle.pawn_move.specs.Migrating.{Migrates, MigratesOwed, MovesStore, 
 ghost use Rattle.pawn_move.specs.Moving.{Moves, MovesOwed};
 
 use crate::fault::{MoveFault, unmoved};
-use crate::moving::{move_first, move_second};
+use crate::filling::put_books;
+use crate::judging::judge_books;
+use crate::making::{finish, make_extensions, make_totals};
 use crate::telling::schema_of;
 use one_table::know_settled;
 use pawn_book::KeepError;
@@ -13,7 +15,9 @@ use pawn_tables::refused;
 use sqlite::{Alter, Connection, Transaction};
 use std::alloc::Global;
 
-// Moves tables of schema 1 or 2 to the program's, within a transaction.
+// Moves tables of schema 1 or 2 to the program's, within a transaction. It is an error if some debt can't have come
+// about.
+#[tactic(auto, using(crate::proofs::Basics::lent_then))]
 fn move_tables<S: Alter>(
     tx: &mut Transaction<'_, S>,
     alloc: Global,
@@ -27,9 +31,14 @@ fn move_tables<S: Alter>(
     ensures lent { Lends S.Store tx.old.conn tx.new.conn (is_ok result) }
 {
     if from == 1 {
-        move_first(tx, alloc)
+        make_totals(tx)?;
+        make_extensions(tx)?;
+        put_books(tx, alloc)?;
+        finish(tx)
     } else {
-        move_second(tx, alloc)
+        make_extensions(tx)?;
+        judge_books(tx, alloc)?;
+        finish(tx)
     }
 }
 
