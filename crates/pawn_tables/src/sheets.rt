@@ -18,30 +18,6 @@ use pawn_debt::Rows;
 use sqlite::{Alter, Transaction, params};
 use std::alloc::Global;
 
-// How many bookings are asked for a day.
-fn asked_in<S: Alter>(tx: &mut Transaction<'_, S>, book: u32, day: Day) -> Result<u64, KeepError>
-    ensures finds { FindsBy S.Store tx.old.conn tx.new.conn (IsUnsoundAt book) result
-        (λ h count. count ≡ length (part_items part_of.Asked day (pledges_of (get h.books
-        book)))) }
-    ensures lent { Lends S.Store tx.old.conn tx.new.conn (is_ok result) }
-{
-    let day = day.count();
-    let rows = rows_of(tx, COUNT_ASKED, params![book, day])?;
-    only_count(&rows)
-}
-
-// How many periods end on a day, those of the redeemed and the sold aside.
-fn ends_in<S: Alter>(tx: &mut Transaction<'_, S>, book: u32, day: Day) -> Result<u64, KeepError>
-    ensures finds { FindsBy S.Store tx.old.conn tx.new.conn (IsUnsoundAt book) result
-        (λ h count. count ≡ length (part_items part_of.Ends day (pledges_of (get h.books
-        book)))) }
-    ensures lent { Lends S.Store tx.old.conn tx.new.conn (is_ok result) }
-{
-    let day = day.count();
-    let rows = rows_of(tx, COUNT_ENDS, params![book, day])?;
-    only_count(&rows)
-}
-
 /// How many items a part of a day's sheet has, its heading aside. `Database` is answered for a window that 32 bits
 /// cannot hold.
 pub fn count_in<S: Alter>(
@@ -54,10 +30,17 @@ pub fn count_in<S: Alter>(
         (λ h count. count ≡ length (part_items part day (pledges_of (get h.books book)))) }
     ensures lent { Lends S.Store tx.old.conn tx.new.conn (is_ok result) }
 {
+    let count = day.count();
     match part {
         Part::Confirmed { window } => confirmed_in(tx, book, day, window),
-        Part::Asked => asked_in(tx, book, day),
-        Part::Ends => ends_in(tx, book, day),
+        Part::Asked => {
+            let asked = rows_of(tx, COUNT_ASKED, params![book, count])?;
+            only_count(&asked)
+        }
+        Part::Ends => {
+            let ends = rows_of(tx, COUNT_ENDS, params![book, count])?;
+            only_count(&ends)
+        }
     }
 }
 
@@ -77,62 +60,6 @@ pub fn windows_in<S: Alter>(
     read_numbers(alloc, &rows)
 }
 
-// A page of the confirmed bookings of a window, of the pledges above a number.
-fn confirmed_page<S: Alter>(
-    tx: &mut Transaction<'_, S>,
-    alloc: Global,
-    book: u32,
-    day: Day,
-    window: u64,
-    above: u32,
-) -> Result<Rows<Line>, KeepError>
-    ensures finds { FindsBy S.Store tx.old.conn tx.new.conn (IsUnsoundAt book) result
-        (λ h page. IsLinesPage (part_of.Confirmed window) day above (pledges_of (get h.books
-        book)) page) }
-    ensures lent { Lends S.Store tx.old.conn tx.new.conn (is_ok result) }
-{
-    let Ok(slot) = u32::try_from(window) else {
-        return Err(KeepError::Store(StoreFault::Database));
-    };
-    let day = day.count();
-    let rows = rows_of(tx, READ_CONFIRMED_PAGE, params![book, above, day, slot])?;
-    read_lines(alloc, Part::Confirmed { window }, &rows)
-}
-
-// A page of the bookings that are asked for, of the pledges above a number.
-fn asked_page<S: Alter>(
-    tx: &mut Transaction<'_, S>,
-    alloc: Global,
-    book: u32,
-    day: Day,
-    above: u32,
-) -> Result<Rows<Line>, KeepError>
-    ensures finds { FindsBy S.Store tx.old.conn tx.new.conn (IsUnsoundAt book) result
-        (λ h page. IsLinesPage part_of.Asked day above (pledges_of (get h.books book)) page) }
-    ensures lent { Lends S.Store tx.old.conn tx.new.conn (is_ok result) }
-{
-    let day = day.count();
-    let rows = rows_of(tx, READ_ASKED_PAGE, params![book, above, day])?;
-    read_lines(alloc, Part::Asked, &rows)
-}
-
-// A page of the pledges above a number whose period ends, the redeemed and the sold aside.
-fn ends_page<S: Alter>(
-    tx: &mut Transaction<'_, S>,
-    alloc: Global,
-    book: u32,
-    day: Day,
-    above: u32,
-) -> Result<Rows<Line>, KeepError>
-    ensures finds { FindsBy S.Store tx.old.conn tx.new.conn (IsUnsoundAt book) result
-        (λ h page. IsLinesPage part_of.Ends day above (pledges_of (get h.books book)) page) }
-    ensures lent { Lends S.Store tx.old.conn tx.new.conn (is_ok result) }
-{
-    let day = day.count();
-    let rows = rows_of(tx, READ_ENDS_PAGE, params![book, above, day])?;
-    read_lines(alloc, Part::Ends, &rows)
-}
-
 /// A page of the lines of a part of a day's sheet, of the pledges above the number `above`. `Database` is answered for
 /// a window that 32 bits cannot hold.
 pub fn lines_page<S: Alter>(
@@ -147,9 +74,22 @@ pub fn lines_page<S: Alter>(
         (λ h page. IsLinesPage part day above (pledges_of (get h.books book)) page) }
     ensures lent { Lends S.Store tx.old.conn tx.new.conn (is_ok result) }
 {
+    let day = day.count();
     match part {
-        Part::Confirmed { window } => confirmed_page(tx, alloc, book, day, window, above),
-        Part::Asked => asked_page(tx, alloc, book, day, above),
-        Part::Ends => ends_page(tx, alloc, book, day, above),
+        Part::Confirmed { window } => {
+            let Ok(slot) = u32::try_from(window) else {
+                return Err(KeepError::Store(StoreFault::Database));
+            };
+            let rows = rows_of(tx, READ_CONFIRMED_PAGE, params![book, above, day, slot])?;
+            read_lines(alloc, Part::Confirmed { window }, &rows)
+        }
+        Part::Asked => {
+            let asked = rows_of(tx, READ_ASKED_PAGE, params![book, above, day])?;
+            read_lines(alloc, Part::Asked, &asked)
+        }
+        Part::Ends => {
+            let ends = rows_of(tx, READ_ENDS_PAGE, params![book, above, day])?;
+            read_lines(alloc, Part::Ends, &ends)
+        }
     }
 }
