@@ -1,33 +1,23 @@
-use Rattle.pawn_tables.proofs.Reading.{Option, length, rules, ℕ, ◌≡◌, get, state, pledge_in, Host, entries_of, extensions_of, secrets_of, last_issued, LastSecret, first_unfound, second_unfound, third_unfound, three_found, list_ends_told}
+use Rattle.pawn_tables.proofs.Reading.{rules, get, pledge_in, first_unfound, next_found, next_unfound, one_found, list_ends_told}
 use Rattle.pawn_tables.proofs.list_ends.list_ends_in.Goals as goal
 
 pub returns-in_err-entries-clause-finds : goal.returns-in_err-entries-clause-finds
-returns-in_err-entries-clause-finds g c =
-    let P : Host → ℕ → Type 0 = λ h x. x ≡ length (entries_of (pledge_in (get h.books c.args.book) c.args.number)) in
-    first_unfound _ (state g.S.Store c.args.tx.now.conn.now) (state g.S.Store c.entry_count.new.tx.conn.now) c.in_err-entries.field-0.0 P c.from_residual.result _ (search rules) c.in_err-entries.ensures.finds
+returns-in_err-entries-clause-finds g c = first_unfound _ _ _ _ c.from_residual.result _ c.in_err-entries.was (search rules) c.entry_count.ensures.finds
 
 pub returns-in_err-last-clause-finds : goal.returns-in_err-last-clause-finds
 returns-in_err-last-clause-finds g c =
-    let P : Host → ℕ → Type 0 = λ h x. x ≡ length (entries_of (pledge_in (get h.books c.args.book) c.args.number)) in
-    let Q : Host → Option LastSecret → Type 0 = λ h x. x ≡ last_issued (secrets_of (pledge_in (get h.books c.args.book) c.args.number)) in
-    second_unfound _ (state g.S.Store c.args.tx.now.conn.now) (state g.S.Store c.entry_count.new.tx.conn.now) (state g.S.Store c.last_secret.new.tx.conn.now)
-    c.in_ok-entries.entries P c.in_err-last.field-0.0 Q c.from_residual-in_err-last.result _ (search rules) c.in_ok-entries.ensures.lent.leaves c.in_err-last.ensures.lent.leaves c.in_ok-entries.ensures.finds c.in_err-last.ensures.finds
+    let one = one_found _ _ c.in_ok-entries.was c.in_ok-entries.ensures.lent.leaves c.entry_count.ensures.finds in
+    next_unfound _ _ c.from_residual-in_err-last.result _ one c.in_err-last.was (search rules) c.in_err-last.ensures.lent.leaves c.last_secret.ensures.finds
 
 pub returns-in_err-extensions-clause-finds : goal.returns-in_err-extensions-clause-finds
 returns-in_err-extensions-clause-finds g c =
-    let P : Host → ℕ → Type 0 = λ h x. x ≡ length (entries_of (pledge_in (get h.books c.args.book) c.args.number)) in
-    let Q : Host → Option LastSecret → Type 0 = λ h x. x ≡ last_issued (secrets_of (pledge_in (get h.books c.args.book) c.args.number)) in
-    let R : Host → ℕ → Type 0 = λ h x. x ≡ length (extensions_of (pledge_in (get h.books c.args.book) c.args.number)) in
-    third_unfound _ (state g.S.Store c.args.tx.now.conn.now) (state g.S.Store c.entry_count.new.tx.conn.now) (state g.S.Store c.last_secret.new.tx.conn.now) (state g.S.Store c.extension_count.new.tx.conn.now)
-    c.in_ok-entries.entries P c.in_ok-last.last Q c.in_err-extensions.field-0.0 R c.from_residual-in_err-extensions.result _ (search rules) c.in_ok-entries.ensures.lent.leaves c.in_ok-last.ensures.lent.leaves c.in_err-extensions.ensures.lent.leaves
-    c.in_ok-entries.ensures.finds c.in_ok-last.ensures.finds c.in_err-extensions.ensures.finds
+    let one = one_found _ _ c.in_ok-entries.was c.in_ok-entries.ensures.lent.leaves c.entry_count.ensures.finds in
+    let two = next_found _ _ one c.in_ok-last.was c.in_ok-last.ensures.lent.leaves c.last_secret.ensures.finds in
+    next_unfound _ _ c.from_residual-in_err-extensions.result _ two c.in_err-extensions.was (search rules) c.in_err-extensions.ensures.lent.leaves c.extension_count.ensures.finds
 
 pub returns-clause-finds : goal.returns-clause-finds
 returns-clause-finds g c clean within h stood =
-    let P : Host → ℕ → Type 0 = λ h x. x ≡ length (entries_of (pledge_in (get h.books c.args.book) c.args.number)) in
-    let Q : Host → Option LastSecret → Type 0 = λ h x. x ≡ last_issued (secrets_of (pledge_in (get h.books c.args.book) c.args.number)) in
-    let R : Host → ℕ → Type 0 = λ h x. x ≡ length (extensions_of (pledge_in (get h.books c.args.book) c.args.number)) in
-    let f = three_found (state g.S.Store c.args.tx.now.conn.now) (state g.S.Store c.entry_count.new.tx.conn.now) (state g.S.Store c.last_secret.new.tx.conn.now) (state g.S.Store c.extension_count.new.tx.conn.now)
-    c.in_ok-entries.entries P c.in_ok-last.last Q c.in_ok-extensions.extensions R c.in_ok-entries.ensures.lent.leaves c.in_ok-last.ensures.lent.leaves c.in_ok-extensions.ensures.lent.leaves c.in_ok-entries.ensures.finds c.in_ok-last.ensures.finds c.in_ok-extensions.ensures.finds
-    clean within h stood in
-    (list_ends_told (pledge_in (get h.books c.args.book) c.args.number) _ f.1 f.2 f.3, f.4)
+    let one = one_found _ _ c.in_ok-entries.was c.in_ok-entries.ensures.lent.leaves c.entry_count.ensures.finds in
+    let two = next_found _ _ one c.in_ok-last.was c.in_ok-last.ensures.lent.leaves c.last_secret.ensures.finds in
+    let f = (next_found _ _ two c.in_ok-extensions.was c.in_ok-extensions.ensures.lent.leaves c.extension_count.ensures.finds).is clean within h stood in
+    (list_ends_told (pledge_in (get h.books c.args.book) c.args.number) _ f.1.0.0 f.1.0.1 f.1.1, f.2)

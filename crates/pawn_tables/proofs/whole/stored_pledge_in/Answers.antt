@@ -1,11 +1,9 @@
-use Rattle.pawn_tables.proofs.Reading.{IfSome, Option, ap, arith, option_map, refl, rules, sym, ◌∙◌, ◌≡◌, get, state, pledge_in, Host, AreSides, row_of, row_is, told_of, version_fits, first_unfound, two_found}
-use Rattle.pawn_tables.proofs.Basics.{RowsBeside, PledgeRow}
+use Rattle.pawn_tables.proofs.Reading.{ap, arith, refl, rules, sym, ◌∙◌, ◌≡◌, get, pledge_in, row_is, told_of, version_fits, first_unfound, next_found, one_found}
+use Rattle.pawn_tables.proofs.Basics.{PledgeRow}
 use Rattle.pawn_tables.proofs.whole.stored_pledge_in.Goals as goal
 
 pub returns-in_err-row-clause-finds : goal.returns-in_err-row-clause-finds
-returns-in_err-row-clause-finds g c =
-    let P : Host → Option PledgeRow → Type 0 = λ h x. x ≡ option_map row_of (pledge_in (get h.books c.args.book) c.args.number) in
-    first_unfound _ (state g.S.Store c.args.tx.now.conn.now) (state g.S.Store c.row_in.new.tx.conn.now) c.in_err-row.field-0.0 P c.from_residual.result _ (search rules) c.in_err-row.ensures.finds
+returns-in_err-row-clause-finds g c = first_unfound _ _ _ _ c.from_residual.result _ c.in_err-row.was (search rules) c.row_in.ensures.finds
 
 pub returns-in_default-try_from-clause-finds : goal.returns-in_default-try_from-clause-finds
 returns-in_default-try_from-clause-finds g c clean within h stood =
@@ -19,11 +17,8 @@ returns-in_default-try_from-clause-finds g c clean within h stood =
 
 pub returns-clause-finds : goal.returns-clause-finds
 returns-clause-finds g c clean within h stood =
-    let P : Host → Option PledgeRow → Type 0 = λ h x. x ≡ option_map row_of (pledge_in (get h.books c.args.book) c.args.number) in
-    let Q : Host → RowsBeside → Type 0 = λ h s. IfSome (pledge_in (get h.books c.args.book) c.args.number) (λ p. c.in-Ok.version ≡ p.agreement.version → AreSides s p) in
-    let f = two_found (state g.S.Store c.args.tx.now.conn.now) (state g.S.Store c.row_in.new.tx.conn.now) (state g.S.Store c.sides_in.new.tx.conn.now)
-    c.in_ok-row.field-0 P c.in_ok-sides.sides Q c.in_ok-row.ensures.lent.leaves c.in_ok-sides.ensures.lent.leaves c.in_ok-row.ensures.finds c.in_ok-sides.ensures.finds
-    clean within h stood in
-    let r = row_is (pledge_in (get h.books c.args.book) c.args.number) c.in-Some.row (sym c.in-Some.is ∙ f.1) in
+    let one = one_found _ _ c.in_ok-row.was c.in_ok-row.ensures.lent.leaves c.row_in.ensures.finds in
+    let f = (next_found _ _ one c.in_ok-sides.was c.in_ok-sides.ensures.lent.leaves c.sides_in.ensures.finds).is clean within h stood in
+    let r = row_is (pledge_in (get h.books c.args.book) c.args.number) c.in-Some.row (sym c.in-Some.is ∙ f.1.0) in
     let version : c.in-Ok.version ≡ c.in-Some.row.version = search rules in
-    (told_of h c.args.book c.args.number c.in-Ok.version r.0 _ r.1 r.2 version f.2, f.3)
+    (told_of h c.args.book c.args.number c.in-Ok.version r.0 _ r.1 r.2 version f.1.1, f.2)
