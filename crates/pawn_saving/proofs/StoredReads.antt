@@ -1,6 +1,5 @@
 -- How much of a pledge stands, as it is looked up.
-use Rattle.pawn_saving.proofs.Basics.{◌≡◌, ◌⊎◌, inl, inr, ◌↔◌, ℕ, zero, suc, ◌+◌, ◌-◌, ◌≤◌, ◌<◌, List, [], ◌∷◌, Option, Some, None, Bool, true, false, length, IsTrue, refl, sym, subst, ◌∙◌, arith, if◌then◌else◌, is_some, slice_get, ◌++◌, get, HasCleanDisk, State, Grows, PledgeValue, AreIssued, Booking, Issued, BookValue, pledge_from, pledge_in, CanSave, Continues, Host, entries_of, IsSound, PutPledge, IsLent, Rests, with_seq, StandsFor, standing_at, at_seq, AreLengths, IsLengthWithin, IsStored, IsCarried, Lengths, clean_before, rests_then}
-use Rattle.std.proofs.Math.Nat.{eq-or-lt_of_le}
+use Rattle.pawn_saving.proofs.Basics.{◌≡◌, ◌⊎◌, inl, inr, ◌↔◌, ℕ, zero, suc, ◌+◌, ◌-◌, ◌≤◌, List, [], ◌∷◌, Option, Some, None, true, false, length, IsTrue, refl, sym, subst, arith, is_some, slice_get, ◌++◌, get, HasCleanDisk, State, Grows, PledgeValue, AreIssued, Booking, Issued, BookValue, pledge_from, pledge_in, CanSave, Continues, Host, entries_of, IsSound, PutPledge, Rests, with_seq, StandsFor, standing_at, at_seq, AreLengths, IsLengthWithin, IsStored, IsCarried, Lengths}
 use Rattle.pawn_tables.specs.Places.{at_place}
 use Rattle.pawn_saving.specs.declared.stored.Stored.{Stored}
 use Rattle.pawn_saving.proofs.PledgeWrites.{continues_it}
@@ -26,27 +25,10 @@ entry_placed h b n s sound = go (pledge_in (get h.books b) n) refl
 
 -- ---- the places of a list, from above
 
-lower : (n at : ℕ) → n ≤ at → (at ≤ n → false ≡ true) → 1 ≤ at → n ≤ at - 1
-lower n at le not low = go (eq-or-lt_of_le le)
-  where
-    go : (n ≡ at) ⊎ (n < at) → n ≤ at - 1
-    go (inl same) = absurd (let e = not (omega (arith, same)) in cc)
-    go (inr less) = omega (arith, less, low)
-
 -- nothing stands above a place, and the tables rest
 pub record IsSoFar (old new : State) (long : Host → ℕ) (most at : ℕ) : Type 0 where
   pub carried : IsCarried old new true
   pub reads : HasCleanDisk new → IsTrue old.in_transaction → (h : Host) → IsSound h → StandsFor old.now h → (long h ≤ most → long h ≤ at) × Rests old new
-
-module _ (a b c : State) (long : Host → ℕ) (most at : ℕ) (so_far : IsSoFar a b long most at) (lent : IsLent b c true) (low : 1 ≤ at) where
-  seen : (stands : Bool) → HasCleanDisk c → IsTrue a.in_transaction → (h : Host) → IsSound h → StandsFor a.now h
-      → (HasCleanDisk c → IsTrue b.in_transaction → (h : Host) → IsSound h → StandsFor b.now h → (1 ≤ at → IsTrue stands ↔ (at ≤ long h)) × Rests b c)
-      → (long h ≤ most → long h ≤ at) × (IsTrue stands ↔ (at ≤ long h)) × Rests a c
-  seen stands clean within h sound st reads =
-      let clean1 = clean_before b c true lent clean in
-      let one = so_far.reads clean1 within h sound st in
-      let two = reads clean one.1.inside h sound (subst (λ d. StandsFor d h) (sym one.1.now_is) st) in
-      (one.0, two.0 low, rests_then a b c one.1 two.1)
 
 -- ---- a pledge that is to be put, and what stands of it
 

@@ -1,4 +1,6 @@
 use Rattle.pawn_saving.proofs.Writing.{state, inside_after_row, kept_by_row, open_by_row, count_told, counts}
+use Rattle.pawn_saving.proofs.Basics.{false, ◌≡◌, IsTrue, HasCleanDisk, IsLent, State, Survives}
+use Rattle.pawn_saving.specs.Common.{KeepsCommit}
 use Rattle.pawn_saving.proofs.counting.count_up.Goals as goal
 
 pub returns-in-Ok-get-clause-wrote : goal.returns-in-Ok-get-clause-wrote
@@ -19,24 +21,12 @@ returns-in-Ok-get-clause-lent g c = record {
   };
 }
 
+-- an answer that is no count leaves the transaction to be rolled back
+failed : (old new : State) → (HasCleanDisk new → IsTrue old.in_transaction → KeepsCommit old new) → Survives old new (λ _. ⊥) → IsLent old new false
+failed old new kept survives = record { kept = kept; opened = λ clean within ok. absurd (let e = ok in cc); inside = λ clean within ok. absurd (let e = ok in cc); survives = survives }
+
 pub returns-clause-lent : goal.returns-clause-lent
-returns-clause-lent g c = record {
-  same_reference = search;
-  leaves = record {
-    kept = λ clean within. kept_by_row _ _ _ _ c.query_row.result within (c.query_row.ensures.row clean);
-    opened = λ clean within ok. absurd (let e = ok in cc);
-    inside = λ clean within ok. absurd (let e = ok in cc);
-    survives = c.query_row.ensures.survives;
-  };
-}
+returns-clause-lent g c = record { same_reference = search; leaves = failed _ _ (λ clean within. kept_by_row _ _ _ _ c.query_row.result within (c.query_row.ensures.row clean)) c.query_row.ensures.survives }
 
 pub returns-in-Err-clause-lent : goal.returns-in-Err-clause-lent
-returns-in-Err-clause-lent g c = record {
-  same_reference = search;
-  leaves = record {
-    kept = λ clean within. kept_by_row _ _ _ _ c.query_row.result within (c.query_row.ensures.row clean);
-    opened = λ clean within ok. absurd (let e = ok in cc);
-    inside = λ clean within ok. absurd (let e = ok in cc);
-    survives = c.query_row.ensures.survives;
-  };
-}
+returns-in-Err-clause-lent g c = record { same_reference = search; leaves = failed _ _ (λ clean within. kept_by_row _ _ _ _ c.query_row.result within (c.query_row.ensures.row clean)) c.query_row.ensures.survives }
