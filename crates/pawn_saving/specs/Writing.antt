@@ -1,6 +1,9 @@
 -- What a statement writes.
 use Rattle.std.specs.Prelude.{◌≡◌, ℕ, Bool, true, List, [], ◌∷◌, filter, IsPermutation, IsTrue, Option, Result, OnOk, ◌++◌}
-use Rattle.pawn_saving.specs.Common.{Row, HasCleanDisk, KeepsCommit, State, Survives, Listed, with_rows, ListsOurs, at_most_one}
+use Rattle.std.specs.Borrow.{MutBor}
+use Rattle.sqlite_trees.specs.declared.store.Store.{Ghosts}
+use Rattle.one_table.specs.Common.{Held}
+use Rattle.pawn_saving.specs.Common.{Row, HasCleanDisk, KeepsCommit, State, Survives, state, Listed, with_rows, ListsOurs, at_most_one}
 
 -- the row is added to those of a table
 abbrev pub Joins : {E : Type 0} → State → State → Result (Unit {0}) E → ℕ → Row → Type 0
@@ -35,3 +38,8 @@ pub record IsCarried (old new : State) (ok : Bool) : Type 0 where
   pub kept : HasCleanDisk new → IsTrue old.in_transaction → KeepsCommit old new
   pub inside : HasCleanDisk new → IsTrue old.in_transaction → ok ≡ true → IsTrue new.in_transaction
   pub survives : Survives old new (λ _. ⊥)
+
+-- a transaction that was lent for them is the same reference, and this is left of it
+pub record Carries {S : Type 0} (g : Ghosts S) (old new : MutBor (Held S)) (ok : Bool) : Type 0 where
+  pub same_reference : new.ghost_name ≡ old.ghost_name
+  pub leaves : IsCarried (state g old.now) (state g new.now) ok

@@ -1,6 +1,6 @@
 ghost use Rattle.std.specs.Prelude.{◌≡◌, ◌+◌, IfOk, is_ok};
 ghost use Rattle.pawn_saving.specs.Common.{state, ImportBook, Lends, number_in_book};
-ghost use Rattle.pawn_saving.specs.Saving.{WritesRows, AddsPledges, AddsPledge, IsCarried};
+ghost use Rattle.pawn_saving.specs.Saving.{WritesRows, AddsPledges, AddsPledge, Carries};
 
 use crate::books::set_import;
 use crate::lengths::length_in_32_bits;
@@ -55,11 +55,9 @@ fn put_pledges<S: Alter>(
     book: u32,
     pledges: &[Parts],
 ) -> Result<u32, KeepError>
-    ensures same_reference { tx.new.conn.ghost_name ≡ tx.old.conn.ghost_name }
     ensures wrote { AddsPledges (state S.Store tx.old.conn.now)
         (state S.Store tx.new.conn.now) result book pledges.now }
-    ensures carried { IsCarried (state S.Store tx.old.conn.now) (state S.Store tx.new.conn.now)
-        (is_ok result) }
+    ensures carried { Carries S.Store tx.old.conn tx.new.conn (is_ok result) }
 {
     let mut counted = 0;
     for parts in pledges {

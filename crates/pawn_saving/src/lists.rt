@@ -1,6 +1,6 @@
 ghost use Rattle.std.specs.Prelude.{◌≡◌, ◌+◌, ◌∷◌, IfOk, is_ok, map};
 ghost use Rattle.pawn_saving.specs.Common.{state, entry_cells, extension_cells, number, placed_from, secret_cells, terms_cells, under, entries_tree, extensions_tree, secrets_tree, terms_tree};
-ghost use Rattle.pawn_saving.specs.Writing.{AllJoin, IsCarried};
+ghost use Rattle.pawn_saving.specs.Writing.{AllJoin, Carries};
 
 use crate::books::put_terms;
 use crate::entries::{put_entry, put_extension, put_secret};
@@ -15,12 +15,10 @@ pub(crate) fn put_entries<S: Alter>(
     number: u32,
     entries: &[Entry],
 ) -> Result<(), KeepError>
-    ensures same_reference { tx.new.conn.ghost_name ≡ tx.old.conn.ghost_name }
     ensures wrote { AllJoin (state S.Store tx.old.conn.now)
         (state S.Store tx.new.conn.now) result entries_tree
         (map (λ e. under book number (entry_cells e)) entries.now) }
-    ensures carried { IsCarried (state S.Store tx.old.conn.now) (state S.Store tx.new.conn.now)
-        (is_ok result) }
+    ensures carried { Carries S.Store tx.old.conn tx.new.conn (is_ok result) }
 {
     for entry in entries {
         put_entry(tx, book, number, entry)?;
@@ -46,12 +44,10 @@ pub(crate) fn put_secrets<S: Alter>(
     from: u32,
     secrets: &[Issued],
 ) -> Result<(), KeepError>
-    ensures same_reference { tx.new.conn.ghost_name ≡ tx.old.conn.ghost_name }
     ensures wrote { AllJoin (state S.Store tx.old.conn.now)
         (state S.Store tx.new.conn.now) result secrets_tree
         (placed_from (λ place i. under book number (secret_cells place i)) from secrets.now) }
-    ensures carried { IsCarried (state S.Store tx.old.conn.now) (state S.Store tx.new.conn.now)
-        (is_ok result) }
+    ensures carried { Carries S.Store tx.old.conn tx.new.conn (is_ok result) }
 {
     let mut place = from;
     for issued in secrets {
@@ -69,12 +65,10 @@ pub(crate) fn put_extensions<S: Alter>(
     from: u32,
     extensions: &[Extension],
 ) -> Result<(), KeepError>
-    ensures same_reference { tx.new.conn.ghost_name ≡ tx.old.conn.ghost_name }
     ensures wrote { AllJoin (state S.Store tx.old.conn.now)
         (state S.Store tx.new.conn.now) result extensions_tree
         (placed_from (λ place e. under book number (extension_cells place e)) from extensions.now) }
-    ensures carried { IsCarried (state S.Store tx.old.conn.now) (state S.Store tx.new.conn.now)
-        (is_ok result) }
+    ensures carried { Carries S.Store tx.old.conn tx.new.conn (is_ok result) }
 {
     let mut place = from;
     for extension in extensions {
@@ -90,12 +84,10 @@ pub(crate) fn put_versions<S: Alter>(
     book: u32,
     terms: &[Rates],
 ) -> Result<(), KeepError>
-    ensures same_reference { tx.new.conn.ghost_name ≡ tx.old.conn.ghost_name }
     ensures wrote { AllJoin (state S.Store tx.old.conn.now)
         (state S.Store tx.new.conn.now) result terms_tree
         (placed_from (λ version t. number book ∷ number version ∷ terms_cells t) 1 terms.now) }
-    ensures carried { IsCarried (state S.Store tx.old.conn.now) (state S.Store tx.new.conn.now)
-        (is_ok result) }
+    ensures carried { Carries S.Store tx.old.conn tx.new.conn (is_ok result) }
 {
     let mut version = 1;
     for rates in terms {

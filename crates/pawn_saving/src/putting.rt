@@ -1,6 +1,6 @@
 ghost use Rattle.std.specs.Prelude.{◌≡◌, ◌+◌, if◌then◌else◌, None, Option, IfOk, drop, is_ok};
 ghost use Rattle.pawn_saving.specs.Common.{state, Booking, pledge_rows, Lends, at_pledge, at_most_one, booking_cells, under, bookings_tree};
-ghost use Rattle.pawn_saving.specs.Saving.{AddRows, AddSides, AddsPledge, PutsFor, lists_past, IsCarried};
+ghost use Rattle.pawn_saving.specs.Saving.{AddRows, AddSides, AddsPledge, PutsFor, lists_past, Carries};
 
 use crate::lengths::{Lengths, lengths_of};
 use crate::lists::{next_place, put_entries, put_extensions, put_secrets};
@@ -46,11 +46,9 @@ pub(crate) fn put_lists<S: Alter>(
     pledge: &Pledge,
     lengths: Lengths,
 ) -> Result<(), KeepError>
-    ensures same_reference { tx.new.conn.ghost_name ≡ tx.old.conn.ghost_name }
     ensures wrote { AddRows (state S.Store tx.old.conn.now) (state S.Store tx.new.conn.now) result
         (lists_past lengths book number pledge.now) }
-    ensures carried { IsCarried (state S.Store tx.old.conn.now) (state S.Store tx.new.conn.now)
-        (is_ok result) }
+    ensures carried { Carries S.Store tx.old.conn tx.new.conn (is_ok result) }
 {
     let secrets = next_place(lengths.secrets)?;
     let extensions = next_place(lengths.extensions)?;
@@ -78,14 +76,12 @@ pub(crate) fn put_any_booking<S: Alter>(
     number: u32,
     booking: Option<Booking>,
 ) -> Result<(), KeepError>
-    ensures same_reference { tx.new.conn.ghost_name ≡ tx.old.conn.ghost_name }
     ensures wrote { (before : Option Booking) → (booking ≡ None → before ≡ None)
         → PutsFor (state S.Store tx.old.conn.now)
         (state S.Store tx.new.conn.now) result bookings_tree (at_pledge book number)
         (at_most_one (λ k. under book number (booking_cells k)) before)
         (at_most_one (λ k. under book number (booking_cells k)) booking) }
-    ensures carried { IsCarried (state S.Store tx.old.conn.now) (state S.Store tx.new.conn.now)
-        (is_ok result) }
+    ensures carried { Carries S.Store tx.old.conn tx.new.conn (is_ok result) }
 {
     match booking {
         Some(booking) => put_booking(tx, book, number, booking),

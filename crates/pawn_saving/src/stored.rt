@@ -1,7 +1,7 @@
 //! How much of a pledge is stored before it is written.
 ghost use Rattle.std.specs.Prelude.{◌≡◌, ◌≤◌, ◌↔◌, IsTrue, is_ok};
 ghost use Rattle.pawn_saving.specs.Common.{get, state, pledge_in, Lends};
-ghost use Rattle.pawn_saving.specs.Saving.{AreLengths, IsLengthWithin, IsStored, ReadsIn, length_in, IsCarried};
+ghost use Rattle.pawn_saving.specs.Saving.{AreLengths, IsLengthWithin, IsStored, ReadsIn, length_in, Carries};
 
 use crate::lengths::Lengths;
 use pawn_book::KeepError;
@@ -52,12 +52,10 @@ fn length_within<S: Alter>(
     number: u32,
     most: u32,
 ) -> Result<u32, KeepError>
-    ensures same_reference { tx.new.conn.ghost_name ≡ tx.old.conn.ghost_name }
     ensures reads { ReadsIn (state S.Store tx.old.conn.now) (state S.Store tx.new.conn.now) result
         (λ h length. length_in list (pledge_in (get h.books book) number) ≤ most
         → length ≡ length_in list (pledge_in (get h.books book) number)) }
-    ensures carried { IsCarried (state S.Store tx.old.conn.now) (state S.Store tx.new.conn.now)
-        (is_ok result) }
+    ensures carried { Carries S.Store tx.old.conn tx.new.conn (is_ok result) }
 {
     let mut length = most;
     while length > 0 {
@@ -77,12 +75,10 @@ fn lengths_within<S: Alter>(
     number: u32,
     most: Lengths,
 ) -> Result<Lengths, KeepError>
-    ensures same_reference { tx.new.conn.ghost_name ≡ tx.old.conn.ghost_name }
     ensures reads { ReadsIn (state S.Store tx.old.conn.now) (state S.Store tx.new.conn.now) result
         (λ h lengths. IsLengthWithin (pledge_in (get h.books book) number) most → AreLengths lengths
         (pledge_in (get h.books book) number)) }
-    ensures carried { IsCarried (state S.Store tx.old.conn.now) (state S.Store tx.new.conn.now)
-        (is_ok result) }
+    ensures carried { Carries S.Store tx.old.conn tx.new.conn (is_ok result) }
 {
     let entries = length_within(tx, PledgeList::Entries, book, number, most.entries)?;
     let secrets = length_within(tx, PledgeList::Secrets, book, number, most.secrets)?;

@@ -15,10 +15,10 @@ returns-clause-wrote g c clean within h sound can st =
     let is = can.follows.1 in
     let empty = can.follows.2 in
     let n = rows h in
-    let clean2 = past two new true c.in_ok-added.ensures.carried clean in
-    let clean1 = past one two true c.in_ok-put_versions.ensures.carried clean2 in
+    let clean2 = past two new true c.in_ok-added.ensures.carried.leaves clean in
+    let clean1 = past one two true c.in_ok-put_versions.ensures.carried.leaves clean2 in
     let within1 = c.in_ok-set_import.ensures.lent.leaves.inside clean1 within refl in
-    let within2 = c.in_ok-put_versions.ensures.carried.inside clean2 within1 refl in
+    let within2 = c.in_ok-put_versions.ensures.carried.leaves.inside clean2 within1 refl in
     let versions = rw c.as_slice-terms.ensures.value at c.in_ok-versions.ensures.value in
     let so_many = rw c.as_slice-pledges.ensures.value at c.in_ok-so_many.ensures.value in
     let noted = rw c.get.ensures.value at (c.in_ok-set_import.ensures.wrote k brought) in
@@ -37,6 +37,6 @@ returns-clause-lent g c =
     let two = state g.S.Store c.put_versions.new.tx.conn.now in
     let new = state g.S.Store c.put_pledges.new.tx.conn.now in
     record {
-      same_reference = c.put_pledges.ensures.same_reference ∙ c.put_versions.ensures.same_reference ∙ c.set_import.ensures.lent.same_reference;
-      leaves = lent_anyway old new (lent_carried old two new true (lent_carried old one two true c.in_ok-set_import.ensures.lent.leaves c.in_ok-put_versions.ensures.carried) c.in_ok-added.ensures.carried) _;
+      same_reference = c.put_pledges.ensures.carried.same_reference ∙ c.put_versions.ensures.carried.same_reference ∙ c.set_import.ensures.lent.same_reference;
+      leaves = lent_anyway old new (lent_carried old two new true (lent_carried old one two true c.in_ok-set_import.ensures.lent.leaves c.in_ok-put_versions.ensures.carried.leaves) c.in_ok-added.ensures.carried.leaves) _;
     }

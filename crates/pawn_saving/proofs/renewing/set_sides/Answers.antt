@@ -11,7 +11,7 @@ returns-clause-wrote g c before agreed booked clean within listed others sides l
     let b = c.args.book in
     let n = c.args.number in
     let p = c.args.pledge.now in
-    let clean2 = past two new (is_ok c.put_any_booking.result) c.put_any_booking.ensures.carried clean in
+    let clean2 = past two new (is_ok c.put_any_booking.result) c.put_any_booking.ensures.carried.leaves clean in
     let clean1 = clean_before one two true c.in_ok-set_totals.ensures.lent.leaves clean2 in
     let within1 = c.in_ok-set_row.ensures.lent.leaves.inside clean1 within refl in
     let within2 = c.in_ok-set_totals.ensures.lent.leaves.inside clean2 within1 refl in
