@@ -13,4 +13,4 @@ pub use Rattle.pawn_tables.proofs.PledgeSearches.{ref_shown}
 pub use Rattle.pawn_tables.proofs.ReadTexts.{COUNT_ASKED, COUNT_CONFIRMED, COUNT_ENDS, COUNT_ENTRIES, FIND_NEXT_BOOK, FIND_REFERENCE, READ_ASKED_PAGE, READ_BOOKING, READ_CONFIRMED_PAGE, READ_CREDIT, READ_ENDS_PAGE, READ_ENTRIES, READ_ENTRIES_PAGE, READ_ENTRY, READ_EXTENSION, READ_EXTENSIONS, READ_EXTENSIONS_PAGE, READ_HEAD, READ_LAST_PLACE, READ_LAST_SECRET, READ_PLEDGE, READ_ROWS, READ_SECRET, READ_SECRETS, READ_SECRETS_PAGE, READ_TERMS, READ_TOTALS, READ_WINDOWS, texts}
 pub use Rattle.pawn_tables.proofs.SoundBooks.{finds_as, head_unsound, keys_in, next_unsound, ref_unsound}
 pub use Rattle.pawn_tables.proofs.SoundReads.{booking_unsound, brief_unsound, credit_unsound, entries_unsound, extensions_unsound, row_unsound, secrets_unsound, standing_unsound, terms_unsound, totals_unsound, unjoined, words_in}
-pub use Rattle.pawn_tables.proofs.StatementFinds.{found, found_as, found_debts, found_is, untold}
+pub use Rattle.pawn_tables.proofs.StatementFinds.{found, found_as, found_debts, found_is}

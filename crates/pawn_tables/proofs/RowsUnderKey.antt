@@ -1,6 +1,8 @@
 -- The rows of one book, and of one pledge, among those of a host.
 use Rattle.pawn_tables.proofs.Basics.{◌≡◌, ◌≢◌, ◌++◌, ◌==◌, ℕ, ◌+◌, ◌<◌, pos, List, [], ◌∷◌, map, filter, flat_map, Bool, true, false, cond, ◌&&◌, Option, Some, None, T, refl, sym, ap, subst, ◌∙◌, arith, append-nil, and_left, and_right, cond-false, cond-true, filter-append, flat_map_none, if◌then◌else◌, entries, entries_sorted, get, get-entries, is_sorted, below_all, AllByRecursion, is_eq, is_lt, nat_cmp, Less, binary, from_truth, is_true, Row, column, value_cmp, IsAscending, Value, Entry, PledgeValue, BookValue, pledge_from, pledge_in, Host, AreNumberedFrom, nat_tests, value_cmp-Int, RiseFrom, number, placed_from, AreBooksOrdered, of_books, of_pledges, is_at, at_pledge}
 use Rattle.pawn_tables.specs.Common.{find}
+-- a test of two that is passed, and one, as an equation
+pub use Rattle.pawn_base.proofs.TestLemmas.{both_told as both_pass, told as is_passed}
 
 -- ---- SQL's = on numbers
 
@@ -21,15 +23,6 @@ rows_at (Some x) f = f x
 pub filter-flat_map : {X : Type 0} (p : Row → Bool) (f : X → List Row) (xs : List X) → filter p (flat_map f xs) ≡ flat_map (λ x. filter p (f x)) xs
 filter-flat_map p f [] = refl
 filter-flat_map p f (x ∷ xs) = filter-append p (f x) (flat_map f xs) ∙ ap (λ l. filter p (f x) ++ l) (filter-flat_map p f xs)
-
--- a test of two that is passed, and one, as an equation
-pub both_pass : (a b : Bool) → T (a && b) → T a × T b
-both_pass true b h = (tt, h)
-both_pass false b h = absurd h
-
-pub is_passed : (b : Bool) → T b → b ≡ true
-is_passed true h = refl
-is_passed false h = absurd h
 
 pub same_key : (m n : ℕ) → is_eq (nat_cmp n m) ≡ true → m ≡ n
 same_key m n h = grind (arith, nat_tests, h)

@@ -1,4 +1,4 @@
-#![tactic(auto, using(crate::proofs::StatementFinds::unread))]
+#![tactic(auto, using(crate::proofs::StatementFinds::unread, crate::proofs::StatementFinds::unread_debts))]
 
 ghost use Rattle.std.specs.Prelude.{◌≡◌, is_ok, option_map};
 ghost use Rattle.pawn_tables.specs.Common.{get, state, book_head, confirmed_count, rows, IsNextBook, number_of, pledges_of, HasUnsoundBook, IsUnsoundAt, Lends};

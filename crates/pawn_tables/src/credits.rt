@@ -1,3 +1,5 @@
+#![tactic(auto, using(crate::proofs::StatementFinds::unread_debts))]
+
 ghost use Rattle.std.specs.Prelude.{◌≡◌, Option, IfSome, is_ok, option_map};
 ghost use Rattle.pawn_tables.specs.Common.{get, state, IsStampDay, PledgeValue, pledge_in, IsUnsoundAt, Lends};
 ghost use Rattle.pawn_tables.specs.Tables.{FindsOf, IsRead, IsCreditTold, credit_told, at_most_one, credit_cells, ListDebts};

@@ -1,4 +1,4 @@
-#![tactic(auto, using(crate::proofs::StatementFinds::unread))]
+#![tactic(auto, using(crate::proofs::StatementFinds::unread, crate::proofs::StatementFinds::unread_debts))]
 
 ghost use Rattle.std.specs.Prelude.{◌≡◌, Err, IfOk, is_ok, option_map};
 ghost use Rattle.pawn_tables.specs.Common.{get, state, HasCleanDisk, Shown, bound, pledge_in, entries_of, extensions_of, secrets_of, terms_of, terms_at, IsUnsoundAt, NoRecord, Lends};

@@ -1,8 +1,5 @@
-use Rattle.pawn_tables.proofs.Reading.{rules, ◌∙◌, credit_shown, READ_CREDIT, credit_unsound, found_debts, found_is, untold, texts}
+use Rattle.pawn_tables.proofs.Reading.{◌∙◌, credit_shown, READ_CREDIT, credit_unsound, found_debts, found_is, texts}
 use Rattle.pawn_tables.proofs.credits.credit_in.Goals as goal
-
-pub returns-in_err-rows-clause-finds : goal.returns-in_err-rows-clause-finds
-returns-in_err-rows-clause-finds g c clean within h stood = untold c.rows_of.result _ c.from_residual.result _ _ c.in_err-rows.was (search rules) c.rows_of.ensures.unread
 
 pub returns-clause-finds : goal.returns-clause-finds
 returns-clause-finds g c =

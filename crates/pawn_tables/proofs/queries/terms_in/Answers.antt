@@ -1,8 +1,5 @@
-use Rattle.pawn_tables.proofs.Reading.{rules, ◌∙◌, debts_of, terms_shown, READ_TERMS, terms_unsound, found_debts, found_is, untold, texts}
+use Rattle.pawn_tables.proofs.Reading.{◌∙◌, debts_of, terms_shown, READ_TERMS, terms_unsound, found_debts, found_is, texts}
 use Rattle.pawn_tables.proofs.queries.terms_in.Goals as goal
-
-pub returns-in_err-rows-clause-told : goal.returns-in_err-rows-clause-told
-returns-in_err-rows-clause-told g c clean within h stood = untold c.rows_of.result _ c.from_residual.result _ _ c.in_err-rows.was (search rules) c.rows_of.ensures.unread
 
 pub returns-clause-told : goal.returns-clause-told
 returns-clause-told g c =
