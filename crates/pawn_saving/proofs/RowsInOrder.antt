@@ -22,7 +22,7 @@ both_carried a b c ok f s = record {
 }
 
 -- what was lent was carried
-is_carried : (a b : State) (ok : Bool) → IsLent a b ok → IsCarried a b ok
+pub is_carried : (a b : State) (ok : Bool) → IsLent a b ok → IsCarried a b ok
 is_carried a b ok l = record { kept = l.kept; inside = l.inside; survives = l.survives }
 
 pub carried_then : (a b c : State) (ok : Bool) → IsCarried a b true → IsLent b c ok → IsCarried a c ok
@@ -32,6 +32,15 @@ pub lent_carried : (a b c : State) (ok : Bool) → IsLent a b true → IsCarried
 lent_carried a b c ok f s =
     let both = both_carried a b c ok (is_carried a b true f) s in
     record { kept = both.kept; opened = λ clean within is_ok. f.opened (past b c ok s clean) within refl; inside = both.inside; survives = both.survives }
+
+-- the disk was clean, and the transaction went on, where the second and the third of three parts began
+pub of_three : {old one two new : State} {ok : Bool} → IsCarried old one true → IsCarried one two true → IsCarried two new ok → HasCleanDisk new → IsTrue old.in_transaction
+    → HasCleanDisk one × IsTrue one.in_transaction × HasCleanDisk two × IsTrue two.in_transaction
+of_three {old = old} {one = one} {two = two} {new = new} {ok = ok} f s t clean within =
+    let clean2 = past two new ok t clean in
+    let clean1 = past one two true s clean2 in
+    let within1 = f.inside clean1 within refl in
+    (clean1, within1, clean2, s.inside clean2 within1 refl)
 
 -- what was lent and went well, whatever comes of it then
 pub lent_anyway : (a b : State) → IsLent a b true → (ok : Bool) → IsLent a b ok

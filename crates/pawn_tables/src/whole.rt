@@ -1,3 +1,5 @@
+#![tactic(auto, using(crate::proofs::Basics::lent_then))]
+
 ghost use Rattle.std.specs.Prelude.{◌≡◌, IfSome, is_ok};
 ghost use Rattle.pawn_tables.specs.Common.{get, pledge_in, terms_of, terms_at, IsUnsoundAt, Lends};
 ghost use Rattle.pawn_tables.specs.Tables.{FindsBy, AreLists, AreSides, AreTold};
@@ -30,7 +32,6 @@ pub fn terms_under<S: Alter>(
 }
 
 /// The lists of a pledge.
-#[tactic(auto, using(crate::proofs::Basics::lent_then))]
 pub(crate) fn lists_in<S: Alter>(
     tx: &mut Transaction<'_, S>,
     alloc: Global,
@@ -52,7 +53,6 @@ pub(crate) fn lists_in<S: Alter>(
 }
 
 /// What the tables beside its row hold of a pledge.
-#[tactic(auto, using(crate::proofs::Basics::lent_then))]
 pub(crate) fn sides_in<S: Alter>(
     tx: &mut Transaction<'_, S>,
     book: u32,
@@ -75,7 +75,6 @@ pub(crate) fn sides_in<S: Alter>(
 }
 
 /// What the row of a pledge and the tables beside it hold, if there is such a pledge.
-#[tactic(auto, using(crate::proofs::Basics::lent_then))]
 pub(crate) fn stored_pledge_in<S: Alter>(
     tx: &mut Transaction<'_, S>,
     alloc: Global,
@@ -98,7 +97,6 @@ pub(crate) fn stored_pledge_in<S: Alter>(
 
 /// The pledge with this number in a book, if there is one. Its stored totals and end are compared with those that
 /// follow from its record, and `NoRecord` is answered if they differ.
-#[tactic(auto, using(crate::proofs::Basics::lent_then))]
 pub fn pledge_of<S: Alter>(
     tx: &mut Transaction<'_, S>,
     alloc: Global,
