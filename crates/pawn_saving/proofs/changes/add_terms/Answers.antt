@@ -1,13 +1,12 @@
-use Rattle.pawn_saving.proofs.Writing.{[], arith, length, length-append, refl, subst, true, ℕ, ◌++◌, ◌+◌, ◌∙◌, ◌∷◌, ◌≡◌, state, Rates, with_change, rows, with_rows, number, terms_cells, IsWrittenPart, listed_as, as_lists, clean_before}
+use Rattle.pawn_saving.proofs.Writing.{[], arith, length, length-append, refl, subst, ℕ, ◌++◌, ◌+◌, ◌∙◌, ◌∷◌, ◌≡◌, state, Rates, with_change, rows, with_rows, number, terms_cells, IsWrittenPart, listed_as, as_lists, clean_before}
 use Rattle.pawn_saving.proofs.Basics.{AddTerms}
 use Rattle.pawn_saving.proofs.BookChanges.{longer_written, only_book, other_books}
 use Rattle.pawn_saving.proofs.changes.add_terms.Goals as goal
 
 pub returns-clause-wrote : goal.returns-clause-wrote
 returns-clause-wrote g c clean within h sound can st =
-    let mid = state g.S.Store c.put_terms.new.tx.conn.now in
     let new = state g.S.Store c.set_terms_count.new.tx.conn.now in
-    let clean1 = clean_before mid new true c.in_ok-set_terms_count.ensures.lent.leaves clean in
+    let clean1 = clean_before _ _ _ c.in_ok-set_terms_count.ensures.lent.leaves clean in
     let k = can.follows.0 in
     let is = can.follows.1 in
     let version : c.in_ok-version.version ≡ length k.terms + 1 = c.in_ok-version.ensures.value ∙ can.follows.2 in

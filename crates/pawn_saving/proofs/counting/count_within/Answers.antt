@@ -3,9 +3,8 @@ use Rattle.pawn_saving.proofs.counting.count_within.Goals as goal
 
 pub returns-clause-counts : goal.returns-clause-counts
 returns-clause-counts g c clean within h counted below lists =
-    let mid = state g.S.Store c.limit_in.new.tx.conn.now in
     let new = state g.S.Store c.count_up.new.tx.conn.now in
-    let clean1 = clean_before mid new _ c.count_up.ensures.lent.leaves clean in
+    let clean1 = clean_before _ _ _ c.count_up.ensures.lent.leaves clean in
     let found = c.in_ok-limit.ensures.found clean1 within (listed_as h counted) counted h.limit refl lists in
     let lists1 = subst (λ d. ListsHost d h counted) (sym found.1.now_is) lists in
     let is = found.0 in

@@ -1,14 +1,13 @@
-use Rattle.pawn_saving.proofs.Writing.{None, ap, arith, length, refl, subst, sym, true, ◌+◌, ◌∙◌, ◌≡◌, state, pledge_in, put_from, rows, listed_as, beside, whole_pledge, as_lists, clean_before, only_book, other_books, put_length, stood, next_number, next_written, none_booked}
+use Rattle.pawn_saving.proofs.Writing.{None, ap, arith, length, refl, subst, sym, ◌+◌, ◌∙◌, ◌≡◌, state, pledge_in, put_from, rows, listed_as, beside, whole_pledge, as_lists, clean_before, only_book, other_books, put_length, stood, next_number, next_written, none_booked}
 use Rattle.pawn_saving.proofs.renewing.add_pledge.Goals as goal
 
 pub returns-clause-wrote : goal.returns-clause-wrote
 returns-clause-wrote g c clean within h sound can st absent =
-    let mid = state g.S.Store c.put_whole.new.tx.conn.now in
     let new = state g.S.Store c.set_pledges_count.new.tx.conn.now in
     let b = c.args.book in
     let n = c.args.number in
     let p = c.args.pledge.now in
-    let clean1 = clean_before mid new true c.in_ok-set_pledges_count.ensures.lent.leaves clean in
+    let clean1 = clean_before _ _ _ c.in_ok-set_pledges_count.ensures.lent.leaves clean in
     let k = can.follows.0 in
     let is = can.follows.1 in
     let none : stood h b n k p is ≡ None = ap (λ o. pledge_in o n) (sym is) ∙ absent in

@@ -1,9 +1,8 @@
-use Rattle.pawn_saving.proofs.Writing.{Some, ap, refl, sym, true, ◌∙◌, ◌≡◌, state, pledge_in, rows, listed_as, with_sides, as_lists, stood, continues_it, old_sides, others, renewed_written, past}
+use Rattle.pawn_saving.proofs.Writing.{Some, ap, refl, sym, ◌∙◌, ◌≡◌, state, pledge_in, rows, listed_as, with_sides, as_lists, stood, continues_it, old_sides, others, renewed_written, past}
 use Rattle.pawn_saving.proofs.renewing.renew_pledge.Goals as goal
 
 pub returns-clause-wrote : goal.returns-clause-wrote
 returns-clause-wrote g c old stored clean within h sound can st standing =
-    let mid = state g.S.Store c.set_sides.new.tx.conn.now in
     let new = state g.S.Store c.put_lists.new.tx.conn.now in
     let b = c.args.book in
     let n = c.args.number in
@@ -14,7 +13,7 @@ returns-clause-wrote g c old stored clean within h sound can st standing =
     let some : stood h b n k p is ≡ Some old = ap (λ o. pledge_in o n) (sym is) ∙ standing in
     let it = continues_it k n old p some can.follows.2 in
     let counted = rows h in
-    let clean1 = past mid new true c.in_ok-put_lists.ensures.carried.leaves clean in
+    let clean1 = past _ _ _ c.in_ok-put_lists.ensures.carried.leaves clean in
     let within1 = c.in_ok-set_sides.ensures.lent.leaves.inside clean1 within refl in
     let rest = others h b n k old p is some in
     let set = rw (c.get.ensures.value, c.get-2.ensures.value) at (c.in_ok-set_sides.ensures.wrote old (sym it.agreement) (c.in_ok-added.ensures.booked old stored) clean1 within (listed_as h counted) rest) in
