@@ -1,5 +1,5 @@
 -- What becomes of the rows of a host where a book is put, or put anew.
-use Rattle.pawn_saving.proofs.Basics.{◌≡◌, ◌++◌, ℕ, List, [], ◌∷◌, append_assoc, false, cond, ◌&&◌, Some, None, T, refl, sym, ap, subst, ◌∙◌, arith, IsPermutation, is_lt, FinMap, entries, entries-insert, entries_sorted, find, get, get-entries, insert, is_sorted, put, is_eq, nat_cmp, both_pass, is_passed, nat_tests, IsPermutation-append, IsPermutation-append_comm, IsPermutation-cons, IsPermutation-refl, IsPermutation-same, IsPermutation-sym, IsPermutation-trans, swapped}
+use Rattle.pawn_saving.proofs.Basics.{◌≡◌, ◌++◌, ℕ, List, [], ◌∷◌, append_assoc, false, cond, Some, None, T, refl, sym, ap, subst, ◌∙◌, arith, IsPermutation, is_lt, FinMap, entries, entries-insert, entries_sorted, find, get, get-entries, insert, is_sorted, put, is_eq, nat_cmp, both_pass, is_passed, nat_tests, IsPermutation-append, IsPermutation-append_comm, IsPermutation-cons, IsPermutation-refl, IsPermutation-same, IsPermutation-sym, IsPermutation-trans, swapped}
 use Rattle.std.specs.declared.cmp.Ordering.{Ordering}
 use Rattle.std.specs.declared.cmp.Ordering.TheVariants.{Less, Equal, Greater}
 use Rattle.std.specs.FinMap.Entries.{by_order, below_all}

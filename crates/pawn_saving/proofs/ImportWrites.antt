@@ -1,5 +1,5 @@
 -- What is written where a book is filled: the rows of the changed host.
-use Rattle.pawn_saving.proofs.Basics.{◌≡◌, ◌≢◌, ◌++◌, ◌==◌, ◌&&◌, ℕ, ◌+◌, ◌<◌, ◌≤◌, zero, suc, List, [], ◌∷◌, take, filter, flat_map, length, get_or, append-nil, true, false, Option, Some, None, IsTrue, Result, Ok, Err, IfOk, refl, sym, ap, subst, ◌∙◌, arith, IsPermutation, if◌then◌else◌, sum_by, get, Database, Row, HasCleanDisk, State, PledgeValue, Booking, BookValue, changed_book, filled_book, pledge_from, pledge_in, IsUnfilled, with_change, Host, book_rows, pledge_rows, rows, with_book, AreNumberedFrom, AreSound, ImportBook, BookRows, IsLent, Listed, with_rows, at_pledge, ListsOurs, at_most_one, book_row, booking_cells, booking_listed, entries_listed, extensions_listed, number, number_in_book, placed_from, pledge_listed, secrets_listed, terms_cells, terms_listed, totals_listed, under, bookings_tree, AreBooksOrdered, of_pledges, and_left, and_right, cond-false, nat_tests, take_all, IsPermutation-refl, sum_by_push, part, rows-with_book, clean_before, under_booked, equals, filter-append, flat_map_none, of_one_pledge, rows_at, IsWrittenPart, ListsHost, listed_as, whole_pledges, beside, booking_under, whole_pledge, IsCarried}
+use Rattle.pawn_saving.proofs.Basics.{◌≡◌, ◌≢◌, ◌++◌, ◌==◌, ◌&&◌, ℕ, ◌+◌, ◌<◌, ◌≤◌, zero, suc, List, [], ◌∷◌, take, filter, flat_map, length, get_or, append-nil, true, false, Option, Some, None, IsTrue, Result, Ok, Err, IfOk, refl, sym, ap, subst, ◌∙◌, arith, IsPermutation, sum_by, get, Database, Row, HasCleanDisk, State, PledgeValue, Booking, BookValue, changed_book, filled_book, pledge_from, pledge_in, IsUnfilled, with_change, Host, book_rows, pledge_rows, rows, with_book, AreNumberedFrom, AreSound, ImportBook, BookRows, IsLent, Listed, with_rows, at_pledge, ListsOurs, at_most_one, book_row, booking_cells, booking_listed, entries_listed, extensions_listed, number, number_in_book, placed_from, pledge_listed, secrets_listed, terms_cells, terms_listed, totals_listed, under, bookings_tree, AreBooksOrdered, of_pledges, and_left, and_right, cond-false, nat_tests, take_all, IsPermutation-refl, sum_by_push, part, rows-with_book, clean_before, under_booked, equals, filter-append, flat_map_none, of_one_pledge, rows_at, IsWrittenPart, ListsHost, listed_as, whole_pledges, beside, booking_under, whole_pledge, IsCarried}
 use Rattle.std.proofs.lemmas.Grind.{flat_map-append}
 use Rattle.pawn_saving.proofs.BookChanges.{books_after, found_after, other_books, rows_more}
 use Rattle.pawn_saving.proofs.Changing.{more_joined}

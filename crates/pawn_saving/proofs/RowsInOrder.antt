@@ -1,5 +1,5 @@
 -- Rows that are put one after another.
-use Rattle.pawn_saving.proofs.Basics.{◌≡◌, ◌++◌, ◌==◌, false, ℕ, ◌+◌, ◌<◌, ◌≤◌, List, [], ◌∷◌, map, take, length, get_or, Bool, true, IsTrue, refl, sym, ap, subst, ◌∙◌, arith, IsPermutation, if◌then◌else◌, Database, Row, HasCleanDisk, State, IsLent, Listed, with_rows, ListsOurs, placed_from, nat_tests, length-take-le, map-append, take_more, IsPermutation-append, IsPermutation-append_comm, IsPermutation-refl, clean_before, kept_then, same_tree, IsCarried}
+use Rattle.pawn_saving.proofs.Basics.{◌≡◌, ◌++◌, ◌==◌, false, ℕ, ◌+◌, ◌<◌, List, [], ◌∷◌, map, take, length, get_or, Bool, true, IsTrue, refl, sym, ap, subst, ◌∙◌, arith, IsPermutation, if◌then◌else◌, Database, Row, HasCleanDisk, State, IsLent, Listed, with_rows, ListsOurs, placed_from, nat_tests, length-take-le, map-append, take_more, IsPermutation-append, IsPermutation-append_comm, IsPermutation-refl, clean_before, kept_then, same_tree, IsCarried}
 use Rattle.sqlite.proofs.StateLemmas.{survives_then}
 use Rattle.pawn_saving.proofs.Hosting.{relisted_by}
 

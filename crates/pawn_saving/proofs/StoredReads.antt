@@ -1,5 +1,5 @@
 -- How much of a pledge stands, as it is looked up.
-use Rattle.pawn_saving.proofs.Basics.{◌≡◌, ◌⊎◌, inl, inr, ◌↔◌, ℕ, zero, suc, ◌+◌, ◌-◌, ◌≤◌, List, [], ◌∷◌, Option, Some, None, true, false, length, IsTrue, refl, sym, subst, arith, is_some, slice_get, ◌++◌, get, HasCleanDisk, State, Grows, PledgeValue, AreIssued, Booking, Issued, BookValue, pledge_from, pledge_in, CanSave, Continues, Host, entries_of, IsSound, PutPledge, Rests, with_seq, StandsFor, standing_at, at_seq, AreLengths, IsLengthWithin, IsStored, IsCarried, Lengths}
+use Rattle.pawn_saving.proofs.Basics.{◌≡◌, ◌⊎◌, inl, inr, ◌↔◌, ℕ, zero, suc, ◌+◌, ◌≤◌, List, [], ◌∷◌, Option, Some, None, true, false, length, IsTrue, refl, sym, subst, arith, is_some, slice_get, ◌++◌, get, HasCleanDisk, State, Grows, PledgeValue, AreIssued, Booking, Issued, BookValue, pledge_from, pledge_in, CanSave, Continues, Host, entries_of, IsSound, PutPledge, Rests, with_seq, StandsFor, standing_at, at_seq, AreLengths, IsLengthWithin, IsStored, IsCarried, Lengths}
 use Rattle.pawn_tables.specs.Places.{at_place}
 use Rattle.pawn_saving.specs.declared.stored.Stored.{Stored}
 use Rattle.pawn_saving.proofs.PledgeWrites.{continues_it}

@@ -1,5 +1,5 @@
 use Rattle.pawn_saving.proofs.Writing.{state, inside_after_row, kept_by_row, open_by_row, count_told, counts}
-use Rattle.pawn_saving.proofs.Basics.{false, ◌≡◌, IsTrue, HasCleanDisk, IsLent, State, Survives}
+use Rattle.pawn_saving.proofs.Basics.{false, IsTrue, HasCleanDisk, IsLent, State, Survives}
 use Rattle.pawn_saving.specs.Common.{KeepsCommit}
 use Rattle.pawn_saving.proofs.counting.count_up.Goals as goal
 

@@ -1,4 +1,4 @@
-use Rattle.pawn_saving.proofs.Writing.{ap, length, map, rules, ◌∙◌, ◌≡◌, ◌≤◌, state, entry_cells, under, one_put, take_all, take_map}
+use Rattle.pawn_saving.proofs.Writing.{ap, length, map, rules, ◌∙◌, ◌≤◌, state, entry_cells, under, one_put, take_all, take_map}
 use Rattle.pawn_saving.proofs.Basics.{Entry}
 use Rattle.pawn_saving.proofs.lists.put_entries.Goals as goal
 
