@@ -23,7 +23,8 @@ pub record Found (s0 s1 : State) (F : Host → Type 0) : Type 0 where
   pub lent : IsLent s0 s1 true
   pub is : HasCleanDisk s1 → IsTrue s0.in_transaction → (h : Host) → Stood s0 h → StandsFor s0.now h × F h × Rests s0 s1
 
-pub one_found : {A : Type 0} {s0 s1 : State} {p : Result A KeepError} {x : A} (U : Host → Type 0) (P : Host → A → Type 0) → p ≡ Ok x → IsLent s0 s1 true → FindsIn U s0 s1 p P → Found s0 s1 (λ h. P h x)
+pub one_found : {A : Type 0} {s0 s1 : State} {p : Result A KeepError} {x : A} (U : Host → Type 0) (P : Host → A → Type 0)
+    → p ≡ Ok x → IsLent s0 s1 true → FindsIn U s0 s1 p P → Found s0 s1 (λ h. P h x)
 one_found {s0 = s0} {s1 = s1} {p = p} {x = x} U P went l f = record {
   lent = l;
   is = λ clean within h stood. let one = told p x (λ y. P h y × Rests s0 s1) (U h) went (f clean within h stood) in (stood (l.opened clean within refl), one.0, one.1);
@@ -36,7 +37,8 @@ begun s0 s1 s2 F ok found l clean within h stood =
     let one = found.is (clean_before s1 s2 ok l clean) within h stood in
     (one, subst (λ d. StandsFor d h) (sym one.2.now_is) one.0)
 
-pub next_found : {B : Type 0} {s0 s1 s2 : State} {F : Host → Type 0} {q : Result B KeepError} {y : B} (U : Host → Type 0) (Q : Host → B → Type 0) → Found s0 s1 F → q ≡ Ok y → IsLent s1 s2 true → FindsIn U s1 s2 q Q → Found s0 s2 (λ h. F h × Q h y)
+pub next_found : {B : Type 0} {s0 s1 s2 : State} {F : Host → Type 0} {q : Result B KeepError} {y : B} (U : Host → Type 0) (Q : Host → B → Type 0)
+    → Found s0 s1 F → q ≡ Ok y → IsLent s1 s2 true → FindsIn U s1 s2 q Q → Found s0 s2 (λ h. F h × Q h y)
 next_found {s0 = s0} {s1 = s1} {s2 = s2} {F = F} {q = q} {y = y} U Q found went l f = record {
   lent = lent_then s0 s1 s2 true found.lent l;
   is = λ clean within h stood.
@@ -47,11 +49,13 @@ next_found {s0 = s0} {s1 = s1} {s2 = s2} {F = F} {q = q} {y = y} U Q found went 
 
 -- a part that fails ends the others
 
-pub first_unfound : {A D : Type 0} {p : Result A KeepError} {e : KeepError} (U : Host → Type 0) (s0 s1 : State) (P : Host → A → Type 0) (r : Result D KeepError) (W : Host → D → Type 0) → p ≡ Err e → r ≡ Err e → FindsIn U s0 s1 p P → FindsIn U s0 s1 r W
+pub first_unfound : {A D : Type 0} {p : Result A KeepError} {e : KeepError} (U : Host → Type 0) (s0 s1 : State) (P : Host → A → Type 0) (r : Result D KeepError) (W : Host → D → Type 0)
+    → p ≡ Err e → r ≡ Err e → FindsIn U s0 s1 p P → FindsIn U s0 s1 r W
 first_unfound {p = p} {e = e} U s0 s1 P r W failed same f clean within h stood =
     unfound e r (λ x. P h x × Rests s0 s1) (λ x. W h x × Rests s0 s1) (U h) same (subst (λ s. Finds s (λ x. P h x × Rests s0 s1) (U h)) failed (f clean within h stood))
 
-pub next_unfound : {B D : Type 0} {s0 s1 s2 : State} {F : Host → Type 0} {q : Result B KeepError} {e : KeepError} (U : Host → Type 0) (Q : Host → B → Type 0) (r : Result D KeepError) (W : Host → D → Type 0)
+pub next_unfound : {B D : Type 0} {s0 s1 s2 : State} {F : Host → Type 0} {q : Result B KeepError} {e : KeepError}
+    (U : Host → Type 0) (Q : Host → B → Type 0) (r : Result D KeepError) (W : Host → D → Type 0)
     → Found s0 s1 F → q ≡ Err e → r ≡ Err e → IsLent s1 s2 false → FindsIn U s1 s2 q Q → FindsIn U s0 s2 r W
 next_unfound {s0 = s0} {s1 = s1} {s2 = s2} {F = F} {q = q} {e = e} U Q r W found failed same l f clean within h stood =
     let one = begun s0 s1 s2 F false found l clean within h stood in

@@ -26,7 +26,9 @@ failed : (old new : State) → (HasCleanDisk new → IsTrue old.in_transaction �
 failed old new kept survives = record { kept = kept; opened = λ clean within ok. absurd (let e = ok in cc); inside = λ clean within ok. absurd (let e = ok in cc); survives = survives }
 
 pub returns-clause-lent : goal.returns-clause-lent
-returns-clause-lent g c = record { same_reference = search; leaves = failed _ _ (λ clean within. kept_by_row _ _ _ _ c.query_row.result within (c.query_row.ensures.row clean)) c.query_row.ensures.survives }
+returns-clause-lent g c =
+    record { same_reference = search; leaves = failed _ _ (λ clean within. kept_by_row _ _ _ _ c.query_row.result within (c.query_row.ensures.row clean)) c.query_row.ensures.survives }
 
 pub returns-in-Err-clause-lent : goal.returns-in-Err-clause-lent
-returns-in-Err-clause-lent g c = record { same_reference = search; leaves = failed _ _ (λ clean within. kept_by_row _ _ _ _ c.query_row.result within (c.query_row.ensures.row clean)) c.query_row.ensures.survives }
+returns-in-Err-clause-lent g c =
+    record { same_reference = search; leaves = failed _ _ (λ clean within. kept_by_row _ _ _ _ c.query_row.result within (c.query_row.ensures.row clean)) c.query_row.ensures.survives }

@@ -34,5 +34,6 @@ returns-clause-lent g c =
     let new = state g.S.Store c.put_pledges.new.tx.conn.now in
     record {
       same_reference = c.put_pledges.ensures.carried.same_reference ∙ c.put_versions.ensures.carried.same_reference ∙ c.set_import.ensures.lent.same_reference;
-      leaves = lent_anyway old new (lent_carried old two new true (lent_carried old one two true c.in_ok-set_import.ensures.lent.leaves c.in_ok-put_versions.ensures.carried.leaves) c.in_ok-added.ensures.carried.leaves) _;
+      leaves = lent_anyway old new
+          (lent_carried old two new true (lent_carried old one two true c.in_ok-set_import.ensures.lent.leaves c.in_ok-put_versions.ensures.carried.leaves) c.in_ok-added.ensures.carried.leaves) _;
     }

@@ -15,10 +15,12 @@ pub returns-in_ok-asked-in-Asked-clause-finds : goal.returns-in_ok-asked-in-Aske
 returns-in_ok-asked-in-Asked-clause-finds g c =
     rw c.in-Asked.is (found _ _ _ _ _ c.only_count.result _ COUNT_ASKED.now (λ more. (texts more).asked_is.2) c.in_ok-asked-in-Asked.ensures.lent.leaves
     (λ clean. rw (c.params-to_sql.ensures, c.params-to_sql-in-Asked.ensures, c.count-count.ensures.value) at (c.in_ok-asked-in-Asked.ensures.shown clean))
-    (λ h st shown. found_is c.only_count.result _ _ _ (c.only_count.ensures.read _ (c.deref.ensures.value ∙ asked_shown c.args.book c.args.day _ _ h _ st shown)) (λ bad. absurd (bad tt))))
+    (λ h st shown. found_is c.only_count.result _ _ _
+    (c.only_count.ensures.read _ (c.deref.ensures.value ∙ asked_shown c.args.book c.args.day _ _ h _ st shown)) (λ bad. absurd (bad tt))))
 
 pub returns-in_ok-ends-in-Ends-clause-finds : goal.returns-in_ok-ends-in-Ends-clause-finds
 returns-in_ok-ends-in-Ends-clause-finds g c =
     rw c.in-Ends.is (found _ _ _ _ _ c.only_count-in-Ends.result _ COUNT_ENDS.now (λ more. (texts more).ends_is.2) c.in_ok-ends-in-Ends.ensures.lent.leaves
     (λ clean. rw (c.params-to_sql-in-Ends.ensures, c.params-to_sql-in-Ends-2.ensures, c.count-count.ensures.value) at (c.in_ok-ends-in-Ends.ensures.shown clean))
-    (λ h st shown. found_is c.only_count-in-Ends.result _ _ _ (c.only_count-in-Ends.ensures.read _ (c.deref-in-Ends.ensures.value ∙ ends_shown c.args.book c.args.day _ _ h _ st shown)) (λ bad. absurd (bad tt))))
+    (λ h st shown. found_is c.only_count-in-Ends.result _ _ _
+    (c.only_count-in-Ends.ensures.read _ (c.deref-in-Ends.ensures.value ∙ ends_shown c.args.book c.args.day _ _ h _ st shown)) (λ bad. absurd (bad tt))))
