@@ -1,5 +1,7 @@
 """The program as a process: a service, answers to a stream of requests, a check, a migration, and how each ends."""
+import contextlib
 import json
+import os
 import socket
 import subprocess
 
@@ -42,6 +44,16 @@ class Server:
 
     def session(self):
         return Session(self.port)
+
+
+@contextlib.contextmanager
+def a_book_of(room):
+    """A service of a new store in the room, and a client that has made a book: the store's path, the two of them."""
+    path = os.path.join(room, "books")
+    with Server(path) as server:
+        client = server.session()
+        client.open_book()
+        yield path, server, client
 
 
 def check(path):

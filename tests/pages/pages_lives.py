@@ -48,12 +48,17 @@ def the_life_of_a_pledge():
         broker_answers(pages, visit, receipt)
 
 
-def broker_answers(pages, visit, receipt):
-    """The broker confirms the visit, records ten pounds, extends the period and puts the pledge on hold."""
+def show_day(pages, day):
+    """The broker looks at the sheet of a day."""
     open_book(pages)
     browser.says("Coming", "#sheet")
-    browser.fill("#sheet-day", day=str(visit))
+    browser.fill("#sheet-day", day=str(day))
     browser.press("#sheet-day button", "Show")
+
+
+def broker_answers(pages, visit, receipt):
+    """The broker confirms the visit, records ten pounds, extends the period and puts the pledge on hold."""
+    show_day(pages, visit)
     browser.says("10:30 to 11:00", "#sheet")
     browser.shoot("broker-day")
     browser.press("#sheet a", "Pledge 1")
@@ -81,10 +86,7 @@ def hold_is_released(pages, visit, receipt):
     show_receipt(pages, receipt)
     browser.says("On hold: it can’t be redeemed", "#cards")
     browser.shoot("pawn-held")
-    open_book(pages)
-    browser.says("Coming", "#sheet")
-    browser.fill("#sheet-day", day=str(visit))
-    browser.press("#sheet-day button", "Show")
+    show_day(pages, visit)
     browser.says("1 of 2", "#sheet")
     browser.shoot("broker-coming")
     find("1")

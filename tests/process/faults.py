@@ -8,7 +8,7 @@ import tempfile
 from tests.library.checks import expect, main
 from tests.library.keys import OPERATOR, SEED
 from tests.library.paths import PROGRAM, TOP
-from tests.library.program import Server, a_sound_check, check, fault, free_port, how_it_ends
+from tests.library.program import a_book_of, a_sound_check, check, fault, free_port, how_it_ends
 from tests.library.requests import request
 from tests.library.stores import database_of, expect_files_stay, file_of, files_and_log, files_of_other_programs
 from tests.library.tables import counted, opened
@@ -175,10 +175,7 @@ def files_that_are_no_store_of_ours_are_refused_and_stay():
 
 def a_file_that_another_program_has_open_is_refused():
     with tempfile.TemporaryDirectory() as room:
-        path = os.path.join(room, "books")
-        with Server(path) as server:
-            client = server.session()
-            client.open_book()
+        with a_book_of(room) as (path, _, client):
             for number in (1, 2):
                 receipt = client.open_pledge(number)
                 client.close()

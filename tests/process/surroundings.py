@@ -173,11 +173,7 @@ def output_that_nobody_reads():
         time.sleep(0.5)
         with socket.create_connection(("127.0.0.1", port), timeout=10) as peer:
             peer.sendall(LAST)
-            peer.settimeout(0.5)
-            try:
-                raise Failed(f"it answers while its first line waits: {peer.recv(100)!r}")
-            except TimeoutError:
-                pass
+            says_nothing(peer, "its first line waits")
             os.read(out, 8192)
             peer.settimeout(10)
             expect("once it was read", read_all(peer), NONE)
@@ -237,6 +233,15 @@ def signals_that_it_does_not_mind():
             is_answered(server, f"after {number.name}")
 
 
+def says_nothing(peer, why):
+    """Nothing comes from a peer within half a second."""
+    peer.settimeout(0.5)
+    try:
+        raise Failed(f"it answers while {why}: {peer.recv(100)!r}")
+    except TimeoutError:
+        pass
+
+
 def stands_still(program):
     """Waits until the system has stopped a process."""
     for _ in range(500):
@@ -258,11 +263,7 @@ def a_service_that_is_stopped_goes_on():
             with server.connect() as first, server.connect() as second:
                 first.sendall(LAST)
                 second.sendall(LAST)
-                first.settimeout(0.5)
-                try:
-                    raise Failed(f"it answers while it stands still: {first.recv(100)!r}")
-                except TimeoutError:
-                    pass
+                says_nothing(first, "it stands still")
                 server.program.send_signal(signal.SIGCONT)
                 first.settimeout(30)
                 expect("the first", read_all(first), NONE)

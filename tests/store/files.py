@@ -7,7 +7,7 @@ import tempfile
 
 from tests.library.checks import expect, main
 from tests.library.keys import BROKER, OPERATOR
-from tests.library.program import Server, a_sound_check, answer, check
+from tests.library.program import Server, a_book_of, a_sound_check, answer, check
 from tests.library.requests import held_request, keyed_request, opening_body, request, statement_request
 from tests.library.stores import bent_by, table_remade
 from tests.library.tables import counted, opened, rows_by_python, the_shell_agrees
@@ -74,10 +74,7 @@ def a_closed_file_is_whole_without_its_log():
 
 def a_killed_service_leaves_its_books_in_file_and_log():
     with tempfile.TemporaryDirectory() as room:
-        path = os.path.join(room, "books")
-        with Server(path) as server:
-            client = server.session()
-            client.open_book()
+        with a_book_of(room) as (path, _, client):
             receipts = [client.open_pledge(number) for number in (1, 2, 3)]
             seen = [client.bearer(receipt, "GET", "/books/7/held") for receipt in receipts]
             client.close()

@@ -83,9 +83,13 @@ def a_start_copies_the_log_in():
                 file, log = lengths(path)
                 expect("the file holds all", (file > 4096, log < 4096), (True, True))
                 expect("it serves", server.session().broker("GET", "/books/7/export"), (200, texts[-1]))
-            if os.path.exists(path + "-wal"):
-                os.remove(path + "-wal")
-            expect("what is served without the log", served(path), texts[-1])
+            is_whole_without_its_log(path, texts[-1])
+
+
+def is_whole_without_its_log(path, text):
+    if os.path.exists(path + "-wal"):
+        os.remove(path + "-wal")
+    expect("what is served without the log", served(path), text)
 
 
 def an_orderly_end_copies_the_log_in():
@@ -94,8 +98,7 @@ def an_orderly_end_copies_the_log_in():
         texts = killed(path, 5)
         check(path)
         expect("the log after a check", lengths(path)[1] < 64, True)
-        os.remove(path + "-wal")
-        expect("what is served without the log", served(path), texts[-1])
+        is_whole_without_its_log(path, texts[-1])
 
 
 def a_log_that_was_taken_away():

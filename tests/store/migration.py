@@ -16,7 +16,7 @@ from tests.library.older_stores import (
     BACK_TO_FIRST, BACK_TO_SECOND, WITHOUT_INDEXES, a_sound_migration, migrate, older_copy,
 )
 from tests.library.paths import PROGRAM
-from tests.library.program import Server, a_sound_check, answer, check, fault, how_it_ends
+from tests.library.program import a_book_of, a_sound_check, answer, check, fault, how_it_ends
 from tests.library.requests import held_request, keyed_request, opening_body, request, statement_request
 from tests.library.stores import bent_by, database_of, expect_files_stay, file_of, files_of_other_programs
 from tests.library.tables import copied, opened, rows_by_python
@@ -336,10 +336,7 @@ def where_there_is_no_file_none_is_made():
 
 def a_store_that_is_open_is_refused():
     with tempfile.TemporaryDirectory() as room:
-        path = os.path.join(room, "books")
-        with Server(path) as server:
-            client = server.session()
-            client.open_book()
+        with a_book_of(room) as (path, _, client):
             client.close()
             expect("a migration", how_it_ends("migrate", path), fault(514, "Store"))
 

@@ -33,13 +33,16 @@ def bearing(*receipts):
     return [["Pledge-Receipt", it] for it in receipts]
 
 
-RING_SHOWN = """\
+RING_LINES = """\
 Pledge 1
 Article Gold ring
 Kind fixed 100.00
 Taken 2024-01-31
 Ends 2024-07-31
 Status inside
+"""
+
+RING_SHOWN = RING_LINES + """\
 Principal 100.00
 Charges 2.76
 Owing 102.76
@@ -71,15 +74,7 @@ Asked 0
 Ends 0
 """
 
-LOST_SHOWN = """\
-Unknown receipt
-
-Pledge 1
-Article Gold ring
-Kind fixed 100.00
-Taken 2024-01-31
-Ends 2024-07-31
-Status inside
+LOST_SHOWN = "Unknown receipt\n\n" + RING_LINES + """\
 Principal 92.76
 Charges 2.58
 Owing 95.34
