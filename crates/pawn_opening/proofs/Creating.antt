@@ -92,7 +92,8 @@ FitsIn schema table tree =
     (db : Trees) (listed : Listed) → AllByRecursion (λ (t : Table). Holds db t.tree t (listed t.tree)) schema.tables → Holds db tree (record table { tree = tree }) []
     → AllByRecursion (λ (t : Table). Holds db t.tree t (with_rows listed tree [] t.tree)) (created schema table).tables
 
-adds_table : {E : Type 0} (schema : Schema) (text : List ℕ) (table : Table) → IsCreation schema text table → FitsIn schema table (next_tree schema) → (old new : State) (r : Result (Unit {0}) E) → Ran text old new r → AddsTable old new r schema (created schema table) (next_tree schema)
+adds_table : {E : Type 0} (schema : Schema) (text : List ℕ) (table : Table) → IsCreation schema text table → FitsIn schema table (next_tree schema) → (old new : State) (r : Result (Unit {0}) E)
+    → Ran text old new r → AddsTable old new r schema (created schema table) (next_tree schema)
 adds_table schema text table m fits old new (Ok done) ran clean within listed st =
     let it = ran clean within in
     let a = adds schema text table m old new it.0 listed st it.1 in
@@ -100,7 +101,11 @@ adds_table schema text table m fits old new (Ok done) ran clean within listed st
 adds_table schema text table m fits old new (Err e) ran clean within listed st = tt
 
 pub adds_totals : {E : Type 0} (old new : State) (r : Result (Unit {0}) E) → Ran MAKE_TOTALS.now old new r → AddsTable old new r first_schema second_schema 15
-adds_totals = adds_table first_schema MAKE_TOTALS.now totals totals_is (λ db listed others empty. all-append (λ (t : Table). Holds db t.tree t (with_rows listed totals_tree [] t.tree)) first_schema.tables (record totals { tree = totals_tree } ∷ []) others (empty, tt))
+adds_totals =
+    adds_table first_schema MAKE_TOTALS.now totals totals_is (λ db listed others empty. all-append
+    (λ (t : Table). Holds db t.tree t (with_rows listed totals_tree [] t.tree)) first_schema.tables (record totals { tree = totals_tree } ∷ []) others (empty, tt))
 
 pub adds_extensions : {E : Type 0} (old new : State) (r : Result (Unit {0}) E) → Ran MAKE_EXTENSIONS.now old new r → AddsTable old new r second_schema keep_schema 17
-adds_extensions = adds_table second_schema MAKE_EXTENSIONS.now extensions extensions_is (λ db listed others empty. all-append (λ (t : Table). Holds db t.tree t (with_rows listed extensions_tree [] t.tree)) second_schema.tables (record extensions { tree = extensions_tree } ∷ []) others (empty, tt))
+adds_extensions =
+    adds_table second_schema MAKE_EXTENSIONS.now extensions extensions_is (λ db listed others empty. all-append
+    (λ (t : Table). Holds db t.tree t (with_rows listed extensions_tree [] t.tree)) second_schema.tables (record extensions { tree = extensions_tree } ∷ []) others (empty, tt))

@@ -15,7 +15,8 @@ returns-then-is_none-clause-judges g c =
     let R : Host → Option Totals → Type 0 = λ h totals. AreTotalsAt h c.args.book (c.loop-place.place + 1) totals in
     let none : is_some c.in_ok-totals.totals ≡ false = search rules in
     walk_ends (AreOwedTo c.args.book c.loop-place.place) _ _ _ c.loop-place.invariant.1 (IsUnsoundAt c.args.book) (IsUnsoundAt c.args.book) c.in_ok-totals.totals R (λ h. AreOwedIn h c.args.book)
-    (λ h so_far are. all_judged c.args.book c.loop-place.place (c.loop-place.place + 1) refl h so_far (rw none at (judged_at h c.args.book (c.loop-place.place + 1) c.in_ok-totals.totals are))) c.in_ok-totals.ensures.lent.leaves c.in_ok-totals.ensures.finds
+    (λ h so_far are. all_judged c.args.book c.loop-place.place (c.loop-place.place + 1) refl h so_far
+    (rw none at (judged_at h c.args.book (c.loop-place.place + 1) c.in_ok-totals.totals are))) c.in_ok-totals.ensures.lent.leaves c.in_ok-totals.ensures.finds
 
 pub loop-place-preserved : goal.loop-place-preserved
 loop-place-preserved g c =
@@ -23,5 +24,6 @@ loop-place-preserved g c =
     let some : is_some c.in_ok-totals.totals ≡ true = search rules in (
       c.totals_for.ensures.lent.same_reference ∙ c.loop-place.invariant.0,
       walk_on (AreOwedTo c.args.book c.loop-place.place) _ _ _ c.loop-place.invariant.1 (IsUnsoundAt c.args.book) c.in_ok-totals.totals R (AreOwedTo c.args.book (c.loop-place.place + 1))
-          (λ h so_far are. one_judged c.args.book c.loop-place.place (c.loop-place.place + 1) refl h so_far (rw some at (judged_at h c.args.book (c.loop-place.place + 1) c.in_ok-totals.totals are))) c.in_ok-totals.ensures.lent.leaves c.in_ok-totals.ensures.finds,
+          (λ h so_far are. one_judged c.args.book c.loop-place.place (c.loop-place.place + 1) refl h so_far
+          (rw some at (judged_at h c.args.book (c.loop-place.place + 1) c.in_ok-totals.totals are))) c.in_ok-totals.ensures.lent.leaves c.in_ok-totals.ensures.finds,
     )

@@ -3,12 +3,14 @@ use Rattle.pawn_move.proofs.judging.judge_next.Goals as goal
 
 pub returns-clause-judges : goal.returns-clause-judges
 returns-clause-judges g c =
-    next_judged _ _ _ c.args.above c.in-Some.book c.in_ok-book.ensures.lent.leaves c.in_ok-judge_book.ensures.carried.leaves (rw c.in-Some.is at c.in_ok-book.ensures.told) (rw c.get.ensures.value at c.in_ok-judge_book.ensures.judges)
+    next_judged _ _ _ c.args.above c.in-Some.book c.in_ok-book.ensures.lent.leaves c.in_ok-judge_book.ensures.carried.leaves
+    (rw c.in-Some.is at c.in_ok-book.ensures.told) (rw c.get.ensures.value at c.in_ok-judge_book.ensures.judges)
 
 pub returns-in_err-judge_book-clause-judges : goal.returns-in_err-judge_book-clause-judges
 returns-in_err-judge_book-clause-judges g c =
     let failed : c.from_residual-in_err-judge_book.result ≡ Err c.in_err-judge_book.field-0.0 = search rules in
-    rw failed (next_not_judged _ _ _ c.args.above c.in-Some.book false c.in_err-judge_book.field-0.0 c.in_ok-book.ensures.lent.leaves c.in_err-judge_book.ensures.carried.leaves (rw c.in-Some.is at c.in_ok-book.ensures.told) (rw c.get.ensures.value at c.in_err-judge_book.ensures.judges))
+    rw failed (next_not_judged _ _ _ c.args.above c.in-Some.book false c.in_err-judge_book.field-0.0 c.in_ok-book.ensures.lent.leaves
+    c.in_err-judge_book.ensures.carried.leaves (rw c.in-Some.is at c.in_ok-book.ensures.told) (rw c.get.ensures.value at c.in_err-judge_book.ensures.judges))
 
 pub returns-in_err-book-clause-judges : goal.returns-in_err-book-clause-judges
 returns-in_err-book-clause-judges g c =

@@ -11,16 +11,19 @@ second (inr two) not = two
 pub returns-in_err-put_books-clause-moves : goal.returns-in_err-put_books-clause-moves
 returns-in_err-put_books-clause-moves g c =
     let failed : c.from_residual-in_err-put_books.result ≡ Err c.in_err-put_books.field-0.0 = search rules in
-    rw (c.if-from-eq1.true, failed) (first_not_put _ _ _ c.in_ok-make_totals.ensures.lent.leaves c.in_ok-make_extensions.ensures.lent.leaves c.in_ok-make_totals.ensures.made c.in_ok-make_extensions.ensures.made _ c.in_err-put_books.field-0.0 c.in_err-put_books.ensures.carried.leaves c.in_err-put_books.ensures.puts)
+    rw (c.if-from-eq1.true, failed) (first_not_put _ _ _ c.in_ok-make_totals.ensures.lent.leaves c.in_ok-make_extensions.ensures.lent.leaves
+    c.in_ok-make_totals.ensures.made c.in_ok-make_extensions.ensures.made _ c.in_err-put_books.field-0.0 c.in_err-put_books.ensures.carried.leaves c.in_err-put_books.ensures.puts)
 
 pub returns-in_ok-put_books-clause-moves : goal.returns-in_ok-put_books-clause-moves
 returns-in_ok-put_books-clause-moves g c =
-    rw c.if-from-eq1.true (first_moved _ _ _ c.in_ok-make_totals.ensures.lent.leaves c.in_ok-make_extensions.ensures.lent.leaves c.in_ok-make_totals.ensures.made c.in_ok-make_extensions.ensures.made _ _ c.finish.result (is_ok c.finish.result)
+    rw c.if-from-eq1.true (first_moved _ _ _ c.in_ok-make_totals.ensures.lent.leaves c.in_ok-make_extensions.ensures.lent.leaves c.in_ok-make_totals.ensures.made
+    c.in_ok-make_extensions.ensures.made _ _ c.finish.result (is_ok c.finish.result)
     c.in_ok-put_books.ensures.carried.leaves c.finish.ensures.lent.leaves c.in_ok-put_books.ensures.puts c.finish.ensures.no_row c.finish.ensures.noted)
 
 pub returns-in_ok-put_books-clause-judges : goal.returns-in_ok-put_books-clause-judges
 returns-in_ok-put_books-clause-judges g c =
-    rw c.if-from-eq1.true (first_owed _ _ _ c.in_ok-make_totals.ensures.lent.leaves c.in_ok-make_extensions.ensures.lent.leaves c.in_ok-make_totals.ensures.made c.in_ok-make_extensions.ensures.made _ _ c.finish.result (is_ok c.finish.result)
+    rw c.if-from-eq1.true (first_owed _ _ _ c.in_ok-make_totals.ensures.lent.leaves c.in_ok-make_extensions.ensures.lent.leaves c.in_ok-make_totals.ensures.made
+    c.in_ok-make_extensions.ensures.made _ _ c.finish.result (is_ok c.finish.result)
     c.in_ok-put_books.ensures.carried.leaves c.finish.ensures.lent.leaves c.in_ok-put_books.ensures.puts)
 
 -- ---- from the second
@@ -28,14 +31,18 @@ returns-in_ok-put_books-clause-judges g c =
 pub returns-in_err-judge_books-clause-moves : goal.returns-in_err-judge_books-clause-moves
 returns-in_err-judge_books-clause-moves g c =
     let failed : c.from_residual-in_err-judge_books.result ≡ Err c.in_err-judge_books.field-0.0 = search rules in
-    rw (second c.requires.older c.if-from-eq1.false, failed) (second_not_judged _ _ c.in_ok-make_extensions-2.ensures.lent.leaves c.in_ok-make_extensions-2.ensures.made _ c.in_err-judge_books.field-0.0 (λ h done. get h.books 0 ≡ None → AreAllOwed h) c.in_err-judge_books.ensures.carried.leaves c.in_err-judge_books.ensures.judges)
+    rw (second c.requires.older c.if-from-eq1.false, failed) (second_not_judged _ _ c.in_ok-make_extensions-2.ensures.lent.leaves
+    c.in_ok-make_extensions-2.ensures.made _ c.in_err-judge_books.field-0.0 (λ h done. get h.books 0 ≡ None → AreAllOwed h)
+    c.in_err-judge_books.ensures.carried.leaves c.in_err-judge_books.ensures.judges)
 
 pub returns-in_ok-judge_books-clause-moves : goal.returns-in_ok-judge_books-clause-moves
 returns-in_ok-judge_books-clause-moves g c =
-    rw (second c.requires.older c.if-from-eq1.false) (second_moved _ _ c.in_ok-make_extensions-2.ensures.lent.leaves c.in_ok-make_extensions-2.ensures.made _ _ (is_ok c.finish-else-from-eq1.result) c.finish-else-from-eq1.result
+    rw (second c.requires.older c.if-from-eq1.false) (second_moved _ _ c.in_ok-make_extensions-2.ensures.lent.leaves c.in_ok-make_extensions-2.ensures.made _ _
+    (is_ok c.finish-else-from-eq1.result) c.finish-else-from-eq1.result
     c.in_ok-judge_books.ensures.carried.leaves c.finish-else-from-eq1.ensures.lent.leaves c.in_ok-judge_books.ensures.judges c.finish-else-from-eq1.ensures.no_row c.finish-else-from-eq1.ensures.noted)
 
 pub returns-in_ok-judge_books-clause-judges : goal.returns-in_ok-judge_books-clause-judges
 returns-in_ok-judge_books-clause-judges g c =
-    rw (second c.requires.older c.if-from-eq1.false) (second_owed _ _ c.in_ok-make_extensions-2.ensures.lent.leaves c.in_ok-make_extensions-2.ensures.made _ _ (is_ok c.finish-else-from-eq1.result) c.finish-else-from-eq1.result
+    rw (second c.requires.older c.if-from-eq1.false) (second_owed _ _ c.in_ok-make_extensions-2.ensures.lent.leaves c.in_ok-make_extensions-2.ensures.made _ _
+    (is_ok c.finish-else-from-eq1.result) c.finish-else-from-eq1.result
     c.in_ok-judge_books.ensures.carried.leaves c.finish-else-from-eq1.ensures.lent.leaves c.in_ok-judge_books.ensures.judges)
