@@ -19,9 +19,8 @@ pub use Rattle.pawn_base.specs.Lists.{DoNotFall, Each, last_by}
 pub use Rattle.pawn_terms.specs.Calendar.{IsStampDay, day_text}
 unfoldable pub use Rattle.pawn_terms.specs.Calendar.{civil_after, days_of_months, days_of_years}
 pub use Rattle.pawn_terms.specs.declared.terms.Rates.{Rates}
-pub use Rattle.pawn_debt.specs.Due.{AreOrdered, DebtValue, Due, credit_of, due, keep_on, last_of}
-unfoldable pub use Rattle.pawn_debt.specs.Due.{after_days}
-pub use Rattle.pawn_debt.specs.Limits.{most_a_day, most_entries, most_pence}
+pub use Rattle.pawn_debt.specs.Due.{AreOrdered, DebtValue, Due, credit_of, due, last_of}
+pub use Rattle.pawn_debt.specs.Limits.{most_entries, most_pence}
 pub use Rattle.pawn_debt.specs.Words.{sort_text}
 pub use Rattle.pawn_debt.specs.declared.entry.Entry.{Entry}
 pub use Rattle.pawn_debt.specs.declared.entry.Kind.{Kind}

@@ -1,12 +1,12 @@
 -- What these proofs use from elsewhere: the standard words and lemmas, those of the crates below, and this crate's specs.
-pub use Rattle.std.proofs.Common.{Bool, Err, IfOk, IsPermutation, IsTrue, List, None, Ok, OnOk, Option, Result, Some, T, [], ap, append-nil, append_assoc, ap₂, arith, codes, cond, drop, false, filter, flat_map, get_or, if◌then◌else◌, inl, inr, int_cmp, is_lt, is_ok, is_some, length, length-append, length-take-le, map, nat_lt, not, option_map, pos, refl, rules, slice_get, subst, suc, sum_by, sym, take, take_all, true, zero, ℕ, ℤ, ◌&&◌, ◌++◌, ◌+◌, ◌-◌, ◌/◌, ◌<◌, ◌==◌, ◌^◌, ◌||◌, ◌↔◌, ◌∙◌, ◌∷◌, ◌≡◌, ◌≢◌, ◌≤◌, ◌⊎◌}
+pub use Rattle.std.proofs.Common.{Bool, Err, IfOk, IsPermutation, IsTrue, List, None, Ok, OnOk, Option, Result, Some, T, [], ap, append-nil, append_assoc, ap₂, arith, codes, cond, drop, false, filter, flat_map, get_or, if◌then◌else◌, inl, inr, int_cmp, is_lt, is_some, length, length-append, length-take-le, map, nat_lt, not, option_map, pos, refl, rules, slice_get, subst, suc, sum_by, sym, take, take_all, true, zero, ℕ, ℤ, ◌&&◌, ◌++◌, ◌+◌, ◌/◌, ◌<◌, ◌==◌, ◌^◌, ◌||◌, ◌↔◌, ◌∙◌, ◌∷◌, ◌≡◌, ◌≢◌, ◌≤◌, ◌⊎◌}
 pub use Rattle.std.proofs.lemmas.Bool.{and_left, and_right, cond-false, cond-true}
 pub use Rattle.std.proofs.lemmas.List.{map-append, nil_from_length, take_more}
 pub use Rattle.std.proofs.lemmas.List.Sorted.{IsPermutation-append, IsPermutation-append_comm, IsPermutation-cons, IsPermutation-refl}
 pub use Rattle.std.proofs.lemmas.List.Sums.{sum_by-cons, sum_by_push}
 pub use Rattle.one_table.proofs.Alteration.{set_one, updated_part}
 pub use Rattle.one_table.proofs.Insertion.{IsPlace, inserted, same_value, went}
-pub use Rattle.one_table.proofs.Lent.{clean_before, lent_then, rests_then}
+pub use Rattle.one_table.proofs.Lent.{clean_before, lent_then}
 pub use Rattle.one_table.proofs.OneTable.{shows_of}
 pub use Rattle.one_table.proofs.Parts.{committed_rests, inside_after_row, kept_by_row, kept_then, on_ok, open_by_row, plain_rests, rests_open}
 pub use Rattle.one_table.proofs.Rowed.{at_place, carried, cast_int, cast_null, cast_whole, plainly, same_tree, swapped}

@@ -1,5 +1,5 @@
 -- What the proofs of reads use: words of rows and hosts, and lemmas on what a query shows.
-pub use Rattle.pawn_tables.proofs.Basics.{Err, Ok, Some, ap, arith, length, map, refl, rules, subst, sym, ℕ, ◌+◌, ◌∙◌, ◌≡◌, List, Option, state, Host, IfSome, IsNextBook, IsWord, entries_of, extensions_of, get, option_map, pledge_in, pledges_of, secrets_of, terms_of, AreListEnds, AreLists, AreSides, AreTold, IsBriefTold, LastSecret, NamesWindows, asked_line, booking_of, confirmed_line, ends_line, last_issued, line_cells, row_of, totals_in, StoredPledge}
+pub use Rattle.pawn_tables.proofs.Basics.{Err, Ok, Some, ap, arith, length, map, refl, rules, subst, sym, ℕ, ◌+◌, ◌∙◌, ◌≡◌, state, IsNextBook, IsWord, entries_of, extensions_of, get, option_map, pledge_in, pledges_of, secrets_of, AreListEnds, AreLists, AreTold, IsBriefTold, NamesWindows, asked_line, confirmed_line, ends_line, line_cells}
 pub use Rattle.pawn_tables.proofs.BookReads.{head_shown, is_next, next_shown, rows_shown}
 pub use Rattle.pawn_tables.proofs.Joins.{joined_told, lists_told, none_under, row_is, sides_told, told_is, told_of, version_fits}
 pub use Rattle.pawn_tables.proofs.Lent.{debts_of, first_unfound, next_found, next_unfound, one_found}

@@ -9,7 +9,6 @@ pub use Rattle.pawn_book.proofs.Reading.{reads_none}
 pub use Rattle.std.specs.FinMap.{get}
 pub use Rattle.pawn_pledge.specs.Brief.{brief_of}
 pub use Rattle.pawn_book.specs.BookStep.{pledge_in}
-pub use Rattle.pawn_book.specs.HostStep.{Host}
 pub use Rattle.pawn_book.specs.Keeping.{Keeping}
 pub use Rattle.pawn_writing.specs.Common.{Appends, BriefFields, End, Flow, Front, Go, Handed, IsShare, PledgeValue, Reads, Stop, Whole, entries_of, extensions_of, flat_map}
 pub use Rattle.pawn_writing.specs.Ends.{PutFront, Puts, PutsLine, PutsShare, Share, Written, end_by, is_write_failure, write_failed, written_bytes}

@@ -1,5 +1,5 @@
 -- A list that has nothing is not asked for.
-use Rattle.pawn_writing.proofs.Basics.{◌≡◌, ◌∙◌, ℕ, List, [], Option, Some, length, refl, ap, sym, nil_from_length, reads_none, BriefFields, Go, Host, IsShare, Keeping, PledgeValue, Reads, Whole, brief_of, get, pledge_in}
+use Rattle.pawn_writing.proofs.Basics.{◌≡◌, ◌∙◌, ℕ, List, [], Option, Some, length, refl, ap, sym, nil_from_length, reads_none, BriefFields, Go, IsShare, Keeping, PledgeValue, Reads, Whole, brief_of, get, pledge_in}
 
 -- nothing of a list of the pledge that has nothing is all of it
 nothing_shared : {T : Type 0} (list : Option PledgeValue → List T) {o : Option PledgeValue} {p : PledgeValue} → o ≡ Some p → length (list (Some p)) ≡ 0 → IsShare [] Go Whole (list o)

@@ -7,8 +7,14 @@ returns-in_ok-rows-in-Confirmed-clause-finds g c =
     let window = c.in-Confirmed.window in
     rw c.in-Confirmed.is (found _ _ _ _ _ c.read_lines.result _ READ_CONFIRMED_PAGE.now (λ more. (texts more).confirmed_page_is.2) c.in_ok-rows-in-Confirmed.ensures.lent.leaves
     (λ clean. let slot : c.in-Ok.slot ≡ c.in-Confirmed.window = search rules in
-    rw (c.params-to_sql.ensures, c.params-to_sql-in-Confirmed.ensures, c.params-to_sql-in-Confirmed-2.ensures,
-    c.params-to_sql-in-Confirmed-3.ensures, c.count-day.ensures.value, slot) at (c.in_ok-rows-in-Confirmed.ensures.shown clean))
+    rw (
+      c.params-to_sql.ensures,
+      c.params-to_sql-in-Confirmed.ensures,
+      c.params-to_sql-in-Confirmed-2.ensures,
+      c.params-to_sql-in-Confirmed-3.ensures,
+      c.count-day.ensures.value,
+      slot,
+    ) at (c.in_ok-rows-in-Confirmed.ensures.shown clean))
     (λ h st shown. lines_found (part_of.Confirmed window) c.args.day (confirmed_told c.args.day window) (confirmed_line window) (confirmed_says c.args.day window) (confirmed_numbers c.args.day window)
     h c.args.book c.args.above st.ordered (λ n. refl) c.read_lines.result
     (λ lines are each. c.read_lines.ensures.read lines each
