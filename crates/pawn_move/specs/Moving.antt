@@ -1,9 +1,6 @@
 -- Tables on their way from an older schema.
 use Rattle.std.specs.Prelude.{◌≡◌, ◌++◌, ℕ, Bool, [], List, OnOk, Option, Some, None, IfSome, IsTrue, Result, flat_map, is_some}
-use Rattle.pawn_move.specs.Common.{get, Tables, Row, HasCleanDisk, State, Totals, PledgeValue, debt_of, Each, BookValue, pledge_in, Host, IsNextBook, pledges_of, HasUnsoundBook, IsCarried, KeepError, Listed, with_rows, Finds, ListsOurs, totals_in, totals_listed, extensions_tree, totals_tree, AreBooksOrdered, AreStorable, ListDebts, StandsFor, of_pledges}
-use Rattle.std.specs.Borrow.{MutBor}
-use Rattle.sqlite.specs.Held.{Held, state}
-use Rattle.sqlite_trees.specs.declared.store.Store.{Ghosts}
+use Rattle.pawn_move.specs.Common.{get, Tables, Row, HasCleanDisk, State, Totals, PledgeValue, debt_of, Each, BookValue, pledge_in, Host, IsNextBook, pledges_of, HasUnsoundBook, KeepError, Listed, with_rows, Finds, ListsOurs, totals_in, totals_listed, extensions_tree, totals_tree, AreBooksOrdered, AreStorable, ListDebts, StandsFor, of_pledges}
 use Rattle.pawn_terms.specs.Terms.{IsChecked}
 use Rattle.pawn_debt.specs.Replay.{CanStand}
 use Rattle.pawn_move.specs.StandsUnder.{HasNoExtension, StandsUnder, listed_under}
@@ -50,11 +47,6 @@ IsJudgedAt h b n stands = (stands ≡ is_some (pledge_in (get h.books b) n)) × 
 -- this is the next book above a number, if there is one; then its debts can have come about
 abbrev pub IsNextJudged : Host → ℕ → Option ℕ → Type 0
 IsNextJudged h above next = IsNextBook h above next × IfSome next (AreOwedIn h)
-
--- what any number of statements, even none, leave of a transaction that they were lent: the same reference, and this
-pub record Carries {S : Type 0} (g : Ghosts S) (old new : MutBor (Held S)) (ok : Bool) : Type 0 where
-  pub same_reference : new.ghost_name ≡ old.ghost_name
-  pub leaves : IsCarried (state g old.now) (state g new.now) ok
 
 -- ---- totals that are inserted
 

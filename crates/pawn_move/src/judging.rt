@@ -1,6 +1,6 @@
 ghost use Rattle.std.specs.Prelude.{◌≡◌, None, is_ok};
-ghost use Rattle.pawn_move.specs.Common.{get, state, HasUnsoundBook, IsUnsoundAt, Lends, FindsOf};
-ghost use Rattle.pawn_move.specs.Moving.{AreAllOwed, AreOwedIn, Carries, IsNextJudged, ListFirstDebts};
+ghost use Rattle.pawn_move.specs.Common.{get, state, HasUnsoundBook, IsUnsoundAt, Lends, FindsOf, Carries};
+ghost use Rattle.pawn_move.specs.Moving.{AreAllOwed, AreOwedIn, IsNextJudged, ListFirstDebts};
 
 use crate::debts::totals_for;
 use crate::filling::BEYOND;

@@ -13,5 +13,5 @@ pub use Rattle.sqlite.specs.declared.error.Error.TheVariants.{SqliteFailure}
 pub use Rattle.sqlite.specs.declared.error.ErrorCode.TheVariants.{Closed}
 pub use Rattle.pawn_table_keeper.specs.Common.{BookValue, Database, Errs, Flow, Front, Go, Handed, HandsOver, HasCause, HasCleanDisk, Held, Host, IsLinesPage, IsNoStatement, IsRolledBack, IsShare, IsSoundAt, IsUnchanged, IsUnsoundAt, IsWhole, KeepError, Keeping, Keeps, KeepsCommit, NamesWindows, NoRecord, Part, PledgeValue, Reads, SheetItem, StandsFor, State, Stop, Survives, Visits, Whole, call_end, cons_option, day_sheet, entries_of, extensions_of, filter_map, flat_map, get, item_of, items_past, keeping_by, list_any, most_page_rows, page_behind, page_end, part_head, part_item, part_items, pledge_in, pledges_of, secrets_of, state, store_error, window_items, window_sheet, windows, windows_below, windows_sheet, with_head}
 unfoldable pub use Rattle.pawn_table_keeper.specs.Common.{IsNotRun}
-pub use Rattle.pawn_table_keeper.specs.Handing.{HandsRows, Tells, flow_of, keeping_of}
+pub use Rattle.pawn_table_keeper.specs.Handing.{HandsRows, ReadsOfBook, flow_of, keeping_of}
 pub use Rattle.pawn_table_keeper.specs.Windows.{named_sheet, named_sheets}

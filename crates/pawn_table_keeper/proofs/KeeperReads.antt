@@ -1,5 +1,5 @@
 -- A read of a keeper: a transaction that is lent, and rolled back.
-use Rattle.pawn_table_keeper.proofs.Basics.{◌≡◌, ◌⊎◌, inl, inr, true, false, Result, Ok, Err, IsTrue, refl, sym, subst, ◌∙◌, arith, IfOk, is_ok, Held, state, HasCleanDisk, IsRolledBack, KeepsCommit, State, Survives, Host, Errs, Reads, KeepError, NoRecord, IsWhole, Keeps, keeping_by, keeping_of, StandsFor, Tells, IsUnsoundAt, ℕ}
+use Rattle.pawn_table_keeper.proofs.Basics.{◌≡◌, ◌⊎◌, inl, inr, true, false, Result, Ok, Err, IsTrue, refl, sym, subst, ◌∙◌, arith, IfOk, is_ok, Held, state, HasCleanDisk, IsRolledBack, KeepsCommit, State, Survives, Host, Errs, Reads, KeepError, NoRecord, IsWhole, Keeps, keeping_by, keeping_of, StandsFor, ReadsOfBook, IsUnsoundAt, ℕ}
 use Rattle.std.specs.Borrow.{MutBor}
 use Rattle.sqlite_trees.specs.declared.store.Store.{Ghosts}
 use Rattle.pawn_table_keeper.specs.declared.keeper.TableKeep.{TableKeep}
@@ -102,5 +102,5 @@ read_in {S} g conn old new {tx} {lent} {IsUnsound} P r ended settled begun lends
 
 -- .. of one book
 pub told : {S A : Type 0} {g : Ghosts S} {old new : TableKeep S g} {book : ℕ} {r : Result A KeepError} {P : Host → A → Type 0}
-    → record { reads : Reads (keeping_of g) old new (λ h. IfOk r (P h)); errs : Errs (keeping_of g) old new (IsUnsoundAt book) r } → record { tells : Tells g old new book r P }
+    → record { reads : Reads (keeping_of g) old new (λ h. IfOk r (P h)); errs : Errs (keeping_of g) old new (IsUnsoundAt book) r } → record { tells : ReadsOfBook g old new book r P }
 told it = record { tells = record { reads = it.reads; errs = it.errs } }

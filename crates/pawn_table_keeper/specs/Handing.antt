@@ -9,7 +9,7 @@ abbrev pub keeping_of : {S : Type 0} (g : Ghosts S) → Keeping (TableKeep S g)
 keeping_of g = keeping_by (λ k. state g k.conn)
 
 -- P holds of each host that the keeper stood for, and of what was read of this book; and why nothing was
-pub record Tells {S A : Type 0} (g : Ghosts S) (old new : TableKeep S g) (book : ℕ) (result : Result A KeepError) (P : Host → A → Type 0) : Type 0 where
+pub record ReadsOfBook {S A : Type 0} (g : Ghosts S) (old new : TableKeep S g) (book : ℕ) (result : Result A KeepError) (P : Host → A → Type 0) : Type 0 where
   pub reads : Reads (keeping_of g) old new (λ h. IfOk result (P h))
   pub errs : Errs (keeping_of g) old new (IsUnsoundAt book) result
 

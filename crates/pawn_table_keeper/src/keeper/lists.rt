@@ -2,7 +2,7 @@ ghost use Rattle.std.specs.Prelude.{◌≡◌, IfErr, IfOk};
 ghost use Rattle.pawn_table_keeper.specs.Common.{get, pledge_in, entries_of, extensions_of, secrets_of, Database, page_end, page_behind};
 ghost use Rattle.pawn_book.specs.declared.fault.KeepError.TheVariants as Keeper;
 ghost use Rattle.pawn_tables.specs.Entries.{IsEntriesPage, behind};
-ghost use Rattle.pawn_table_keeper.specs.Handing.{Hands, Tells};
+ghost use Rattle.pawn_table_keeper.specs.Handing.{Hands, ReadsOfBook};
 
 use super::handing::hand_all;
 use super::{BEYOND, TOO_MANY, TableKeep};
@@ -24,7 +24,7 @@ impl<S: Alter> TableKeep<S> {
         number: Number,
         from: u32,
     ) -> Result<Entries, KeepError>
-        ensures tells { Tells S.Store self.old self.new book result
+        ensures tells { ReadsOfBook S.Store self.old self.new book result
             (λ h page. IsEntriesPage from (entries_of (pledge_in (get h.books book) number)) page) }
     {
         know_settled(&self.conn);
@@ -67,7 +67,7 @@ impl<S: Alter> TableKeep<S> {
         number: Number,
         behind: u32,
     ) -> Result<Secrets, KeepError>
-        ensures tells { Tells S.Store self.old self.new book result
+        ensures tells { ReadsOfBook S.Store self.old self.new book result
             (λ h page. page ≡ page_behind behind (secrets_of (pledge_in (get h.books book) number))) }
     {
         know_settled(&self.conn);
@@ -107,7 +107,7 @@ impl<S: Alter> TableKeep<S> {
         number: Number,
         behind: u32,
     ) -> Result<Extensions, KeepError>
-        ensures tells { Tells S.Store self.old self.new book result
+        ensures tells { ReadsOfBook S.Store self.old self.new book result
             (λ h page. page ≡ page_behind behind (extensions_of (pledge_in (get h.books book) number))) }
     {
         know_settled(&self.conn);

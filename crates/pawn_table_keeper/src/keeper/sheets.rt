@@ -1,6 +1,6 @@
 ghost use Rattle.std.specs.Prelude.{◌≡◌, length};
 ghost use Rattle.pawn_table_keeper.specs.Common.{get, pledges_of, day_sheet, part_items, window_sheet, windows_sheet, with_head, IsLinesPage, NamesWindows, page_end};
-ghost use Rattle.pawn_table_keeper.specs.Handing.{Hands, Tells};
+ghost use Rattle.pawn_table_keeper.specs.Handing.{Hands, ReadsOfBook};
 ghost use Rattle.pawn_table_keeper.specs.Windows.{named_sheet, named_sheets};
 
 use super::handing::{hand_lines, hand_whole};
@@ -15,7 +15,7 @@ use sqlite::Alter;
 impl<S: Alter> TableKeep<S> {
     // How many items a part of a day's sheet has.
     fn count_part(&mut self, book: Number, day: Day, part: Part) -> Result<u64, KeepError>
-        ensures tells { Tells S.Store self.old self.new book result
+        ensures tells { ReadsOfBook S.Store self.old self.new book result
             (λ h count. count ≡ length (part_items part day (pledges_of (get h.books book)))) }
     {
         know_settled(&self.conn);
@@ -33,7 +33,7 @@ impl<S: Alter> TableKeep<S> {
         part: Part,
         above: u32,
     ) -> Result<Rows<Line>, KeepError>
-        ensures tells { Tells S.Store self.old self.new book result
+        ensures tells { ReadsOfBook S.Store self.old self.new book result
             (λ h page. IsLinesPage part day above (pledges_of (get h.books book)) page) }
     {
         know_settled(&self.conn);
@@ -132,7 +132,7 @@ impl<S: Alter> TableKeep<S> {
 
     // The windows in which somebody comes on a day.
     fn windows_on(&mut self, book: Number, day: Day) -> Result<Rows<u64>, KeepError>
-        ensures tells { Tells S.Store self.old self.new book result
+        ensures tells { ReadsOfBook S.Store self.old self.new book result
             (λ h windows. NamesWindows day (pledges_of (get h.books book)) windows) }
     {
         know_settled(&self.conn);
