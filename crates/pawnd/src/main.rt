@@ -60,12 +60,13 @@ fn unsaid(why: SettingsFault) -> Stop {
 
 // Answers the requests of standard input. This is `pawnd answer`.
 fn answer(rt: &HostRuntime, mut args: Args) -> Result<(), Stop> {
+    let mut next = || args.next();
     let (Some(database), Some(day), Some(seed), Some(key), None) = (
-        args.next(),
-        args.next(),
-        args.next(),
-        args.next(),
-        args.next(),
+        next(),
+        next(),
+        next(),
+        next(),
+        next(),
     ) else {
         return Err(Stop::Usage);
     };
@@ -75,12 +76,8 @@ fn answer(rt: &HostRuntime, mut args: Args) -> Result<(), Stop> {
 
 // Answers the requests of connections to a port of this machine, one connection after the other. This is `pawnd serve`.
 fn serve(rt: &HostRuntime, mut args: Args) -> Result<(), Stop> {
-    let (Some(database), Some(port), Some(key), None) = (
-        args.next(),
-        args.next(),
-        args.next(),
-        args.next(),
-    ) else {
+    let mut next = || args.next();
+    let (Some(database), Some(port), Some(key), None) = (next(), next(), next(), next()) else {
         return Err(Stop::Usage);
     };
     let settings = ServeSettings::read(rt, port.as_str(), key.as_str()).map_err(unsaid)?;

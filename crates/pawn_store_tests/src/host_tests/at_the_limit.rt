@@ -34,26 +34,47 @@ const REFUSED: &[u8] = b"HTTP/1.1 503 Service Unavailable\r\n";
 
 const FULL: &str = "{\"code\":490,\"name\":\"Full\"}";
 
+// What fills the service, and is asked once more when it is full.
+const BOOK: Line = Line {
+    by: OPERATOR,
+    target: "POST /books/7",
+    body: "{\"capacity\":1,\"key\":\"22222222-2222-2222-2222-222222222222\",\"name\":\"High Street\"}",
+    reply: "{\"book\":7}",
+};
+
+const TERMS: Line = Line {
+    by: BROKER,
+    target: "POST /books/7/terms",
+    body: "{\"keep_after\":0,\"keep_before\":0,\"rate\":0,\"version\":1}",
+    reply: "{\"version\":1}",
+};
+
+const RING: Line = Line {
+    by: BROKER,
+    target: "POST /books/7/pledges",
+    body: "{\"article\":\"Gold ring\",\"five_days\":false,\"kind\":\"fixed\",\"pence\":10000,\"ref\":\"A1\"}",
+    reply: "{\"number\":1,\"receipt\":\"1-00000000-0000-0000-0000-000000000002\"}",
+};
+
+const REPAYMENT: Line = Line {
+    by: BROKER,
+    target: "POST /books/7/pledges/1/repay",
+    body: "{\"pence\":100,\"seq\":1}",
+    reply: "{\"day\":\"2024-01-31\",\"pence\":100,\"seq\":1,\"sort\":\"repay\"}",
+};
+
+const DRAWING: Line = Line {
+    by: BROKER,
+    target: "POST /books/7/pledges/2/draw",
+    body: "{\"pence\":300,\"seq\":1}",
+    reply: "{\"day\":\"2024-01-31\",\"pence\":300,\"seq\":1,\"sort\":\"draw\"}",
+};
+
 // Two books, terms, three pledges with a receipt each, two entries and a booking, which are twelve rows.
 const FILLING: [Line; 9] = [
-    Line {
-        by: OPERATOR,
-        target: "POST /books/7",
-        body: "{\"capacity\":1,\"key\":\"22222222-2222-2222-2222-222222222222\",\"name\":\"High Street\"}",
-        reply: "{\"book\":7}",
-    },
-    Line {
-        by: BROKER,
-        target: "POST /books/7/terms",
-        body: "{\"keep_after\":0,\"keep_before\":0,\"rate\":0,\"version\":1}",
-        reply: "{\"version\":1}",
-    },
-    Line {
-        by: BROKER,
-        target: "POST /books/7/pledges",
-        body: "{\"article\":\"Gold ring\",\"five_days\":false,\"kind\":\"fixed\",\"pence\":10000,\"ref\":\"A1\"}",
-        reply: "{\"number\":1,\"receipt\":\"1-00000000-0000-0000-0000-000000000002\"}",
-    },
+    BOOK,
+    TERMS,
+    RING,
     Line {
         by: BROKER,
         target: "POST /books/7/pledges",
@@ -72,18 +93,8 @@ const FILLING: [Line; 9] = [
         body: "{\"capacity\":1,\"key\":\"22222222-2222-2222-2222-222222222222\",\"name\":\"High Street\"}",
         reply: "{\"book\":8}",
     },
-    Line {
-        by: BROKER,
-        target: "POST /books/7/pledges/1/repay",
-        body: "{\"pence\":100,\"seq\":1}",
-        reply: "{\"day\":\"2024-01-31\",\"pence\":100,\"seq\":1,\"sort\":\"repay\"}",
-    },
-    Line {
-        by: BROKER,
-        target: "POST /books/7/pledges/2/draw",
-        body: "{\"pence\":300,\"seq\":1}",
-        reply: "{\"day\":\"2024-01-31\",\"pence\":300,\"seq\":1,\"sort\":\"draw\"}",
-    },
+    REPAYMENT,
+    DRAWING,
     Line {
         by: BEARER_1,
         target: "POST /books/7/held/ask",
@@ -158,36 +169,11 @@ const ADDING: [Line; 10] = [
 
 // Each request that adds none: repeats, a booking that replaces one, and views.
 const OTHERS: [Line; 19] = [
-    Line {
-        by: OPERATOR,
-        target: "POST /books/7",
-        body: "{\"capacity\":1,\"key\":\"22222222-2222-2222-2222-222222222222\",\"name\":\"High Street\"}",
-        reply: "{\"book\":7}",
-    },
-    Line {
-        by: BROKER,
-        target: "POST /books/7/terms",
-        body: "{\"keep_after\":0,\"keep_before\":0,\"rate\":0,\"version\":1}",
-        reply: "{\"version\":1}",
-    },
-    Line {
-        by: BROKER,
-        target: "POST /books/7/pledges",
-        body: "{\"article\":\"Gold ring\",\"five_days\":false,\"kind\":\"fixed\",\"pence\":10000,\"ref\":\"A1\"}",
-        reply: "{\"number\":1,\"receipt\":\"1-00000000-0000-0000-0000-000000000002\"}",
-    },
-    Line {
-        by: BROKER,
-        target: "POST /books/7/pledges/2/draw",
-        body: "{\"pence\":300,\"seq\":1}",
-        reply: "{\"day\":\"2024-01-31\",\"pence\":300,\"seq\":1,\"sort\":\"draw\"}",
-    },
-    Line {
-        by: BROKER,
-        target: "POST /books/7/pledges/1/repay",
-        body: "{\"pence\":100,\"seq\":1}",
-        reply: "{\"day\":\"2024-01-31\",\"pence\":100,\"seq\":1,\"sort\":\"repay\"}",
-    },
+    BOOK,
+    TERMS,
+    RING,
+    DRAWING,
+    REPAYMENT,
     Line {
         by: BEARER_1,
         target: "POST /books/7/held/repay",
