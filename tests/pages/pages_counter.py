@@ -7,8 +7,8 @@ from tests.library.dates import six_months_after, today
 from tests.library.pages.browser import Pages
 from tests.library.pages.steps import (
     a_pledge_at_the_counter, ago, agree, an_open_book, book_text, browser, command, entries, fill_book, find,
-    in_short, in_words, main, make_book, no_faults, open_book, part, receipts_made, secret_of, send_taking,
-    take_a_ring, the_book_is_read, unfold,
+    in_short, in_words, is_told_quietly, main, make_book, no_faults, open_book, part, receipts_made, secret_of,
+    send_taking, take_a_ring, the_book_is_read, unfold,
 )
 
 
@@ -173,10 +173,7 @@ def two_equal_payments_are_two():
         browser.shoot("broker-between")
         browser.press("dialog button", "No, record nothing")
         browser.says("Nothing was recorded.", "#commands")
-        expect(
-            "not told as done", browser.run("return document.querySelector('.action[open] .notice').className"),
-            "notice quiet",
-        )
+        is_told_quietly(".action[open]")
         expect("one entry", len(entries(pages, 1)), 1)
         pages.session.broker("POST", "/books/7/pledges/1/repay", {"pence": 1000, "seq": 2})
         browser.press(".action[open] button", "Record the repayment")
@@ -475,10 +472,7 @@ def what_is_typed_is_looked_at():
         browser.shoot("broker-large")
         browser.press("dialog button", "Not now")
         browser.says("Nothing was done.", "#taking")
-        expect(
-            "and is not told as done", browser.run("return document.querySelector('#taking .notice').className"),
-            "notice quiet",
-        )
+        is_told_quietly("#taking")
         expect("nothing was taken", pages.session.broker("GET", "/books/7/pledges/1")[0], 404)
         no_faults()
 

@@ -20,6 +20,7 @@ from tests.library.paths import PROGRAM, TOP
 from tests.library.program import DAY, Server, check, fault, free_port, how_it_ends
 from tests.library.requests import refusal, request
 from tests.library.sessions import read_all
+from tests.library.small_disks import small_disk
 
 NONE = refusal(712, "NoReceipt", "400 Bad Request")
 LAST = request("GET", "/books/7/held", "Connection: close")
@@ -482,22 +483,18 @@ def folders_and_files_of_somebody_else():
 
 
 def a_disk_that_can_only_be_read():
-    with tempfile.TemporaryDirectory() as room:
-        mount = ["mount", "-t", "tmpfs", "-o", "size=8m", "none", room]
-        if os.geteuid() or subprocess.run(mount, stderr=subprocess.DEVNULL).returncode:
+    with small_disk("8m") as room:
+        if room is None:
             print("not tried: a disk that can only be read, which asks for the right to mount one")
             return
-        try:
-            path = os.path.join(room, "books")
-            with Server(path) as server:
-                receipts = make_books(server)
-            subprocess.run(["mount", "-o", "remount,ro", room], check=True)
-            expect("check", how_it_ends("check", path), fault(503, "Store"))
-            expect("serve", how_it_ends("serve", path, str(free_port()), OPERATOR), fault(503, "Store"))
-            subprocess.run(["mount", "-o", "remount,rw", room], check=True)
-            is_all_there(path, receipts)
-        finally:
-            subprocess.run(["umount", "-l", room], check=True)
+        path = os.path.join(room, "books")
+        with Server(path) as server:
+            receipts = make_books(server)
+        subprocess.run(["mount", "-o", "remount,ro", room], check=True)
+        expect("check", how_it_ends("check", path), fault(503, "Store"))
+        expect("serve", how_it_ends("serve", path, str(free_port()), OPERATOR), fault(503, "Store"))
+        subprocess.run(["mount", "-o", "remount,rw", room], check=True)
+        is_all_there(path, receipts)
 
 
 if refusing.library() is None:

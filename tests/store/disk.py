@@ -4,7 +4,6 @@ start holds all that was acknowledged, with or without the request in hand. So i
 full for a while."""
 import errno
 import os
-import subprocess
 import sys
 import tempfile
 
@@ -12,6 +11,7 @@ from tests.library import refusing
 from tests.library.checks import expect, main
 from tests.library.program import Server, check
 from tests.library.refusing import each_refused, each_refused_in_a_migration
+from tests.library.small_disks import small_disk
 from tests.library.stories import a_book_that_moves, a_first_pledge, a_lost_receipt
 
 ENDS = ((1, "fault 503 Store\n"),)
@@ -57,15 +57,11 @@ def calls_of_a_migration():
 def a_disk_that_is_full_for_a_while():
     """A file system of 14 MiB is filled while the service writes to it; when there is room again the service goes
     on, and nothing acknowledged is lost."""
-    with tempfile.TemporaryDirectory() as room:
-        mount = ["mount", "-t", "tmpfs", "-o", "size=14m", "none", room]
-        if os.geteuid() or subprocess.run(mount, stderr=subprocess.DEVNULL).returncode:
+    with small_disk("14m") as room:
+        if room is None:
             print("not tried: a disk that is full, which asks for the right to mount one")
-            return
-        try:
+        else:
             fill_and_empty(os.path.join(room, "books"), os.path.join(room, "filler"))
-        finally:
-            subprocess.run(["umount", "-l", room], check=True)
 
 
 def fill_and_empty(path, filler):

@@ -4,6 +4,7 @@ use pawn_opening::open_files;
 use sqlite::{Alter, Connection, FileStore, Files, Options};
 use sqlite_disk::{Crash, Disk, Fuse, Memory};
 use std::alloc::Global;
+use std::test::Fail;
 
 /// The two files of a store.
 pub type Disks = Files<Fuse<Memory>>;
@@ -54,6 +55,16 @@ pub fn crashed(mut disks: Disks) -> Disks {
     disks.log.crash();
     disks.db.crash();
     disks
+}
+
+/// Tries a stop at the first call, at the second, and so on, until what is tried meets no stop.
+pub fn until_whole(mut tried_at: impl FnMut(u64) -> Result<bool, Fail>) -> Result<(), Fail> {
+    for calls in 0..10_000u64 {
+        if tried_at(calls)? {
+            return Ok(());
+        }
+    }
+    Err(Fail::from("each try met a stop"))
 }
 
 /// What is done with a store, of whatever kind. One function that opens a store of disks serves all that do something

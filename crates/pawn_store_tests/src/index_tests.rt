@@ -1,7 +1,7 @@
 //! A store without the two indexes is opened, and one of its files stops at some call. After that both indexes are
 //! there, or neither is, and every row is there. Each call of either file is such a stop in turn, until an opening
 //! meets none.
-use crate::disks::{Disks, Failing, Visit, crashed, disks, go_on, looked_at, visited};
+use crate::disks::{Disks, Failing, Visit, crashed, disks, go_on, looked_at, until_whole, visited};
 use crate::move_tests::{BARE, COUNTS, INDEXES};
 use pawn_check::{CheckFault, Counts, check};
 use pawn_table_keeper::TableKeep;
@@ -97,15 +97,7 @@ fn stops(rt: &impl Abort, alloc: Global, failing: Failing, calls: u64) -> Result
 
 // Makes a file stop at its first call, at its second, and so on, until an opening meets no stop.
 fn stops_at_each_call(rt: &impl Abort, alloc: Global, failing: Failing) -> Result<(), Fail> {
-    let mut is_whole = false;
-    for calls in 0..10_000u64 {
-        if stops(rt, alloc, failing, calls)? {
-            is_whole = true;
-            break;
-        }
-    }
-    assert!(rt; is_whole, "an opening without a stop");
-    Ok(())
+    until_whole(|calls| stops(rt, alloc, failing, calls))
 }
 
 #[test]

@@ -1,7 +1,7 @@
 //! A store of an older schema, or of the program's without its indexes, is moved, and one of its files stops at some
 //! call. The tests check what is there when it is opened again. Each call of either file is such a stop in turn, until
 //! a migration meets none. The script `tests/store/migration.py` shows it by kills over files, and checks each total.
-use crate::disks::{Disks, Failing, Visit, crashed, disks, go_on, looked_at, visited};
+use crate::disks::{Disks, Failing, Visit, crashed, disks, go_on, looked_at, until_whole, visited};
 use pawn_check::{CheckFault, Counts, check};
 use pawn_move::{MoveFault, migrate, schema_of};
 use pawn_table_keeper::TableKeep;
@@ -172,14 +172,7 @@ fn stops(
 // Makes a file stop at its first call, at its second, and so on, until a migration meets no stop.
 fn stops_at_each_call(rt: &impl Abort, alloc: Global, failing: Failing) -> Result<(), Fail> {
     for older in OLDER {
-        let mut is_whole = false;
-        for calls in 0..10_000u64 {
-            if stops(rt, alloc, older, failing, calls)? {
-                is_whole = true;
-                break;
-            }
-        }
-        assert!(rt; is_whole, "a migration without a stop");
+        until_whole(|calls| stops(rt, alloc, older, failing, calls))?;
     }
     Ok(())
 }

@@ -140,6 +140,12 @@ def a_pledge_by_its_receipt():
         yield pages, receipt
 
 
+def is_told_quietly(part):
+    """What a part of the page says last is not told as something done."""
+    said = browser.run(f"return document.querySelector('{part} .notice').className")
+    expect("it is not told as done", said, "notice quiet")
+
+
 def agree(patience=2):
     """Says yes to a question, if one is asked within so many seconds."""
     with contextlib.suppress(Failed):

@@ -5,7 +5,7 @@
 
 use super::turns::{EXPORT, EXPORT_OTHER, TURNS};
 use super::{ROWS, bytes_of, service_of, service_over, stamp};
-use crate::disks::{Disks, Failing, Visit, crashed, disks, go_on, visited};
+use crate::disks::{Disks, Failing, Visit, crashed, disks, go_on, until_whole, visited};
 use pawn_book::Keep;
 use pawn_check::{CheckFault, Counts, check};
 use pawn_host::{Answer, Service};
@@ -149,12 +149,7 @@ fn stops(
 // Makes a file stop at its first call, at its second, and so on, until a run meets no stop.
 fn stops_at_each_call(rt: &impl Abort, alloc: Global, failing: Failing) -> Result<(), Fail> {
     let wanted = shown_after_each(rt, alloc)?;
-    for calls in 0..10_000u64 {
-        if stops(rt, alloc, wanted.as_slice(), failing, calls)? {
-            return Ok(());
-        }
-    }
-    Err(Fail::from("a run without a stop"))
+    until_whole(|calls| stops(rt, alloc, wanted.as_slice(), failing, calls))
 }
 
 #[test]
