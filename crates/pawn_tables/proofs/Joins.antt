@@ -22,13 +22,6 @@ version_fits h b n p ordered storable is = inside (get h.books b) refl (under_in
     inside None e at = let low = within_terms [] p.agreement.version p.agreement.terms at in omega (arith, low)
     inside (Some k) e at = let low = within_terms k.terms p.agreement.version p.agreement.terms at in let few = (storable b k e).versions in omega (arith, low, few)
 
--- what was joined of what was found of a pledge, or why it was not
-pub joined_told : {A L : Type 0} (h : Host) (b n : ℕ) (p : PledgeValue) (t : StoredPledge) (l : L) (Are : L → PledgeValue → Type 0) (shows : PledgeValue → A) (Q : PledgeValue → Type 0) (r : Result A KeepError) (number : ℕ) → number ≡ n → AreBooksOrdered h
-    → pledge_in (get h.books b) n ≡ Some p → t.row ≡ row_of p → AreSides t.sides p → IfSome (pledge_in (get h.books b) n) (Are l)
-    → ((q : PledgeValue) → number ≡ q.agreement.number → t.row ≡ row_of q → AreSides t.sides q → Are l q → IsRead r (shows q) (Q q)) → IsRead r (shows p) (Q p)
-joined_told h b n p t l Are shows Q r number named ordered at of beside lists read =
-    read p (named ∙ sym (number_in h b n p ordered at)) of beside (subst (λ o. IfSome o (Are l)) at lists)
-
 -- what the sides have, where they are of a pledge
 pub joined : (s : RowsBeside) (terms : Rates) (totals : Totals) (p : PledgeValue) → s.terms ≡ Some terms → s.totals ≡ Some totals → AreSides s p
     → (terms ≡ p.agreement.terms) × (s.booking ≡ p.standing.booking) × (totals ≡ totals_of (debt_of p))
@@ -84,6 +77,15 @@ told_of h b n v p t at of version sides =
     subst (AreTold (Some t)) (sym at) (of, beside (version ∙ ap (λ (r : PledgeRow). r.version) of))
 
 -- .. which is of a pledge that stands
-pub told_is : (o : Option PledgeValue) (t : StoredPledge) → AreTold (Some t) o → (p : PledgeValue) × (o ≡ Some p) × (t.row ≡ row_of p) × AreSides t.sides p
+told_is : (o : Option PledgeValue) (t : StoredPledge) → AreTold (Some t) o → (p : PledgeValue) × (o ≡ Some p) × (t.row ≡ row_of p) × AreSides t.sides p
 told_is None t told = absurd told
 told_is (Some p) t told = (p, refl, told.0, told.1)
+
+-- what was joined of what was found of a pledge, or why it was not
+pub joined_told : {A L : Type 0} (h : Host) (b n : ℕ) (found : Option StoredPledge) (t : StoredPledge) (l : L) (Are : L → PledgeValue → Type 0) (shows : PledgeValue → A) (Q : PledgeValue → Type 0) (r : Result A KeepError) (number : ℕ)
+    → number ≡ n → AreBooksOrdered h → found ≡ Some t → AreTold found (pledge_in (get h.books b) n) → IfSome (pledge_in (get h.books b) n) (Are l)
+    → ((q : PledgeValue) → number ≡ q.agreement.number → t.row ≡ row_of q → AreSides t.sides q → Are l q → IsRead r (shows q) (Q q))
+    → (p : PledgeValue) × (pledge_in (get h.books b) n ≡ Some p) × IsRead r (shows p) (Q p)
+joined_told h b n found t l Are shows Q r number named ordered is told lists read =
+    let k = told_is (pledge_in (get h.books b) n) t (subst (λ f. AreTold f (pledge_in (get h.books b) n)) is told) in
+    (k.0, k.1, read k.0 (named ∙ sym (number_in h b n k.0 ordered k.1)) k.2 k.3 (subst (λ o. IfSome o (Are l)) k.1 lists))

@@ -47,6 +47,20 @@ next_found {s0 = s0} {s1 = s1} {s2 = s2} {F = F} {q = q} {y = y} U Q found went 
       (one.0.0, (one.0.1, two.0), rests_then s0 s1 s2 one.0.2 two.1);
 }
 
+-- two parts that went well
+pub both_found : {s0 s1 s2 : State} (F G : Host → Type 0)
+    → IsLent s0 s1 true → (HasCleanDisk s1 → IsTrue s0.in_transaction → (h : Host) → Stood s0 h → F h × Rests s0 s1)
+    → IsLent s1 s2 true → (HasCleanDisk s2 → IsTrue s1.in_transaction → (h : Host) → Stood s1 h → G h × Rests s1 s2) → Found s0 s2 (λ h. F h × G h)
+both_found {s0 = s0} {s1 = s1} {s2 = s2} F G l f after g = record {
+  lent = lent_then s0 s1 s2 true l after;
+  is = λ clean within h stood.
+      let was = clean_before s1 s2 true after clean in
+      let st = stood (l.opened was within refl) in
+      let one = f was within h stood in
+      let two = g clean one.1.inside h (λ _. subst (λ d. StandsFor d h) (sym one.1.now_is) st) in
+      (st, (one.0, two.0), rests_then s0 s1 s2 one.1 two.1);
+}
+
 -- a part that fails ends the others
 
 pub first_unfound : {A D : Type 0} {p : Result A KeepError} {e : KeepError} (U : Host → Type 0) (s0 s1 : State) (P : Host → A → Type 0) (r : Result D KeepError) (W : Host → D → Type 0)

@@ -58,21 +58,24 @@ module _ (old new : State) (h : Host) (b n s : ℕ) (rows : List Row) (st : Stan
       ap (λ rs. take most_page_rows (map cells rs)) (placed_behind (λ place x. under b m (told place x)) count s 1 s xs (omega arith))
       ∙ ap (take most_page_rows) (placed_cells b m told cells is (s + 1) (drop s xs)) ∙ take_placed told most_page_rows (s + 1) (drop s xs)
 
+  -- .. of a pledge, if there is one
+  page_told : {A : Type 0} (cells : Row → Row) (told : ℕ → A → Row) (listed : PledgeValue → List Row) (of : Option PledgeValue → List A)
+      → ((p : PledgeValue) → listed p ≡ placed_from (λ place x. under b p.agreement.number (told place x)) 1 (of (Some p))) → of None ≡ []
+      → ((m at : ℕ) (x : A) → cells (under b m (told at x)) ≡ told at x) → ((m at : ℕ) (x : A) → column (under b m (told at x)) 2 ≡ number at)
+      → (o : Option PledgeValue) → take most_page_rows (map cells (filter (has_behind s) (rows_at o listed))) ≡ placed_from told (s + 1) (page_behind s (of o))
+  page_told cells told listed of are none is count None = ap (λ xs. placed_from told (s + 1) (take most_page_rows xs)) (sym (drop-nil s) ∙ ap (drop s) (sym none))
+  page_told cells told listed of are none is count (Some p) =
+      ap (λ rs. take most_page_rows (map cells (filter (has_behind s) rs))) (are p) ∙ behind_of cells told p.agreement.number (is p.agreement.number) (count p.agreement.number) (of (Some p))
+
   pub secrets_page_shown : Shown text.READ_SECRETS_PAGE.now params old new rows → rows ≡ placed_from secret_cells (s + 1) (page_behind s (secrets_of found))
   secrets_page_shown shown =
-      page_shown old new st.schema h _ _ (secrets_list _ h st) b n (λ v. is_above v (number s)) text.behind_tests text.four_shown params four (λ _. refl) (λ _. refl) text.READ_SECRETS_PAGE.now _ rows (secrets_up b found) ((text.texts st.schema.more).secrets_page_is) shown ∙ cells found
-    where
-      cells : (o : Option PledgeValue) → take most_page_rows (map four (filter (has_behind s) (rows_at o (secrets_listed b)))) ≡ placed_from secret_cells (s + 1) (page_behind s (secrets_of o))
-      cells None = ap (λ xs. placed_from secret_cells (s + 1) (take most_page_rows xs)) (sym (drop-nil s))
-      cells (Some p) = behind_of four secret_cells p.agreement.number (λ at i. refl) (λ at i. refl) p.secrets
+      page_shown old new st.schema h _ _ (secrets_list _ h st) b n (λ v. is_above v (number s)) text.behind_tests text.four_shown params four (λ _. refl) (λ _. refl) text.READ_SECRETS_PAGE.now _ rows (secrets_up b found) ((text.texts st.schema.more).secrets_page_is) shown
+      ∙ page_told four secret_cells (secrets_listed b) secrets_of (λ p. refl) refl (λ m at x. refl) (λ m at x. refl) found
 
   pub extensions_page_shown : Shown text.READ_EXTENSIONS_PAGE.now params old new rows → rows ≡ placed_from extension_cells (s + 1) (page_behind s (extensions_of found))
   extensions_page_shown shown =
-      page_shown old new st.schema h _ _ (extensions_list _ h st) b n (λ v. is_above v (number s)) text.behind_tests text.three_shown params three (λ _. refl) (λ _. refl) text.READ_EXTENSIONS_PAGE.now _ rows (extensions_up b found) ((text.texts st.schema.more).extensions_page_is) shown ∙ cells found
-    where
-      cells : (o : Option PledgeValue) → take most_page_rows (map three (filter (has_behind s) (rows_at o (extensions_listed b)))) ≡ placed_from extension_cells (s + 1) (page_behind s (extensions_of o))
-      cells None = ap (λ xs. placed_from extension_cells (s + 1) (take most_page_rows xs)) (sym (drop-nil s))
-      cells (Some p) = behind_of three extension_cells p.agreement.number (λ at e. refl) (λ at e. refl) p.extensions
+      page_shown old new st.schema h _ _ (extensions_list _ h st) b n (λ v. is_above v (number s)) text.behind_tests text.three_shown params three (λ _. refl) (λ _. refl) text.READ_EXTENSIONS_PAGE.now _ rows (extensions_up b found) ((text.texts st.schema.more).extensions_page_is) shown
+      ∙ page_told three extension_cells (extensions_listed b) extensions_of (λ p. refl) refl (λ m at x. refl) (λ m at x. refl) found
 
 -- ---- what can be kept
 

@@ -1,8 +1,8 @@
 -- What the proofs of reads use: words of rows and hosts, and lemmas on what a query shows.
 pub use Rattle.pawn_tables.proofs.Basics.{Err, Ok, Some, ap, arith, length, map, refl, rules, subst, sym, ℕ, ◌+◌, ◌∙◌, ◌≡◌, state, IsNextBook, IsWord, entries_of, extensions_of, get, option_map, pledge_in, pledges_of, secrets_of, AreListEnds, AreLists, AreTold, IsBriefTold, NamesWindows, asked_line, confirmed_line, ends_line, line_cells}
 pub use Rattle.pawn_tables.proofs.BookReads.{head_shown, is_next, next_shown, rows_shown}
-pub use Rattle.pawn_tables.proofs.Joins.{joined_told, lists_told, none_under, row_is, sides_told, told_is, told_of, version_fits}
-pub use Rattle.pawn_tables.proofs.Lent.{debts_of, first_unfound, next_found, next_unfound, one_found}
+pub use Rattle.pawn_tables.proofs.Joins.{joined_told, lists_told, none_under, row_is, sides_told, told_of, version_fits}
+pub use Rattle.pawn_tables.proofs.Lent.{both_found, debts_of, first_unfound, next_found, next_unfound, one_found}
 pub use Rattle.pawn_tables.proofs.LineReads.{asked_numbers, asked_page_shown, asked_says, asked_shown, asked_told, confirmed_items, confirmed_numbers, confirmed_page_shown, confirmed_says, confirmed_shown, confirmed_told, ends_numbers, ends_page_shown, ends_says, ends_shown, ends_told}
 pub use Rattle.pawn_tables.proofs.ListElementReads.{entries_page_shown, entries_page_unsound, entries_rising, entry_shown, entry_unsound, extension_shown, extension_unsound}
 pub use Rattle.pawn_tables.proofs.ListEndReads.{count_shown, last_unsound, last_word, list_ends_told, place_count, place_shown, secret_shown}

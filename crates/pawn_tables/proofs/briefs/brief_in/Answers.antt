@@ -1,4 +1,4 @@
-use Rattle.pawn_tables.proofs.Reading.{Err, Ok, Some, ap, option_map, rules, subst, sym, ◌∙◌, ◌≡◌, get, pledge_in, AreListEnds, AreTold, IsBriefTold, joined_told, told_is, first_unfound, next_found, one_found, brief_unsound, unjoined}
+use Rattle.pawn_tables.proofs.Reading.{Err, Ok, Some, ap, option_map, rules, subst, sym, ◌∙◌, ◌≡◌, get, pledge_in, AreListEnds, IsBriefTold, joined_told, first_unfound, both_found, brief_unsound, unjoined}
 use Rattle.pawn_tables.proofs.Basics.{brief_of}
 use Rattle.pawn_tables.proofs.briefs.brief_in.Goals as goal
 
@@ -7,17 +7,13 @@ returns-in_err-told-clause-finds g c = first_unfound _ _ _ _ c.from_residual.res
 
 pub returns-in_err-brief-clause-finds : goal.returns-in_err-brief-clause-finds
 returns-in_err-brief-clause-finds g c clean within h stood =
-    let one = one_found _ _ c.in_ok-told.was c.in_ok-told.ensures.lent.leaves c.stored_pledge_in.ensures.finds in
-    let f = (next_found _ _ one c.in_ok-list_ends.was c.in_ok-list_ends.ensures.lent.leaves c.list_ends_in.ensures.finds).is clean within h stood in
-    let r = told_is (pledge_in (get h.books c.args.book) c.get-n.result) c.in-Some.told (subst (λ t. AreTold t (pledge_in (get h.books c.args.book) c.get-n.result)) c.in-Some.is f.1.0) in
-    let read = joined_told h c.args.book c.get-n.result r.0 c.in-Some.told c.in_ok-list_ends.list_ends AreListEnds brief_of IsBriefTold (Err c.in_err-brief.field-0.0) c.args.number (sym c.get-n.ensures.value) f.0.ordered r.1 r.2 r.3 f.1.1 c.in_err-brief.ensures.read in
-    unjoined c.in_err-brief.field-0.0 (brief_of r.0) c.from_residual-in_err-brief.result _ _ _ (search rules) read (brief_unsound h f.0.storable c.args.book c.get-n.result r.0 r.1)
+    let f = (both_found _ _ c.in_ok-told.ensures.lent.leaves c.in_ok-told.ensures.finds c.in_ok-list_ends.ensures.lent.leaves c.in_ok-list_ends.ensures.finds).is clean within h stood in
+    let r = joined_told h c.args.book c.get-n.result _ c.in-Some.told c.in_ok-list_ends.list_ends AreListEnds brief_of IsBriefTold (Err c.in_err-brief.field-0.0) c.args.number (sym c.get-n.ensures.value) f.0.ordered c.in-Some.is f.1.0 f.1.1 c.in_err-brief.ensures.read in
+    unjoined c.in_err-brief.field-0.0 (brief_of r.0) c.from_residual-in_err-brief.result _ _ _ (search rules) r.2 (brief_unsound h f.0.storable c.args.book c.get-n.result r.0 r.1)
 
 pub returns-clause-finds : goal.returns-clause-finds
 returns-clause-finds g c clean within h stood =
-    let one = one_found _ _ c.in_ok-told.was c.in_ok-told.ensures.lent.leaves c.stored_pledge_in.ensures.finds in
-    let f = (next_found _ _ one c.in_ok-list_ends.was c.in_ok-list_ends.ensures.lent.leaves c.list_ends_in.ensures.finds).is clean within h stood in
-    let r = told_is (pledge_in (get h.books c.args.book) c.get-n.result) c.in-Some.told (subst (λ t. AreTold t (pledge_in (get h.books c.args.book) c.get-n.result)) c.in-Some.is f.1.0) in
-    let read = joined_told h c.args.book c.get-n.result r.0 c.in-Some.told c.in_ok-list_ends.list_ends AreListEnds brief_of IsBriefTold (Ok c.in_ok-brief.brief) c.args.number (sym c.get-n.ensures.value) f.0.ordered r.1 r.2 r.3 f.1.1 c.in_ok-brief.ensures.read in
-    let whole = ap Some read ∙ sym (ap (option_map brief_of) r.1) in
+    let f = (both_found _ _ c.in_ok-told.ensures.lent.leaves c.in_ok-told.ensures.finds c.in_ok-list_ends.ensures.lent.leaves c.in_ok-list_ends.ensures.finds).is clean within h stood in
+    let r = joined_told h c.args.book c.get-n.result _ c.in-Some.told c.in_ok-list_ends.list_ends AreListEnds brief_of IsBriefTold (Ok c.in_ok-brief.brief) c.args.number (sym c.get-n.ensures.value) f.0.ordered c.in-Some.is f.1.0 f.1.1 c.in_ok-brief.ensures.read in
+    let whole = ap Some r.2 ∙ sym (ap (option_map brief_of) r.1) in
     (subst (λ n. Some c.in_ok-brief.brief ≡ option_map brief_of (pledge_in (get h.books c.args.book) n)) c.get-n.ensures.value whole, f.2)

@@ -1,4 +1,4 @@
-use Rattle.pawn_tables.proofs.Reading.{ap, arith, refl, rules, sym, ◌∙◌, ◌≡◌, get, pledge_in, row_is, told_of, version_fits, first_unfound, next_found, one_found}
+use Rattle.pawn_tables.proofs.Reading.{ap, arith, refl, rules, sym, ◌∙◌, ◌≡◌, get, pledge_in, row_is, told_of, version_fits, both_found, first_unfound}
 use Rattle.pawn_tables.proofs.Basics.{PledgeRow}
 use Rattle.pawn_tables.proofs.whole.stored_pledge_in.Goals as goal
 
@@ -17,8 +17,7 @@ returns-in_default-try_from-clause-finds g c clean within h stood =
 
 pub returns-clause-finds : goal.returns-clause-finds
 returns-clause-finds g c clean within h stood =
-    let one = one_found _ _ c.in_ok-row.was c.in_ok-row.ensures.lent.leaves c.row_in.ensures.finds in
-    let f = (next_found _ _ one c.in_ok-sides.was c.in_ok-sides.ensures.lent.leaves c.sides_in.ensures.finds).is clean within h stood in
+    let f = (both_found _ _ c.in_ok-row.ensures.lent.leaves c.in_ok-row.ensures.finds c.in_ok-sides.ensures.lent.leaves c.in_ok-sides.ensures.finds).is clean within h stood in
     let r = row_is (pledge_in (get h.books c.args.book) c.args.number) c.in-Some.row (sym c.in-Some.is ∙ f.1.0) in
     let version : c.in-Ok.version ≡ c.in-Some.row.version = search rules in
     (told_of h c.args.book c.args.number c.in-Ok.version r.0 _ r.1 r.2 version f.1.1, f.2)
