@@ -1,6 +1,7 @@
 -- How much of a pledge stands, as it is looked up.
-use Rattle.pawn_saving.proofs.Basics.{◌≡◌, ◌⊎◌, inl, inr, ◌↔◌, ℕ, zero, suc, ◌+◌, ◌≤◌, List, [], ◌∷◌, Option, Some, None, true, false, length, IsTrue, refl, sym, subst, arith, is_some, slice_get, ◌++◌, get, HasCleanDisk, State, Grows, PledgeValue, AreIssued, Booking, Issued, BookValue, pledge_from, pledge_in, CanSave, Continues, Host, entries_of, IsSound, PutPledge, Rests, with_seq, StandsFor, standing_at, at_seq, AreLengths, IsLengthWithin, IsStored, IsCarried, Lengths}
+use Rattle.pawn_saving.proofs.Basics.{◌≡◌, Bool, length_in, ◌⊎◌, inl, inr, ◌↔◌, ℕ, zero, suc, ◌+◌, ◌≤◌, List, [], ◌∷◌, Option, Some, None, true, false, length, IsTrue, refl, sym, subst, arith, is_some, slice_get, ◌++◌, get, HasCleanDisk, State, Grows, PledgeValue, AreIssued, Booking, Issued, BookValue, pledge_from, pledge_in, CanSave, Continues, Host, entries_of, IsSound, PutPledge, Rests, with_seq, StandsFor, standing_at, at_seq, AreLengths, IsLengthWithin, IsStored, IsCarried, Lengths}
 use Rattle.pawn_tables.specs.Places.{at_place}
+use Rattle.pawn_saving.specs.declared.stored.PledgeList.{PledgeList}
 use Rattle.pawn_saving.specs.declared.stored.Stored.{Stored}
 use Rattle.pawn_saving.proofs.PledgeWrites.{continues_it}
 
@@ -11,9 +12,16 @@ within_length [] i = ((λ is. absurd (let e = is in cc)), (λ le. absurd (omega 
 within_length (x ∷ xs) zero = ((λ is. omega arith), (λ le. refl))
 within_length (x ∷ xs) (suc i) = ((λ is. let le = (within_length xs i).0 is in omega (arith, le)), (λ le. (within_length xs i).1 (omega (arith, le))))
 
-pub tells_place : {A : Type 0} (xs : List A) (place : ℕ) (x : Option A) → x ≡ at_place xs place → 1 ≤ place → IsTrue (is_some x) ↔ (place ≤ length xs)
+tells_place : {A : Type 0} (xs : List A) (place : ℕ) (x : Option A) → x ≡ at_place xs place → 1 ≤ place → IsTrue (is_some x) ↔ (place ≤ length xs)
 tells_place xs zero x is low = absurd (omega (arith, low))
 tells_place xs (suc i) x is low = subst (λ o. IsTrue (is_some o) ↔ (suc i ≤ length xs)) (sym is) (within_length xs i)
+
+-- .. in the list of a pledge that was asked for
+pub tells_within : {A : Type 0} (list named : PledgeList) (p : Option PledgeValue) (xs : List A) (place : ℕ) (x : Option A) (there : Bool) → list ≡ named → length_in named p ≡ length xs
+    → there ≡ is_some x → x ≡ at_place xs place → 1 ≤ place → IsTrue there ↔ (place ≤ length_in list p)
+tells_within list named p xs place x there is long same at low =
+    let told = subst (λ b. IsTrue b ↔ (place ≤ length xs)) (sym same) (tells_place xs place x at low) in
+    subst (λ (l : PledgeList). IsTrue there ↔ (place ≤ length_in l p)) (sym is) (subst (λ n. IsTrue there ↔ (place ≤ n)) (sym long) told)
 
 -- the entry of a number stands at that place, in a sound host
 pub entry_placed : (h : Host) (b n s : ℕ) → IsSound h → with_seq (entries_of (pledge_in (get h.books b) n)) s ≡ at_place (entries_of (pledge_in (get h.books b) n)) s

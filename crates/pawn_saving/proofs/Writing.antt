@@ -11,4 +11,4 @@ pub use Rattle.pawn_saving.proofs.PledgeStatements.{row_set}
 pub use Rattle.pawn_saving.proofs.PledgeWrites.{continues_it, next_number, next_written, none_booked, old_sides, others, renewed_written}
 pub use Rattle.pawn_saving.proofs.RowsInOrder.{ArePut, is_carried, lent_anyway, lent_carried, of_three, one_put, past, take_map, take_placed}
 pub use Rattle.pawn_saving.proofs.StatementWrites.{booking_wrote, entry_wrote, extension_wrote, new_totals_wrote, on_ran, row_wrote, secret_wrote, terms_wrote, totals_wrote}
-pub use Rattle.pawn_saving.proofs.StoredReads.{IsSoFar, can_within, entry_placed, none_stored, some_stored, tells_place}
+pub use Rattle.pawn_saving.proofs.StoredReads.{IsSoFar, can_within, entry_placed, none_stored, some_stored, tells_within}

@@ -4,7 +4,6 @@ use Rattle.pawn_saving.proofs.putting.put_sides.Goals as goal
 
 pub returns-clause-wrote : goal.returns-clause-wrote
 returns-clause-wrote g c clean within listed none l =
-    let new = state g.S.Store c.put_any_booking.new.tx.conn.now in
     let b = c.args.book in
     let n = c.args.number in
     let p = c.args.pledge.now in
@@ -13,4 +12,4 @@ returns-clause-wrote g c clean within listed none l =
     let second = rw c.totals.ensures.value at (c.in_ok-put_totals.ensures.wrote at.2 at.1 (with_rows listed pledges_tree (row_under b n p ∷ listed pledges_tree)) first) in
     let both = with_rows (with_rows listed pledges_tree (row_under b n p ∷ listed pledges_tree)) totals_tree (totals_under b n p ∷ listed totals_tree) in
     let third = rw c.standing.ensures.value at (c.put_any_booking.ensures.wrote None (λ is. refl) clean at.3 both (listed bookings_tree) (IsPermutation-refl (listed bookings_tree)) none second) in
-    on_ok c.put_any_booking.result _ _ (sides_put new.now listed b n p) third
+    on_ok c.put_any_booking.result _ _ (sides_put (state g.S.Store c.put_any_booking.new.tx.conn.now).now listed b n p) third
