@@ -17,8 +17,8 @@ tells_place xs zero x is low = absurd (omega (arith, low))
 tells_place xs (suc i) x is low = subst (λ o. IsTrue (is_some o) ↔ (suc i ≤ length xs)) (sym is) (within_length xs i)
 
 -- .. in the list of a pledge that was asked for
-pub tells_within : {A : Type 0} (list named : PledgeList) (p : Option PledgeValue) (xs : List A) (place : ℕ) (x : Option A) (there : Bool) → list ≡ named → length_in named p ≡ length xs
-    → there ≡ is_some x → x ≡ at_place xs place → 1 ≤ place → IsTrue there ↔ (place ≤ length_in list p)
+pub tells_within : {A : Type 0} (list named : PledgeList) (p : Option PledgeValue) (xs : List A) (place : ℕ) (x : Option A) (there : Bool)
+    → list ≡ named → length_in named p ≡ length xs → there ≡ is_some x → x ≡ at_place xs place → 1 ≤ place → IsTrue there ↔ (place ≤ length_in list p)
 tells_within list named p xs place x there is long same at low =
     let told = subst (λ b. IsTrue b ↔ (place ≤ length xs)) (sym same) (tells_place xs place x at low) in
     subst (λ (l : PledgeList). IsTrue there ↔ (place ≤ length_in l p)) (sym is) (subst (λ n. IsTrue there ↔ (place ≤ n)) (sym long) told)

@@ -82,7 +82,8 @@ told_is None t told = absurd told
 told_is (Some p) t told = (p, refl, told.0, told.1)
 
 -- what was joined of what was found of a pledge, or why it was not
-pub joined_told : {A L : Type 0} (h : Host) (b n : ℕ) (found : Option StoredPledge) (t : StoredPledge) (l : L) (Are : L → PledgeValue → Type 0) (shows : PledgeValue → A) (Q : PledgeValue → Type 0) (r : Result A KeepError) (number : ℕ)
+pub joined_told : {A L : Type 0} (h : Host) (b n : ℕ) (found : Option StoredPledge) (t : StoredPledge) (l : L) (Are : L → PledgeValue → Type 0)
+    (shows : PledgeValue → A) (Q : PledgeValue → Type 0) (r : Result A KeepError) (number : ℕ)
     → number ≡ n → AreBooksOrdered h → found ≡ Some t → AreTold found (pledge_in (get h.books b) n) → IfSome (pledge_in (get h.books b) n) (Are l)
     → ((q : PledgeValue) → number ≡ q.agreement.number → t.row ≡ row_of q → AreSides t.sides q → Are l q → IsRead r (shows q) (Q q))
     → (p : PledgeValue) × (pledge_in (get h.books b) n ≡ Some p) × IsRead r (shows p) (Q p)

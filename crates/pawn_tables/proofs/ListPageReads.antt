@@ -69,12 +69,14 @@ module _ (old new : State) (h : Host) (b n s : ℕ) (rows : List Row) (st : Stan
 
   pub secrets_page_shown : Shown text.READ_SECRETS_PAGE.now params old new rows → rows ≡ placed_from secret_cells (s + 1) (page_behind s (secrets_of found))
   secrets_page_shown shown =
-      page_shown old new st.schema h _ _ (secrets_list _ h st) b n (λ v. is_above v (number s)) text.behind_tests text.four_shown params four (λ _. refl) (λ _. refl) text.READ_SECRETS_PAGE.now _ rows (secrets_up b found) ((text.texts st.schema.more).secrets_page_is) shown
+      page_shown old new st.schema h _ _ (secrets_list _ h st) b n (λ v. is_above v (number s)) text.behind_tests text.four_shown params four (λ _. refl) (λ _. refl)
+      text.READ_SECRETS_PAGE.now _ rows (secrets_up b found) ((text.texts st.schema.more).secrets_page_is) shown
       ∙ page_told four secret_cells (secrets_listed b) secrets_of (λ p. refl) refl (λ m at x. refl) (λ m at x. refl) found
 
   pub extensions_page_shown : Shown text.READ_EXTENSIONS_PAGE.now params old new rows → rows ≡ placed_from extension_cells (s + 1) (page_behind s (extensions_of found))
   extensions_page_shown shown =
-      page_shown old new st.schema h _ _ (extensions_list _ h st) b n (λ v. is_above v (number s)) text.behind_tests text.three_shown params three (λ _. refl) (λ _. refl) text.READ_EXTENSIONS_PAGE.now _ rows (extensions_up b found) ((text.texts st.schema.more).extensions_page_is) shown
+      page_shown old new st.schema h _ _ (extensions_list _ h st) b n (λ v. is_above v (number s)) text.behind_tests text.three_shown params three (λ _. refl) (λ _. refl)
+      text.READ_EXTENSIONS_PAGE.now _ rows (extensions_up b found) ((text.texts st.schema.more).extensions_page_is) shown
       ∙ page_told three extension_cells (extensions_listed b) extensions_of (λ p. refl) refl (λ m at x. refl) (λ m at x. refl) found
 
 -- ---- what can be kept

@@ -13,4 +13,5 @@ returns-clause-wrote g c before agreed booked clean within listed others sides l
     let second = rw c.totals.ensures.value at (c.in_ok-set_totals.ensures.wrote (totals_of (debt_of before)) at.2 at.1 (with_rows listed pledges_tree (row_under b n p ∷ others pledges_tree)) (others totals_tree) sides.totals first) in
     let both = with_rows (with_rows listed pledges_tree (row_under b n p ∷ others pledges_tree)) totals_tree (totals_under b n p ∷ others totals_tree) in
     let third = rw c.standing.ensures.value at (c.put_any_booking.ensures.wrote before.standing.booking) in
-    on_ok c.put_any_booking.result _ _ (sides_set (state g.S.Store c.put_any_booking.new.tx.conn.now).now listed b n p others) (third booked clean at.3 both (others bookings_tree) sides.bookings sides.no_booking second)
+    on_ok c.put_any_booking.result _ _ (sides_set (state g.S.Store c.put_any_booking.new.tx.conn.now).now listed b n p others)
+    (third booked clean at.3 both (others bookings_tree) sides.bookings sides.no_booking second)

@@ -6,16 +6,16 @@ pub returns-in_ok-entry_in-in-Entries-clause-reads : goal.returns-in_ok-entry_in
 returns-in_ok-entry_in-in-Entries-clause-reads g c clean within h sound st =
     let found = c.in_ok-entry_in-in-Entries.ensures.finds clean within h (λ now. st) in
     let p = pledge_in (get h.books c.args.book) c.args.number in
-    (tells_within c.args.list _ p (entries_of p) c.args.place c.in_ok-entry_in-in-Entries.field-0 c.is_some.result c.in-Entries.is refl c.is_some.ensures (found.0 ∙ entry_placed h c.args.book c.args.number c.args.place sound), found.1)
+    (tells_within _ _ p (entries_of p) c.args.place _ _ c.in-Entries.is refl c.is_some.ensures (found.0 ∙ entry_placed h c.args.book c.args.number c.args.place sound), found.1)
 
 pub returns-in_ok-secret_in-in-Secrets-clause-reads : goal.returns-in_ok-secret_in-in-Secrets-clause-reads
 returns-in_ok-secret_in-in-Secrets-clause-reads g c clean within h sound st =
     let found = c.in_ok-secret_in-in-Secrets.ensures.finds clean within h (λ now. st) in
     let p = pledge_in (get h.books c.args.book) c.args.number in
-    (tells_within c.args.list _ p (secrets_of p) c.args.place c.in_ok-secret_in-in-Secrets.field-0 c.is_some-in-Secrets.result c.in-Secrets.is refl c.is_some-in-Secrets.ensures found.0, found.1)
+    (tells_within _ _ p (secrets_of p) c.args.place _ _ c.in-Secrets.is refl c.is_some-in-Secrets.ensures found.0, found.1)
 
 pub returns-in_ok-extension_in-in-Extensions-clause-reads : goal.returns-in_ok-extension_in-in-Extensions-clause-reads
 returns-in_ok-extension_in-in-Extensions-clause-reads g c clean within h sound st =
     let found = c.in_ok-extension_in-in-Extensions.ensures.finds clean within h (λ now. st) in
     let p = pledge_in (get h.books c.args.book) c.args.number in
-    (tells_within c.args.list _ p (extensions_of p) c.args.place c.in_ok-extension_in-in-Extensions.field-0 c.is_some-in-Extensions.result c.in-Extensions.is refl c.is_some-in-Extensions.ensures found.0, found.1)
+    (tells_within _ _ p (extensions_of p) c.args.place _ _ c.in-Extensions.is refl c.is_some-in-Extensions.ensures found.0, found.1)

@@ -8,4 +8,5 @@ returns-clause-finds g c =
     (λ h st shown.
     let es = extensions_of (pledge_in (get h.books c.args.book) c.args.number) in
     let counted : ℕ → Type 0 = λ count. count ≡ length es in
-    found_as c.first_place.result _ counted _ _ (c.first_place.ensures.read _ (c.deref.ensures.value ∙ place_shown _ _ h c.args.book c.args.number _ st shown)) (place_count es) (λ bad. absurd (bad tt)))
+    found_as c.first_place.result _ counted _ _ (c.first_place.ensures.read _ (c.deref.ensures.value ∙ place_shown _ _ h c.args.book c.args.number _ st shown))
+    (place_count es) (λ bad. absurd (bad tt)))
