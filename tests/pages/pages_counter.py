@@ -159,9 +159,10 @@ def two_equal_payments_are_two():
         browser.says("£100.00 owed today", "#statement")
         pages.session.broker("POST", "/books/7/pledges/1/repay", {"pence": 1000, "seq": 1})
         command("Repayment", "Record the repayment", amount="10")
-        browser.says("Something came in between", "dialog")
-        browser.says(f"Repaid: £10.00, on {in_short(today())}.", "dialog")
-        browser.says("£90.00 is owed now.", "dialog")
+        for says in (
+            "Something came in between", f"Repaid: £10.00, on {in_short(today())}.", "£90.00 is owed now.",
+        ):
+            browser.says(says, "dialog")
         expect(
             "the dialog has the name of its heading",
             browser.run(
@@ -178,8 +179,8 @@ def two_equal_payments_are_two():
         pages.session.broker("POST", "/books/7/pledges/1/repay", {"pence": 1000, "seq": 2})
         browser.press(".action[open] button", "Record the repayment")
         browser.press("dialog button", "Yes, record £10.00 as well")
-        browser.says("Repaid: £10.00", "#commands")
-        browser.says("£70.00 is owed now.", "#commands")
+        for says in ("Repaid: £10.00", "£70.00 is owed now."):
+            browser.says(says, "#commands")
         expect("three entries", len(entries(pages, 1)), 3)
         no_faults()
 

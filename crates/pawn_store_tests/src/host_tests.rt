@@ -7,7 +7,7 @@ mod failing_writers;
 mod stops;
 mod turns;
 
-use ends::{Log, Sink, Source, Stamps};
+use ends::{Calls, Log, Sink, Source, Stamps};
 use pawn_book::{Keep, RequestDay, Secret, Stamp};
 use pawn_host::{Answer, Cause, Ended, IoFault, Reading, Service, SessionEnd};
 use pawn_list_keeper::ListKeep;
@@ -169,18 +169,22 @@ fn answered(
     let log = Log::new();
     let mut source = Source {
         bytes: stream,
-        slow: behaviour.slow,
-        fails_at: behaviour.read_fails,
-        calls: 0,
-        log: &log,
+        calls: Calls {
+            slow: behaviour.slow,
+            fails_at: behaviour.read_fails,
+            made: 0,
+            log: &log,
+        },
     };
     let mut sink = Sink {
         taken: Vec::new(alloc),
-        slow: behaviour.slow,
-        fails_at: behaviour.write_fails,
         takes_nothing: behaviour.takes_nothing,
-        calls: 0,
-        log: &log,
+        calls: Calls {
+            slow: behaviour.slow,
+            fails_at: behaviour.write_fails,
+            made: 0,
+            log: &log,
+        },
     };
     let mut stamps = Stamps { stamps, log: &log };
     let came = service.answer_all(
@@ -192,8 +196,8 @@ fn answered(
         came,
         written: sink.taken,
         left: source.bytes.len(),
-        reads: source.calls,
-        writes: sink.calls,
+        reads: source.calls.made,
+        writes: sink.calls.made,
         calls: log.calls(),
     }
 }
@@ -310,6 +314,12 @@ fn a_stamp_then_a_reply_then_the_next_read(rt: HostRuntime) -> Result<(), Fail> 
     Ok(())
 }
 
+// Checks that a session broke off so, and that no more was written than it says.
+fn breaks_off(rt: &impl Abort, all: &Came, fault: IoFault) {
+    assert_eq!(rt; all.came, Err(fault));
+    assert_eq!(rt; all.written.len() as u128, fault.sent);
+}
+
 #[test]
 fn a_session_breaks_off_at_the_read_that_fails(rt: HostRuntime) -> Result<(), Fail> {
     let alloc = rt.alloc();
@@ -321,9 +331,8 @@ fn a_session_breaks_off_at_the_read_that_fails(rt: HostRuntime) -> Result<(), Fa
         let acted = (read_fails - 1) / ASKED.len() as u32;
         let sent = u128::from(acted) * NO_RECEIPT.len() as u128;
         let cause = Cause::Read;
-        assert_eq!(rt; all.came, Err(IoFault { cause, acted, sent }));
+        breaks_off(&rt, &all, IoFault { cause, acted, sent });
         assert_eq!(rt; all.reads, read_fails);
-        assert_eq!(rt; all.written.len() as u128, sent);
     }
     Ok(())
 }
@@ -344,9 +353,8 @@ fn a_session_breaks_off_at_the_write_that_fails(rt: HostRuntime) -> Result<(), F
             let sent = u128::from(write_fails - 1);
             let acted = (write_fails - 1) / NO_RECEIPT.len() as u32 + 1;
             let cause = Cause::Write;
-            assert_eq!(rt; all.came, Err(IoFault { cause, acted, sent }));
+            breaks_off(&rt, &all, IoFault { cause, acted, sent });
             assert_eq!(rt; all.writes, write_fails);
-            assert_eq!(rt; all.written.len() as u128, sent);
         }
     }
     Ok(())
@@ -361,7 +369,7 @@ fn a_session_breaks_off_after_a_hundred_thousand_reads(rt: HostRuntime) -> Resul
     let all = answered(&rt, alloc, stream.as_slice(), &[], SLOW);
     let cause = Cause::Reads;
     let (acted, sent) = (0, 0);
-    assert_eq!(rt; all.came, Err(IoFault { cause, acted, sent }));
+    breaks_off(&rt, &all, IoFault { cause, acted, sent });
     assert_eq!(rt; all.reads, 100_000);
     Ok(())
 }

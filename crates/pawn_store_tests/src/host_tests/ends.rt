@@ -32,56 +32,65 @@ impl Log {
     }
 }
 
-/// A reader. If it is slow, it gives one byte a read. Only the read numbered `fails_at` fails; the first is 1.
+/// The calls of a reader or a writer. If it is slow, a call moves one byte. Only the call numbered `fails_at` fails; the
+/// first is 1.
+#[derive(Drop)]
+pub struct Calls<'a> {
+    pub slow: bool,
+    pub fails_at: u32,
+    pub made: u32,
+    pub log: &'a Log,
+}
+
+impl Calls<'_> {
+    // Notes one more call, of this sort. Returns whether it fails.
+    fn fails(&mut self, sort: u64) -> bool {
+        self.log.note(sort);
+        self.made = self.made.saturating_add(1);
+        self.made == self.fails_at
+    }
+}
+
+/// A reader of these bytes.
 #[derive(Drop)]
 pub struct Source<'a> {
     pub bytes: &'a [u8],
-    pub slow: bool,
-    pub fails_at: u32,
-    pub calls: u32,
-    pub log: &'a Log,
+    pub calls: Calls<'a>,
 }
 
 impl Read for Source<'_> {
     ghost remaining = { λ r. Some r.bytes.now };
 
     fn read(&mut self, buf: &mut [u8]) -> io::Result<usize> {
-        self.log.note(1);
-        self.calls = self.calls.saturating_add(1);
-        if self.calls == self.fails_at {
+        if self.calls.fails(1) {
             return Err(io::Error::from(ErrorKind::Interrupted));
         }
-        if self.slow && !buf.is_empty() {
+        if self.calls.slow && !buf.is_empty() {
             return self.bytes.read(&mut buf[..1]);
         }
         self.bytes.read(buf)
     }
 }
 
-/// A writer. If it is slow, it takes one byte a write. One write fails, or takes nothing.
+/// A writer. A write that fails takes nothing, or is an error.
 #[derive(Drop)]
 pub struct Sink<'a> {
     pub taken: Vec<u8>,
-    pub slow: bool,
-    pub fails_at: u32,
     pub takes_nothing: bool,
-    pub calls: u32,
-    pub log: &'a Log,
+    pub calls: Calls<'a>,
 }
 
 impl Write for Sink<'_> {
     ghost contents = { λ w. Some w.taken.items };
 
     fn write(&mut self, buf: &[u8]) -> io::Result<usize> {
-        self.log.note(3);
-        self.calls = self.calls.saturating_add(1);
-        if self.calls == self.fails_at {
+        if self.calls.fails(3) {
             if self.takes_nothing {
                 return Ok(0);
             }
             return Err(io::Error::from(ErrorKind::Interrupted));
         }
-        let n = if self.slow {
+        let n = if self.calls.slow {
             buf.len().min(1)
         } else {
             buf.len()
