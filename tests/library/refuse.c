@@ -131,23 +131,18 @@ ssize_t write(int file, const void *bytes, size_t size) {
 #undef PART
 }
 
-int fsync(int file) {
-    REAL(fsync)
-    if (is_refused('s')) {
-        errno = error;
-        return -1;
+#define SYNC(name) \
+    int name(int file) { \
+        REAL(name) \
+        if (is_refused('s')) { \
+            errno = error; \
+            return -1; \
+        } \
+        return real(file); \
     }
-    return real(file);
-}
-
-int fdatasync(int file) {
-    REAL(fdatasync)
-    if (is_refused('s')) {
-        errno = error;
-        return -1;
-    }
-    return real(file);
-}
+SYNC(fsync)
+SYNC(fdatasync)
+#undef SYNC
 
 int ftruncate(int file, off_t size) {
     REAL(ftruncate)

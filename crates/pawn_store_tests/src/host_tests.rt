@@ -329,9 +329,12 @@ fn a_session_breaks_off_at_the_read_that_fails(rt: HostRuntime) -> Result<(), Fa
         let behaviour = Behaviour { read_fails, ..SLOW };
         let all = answered(&rt, alloc, stream.as_slice(), &stamps, behaviour);
         let acted = (read_fails - 1) / ASKED.len() as u32;
-        let sent = u128::from(acted) * NO_RECEIPT.len() as u128;
-        let cause = Cause::Read;
-        breaks_off(&rt, &all, IoFault { cause, acted, sent });
+        let fault = IoFault {
+            cause: Cause::Read,
+            acted,
+            sent: u128::from(acted) * NO_RECEIPT.len() as u128,
+        };
+        breaks_off(&rt, &all, fault);
         assert_eq!(rt; all.reads, read_fails);
     }
     Ok(())
@@ -350,10 +353,12 @@ fn a_session_breaks_off_at_the_write_that_fails(rt: HostRuntime) -> Result<(), F
                 ..SLOW
             };
             let all = answered(&rt, alloc, stream.as_slice(), &stamps, behaviour);
-            let sent = u128::from(write_fails - 1);
-            let acted = (write_fails - 1) / NO_RECEIPT.len() as u32 + 1;
-            let cause = Cause::Write;
-            breaks_off(&rt, &all, IoFault { cause, acted, sent });
+            let fault = IoFault {
+                cause: Cause::Write,
+                acted: (write_fails - 1) / NO_RECEIPT.len() as u32 + 1,
+                sent: u128::from(write_fails - 1),
+            };
+            breaks_off(&rt, &all, fault);
             assert_eq!(rt; all.writes, write_fails);
         }
     }
@@ -367,9 +372,12 @@ fn a_session_breaks_off_after_a_hundred_thousand_reads(rt: HostRuntime) -> Resul
     let mut stream = Vec::from_slice(alloc, head)?;
     stream.extend_from_slice(&[b' '; 100_000])?;
     let all = answered(&rt, alloc, stream.as_slice(), &[], SLOW);
-    let cause = Cause::Reads;
-    let (acted, sent) = (0, 0);
-    breaks_off(&rt, &all, IoFault { cause, acted, sent });
+    let fault = IoFault {
+        cause: Cause::Reads,
+        acted: 0,
+        sent: 0,
+    };
+    breaks_off(&rt, &all, fault);
     assert_eq!(rt; all.reads, 100_000);
     Ok(())
 }
