@@ -314,27 +314,27 @@ fn a_stamp_then_a_reply_then_the_next_read(rt: HostRuntime) -> Result<(), Fail> 
     Ok(())
 }
 
-// Checks that a session broke off so, and that no more was written than it says.
-fn breaks_off(rt: &impl Abort, all: &Came, fault: IoFault) {
-    assert_eq!(rt; all.came, Err(fault));
-    assert_eq!(rt; all.written.len() as u128, fault.sent);
+// Answers a stream of two requests.
+fn two_answered(rt: &impl Abort, alloc: Global, behaviour: Behaviour) -> Result<Came, Fail> {
+    let stream = repeated(alloc, ASKED, 2, b"")?;
+    let stamps = [stamp(rt, 1); 3];
+    Ok(answered(rt, alloc, stream.as_slice(), &stamps, behaviour))
+}
+
+// Checks that a session broke off for that cause after so many requests, and that so many bytes were written.
+fn breaks_off(rt: &impl Abort, all: &Came, cause: Cause, acted: u32, sent: u128) {
+    assert_eq!(rt; all.came, Err(IoFault { cause, acted, sent }));
+    assert_eq!(rt; all.written.len() as u128, sent);
 }
 
 #[test]
 fn a_session_breaks_off_at_the_read_that_fails(rt: HostRuntime) -> Result<(), Fail> {
-    let alloc = rt.alloc();
-    let stamps = [stamp(&rt, 1); 3];
-    let stream = repeated(alloc, ASKED, 2, b"")?;
     for read_fails in 1..80u32 {
         let behaviour = Behaviour { read_fails, ..SLOW };
-        let all = answered(&rt, alloc, stream.as_slice(), &stamps, behaviour);
+        let all = two_answered(&rt, rt.alloc(), behaviour)?;
         let acted = (read_fails - 1) / ASKED.len() as u32;
-        let fault = IoFault {
-            cause: Cause::Read,
-            acted,
-            sent: u128::from(acted) * NO_RECEIPT.len() as u128,
-        };
-        breaks_off(&rt, &all, fault);
+        let sent = u128::from(acted) * NO_RECEIPT.len() as u128;
+        breaks_off(&rt, &all, Cause::Read, acted, sent);
         assert_eq!(rt; all.reads, read_fails);
     }
     Ok(())
@@ -342,9 +342,6 @@ fn a_session_breaks_off_at_the_read_that_fails(rt: HostRuntime) -> Result<(), Fa
 
 #[test]
 fn a_session_breaks_off_at_the_write_that_fails(rt: HostRuntime) -> Result<(), Fail> {
-    let alloc = rt.alloc();
-    let stamps = [stamp(&rt, 1); 3];
-    let stream = repeated(alloc, ASKED, 2, b"")?;
     for write_fails in 1..223u32 {
         for takes_nothing in [false, true] {
             let behaviour = Behaviour {
@@ -352,13 +349,9 @@ fn a_session_breaks_off_at_the_write_that_fails(rt: HostRuntime) -> Result<(), F
                 takes_nothing,
                 ..SLOW
             };
-            let all = answered(&rt, alloc, stream.as_slice(), &stamps, behaviour);
-            let fault = IoFault {
-                cause: Cause::Write,
-                acted: (write_fails - 1) / NO_RECEIPT.len() as u32 + 1,
-                sent: u128::from(write_fails - 1),
-            };
-            breaks_off(&rt, &all, fault);
+            let all = two_answered(&rt, rt.alloc(), behaviour)?;
+            let acted = (write_fails - 1) / NO_RECEIPT.len() as u32 + 1;
+            breaks_off(&rt, &all, Cause::Write, acted, u128::from(write_fails - 1));
             assert_eq!(rt; all.writes, write_fails);
         }
     }
@@ -372,12 +365,7 @@ fn a_session_breaks_off_after_a_hundred_thousand_reads(rt: HostRuntime) -> Resul
     let mut stream = Vec::from_slice(alloc, head)?;
     stream.extend_from_slice(&[b' '; 100_000])?;
     let all = answered(&rt, alloc, stream.as_slice(), &[], SLOW);
-    let fault = IoFault {
-        cause: Cause::Reads,
-        acted: 0,
-        sent: 0,
-    };
-    breaks_off(&rt, &all, fault);
+    breaks_off(&rt, &all, Cause::Reads, 0, 0);
     assert_eq!(rt; all.reads, 100_000);
     Ok(())
 }
