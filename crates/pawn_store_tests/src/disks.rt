@@ -58,7 +58,9 @@ pub fn crashed(mut disks: Disks) -> Disks {
 }
 
 /// Tries a stop at the first call, at the second, and so on, until what is tried meets no stop.
-pub fn until_whole(mut tried_at: impl FnMut(u64) -> Result<bool, Fail>) -> Result<(), Fail> {
+pub fn until_whole<T: FnMut(u64) -> Result<bool, Fail>>(mut tried_at: T) -> Result<(), Fail>
+    requires may_be_tried { (f : _) (x : _) → T.pre f x }
+{
     for calls in 0..10_000u64 {
         if tried_at(calls)? {
             return Ok(());

@@ -173,8 +173,8 @@ fn answered(
             slow: behaviour.slow,
             fails_at: behaviour.read_fails,
             made: 0,
-            log: &log,
         },
+        log: &log,
     };
     let mut sink = Sink {
         taken: Vec::new(alloc),
@@ -183,8 +183,8 @@ fn answered(
             slow: behaviour.slow,
             fails_at: behaviour.write_fails,
             made: 0,
-            log: &log,
         },
+        log: &log,
     };
     let mut stamps = Stamps { stamps, log: &log };
     let came = service.answer_all(

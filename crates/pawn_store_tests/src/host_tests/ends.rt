@@ -34,18 +34,16 @@ impl Log {
 
 /// The calls of a reader or a writer. If it is slow, a call moves one byte. Only the call numbered `fails_at` fails; the
 /// first is 1.
-#[derive(Drop)]
-pub struct Calls<'a> {
+#[derive(Clone, Copy)]
+pub struct Calls {
     pub slow: bool,
     pub fails_at: u32,
     pub made: u32,
-    pub log: &'a Log,
 }
 
-impl Calls<'_> {
-    // Notes one more call, of this sort. Returns whether it fails.
-    fn fails(&mut self, sort: u64) -> bool {
-        self.log.note(sort);
+impl Calls {
+    // Counts one more call. Returns whether it fails.
+    fn fails(&mut self) -> bool {
         self.made = self.made.saturating_add(1);
         self.made == self.fails_at
     }
@@ -55,14 +53,16 @@ impl Calls<'_> {
 #[derive(Drop)]
 pub struct Source<'a> {
     pub bytes: &'a [u8],
-    pub calls: Calls<'a>,
+    pub calls: Calls,
+    pub log: &'a Log,
 }
 
 impl Read for Source<'_> {
     ghost remaining = { λ r. Some r.bytes.now };
 
     fn read(&mut self, buf: &mut [u8]) -> io::Result<usize> {
-        if self.calls.fails(1) {
+        self.log.note(1);
+        if self.calls.fails() {
             return Err(io::Error::from(ErrorKind::Interrupted));
         }
         if self.calls.slow && !buf.is_empty() {
@@ -77,14 +77,16 @@ impl Read for Source<'_> {
 pub struct Sink<'a> {
     pub taken: Vec<u8>,
     pub takes_nothing: bool,
-    pub calls: Calls<'a>,
+    pub calls: Calls,
+    pub log: &'a Log,
 }
 
 impl Write for Sink<'_> {
     ghost contents = { λ w. Some w.taken.items };
 
     fn write(&mut self, buf: &[u8]) -> io::Result<usize> {
-        if self.calls.fails(3) {
+        self.log.note(3);
+        if self.calls.fails() {
             if self.takes_nothing {
                 return Ok(0);
             }
