@@ -1,7 +1,10 @@
 -- INSERT of one row, told by the rows that the tables hold.
-use Rattle.one_table.proofs.Basics.{◌≡◌, ◌⊎◌, inl, inr, ℕ, ◌/◌, List, [], ◌∷◌, map, length, Some, None, Result, Ok, Err, sym, ap, subst, ◌∙◌, IsPermutation, slice_get, append-nil, IsPermutation-cons, IsPermutation-map, IsPermutation-trans, IsPlain, command_of, one_step, runs_as, statement_of, Enforced, cast_row, Insert, Does, Tally, Applies, edit_of, with_rowid, Database, IsDatabase, value_rows, understood, Row, Chosen, Written, Schema, Values, Executes, State, mode_of, Table, Term, Holds, Lists, Listed, with_rows, columns_of}
-use Rattle.sqlite_rules.specs.Action.{works}
-use Rattle.one_table.proofs.Rowed.{plainly, put_one, carried, at_place, IsAlone}
+use Rattle.std.proofs.Common.{◌≡◌, ◌⊎◌, inl, inr, ℕ, ◌/◌, List, [], ◌∷◌, map, length, Some, None, Result, Ok, Err, sym, ap, subst, ◌∙◌, IsPermutation}
+use Rattle.std.proofs.{Common.{slice_get, append-nil}, lemmas.List.Sorted.{IsPermutation-cons, IsPermutation-map, IsPermutation-trans}}
+use Rattle.sqlite.{proofs.Callers.{IsPlain, command_of, one_step, runs_as, statement_of}, specs.{Cast.cast_row, Edit.{Applies, edit_of, with_rowid}}}
+use Rattle.{sqlite.specs.{Listing.understood, Rows.Written, State.{Executes, State, mode_of}}, one_table.specs.Common.{Enforced, Insert, Does, Tally, Database}}
+use Rattle.one_table.specs.{Common.{IsDatabase, value_rows, Row, Chosen, Schema, Values, Table, Term}, Listing.{Holds, Lists, Listed, with_rows, columns_of}}
+use Rattle.{one_table.proofs.Rowed.{plainly, put_one, carried, at_place, IsAlone}, sqlite_rules.specs.Action.works}
 
 -- a part that gave a value did not stop on the way
 pub went : {B E R : Type 0} {b : B} {Stops : E → Type 0} → ((stop : E) × Stops stop × (Ok b ≡ Err stop)) ⊎ R → R
@@ -23,17 +26,16 @@ module _ (schema : Schema) (at : ℕ) (t : Table) (terms : List Term) (width : �
   table = plainly t
 
   inserts : (old new : State) (params row : Row) (count : ℕ) → old.now.schema ≡ schema → value_rows params width (length terms / width) terms ≡ row ∷ []
-      → Executes text params old new (Ok count)
-      → (new.now.schema ≡ schema) × Applies schema Enforced old.now.trees (edit_of old.now.trees table [] Chosen 0 (row ∷ [])) new.now.trees × IsDatabase new.now
-  inserts old new params row count has all h =
-      let db = old.now.trees in
+      → Executes text params old new (Ok count) → (new.now.schema ≡ schema)
+      × Applies schema Enforced old.now.trees (edit_of old.now.trees table [] Chosen 0 (row ∷ [])) new.now.trees × IsDatabase new.now
+  inserts old new params row count has all h = let db = old.now.trees in
       let w = runs_as text params old new schema has _ command plain count h in
       let whole = statement_of text (understood schema text) in
-      let does = subst (λ s. Does old.step_limit (mode_of old) params (record old.now { schema = s }) whole None (Insert at (Values terms width)) (Ok (w.tally, new.now))) has w.changed in
+      let does = subst (λ s. Does old.step_limit (mode_of old) params (record old.now { schema = s }) whole None (Insert at (Values terms width))
+      (Ok (w.tally, new.now))) has w.changed in
       let done = went (rw there.listed at does) in
       let now = ap (λ (p : Tally × Database). p.1) (same_value (went (went done.2).2).2) in
-      let given = went done.1 in
-      let written = went (went given.2).2 in
+      let given = went done.1 in let written = went (went given.2).2 in
       let counted = went written.2 in
       let trees : done.0.trees ≡ written.0 = ap (λ (it : Written). it.trees) (same_value counted.2) ∙ same_value counted.1 in
       let rows_are : given.0 ≡ row ∷ [] = given.1.1 ∙ ap (λ p. value_rows p width (length terms / width) terms) (append-nil params) ∙ all in
@@ -45,21 +47,23 @@ module _ (schema : Schema) (at : ℕ) (t : Table) (terms : List Term) (width : �
       )
 
   -- the row joins those of its table
-  pub inserted : (old new : State) (params source row shown : Row) (count : ℕ) (listed : Listed) → Lists schema old.now listed
-      → value_rows params width (length terms / width) terms ≡ source ∷ [] → cast_row table source ≡ row → ((rows : List Row) → columns_of table (with_rowid Chosen rows row) ≡ shown)
+  pub inserted : (old new : State) (params source row shown : Row) (count : ℕ) (listed : Listed) → Lists schema old.now listed → value_rows params width
+      (length terms / width) terms ≡ source ∷ [] → cast_row table source ≡ row → ((rows : List Row) → columns_of table (with_rowid Chosen rows row) ≡ shown)
       → Executes text params old new (Ok count) → Lists schema new.now (with_rows listed t.tree (shown ∷ listed t.tree))
-  inserted old new params source row shown count listed st all as_it_is shows h =
-      let db = old.now.trees in
-      let next = new.now.trees in
-      let it = inserts old new params source count st.schema_is all h in
+  inserted old new params source row shown count listed st all as_it_is shows h = let db = old.now.trees in
+      let next = new.now.trees in let it = inserts old new params source count st.schema_is all h in
       let put = put_one schema db next table source it.1 in
-      let holds : Holds db t.tree table (listed t.tree) = at_place (λ (u : Table). Holds db u.tree u (listed u.tree)) schema.tables at table there.listed st.tables in
+      let holds : Holds db t.tree table (listed t.tree) =
+      at_place (λ (u : Table). Holds db u.tree u (listed u.tree)) schema.tables at table there.listed st.tables in
       let moved = IsPermutation-map (columns_of table) _ _ put.0 in
-      let cols : columns_of table (with_rowid Chosen (db t.tree) (cast_row table source)) ≡ shown = ap (λ r. columns_of table (with_rowid Chosen (db t.tree) r)) as_it_is ∙ shows (db t.tree) in
+      let cols : columns_of table (with_rowid Chosen (db t.tree) (cast_row table source)) ≡ shown =
+      ap (λ r. columns_of table (with_rowid Chosen (db t.tree) r)) as_it_is ∙ shows (db t.tree) in
       let same : IsPermutation (shown ∷ listed t.tree) (map (columns_of table) (next t.tree)) =
-      IsPermutation-trans _ _ _ (IsPermutation-cons shown _ _ holds.same) (subst (λ c. IsPermutation (c ∷ map (columns_of table) (db t.tree)) (map (columns_of table) (next t.tree))) cols moved) in
+      IsPermutation-trans _ _ _ (IsPermutation-cons shown _ _ holds.same)
+      (subst (λ c. IsPermutation (c ∷ map (columns_of table) (db t.tree)) (map (columns_of table) (next t.tree))) cols moved) in
       record {
         schema_is = it.0;
         sound = it.2;
-        tables = carried schema.tables table db next listed (shown ∷ listed t.tree) there.alone st.tables it.1.tables (record { same = same; numbered = put.1 holds.numbered });
+        tables = carried schema.tables table db next listed (shown ∷ listed t.tree) there.alone st.tables it.1.tables
+            (record { same = same; numbered = put.1 holds.numbered });
       }

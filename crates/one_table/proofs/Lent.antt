@@ -1,7 +1,6 @@
 -- One part of a transaction after another.
-use Rattle.one_table.proofs.Basics.{Bool, true, refl, arith, ◌∙◌, State, HasCleanDisk, IsLent, Rests}
-use Rattle.sqlite.proofs.StateLemmas.{survives_then}
-use Rattle.one_table.proofs.Parts.{kept_then}
+use Rattle.{std.proofs.Common.{Bool, true, refl, arith, ◌∙◌}, sqlite.{specs.State.{State, HasCleanDisk}, proofs.StateLemmas.survives_then}}
+use Rattle.one_table.{specs.Lending.{IsLent, Rests}, proofs.Parts.kept_then}
 
 pub clean_before : (a b : State) (ok : Bool) → IsLent a b ok → HasCleanDisk b → HasCleanDisk a
 clean_before a b ok l clean = let up = l.survives.clean in omega (arith, clean, up)

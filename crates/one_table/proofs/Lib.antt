@@ -1,5 +1,4 @@
 pub mod Alteration
-pub mod Basics
 pub mod Distinct
 pub mod Found
 pub mod Insertion

@@ -1,10 +1,12 @@
 -- What a text means under a schema.
-use Rattle.one_table.proofs.Basics.{Err, List, None, Ok, Option, Result, Some, [], false, true, ℕ, ◌∷◌, ◌≡◌, Compiled, CompileError, Returning, Compare, Eq, Key, Binary, Insert, Select, Update, reads_listing, understood, Query, Schema, Values, Term, col, op2, IsPlain, command_of}
+use Rattle.{std.proofs.Common.{Err, List, None, Ok, Option, Result, Some, [], false, true, ℕ, ◌∷◌, ◌≡◌}, one_table.specs.Common.{Compiled, CompileError}}
+use Rattle.one_table.specs.Common.{Returning, Compare, Eq, Key, Binary, Insert, Select, Update, Schema, Values, Term, col, op2}
+use Rattle.sqlite.{specs.{Listing.{reads_listing, understood}, Query.Query}, proofs.Callers.{IsPlain, command_of}}
 
 -- the text is this query, which shows columns of these names, and nothing else
 abbrev pub Asks : Schema → List ℕ → Query → List (List ℕ) → Type 0
-Asks schema text query names =
-    (command_of (understood schema text) ≡ Select (record { lets = []; body = query }) names) × (reads_listing schema text ≡ false) × IsPlain (understood schema text)
+Asks schema text query names = (command_of (understood schema text) ≡ Select (record { lets = []; body = query }) names) × (reads_listing schema text ≡ false)
+    × IsPlain (understood schema text)
 
 -- the text puts one row of these values into the table at a place
 abbrev pub Puts : Schema → List ℕ → ℕ → List Term → ℕ → Type 0
@@ -39,4 +41,5 @@ formats_of (Err e) = []
 -- the text changes rows of the table at a place, found by this query, and hands these back
 abbrev pub Returns : Schema → List ℕ → ℕ → Query → Returning → Type 0
 Returns schema text at query what =
-    (command_of (understood schema text) ≡ Update at (record { lets = []; body = query })) × (returning_of (understood schema text) ≡ Some what) × (formats_of (understood schema text) ≡ [])
+    (command_of (understood schema text) ≡ Update at (record { lets = []; body = query })) × (returning_of (understood schema text) ≡ Some what)
+    × (formats_of (understood schema text) ≡ [])

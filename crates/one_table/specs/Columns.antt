@@ -1,11 +1,7 @@
 -- The columns, keys and references of a table, as its text gives them.
 use Rattle.std.specs.Prelude.{true, false, [], ◌∷◌, None, List, ℕ}
-use Rattle.one_table.specs.Common.{Binary, Schema, Table, Null}
-use Rattle.sqlite.specs.Kind.{Kind}
-use Rattle.sqlite_schema.specs.declared.schema.Column.{Column}
-use Rattle.sqlite_schema.specs.declared.schema.Reference.{Reference}
-use Rattle.sqlite_schema.specs.declared.schema.Stamps.{Stamps}
-use Rattle.sqlite_schema.specs.declared.schema.Action.TheVariants.{NoAction}
+use Rattle.{one_table.specs.Common.{Binary, Schema, Table, Null}, sqlite.specs.Kind.Kind, sqlite_schema.specs.declared.schema.Column.Column}
+use Rattle.sqlite_schema.specs.declared.schema.{Reference.Reference, Stamps.Stamps, Action.TheVariants.NoAction}
 
 -- a column that always has a value
 abbrev pub filled : List ℕ → Kind → Column

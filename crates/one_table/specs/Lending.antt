@@ -1,8 +1,6 @@
 -- What a call leaves of a transaction that it was lent.
-use Rattle.std.specs.Prelude.{◌≡◌, Bool, true, IsTrue}
-use Rattle.std.specs.Borrow.{MutBor}
-use Rattle.one_table.specs.Common.{Held, state, HasCleanDisk, KeepsCommit, State, Survives}
-use Rattle.sqlite_trees.specs.declared.store.Store.{Ghosts}
+use Rattle.std.specs.{Prelude.{◌≡◌, Bool, true, IsTrue}, Borrow.MutBor}
+use Rattle.{sqlite.specs.{Held.{Held, state}, State.{HasCleanDisk, KeepsCommit, State, Survives}}, sqlite_trees.specs.declared.store.Store.Ghosts}
 
 -- the last commit is kept, the transaction goes on unless the call failed, and a crash leaves what it left before
 pub record IsLent (old new : State) (ok : Bool) : Type 0 where

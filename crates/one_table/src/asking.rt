@@ -1,7 +1,5 @@
 ghost use Rattle.std.specs.Prelude.{◌≡◌, ℕ, IfOk, IsTrue, OnOk, Ok, false, is_ok};
-ghost use Rattle.sqlite.specs.Values.{bound};
-ghost use Rattle.one_table.specs.Common.{state, Executes, HasCleanDisk, Shown};
-ghost use Rattle.one_table.specs.Lending.{Lends};
+ghost use Rattle.{sqlite.specs.{Values.bound, Held.state, State.{Executes, HasCleanDisk, Shown, IsLive}}, one_table.specs.Lending.Lends};
 
 use sqlite::{Alter, Connection, Error, Row, Transaction};
 use sqlite_value::value::ValueRef;
@@ -14,8 +12,7 @@ pub fn ask<S: Alter>(
     params: &[ValueRef<'_>],
 ) -> Result<Vec<Row>, Error>
     ensures shown { HasCleanDisk (state S.Store tx.new.conn.now) → IfOk result
-        (λ rows. Shown sql.now (bound params.now) (state S.Store tx.old.conn.now)
-        (state S.Store tx.new.conn.now) rows.items) }
+        (λ rows. Shown sql.now (bound params.now) (state S.Store tx.old.conn.now) (state S.Store tx.new.conn.now) rows.items) }
     ensures lent { Lends S.Store tx.old.conn tx.new.conn (is_ok result) }
 {
     match tx.query_all(sql, params) {
@@ -31,10 +28,8 @@ pub fn run<S: Alter>(
     sql: &str,
     params: &[ValueRef<'_>],
 ) -> Result<(), Error>
-    ensures ran { HasCleanDisk (state S.Store tx.new.conn.now) → IsTrue
-        (state S.Store tx.old.conn.now).in_transaction → OnOk result
-        ((count : ℕ) × Executes sql.now (bound params.now) (state S.Store tx.old.conn.now)
-        (state S.Store tx.new.conn.now) (Ok count)) }
+    ensures ran { HasCleanDisk (state S.Store tx.new.conn.now) → IsTrue (state S.Store tx.old.conn.now).in_transaction → OnOk result
+        ((count : ℕ) × Executes sql.now (bound params.now) (state S.Store tx.old.conn.now) (state S.Store tx.new.conn.now) (Ok count)) }
     ensures lent { Lends S.Store tx.old.conn tx.new.conn (is_ok result) }
 {
     match tx.execute(sql, params) {
@@ -43,12 +38,13 @@ pub fn run<S: Alter>(
     }
 }
 
-/// Gives a proof that an open connection shows, outside a transaction, what it has committed. The library promises this
-/// only along with the answer of `is_autocommit`, so that is asked, and the answer is dropped.
+/// Gives a proof that an open connection shows, outside a transaction, what it has committed, and that it is live. The
+/// library promises this only along with the answers of `is_autocommit` and `schema`, so both are asked, and dropped.
 pub fn know_settled<S: Alter>(conn: &Connection<S>)
-    ensures settled { (state S.Store conn.now).in_transaction ≡ false → IsTrue
-        (state S.Store conn.now).is_open
+    ensures settled { (state S.Store conn.now).in_transaction ≡ false → IsTrue (state S.Store conn.now).is_open
         → (state S.Store conn.now).now ≡ (state S.Store conn.now).committed }
+    ensures live { IsLive (state S.Store conn.now) }
 {
     let _ = conn.is_autocommit();
+    let _ = conn.schema();
 }

@@ -2,6 +2,11 @@
 use Rattle.std.proofs.Common.{◌≡◌, ◌∙◌, ℕ, zero, suc, ◌≤◌, List, [], ◌∷◌, ◌++◌, length, length-append, take, slice_get, Some, None, refl, ap, arith}
 use Rattle.pawn_base.specs.Lists.{DoNotFall, Each, last_by}
 
+infixr 5 ◌&◌
+-- what holds of an element, and then of those after it
+pub ◌&◌ : {A B : Type 0} → A → B → A × B
+a & b = (a, b)
+
 pub last_by-le : {A : Type 0} (f : A → ℕ) (n : ℕ) (xs : List A) → DoNotFall f n xs → n ≤ last_by f n xs
 last_by-le f n [] h = omega arith
 last_by-le f n (x ∷ xs) h = omega (arith, h.0, last_by-le f (f x) xs h.1)
@@ -28,7 +33,8 @@ Each-all P [] f = tt
 Each-all P (x ∷ xs) f = (f x, Each-all P xs f)
 
 -- what does not fall lies between the first and the last
-pub DoNotFall-each : {A : Type 0} (f : A → ℕ) (low n high : ℕ) (xs : List A) → low ≤ n → DoNotFall f n xs → last_by f n xs ≤ high → Each (λ x. (low ≤ f x) × (f x ≤ high)) xs
+pub DoNotFall-each : {A : Type 0} (f : A → ℕ) (low n high : ℕ) (xs : List A) → low ≤ n → DoNotFall f n xs → last_by f n xs ≤ high
+    → Each (λ x. (low ≤ f x) × (f x ≤ high)) xs
 DoNotFall-each f low n high [] after h before = tt
 DoNotFall-each f low n high (x ∷ xs) after h before =
     ((omega (arith, after, h.0), omega (arith, last_by-le f (f x) xs h.1, before)), DoNotFall-each f low (f x) high xs (omega (arith, after, h.0)) h.1 before)

@@ -1,6 +1,5 @@
 -- What an answer after a list of refusals says.
-use Rattle.std.proofs.Common.{◌≡◌, Bool, true, false, if◌then◌else◌, List, [], ◌∷◌, Result, Ok, Err, IsOk, refl}
-use Rattle.std.proofs.lemmas.Bool.{false≢true}
+use Rattle.std.proofs.{Common.{◌≡◌, Bool, true, false, if◌then◌else◌, List, [], ◌∷◌, Result, Ok, Err, IsOk, refl}, lemmas.Bool.false≢true}
 use Rattle.pawn_base.specs.Refusals.{first_of, NoneApplies}
 
 -- an answer past one row

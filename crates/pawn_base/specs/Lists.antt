@@ -1,7 +1,8 @@
 -- What holds of each element of a list, and lists along which a number does not fall.
 use Rattle.std.specs.Prelude.{ℕ, ◌≤◌, List, [], ◌∷◌}
--- a property of each element; by recursion, so that it computes along a list that is given
 pub use Rattle.std.specs.List.{AllByRecursion as Each}
+
+-- a property of each element; by recursion, so that it computes along a list that is given
 
 -- f does not fall from one element to the next, and is at least n at the first; by recursion, so that it computes
 -- along a list that is given

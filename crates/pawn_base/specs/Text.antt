@@ -1,6 +1,5 @@
 -- Texts within limits, as a record keeps them.
-use Rattle.std.specs.Prelude.{ℕ, Bool, nat_le, ◌&&◌, ◌==◌, not, List, length, IsTrue}
-use Rattle.std.specs.List.{list_all}
+use Rattle.std.specs.{Prelude.{ℕ, Bool, nat_le, ◌&&◌, ◌==◌, not, List, length, IsTrue}, List.list_all}
 
 -- no control character of ASCII
 abbrev pub is_plain : ℕ → Bool

@@ -1,6 +1,5 @@
-ghost use Rattle.std.specs.Prelude.{◌≡◌, ◌↔◌, List, ℕ, IfOk, IfSome, IsSome, string_bytes};
+ghost use Rattle.std.specs.{Prelude.{◌≡◌, ◌↔◌, List, ℕ, IfOk, IfSome, IsSome, string_bytes}, List.list_all};
 ghost use Rattle.pawn_base.specs.Text.{is_plain, is_text, IsText};
-ghost use Rattle.std.specs.List.{list_all};
 
 use std::alloc::{AllocError, Global};
 use std::marker::Model;

@@ -1,15 +1,18 @@
 -- A plan of a command is the book's step.
-use Rattle.pawn_book.proofs.Basics.{◌≡◌, ℕ, Some, None, Ok, Err, refl, ◌∙◌, ap, sym, subst, arith, inl, inr, if◌then◌else◌, Option, Result, Bool, true, false, IfSome, IfOk, Agreement, Answered, Changed, Command, Done, IsCommand, IsDayNumber, IsStampDay, IsStanding, IsUtf8, Judged, PledgeValue, Receipt, Refused, Stamp, get, pledge_step, stays_standing, AreDistinct, AreSound, AreWords, BookValue, CanSave, Change, Continues, HasTextsAndWords, Host, IsOutcome, IsSound, IsSoundBook, IsUnder, IsWord, Makes, Outcome, Planned, Plans, PutPledge, Refusal, Refuses, Reply, Says, bearer_commands, book_number, broker_commands, changed_book, is_live, judged_outcome, live_at, only_live, outcome_of, pledge_from, pledge_in, put_from, terms_at, with_book, with_change, within_window}
-use Rattle.pawn_book.proofs.KeptLemmas.{kept_moved}
-use Rattle.pawn_book.proofs.Places.{pledge_within}
-use Rattle.pawn_book.proofs.Words.{words_moved}
-use Rattle.pawn_book.proofs.SoundLists.{map-put, versions_put}
-use Rattle.pawn_book.proofs.Plans.{changed_is}
-use Rattle.pawn_book.proofs.Sounds.{absurd_none, each_at, each_put, length-put, numbered_at, numbered_put, sound_with}
+use Rattle.std.proofs.Common.{◌≡◌, ℕ, Some, None, Ok, Err, refl, ◌∙◌, ap, sym, subst, arith, inl, inr, if◌then◌else◌, Option, Result, Bool, true, false, IfSome}
+use Rattle.{std.{proofs.Common.IfOk, specs.FinMap.get}, pawn_book.specs.Common.{Agreement, Answered, Changed, Command, Done, IsStanding, IsUtf8, Judged}}
+use Rattle.pawn_book.specs.{Common.{PledgeValue, Receipt, Refused, Stamp, pledge_step}, Rows.{AreDistinct, IsUnder, terms_at}, Sound.{AreSound, AreWords}}
+use Rattle.pawn_book.specs.{Sound.{HasTextsAndWords, IsSound, IsSoundBook, IsWord}, BookStep.{BookValue, Makes, Outcome, Refuses, Says, bearer_commands}}
+use Rattle.pawn_book.specs.BookStep.{broker_commands, changed_book, is_live, judged_outcome, live_at, only_live, pledge_from, pledge_in, put_from}
+use Rattle.pawn_book.specs.{BookStep.within_window, Changes.{CanSave, Continues, book_number, with_change}, Books.{Change, Planned, PutPledge, Refusal, Reply}}
+use Rattle.pawn_book.{specs.{HostStep.{Host, with_book}, Plans.{IsOutcome, Plans, outcome_of}}, proofs.{KeptLemmas.kept_moved, Places.pledge_within}}
+use Rattle.pawn_book.proofs.{Words.words_moved, SoundLists.{map-put, versions_put}, Plans.changed_is, Sounds.{absurd_none, each_at, each_put, length-put}}
+use Rattle.{pawn_book.proofs.Sounds.{numbered_at, numbered_put, sound_with}, pawn_pledge.{specs.Commands.IsCommand, proofs.Steps.stays_standing}}
+use Rattle.pawn_terms.specs.Calendar.{IsDayNumber, IsStampDay}
 
 -- a book with a pledge in place of one that stood
-sound_put : (book : BookValue) (n : ℕ) (p q : PledgeValue) → IsSoundBook book → pledge_from 1 book.pledges n ≡ Some p → Continues p q → IsStanding q → AreWords q.secrets
-    → IsSoundBook (record book { pledges = put_from 1 book.pledges n q })
+sound_put : (book : BookValue) (n : ℕ) (p q : PledgeValue) → IsSoundBook book → pledge_from 1 book.pledges n ≡ Some p → Continues p q → IsStanding q
+    → AreWords q.secrets → IsSoundBook (record book { pledges = put_from 1 book.pledges n q })
 sound_put book n p q sound is kept standing words =
     let within = pledge_within 1 book.pledges n p is in
     let low = within.0 in
@@ -27,19 +30,26 @@ sound_put book n p q sound is kept standing words =
       rows = record {
         numbered = numbered_put 1 book.pledges n q sound.rows.numbered number low (omega (arith, high));
         standing = each_put IsStanding 1 book.pledges n q sound.rows.standing standing;
-        references = subst AreDistinct (sym (map-put (λ p. p.agreement.opening.reference) 1 book.pledges n p q is (ap (λ (a : Agreement). a.opening.reference) kept.agreement))) sound.rows.references;
-        under = each_put (IsUnder book.terms) 1 book.pledges n q sound.rows.under
-            (subst (λ (a : Agreement). terms_at book.terms a.version ≡ Some a.terms) (sym kept.agreement) (each_at (IsUnder book.terms) 1 book.pledges n p sound.rows.under is));
+        references = subst AreDistinct (sym (map-put (λ p. p.agreement.opening.reference) 1 book.pledges n p q is
+            (ap (λ (a : Agreement). a.opening.reference) kept.agreement))) sound.rows.references;
+        under = each_put (IsUnder book.terms) 1 book.pledges n q sound.rows.under (subst (λ (a : Agreement). terms_at book.terms a.version ≡ Some a.terms)
+            (sym kept.agreement) (each_at (IsUnder book.terms) 1 book.pledges n p sound.rows.under is));
         versions = versions_put 1 0 book.pledges n p q is (ap (λ (a : Agreement). a.version) kept.agreement) sound.rows.versions;
         checked = sound.rows.checked;
         few_terms = sound.rows.few_terms;
         few_pledges = omega (arith, long, few);
       };
-      written = each_put HasTextsAndWords 1 book.pledges n q sound.written (record { reference = subst (λ (a : Agreement). IsUtf8 a.opening.reference) (sym kept.agreement) before.reference; article = subst (λ (a : Agreement). IsUtf8 a.opening.article) (sym kept.agreement) before.article; secrets = words; taken = subst (λ (a : Agreement). IsDayNumber a.taken) (sym kept.agreement) before.taken });
+      written = each_put HasTextsAndWords 1 book.pledges n q sound.written (record {
+        reference = subst (λ (a : Agreement). IsUtf8 a.opening.reference) (sym kept.agreement) before.reference;
+        article = subst (λ (a : Agreement). IsUtf8 a.opening.article) (sym kept.agreement) before.article;
+        secrets = words;
+        taken = subst (λ (a : Agreement). IsDayNumber a.taken) (sym kept.agreement) before.taken;
+      });
     }
 
 -- the change that a command makes may be saved
-put_saves : (h : Host) (b n : ℕ) (at : BookValue) (p q : PledgeValue) (stamp : Stamp) (command : Command) (done : Done) → IsSound h → get h.books b ≡ Some at → pledge_from 1 at.pledges n ≡ Some p
+put_saves : (h : Host) (b n : ℕ) (at : BookValue) (p q : PledgeValue) (stamp : Stamp) (command : Command) (done : Done) → IsSound h → get h.books b ≡ Some at
+    → pledge_from 1 at.pledges n ≡ Some p
     → IsStampDay stamp.day → IsWord stamp.word → IsCommand command → pledge_step p stamp command ≡ Changed q done → CanSave h (PutPledge b n q)
 put_saves h b n at p q stamp command done sound is stands day word given step =
     let one = (sound.books b at is).1 in
@@ -60,60 +70,61 @@ change_of (Says out) other = other
 change_of (Makes change reply) other = change
 
 -- what a command's outcome changes may be saved
-pub command_saves : (h : Host) (b n : ℕ) (p : PledgeValue) (stamp : Stamp) (command : Command) (change : Option Change) (reply : Reply) → IsSound h → pledge_in (get h.books b) n ≡ Some p
-    → IsStampDay stamp.day → IsWord stamp.word → IsCommand command → judged_outcome b n (pledge_step p stamp command) ≡ outcome_of change reply → IfSome change (λ c. (book_number c ≡ b) × CanSave h c)
+pub command_saves : (h : Host) (b n : ℕ) (p : PledgeValue) (stamp : Stamp) (command : Command) (change : Option Change) (reply : Reply) → IsSound h
+    → pledge_in (get h.books b) n ≡ Some p → IsStampDay stamp.day → IsWord stamp.word → IsCommand command
+    → judged_outcome b n (pledge_step p stamp command) ≡ outcome_of change reply → IfSome change (λ c. (book_number c ≡ b) × CanSave h c)
 command_saves h b n p stamp command None reply sound stands day word given is = tt
-command_saves h b n p stamp command (Some change) reply sound stands day word given is = in_book (get h.books b) refl stands
-  where
-    judged : (at : BookValue) (j : Judged) → get h.books b ≡ Some at → pledge_from 1 at.pledges n ≡ Some p → pledge_step p stamp command ≡ j → judged_outcome b n j ≡ Makes change reply
-        → (book_number change ≡ b) × CanSave h change
-    judged at (Refused why) e there step made = cc made
-    judged at (Answered done) e there step made = cc made
-    judged at (Changed q done) e there step made =
-        let same : PutPledge b n q ≡ change = ap (λ o. change_of o change) made in
-        subst (λ (c : Change). (book_number c ≡ b) × CanSave h c) same (refl, put_saves h b n at p q stamp command done sound e there day word given step)
+command_saves h b n p stamp command (Some change) reply sound stands day word given is = in_book (get h.books b) refl stands where
+  judged : (at : BookValue) (j : Judged) → get h.books b ≡ Some at → pledge_from 1 at.pledges n ≡ Some p → pledge_step p stamp command ≡ j
+      → judged_outcome b n j ≡ Makes change reply → (book_number change ≡ b) × CanSave h change
+  judged at (Refused why) e there step made = cc made
+  judged at (Answered done) e there step made = cc made
+  judged at (Changed q done) e there step made =
+      let same : PutPledge b n q ≡ change = ap (λ o. change_of o change) made in
+      subst (λ (c : Change). (book_number c ≡ b) × CanSave h c) same (refl, put_saves h b n at p q stamp command done sound e there day word given step)
 
-    in_book : (o : Option BookValue) → get h.books b ≡ o → pledge_in o n ≡ Some p → (book_number change ≡ b) × CanSave h change
-    in_book None e there = absurd_none there
-    in_book (Some at) e there = judged at (pledge_step p stamp command) e there refl is
+  in_book : (o : Option BookValue) → get h.books b ≡ o → pledge_in o n ≡ Some p → (book_number change ≡ b) × CanSave h change
+  in_book None e there = absurd_none there
+  in_book (Some at) e there = judged at (pledge_step p stamp command) e there refl is
 
 -- a bearer's command on the pledge of a live receipt
 pub live_is : (s : ℕ) (o : Option PledgeValue) (p : PledgeValue) → Some p ≡ only_live s o → o ≡ Some p
 live_is s None p is = absurd_none (sym is)
-live_is s (Some q) p is = from (is_live s q) is
-  where
-    from : (v : Bool) → Some p ≡ (if v then Some q else None) → Some q ≡ Some p
-    from true same = sym same
-    from false none = absurd_none (sym none)
+live_is s (Some q) p is = from (is_live s q) is where
+  from : (v : Bool) → Some p ≡ (if v then Some q else None) → Some q ≡ Some p
+  from true same = sym same
+  from false none = absurd_none (sym none)
 
 pub receipt_plans : (h : Host) (b : ℕ) (r : Receipt) (p : PledgeValue) (stamp : Stamp) (command : Command) (result : Result Planned Refusal) → IsSound h
-    → Some p ≡ live_at (pledge_in (get h.books b)) r → IsStampDay stamp.day → IsWord stamp.word → IsCommand command → IsOutcome (judged_outcome b r.number (pledge_step p stamp command)) result
+    → Some p ≡ live_at (pledge_in (get h.books b)) r → IsStampDay stamp.day → IsWord stamp.word → IsCommand command
+    → IsOutcome (judged_outcome b r.number (pledge_step p stamp command)) result
     → Plans h b (bearer_commands b r.number stamp command (live_at (pledge_in (get h.books b)) r)) result
 receipt_plans h b r p stamp command (Ok planned) sound live day word given is =
-    let stands = live_is r.secret (pledge_in (get h.books b) r.number) p live in
-    (ap (bearer_commands b r.number stamp command) (sym live) ∙ is, command_saves h b r.number p stamp command planned.change planned.reply sound stands day word given is)
+    let stands = live_is r.secret (pledge_in (get h.books b) r.number) p live in (
+      ap (bearer_commands b r.number stamp command) (sym live) ∙ is,
+      command_saves h b r.number p stamp command planned.change planned.reply sound stands day word given is,
+    )
 receipt_plans h b r p stamp command (Err why) sound live day word given (inl unwell) = inl unwell
 receipt_plans h b r p stamp command (Err why) sound live day word given (inr is) = inr (ap (bearer_commands b r.number stamp command) (sym live) ∙ is)
 
 -- a broker's command, once its window was looked at
-pub number_plans : (h : Host) (b n : ℕ) (at : BookValue) (p : PledgeValue) (stamp : Stamp) (command : Command) (planned : Planned) (result : Result Planned Refusal) → IsSound h
-    → get h.books b ≡ Some at → Some p ≡ pledge_in (get h.books b) n → IsStampDay stamp.day → IsWord stamp.word → IsCommand command
-    → judged_outcome b n (pledge_step p stamp command) ≡ outcome_of planned.change planned.reply → IsOutcome (within_window at (outcome_of planned.change planned.reply)) result
-    → IfOk result (λ q. q ≡ planned) → Plans h b (broker_commands at b n stamp command (pledge_from 1 at.pledges n)) result
-number_plans h b n at p stamp command planned result sound is stands day word given judged roomed same = from result roomed same
-  where
-    there : pledge_from 1 at.pledges n ≡ Some p
-    there = ap (λ o. pledge_in o n) (sym is) ∙ sym stands
+pub number_plans : (h : Host) (b n : ℕ) (at : BookValue) (p : PledgeValue) (stamp : Stamp) (command : Command) (planned : Planned) (result : Result Planned
+    Refusal) → IsSound h → get h.books b ≡ Some at → Some p ≡ pledge_in (get h.books b) n → IsStampDay stamp.day → IsWord stamp.word → IsCommand command
+    → judged_outcome b n (pledge_step p stamp command) ≡ outcome_of planned.change planned.reply → IsOutcome (within_window at (outcome_of planned.change
+    planned.reply)) result → IfOk result (λ q. q ≡ planned) → Plans h b (broker_commands at b n stamp command (pledge_from 1 at.pledges n)) result
+number_plans h b n at p stamp command planned result sound is stands day word given judged roomed same = from result roomed same where
+  there : pledge_from 1 at.pledges n ≡ Some p
+  there = ap (λ o. pledge_in o n) (sym is) ∙ sym stands
 
-    steps : broker_commands at b n stamp command (pledge_from 1 at.pledges n) ≡ within_window at (outcome_of planned.change planned.reply)
-    steps = ap (broker_commands at b n stamp command) there ∙ ap (within_window at) judged
+  steps : broker_commands at b n stamp command (pledge_from 1 at.pledges n) ≡ within_window at (outcome_of planned.change planned.reply)
+  steps = ap (broker_commands at b n stamp command) there ∙ ap (within_window at) judged
 
-    from : (r : Result Planned Refusal) → IsOutcome (within_window at (outcome_of planned.change planned.reply)) r → IfOk r (λ q. q ≡ planned)
-        → Plans h b (broker_commands at b n stamp command (pledge_from 1 at.pledges n)) r
-    from (Ok q) told as_planned = (
-      steps ∙ told,
-      subst (λ (x : Planned). IfSome x.change (λ c. (book_number c ≡ b) × CanSave h c)) (sym as_planned)
-          (command_saves h b n p stamp command planned.change planned.reply sound (sym stands) day word given judged),
-    )
-    from (Err why) (inl unwell) as_planned = inl unwell
-    from (Err why) (inr told) as_planned = inr (steps ∙ told)
+  from : (r : Result Planned Refusal) → IsOutcome (within_window at (outcome_of planned.change planned.reply)) r → IfOk r (λ q. q ≡ planned)
+      → Plans h b (broker_commands at b n stamp command (pledge_from 1 at.pledges n)) r
+  from (Ok q) told as_planned = (
+    steps ∙ told,
+    subst (λ (x : Planned). IfSome x.change (λ c. (book_number c ≡ b) × CanSave h c)) (sym as_planned)
+        (command_saves h b n p stamp command planned.change planned.reply sound (sym stands) day word given judged),
+  )
+  from (Err why) (inl unwell) as_planned = inl unwell
+  from (Err why) (inr told) as_planned = inr (steps ∙ told)

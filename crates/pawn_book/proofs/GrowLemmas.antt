@@ -1,9 +1,15 @@
 -- A book grows with each request.
-use Rattle.pawn_book.proofs.Basics.{◌≡◌, ℕ, List, [], ◌∷◌, ◌++◌, length, Some, None, Ok, Err, refl, ◌∙◌, ap, sym, subst, arith, append_assoc, if◌then◌else◌, Option, Result, ◌==◌, Bool, true, false, map, append-nil, Answered, Changed, Command, Done, Judged, Opening, PledgeValue, Rates, Receipt, Refused, Stamp, pledge_step, AddTerms, Bearer, BookFilled, BookNotEmpty, BookRows, BookValue, Broker, Caller, Export, Import, ImportBook, Imported, Makes, NewTerms, NoSuchReceipt, OnPledge, OnReceipt, Opened, Operator, Outcome, Present, PutPledge, PutTerms, Refusal, Refuses, Says, SheetOf, Show, Shown, TakePledge, TermsPut, WindowFull, are_same_rates, are_unknown, bearer_commands, book_after, book_head, book_run, book_step, broker_commands, confirmed_booking, filled_book, first_receipt, import_rows, is_empty, is_same_book, is_same_opening, is_window_full, judged_outcome, live_at, make_or_refuse, newest, next_pledge, next_terms, pledge_from, pledge_in, present_receipts, put_from, put_terms, show_pledge, take_pledge, terms_at, with_reference, within_window}
-use Rattle.pawn_book.proofs.Sounds.{absurd_none, put_next}
-use Rattle.pawn_book.proofs.KeptLemmas.{AreKept, are_kept_on, are_kept_push, are_kept_put, are_kept_same, kept_moved}
-use Rattle.pawn_book.proofs.CommandPlans.{live_is}
-use Rattle.pawn_book.proofs.Plans.{empty_lists, taken_is, without_lists}
+use Rattle.std.proofs.Common.{◌≡◌, ℕ, List, [], ◌∷◌, ◌++◌, length, Some, None, Ok, Err, refl, ◌∙◌, ap, sym, subst, arith, append_assoc, if◌then◌else◌, Option}
+use Rattle.{std.proofs.Common.{Result, ◌==◌, Bool, true, false, map, append-nil}, pawn_book.specs.Common.{Answered, Changed, Command, Done, Judged, Opening}}
+use Rattle.pawn_book.specs.{Common.{PledgeValue, Rates, Receipt, Refused, Stamp, pledge_step}, Books.{AddTerms, Bearer, BookFilled, BookNotEmpty, BookRows}}
+use Rattle.pawn_book.specs.Books.{Broker, Caller, Export, Import, ImportBook, Imported, NewTerms, NoSuchReceipt, OnPledge, OnReceipt, Opened, Operator, Present}
+use Rattle.pawn_book.specs.{Books.{PutPledge, PutTerms, Refusal, SheetOf, Show, TakePledge, TermsPut, WindowFull}, BookStep.{BookValue, Makes, Outcome}}
+use Rattle.pawn_book.specs.BookStep.{Refuses, Says, Shown, are_same_rates, are_unknown, bearer_commands, book_after, book_head, book_step, broker_commands}
+use Rattle.pawn_book.specs.BookStep.{confirmed_booking, filled_book, first_receipt, import_rows, is_empty, is_same_book, is_same_opening, is_window_full}
+use Rattle.pawn_book.specs.BookStep.{judged_outcome, live_at, make_or_refuse, newest, next_pledge, next_terms, pledge_from, pledge_in, present_receipts}
+use Rattle.pawn_book.specs.{BookStep.{put_from, put_terms, show_pledge, take_pledge, with_reference, within_window}, Laws.book_run, Rows.terms_at}
+use Rattle.pawn_book.proofs.{Sounds.{absurd_none, put_next}, KeptLemmas.{AreKept, are_kept_on, are_kept_push, are_kept_put, are_kept_same, kept_moved}}
+use Rattle.pawn_book.proofs.{CommandPlans.live_is, Plans.{empty_lists, taken_is, without_lists}}
 
 -- what stays and what grows in a book
 pub record Grown (old new : BookValue) : Type 0 where
@@ -15,7 +21,8 @@ pub record Grown (old new : BookValue) : Type 0 where
   pub imported : (imported : Imported) → old.imported ≡ Some imported → new.imported ≡ Some imported
 
 pub grown_same : (book : BookValue) → Grown book book
-grown_same book = record { key = refl; name = refl; capacity = refl; terms = ([], sym (append-nil book.terms)); pledges = are_kept_same book.pledges; imported = λ imported is. is }
+grown_same book = record
+    { key = refl; name = refl; capacity = refl; terms = ([], sym (append-nil book.terms)); pledges = are_kept_same book.pledges; imported = λ imported is. is }
 
 grown_on : (a b c : BookValue) → Grown a b → Grown b c → Grown a c
 grown_on a b c f s = record {
@@ -33,41 +40,49 @@ GrowsTo book after = (next : BookValue) × (after ≡ Some next) × Grown book n
 stays : (book : BookValue) → GrowsTo book (Some book)
 stays book = (book, refl, grown_same book)
 
-grows_by : (book : BookValue) (test : Bool) (x y : Outcome) → GrowsTo book (book_after (Some book) x) → GrowsTo book (book_after (Some book) y) → GrowsTo book (book_after (Some book) (if test then x else y))
+grows_by : (book : BookValue) (test : Bool) (x y : Outcome) → GrowsTo book (book_after (Some book) x) → GrowsTo book (book_after (Some book) y)
+    → GrowsTo book (book_after (Some book) (if test then x else y))
 grows_by book true x y f s = f
 grows_by book false x y f s = s
 
 put_terms_grows : (book : BookValue) (b : ℕ) (new : NewTerms) (o : Option Rates) → GrowsTo book (book_after (Some book) (put_terms book b new o))
 put_terms_grows book b new (Some terms) = grows_by book (are_same_rates terms new.rates) _ _ (stays book) (stays book)
-put_terms_grows book b new None = from (next_terms (length book.terms) new)
-  where
-    from : (r : Result Rates Refusal) → GrowsTo book (book_after (Some book) (make_or_refuse r (λ terms. Makes (AddTerms b new.version terms) (TermsPut new.version))))
-    from (Err why) = stays book
-    from (Ok terms) = (
-      record book { terms = book.terms ++ terms ∷ [] },
-      refl,
-      record { key = refl; name = refl; capacity = refl; terms = (terms ∷ [], refl); pledges = are_kept_same book.pledges; imported = λ imported is. is },
-    )
+put_terms_grows book b new None = from (next_terms (length book.terms) new) where
+  from : (r : Result Rates Refusal)
+      → GrowsTo book (book_after (Some book) (make_or_refuse r (λ terms. Makes (AddTerms b new.version terms) (TermsPut new.version))))
+  from (Err why) = stays book
+  from (Ok terms) = (
+    record book { terms = book.terms ++ terms ∷ [] },
+    refl,
+    record { key = refl; name = refl; capacity = refl; terms = (terms ∷ [], refl); pledges = are_kept_same book.pledges; imported = λ imported is. is },
+  )
 
 -- the list after the next pledge
-pub next_pledges : (book : BookValue) (opening : Opening) (stamp : Stamp) (p : PledgeValue) → next_pledge (book_head book) opening stamp (newest book.terms) ≡ Ok p
-    → put_from 1 book.pledges p.agreement.number p ≡ book.pledges ++ p ∷ []
+pub next_pledges : (book : BookValue) (opening : Opening) (stamp : Stamp) (p : PledgeValue)
+    → next_pledge (book_head book) opening stamp (newest book.terms) ≡ Ok p → put_from 1 book.pledges p.agreement.number p ≡ book.pledges ++ p ∷ []
 next_pledges book opening stamp p is =
     let number = (taken_is (book_head book) opening stamp (newest book.terms) p is).number in
     put_next 1 book.pledges p.agreement.number p (omega (arith, number))
 
-take_pledge_grows : (book : BookValue) (b : ℕ) (opening : Opening) (stamp : Stamp) (o : Option PledgeValue) → GrowsTo book (book_after (Some book) (take_pledge book b opening stamp o))
+take_pledge_grows : (book : BookValue) (b : ℕ) (opening : Opening) (stamp : Stamp) (o : Option PledgeValue)
+    → GrowsTo book (book_after (Some book) (take_pledge book b opening stamp o))
 take_pledge_grows book b opening stamp (Some p) = grows_by book (is_same_opening p.agreement.opening opening) _ _ (stays book) (stays book)
-take_pledge_grows book b opening stamp None = from (next_pledge (book_head book) opening stamp (newest book.terms)) refl
-  where
-    from : (r : Result PledgeValue Refusal) → next_pledge (book_head book) opening stamp (newest book.terms) ≡ r
-        → GrowsTo book (book_after (Some book) (make_or_refuse r (λ p. Makes (PutPledge b p.agreement.number p) (Opened (first_receipt p)))))
-    from (Err why) is = stays book
-    from (Ok p) is = (
-      record book { pledges = put_from 1 book.pledges p.agreement.number p },
-      refl,
-      record { key = refl; name = refl; capacity = refl; terms = ([], sym (append-nil book.terms)); pledges = subst (AreKept book.pledges) (sym (next_pledges book opening stamp p is)) (are_kept_push book.pledges (p ∷ [])); imported = λ imported is. is },
-    )
+take_pledge_grows book b opening stamp None = from (next_pledge (book_head book) opening stamp (newest book.terms)) refl where
+  from : (r : Result PledgeValue Refusal) → next_pledge (book_head book) opening stamp (newest book.terms) ≡ r
+      → GrowsTo book (book_after (Some book) (make_or_refuse r (λ p. Makes (PutPledge b p.agreement.number p) (Opened (first_receipt p)))))
+  from (Err why) is = stays book
+  from (Ok p) is = (
+    record book { pledges = put_from 1 book.pledges p.agreement.number p },
+    refl,
+    record {
+      key = refl;
+      name = refl;
+      capacity = refl;
+      terms = ([], sym (append-nil book.terms));
+      pledges = subst (AreKept book.pledges) (sym (next_pledges book opening stamp p is)) (are_kept_push book.pledges (p ∷ []));
+      imported = λ imported is. is;
+    },
+  )
 
 present_stays : (book : BookValue) (stamp : Stamp) (shown : List (Option PledgeValue)) → GrowsTo book (book_after (Some book) (present_receipts stamp shown))
 present_stays book stamp shown = grows_by book (are_unknown shown) (Refuses NoSuchReceipt) (Says (Shown stamp.day shown)) (stays book) (stays book)
@@ -86,12 +101,11 @@ put_grows book n p q stamp command done at step = record {
 
 judged_grows : (book : BookValue) (b n : ℕ) (p : PledgeValue) (stamp : Stamp) (command : Command) → pledge_from 1 book.pledges n ≡ Some p
     → GrowsTo book (book_after (Some book) (judged_outcome b n (pledge_step p stamp command)))
-judged_grows book b n p stamp command at = from (pledge_step p stamp command) refl
-  where
-    from : (j : Judged) → pledge_step p stamp command ≡ j → GrowsTo book (book_after (Some book) (judged_outcome b n j))
-    from (Refused why) step = stays book
-    from (Answered done) step = stays book
-    from (Changed q done) step = (record book { pledges = put_from 1 book.pledges n q }, refl, put_grows book n p q stamp command done at step)
+judged_grows book b n p stamp command at = from (pledge_step p stamp command) refl where
+  from : (j : Judged) → pledge_step p stamp command ≡ j → GrowsTo book (book_after (Some book) (judged_outcome b n j))
+  from (Refused why) step = stays book
+  from (Answered done) step = stays book
+  from (Changed q done) step = (record book { pledges = put_from 1 book.pledges n q }, refl, put_grows book n p q stamp command done at step)
 
 window_grows : (book : BookValue) (o : Outcome) → GrowsTo book (book_after (Some book) o) → GrowsTo book (book_after (Some book) (within_window book o))
 window_grows book (Refuses why) grows = grows
@@ -102,19 +116,22 @@ window_grows book (Makes change reply) grows =
 number_grows : (book : BookValue) (b n : ℕ) (stamp : Stamp) (command : Command) (o : Option PledgeValue) → pledge_from 1 book.pledges n ≡ o
     → GrowsTo book (book_after (Some book) (broker_commands book b n stamp command o))
 number_grows book b n stamp command None at = stays book
-number_grows book b n stamp command (Some p) at = window_grows book (judged_outcome b n (pledge_step p stamp command)) (judged_grows book b n p stamp command at)
+number_grows book b n stamp command (Some p) at =
+    window_grows book (judged_outcome b n (pledge_step p stamp command)) (judged_grows book b n p stamp command at)
 
 receipt_grows : (book : BookValue) (b : ℕ) (r : Receipt) (stamp : Stamp) (command : Command) (o : Option PledgeValue) → live_at (pledge_in (Some book)) r ≡ o
     → GrowsTo book (book_after (Some book) (bearer_commands b r.number stamp command o))
 receipt_grows book b r stamp command None at = stays book
-receipt_grows book b r stamp command (Some p) at = judged_grows book b r.number p stamp command (live_is r.secret (pledge_from 1 book.pledges r.number) p (sym at))
+receipt_grows book b r stamp command (Some p) at =
+    judged_grows book b r.number p stamp command (live_is r.secret (pledge_from 1 book.pledges r.number) p (sym at))
 
 shown_stays : (book : BookValue) (stamp : Stamp) (o : Option PledgeValue) → GrowsTo book (book_after (Some book) (show_pledge stamp o))
 shown_stays book stamp None = stays book
 shown_stays book stamp (Some p) = stays book
 
 -- a book that an import fills
-filled_grows : (book : BookValue) (key : ℕ) (rows : BookRows) → book.imported ≡ None → Grown (record book { terms = []; pledges = [] }) (filled_book book key rows)
+filled_grows : (book : BookValue) (key : ℕ) (rows : BookRows) → book.imported ≡ None
+    → Grown (record book { terms = []; pledges = [] }) (filled_book book key rows)
 filled_grows book key rows none = record {
   key = refl;
   name = refl;
@@ -127,20 +144,20 @@ filled_grows book key rows none = record {
 import_grows : (book : BookValue) (b key : ℕ) (rows : BookRows) (o : Option Imported) → book.imported ≡ o
     → GrowsTo book (book_after (Some book) (import_rows (book_head book) b key rows o))
 import_grows book b key rows (Some imported) is = grows_by book (imported.key == key) _ _ (stays book) (stays book)
-import_grows book b key rows None none = from (is_empty (book_head book)) refl
-  where
-    from : (v : Bool) → is_empty (book_head book) ≡ v
-        → GrowsTo book (book_after (Some book) (if v then Makes (ImportBook b key rows) (BookFilled (length rows.pledges)) else Refuses BookNotEmpty))
-    from false is = stays book
-    from true is =
-        let empty = empty_lists book is in (
-          filled_book book key rows,
-          refl,
-          subst (λ (old : BookValue). Grown old (filled_book book key rows)) (sym (without_lists book empty.0 empty.1)) (filled_grows book key rows none),
-        )
+import_grows book b key rows None none = from (is_empty (book_head book)) refl where
+  from : (v : Bool) → is_empty (book_head book) ≡ v
+      → GrowsTo book (book_after (Some book) (if v then Makes (ImportBook b key rows) (BookFilled (length rows.pledges)) else Refuses BookNotEmpty))
+  from false is = stays book
+  from true is =
+      let empty = empty_lists book is in (
+        filled_book book key rows,
+        refl,
+        subst (λ (old : BookValue). Grown old (filled_book book key rows)) (sym (without_lists book empty.0 empty.1)) (filled_grows book key rows none),
+      )
 
 -- a book grows with each request
-step_grows : (book : BookValue) (operator b : ℕ) (stamp : Stamp) (caller : Caller) → GrowsTo book (book_after (Some book) (book_step (Some book) operator b stamp caller))
+step_grows : (book : BookValue) (operator b : ℕ) (stamp : Stamp) (caller : Caller)
+    → GrowsTo book (book_after (Some book) (book_step (Some book) operator b stamp caller))
 step_grows book operator b stamp (Operator key new) =
     grows_by book (key == operator) _ _ (grows_by book (is_same_book (book_head book) new) _ _ (stays book) (stays book)) (stays book)
 step_grows book operator b stamp (Broker key (PutTerms new)) =
@@ -151,13 +168,15 @@ step_grows book operator b stamp (Broker key (OnPledge n command)) =
     grows_by book (book.key == key) _ _ (number_grows book b n stamp command (pledge_from 1 book.pledges n) refl) (stays book)
 step_grows book operator b stamp (Broker key (Import importing rows)) =
     grows_by book (book.key == key) _ _ (import_grows book b importing rows book.imported refl) (stays book)
-step_grows book operator b stamp (Broker key (Show n)) = grows_by book (book.key == key) _ _ (shown_stays book stamp (pledge_from 1 book.pledges n)) (stays book)
+step_grows book operator b stamp (Broker key (Show n)) =
+    grows_by book (book.key == key) _ _ (shown_stays book stamp (pledge_from 1 book.pledges n)) (stays book)
 step_grows book operator b stamp (Broker key (SheetOf day)) = grows_by book (book.key == key) _ _ (stays book) (stays book)
 step_grows book operator b stamp (Broker key Export) = grows_by book (book.key == key) _ _ (stays book) (stays book)
 step_grows book operator b stamp (Bearer (Present receipts)) = present_stays book stamp (map (live_at (pledge_in (Some book))) receipts)
 step_grows book operator b stamp (Bearer (OnReceipt r command)) = receipt_grows book b r stamp command (live_at (pledge_in (Some book)) r) refl
 
-pub run_grows : (base book : BookValue) (operator b : ℕ) (later : List (Stamp × Caller)) → Grown base book → GrowsTo base (book_run (Some book) operator b later)
+pub run_grows : (base book : BookValue) (operator b : ℕ) (later : List (Stamp × Caller)) → Grown base book
+    → GrowsTo base (book_run (Some book) operator b later)
 run_grows base book operator b [] grown = (book, refl, grown)
 run_grows base book operator b (asked ∷ rest) grown =
     let step = step_grows book operator b asked.0 asked.1 in

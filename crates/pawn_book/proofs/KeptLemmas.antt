@@ -1,7 +1,8 @@
 -- What every change keeps of the pledges that stand.
-use Rattle.pawn_book.proofs.Basics.{◌≡◌, ℕ, ◌+◌, List, [], ◌∷◌, ◌++◌, Some, refl, ◌∙◌, ap, sym, subst, if◌then◌else◌, true, false, ◌==◌, Agreement, Changed, Command, Done, PledgeValue, Stamp, pledge_step, agreement_stays, lists_of_step, Continues, is_same_text, pledge_from, put_from, with_reference}
-use Rattle.pawn_pledge.proofs.Growth.{grows-moved, grows-same, grows-then}
-use Rattle.pawn_book.proofs.Sounds.{absurd_none, some_is}
+use Rattle.std.proofs.Common.{◌≡◌, ℕ, ◌+◌, List, [], ◌∷◌, ◌++◌, Some, refl, ◌∙◌, ap, sym, subst, if◌then◌else◌, true, false, ◌==◌}
+use Rattle.pawn_book.specs.{Common.{Agreement, Changed, Command, Done, PledgeValue, Stamp, pledge_step}, Changes.Continues, Rows.is_same_text}
+use Rattle.{pawn_book.{specs.BookStep.{pledge_from, put_from, with_reference}, proofs.Sounds.{absurd_none, some_is}}, pawn_pledge.proofs.Steps.agreement_stays}
+use Rattle.pawn_pledge.proofs.{Steps.lists_of_step, Growth.{grows-moved, grows-same, grows-then}}
 
 pub kept_same : (p : PledgeValue) → Continues p p
 kept_same p = record { agreement = refl; lists = grows-same p }
@@ -46,11 +47,13 @@ are_kept_put k (r ∷ ps) n p q is kept =
     ] is
 
 -- the pledge at a number is kept at it
-pub number_kept : (k : ℕ) (ps qs : List PledgeValue) (n : ℕ) (p : PledgeValue) → AreKept ps qs → pledge_from k ps n ≡ Some p → (q : PledgeValue) × (pledge_from k qs n ≡ Some q) × Continues p q
+pub number_kept : (k : ℕ) (ps qs : List PledgeValue) (n : ℕ) (p : PledgeValue) → AreKept ps qs → pledge_from k ps n ≡ Some p
+    → (q : PledgeValue) × (pledge_from k qs n ≡ Some q) × Continues p q
 number_kept k [] qs n p all is = absurd_none is
 number_kept k (r ∷ ps) [] n p all is = absurd all
 number_kept k (r ∷ ps) (s ∷ qs) n p all is =
-    elim (n == k) as (λ v. (if v then Some r else pledge_from (k + 1) ps n) ≡ Some p → (q : PledgeValue) × ((if v then Some s else pledge_from (k + 1) qs n) ≡ Some q) × Continues p q) [
+    elim (n == k) as (λ v. (if v then Some r else pledge_from (k + 1) ps n) ≡ Some p → (q : PledgeValue)
+    × ((if v then Some s else pledge_from (k + 1) qs n) ≡ Some q) × Continues p q) [
       | true ↦ λ here. (s, refl, subst (λ (x : PledgeValue). Continues x s) (some_is r p here) all.0)
       | false ↦ λ there. number_kept (k + 1) ps qs n p all.1 there
     ] is
@@ -61,10 +64,13 @@ pub reference_kept : (ps qs : List PledgeValue) (reference : List ℕ) (p : Pled
 reference_kept [] qs reference p all is = absurd_none is
 reference_kept (r ∷ ps) [] reference p all is = absurd all
 reference_kept (r ∷ ps) (s ∷ qs) reference p all is =
-    let same : is_same_text s.agreement.opening.reference reference ≡ is_same_text r.agreement.opening.reference reference = ap (λ (a : Agreement). is_same_text a.opening.reference reference) all.0.agreement in
-    elim (is_same_text r.agreement.opening.reference reference) as (λ v. is_same_text s.agreement.opening.reference reference ≡ v → (if v then Some r else with_reference ps reference) ≡ Some p
+    let same : is_same_text s.agreement.opening.reference reference ≡ is_same_text r.agreement.opening.reference reference =
+    ap (λ (a : Agreement). is_same_text a.opening.reference reference) all.0.agreement in
+    elim (is_same_text r.agreement.opening.reference reference) as
+    (λ v. is_same_text s.agreement.opening.reference reference ≡ v → (if v then Some r else with_reference ps reference) ≡ Some p
     → (q : PledgeValue) × (with_reference (s ∷ qs) reference ≡ Some q) × Continues p q) [
-      | true ↦ λ as_there here. (s, ap (λ v. if v then Some s else with_reference qs reference) as_there, subst (λ (x : PledgeValue). Continues x s) (some_is r p here) all.0)
+      | true ↦ λ as_there here.
+          (s, ap (λ v. if v then Some s else with_reference qs reference) as_there, subst (λ (x : PledgeValue). Continues x s) (some_is r p here) all.0)
       | false ↦ λ as_there there.
           let rest = reference_kept ps qs reference p all.1 there in
           (rest.0, ap (λ v. if v then Some s else with_reference qs reference) as_there ∙ rest.1, rest.2)
@@ -74,7 +80,8 @@ reference_kept (r ∷ ps) (s ∷ qs) reference p all is =
 pub put_there : (k : ℕ) (ps : List PledgeValue) (n : ℕ) (p q : PledgeValue) → pledge_from k ps n ≡ Some p → pledge_from k (put_from k ps n q) n ≡ Some q
 put_there k [] n p q is = absurd_none is
 put_there k (r ∷ ps) n p q is =
-    elim (n == k) as (λ v. n == k ≡ v → (if v then Some r else pledge_from (k + 1) ps n) ≡ Some p → pledge_from k (if v then q ∷ ps else r ∷ put_from (k + 1) ps n q) n ≡ Some q) [
+    elim (n == k) as (λ v. n == k ≡ v → (if v then Some r else pledge_from (k + 1) ps n) ≡ Some p
+    → pledge_from k (if v then q ∷ ps else r ∷ put_from (k + 1) ps n q) n ≡ Some q) [
       | true ↦ λ same here. ap (λ v. if v then Some q else pledge_from (k + 1) ps n) same
       | false ↦ λ other there. ap (λ v. if v then Some r else pledge_from (k + 1) (put_from (k + 1) ps n q) n) other ∙ put_there (k + 1) ps n p q there
     ] refl is

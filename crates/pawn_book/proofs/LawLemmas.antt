@@ -1,11 +1,19 @@
 -- The laws of books.
-use Rattle.pawn_book.proofs.Basics.{◌≡◌, ℕ, ◌+◌, zero, suc, List, [], ◌∷◌, ◌++◌, length, Some, None, Ok, Err, refl, ◌∙◌, ap, sym, subst, arith, if◌then◌else◌, is_some, Option, Result, ◌==◌, ◌&&◌, ◌||◌, Bool, true, false, nat_lt, nat_le, unwrap_or, slice_get, Agreement, AreNumbered, Command, Fixed, IsStanding, Issued, Kind, Opening, PledgeValue, Rates, Receipt, Running, Stamp, TermsFault, most_keep, most_rate, result_unwrap_or, terms_answer, and_from, changes_differ, equal_itself, grown, nat_tests, past_row-ok, AddTerms, Asks, Bearer, BookChangesDiffer, BookFilled, BookMade, BookNotEmpty, BookTaken, BookValue, Broker, Caller, Change, Continues, Export, Import, ImportBook, IsMaking, IsSoundBook, NewTerms, NoSuchBook, NotOperator, OnPledge, Opened, Operator, PutPledge, PutTerms, RefTaken, Refusal, Refuses, RepeatsActOnce, Reply, Says, SheetOf, Show, TakePledge, TermsFull, TermsPut, TermsSeq, Told, are_same_rates, book_head, book_run, book_step, changed_book, filled_book, first_receipt, first_secret, import_rows, is_live, is_same_book, is_same_end, is_same_flag, is_same_kind, is_same_opening, is_same_text, made_book, make_book, most_terms, newest, next_terms, only_live, pledge_from, put_from, put_terms, take_pledge, terms_at, under_terms, with_reference}
-use Rattle.pawn_terms.specs.declared.terms.TermsFault.TheVariants.{KeepTooHigh, KeepingRate, RateTooHigh}
-use Rattle.pawn_book.proofs.Sounds.{absurd_none, each_at, some_is}
-use Rattle.pawn_book.proofs.KeptLemmas.{number_kept, put_there, reference_kept}
-use Rattle.pawn_book.proofs.Plans.{next_is, not_standing, taken_is}
-use Rattle.pawn_book.proofs.GrowLemmas.{Grown, grown_same, next_pledges, run_grows}
-use Rattle.pawn_book.proofs.MadeLemmas.{BookIs, CommandIs, DidOn, MadeBy, PledgeIs, RowsAre, TermsAre, made_by}
+use Rattle.std.proofs.Common.{◌≡◌, ℕ, ◌+◌, zero, suc, List, [], ◌∷◌, ◌++◌, length, Some, None, Ok, Err, refl, ◌∙◌, ap, sym, subst, arith, if◌then◌else◌}
+use Rattle.std.proofs.{Common.{is_some, Option, Result, ◌==◌, ◌&&◌, ◌||◌, Bool, true, false, nat_lt, nat_le, unwrap_or, slice_get}, lemmas.Bool.and_from}
+use Rattle.{std.proofs.lemmas.Bool.Decides.nat_tests, pawn_book.specs.Common.{Agreement, AreNumbered, Command, Fixed, IsStanding, Issued, Kind, Opening}}
+use Rattle.pawn_book.specs.{Common.{PledgeValue, Rates, Receipt, Running, Stamp, TermsFault, result_unwrap_or, terms_answer}, Books.{AddTerms, Bearer}}
+use Rattle.pawn_book.specs.Books.{BookFilled, BookMade, BookNotEmpty, BookTaken, Broker, Caller, Change, Export, Import, ImportBook, NewTerms, NoSuchBook}
+use Rattle.pawn_book.specs.Books.{NotOperator, OnPledge, Opened, Operator, PutPledge, PutTerms, RefTaken, Refusal, Reply, SheetOf, Show, TakePledge, TermsFull}
+use Rattle.pawn_book.specs.{Books.{TermsPut, TermsSeq}, Laws.{Asks, BookChangesDiffer, IsMaking, RepeatsActOnce, book_run}, BookStep.{BookValue, Refuses, Says}}
+use Rattle.pawn_book.specs.BookStep.{Told, are_same_rates, book_head, book_step, changed_book, filled_book, first_receipt, first_secret, import_rows, is_live}
+use Rattle.pawn_book.specs.BookStep.{is_same_book, is_same_end, is_same_flag, is_same_kind, is_same_opening, made_book, make_book, newest, next_terms}
+use Rattle.pawn_book.specs.{BookStep.{only_live, pledge_from, put_from, put_terms, take_pledge, under_terms, with_reference}, Changes.Continues}
+use Rattle.pawn_book.{specs.{Sound.IsSoundBook, Rows.{is_same_text, terms_at}, Limits.most_terms}, proofs.Sounds.{absurd_none, each_at, some_is}}
+use Rattle.pawn_book.proofs.{KeptLemmas.{number_kept, put_there, reference_kept}, Plans.{next_is, not_standing, taken_is}, GrowLemmas.{Grown, grown_same}}
+use Rattle.pawn_book.proofs.{GrowLemmas.{next_pledges, run_grows}, MadeLemmas.{BookIs, CommandIs, DidOn, MadeBy, PledgeIs, RowsAre, TermsAre, made_by}}
+use Rattle.pawn_terms.specs.{Limits.{most_keep, most_rate}, declared.terms.TermsFault.TheVariants.{KeepTooHigh, KeepingRate, RateTooHigh}}
+use Rattle.{pawn_pledge.proofs.Steps.changes_differ, pawn_base.proofs.{TestLemmas.equal_itself, ListLemmas.grown, RefusalLemmas.past_row-ok}}
 
 -- a text is itself
 pub text_same : (xs : List ℕ) → is_same_text xs xs ≡ true
@@ -14,30 +22,29 @@ text_same (x ∷ xs) = let here : (x == x) ≡ true = grind (arith, nat_tests) i
 
 -- a change makes a book that differs
 pub change_differs : BookChangesDiffer
-change_differs before operator b stamp caller change reply is same = from (made_by before operator b stamp caller change reply is)
-  where
-    from : MadeBy before operator b stamp caller change reply → ⊥
-    from (BookIs key new asks passes none makes says) =
-        absurd_none (sym none ∙ sym same ∙ ap (changed_book before) makes)
-    from (TermsAre key new book terms asks stands passes absent answer makes says) =
-        let after : Some (record book { terms = book.terms ++ terms ∷ [] }) ≡ Some book =
-        ap (λ o. changed_book o (AddTerms b new.version terms)) (sym stands) ∙ ap (changed_book before) (sym makes) ∙ same ∙ stands in
-        grown book.terms terms (ap (λ (o : Option BookValue). (unwrap_or o book).terms) after)
-    from (PledgeIs key opening book p asks stands passes absent answer makes says) =
-        let after : Some (record book { pledges = put_from 1 book.pledges p.agreement.number p }) ≡ Some book =
-        ap (λ o. changed_book o (PutPledge b p.agreement.number p)) (sym stands) ∙ ap (changed_book before) (sym makes) ∙ same ∙ stands in
-        grown book.pledges p (sym (next_pledges book opening stamp p answer) ∙ ap (λ (o : Option BookValue). (unwrap_or o book).pledges) after)
-    from (RowsAre key importing rows book asks stands passes unfilled makes says) =
-        let after : Some (filled_book book importing rows) ≡ Some book =
-        ap (λ o. changed_book o (ImportBook b importing rows)) (sym stands) ∙ ap (changed_book before) (sym makes) ∙ same ∙ stands in
-        absurd_none (sym unfilled.imported ∙ sym (ap (λ (o : Option BookValue). (unwrap_or o book).imported) after))
-    from (CommandIs book n command stands asks did) =
-        let after : Some (record book { pledges = put_from 1 book.pledges n did.next }) ≡ Some book =
-        ap (λ o. changed_book o (PutPledge b n did.next)) (sym stands) ∙ ap (changed_book before) (sym did.makes) ∙ same ∙ stands in
-        let list : put_from 1 book.pledges n did.next ≡ book.pledges = ap (λ (o : Option BookValue). (unwrap_or o book).pledges) after in
-        let there : Some did.next ≡ Some did.old =
-        sym (put_there 1 book.pledges n did.old did.next did.stands) ∙ ap (λ ps. pledge_from 1 ps n) list ∙ did.stands in
-        changes_differ did.old did.next stamp command did.done did.step (some_is did.next did.old there)
+change_differs before operator b stamp caller change reply is same = from (made_by before operator b stamp caller change reply is) where
+  from : MadeBy before operator b stamp caller change reply → ⊥
+  from (BookIs key new asks passes none makes says) =
+      absurd_none (sym none ∙ sym same ∙ ap (changed_book before) makes)
+  from (TermsAre key new book terms asks stands passes absent answer makes says) =
+      let after : Some (record book { terms = book.terms ++ terms ∷ [] }) ≡ Some book =
+      ap (λ o. changed_book o (AddTerms b new.version terms)) (sym stands) ∙ ap (changed_book before) (sym makes) ∙ same ∙ stands in
+      grown book.terms terms (ap (λ (o : Option BookValue). (unwrap_or o book).terms) after)
+  from (PledgeIs key opening book p asks stands passes absent answer makes says) =
+      let after : Some (record book { pledges = put_from 1 book.pledges p.agreement.number p }) ≡ Some book =
+      ap (λ o. changed_book o (PutPledge b p.agreement.number p)) (sym stands) ∙ ap (changed_book before) (sym makes) ∙ same ∙ stands in
+      grown book.pledges p (sym (next_pledges book opening stamp p answer) ∙ ap (λ (o : Option BookValue). (unwrap_or o book).pledges) after)
+  from (RowsAre key importing rows book asks stands passes unfilled makes says) =
+      let after : Some (filled_book book importing rows) ≡ Some book =
+      ap (λ o. changed_book o (ImportBook b importing rows)) (sym stands) ∙ ap (changed_book before) (sym makes) ∙ same ∙ stands in
+      absurd_none (sym unfilled.imported ∙ sym (ap (λ (o : Option BookValue). (unwrap_or o book).imported) after))
+  from (CommandIs book n command stands asks did) =
+      let after : Some (record book { pledges = put_from 1 book.pledges n did.next }) ≡ Some book =
+      ap (λ o. changed_book o (PutPledge b n did.next)) (sym stands) ∙ ap (changed_book before) (sym did.makes) ∙ same ∙ stands in
+      let list : put_from 1 book.pledges n did.next ≡ book.pledges = ap (λ (o : Option BookValue). (unwrap_or o book).pledges) after in
+      let there : Some did.next ≡ Some did.old =
+      sym (put_there 1 book.pledges n did.old did.next did.stands) ∙ ap (λ ps. pledge_from 1 ps n) list ∙ did.stands in
+      changes_differ did.old did.next stamp command did.done did.step (some_is did.next did.old there)
 
 -- the terms that were added stand under their version
 added_at : (ts : List Rates) (n : ℕ) (t : Rates) (more : List Rates) → n ≡ length ts → slice_get ((ts ++ t ∷ []) ++ more) n ≡ Some t
@@ -66,12 +73,11 @@ terms_asked standing new t is =
     let one = past_row-ok (new.version == 0) TermsSeq _ t is in
     let two = past_row-ok (nat_lt (standing + 1) new.version) TermsSeq _ t one.1 in
     let three = past_row-ok (nat_le most_terms standing) TermsFull _ t two.1 in
-    under (terms_answer new.rates) refl three.1
-  where
-    under : (r : Result Rates TermsFault) → terms_answer new.rates ≡ r → under_terms r ≡ Ok t → are_same_rates t new.rates ≡ true
-    under (Err fault) at is = cc is
-    under (Ok q) at is = let same : q ≡ t = ap (λ (r : Result Rates Refusal). result_unwrap_or r q) is in
-        subst (λ (x : Rates). are_same_rates x new.rates ≡ true) same (rates_same new.rates q at)
+    under (terms_answer new.rates) refl three.1 where
+      under : (r : Result Rates TermsFault) → terms_answer new.rates ≡ r → under_terms r ≡ Ok t → are_same_rates t new.rates ≡ true
+      under (Err fault) at is = cc is
+      under (Ok q) at is = let same : q ≡ t = ap (λ (r : Result Rates Refusal). result_unwrap_or r q) is in
+          subst (λ (x : Rates). are_same_rates x new.rates ≡ true) same (rates_same new.rates q at)
 
 kind_same : (kind : Kind) → is_same_kind kind kind ≡ true
 kind_same (Fixed sum) = equal_itself sum
@@ -89,17 +95,19 @@ opening_same : (o : Opening) → is_same_opening o o ≡ true
 opening_same o = and_from _ _ (and_from _ _ (and_from _ _ (text_same o.article) (kind_same o.kind)) (agreed_same o.agreed)) (flag_same o.five_days)
 
 -- the pledge that was taken is the one with its reference
-reference_added : (ps : List PledgeValue) (p : PledgeValue) (reference : List ℕ) → with_reference ps reference ≡ None → is_same_text p.agreement.opening.reference reference ≡ true
-    → with_reference (ps ++ p ∷ []) reference ≡ Some p
+reference_added : (ps : List PledgeValue) (p : PledgeValue) (reference : List ℕ) → with_reference ps reference ≡ None
+    → is_same_text p.agreement.opening.reference reference ≡ true → with_reference (ps ++ p ∷ []) reference ≡ Some p
 reference_added [] p reference none same = ap (λ v. if v then Some p else None) same
 reference_added (q ∷ ps) p reference none same =
-    elim (is_same_text q.agreement.opening.reference reference) as (λ v. (if v then Some q else with_reference ps reference) ≡ None → (if v then Some q else with_reference (ps ++ p ∷ []) reference) ≡ Some p) [
+    elim (is_same_text q.agreement.opening.reference reference) as
+    (λ v. (if v then Some q else with_reference ps reference) ≡ None → (if v then Some q else with_reference (ps ++ p ∷ []) reference) ≡ Some p) [
       | true ↦ λ at. absurd_none (sym at)
       | false ↦ λ at. reference_added ps p reference at same
     ] none
 
 -- what was agreed is told of a pledge that is kept
-opening_kept : (p q : PledgeValue) (opening : Opening) → Continues p q → is_same_opening q.agreement.opening opening ≡ is_same_opening p.agreement.opening opening
+opening_kept : (p q : PledgeValue) (opening : Opening) → Continues p q
+    → is_same_opening q.agreement.opening opening ≡ is_same_opening p.agreement.opening opening
 opening_kept p q opening kept = ap (λ (a : Agreement). is_same_opening a.opening opening) kept.agreement
 
 -- .. and its first receipt
@@ -124,67 +132,66 @@ asks_not_making (Bearer asked) n command asks making = making
 
 -- a request that made a change is told the same again, and makes none
 pub repeat_told : RepeatsActOnce
-repeat_told before operator b stamp again caller change reply later making is = from (made_by before operator b stamp caller change reply is)
-  where
-    told : (book : BookValue) → changed_book before change ≡ Some book → ((next : BookValue) → Grown book next → book_step (Some next) operator b again caller ≡ Says (Told reply))
-        → book_step (book_run (changed_book before change) operator b later) operator b again caller ≡ Says (Told reply)
-    told book makes answers =
-        let run = run_grows book book operator b later (grown_same book) in
-        ap (λ o. book_step (book_run o operator b later) operator b again caller) makes
-        ∙ ap (λ o. book_step o operator b again caller) run.1 ∙ answers run.0 run.2
+repeat_told before operator b stamp again caller change reply later making is = from (made_by before operator b stamp caller change reply is) where
+  told : (book : BookValue) → changed_book before change ≡ Some book
+      → ((next : BookValue) → Grown book next → book_step (Some next) operator b again caller ≡ Says (Told reply))
+      → book_step (book_run (changed_book before change) operator b later) operator b again caller ≡ Says (Told reply)
+  told book makes answers =
+      let run = run_grows book book operator b later (grown_same book) in
+      ap (λ o. book_step (book_run o operator b later) operator b again caller) makes
+      ∙ ap (λ o. book_step o operator b again caller) run.1 ∙ answers run.0 run.2
 
-    opens : (book next : BookValue) (key : ℕ) → next.key ≡ book.key → (book.key == key) ≡ true → (next.key == key) ≡ true
-    opens book next key same passes = ap (λ k. k == key) same ∙ passes
+  opens : (book next : BookValue) (key : ℕ) → next.key ≡ book.key → (book.key == key) ≡ true → (next.key == key) ≡ true
+  opens book next key same passes = ap (λ k. k == key) same ∙ passes
 
-    from : MadeBy before operator b stamp caller change reply → book_step (book_run (changed_book before change) operator b later) operator b again caller ≡ Says (Told reply)
-    from (BookIs key new asks passes none makes says) = told (made_book new) (ap (changed_book before) makes) (λ next grown.
-        let same : is_same_book (book_head next) new ≡ true =
-        and_from _ _ (and_from _ _ (ap (λ k. k == new.key) grown.key ∙ equal_itself new.key) (ap (λ t. is_same_text t new.name) grown.name ∙ text_same new.name))
-        (ap (λ n. n == new.capacity) grown.capacity ∙ equal_itself new.capacity) in
-        ap (book_step (Some next) operator b again) asks
-        ∙ ap (λ v. if v then make_book (Some next) b new else Refuses NotOperator) passes
-        ∙ ap (λ v. if v then Says (Told (BookMade b)) else Refuses BookTaken) same ∙ ap (λ r. Says (Told r)) (sym says))
-    from (TermsAre key new book terms asks stands passes absent answer makes says) =
-        told (record book { terms = book.terms ++ terms ∷ [] }) (ap (changed_book before) makes ∙ ap (λ o. changed_book o (AddTerms b new.version terms)) stands) (λ next grown.
-        let bounds = next_is (length book.terms) new terms answer in
-        let past = not_standing book.terms new.version absent bounds.0 in
-        let high = bounds.1 in
-        let version : new.version ≡ length book.terms + 1 = omega (arith, past, high) in
-        let at : terms_at next.terms new.version ≡ Some terms =
-        ap (λ ts. terms_at ts new.version) grown.terms.1 ∙ version_at book.terms new.version terms grown.terms.0 version in
-        ap (book_step (Some next) operator b again) asks
-        ∙ ap (λ v. if v then put_terms next b new (terms_at next.terms new.version) else Refuses NoSuchBook) (opens book next key grown.key passes)
-        ∙ ap (put_terms next b new) at ∙ ap (λ v. if v then Says (Told (TermsPut new.version)) else Refuses TermsSeq) (terms_asked (length book.terms) new terms answer)
-        ∙ ap (λ r. Says (Told r)) (sym says))
-    from (PledgeIs key opening book p asks stands passes absent answer makes says) =
-        told (record book { pledges = put_from 1 book.pledges p.agreement.number p }) (ap (changed_book before) makes ∙ ap (λ o. changed_book o (PutPledge b p.agreement.number p)) stands) (λ next grown.
-        let taken = taken_is (book_head book) opening stamp (newest book.terms) p answer in
-        let asked : is_same_text p.agreement.opening.reference opening.reference ≡ true = ap (λ (o : Opening). is_same_text o.reference opening.reference) taken.asked ∙ text_same opening.reference in
-        let same : is_same_opening p.agreement.opening opening ≡ true = ap (λ (o : Opening). is_same_opening o opening) taken.asked ∙ opening_same opening in
-        let there : with_reference (put_from 1 book.pledges p.agreement.number p) opening.reference ≡ Some p =
-        ap (λ ps. with_reference ps opening.reference) (next_pledges book opening stamp p answer) ∙ reference_added book.pledges p opening.reference absent asked in
-        let found = reference_kept (put_from 1 book.pledges p.agreement.number p) next.pledges opening.reference p grown.pledges there in
-        let q = found.0 in
-        ap (book_step (Some next) operator b again) asks
-        ∙ ap (λ v. if v then take_pledge next b opening again (with_reference next.pledges opening.reference) else Refuses NoSuchBook) (opens book next key grown.key passes)
-        ∙ ap (take_pledge next b opening again) found.1
-        ∙ ap (λ v. if v then Says (Told (Opened (first_receipt q))) else Refuses RefTaken) (opening_kept p q opening found.2 ∙ same)
-        ∙ ap (λ r. Says (Told (Opened r))) (first_kept p q taken.first.0 taken.first.1 found.2)
-        ∙ ap (λ r. Says (Told r)) (sym says))
-    from (RowsAre key importing rows book asks stands passes unfilled makes says) =
-        told (filled_book book importing rows) (ap (changed_book before) makes ∙ ap (λ o. changed_book o (ImportBook b importing rows)) stands) (λ next grown.
-        let own = grown.imported (record { key = importing; pledges = length rows.pledges }) refl in
-        ap (book_step (Some next) operator b again) asks
-        ∙ ap (λ v. if v then import_rows (book_head next) b importing rows next.imported else Refuses NoSuchBook) (opens book next key grown.key passes)
-        ∙ ap (import_rows (book_head next) b importing rows) own
-        ∙ ap (λ v. if v then Says (Told (BookFilled (length rows.pledges))) else Refuses BookNotEmpty) (equal_itself importing)
-        ∙ ap (λ r. Says (Told r)) (sym says))
-    from (CommandIs book n command stands asks did) = absurd (asks_not_making caller n command asks making)
+  from : MadeBy before operator b stamp caller change reply
+      → book_step (book_run (changed_book before change) operator b later) operator b again caller ≡ Says (Told reply)
+  from (BookIs key new asks passes none makes says) = told (made_book new) (ap (changed_book before) makes) (λ next grown.
+      let same : is_same_book (book_head next) new ≡ true =
+      and_from _ _ (and_from _ _ (ap (λ k. k == new.key) grown.key ∙ equal_itself new.key) (ap (λ t. is_same_text t new.name) grown.name ∙ text_same new.name))
+      (ap (λ n. n == new.capacity) grown.capacity ∙ equal_itself new.capacity) in
+      ap (book_step (Some next) operator b again) asks ∙ ap (λ v. if v then make_book (Some next) b new else Refuses NotOperator) passes
+      ∙ ap (λ v. if v then Says (Told (BookMade b)) else Refuses BookTaken) same ∙ ap (λ r. Says (Told r)) (sym says))
+  from (TermsAre key new book terms asks stands passes absent answer makes says) =
+      told (record book { terms = book.terms ++ terms ∷ [] }) (ap (changed_book before) makes ∙ ap (λ o. changed_book o (AddTerms b new.version terms)) stands)
+      (λ next grown.
+      let bounds = next_is (length book.terms) new terms answer in
+      let past = not_standing book.terms new.version absent bounds.0 in
+      let high = bounds.1 in
+      let version : new.version ≡ length book.terms + 1 = omega (arith, past, high) in
+      let at : terms_at next.terms new.version ≡ Some terms =
+      ap (λ ts. terms_at ts new.version) grown.terms.1 ∙ version_at book.terms new.version terms grown.terms.0 version in
+      ap (book_step (Some next) operator b again) asks ∙ ap (λ v. if v then put_terms next b new (terms_at next.terms new.version) else Refuses NoSuchBook)
+      (opens book next key grown.key passes) ∙ ap (put_terms next b new) at ∙ ap (λ v. if v then Says (Told (TermsPut new.version)) else Refuses TermsSeq)
+      (terms_asked (length book.terms) new terms answer) ∙ ap (λ r. Says (Told r)) (sym says))
+  from (PledgeIs key opening book p asks stands passes absent answer makes says) =
+      told (record book { pledges = put_from 1 book.pledges p.agreement.number p })
+      (ap (changed_book before) makes ∙ ap (λ o. changed_book o (PutPledge b p.agreement.number p)) stands) (λ next grown.
+      let taken = taken_is (book_head book) opening stamp (newest book.terms) p answer in
+      let asked : is_same_text p.agreement.opening.reference opening.reference ≡ true =
+      ap (λ (o : Opening). is_same_text o.reference opening.reference) taken.asked ∙ text_same opening.reference in
+      let same : is_same_opening p.agreement.opening opening ≡ true = ap (λ (o : Opening). is_same_opening o opening) taken.asked ∙ opening_same opening in
+      let there : with_reference (put_from 1 book.pledges p.agreement.number p) opening.reference ≡ Some p =
+      ap (λ ps. with_reference ps opening.reference) (next_pledges book opening stamp p answer)
+      ∙ reference_added book.pledges p opening.reference absent asked in
+      let found = reference_kept (put_from 1 book.pledges p.agreement.number p) next.pledges opening.reference p grown.pledges there in
+      let q = found.0 in
+      ap (book_step (Some next) operator b again) asks ∙ ap (λ v. if v then take_pledge next b opening again (with_reference next.pledges opening.reference)
+      else Refuses NoSuchBook) (opens book next key grown.key passes) ∙ ap (take_pledge next b opening again) found.1
+      ∙ ap (λ v. if v then Says (Told (Opened (first_receipt q))) else Refuses RefTaken) (opening_kept p q opening found.2 ∙ same)
+      ∙ ap (λ r. Says (Told (Opened r))) (first_kept p q taken.first.0 taken.first.1 found.2) ∙ ap (λ r. Says (Told r)) (sym says))
+  from (RowsAre key importing rows book asks stands passes unfilled makes says) =
+      told (filled_book book importing rows) (ap (changed_book before) makes ∙ ap (λ o. changed_book o (ImportBook b importing rows)) stands) (λ next grown.
+      let own = grown.imported (record { key = importing; pledges = length rows.pledges }) refl in
+      ap (book_step (Some next) operator b again) asks ∙ ap (λ v. if v then import_rows (book_head next) b importing rows next.imported else Refuses NoSuchBook)
+      (opens book next key grown.key passes) ∙ ap (import_rows (book_head next) b importing rows) own ∙ ap (λ v. if v then Says
+      (Told (BookFilled (length rows.pledges))) else Refuses BookNotEmpty) (equal_itself importing) ∙ ap (λ r. Says (Told r)) (sym says))
+  from (CommandIs book n command stands asks did) = absurd (asks_not_making caller n command asks making)
 
 -- the pledge that a command changed stands at its number after any run
-pub stands_after : (book : BookValue) (operator b n : ℕ) (stamp : Stamp) (command : Command) (change : Change) (reply : Reply) (later : List (Stamp × Caller)) (did : DidOn book b n stamp command change reply)
-    → (after : BookValue) × (book_run (changed_book (Some book) change) operator b later ≡ Some after) × (after.key ≡ book.key)
-    × ((q : PledgeValue) × (pledge_from 1 after.pledges n ≡ Some q) × Continues did.next q)
+pub stands_after : (book : BookValue) (operator b n : ℕ) (stamp : Stamp) (command : Command) (change : Change) (reply : Reply) (later : List (Stamp × Caller))
+    (did : DidOn book b n stamp command change reply) → (after : BookValue) × (book_run (changed_book (Some book) change) operator b later ≡ Some after)
+    × (after.key ≡ book.key) × ((q : PledgeValue) × (pledge_from 1 after.pledges n ≡ Some q) × Continues did.next q)
 stands_after book operator b n stamp command change reply later did =
     let set : BookValue = record book { pledges = put_from 1 book.pledges n did.next } in
     let run = run_grows set set operator b later (grown_same set) in
@@ -199,8 +206,7 @@ numbered_in book n p sound at = (each_at IsStanding 1 book.pledges n p sound.row
 
 -- a live receipt's pledge is the one at its number
 pub live_found : (s : ℕ) (q : PledgeValue) → is_some (only_live s (Some q)) ≡ true → only_live s (Some q) ≡ Some q
-live_found s q is = from (is_live s q) is
-  where
-    from : (v : Bool) → is_some (if v then Some q else None) ≡ true → (if v then Some q else None) ≡ Some q
-    from true live = refl
-    from false live = cc live
+live_found s q is = from (is_live s q) is where
+  from : (v : Bool) → is_some (if v then Some q else None) ≡ true → (if v then Some q else None) ≡ Some q
+  from true live = refl
+  from false live = cc live

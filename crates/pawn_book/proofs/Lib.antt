@@ -1,4 +1,3 @@
-pub mod Basics
 pub mod RowSums
 pub mod Places
 pub mod VisitLemmas

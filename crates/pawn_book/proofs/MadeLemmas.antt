@@ -1,6 +1,13 @@
 -- How a change came about.
-use Rattle.pawn_book.proofs.Basics.{◌≡◌, ℕ, List, length, Some, None, Ok, Err, refl, ap, sym, if◌then◌else◌, Option, Result, ◌==◌, Bool, true, false, map, Answered, Changed, Command, Done, Judged, Opening, PledgeValue, Rates, Receipt, Refused, Stamp, pledge_step, AddTerms, Asks, Bearer, BookFilled, BookMade, BookRows, BookValue, Broker, Caller, Change, Commanded, Export, Import, ImportBook, Imported, IsUnfilled, MakeBook, Makes, NewBook, NewTerms, NoSuchReceipt, OnPledge, OnReceipt, Opened, Operator, Out, Outcome, Present, PutPledge, PutTerms, Refusal, Refuses, Reply, Says, SheetOf, Show, Shown, TakePledge, TermsPut, WindowFull, are_same_rates, are_unknown, bearer_commands, book_head, book_step, broker_commands, confirmed_booking, first_receipt, import_rows, is_empty, is_same_book, is_same_opening, is_window_full, judged_outcome, live_at, make_or_refuse, newest, next_pledge, next_terms, pledge_from, pledge_in, present_receipts, put_terms, show_pledge, take_pledge, terms_at, with_reference, within_window}
-use Rattle.pawn_book.proofs.CommandPlans.{live_is}
+use Rattle.std.proofs.Common.{◌≡◌, ℕ, List, length, Some, None, Ok, Err, refl, ap, sym, if◌then◌else◌, Option, Result, ◌==◌, Bool, true, false, map}
+use Rattle.pawn_book.specs.Common.{Answered, Changed, Command, Done, Judged, Opening, PledgeValue, Rates, Receipt, Refused, Stamp, pledge_step}
+use Rattle.pawn_book.specs.Books.{AddTerms, Bearer, BookFilled, BookMade, BookRows, Broker, Caller, Change, Commanded, Export, Import, ImportBook, Imported}
+use Rattle.pawn_book.specs.Books.{MakeBook, NewBook, NewTerms, NoSuchReceipt, OnPledge, OnReceipt, Opened, Operator, Present, PutPledge, PutTerms, Refusal}
+use Rattle.pawn_book.specs.{Books.{Reply, SheetOf, Show, TakePledge, TermsPut, WindowFull}, Laws.Asks, BookStep.{BookValue, Makes, Out, Outcome, Refuses, Says}}
+use Rattle.pawn_book.specs.BookStep.{Shown, are_same_rates, are_unknown, bearer_commands, book_head, book_step, broker_commands, confirmed_booking}
+use Rattle.pawn_book.specs.BookStep.{first_receipt, import_rows, is_empty, is_same_book, is_same_opening, is_window_full, judged_outcome, live_at}
+use Rattle.pawn_book.specs.BookStep.{make_or_refuse, newest, next_pledge, next_terms, pledge_from, pledge_in, present_receipts, put_terms, show_pledge}
+use Rattle.pawn_book.{specs.{BookStep.{take_pledge, with_reference, within_window}, Changes.IsUnfilled, Rows.terms_at}, proofs.CommandPlans.live_is}
 use Rattle.pawn_book.proofs.Plans.{empty_lists}
 
 -- what an outcome makes
@@ -31,19 +38,22 @@ pub data MadeBy (before : Option BookValue) (operator b : ℕ) (stamp : Stamp) (
   TermsAre : (key : ℕ) (new : NewTerms) (book : BookValue) (terms : Rates) → caller ≡ Broker key (PutTerms new) → before ≡ Some book → (book.key == key) ≡ true
       → terms_at book.terms new.version ≡ None → next_terms (length book.terms) new ≡ Ok terms
       → change ≡ AddTerms b new.version terms → reply ≡ TermsPut new.version → MadeBy before operator b stamp caller change reply
-  PledgeIs : (key : ℕ) (opening : Opening) (book : BookValue) (p : PledgeValue) → caller ≡ Broker key (TakePledge opening) → before ≡ Some book → (book.key == key) ≡ true
-      → with_reference book.pledges opening.reference ≡ None → next_pledge (book_head book) opening stamp (newest book.terms) ≡ Ok p
+  PledgeIs : (key : ℕ) (opening : Opening) (book : BookValue) (p : PledgeValue) → caller ≡ Broker key (TakePledge opening) → before ≡ Some book
+      → (book.key == key) ≡ true → with_reference book.pledges opening.reference ≡ None → next_pledge (book_head book) opening stamp (newest book.terms) ≡ Ok p
       → change ≡ PutPledge b p.agreement.number p → reply ≡ Opened (first_receipt p) → MadeBy before operator b stamp caller change reply
-  RowsAre : (key importing : ℕ) (rows : BookRows) (book : BookValue) → caller ≡ Broker key (Import importing rows) → before ≡ Some book → (book.key == key) ≡ true
-      → IsUnfilled book → change ≡ ImportBook b importing rows → reply ≡ BookFilled (length rows.pledges) → MadeBy before operator b stamp caller change reply
+  RowsAre : (key importing : ℕ) (rows : BookRows) (book : BookValue) → caller ≡ Broker key (Import importing rows) → before ≡ Some book
+      → (book.key == key) ≡ true → IsUnfilled book → change ≡ ImportBook b importing rows → reply ≡ BookFilled (length rows.pledges)
+      → MadeBy before operator b stamp caller change reply
   CommandIs : (book : BookValue) (n : ℕ) (command : Command) → before ≡ Some book → Asks caller n command → DidOn book b n stamp command change reply
       → MadeBy before operator b stamp caller change reply
 
-pub if_makes : (test : Bool) (x : Outcome) (why : Refusal) (change : Change) (reply : Reply) → (if test then x else Refuses why) ≡ Makes change reply → (test ≡ true) × (x ≡ Makes change reply)
+pub if_makes : (test : Bool) (x : Outcome) (why : Refusal) (change : Change) (reply : Reply) → (if test then x else Refuses why) ≡ Makes change reply
+    → (test ≡ true) × (x ≡ Makes change reply)
 if_makes true x why change reply is = (refl, is)
 if_makes false x why change reply is = cc is
 
-told_again : {P : Type 0} (test : Bool) (out : Out) (why : Refusal) (change : Change) (reply : Reply) → (if test then Says out else Refuses why) ≡ Makes change reply → P
+told_again : {P : Type 0} (test : Bool) (out : Out) (why : Refusal) (change : Change) (reply : Reply)
+    → (if test then Says out else Refuses why) ≡ Makes change reply → P
 told_again true out why change reply is = cc is
 told_again false out why change reply is = cc is
 
@@ -53,39 +63,38 @@ same_change c d r s is = sym (ap (λ o. change_in o c) is)
 same_reply : (c d : Change) (r s : Reply) → Makes c r ≡ Makes d s → s ≡ r
 same_reply c d r s is = sym (ap (λ o. reply_in o r) is)
 
-made_ok : {V : Type 0} (r : Result V Refusal) (makes : V → Outcome) (change : Change) (reply : Reply) → make_or_refuse r makes ≡ Makes change reply → (v : V) × (r ≡ Ok v) × (makes v ≡ Makes change reply)
+made_ok : {V : Type 0} (r : Result V Refusal) (makes : V → Outcome) (change : Change) (reply : Reply) → make_or_refuse r makes ≡ Makes change reply
+    → (v : V) × (r ≡ Ok v) × (makes v ≡ Makes change reply)
 made_ok (Err why) makes change reply is = cc is
 made_ok (Ok v) makes change reply is = (v, refl, is)
 
 -- what came of a command
-judged_made : (book : BookValue) (b n : ℕ) (p : PledgeValue) (stamp : Stamp) (command : Command) (change : Change) (reply : Reply) → pledge_from 1 book.pledges n ≡ Some p
-    → judged_outcome b n (pledge_step p stamp command) ≡ Makes change reply → DidOn book b n stamp command change reply
-judged_made book b n p stamp command change reply at is = from (pledge_step p stamp command) refl is
-  where
-    from : (j : Judged) → pledge_step p stamp command ≡ j → judged_outcome b n j ≡ Makes change reply → DidOn book b n stamp command change reply
-    from (Refused why) step made = cc made
-    from (Answered done) step made = cc made
-    from (Changed q done) step made = record {
-      old = p;
-      next = q;
-      done = done;
-      stands = at;
-      step = step;
-      makes = same_change _ change _ reply made;
-      says = same_reply _ change _ reply made;
-    }
+judged_made : (book : BookValue) (b n : ℕ) (p : PledgeValue) (stamp : Stamp) (command : Command) (change : Change) (reply : Reply)
+    → pledge_from 1 book.pledges n ≡ Some p → judged_outcome b n (pledge_step p stamp command) ≡ Makes change reply → DidOn book b n stamp command change reply
+judged_made book b n p stamp command change reply at is = from (pledge_step p stamp command) refl is where
+  from : (j : Judged) → pledge_step p stamp command ≡ j → judged_outcome b n j ≡ Makes change reply → DidOn book b n stamp command change reply
+  from (Refused why) step made = cc made
+  from (Answered done) step made = cc made
+  from (Changed q done) step made = record {
+    old = p;
+    next = q;
+    done = done;
+    stands = at;
+    step = step;
+    makes = same_change _ change _ reply made;
+    says = same_reply _ change _ reply made;
+  }
 
 window_made : (book : BookValue) (o : Outcome) (change : Change) (reply : Reply) → within_window book o ≡ Makes change reply → o ≡ Makes change reply
 window_made book (Refuses why) change reply is = cc is
 window_made book (Says out) change reply is = cc is
-window_made book (Makes c r) change reply is = from (is_window_full book (confirmed_booking r)) is
-  where
-    from : (full : Bool) → (if full then Refuses WindowFull else Makes c r) ≡ Makes change reply → Makes c r ≡ Makes change reply
-    from true made = cc made
-    from false made = made
+window_made book (Makes c r) change reply is = from (is_window_full book (confirmed_booking r)) is where
+  from : (full : Bool) → (if full then Refuses WindowFull else Makes c r) ≡ Makes change reply → Makes c r ≡ Makes change reply
+  from true made = cc made
+  from false made = made
 
-pub number_made : (book : BookValue) (b n : ℕ) (stamp : Stamp) (command : Command) (o : Option PledgeValue) (change : Change) (reply : Reply) → pledge_from 1 book.pledges n ≡ o
-    → broker_commands book b n stamp command o ≡ Makes change reply → DidOn book b n stamp command change reply
+pub number_made : (book : BookValue) (b n : ℕ) (stamp : Stamp) (command : Command) (o : Option PledgeValue) (change : Change) (reply : Reply)
+    → pledge_from 1 book.pledges n ≡ o → broker_commands book b n stamp command o ≡ Makes change reply → DidOn book b n stamp command change reply
 number_made book b n stamp command None change reply at is = cc is
 number_made book b n stamp command (Some p) change reply at is = judged_made book b n p stamp command change reply at (window_made book _ change reply is)
 
@@ -108,37 +117,36 @@ made_by (Some book) operator b stamp (Operator key new) change reply is =
     let passed = if_makes (key == operator) _ _ change reply is in told_again (is_same_book (book_head book) new) _ _ change reply passed.1
 made_by None operator b stamp (Broker key asked) change reply is = cc is
 made_by (Some book) operator b stamp (Broker key (PutTerms new)) change reply is =
-    let passed = if_makes (book.key == key) _ _ change reply is in from (terms_at book.terms new.version) refl passed.1
-  where
-    from : (o : Option Rates) → terms_at book.terms new.version ≡ o → put_terms book b new o ≡ Makes change reply → MadeBy (Some book) operator b stamp (Broker key (PutTerms new)) change reply
-    from (Some terms) at is = told_again (are_same_rates terms new.rates) _ _ change reply is
-    from None at made_is =
-        let ok = made_ok (next_terms (length book.terms) new) _ change reply made_is in
-        TermsAre key new book ok.0 refl refl (if_makes (book.key == key) _ _ change reply is).0 at ok.1 (same_change _ change _ reply ok.2) (same_reply _ change _ reply ok.2)
+    let passed = if_makes (book.key == key) _ _ change reply is in from (terms_at book.terms new.version) refl passed.1 where
+      from : (o : Option Rates) → terms_at book.terms new.version ≡ o → put_terms book b new o ≡ Makes change reply
+          → MadeBy (Some book) operator b stamp (Broker key (PutTerms new)) change reply
+      from (Some terms) at is = told_again (are_same_rates terms new.rates) _ _ change reply is
+      from None at made_is =
+          let ok = made_ok (next_terms (length book.terms) new) _ change reply made_is in
+          TermsAre key new book ok.0 refl refl (if_makes (book.key == key) _ _ change reply is).0 at ok.1 (same_change _ change _ reply ok.2)
+          (same_reply _ change _ reply ok.2)
 made_by (Some book) operator b stamp (Broker key (TakePledge opening)) change reply is =
-    let passed = if_makes (book.key == key) _ _ change reply is in from (with_reference book.pledges opening.reference) refl passed.1
-  where
-    from : (o : Option PledgeValue) → with_reference book.pledges opening.reference ≡ o → take_pledge book b opening stamp o ≡ Makes change reply
-        → MadeBy (Some book) operator b stamp (Broker key (TakePledge opening)) change reply
-    from (Some p) at is = told_again (is_same_opening p.agreement.opening opening) _ _ change reply is
-    from None at made_is =
-        let ok = made_ok (next_pledge (book_head book) opening stamp (newest book.terms)) _ change reply made_is in
-        PledgeIs key opening book ok.0 refl refl (if_makes (book.key == key) _ _ change reply is).0 at ok.1 (same_change _ change _ reply ok.2) (same_reply _ change _ reply ok.2)
+    let passed = if_makes (book.key == key) _ _ change reply is in from (with_reference book.pledges opening.reference) refl passed.1 where
+      from : (o : Option PledgeValue) → with_reference book.pledges opening.reference ≡ o → take_pledge book b opening stamp o ≡ Makes change reply
+          → MadeBy (Some book) operator b stamp (Broker key (TakePledge opening)) change reply
+      from (Some p) at is = told_again (is_same_opening p.agreement.opening opening) _ _ change reply is
+      from None at made_is =
+          let ok = made_ok (next_pledge (book_head book) opening stamp (newest book.terms)) _ change reply made_is in
+          PledgeIs key opening book ok.0 refl refl (if_makes (book.key == key) _ _ change reply is).0 at ok.1 (same_change _ change _ reply ok.2)
+          (same_reply _ change _ reply ok.2)
 made_by (Some book) operator b stamp (Broker key (OnPledge n command)) change reply is =
     let passed = if_makes (book.key == key) _ _ change reply is in
-    CommandIs book n command refl (refl, refl)
-    (number_made book b n stamp command (pledge_from 1 book.pledges n) change reply refl passed.1)
+    CommandIs book n command refl (refl, refl) (number_made book b n stamp command (pledge_from 1 book.pledges n) change reply refl passed.1)
 made_by (Some book) operator b stamp (Broker key (Import importing rows)) change reply is =
-    let passed = if_makes (book.key == key) _ _ change reply is in from book.imported refl passed.1
-  where
-    from : (o : Option Imported) → book.imported ≡ o → import_rows (book_head book) b importing rows o ≡ Makes change reply
-        → MadeBy (Some book) operator b stamp (Broker key (Import importing rows)) change reply
-    from (Some imported) at made_is = told_again (imported.key == importing) _ _ change reply made_is
-    from None at made_is =
-        let filled = if_makes (is_empty (book_head book)) _ _ change reply made_is in
-        let empty = empty_lists book filled.0 in
-        RowsAre key importing rows book refl refl (if_makes (book.key == key) _ _ change reply is).0
-        (record { terms = empty.0; pledges = empty.1; imported = at }) (same_change _ change _ reply filled.1) (same_reply _ change _ reply filled.1)
+    let passed = if_makes (book.key == key) _ _ change reply is in from book.imported refl passed.1 where
+      from : (o : Option Imported) → book.imported ≡ o → import_rows (book_head book) b importing rows o ≡ Makes change reply
+          → MadeBy (Some book) operator b stamp (Broker key (Import importing rows)) change reply
+      from (Some imported) at made_is = told_again (imported.key == importing) _ _ change reply made_is
+      from None at made_is =
+          let filled = if_makes (is_empty (book_head book)) _ _ change reply made_is in
+          let empty = empty_lists book filled.0 in
+          RowsAre key importing rows book refl refl (if_makes (book.key == key) _ _ change reply is).0
+          (record { terms = empty.0; pledges = empty.1; imported = at }) (same_change _ change _ reply filled.1) (same_reply _ change _ reply filled.1)
 made_by (Some book) operator b stamp (Broker key (Show n)) change reply is =
     let passed = if_makes (book.key == key) _ _ change reply is in shown_makes stamp (pledge_from 1 book.pledges n) change reply passed.1
 made_by (Some book) operator b stamp (Broker key (SheetOf day)) change reply is =
@@ -147,13 +155,12 @@ made_by (Some book) operator b stamp (Broker key Export) change reply is =
     let passed = if_makes (book.key == key) _ _ change reply is in cc passed.1
 made_by None operator b stamp (Bearer (OnReceipt r command)) change reply is = cc is
 made_by (Some book) operator b stamp (Bearer (OnReceipt r command)) change reply is =
-    CommandIs book r.number command refl (refl, refl)
-    (receipt_made book b r stamp command (live_at (pledge_in (Some book)) r) change reply refl is)
-made_by before operator b stamp (Bearer (Present receipts)) change reply is = present_makes (map (live_at (pledge_in before)) receipts) is
-  where
-    present_makes : (shown : List (Option PledgeValue)) → present_receipts stamp shown ≡ Makes change reply → MadeBy before operator b stamp (Bearer (Present receipts)) change reply
-    present_makes shown is = denied (are_unknown shown) is
-      where
-        denied : (test : Bool) → (if test then Refuses NoSuchReceipt else Says (Shown stamp.day shown)) ≡ Makes change reply → MadeBy before operator b stamp (Bearer (Present receipts)) change reply
-        denied true is = cc is
-        denied false is = cc is
+    CommandIs book r.number command refl (refl, refl) (receipt_made book b r stamp command (live_at (pledge_in (Some book)) r) change reply refl is)
+made_by before operator b stamp (Bearer (Present receipts)) change reply is = present_makes (map (live_at (pledge_in before)) receipts) is where
+  present_makes : (shown : List (Option PledgeValue)) → present_receipts stamp shown ≡ Makes change reply
+      → MadeBy before operator b stamp (Bearer (Present receipts)) change reply
+  present_makes shown is = denied (are_unknown shown) is where
+    denied : (test : Bool) → (if test then Refuses NoSuchReceipt else Says (Shown stamp.day shown)) ≡ Makes change reply
+        → MadeBy before operator b stamp (Bearer (Present receipts)) change reply
+    denied true is = cc is
+    denied false is = cc is

@@ -1,5 +1,7 @@
 -- Where a book's pledges and terms stand in its lists.
-use Rattle.pawn_book.proofs.Basics.{◌≡◌, ◌≢◌, ◌∙◌, ℕ, zero, suc, ◌+◌, ◌<◌, ◌≤◌, List, [], ◌∷◌, length, Option, Some, None, eqb, refl, ap, arith, if◌then◌else◌, ◌==◌, true, false, slice_get, nat_tests, PledgeValue, Rates, BookValue, pledge_from, pledge_in, pledges_of, put_from, terms_at}
+use Rattle.std.proofs.Common.{◌≡◌, ◌≢◌, ◌∙◌, ℕ, zero, suc, ◌+◌, ◌<◌, ◌≤◌, List, [], ◌∷◌, length, Option, Some, None, eqb, refl, ap, arith, if◌then◌else◌, ◌==◌}
+use Rattle.{std.proofs.{Common.{true, false, slice_get}, lemmas.Bool.Decides.nat_tests}, pawn_book.specs.{Common.{PledgeValue, Rates}, BookStep.BookValue}}
+use Rattle.pawn_book.specs.{BookStep.{pledge_from, pledge_in, put_from}, Keeping.pledges_of, Rows.terms_at}
 
 pub pledge_below : (k : ℕ) (ps : List PledgeValue) (n : ℕ) → n < k → pledge_from k ps n ≡ None
 pledge_below k [] n lt = refl
@@ -13,12 +15,15 @@ pub pledge_within : (k : ℕ) (ps : List PledgeValue) (n : ℕ) (p : PledgeValue
 pledge_within k [] n p e = grind (arith, e)
 pledge_within k (r ∷ ps) n p e = grind (arith, nat_tests, pledge_within (k + 1) ps n p)
 
-pub pledge_from-put : (k : ℕ) (ps : List PledgeValue) (n : ℕ) (p : PledgeValue) (q : ℕ) → k ≤ n → n ≤ k + length ps → pledge_from k (put_from k ps n p) q ≡ (if q == n then Some p else pledge_from k ps q)
+pub pledge_from-put : (k : ℕ) (ps : List PledgeValue) (n : ℕ) (p : PledgeValue) (q : ℕ) → k ≤ n → n ≤ k + length ps
+    → pledge_from k (put_from k ps n p) q ≡ (if q == n then Some p else pledge_from k ps q)
 pledge_from-put k [] n p q low high = let is : n ≡ k = omega arith in rw is refl
 pledge_from-put k (r ∷ ps) n p q low high =
-    elim (eqb n k) as (λ b. eqb n k ≡ b → pledge_from k (if b then p ∷ ps else r ∷ put_from (k + 1) ps n p) q ≡ (if q == n then Some p else pledge_from k (r ∷ ps) q)) [
+    elim (eqb n k) as
+    (λ b. eqb n k ≡ b → pledge_from k (if b then p ∷ ps else r ∷ put_from (k + 1) ps n p) q ≡ (if q == n then Some p else pledge_from k (r ∷ ps) q)) [
       | true ↦ λ e. grind (arith, nat_tests, e)
-      | false ↦ λ e. let more : (k ≢ n) → k + 1 ≤ n = λ ne. omega arith in let less : n ≤ (k + 1) + length ps = omega arith in grind (arith, nat_tests, e, pledge_from-put (k + 1) ps n p q)
+      | false ↦ λ e. let more : (k ≢ n)
+          → k + 1 ≤ n = λ ne. omega arith in let less : n ≤ (k + 1) + length ps = omega arith in grind (arith, nat_tests, e, pledge_from-put (k + 1) ps n p q)
     ] refl
 
 -- the pledge of a number is the one at its place

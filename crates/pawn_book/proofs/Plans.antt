@@ -1,18 +1,30 @@
 -- A plan by a keeper's answers is the book's step.
-use Rattle.pawn_book.proofs.Basics.{◌≡◌, ◌≢◌, ℕ, ◌+◌, ◌<◌, ◌≤◌, zero, suc, List, [], ◌∷◌, ◌++◌, length, Some, None, Ok, Err, refl, ◌∙◌, ap, sym, subst, arith, inl, if◌then◌else◌, Option, Result, ◌==◌, true, false, nat_lt, nat_le, option_map, ◌&&◌, IfErr, IfOk, Each, IsChecked, IsDayNumber, IsNumber, IsStanding, IsText, IsUtf8, Issued, Opening, PledgeRefusal, PledgeValue, Rates, Stamp, credit_of, get, pledge_start, result_unwrap_or, and_parts, nat_tests, past_row-ok, AddTerms, AreNumberedFrom, AreReplayable, AreSound, AreWords, BookFilled, BookMade, BookNotEmpty, BookRows, BookValue, CanSave, Change, HasTextsAndWords, Host, ImportBook, IsCapacity, IsSound, IsUnfilled, IsWord, MakeBook, Makes, Memory, NewBook, NewTerms, Opened, Outcome, Planned, Plans, PledgesFull, PutPledge, Refusal, Refuses, TermsFull, TermsPut, TermsSeq, book_head, book_number, changed_book, filled_book, first_receipt, import_rows, is_empty, is_same_text, made_book, make_book, make_or_refuse, most_name_bytes, most_pledges, most_terms, newest, next_pledge, next_terms, number_of, pledge_from, pledge_in, pledges_of, put_from, put_terms, take_pledge, terms_at, terms_of, under_pledge, with_book, with_change, with_reference, with_room}
-use Rattle.pawn_debt.specs.Answers.{is_bad_amount}
-use Rattle.pawn_book.specs.declared.change.BookHead.{BookHead}
+use Rattle.std.proofs.Common.{◌≡◌, ◌≢◌, ℕ, ◌+◌, ◌<◌, ◌≤◌, zero, suc, List, [], ◌∷◌, ◌++◌, length, Some, None, Ok, Err, refl, ◌∙◌, ap, sym, subst, arith, inl}
+use Rattle.std.proofs.{Common.{if◌then◌else◌, Option, Result, ◌==◌, true, false, nat_lt, nat_le, option_map, ◌&&◌, IfErr, IfOk}, lemmas.Bool.and_parts}
+use Rattle.{std.{proofs.lemmas.Bool.Decides.nat_tests, specs.FinMap.get}, pawn_book.specs.Common.{Each, IsChecked, IsNumber, IsStanding, IsText, IsUtf8}}
+use Rattle.pawn_book.specs.{Common.{Issued, Opening, PledgeRefusal, PledgeValue, Rates, Stamp, pledge_start, result_unwrap_or}, Books.{AddTerms, BookFilled}}
+use Rattle.pawn_book.specs.Books.{BookMade, BookNotEmpty, BookRows, Change, ImportBook, MakeBook, Memory, NewBook, NewTerms, Opened, Planned, PledgesFull}
+use Rattle.pawn_book.specs.{Books.{PutPledge, Refusal, TermsFull, TermsPut, TermsSeq}, HostStep.{Host, with_book}, Rows.{AreNumberedFrom, AreReplayable}}
+use Rattle.pawn_book.specs.{Rows.{is_same_text, terms_at}, Sound.{AreSound, AreWords, HasTextsAndWords, IsSound, IsWord}, BookStep.{BookValue, Makes, Outcome}}
+use Rattle.pawn_book.specs.BookStep.{Refuses, book_head, changed_book, filled_book, first_receipt, import_rows, is_empty, made_book, make_book, make_or_refuse}
+use Rattle.pawn_book.specs.BookStep.{newest, next_pledge, next_terms, pledge_from, pledge_in, put_from, put_terms, take_pledge, under_pledge, with_reference}
+use Rattle.pawn_book.specs.{BookStep.with_room, Changes.{CanSave, IsUnfilled, book_number, with_change}, Limits.{IsCapacity, most_name_bytes, most_pledges}}
+use Rattle.pawn_book.specs.{Limits.most_terms, Plans.Plans, Keeping.{number_of, pledges_of, terms_of}, declared.change.BookHead.BookHead}
 use Rattle.pawn_book.proofs.Sounds.{IsNext, absurd_none, some_is, sound_filled, sound_made, sound_next, sound_terms, sound_with}
+use Rattle.{pawn_terms.specs.Calendar.IsDayNumber, pawn_debt.specs.{Due.credit_of, Answers.is_bad_amount}, pawn_base.proofs.RefusalLemmas.past_row-ok}
 
 -- the book of a change, set in the host
-pub changed_is : (h : Host) (b : ℕ) (change : Change) (book : BookValue) → book_number change ≡ b → changed_book (get h.books b) change ≡ Some book → with_change h change ≡ with_book h b (Some book)
+pub changed_is : (h : Host) (b : ℕ) (change : Change) (book : BookValue) → book_number change ≡ b → changed_book (get h.books b) change ≡ Some book
+    → with_change h change ≡ with_book h b (Some book)
 changed_is h b change book named is = ap (λ (c : ℕ). with_book h c (changed_book (get h.books c) change)) named ∙ ap (with_book h b) is
 
 -- a book that doesn't stand is made
-pub book_plans : (h : Host) (b : ℕ) (new : NewBook) → IsNumber b → IsWord new.key → IsUtf8 new.name → IsText most_name_bytes new.name → IsCapacity new.capacity → IsSound h → get h.books b ≡ None
-    → Plans h b (make_book (get h.books b) b new) (Ok (record { change = Some (MakeBook b new); reply = BookMade b }))
-book_plans h b new number key utf8 name capacity sound none =
-    (ap (λ o. make_book o b new) none, (refl, record { follows = none; sound = sound_with h b (made_book new) sound.books (number, sound_made new key utf8 name capacity) }))
+pub book_plans : (h : Host) (b : ℕ) (new : NewBook) → IsNumber b → IsWord new.key → IsUtf8 new.name → IsText most_name_bytes new.name → IsCapacity new.capacity
+    → IsSound h → get h.books b ≡ None → Plans h b (make_book (get h.books b) b new) (Ok (record { change = Some (MakeBook b new); reply = BookMade b }))
+book_plans h b new number key utf8 name capacity sound none = (
+  ap (λ o. make_book o b new) none,
+  (refl, record { follows = none; sound = sound_with h b (made_book new) sound.books (number, sound_made new key utf8 name capacity) }),
+)
 
 -- a list of no length
 no_elements : {A : Type 0} (xs : List A) → (length xs == 0) ≡ true → xs ≡ []
@@ -21,7 +33,8 @@ no_elements (x ∷ xs) is = let none : length (x ∷ xs) ≡ 0 = grind (arith, n
 
 -- the lists of an empty book
 pub empty_lists : (book : BookValue) → is_empty (book_head book) ≡ true → (book.terms ≡ []) × (book.pledges ≡ [])
-empty_lists book is = let each = and_parts (length book.terms == 0) (length book.pledges == 0) is in (no_elements book.terms each.0, no_elements book.pledges each.1)
+empty_lists book is = let each = and_parts (length book.terms == 0) (length book.pledges == 0) is in
+    (no_elements book.terms each.0, no_elements book.pledges each.1)
 
 pub without_lists : (book : BookValue) → book.terms ≡ [] → book.pledges ≡ [] → book ≡ record book { terms = []; pledges = [] }
 without_lists book no_terms no_pledges = ap (λ ts. record book { terms = ts }) no_terms ∙ ap (λ ps. record book { terms = []; pledges = ps }) no_pledges
@@ -35,17 +48,19 @@ rows_plans h b key at rows sound is unfilled word replayable written =
     changed_is h b (ImportBook b key rows) book refl (ap (λ o. changed_book o (ImportBook b key rows)) is) in
     record {
       follows = (at, is, unfilled);
-      sound = subst AreSound (sym same) (sound_with h b book sound.books ((sound.books b at is).0, sound_filled at key rows (sound.books b at is).1 word written replayable));
+      sound = subst AreSound (sym same)
+          (sound_with h b book sound.books ((sound.books b at is).0, sound_filled at key rows (sound.books b at is).1 word written replayable));
     }
 
 pub import_plans : (h : Host) (b key : ℕ) (at : BookValue) (head : BookHead) (rows : BookRows) → IsSound h → get h.books b ≡ Some at → head ≡ book_head at
-    → head.imported ≡ None → is_empty head ≡ true → IsWord key → AreReplayable rows.terms rows.pledges → Each HasTextsAndWords rows.pledges
-    → Plans h b (import_rows (book_head at) b key rows at.imported) (Ok (record { change = Some (ImportBook b key rows); reply = BookFilled (length rows.pledges) }))
+    → head.imported ≡ None → is_empty head ≡ true → IsWord key → AreReplayable rows.terms rows.pledges → Each HasTextsAndWords rows.pledges → Plans h b
+    (import_rows (book_head at) b key rows at.imported) (Ok (record { change = Some (ImportBook b key rows); reply = BookFilled (length rows.pledges) }))
 import_plans h b key at head rows sound is heads none empty word replayable written =
     let imported : at.imported ≡ None = sym (ap (λ (d : BookHead). d.imported) heads) ∙ none in
     let empties : is_empty (book_head at) ≡ true = sym (ap is_empty heads) ∙ empty in
     let lists = empty_lists at empties in (
-      ap (import_rows (book_head at) b key rows) imported ∙ ap (λ v. if v then Makes (ImportBook b key rows) (BookFilled (length rows.pledges)) else Refuses BookNotEmpty) empties,
+      ap (import_rows (book_head at) b key rows) imported
+          ∙ ap (λ v. if v then Makes (ImportBook b key rows) (BookFilled (length rows.pledges)) else Refuses BookNotEmpty) empties,
       (refl, rows_plans h b key at rows sound is (record { terms = lists.0; pledges = lists.1; imported = imported }) word replayable written),
     )
 
@@ -56,9 +71,9 @@ planned_so h b o planned (Ok p) ok err plans = subst (λ q. Plans h b o (Ok q)) 
 planned_so h b o planned (Err why) ok err plans = inl (inl err)
 
 -- the next version of terms is added
-pub terms_plans : (h : Host) (b : ℕ) (at : BookValue) (new : NewTerms) (terms : Rates) → IsSound h → get h.books b ≡ Some at
-    → terms_at at.terms new.version ≡ None → next_terms (length at.terms) new ≡ Ok terms → new.version ≡ length at.terms + 1 → length at.terms < most_terms → IsChecked terms
-    → Plans h b (put_terms at b new (terms_at at.terms new.version)) (Ok (record { change = Some (AddTerms b new.version terms); reply = TermsPut new.version }))
+pub terms_plans : (h : Host) (b : ℕ) (at : BookValue) (new : NewTerms) (terms : Rates) → IsSound h → get h.books b ≡ Some at → terms_at at.terms new.version
+    ≡ None → next_terms (length at.terms) new ≡ Ok terms → new.version ≡ length at.terms + 1 → length at.terms < most_terms → IsChecked terms → Plans h b
+    (put_terms at b new (terms_at at.terms new.version)) (Ok (record { change = Some (AddTerms b new.version terms); reply = TermsPut new.version }))
 terms_plans h b at new terms sound is none answer version few checked =
     let book : BookValue = record at { terms = at.terms ++ terms ∷ [] } in
     let same : with_change h (AddTerms b new.version terms) ≡ with_book h b (Some book) =
@@ -68,7 +83,8 @@ terms_plans h b at new terms sound is none answer version few checked =
         refl,
         record {
           follows = (at, is, version);
-          sound = subst AreSound (sym same) (sound_with h b book sound.books ((sound.books b at is).0, sound_terms at terms (sound.books b at is).1 checked few));
+          sound =
+              subst AreSound (sym same) (sound_with h b book sound.books ((sound.books b at is).0, sound_terms at terms (sound.books b at is).1 checked few));
         },
       ),
     )
@@ -76,8 +92,8 @@ terms_plans h b at new terms sound is none answer version few checked =
 -- the next pledge is taken
 pub pledge_plans : (h : Host) (b : ℕ) (at : BookValue) (opening : Opening) (stamp : Stamp) (p : PledgeValue) → IsSound h → get h.books b ≡ Some at
     → with_reference at.pledges opening.reference ≡ None → next_pledge (book_head at) opening stamp (newest at.terms) ≡ Ok p
-    → IsNext at p → IsStanding p → HasTextsAndWords p
-    → Plans h b (take_pledge at b opening stamp (with_reference at.pledges opening.reference)) (Ok (record { change = Some (PutPledge b p.agreement.number p); reply = Opened (first_receipt p) }))
+    → IsNext at p → IsStanding p → HasTextsAndWords p → Plans h b (take_pledge at b opening stamp (with_reference at.pledges opening.reference))
+    (Ok (record { change = Some (PutPledge b p.agreement.number p); reply = Opened (first_receipt p) }))
 pledge_plans h b at opening stamp p sound is none answer next standing written =
     let book : BookValue = record at { pledges = put_from 1 at.pledges p.agreement.number p } in
     let same : with_change h (PutPledge b p.agreement.number p) ≡ with_book h b (Some book) =
@@ -87,7 +103,8 @@ pledge_plans h b at opening stamp p sound is none answer next standing written =
         refl,
         record {
           follows = (at, is, inl next.number);
-          sound = subst AreSound (sym same) (sound_with h b book sound.books ((sound.books b at is).0, sound_next at p (sound.books b at is).1 next standing written));
+          sound = subst AreSound (sym same)
+              (sound_with h b book sound.books ((sound.books b at is).0, sound_next at p (sound.books b at is).1 next standing written));
         },
       ),
     )
@@ -97,7 +114,8 @@ reference_from : (k : ℕ) (ps : List PledgeValue) (reference : List ℕ) (p : P
     → (k ≤ p.agreement.number) × (pledge_from k ps p.agreement.number ≡ Some p)
 reference_from k [] reference p numbered is = absurd_none is
 reference_from k (r ∷ ps) reference p numbered is =
-    elim (is_same_text r.agreement.opening.reference reference) as (λ v. (if v then Some r else with_reference ps reference) ≡ Some p → (k ≤ p.agreement.number) × (pledge_from k (r ∷ ps) p.agreement.number ≡ Some p)) [
+    elim (is_same_text r.agreement.opening.reference reference) as
+    (λ v. (if v then Some r else with_reference ps reference) ≡ Some p → (k ≤ p.agreement.number) × (pledge_from k (r ∷ ps) p.agreement.number ≡ Some p)) [
       | true ↦ λ here.
           let same = some_is r p here in
           let at_k : p.agreement.number ≡ k = ap (λ (q : PledgeValue). q.agreement.number) (sym same) ∙ numbered.0 in
@@ -114,18 +132,17 @@ reference_from k (r ∷ ps) reference p numbered is =
 -- the number of a reference leads to its pledge
 pub found_by_number : (h : Host) (b n : ℕ) (reference : List ℕ) → IsSound h → Some n ≡ number_of (get h.books b) reference
     → pledge_in (get h.books b) n ≡ with_reference (pledges_of (get h.books b)) reference
-found_by_number h b n reference sound is = from (get h.books b) refl is
-  where
-    at : (book : BookValue) → AreNumberedFrom 1 book.pledges → (o : Option PledgeValue) → with_reference book.pledges reference ≡ o → Some n ≡ option_map (λ p. p.agreement.number) o
-        → pledge_from 1 book.pledges n ≡ o
-    at book numbered None e is = absurd_none (sym is)
-    at book numbered (Some p) e is =
-        let same : n ≡ p.agreement.number = some_is n p.agreement.number is in
-        ap (pledge_from 1 book.pledges) same ∙ (reference_from 1 book.pledges reference p numbered e).1
+found_by_number h b n reference sound is = from (get h.books b) refl is where
+  at : (book : BookValue) → AreNumberedFrom 1 book.pledges → (o : Option PledgeValue) → with_reference book.pledges reference ≡ o
+      → Some n ≡ option_map (λ p. p.agreement.number) o → pledge_from 1 book.pledges n ≡ o
+  at book numbered None e is = absurd_none (sym is)
+  at book numbered (Some p) e is =
+      let same : n ≡ p.agreement.number = some_is n p.agreement.number is in
+      ap (pledge_from 1 book.pledges) same ∙ (reference_from 1 book.pledges reference p numbered e).1
 
-    from : (o : Option BookValue) → get h.books b ≡ o → Some n ≡ number_of o reference → pledge_in o n ≡ with_reference (pledges_of o) reference
-    from None e is = refl
-    from (Some book) e is = at book (sound.books b book e).1.rows.numbered (with_reference book.pledges reference) refl is ∙ refl
+  from : (o : Option BookValue) → get h.books b ≡ o → Some n ≡ number_of o reference → pledge_in o n ≡ with_reference (pledges_of o) reference
+  from None e is = refl
+  from (Some book) e is = at book (sound.books b book e).1.rows.numbered (with_reference book.pledges reference) refl is ∙ refl
 
 -- terms that are not refused have the next version, and there is room for them
 pub next_is : (standing : ℕ) (new : NewTerms) (terms : Rates) → next_terms standing new ≡ Ok terms
@@ -144,9 +161,9 @@ not_standing (t ∷ ts) (suc zero) none low = absurd_none (sym none)
 not_standing (t ∷ ts) (suc (suc n)) none low = let rest = not_standing ts (suc n) none (omega arith) in omega (arith, rest)
 
 -- the next version of terms, as a keeper tells of them
-pub next_plans : (h : Host) (b : ℕ) (at : BookValue) (head : BookHead) (new : NewTerms) (terms : Rates) → IsSound h → get h.books b ≡ Some at → head ≡ book_head at
-    → None ≡ terms_at (terms_of (get h.books b)) new.version → next_terms head.terms new ≡ Ok terms → IsChecked terms
-    → Plans h b (put_terms at b new (terms_at at.terms new.version)) (Ok (record { change = Some (AddTerms b new.version terms); reply = TermsPut new.version }))
+pub next_plans : (h : Host) (b : ℕ) (at : BookValue) (head : BookHead) (new : NewTerms) (terms : Rates) → IsSound h → get h.books b ≡ Some at
+    → head ≡ book_head at → None ≡ terms_at (terms_of (get h.books b)) new.version → next_terms head.terms new ≡ Ok terms → IsChecked terms → Plans h b
+    (put_terms at b new (terms_at at.terms new.version)) (Ok (record { change = Some (AddTerms b new.version terms); reply = TermsPut new.version }))
 next_plans h b at head new terms sound is heads none answer checked =
     let absent : terms_at at.terms new.version ≡ None = sym (none ∙ ap (λ o. terms_at (terms_of o) new.version) is) in
     let next : next_terms (length at.terms) new ≡ Ok terms = ap (λ (q : BookHead). next_terms q.terms new) (sym heads) ∙ answer in
@@ -170,29 +187,30 @@ pub record IsTakenAs (head : BookHead) (opening : Opening) (stamp : Stamp) (newe
   pub day : p.agreement.taken ≡ stamp.day
   pub few : head.pledges < most_pledges
 
-pub taken_is : (head : BookHead) (opening : Opening) (stamp : Stamp) (newest : Option Rates) (p : PledgeValue) → next_pledge head opening stamp newest ≡ Ok p → IsTakenAs head opening stamp newest p
+pub taken_is : (head : BookHead) (opening : Opening) (stamp : Stamp) (newest : Option Rates) (p : PledgeValue) → next_pledge head opening stamp newest ≡ Ok p
+    → IsTakenAs head opening stamp newest p
 taken_is head opening stamp None p is = cc is
-taken_is head opening stamp (Some terms) p is = from (pledge_start (head.pledges + 1) opening head.terms terms stamp) refl is
-  where
-    from : (r : Result PledgeValue PledgeRefusal) → pledge_start (head.pledges + 1) opening head.terms terms stamp ≡ r → with_room head.pledges (under_pledge r) ≡ Ok p
-        → IsTakenAs head opening stamp (Some terms) p
-    from (Err why) at is = cc is
-    from (Ok q) at is =
-        let row = past_row-ok (nat_le most_pledges head.pledges) PledgesFull _ p is in
-        let few : head.pledges < most_pledges = grind (arith, nat_tests, row.0) in
-        let same : q ≡ p = ap (λ (r : Result PledgeValue Refusal). result_unwrap_or r q) row.1 in
-        let start = past_row-ok (is_bad_amount (credit_of opening.kind)) _ _ q at in
-        subst (IsTakenAs head opening stamp (Some terms)) (ap (λ (r : Result PledgeValue PledgeRefusal). result_unwrap_or r q) start.1 ∙ same)
-        (record { number = refl; asked = refl; version = refl; under = refl; first = (_, refl, refl); day = refl; few = few })
+taken_is head opening stamp (Some terms) p is = from (pledge_start (head.pledges + 1) opening head.terms terms stamp) refl is where
+  from : (r : Result PledgeValue PledgeRefusal) → pledge_start (head.pledges + 1) opening head.terms terms stamp ≡ r
+      → with_room head.pledges (under_pledge r) ≡ Ok p → IsTakenAs head opening stamp (Some terms) p
+  from (Err why) at is = cc is
+  from (Ok q) at is =
+      let row = past_row-ok (nat_le most_pledges head.pledges) PledgesFull _ p is in
+      let few : head.pledges < most_pledges = grind (arith, nat_tests, row.0) in
+      let same : q ≡ p = ap (λ (r : Result PledgeValue Refusal). result_unwrap_or r q) row.1 in
+      let start = past_row-ok (is_bad_amount (credit_of opening.kind)) _ _ q at in
+      subst (IsTakenAs head opening stamp (Some terms)) (ap (λ (r : Result PledgeValue PledgeRefusal). result_unwrap_or r q) start.1 ∙ same)
+      (record { number = refl; asked = refl; version = refl; under = refl; first = (_, refl, refl); day = refl; few = few })
 
 -- the next pledge, as a keeper tells of the book
-pub taken_plans : (h : Host) (b : ℕ) (at : BookValue) (head : BookHead) (opening : Opening) (stamp : Stamp) (p : PledgeValue) → IsSound h → get h.books b ≡ Some at → head ≡ book_head at
-    → None ≡ with_reference (pledges_of (get h.books b)) opening.reference → next_pledge head opening stamp (newest at.terms) ≡ Ok p → IsStanding p
-    → IsUtf8 opening.reference → IsUtf8 opening.article → IsWord stamp.word → IsDayNumber stamp.day
-    → Plans h b (take_pledge at b opening stamp (with_reference at.pledges opening.reference)) (Ok (record { change = Some (PutPledge b p.agreement.number p); reply = Opened (first_receipt p) }))
+pub taken_plans : (h : Host) (b : ℕ) (at : BookValue) (head : BookHead) (opening : Opening) (stamp : Stamp) (p : PledgeValue) → IsSound h → get h.books b
+    ≡ Some at → head ≡ book_head at → None ≡ with_reference (pledges_of (get h.books b)) opening.reference → next_pledge head opening stamp (newest at.terms)
+    ≡ Ok p → IsStanding p → IsUtf8 opening.reference → IsUtf8 opening.article → IsWord stamp.word → IsDayNumber stamp.day → Plans h b (take_pledge at b opening
+    stamp (with_reference at.pledges opening.reference)) (Ok (record { change = Some (PutPledge b p.agreement.number p); reply = Opened (first_receipt p) }))
 taken_plans h b at head opening stamp p sound is heads none answer standing reference article word day =
     let absent : with_reference at.pledges opening.reference ≡ None = sym (none ∙ ap (λ o. with_reference (pledges_of o) opening.reference) is) in
-    let next : next_pledge (book_head at) opening stamp (newest at.terms) ≡ Ok p = ap (λ (q : BookHead). next_pledge q opening stamp (newest at.terms)) (sym heads) ∙ answer in
+    let next : next_pledge (book_head at) opening stamp (newest at.terms) ≡ Ok p =
+    ap (λ (q : BookHead). next_pledge q opening stamp (newest at.terms)) (sym heads) ∙ answer in
     let taken = taken_is (book_head at) opening stamp (newest at.terms) p next in
     let is_next : IsNext at p = record {
       number = taken.number;

@@ -1,5 +1,5 @@
 -- One read of a keeper after another.
-use Rattle.pawn_book.proofs.Basics.{◌≡◌, subst, Ok, Result, IfOk, GoesOn, Host, Keeping, Reads}
+use Rattle.{std.proofs.Common.{◌≡◌, subst, Ok, Result, IfOk}, pawn_book.specs.{Keeping.{GoesOn, Keeping, Reads}, HostStep.Host}}
 
 -- a keeper goes on after one call, and after another
 pub on_then : {K : Type 0} {k : Keeping K} {a b c : K} → GoesOn k a b → GoesOn k b c → GoesOn k a c

@@ -1,13 +1,16 @@
 -- What stands is told again, to whoever passes.
-use Rattle.pawn_book.proofs.Basics.{◌≡◌, ℕ, List, Some, refl, ◌∙◌, ap, sym, subst, arith, if◌then◌else◌, is_some, Option, ◌==◌, true, nat_tests, Answered, Command, Done, PledgeValue, Stamp, end_of, entry_command, pledge_step, Asks, Bearer, BookEntriesActOnce, BookExtensionsActOnce, BookValue, Broker, Caller, Change, Commanded, EntriesActOnceForAll, Export, Import, Makes, NoSuchBook, OnPledge, OnReceipt, Operator, Passes, Present, PutTerms, Refuses, Reply, Says, SheetOf, Show, StandingEndIsTold, StillPasses, TakePledge, Told, bearer_commands, book_run, book_step, broker_commands, changed_book, judged_outcome, live_at, only_live, pledge_from, pledge_in, within_window}
+use Rattle.std.proofs.{Common.{◌≡◌, ℕ, List, Some, refl, ◌∙◌, ap, sym, subst, arith, if◌then◌else◌, is_some, Option, ◌==◌, true}, lemmas.Bool.Decides.nat_tests}
+use Rattle.pawn_book.specs.{Common.{Answered, Command, Done, PledgeValue, Stamp, end_of, entry_command, pledge_step}, Laws.{Asks, BookEntriesActOnce}}
+use Rattle.pawn_book.specs.{Laws.{BookExtensionsActOnce, EntriesActOnceForAll, Passes, StandingEndIsTold, StillPasses, book_run}, Books.{Bearer, Broker}}
+use Rattle.pawn_book.specs.Books.{Caller, Change, Commanded, Export, Import, NoSuchBook, OnPledge, OnReceipt, Operator, Present, PutTerms, Reply, SheetOf, Show}
+use Rattle.pawn_book.specs.{Books.TakePledge, BookStep.{BookValue, Makes, Refuses, Says, Told, bearer_commands, book_step, broker_commands, changed_book}}
+use Rattle.pawn_book.{specs.BookStep.{judged_outcome, live_at, only_live, pledge_from, pledge_in, within_window}, proofs.LawLemmas.{live_found, numbered_in}}
+use Rattle.pawn_book.proofs.{LawLemmas.stands_after, MadeLemmas.{DidOn, if_makes, number_made, receipt_made}, Sounds.some_is}
 use Rattle.pawn_pledge.proofs.Repeats.{entered_again, extended-made, standing_end_is_answered}
-use Rattle.pawn_book.proofs.LawLemmas.{live_found, numbered_in, stands_after}
-use Rattle.pawn_book.proofs.MadeLemmas.{DidOn, if_makes, number_made, receipt_made}
-use Rattle.pawn_book.proofs.Sounds.{some_is}
 
 -- a command that made a change
-pub did_on : (book : BookValue) (operator b : ℕ) (stamp : Stamp) (caller : Caller) (n : ℕ) (command : Command) (change : Change) (reply : Reply) → Asks caller n command
-    → book_step (Some book) operator b stamp caller ≡ Makes change reply → DidOn book b n stamp command change reply
+pub did_on : (book : BookValue) (operator b : ℕ) (stamp : Stamp) (caller : Caller) (n : ℕ) (command : Command) (change : Change) (reply : Reply)
+    → Asks caller n command → book_step (Some book) operator b stamp caller ≡ Makes change reply → DidOn book b n stamp command change reply
 did_on book operator b stamp (Operator key new) n command change reply asks is = absurd asks
 did_on book operator b stamp (Broker key (PutTerms new)) n command change reply asks is = absurd asks
 did_on book operator b stamp (Broker key (TakePledge opening)) n command change reply asks is = absurd asks
@@ -25,8 +28,8 @@ did_on book operator b stamp (Bearer (OnReceipt r own)) n command change reply a
     subst (λ (c : Command). DidOn book b n stamp c change reply) asks.1 (subst (λ (k : ℕ). DidOn book b k stamp own change reply) asks.0 did)
 
 -- what a pledge answers without a change is told to whoever passes
-told_to : (book : BookValue) (operator b : ℕ) (stamp : Stamp) (caller : Caller) (n : ℕ) (command : Command) (p : PledgeValue) (done : Done) → Asks caller n command → Passes (Some book) caller
-    → pledge_from 1 book.pledges n ≡ Some p → pledge_step p stamp command ≡ Answered done
+told_to : (book : BookValue) (operator b : ℕ) (stamp : Stamp) (caller : Caller) (n : ℕ) (command : Command) (p : PledgeValue) (done : Done)
+    → Asks caller n command → Passes (Some book) caller → pledge_from 1 book.pledges n ≡ Some p → pledge_step p stamp command ≡ Answered done
     → book_step (Some book) operator b stamp caller ≡ Says (Told (Commanded n done))
 told_to book operator b stamp (Operator key new) n command p done asks passes at step = absurd asks
 told_to book operator b stamp (Broker key (PutTerms new)) n command p done asks passes at step = absurd asks
@@ -40,16 +43,13 @@ told_to book operator b stamp (Broker key (OnPledge m own)) n command p done ask
     let opens : (book.key == key) ≡ true = grind (arith, nat_tests, holds) in
     ap (λ v. if v then broker_commands book b m stamp own (pledge_from 1 book.pledges m) else Refuses NoSuchBook) opens
     ∙ ap (broker_commands book b m stamp own) (ap (pledge_from 1 book.pledges) asks.0 ∙ at)
-    ∙ ap (λ j. within_window book (judged_outcome b m j)) (ap (pledge_step p stamp) asks.1 ∙ step)
-    ∙ ap (λ (k : ℕ). Says (Told (Commanded k done))) asks.0
+    ∙ ap (λ j. within_window book (judged_outcome b m j)) (ap (pledge_step p stamp) asks.1 ∙ step) ∙ ap (λ (k : ℕ). Says (Told (Commanded k done))) asks.0
 told_to book operator b stamp (Bearer (Present receipts)) n command p done asks passes at step = absurd asks
 told_to book operator b stamp (Bearer (OnReceipt r own)) n command p done asks passes at step =
     let here : pledge_from 1 book.pledges r.number ≡ Some p = ap (pledge_from 1 book.pledges) asks.0 ∙ at in
     let live : is_some (only_live r.secret (Some p)) ≡ true = ap (λ o. is_some (only_live r.secret o)) (sym here) ∙ passes in
-    ap (λ o. bearer_commands b r.number stamp own (only_live r.secret o)) here
-    ∙ ap (bearer_commands b r.number stamp own) (live_found r.secret p live)
-    ∙ ap (judged_outcome b r.number) (ap (pledge_step p stamp) asks.1 ∙ step)
-    ∙ ap (λ (k : ℕ). Says (Told (Commanded k done))) asks.0
+    ap (λ o. bearer_commands b r.number stamp own (only_live r.secret o)) here ∙ ap (bearer_commands b r.number stamp own) (live_found r.secret p live)
+    ∙ ap (judged_outcome b r.number) (ap (pledge_step p stamp) asks.1 ∙ step) ∙ ap (λ (k : ℕ). Says (Told (Commanded k done))) asks.0
 
 -- an entry is told again
 pub entry_told_to_all : EntriesActOnceForAll
@@ -58,14 +58,13 @@ entry_told_to_all before operator b stamp again caller other n sort seq pence ch
     let stands = stands_after before operator b n stamp (entry_command sort seq pence) change reply later did in
     let q = stands.3.0 in
     let told = entered_again did.old did.next q stamp again sort seq pence did.done (numbered_in before n did.old sound did.stands) did.step stands.3.2.lists in
-    ap (λ o. book_step o operator b again other) stands.1
-    ∙ told_to stands.0 operator b again other n (entry_command sort seq pence) q did.done asks' (subst (λ (o : Option BookValue). Passes o other) stands.1 passes) stands.3.1 told
-    ∙ ap (λ r. Says (Told r)) (sym did.says)
+    ap (λ o. book_step o operator b again other) stands.1 ∙ told_to stands.0 operator b again other n (entry_command sort seq pence) q did.done asks'
+    (subst (λ (o : Option BookValue). Passes o other) stands.1 passes) stands.3.1 told ∙ ap (λ r. Says (Told r)) (sym did.says)
 
 -- whoever asked passes still: the broker by the key, and a bearer while the receipt is live
-still_passes : (before : BookValue) (operator b : ℕ) (stamp : Stamp) (caller : Caller) (n : ℕ) (command : Command) (change : Change) (reply : Reply) (later : List (Stamp × Caller))
-    → Asks caller n command → book_step (Some before) operator b stamp caller ≡ Makes change reply → StillPasses (book_run (changed_book (Some before) change) operator b later) caller
-    → Passes (book_run (changed_book (Some before) change) operator b later) caller
+still_passes : (before : BookValue) (operator b : ℕ) (stamp : Stamp) (caller : Caller) (n : ℕ) (command : Command) (change : Change) (reply : Reply)
+    (later : List (Stamp × Caller)) → Asks caller n command → book_step (Some before) operator b stamp caller ≡ Makes change reply → StillPasses
+    (book_run (changed_book (Some before) change) operator b later) caller → Passes (book_run (changed_book (Some before) change) operator b later) caller
 still_passes before operator b stamp (Operator key new) n command change reply later asks is passes = absurd asks
 still_passes before operator b stamp (Broker key request) n command change reply later asks is passes =
     let did = did_on before operator b stamp (Broker key request) n command change reply asks is in
@@ -82,8 +81,8 @@ entry_told before operator b stamp again caller n sort seq pence change reply la
 
 pub standing_end_is_told : StandingEndIsTold
 standing_end_is_told book operator b n stamp p at may =
-    told_to book operator b stamp (Broker book.key (OnPledge n (Command.Extend (end_of p)))) n (Command.Extend (end_of p)) p (Done.Extended (end_of p)) (refl, refl) (book, refl, refl) at
-    (standing_end_is_answered p stamp may)
+    told_to book operator b stamp (Broker book.key (OnPledge n (Command.Extend (end_of p)))) n (Command.Extend (end_of p)) p (Done.Extended (end_of p))
+    (refl, refl) (book, refl, refl) at (standing_end_is_answered p stamp may)
 
 -- an extension is told again
 pub extension_told : BookExtensionsActOnce
@@ -95,8 +94,7 @@ extension_told before operator b key n until stamp again change reply later p is
     let holds : after.key ≡ key = let test = passed.0 in let same = stands.2 in grind (arith, nat_tests, test, same) in
     let there : pledge_from 1 after.pledges n ≡ Some p = ap (λ o. pledge_in o n) (sym stands.1) ∙ at in
     let told = standing_end_is_answered p again may in
-    ap (λ o. book_step o operator b again (Broker key (OnPledge n (Command.Extend until)))) stands.1
-    ∙ told_to after operator b again (Broker key (OnPledge n (Command.Extend until))) n (Command.Extend until) p (Done.Extended until) (refl, refl) (after, refl, holds) there
-    (ap (λ (e : ℕ). pledge_step p again (Command.Extend e)) (sym ends) ∙ told ∙ ap (λ (e : ℕ). Answered (Done.Extended e)) ends)
-    ∙ ap (λ (d : Done). Says (Told (Commanded n d))) (sym (extended-made did.old did.next stamp until did.done did.step))
-    ∙ ap (λ r. Says (Told r)) (sym did.says)
+    ap (λ o. book_step o operator b again (Broker key (OnPledge n (Command.Extend until)))) stands.1 ∙ told_to after operator b again
+    (Broker key (OnPledge n (Command.Extend until))) n (Command.Extend until) p (Done.Extended until) (refl, refl) (after, refl, holds) there
+    (ap (λ (e : ℕ). pledge_step p again (Command.Extend e)) (sym ends) ∙ told ∙ ap (λ (e : ℕ). Answered (Done.Extended e)) ends) ∙ ap (λ (d : Done). Says
+    (Told (Commanded n d))) (sym (extended-made did.old did.next stamp until did.done did.step)) ∙ ap (λ r. Says (Told r)) (sym did.says)

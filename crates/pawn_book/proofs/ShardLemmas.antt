@@ -1,10 +1,12 @@
 -- The law of shards.
-use Rattle.pawn_book.proofs.Basics.{◌≡◌, ℕ, List, [], ◌∷◌, ◌++◌, refl, ◌∙◌, ap, sym, arith, ◌≢◌, ◌==◌, Bool, true, false, if◌then◌else◌, cond, Stamp, get, nat_tests, HandedOutAnswersAsOne, HandsAll, Request, ShardsAnswerAsOne, book_run, book_trace, by_callers, handed, on_book, taken}
+use Rattle.std.proofs.Common.{◌≡◌, ℕ, List, [], ◌∷◌, ◌++◌, refl, ◌∙◌, ap, sym, arith, ◌≢◌, ◌==◌, Bool, true, false, if◌then◌else◌, cond}
+use Rattle.{std.{proofs.lemmas.Bool.Decides.nat_tests, specs.FinMap.get}, pawn_book.specs.{Common.Stamp, Shards.{HandedOutAnswersAsOne, HandsAll}}}
+use Rattle.pawn_book.specs.{Shards.{ShardsAnswerAsOne, by_callers, handed, on_book, taken}, Books.Request, Laws.book_run, Traces.book_trace}
 use Rattle.pawn_book.proofs.SlotRuns.{book_is_alone, equal_book_traces_answer_alike}
 
 -- what is handed, where it is known whether the first goes to the shard and whether it is on the book
-handed_first : (shard : ℕ → ℕ) (k b : ℕ) (a : Stamp × Request) (asked : List (Stamp × Request)) → shard b ≡ k → on_book b (handed shard k asked) ≡ on_book b asked
-    → (v : Bool) → shard a.1.book == k ≡ v → (w : Bool) → a.1.book == b ≡ w
+handed_first : (shard : ℕ → ℕ) (k b : ℕ) (a : Stamp × Request) (asked : List (Stamp × Request)) → shard b ≡ k
+    → on_book b (handed shard k asked) ≡ on_book b asked → (v : Bool) → shard a.1.book == k ≡ v → (w : Bool) → a.1.book == b ≡ w
     → on_book b (cond v (a ∷ handed shard k asked) (handed shard k asked)) ≡ on_book b (a ∷ asked)
 handed_first shard k b a asked is rest true mine w at = ap (λ l. by_callers b a ++ l) rest
 handed_first shard k b a asked is rest false other true at =
@@ -20,8 +22,7 @@ own shard k b [] is = refl
 own shard k b (a ∷ asked) is = handed_first shard k b a asked is (own shard k b asked is) (shard a.1.book == k) refl (a.1.book == b) refl
 
 handed_none : (shard : ℕ → ℕ) (k b : ℕ) (a : Stamp × Request) (asked : List (Stamp × Request)) → shard b ≢ k → on_book b (handed shard k asked) ≡ []
-    → (v : Bool) → shard a.1.book == k ≡ v → (w : Bool) → a.1.book == b ≡ w
-    → on_book b (cond v (a ∷ handed shard k asked) (handed shard k asked)) ≡ []
+    → (v : Bool) → shard a.1.book == k ≡ v → (w : Bool) → a.1.book == b ≡ w → on_book b (cond v (a ∷ handed shard k asked) (handed shard k asked)) ≡ []
 handed_none shard k b a asked is rest false other w at = rest
 handed_none shard k b a asked is rest true mine true at =
     let same : a.1.book ≡ b = grind (arith, nat_tests, at) in
@@ -40,16 +41,13 @@ hands_all = record { own = own; others = others }
 
 pub shards_answer_as_one : {F : Type 0} → ShardsAnswerAsOne F
 shards_answer_as_one = record {
-  replies = λ shard shards runs one all operator k stamp request mine alike settled other.
-      equal_book_traces_answer_alike (shards k) one operator (runs k) all stamp request settled other alike.begins alike.settled;
-  books = λ shard shards runs one all operator k b mine alike.
-      sym (book_is_alone (shards k) operator b (runs k))
-      ∙ ap (λ book. book_run book operator b (book_trace b (shards k) operator (runs k))) alike.begins
-      ∙ ap (book_run (get one.books b) operator b) alike.settled
-      ∙ book_is_alone one operator b all;
+  replies = λ shard shards runs one all operator k stamp request mine alike settled other. equal_book_traces_answer_alike (shards k) one operator
+      (runs k) all stamp request settled other alike.begins alike.settled;
+  books = λ shard shards runs one all operator k b mine alike. sym (book_is_alone (shards k) operator b (runs k)) ∙ ap (λ book. book_run book operator b
+      (book_trace b (shards k) operator (runs k))) alike.begins ∙ ap (book_run (get one.books b) operator b) alike.settled ∙ book_is_alone one operator b all;
 }
 
 pub handed_out_answers_as_one : (F : Type 0) → HandedOutAnswersAsOne F
 handed_out_answers_as_one F shard shards one asked operator k stamp request mine begins there here settled other =
-    equal_book_traces_answer_alike {F = F} (shards k) one operator (taken {F = F} (handed shard k asked)) (taken {F = F} asked) stamp request settled other begins
-    (there ∙ own shard k request.book asked mine ∙ sym here)
+    equal_book_traces_answer_alike {F = F} (shards k) one operator (taken {F = F} (handed shard k asked))
+    (taken {F = F} asked) stamp request settled other begins (there ∙ own shard k request.book asked mine ∙ sym here)

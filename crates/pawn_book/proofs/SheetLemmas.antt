@@ -1,7 +1,6 @@
 -- Handing over one list after another, and the windows of a day's sheet.
-use Rattle.pawn_book.proofs.Basics.{◌≡◌, ◌∙◌, ℕ, ◌+◌, zero, suc, List, [], ◌∷◌, ◌++◌, refl, sym, ap, subst, inl, inr, arith, append_assoc, append-nil, flat_map, Flow, Go, Handed, HandsOver, Stop}
-use Rattle.std.proofs.lemmas.Grind.{flat_map-append}
-use Rattle.pawn_book.specs.Sheet.{windows_below}
+use Rattle.std.proofs.Common.{◌≡◌, ◌∙◌, ℕ, ◌+◌, zero, suc, List, [], ◌∷◌, ◌++◌, refl, sym, ap, subst, inl, inr, arith, append_assoc, append-nil}
+use Rattle.{std.proofs.lemmas.Grind.flat_map-append, pawn_book.specs.{Common.flat_map, Books.{Flow, Go, Stop}, Visits.{Handed, HandsOver}, Sheet.windows_below}}
 
 -- items at none of which it stopped, and then further ones
 pub handed-append : {V T : Type 0} (step : V → T → Flow → V → Type 0) (v u w : V) (xs ys : List T) (flow : Flow)
@@ -39,9 +38,13 @@ pub windows_more : {T : Type 0} (f : ℕ → List T) (n : ℕ) → flat_map f (w
 windows_more f n = flat_map-append f (windows_below n) (n ∷ []) ∙ ap (λ t. flat_map f (windows_below n) ++ t) (append-nil (f n))
 
 -- those below a number begin with those below a lesser one
-pub windows_begin : {T : Type 0} (f : ℕ → List T) (n more : ℕ) → (rest : List T) × (flat_map f (windows_below (more + n)) ≡ flat_map f (windows_below n) ++ rest)
+pub windows_begin : {T : Type 0} (f : ℕ → List T) (n more : ℕ)
+    → (rest : List T) × (flat_map f (windows_below (more + n)) ≡ flat_map f (windows_below n) ++ rest)
 windows_begin f n zero = let same : zero + n ≡ n = omega arith in ([], ap (λ k. flat_map f (windows_below k)) same ∙ sym (append-nil _))
 windows_begin f n (suc more) =
     let less = windows_begin f n more in
-    let next : suc more + n ≡ suc (more + n) = omega arith in
-    (less.0 ++ f (more + n), ap (λ k. flat_map f (windows_below k)) next ∙ windows_more f (more + n) ∙ ap (λ t. t ++ f (more + n)) less.1 ∙ append_assoc (flat_map f (windows_below n)) less.0 (f (more + n)))
+    let next : suc more + n ≡ suc (more + n) = omega arith in (
+      less.0 ++ f (more + n),
+      ap (λ k. flat_map f (windows_below k)) next ∙ windows_more f (more + n) ∙ ap (λ t. t ++ f (more + n)) less.1
+          ∙ append_assoc (flat_map f (windows_below n)) less.0 (f (more + n)),
+    )

@@ -1,5 +1,7 @@
 -- Runs request by request.
-use Rattle.pawn_book.proofs.Basics.{◌≡◌, ℕ, List, [], ◌∷◌, ◌++◌, Option, None, Some, refl, Receipt, Stamp, flat_map, Caller, Event, Host, Moment, Request, SlotEvent, asked_of, host_after_event, moment_of, moments, request_in, seen_by}
+use Rattle.{std.proofs.Common.{◌≡◌, ℕ, List, [], ◌∷◌, ◌++◌, Option, None, Some, refl}, pawn_book.specs.{Common.{Receipt, Stamp, flat_map}, Books.Caller}}
+use Rattle.pawn_book.specs.{Books.Request, HostStep.Host, Runs.{Event, Moment, host_after_event, moment_of, moments, request_in}, Traces.{SlotEvent, asked_of}}
+use Rattle.pawn_book.specs.Traces.{seen_by}
 
 -- what a request is to a slot, if there is one
 abbrev pub slot_on : ℕ → List Receipt → Host → ℕ → Stamp → Option Request → List SlotEvent
@@ -19,9 +21,10 @@ slot_first : (b : ℕ) (slot : List Receipt) (h : Host) (operator : ℕ) (stamp 
 slot_first b slot h operator stamp None rest = refl
 slot_first b slot h operator stamp (Some request) rest = refl
 
-pub slot_step : {F : Type 0} (b : ℕ) (slot : List Receipt) (h : Host) (operator : ℕ) (event : Event F) (events : List (Event F))
-    → run_slot b slot h operator (event ∷ events) ≡ slot_on b slot h operator event.stamp (request_in event.mark) ++ run_slot b slot (host_after_event h operator event) operator events
-slot_step b slot h operator event events = slot_first b slot h operator event.stamp (request_in event.mark) (moments (host_after_event h operator event) operator events)
+pub slot_step : {F : Type 0} (b : ℕ) (slot : List Receipt) (h : Host) (operator : ℕ) (event : Event F) (events : List (Event F)) → run_slot b slot h operator
+    (event ∷ events) ≡ slot_on b slot h operator event.stamp (request_in event.mark) ++ run_slot b slot (host_after_event h operator event) operator events
+slot_step b slot h operator event events =
+    slot_first b slot h operator event.stamp (request_in event.mark) (moments (host_after_event h operator event) operator events)
 
 book_first : (b : ℕ) (h : Host) (operator : ℕ) (stamp : Stamp) (asked : Option Request) (rest : List Moment)
     → flat_map (asked_of b operator) (moment_of h stamp asked ++ rest) ≡ request_on b h operator stamp asked ++ flat_map (asked_of b operator) rest
@@ -29,6 +32,7 @@ book_first b h operator stamp None rest = refl
 book_first b h operator stamp (Some request) rest = refl
 
 pub book_trace_step : {F : Type 0} (b : ℕ) (h : Host) (operator : ℕ) (event : Event F) (events : List (Event F))
-    → flat_map (asked_of b operator) (moments h operator (event ∷ events))
-    ≡ request_on b h operator event.stamp (request_in event.mark) ++ flat_map (asked_of b operator) (moments (host_after_event h operator event) operator events)
-book_trace_step b h operator event events = book_first b h operator event.stamp (request_in event.mark) (moments (host_after_event h operator event) operator events)
+    → flat_map (asked_of b operator) (moments h operator (event ∷ events)) ≡ request_on b h operator event.stamp (request_in event.mark)
+    ++ flat_map (asked_of b operator) (moments (host_after_event h operator event) operator events)
+book_trace_step b h operator event events =
+    book_first b h operator event.stamp (request_in event.mark) (moments (host_after_event h operator event) operator events)

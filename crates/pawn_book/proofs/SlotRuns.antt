@@ -1,11 +1,20 @@
 -- What a run does to each book, and to the machine of a slot.
-use Rattle.pawn_book.proofs.Basics.{◌≡◌, ℕ, List, [], ◌∷◌, ◌++◌, Some, None, Ok, Err, refl, ◌∙◌, ap, sym, subst, arith, if◌then◌else◌, Option, ◌==◌, Bool, true, false, nat_lt, ◌&&◌, map, Answered, Changed, Command, Judged, PledgeValue, Receipt, Refused, Stamp, flat_map, get, list_all, pledge_step, and_parts, nat_tests, AddTerms, Bearer, BearerRequest, BearersJoin, BookValue, BooksAnswerAlone, Caller, Change, EqualBookTracesAnswerAlike, EqualTracesAnswerAlike, Event, Full, Host, ImportBook, MakeBook, Makes, Mark, OnReceipt, OtherBooksStay, Outcome, Present, PutPledge, Refuses, Request, Says, SlotsAnswerAlone, SlotsAreHeld, bearer_commands, bearer_step, book_after, book_run, book_step, book_trace, changed_book, enters, host_after, host_after_event, host_after_mark, host_step, is_in, is_live, is_live_in, is_settled, is_slots, joins, judged_outcome, live_at, no_memory, no_pledge, no_store, numbered_pledges, only_live, out_of, pledge_in, pledges_of, present_receipts, read_as, reply_alone, request_in, rows, run_host, slot_events, slot_of, slot_trace, solo, solo_from, solo_reply, with_book, within_limit, within_slot}
-use Rattle.pawn_book.proofs.SlotMoments.{book_trace_step, request_on, run_slot, slot_on, slot_step}
-use Rattle.pawn_book.proofs.Sounds.{get-with_book}
-use Rattle.pawn_book.proofs.SlotMachine.{Follows, enter_book, solo_from-append, step_follows}
+use Rattle.std.proofs.Common.{◌≡◌, ℕ, List, [], ◌∷◌, ◌++◌, Some, None, Ok, Err, refl, ◌∙◌, ap, sym, subst, arith, if◌then◌else◌, Option, ◌==◌, Bool, true}
+use Rattle.{std.{proofs.{Common.{false, nat_lt, ◌&&◌, map}, lemmas.Bool.{and_parts, Decides.nat_tests}}, specs.FinMap.get}, pawn_book.specs.Common.Answered}
+use Rattle.pawn_book.specs.{Common.{Changed, Command, Judged, PledgeValue, Receipt, Refused, Stamp, flat_map, list_all, pledge_step}, Books.{AddTerms, Bearer}}
+use Rattle.pawn_book.specs.{Books.{BearerRequest, Caller, Change, Full, ImportBook, MakeBook, OnReceipt, Present, PutPledge, Request}, HostStep.Host}
+use Rattle.pawn_book.specs.{HostStep.{host_after, host_step, rows, with_book, within_limit}, Slots.{BearersJoin, BooksAnswerAlone, EqualBookTracesAnswerAlike}}
+use Rattle.pawn_book.specs.{Slots.{EqualTracesAnswerAlike, OtherBooksStay, SlotsAnswerAlone, SlotsAreHeld, joins}, BookStep.{BookValue, Makes, Outcome}}
+use Rattle.pawn_book.specs.BookStep.{Refuses, Says, bearer_commands, bearer_step, book_after, book_step, changed_book, is_live, judged_outcome, live_at}
+use Rattle.pawn_book.specs.{BookStep.{only_live, out_of, pledge_in, present_receipts}, Runs.{Event, Mark, host_after_event, host_after_mark, is_settled}}
+use Rattle.pawn_book.specs.{Runs.{no_memory, no_store, read_as, request_in, run_host}, Laws.book_run, Traces.{book_trace, enters, is_live_in, slot_events}}
+use Rattle.pawn_book.specs.{Traces.{slot_of, slot_trace, within_slot}, Machines.{is_in, is_slots, no_pledge, reply_alone, solo, solo_from, solo_reply}}
+use Rattle.pawn_book.{specs.{Changes.numbered_pledges, Keeping.pledges_of}, proofs.SlotMoments.{book_trace_step, request_on, run_slot, slot_on, slot_step}}
+use Rattle.pawn_book.proofs.{Sounds.get-with_book, SlotMachine.{Follows, enter_book, solo_from-append, step_follows}}
 
 -- where a book is set
-set_get : (h : Host) (c b : ℕ) (book : Option BookValue) → (book ≡ None → get h.books c ≡ None) → get (with_book h c book).books b ≡ (if c == b then book else get h.books b)
+set_get : (h : Host) (c b : ℕ) (book : Option BookValue) → (book ≡ None → get h.books c ≡ None)
+    → get (with_book h c book).books b ≡ (if c == b then book else get h.books b)
 set_get h c b None none = grind (arith, nat_tests, none refl)
 set_get h c b (Some book) none = get-with_book h c book b ∙ grind (arith, nat_tests)
 
@@ -30,69 +39,76 @@ other_books_stay h operator b stamp request other =
     ∙ ap (λ v. if v then book_after (get h.books request.book) (host_step h operator stamp request) else get h.books b) no
 
 -- where the rows are full the machine stays
-limited_follows : (slot : List Receipt) (h : Host) (b : ℕ) (stamp : Stamp) (caller : Caller) (o : Outcome) → Follows slot (get h.books b) stamp caller o → Follows slot (get h.books b) stamp caller (within_limit h b o)
+limited_follows : (slot : List Receipt) (h : Host) (b : ℕ) (stamp : Stamp) (caller : Caller) (o : Outcome) → Follows slot (get h.books b) stamp caller o
+    → Follows slot (get h.books b) stamp caller (within_limit h b o)
 limited_follows slot h b stamp caller (Refuses why) follows = follows
 limited_follows slot h b stamp caller (Says out) follows = follows
 limited_follows slot h b stamp caller (Makes change reply) follows =
-    elim (nat_lt h.limit (rows (with_book h b (changed_book (get h.books b) change)))) as (λ v. Follows slot (get h.books b) stamp caller (if v then Refuses Full else Makes change reply)) [
+    elim (nat_lt h.limit (rows (with_book h b (changed_book (get h.books b) change)))) as
+    (λ v. Follows slot (get h.books b) stamp caller (if v then Refuses Full else Makes change reply)) [
       | true ↦ λ q. refl
       | false ↦ follows
     ]
 
-host_follows : (slot : List Receipt) (h : Host) (operator : ℕ) (stamp : Stamp) (request : Request) → Follows slot (get h.books request.book) stamp request.caller (host_step h operator stamp request)
+host_follows : (slot : List Receipt) (h : Host) (operator : ℕ) (stamp : Stamp) (request : Request)
+    → Follows slot (get h.books request.book) stamp request.caller (host_step h operator stamp request)
 host_follows slot h operator stamp request =
     limited_follows slot h request.book stamp request.caller (book_step (get h.books request.book) operator request.book stamp request.caller)
     (step_follows slot (get h.books request.book) operator request.book stamp request.caller)
 
 -- an outcome at the request's book, seen from book b
-seen : (slot : List Receipt) (h : Host) (b : ℕ) (stamp : Stamp) (request : Request) (o : Outcome) (q : ℕ) → Follows slot (get h.books request.book) stamp request.caller o
-    → solo_from slot (slot_of slot (get h.books b)) (if request.book == b then slot_events slot (get h.books b) stamp request.caller o else []) q ≡ slot_of slot (get (host_after h request.book o).books b) q
-seen slot h b stamp request o q follows = from (request.book == b) refl
-  where
-    after : (v : Bool) → request.book == b ≡ v → (if v then book_after (get h.books request.book) o else get h.books b) ≡ get (host_after h request.book o).books b
-    after v is = sym (host_get h request.book b o ∙ ap (λ v. if v then book_after (get h.books request.book) o else get h.books b) is)
+seen : (slot : List Receipt) (h : Host) (b : ℕ) (stamp : Stamp) (request : Request) (o : Outcome) (q : ℕ)
+    → Follows slot (get h.books request.book) stamp request.caller o → solo_from slot (slot_of slot (get h.books b))
+    (if request.book == b then slot_events slot (get h.books b) stamp request.caller o else []) q ≡ slot_of slot (get (host_after h request.book o).books b) q
+seen slot h b stamp request o q follows = from (request.book == b) refl where
+  after : (v : Bool) → request.book == b ≡ v
+      → (if v then book_after (get h.books request.book) o else get h.books b) ≡ get (host_after h request.book o).books b
+  after v is = sym (host_get h request.book b o ∙ ap (λ v. if v then book_after (get h.books request.book) o else get h.books b) is)
 
-    from : (v : Bool) → request.book == b ≡ v
-        → solo_from slot (slot_of slot (get h.books b)) (if v then slot_events slot (get h.books b) stamp request.caller o else []) q ≡ slot_of slot (get (host_after h request.book o).books b) q
-    from true is =
-        let same : request.book ≡ b = grind (arith, nat_tests, is) in
-        subst (λ (c : ℕ). solo_from slot (slot_of slot (get h.books c)) (slot_events slot (get h.books c) stamp request.caller o) q ≡ slot_of slot (get (host_after h request.book o).books b) q) same
-        (follows q ∙ ap (λ x. slot_of slot x q) (after true is))
-    from false is = ap (λ x. slot_of slot x q) (after false is)
+  from : (v : Bool) → request.book == b ≡ v → solo_from slot (slot_of slot (get h.books b))
+      (if v then slot_events slot (get h.books b) stamp request.caller o else []) q ≡ slot_of slot (get (host_after h request.book o).books b) q
+  from true is =
+      let same : request.book ≡ b = grind (arith, nat_tests, is) in
+      subst (λ (c : ℕ). solo_from slot (slot_of slot (get h.books c)) (slot_events slot (get h.books c) stamp request.caller o) q ≡ slot_of slot
+      (get (host_after h request.book o).books b) q) same (follows q ∙ ap (λ x. slot_of slot x q) (after true is))
+  from false is = ap (λ x. slot_of slot x q) (after false is)
 
-marked_follows : {F : Type 0} (b : ℕ) (slot : List Receipt) (h : Host) (operator : ℕ) (stamp : Stamp) (mark : Mark F) (q : ℕ)
-    → solo_from slot (slot_of slot (get h.books b)) (slot_on b slot h operator stamp (request_in mark)) q ≡ slot_of slot (get (host_after_mark h operator stamp mark).books b) q
-marked_follows b slot h operator stamp (read_as (Ok request)) q = seen slot h b stamp request (host_step h operator stamp request) q (host_follows slot h operator stamp request)
+marked_follows : {F : Type 0} (b : ℕ) (slot : List Receipt) (h : Host) (operator : ℕ) (stamp : Stamp) (mark : Mark F) (q : ℕ) → solo_from slot
+    (slot_of slot (get h.books b)) (slot_on b slot h operator stamp (request_in mark)) q ≡ slot_of slot (get (host_after_mark h operator stamp mark).books b) q
+marked_follows b slot h operator stamp (read_as (Ok request)) q =
+    seen slot h b stamp request (host_step h operator stamp request) q (host_follows slot h operator stamp request)
 marked_follows b slot h operator stamp (read_as (Err fault)) q = refl
 marked_follows b slot h operator stamp no_memory q = refl
 marked_follows b slot h operator stamp no_store q = refl
 
-pub event_follows : {F : Type 0} (b : ℕ) (slot : List Receipt) (h : Host) (operator : ℕ) (event : Event F)
-    → solo_from slot (slot_of slot (get h.books b)) (slot_on b slot h operator event.stamp (request_in event.mark)) ≡ slot_of slot (get (host_after_event h operator event).books b)
+pub event_follows : {F : Type 0} (b : ℕ) (slot : List Receipt) (h : Host) (operator : ℕ) (event : Event F) → solo_from slot (slot_of slot (get h.books b))
+    (slot_on b slot h operator event.stamp (request_in event.mark)) ≡ slot_of slot (get (host_after_event h operator event).books b)
 event_follows b slot h operator event = λ i q. marked_follows b slot h operator event.stamp event.mark q i
 
 run_follows : {F : Type 0} (b : ℕ) (slot : List Receipt) (h : Host) (operator : ℕ) (events : List (Event F))
     → solo_from slot (slot_of slot (get h.books b)) (run_slot b slot h operator events) ≡ slot_of slot (get (run_host h operator events).books b)
 run_follows b slot h operator [] = refl
 run_follows b slot h operator (event ∷ events) =
-    ap (solo_from slot (slot_of slot (get h.books b))) (slot_step b slot h operator event events)
-    ∙ solo_from-append slot (slot_of slot (get h.books b)) (slot_on b slot h operator event.stamp (request_in event.mark)) (run_slot b slot (host_after_event h operator event) operator events)
+    ap (solo_from slot (slot_of slot (get h.books b))) (slot_step b slot h operator event events) ∙ solo_from-append slot (slot_of slot (get h.books b))
+    (slot_on b slot h operator event.stamp (request_in event.mark)) (run_slot b slot (host_after_event h operator event) operator events)
     ∙ ap (λ m. solo_from slot m (run_slot b slot (host_after_event h operator event) operator events)) (event_follows b slot h operator event)
     ∙ run_follows b slot (host_after_event h operator event) operator events
 
-enter_start : (slot : List Receipt) (book : Option BookValue) (q : ℕ) → solo_from slot no_pledge (flat_map (enters slot) (numbered_pledges 1 (pledges_of book))) q ≡ slot_of slot book q
+enter_start : (slot : List Receipt) (book : Option BookValue) (q : ℕ)
+    → solo_from slot no_pledge (flat_map (enters slot) (numbered_pledges 1 (pledges_of book))) q ≡ slot_of slot book q
 enter_start slot None q = refl
 enter_start slot (Some book) q = enter_book slot book.pledges no_pledge q (λ n. refl)
 
-pub entered_start : (slot : List Receipt) (book : Option BookValue) → solo_from slot no_pledge (flat_map (enters slot) (numbered_pledges 1 (pledges_of book))) ≡ slot_of slot book
+pub entered_start : (slot : List Receipt) (book : Option BookValue)
+    → solo_from slot no_pledge (flat_map (enters slot) (numbered_pledges 1 (pledges_of book))) ≡ slot_of slot book
 entered_start slot book = λ i q. enter_start slot book q i
 
 -- a slot's machine holds what is in the slot
-pub slot_is_held : {F : Type 0} (h : Host) (operator b : ℕ) (slot : List Receipt) (events : List (Event F)) → solo slot (slot_trace b slot h operator events) ≡ slot_of slot (get (run_host h operator events).books b)
+pub slot_is_held : {F : Type 0} (h : Host) (operator b : ℕ) (slot : List Receipt) (events : List (Event F))
+    → solo slot (slot_trace b slot h operator events) ≡ slot_of slot (get (run_host h operator events).books b)
 slot_is_held h operator b slot events =
     solo_from-append slot no_pledge (flat_map (enters slot) (numbered_pledges 1 (pledges_of (get h.books b)))) (run_slot b slot h operator events)
-    ∙ ap (λ m. solo_from slot m (run_slot b slot h operator events)) (entered_start slot (get h.books b))
-    ∙ run_follows b slot h operator events
+    ∙ ap (λ m. solo_from slot m (run_slot b slot h operator events)) (entered_start slot (get h.books b)) ∙ run_follows b slot h operator events
 
 pub slots_are_held : {F : Type 0} → SlotsAreHeld F
 slots_are_held h operator b slot events n = ap (λ m. m n) (slot_is_held h operator b slot events)
@@ -104,15 +120,19 @@ in_live [] r p e live = cc e
 in_live (t ∷ ts) r p e live = grind (arith, nat_tests, e, live, in_live ts r p)
 
 -- a receipt of the slot finds the same pledge in the slot as in the book
-live_in_slot : (slot : List Receipt) (r : Receipt) (o : Option PledgeValue) → is_in slot r ≡ true → only_live r.secret o ≡ only_live r.secret (within_slot slot r.number o)
+live_in_slot : (slot : List Receipt) (r : Receipt) (o : Option PledgeValue) → is_in slot r ≡ true
+    → only_live r.secret o ≡ only_live r.secret (within_slot slot r.number o)
 live_in_slot slot r None e = refl
 live_in_slot slot r (Some p) e =
-    elim (is_live r.secret p) as (λ v. is_live r.secret p ≡ v → (if v then Some p else None) ≡ only_live r.secret (if is_live_in slot r.number p then Some p else None)) [
+    elim (is_live r.secret p) as
+    (λ v. is_live r.secret p ≡ v → (if v then Some p else None) ≡ only_live r.secret (if is_live_in slot r.number p then Some p else None)) [
       | true ↦ λ live. rw (in_live slot r p e live, live) refl
-      | false ↦ λ dead. elim (is_live_in slot r.number p) as (λ w. None ≡ only_live r.secret (if w then Some p else None)) [ true ↦ rw dead refl | false ↦ refl ]
+      | false ↦
+          λ dead. elim (is_live_in slot r.number p) as (λ w. None ≡ only_live r.secret (if w then Some p else None)) [ true ↦ rw dead refl | false ↦ refl ]
     ] refl
 
-all_live_in_slot : (slot : List Receipt) (before : Option BookValue) (rs : List Receipt) → list_all (is_in slot) rs ≡ true → map (live_at (pledge_in before)) rs ≡ map (live_at (slot_of slot before)) rs
+all_live_in_slot : (slot : List Receipt) (before : Option BookValue) (rs : List Receipt) → list_all (is_in slot) rs ≡ true
+    → map (live_at (pledge_in before)) rs ≡ map (live_at (slot_of slot before)) rs
 all_live_in_slot slot before [] e = refl
 all_live_in_slot slot before (r ∷ rs) e =
     let both = and_parts (is_in slot r) (list_all (is_in slot) rs) e in
@@ -128,41 +148,42 @@ limited_settled : (h : Host) (b : ℕ) (o : Outcome) → is_settled (out_of (wit
 limited_settled h b (Refuses why) e = refl
 limited_settled h b (Says out) e = refl
 limited_settled h b (Makes change reply) e =
-    elim (nat_lt h.limit (rows (with_book h b (changed_book (get h.books b) change)))) as (λ v. is_settled (out_of (if v then Refuses Full else Makes change reply)) ≡ true → (if v then Refuses Full else Makes change reply) ≡ Makes change reply) [
+    elim (nat_lt h.limit (rows (with_book h b (changed_book (get h.books b) change)))) as
+    (λ v. is_settled (out_of (if v then Refuses Full else Makes change reply)) ≡ true → (if v then Refuses Full else Makes change reply) ≡ Makes change reply) [
       | true ↦ λ e. cc e
       | false ↦ λ e. refl
     ] e
 
 pub settled_step : (h : Host) (operator : ℕ) (stamp : Stamp) (request : Request) → is_settled (out_of (host_step h operator stamp request)) ≡ true
     → host_step h operator stamp request ≡ book_step (get h.books request.book) operator request.book stamp request.caller
-settled_step h operator stamp request settled = limited_settled h request.book (book_step (get h.books request.book) operator request.book stamp request.caller) settled
+settled_step h operator stamp request settled =
+    limited_settled h request.book (book_step (get h.books request.book) operator request.book stamp request.caller) settled
 
 -- each settled reply to a slot's request is that of the slot alone
 pub slots_answer_alone : {F : Type 0} → SlotsAnswerAlone F
 slots_answer_alone h operator b slot before stamp asked mine settled =
     let now = run_host h operator before in
     ap out_of (settled_step now operator stamp (record { book = b; caller = Bearer asked }) settled
-    ∙ bearer_in_slot slot (get now.books b) b stamp asked mine
-    ∙ ap (λ m. bearer_step m b stamp asked) (sym (slot_is_held h operator b slot before)))
+    ∙ bearer_in_slot slot (get now.books b) b stamp asked mine ∙ ap (λ m. bearer_step m b stamp asked) (sym (slot_is_held h operator b slot before)))
 
 -- and so equal traces are answered alike
 pub equal_traces_answer_alike : {F : Type 0} → EqualTracesAnswerAlike F
 equal_traces_answer_alike h g operator b slot before others stamp asked mine settled other same =
     slots_answer_alone h operator b slot before stamp asked mine settled
-    ∙ ap (λ trace. solo_reply slot trace b stamp asked) same
-    ∙ sym (slots_answer_alone g operator b slot others stamp asked mine other)
+    ∙ ap (λ trace. solo_reply slot trace b stamp asked) same ∙ sym (slots_answer_alone g operator b slot others stamp asked mine other)
 
 -- a bearer's command joins the trace where the slot's machine accepts it
 
-joins_live : (slot : List Receipt) (before : Option BookValue) (b : ℕ) (stamp : Stamp) (r : Receipt) (command : Command) (p : PledgeValue) → pledge_in before r.number ≡ Some p → is_live_in slot r.number p ≡ true
-    → (j : Judged) → slot_events slot before stamp (Bearer (OnReceipt r command)) (judged_outcome b r.number j) ≡ joins r.number stamp command (judged_outcome b r.number j)
+joins_live : (slot : List Receipt) (before : Option BookValue) (b : ℕ) (stamp : Stamp) (r : Receipt) (command : Command) (p : PledgeValue)
+    → pledge_in before r.number ≡ Some p → is_live_in slot r.number p ≡ true → (j : Judged)
+    → slot_events slot before stamp (Bearer (OnReceipt r command)) (judged_outcome b r.number j) ≡ joins r.number stamp command (judged_outcome b r.number j)
 joins_live slot before b stamp r command p at live (Refused why) = refl
 joins_live slot before b stamp r command p at live (Answered done) = refl
 joins_live slot before b stamp r command p at live (Changed next done) = rw (at, live) refl
 
-joins_found : (slot : List Receipt) (before : Option BookValue) (b : ℕ) (stamp : Stamp) (r : Receipt) (command : Command) (o : Option PledgeValue) → pledge_in before r.number ≡ o → is_in slot r ≡ true
-    → slot_events slot before stamp (Bearer (OnReceipt r command)) (bearer_commands b r.number stamp command (only_live r.secret o))
-    ≡ joins r.number stamp command (bearer_commands b r.number stamp command (only_live r.secret o))
+joins_found : (slot : List Receipt) (before : Option BookValue) (b : ℕ) (stamp : Stamp) (r : Receipt) (command : Command) (o : Option PledgeValue)
+    → pledge_in before r.number ≡ o → is_in slot r ≡ true → slot_events slot before stamp (Bearer (OnReceipt r command)) (bearer_commands b r.number stamp
+    command (only_live r.secret o)) ≡ joins r.number stamp command (bearer_commands b r.number stamp command (only_live r.secret o))
 joins_found slot before b stamp r command None at mine = refl
 joins_found slot before b stamp r command (Some p) at mine =
     elim (is_live r.secret p) as (λ v. is_live r.secret p ≡ v
@@ -175,10 +196,10 @@ joins_found slot before b stamp r command (Some p) at mine =
 pub bearers_join : {F : Type 0} → BearersJoin F
 bearers_join h operator b slot before stamp r command mine settled =
     let now = run_host h operator before in
-    ap (slot_events slot (get now.books b) stamp (Bearer (OnReceipt r command))) (settled_step now operator stamp (record { book = b; caller = Bearer (OnReceipt r command) }) settled)
-    ∙ joins_found slot (get now.books b) b stamp r command (pledge_in (get now.books b) r.number) refl mine
-    ∙ ap (joins r.number stamp command) (bearer_in_slot slot (get now.books b) b stamp (OnReceipt r command) mine
-    ∙ ap (λ m. bearer_step m b stamp (OnReceipt r command)) (sym (slot_is_held h operator b slot before)))
+    ap (slot_events slot (get now.books b) stamp (Bearer (OnReceipt r command)))
+    (settled_step now operator stamp (record { book = b; caller = Bearer (OnReceipt r command) }) settled) ∙ joins_found slot
+    (get now.books b) b stamp r command (pledge_in (get now.books b) r.number) refl mine ∙ ap (joins r.number stamp command) (bearer_in_slot slot
+    (get now.books b) b stamp (OnReceipt r command) mine ∙ ap (λ m. bearer_step m b stamp (OnReceipt r command)) (sym (slot_is_held h operator b slot before)))
 
 -- a book alone
 
@@ -188,38 +209,41 @@ unsettled_same h b (Says out) unsettled = refl
 unsettled_same h b (Makes change reply) unsettled = cc unsettled
 
 request_alone : (h : Host) (operator b : ℕ) (stamp : Stamp) (request : Request) (o : Outcome)
-    → (is_settled (out_of o) ≡ true → o ≡ book_step (get h.books request.book) operator request.book stamp request.caller)
-    → book_run (get h.books b) operator b (if (request.book == b) && is_settled (out_of o) then (stamp, request.caller) ∷ [] else []) ≡ get (host_after h request.book o).books b
-request_alone h operator b stamp request o settled = from (request.book == b) refl (is_settled (out_of o)) refl
-  where
-    after : (v : Bool) → request.book == b ≡ v → get (host_after h request.book o).books b ≡ (if v then book_after (get h.books request.book) o else get h.books b)
-    after v is = host_get h request.book b o ∙ ap (λ v. if v then book_after (get h.books request.book) o else get h.books b) is
+    → (is_settled (out_of o) ≡ true → o ≡ book_step (get h.books request.book) operator request.book stamp request.caller) → book_run (get h.books b) operator b
+    (if (request.book == b) && is_settled (out_of o) then (stamp, request.caller) ∷ [] else []) ≡ get (host_after h request.book o).books b
+request_alone h operator b stamp request o settled = from (request.book == b) refl (is_settled (out_of o)) refl where
+  after : (v : Bool) → request.book == b ≡ v
+      → get (host_after h request.book o).books b ≡ (if v then book_after (get h.books request.book) o else get h.books b)
+  after v is = host_get h request.book b o ∙ ap (λ v. if v then book_after (get h.books request.book) o else get h.books b) is
 
-    from : (v : Bool) → request.book == b ≡ v → (s : Bool) → is_settled (out_of o) ≡ s
-        → book_run (get h.books b) operator b (if v && s then (stamp, request.caller) ∷ [] else []) ≡ get (host_after h request.book o).books b
-    from false other s is = sym (after false other)
-    from true same false is = ap (λ (g : Host). get g.books b) (sym (unsettled_same h request.book o is))
-    from true same true is =
-        let here : request.book ≡ b = grind (arith, nat_tests, same) in
-        sym (after true same ∙ ap (book_after (get h.books request.book)) (settled is)
-        ∙ ap (λ (c : ℕ). book_after (get h.books c) (book_step (get h.books c) operator c stamp request.caller)) here)
+  from : (v : Bool) → request.book == b ≡ v → (s : Bool) → is_settled (out_of o) ≡ s
+      → book_run (get h.books b) operator b (if v && s then (stamp, request.caller) ∷ [] else []) ≡ get (host_after h request.book o).books b
+  from false other s is = sym (after false other)
+  from true same false is = ap (λ (g : Host). get g.books b) (sym (unsettled_same h request.book o is))
+  from true same true is =
+      let here : request.book ≡ b = grind (arith, nat_tests, same) in
+      sym (after true same ∙ ap (book_after (get h.books request.book)) (settled is)
+      ∙ ap (λ (c : ℕ). book_after (get h.books c) (book_step (get h.books c) operator c stamp request.caller)) here)
 
 marked_alone : {F : Type 0} (h : Host) (operator b : ℕ) (stamp : Stamp) (mark : Mark F)
     → book_run (get h.books b) operator b (request_on b h operator stamp (request_in mark)) ≡ get (host_after_mark h operator stamp mark).books b
-marked_alone h operator b stamp (read_as (Ok request)) = request_alone h operator b stamp request (host_step h operator stamp request) (settled_step h operator stamp request)
+marked_alone h operator b stamp (read_as (Ok request)) =
+    request_alone h operator b stamp request (host_step h operator stamp request) (settled_step h operator stamp request)
 marked_alone h operator b stamp (read_as (Err fault)) = refl
 marked_alone h operator b stamp no_memory = refl
 marked_alone h operator b stamp no_store = refl
 
-book_run-append : (book : Option BookValue) (operator b : ℕ) (xs ys : List (Stamp × Caller)) → book_run book operator b (xs ++ ys) ≡ book_run (book_run book operator b xs) operator b ys
+book_run-append : (book : Option BookValue) (operator b : ℕ) (xs ys : List (Stamp × Caller))
+    → book_run book operator b (xs ++ ys) ≡ book_run (book_run book operator b xs) operator b ys
 book_run-append book operator b [] ys = refl
 book_run-append book operator b (x ∷ xs) ys = book_run-append (book_after book (book_step book operator b x.0 x.1)) operator b xs ys
 
-pub book_is_alone : {F : Type 0} (h : Host) (operator b : ℕ) (events : List (Event F)) → book_run (get h.books b) operator b (book_trace b h operator events) ≡ get (run_host h operator events).books b
+pub book_is_alone : {F : Type 0} (h : Host) (operator b : ℕ) (events : List (Event F))
+    → book_run (get h.books b) operator b (book_trace b h operator events) ≡ get (run_host h operator events).books b
 book_is_alone h operator b [] = refl
 book_is_alone h operator b (event ∷ events) =
-    ap (book_run (get h.books b) operator b) (book_trace_step b h operator event events)
-    ∙ book_run-append (get h.books b) operator b (request_on b h operator event.stamp (request_in event.mark)) (book_trace b (host_after_event h operator event) operator events)
+    ap (book_run (get h.books b) operator b) (book_trace_step b h operator event events) ∙ book_run-append (get h.books b) operator b
+    (request_on b h operator event.stamp (request_in event.mark)) (book_trace b (host_after_event h operator event) operator events)
     ∙ ap (λ x. book_run x operator b (book_trace b (host_after_event h operator event) operator events)) (marked_alone h operator b event.stamp event.mark)
     ∙ book_is_alone (host_after_event h operator event) operator b events
 
@@ -231,6 +255,5 @@ books_answer_alone h operator before stamp request settled =
 pub equal_book_traces_answer_alike : {F : Type 0} → EqualBookTracesAnswerAlike F
 equal_book_traces_answer_alike h g operator before others stamp request settled also start same =
     books_answer_alone h operator before stamp request settled
-    ∙ ap (λ book. reply_alone book operator request.book (book_trace request.book h operator before) stamp request.caller) start
-    ∙ ap (λ trace. reply_alone (get g.books request.book) operator request.book trace stamp request.caller) same
-    ∙ sym (books_answer_alone g operator others stamp request also)
+    ∙ ap (λ book. reply_alone book operator request.book (book_trace request.book h operator before) stamp request.caller) start ∙ ap (λ trace. reply_alone
+    (get g.books request.book) operator request.book trace stamp request.caller) same ∙ sym (books_answer_alone g operator others stamp request also)

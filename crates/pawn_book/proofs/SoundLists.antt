@@ -1,6 +1,8 @@
 -- References that differ, and terms that stand, in a list of pledges.
-use Rattle.pawn_book.proofs.Basics.{◌≡◌, ℕ, ◌+◌, ◌≤◌, zero, suc, List, [], ◌∷◌, ◌++◌, length, map, Some, None, refl, ◌∙◌, ap, sym, subst, arith, if◌then◌else◌, Option, true, false, ◌==◌, ◌||◌, unwrap_or, DoNotFall, Each, PledgeValue, Rates, list_any, AreDistinct, IsUnder, is_same_text, pledge_from, put_from, references_of, terms_at, version_of, with_reference, or_parts, or_from}
-use Rattle.std.proofs.lemmas.List.Folds.{list_any-append}
+use Rattle.std.proofs.Common.{◌≡◌, ℕ, ◌+◌, ◌≤◌, zero, suc, List, [], ◌∷◌, ◌++◌, length, map, Some, None, refl, ◌∙◌, ap, sym, subst, arith, if◌then◌else◌}
+use Rattle.std.proofs.{Common.{Option, true, false, ◌==◌, ◌||◌, unwrap_or}, lemmas.{Bool.{or_parts, or_from}, List.Folds.list_any-append}}
+use Rattle.pawn_book.specs.{Common.{DoNotFall, Each, PledgeValue, Rates, list_any}, Rows.{AreDistinct, IsUnder, is_same_text, references_of, terms_at}}
+use Rattle.pawn_book.specs.{Rows.version_of, BookStep.{pledge_from, put_from, with_reference}}
 
 pub some_is : {A : Type 0} (x y : A) → Some x ≡ Some y → x ≡ y
 some_is {A} x y is = ap (λ (o : Option A). unwrap_or o x) is
@@ -9,19 +11,23 @@ pub absurd_none : {A : Type 0} {P : Type 0} {x : A} → (let none : Option A = N
 absurd_none is = cc is
 
 -- a list of what is told of pledges stays, where one is put that tells the same
-pub map-put : {A : Type 0} (f : PledgeValue → A) (k : ℕ) (ps : List PledgeValue) (n : ℕ) (p q : PledgeValue) → pledge_from k ps n ≡ Some p → f q ≡ f p → map f (put_from k ps n q) ≡ map f ps
+pub map-put : {A : Type 0} (f : PledgeValue → A) (k : ℕ) (ps : List PledgeValue) (n : ℕ) (p q : PledgeValue) → pledge_from k ps n ≡ Some p → f q ≡ f p
+    → map f (put_from k ps n q) ≡ map f ps
 map-put f k [] n p q is same = absurd_none is
 map-put f k (r ∷ ps) n p q is same =
-    elim (n == k) as (λ v. (if v then Some r else pledge_from (k + 1) ps n) ≡ Some p → map f (if v then q ∷ ps else r ∷ put_from (k + 1) ps n q) ≡ map f (r ∷ ps)) [
+    elim (n == k) as
+    (λ v. (if v then Some r else pledge_from (k + 1) ps n) ≡ Some p → map f (if v then q ∷ ps else r ∷ put_from (k + 1) ps n q) ≡ map f (r ∷ ps)) [
       | true ↦ λ here. ap (λ x. x ∷ map f ps) (same ∙ ap f (sym (some_is r p here)))
       | false ↦ λ there. ap (λ xs. f r ∷ xs) (map-put f (k + 1) ps n p q there same)
     ] is
 
 -- a reference that no pledge has
-pub new_reference : (ps : List PledgeValue) (reference : List ℕ) → with_reference ps reference ≡ None → list_any (λ t. is_same_text t reference) (map (λ p. p.agreement.opening.reference) ps) ≡ false
+pub new_reference : (ps : List PledgeValue) (reference : List ℕ) → with_reference ps reference ≡ None
+    → list_any (λ t. is_same_text t reference) (map (λ p. p.agreement.opening.reference) ps) ≡ false
 new_reference [] reference none = refl
 new_reference (p ∷ ps) reference none =
-    elim (is_same_text p.agreement.opening.reference reference) as (λ v. (if v then Some p else with_reference ps reference) ≡ None → (v || list_any (λ t. is_same_text t reference) (map (λ p. p.agreement.opening.reference) ps)) ≡ false) [
+    elim (is_same_text p.agreement.opening.reference reference) as (λ v. (if v then Some p else with_reference ps reference) ≡ None
+    → (v || list_any (λ t. is_same_text t reference) (map (λ p. p.agreement.opening.reference) ps)) ≡ false) [
       | true ↦ λ some. absurd_none (sym some)
       | false ↦ λ rest. new_reference ps reference rest
     ] none
@@ -37,8 +43,10 @@ map_push : {A : Type 0} (f : PledgeValue → A) (ps : List PledgeValue) (p : Ple
 map_push f [] p = refl
 map_push f (q ∷ ps) p = ap (λ xs. f q ∷ xs) (map_push f ps p)
 
-pub references_push : (ps : List PledgeValue) (p : PledgeValue) → AreDistinct (references_of ps) → with_reference ps p.agreement.opening.reference ≡ None → AreDistinct (references_of (ps ++ p ∷ []))
-references_push ps p all none = subst AreDistinct (sym (map_push (λ p. p.agreement.opening.reference) ps p)) (distinct_push (map (λ p. p.agreement.opening.reference) ps) p.agreement.opening.reference all (new_reference ps p.agreement.opening.reference none))
+pub references_push : (ps : List PledgeValue) (p : PledgeValue) → AreDistinct (references_of ps) → with_reference ps p.agreement.opening.reference ≡ None
+    → AreDistinct (references_of (ps ++ p ∷ []))
+references_push ps p all none = subst AreDistinct (sym (map_push (λ p. p.agreement.opening.reference) ps p))
+    (distinct_push (map (λ p. p.agreement.opening.reference) ps) p.agreement.opening.reference all (new_reference ps p.agreement.opening.reference none))
 
 -- terms that stand are among the first
 pub under_length : (terms : List Rates) (version : ℕ) (t : Rates) → terms_at terms version ≡ Some t → version ≤ length terms
@@ -59,17 +67,19 @@ each_under_more terms u [] all = tt
 each_under_more terms u (p ∷ ps) all = (under_more terms u p.agreement.version p.agreement.terms all.0, each_under_more terms u ps all.1)
 
 -- versions don't fall with a pledge under the newest terms
-pub versions_push : (n : ℕ) (terms : List Rates) (ps : List PledgeValue) (p : PledgeValue) → Each (IsUnder terms) ps → DoNotFall version_of n ps → n ≤ length terms → p.agreement.version ≡ length terms
-    → DoNotFall version_of n (ps ++ p ∷ [])
+pub versions_push : (n : ℕ) (terms : List Rates) (ps : List PledgeValue) (p : PledgeValue) → Each (IsUnder terms) ps → DoNotFall version_of n ps
+    → n ≤ length terms → p.agreement.version ≡ length terms → DoNotFall version_of n (ps ++ p ∷ [])
 versions_push n terms [] p under rise low newest = (omega (arith, low, newest), tt)
-versions_push n terms (q ∷ ps) p under rise low newest = (rise.0, versions_push q.agreement.version terms ps p under.1 rise.1 (under_length terms q.agreement.version q.agreement.terms under.0) newest)
+versions_push n terms (q ∷ ps) p under rise low newest =
+    (rise.0, versions_push q.agreement.version terms ps p under.1 rise.1 (under_length terms q.agreement.version q.agreement.terms under.0) newest)
 
 -- .. nor with one in place of another of the same version
-pub versions_put : (k m : ℕ) (ps : List PledgeValue) (n : ℕ) (p q : PledgeValue) → pledge_from k ps n ≡ Some p → version_of q ≡ version_of p → DoNotFall version_of m ps
-    → DoNotFall version_of m (put_from k ps n q)
+pub versions_put : (k m : ℕ) (ps : List PledgeValue) (n : ℕ) (p q : PledgeValue) → pledge_from k ps n ≡ Some p → version_of q ≡ version_of p
+    → DoNotFall version_of m ps → DoNotFall version_of m (put_from k ps n q)
 versions_put k m [] n p q is same rise = absurd_none is
 versions_put k m (r ∷ ps) n p q is same rise =
-    elim (n == k) as (λ v. (if v then Some r else pledge_from (k + 1) ps n) ≡ Some p → DoNotFall version_of m (if v then q ∷ ps else r ∷ put_from (k + 1) ps n q)) [
+    elim (n == k) as
+    (λ v. (if v then Some r else pledge_from (k + 1) ps n) ≡ Some p → DoNotFall version_of m (if v then q ∷ ps else r ∷ put_from (k + 1) ps n q)) [
       | true ↦ λ here. subst (λ (v : ℕ). (m ≤ v) × DoNotFall version_of v ps) (ap version_of (some_is r p here) ∙ sym same) rise
       | false ↦ λ there. (rise.0, versions_put (k + 1) (version_of r) ps n p q there same rise.1)
     ] is

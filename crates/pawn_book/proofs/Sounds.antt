@@ -1,20 +1,24 @@
 -- A host stays sound with a book that is.
-use Rattle.pawn_book.proofs.Basics.{◌≡◌, ◌≢◌, ℕ, ◌+◌, ◌<◌, ◌≤◌, List, [], ◌∷◌, ◌++◌, length, Some, None, suc, refl, ◌∙◌, ap, sym, subst, arith, length-append, if◌then◌else◌, Option, Bool, true, false, ◌==◌, DoNotFall, Each, IsChecked, IsNumber, IsStanding, IsText, IsUtf8, PledgeValue, Rates, get, get-insert, unsigned_tied, Each-push, nat_cmp_total, nat_tests, AreDistinct, AreNumberedFrom, AreReplayable, AreSound, BookRows, BookValue, HasTextsAndWords, Host, IsCapacity, IsSound, IsSoundAt, IsSoundBook, IsUnder, IsWord, NewBook, filled_book, made_book, most_name_bytes, most_pledges, most_terms, pledge_from, pledge_in, put_from, references_of, version_of, with_book, with_reference}
+use Rattle.std.proofs.Common.{◌≡◌, ◌≢◌, ℕ, ◌+◌, ◌<◌, ◌≤◌, List, [], ◌∷◌, ◌++◌, length, Some, None, suc, refl, ◌∙◌, ap, sym, subst, arith, length-append}
+use Rattle.std.{proofs.{Common.{if◌then◌else◌, Option, Bool, true, false, ◌==◌}, lemmas.{Cmp.nat_cmp_total, Bool.Decides.nat_tests}}, specs.Cmp.unsigned_tied}
+use Rattle.{std.specs.FinMap.{get, get-insert}, pawn_book.specs.Common.{DoNotFall, Each, IsChecked, IsNumber, IsStanding, IsText, IsUtf8, PledgeValue, Rates}}
+use Rattle.pawn_book.specs.{Rows.{AreDistinct, AreNumberedFrom, AreReplayable, IsUnder, references_of, version_of}, Sound.{AreSound, HasTextsAndWords, IsSound}}
+use Rattle.pawn_book.specs.{Sound.{IsSoundAt, IsSoundBook, IsWord}, Books.{BookRows, NewBook}, HostStep.{Host, with_book}, BookStep.{BookValue, filled_book}}
+use Rattle.pawn_book.specs.{BookStep.{made_book, pledge_from, pledge_in, put_from, with_reference}, Limits.{IsCapacity, most_name_bytes, most_pledges}}
+use Rattle.{pawn_book.{specs.Limits.most_terms, proofs.SoundLists.{each_under_more, references_push, versions_push}}, pawn_base.proofs.ListLemmas.Each-push}
 pub use Rattle.pawn_book.proofs.SoundLists.{absurd_none, some_is}
-use Rattle.pawn_book.proofs.SoundLists.{each_under_more, references_push, versions_push}
 
 -- the book at a number, once a book is set
 pub get-with_book : (h : Host) (b : ℕ) (book : BookValue) (q : ℕ) → get (with_book h b (Some book)).books q ≡ (if q == b then Some book else get h.books q)
 get-with_book h b book q = get-insert nat_cmp_total h.books b book q ∙ ap (λ v. if v then Some book else get h.books q) (unsigned_tied q b)
 
 pub sound_with : (h : Host) (b : ℕ) (book : BookValue) → AreSound h → IsSoundAt b book → AreSound (with_book h b (Some book))
-sound_with h b book sound one q other is = from (q == b) refl (sym (get-with_book h b book q) ∙ is)
-  where
-    from : (v : Bool) → (q == b) ≡ v → (if v then Some book else get h.books q) ≡ Some other → IsSoundAt q other
-    from true here is =
-        let same : q ≡ b = grind (arith, nat_tests, here) in
-        (subst IsNumber (sym same) one.0, subst IsSoundBook (some_is book other is) one.1)
-    from false apart is = sound q other is
+sound_with h b book sound one q other is = from (q == b) refl (sym (get-with_book h b book q) ∙ is) where
+  from : (v : Bool) → (q == b) ≡ v → (if v then Some book else get h.books q) ≡ Some other → IsSoundAt q other
+  from true here is =
+      let same : q ≡ b = grind (arith, nat_tests, here) in
+      (subst IsNumber (sym same) one.0, subst IsSoundBook (some_is book other is) one.1)
+  from false apart is = sound q other is
 
 pub sound_made : (new : NewBook) → IsWord new.key → IsUtf8 new.name → IsText most_name_bytes new.name → IsCapacity new.capacity → IsSoundBook (made_book new)
 sound_made new key utf8 name capacity = record {
@@ -37,8 +41,8 @@ sound_made new key utf8 name capacity = record {
 }
 
 -- a sound book that is filled with rows that can have come about is sound
-pub sound_filled : (book : BookValue) (key : ℕ) (rows : BookRows) → IsSoundBook book → IsWord key → Each HasTextsAndWords rows.pledges → AreReplayable rows.terms rows.pledges
-    → IsSoundBook (filled_book book key rows)
+pub sound_filled : (book : BookValue) (key : ℕ) (rows : BookRows) → IsSoundBook book → IsWord key → Each HasTextsAndWords rows.pledges
+    → AreReplayable rows.terms rows.pledges → IsSoundBook (filled_book book key rows)
 sound_filled book key rows sound word written replayable = record {
   key = sound.key;
   imported = word;
@@ -70,18 +74,21 @@ sound_terms book terms sound checked few = record {
   written = sound.written;
 }
 
-pub numbered_put : (k : ℕ) (ps : List PledgeValue) (n : ℕ) (p : PledgeValue) → AreNumberedFrom k ps → p.agreement.number ≡ n → k ≤ n → n ≤ k + length ps → AreNumberedFrom k (put_from k ps n p)
+pub numbered_put : (k : ℕ) (ps : List PledgeValue) (n : ℕ) (p : PledgeValue) → AreNumberedFrom k ps → p.agreement.number ≡ n → k ≤ n → n ≤ k + length ps
+    → AreNumberedFrom k (put_from k ps n p)
 numbered_put k [] n p all named low high = let is : n ≡ k = omega arith in (named ∙ is, tt)
 numbered_put k (r ∷ ps) n p all named low high =
     elim (n == k) as (λ v. n == k ≡ v → AreNumberedFrom k (if v then p ∷ ps else r ∷ put_from (k + 1) ps n p)) [
       | true ↦ λ e. let is : n ≡ k = grind (arith, nat_tests, e) in (named ∙ is, all.1)
-      | false ↦ λ e. let ne : n ≢ k = grind (arith, nat_tests, e) in let more : k + 1 ≤ n = omega arith in let less : n ≤ (k + 1) + length ps = omega arith in (all.0, numbered_put (k + 1) ps n p all.1 named more less)
+      | false ↦ λ e. let ne : n ≢ k = grind (arith, nat_tests, e) in let more : k + 1 ≤ n = omega arith in let less : n ≤ (k + 1) + length ps = omega arith in
+          (all.0, numbered_put (k + 1) ps n p all.1 named more less)
     ] refl
 
 pub each_put : (P : PledgeValue → Type 0) (k : ℕ) (ps : List PledgeValue) (n : ℕ) (p : PledgeValue) → Each P ps → P p → Each P (put_from k ps n p)
 each_put P k [] n p all one = (one, tt)
 each_put P k (r ∷ ps) n p all one =
-    elim (n == k) as (λ v. Each P (if v then p ∷ ps else r ∷ put_from (k + 1) ps n p)) [ true ↦ (one, all.1) | false ↦ (all.0, each_put P (k + 1) ps n p all.1 one) ]
+    elim (n == k) as
+    (λ v. Each P (if v then p ∷ ps else r ∷ put_from (k + 1) ps n p)) [ true ↦ (one, all.1) | false ↦ (all.0, each_put P (k + 1) ps n p all.1 one) ]
 
 -- the next pledge comes to the end
 pub put_next : (k : ℕ) (ps : List PledgeValue) (n : ℕ) (p : PledgeValue) → n ≡ k + length ps → put_from k ps n p ≡ ps ++ p ∷ []
@@ -98,7 +105,8 @@ length-put k [] n p low high = absurd (omega arith)
 length-put k (r ∷ ps) n p low high =
     elim (n == k) as (λ v. n == k ≡ v → length (if v then p ∷ ps else r ∷ put_from (k + 1) ps n p) ≡ length (r ∷ ps)) [
       | true ↦ λ e. refl
-      | false ↦ λ e. let ne : n ≢ k = grind (arith, nat_tests, e) in let more : k + 1 ≤ n = omega arith in let less : n < (k + 1) + length ps = omega arith in ap suc (length-put (k + 1) ps n p more less)
+      | false ↦ λ e. let ne : n ≢ k = grind (arith, nat_tests, e) in let more : k + 1 ≤ n = omega arith in let less : n < (k + 1) + length ps = omega arith in
+          ap suc (length-put (k + 1) ps n p more less)
     ] refl
 
 -- a pledge that may be taken next: under a new reference and the newest terms
@@ -157,10 +165,9 @@ numbered_at k (r ∷ ps) n p all is =
 
 -- a pledge of a sound host stands, under its number
 pub standing_at : (h : Host) (b n : ℕ) (p : PledgeValue) → IsSound h → pledge_in (get h.books b) n ≡ Some p → IsStanding p × (p.agreement.number ≡ n)
-standing_at h b n p sound is = from (get h.books b) refl is
-  where
-    from : (o : Option BookValue) → get h.books b ≡ o → pledge_in o n ≡ Some p → IsStanding p × (p.agreement.number ≡ n)
-    from None e is = absurd_none is
-    from (Some book) e is =
-        let one = (sound.books b book e).1 in
-        (each_at IsStanding 1 book.pledges n p one.rows.standing is, numbered_at 1 book.pledges n p one.rows.numbered is)
+standing_at h b n p sound is = from (get h.books b) refl is where
+  from : (o : Option BookValue) → get h.books b ≡ o → pledge_in o n ≡ Some p → IsStanding p × (p.agreement.number ≡ n)
+  from None e is = absurd_none is
+  from (Some book) e is =
+      let one = (sound.books b book e).1 in
+      (each_at IsStanding 1 book.pledges n p one.rows.standing is, numbered_at 1 book.pledges n p one.rows.numbered is)

@@ -1,8 +1,7 @@
 -- What a visitor was handed, item by item.
-use Rattle.pawn_book.proofs.Basics.{◌≡◌, ◌∙◌, ℕ, List, [], ◌∷◌, ◌++◌, refl, sym, ap, subst, inl, inr, ◌<◌, ◌+◌, length, take, drop, get_or, append_assoc, append-nil, take-append-drop, Flow, Go, Handed, Stop, false}
-use Rattle.std.proofs.lemmas.List.{drop_more}
-use Rattle.pawn_book.specs.declared.gather.Gathering.{Gathering}
-use Rattle.pawn_book.specs.Gathering.{Gathers}
+use Rattle.std.proofs.Common.{◌≡◌, ◌∙◌, ℕ, List, [], ◌∷◌, ◌++◌, refl, sym, ap, subst, inl, inr, ◌<◌, ◌+◌, length, take, drop, get_or, append_assoc, append-nil}
+use Rattle.{std.proofs.{Common.{take-append-drop, false}, lemmas.List.drop_more}, pawn_book.specs.{Books.{Flow, Go, Stop}, Visits.Handed}}
+use Rattle.pawn_book.specs.{declared.gather.Gathering.Gathering, Gathering.Gathers}
 
 -- a list, cut at a place
 pub cut_at : {X : Type 0} (xs : List X) (i : ℕ) (d : X) → i < length xs → take i xs ++ get_or xs i d ∷ drop (i + 1) xs ≡ xs

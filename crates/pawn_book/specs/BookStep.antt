@@ -1,28 +1,17 @@
 -- One step of a book: what comes of a request.
-use Rattle.std.specs.Prelude.{ℕ, ◌+◌, List, [], ◌∷◌, ◌++◌, Bool, true, false, ◌&&◌, Option, Some, None, Result, Ok, Err, if◌then◌else◌, ◌==◌, nat_le, nat_lt, length, map, find}
-use Rattle.pawn_book.specs.Common.{Answered, Booking, Changed, Command, Done, Fixed, Issued, Judged, Kind, Opening, PledgeRefusal, PledgeValue, Rates, Receipt, Refused, Running, Stamp, TermsFault, first_of, live_of, pledge_start, pledge_step, terms_answer}
-use Rattle.pawn_book.specs.declared.refusal.Refusal.{Refusal}
-use Rattle.pawn_book.specs.declared.refusal.Refusal.TheVariants.{Pledge, Terms, NoSuchBook, NoSuchReceipt, NoSuchPledge, BookTaken, NoTerms, TermsSeq, RefTaken, WindowFull, BookNotEmpty, NotOperator, TermsFull, PledgesFull}
-use Rattle.pawn_book.specs.declared.reply.Reply.{Reply}
-use Rattle.pawn_book.specs.declared.reply.Reply.TheVariants.{BookMade, TermsPut, BookFilled, Opened, Commanded}
-use Rattle.pawn_book.specs.declared.request.NewBook.{NewBook}
-use Rattle.pawn_book.specs.declared.request.NewTerms.{NewTerms}
-use Rattle.pawn_book.specs.declared.request.Caller.{Caller}
-use Rattle.pawn_book.specs.declared.request.Caller.TheVariants.{Operator, Broker, Bearer}
-use Rattle.pawn_book.specs.declared.request.BrokerRequest.{BrokerRequest}
+use Rattle.std.specs.Prelude.{ℕ, ◌+◌, List, [], ◌∷◌, ◌++◌, Bool, true, false, ◌&&◌, Option, Some, None, Result, Ok, Err, if◌then◌else◌, ◌==◌, nat_le, nat_lt}
+use Rattle.std.specs.Prelude.{length, map, find}
+use Rattle.pawn_book.specs.Common.{Answered, Booking, Changed, Command, Done, Fixed, Issued, Judged, Kind, Opening, PledgeRefusal, PledgeValue, Rates, Receipt}
+use Rattle.pawn_book.specs.Common.{Refused, Running, Stamp, TermsFault, first_of, live_of, pledge_start, pledge_step, terms_answer}
+use Rattle.pawn_book.specs.declared.refusal.Refusal.{Refusal, TheVariants.{Pledge, Terms, NoSuchBook, NoSuchReceipt, NoSuchPledge, BookTaken, NoTerms}}
+use Rattle.pawn_book.specs.declared.refusal.Refusal.TheVariants.{TermsSeq, RefTaken, WindowFull, BookNotEmpty, NotOperator, TermsFull, PledgesFull}
+use Rattle.pawn_book.specs.declared.{reply.Reply.{Reply, TheVariants.{BookMade, TermsPut, BookFilled, Opened, Commanded}}, request.NewBook.NewBook}
+use Rattle.pawn_book.specs.declared.request.{NewTerms.NewTerms, Caller.{Caller, TheVariants.{Operator, Broker, Bearer}}, BrokerRequest.BrokerRequest}
 use Rattle.pawn_book.specs.declared.request.BrokerRequest.TheVariants.{PutTerms, TakePledge, OnPledge, Import, Show, SheetOf, Export}
-use Rattle.pawn_book.specs.declared.request.BearerRequest.{BearerRequest}
-use Rattle.pawn_book.specs.declared.request.BearerRequest.TheVariants.{Present, OnPledge as OnReceipt}
-use Rattle.pawn_book.specs.declared.change.Imported.{Imported}
-use Rattle.pawn_book.specs.declared.change.BookHead.{BookHead}
-use Rattle.pawn_book.specs.declared.change.Change.{Change}
-use Rattle.pawn_book.specs.declared.change.Change.TheVariants.{MakeBook, AddTerms, PutPledge, ImportBook}
-use Rattle.pawn_book.specs.declared.rows.BookRows.{BookRows}
-use Rattle.pawn_book.specs.declared.sheet.SheetItem.{SheetItem}
-use Rattle.pawn_book.specs.Bookings.{confirmed_count, is_confirmed}
-use Rattle.pawn_book.specs.Limits.{most_terms, most_pledges}
-use Rattle.pawn_book.specs.Rows.{is_same_text, terms_at}
-use Rattle.pawn_book.specs.Sheet.{day_sheet}
+use Rattle.pawn_book.specs.declared.{request.BearerRequest.{BearerRequest, TheVariants.{Present, OnPledge as OnReceipt}}, change.Imported.Imported}
+use Rattle.pawn_book.specs.declared.change.{BookHead.BookHead, Change.{Change, TheVariants.{MakeBook, AddTerms, PutPledge, ImportBook}}}
+use Rattle.pawn_book.specs.{declared.{rows.BookRows.BookRows, sheet.SheetItem.SheetItem}, Bookings.{confirmed_count, is_confirmed}, Limits.most_terms}
+use Rattle.pawn_book.specs.{Limits.most_pledges, Rows.{is_same_text, terms_at}, Sheet.day_sheet}
 
 -- a book: its key, name and capacity, and what was put into it
 pub record BookValue : Type 0 where

@@ -1,7 +1,6 @@
 -- Bookings of a book's windows.
 use Rattle.std.specs.Prelude.{ℕ, List, Bool, true, false, ◌&&◌, Option, Some, None, ◌==◌, count_by}
-use Rattle.pawn_book.specs.Common.{Booking, PledgeValue}
-use Rattle.pawn_pledge.specs.declared.record.BookingState.{BookingState}
+use Rattle.{pawn_book.specs.Common.{Booking, PledgeValue}, pawn_pledge.specs.declared.record.BookingState.BookingState}
 
 abbrev pub is_confirmed : BookingState → Bool
 is_confirmed BookingState.Asked = false

@@ -1,11 +1,7 @@
 -- What a change makes of a host, and which changes may be saved.
-use Rattle.std.specs.Prelude.{◌≡◌, ◌⊎◌, ℕ, ◌+◌, [], None, Some, length, List, ◌∷◌}
-use Rattle.pawn_book.specs.Common.{Grows, PledgeValue, get}
-use Rattle.pawn_book.specs.declared.change.Change.{Change}
-use Rattle.pawn_book.specs.declared.change.Change.TheVariants.{MakeBook, AddTerms, PutPledge, ImportBook}
-use Rattle.pawn_book.specs.BookStep.{BookValue, changed_book, pledge_from}
-use Rattle.pawn_book.specs.HostStep.{Host, with_book}
-use Rattle.pawn_book.specs.Sound.{AreSound}
+use Rattle.std.specs.{Prelude.{◌≡◌, ◌⊎◌, ℕ, ◌+◌, [], None, Some, length, List, ◌∷◌}, FinMap.get}
+use Rattle.pawn_book.specs.{Common.{Grows, PledgeValue}, declared.change.Change.{Change, TheVariants.{MakeBook, AddTerms, PutPledge, ImportBook}}}
+use Rattle.pawn_book.specs.{BookStep.{BookValue, changed_book, pledge_from}, HostStep.{Host, with_book}, Sound.AreSound}
 
 -- the number of the book that a change is of
 abbrev pub book_number : Change → ℕ

@@ -1,8 +1,6 @@
 -- How a `Gathering` changes by an item that it is handed.
 use Rattle.std.specs.Prelude.{◌≡◌, ◌++◌, ◌∷◌, [], true}
-use Rattle.pawn_book.specs.declared.gather.Gathering.{Gathering}
-use Rattle.pawn_book.specs.declared.visit.Flow.{Flow}
-use Rattle.pawn_book.specs.declared.visit.Flow.TheVariants.{Go, Stop}
+use Rattle.pawn_book.specs.declared.{gather.Gathering.Gathering, visit.Flow.{Flow, TheVariants.{Go, Stop}}}
 
 -- one item more was gathered, or there was no room for it
 abbrev pub Gathers : {T : Type 0} → Gathering T → T → Flow → Gathering T → Type 0

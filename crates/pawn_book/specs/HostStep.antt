@@ -1,9 +1,7 @@
 -- One step of a host: many books, and a limit on their rows.
-use Rattle.std.specs.Prelude.{ℕ, ◌+◌, Option, Some, None, if◌then◌else◌, nat_lt, length, sum_by}
-use Rattle.pawn_book.specs.Common.{Booking, FinMap, PledgeValue, Stamp, get, insert, nat_cmp, values}
-use Rattle.pawn_book.specs.declared.request.Request.{Request}
-use Rattle.pawn_book.specs.declared.refusal.Refusal.TheVariants.{Full}
-use Rattle.pawn_book.specs.BookStep.{BookValue, Outcome, Refuses, Says, Makes, changed_book, book_step}
+use Rattle.std.specs.{Prelude.{ℕ, ◌+◌, Option, Some, None, if◌then◌else◌, nat_lt, length, sum_by}, Ordering.nat_cmp, FinMap.{FinMap, get, insert, values}}
+use Rattle.pawn_book.specs.{Common.{Booking, PledgeValue, Stamp}, declared.{request.Request.Request, refusal.Refusal.TheVariants.Full}, BookStep.BookValue}
+use Rattle.pawn_book.specs.BookStep.{Outcome, Refuses, Says, Makes, changed_book, book_step}
 
 pub record Host : Type 0 where
   pub books : FinMap nat_cmp BookValue

@@ -1,20 +1,12 @@
 -- What a keeper's calls say of the host that it stands for.
-use Rattle.std.specs.Prelude.{◌≡◌, ◌⊎◌, ℕ, ◌≤◌, ◌<◌, List, [], Option, Some, None, Result, Ok, Err, option_map, IfErr, OnErr, OnOk}
-use Rattle.pawn_book.specs.Common.{Issued, PledgeValue, Rates, get}
-use Rattle.pawn_debt.specs.declared.entry.Entry.{Entry}
+use Rattle.std.specs.{Prelude.{◌≡◌, ◌⊎◌, ℕ, ◌≤◌, ◌<◌, List, [], Option, Some, None, Result, Ok, Err, option_map, IfErr, OnErr, OnOk}, FinMap.get}
+use Rattle.pawn_book.specs.{Common.{Issued, PledgeValue, Rates}, declared.{refusal.Refusal.Refusal, change.Change.Change, fault.KeepError.KeepError}}
+use Rattle.pawn_book.specs.{declared.fault.{StoreFault.TheVariants.NoRecord, SaveError.SaveError}, BookStep.{BookValue, with_reference}, HostStep.{Host, rows}}
+use Rattle.{pawn_book.specs.{Sound.IsSound, Changes.with_change}, pawn_debt.specs.declared.entry.Entry.Entry}
 use Rattle.pawn_pledge.specs.declared.record.Extension.{Extension}
-use Rattle.pawn_book.specs.declared.refusal.Refusal.{Refusal}
 use Rattle.pawn_book.specs.declared.refusal.Refusal.TheVariants as No
-use Rattle.pawn_book.specs.declared.change.Change.{Change}
-use Rattle.pawn_book.specs.declared.fault.KeepError.{KeepError}
 use Rattle.pawn_book.specs.declared.fault.KeepError.TheVariants as Keeper
-use Rattle.pawn_book.specs.declared.fault.StoreFault.TheVariants.{NoRecord}
-use Rattle.pawn_book.specs.declared.fault.SaveError.{SaveError}
 use Rattle.pawn_book.specs.declared.fault.SaveError.TheVariants as Save
-use Rattle.pawn_book.specs.BookStep.{BookValue, with_reference}
-use Rattle.pawn_book.specs.HostStep.{Host, rows}
-use Rattle.pawn_book.specs.Sound.{IsSound}
-use Rattle.pawn_book.specs.Changes.{with_change}
 
 -- what a proof knows of keepers of a kind, however they keep
 pub record Keeping (K : Type 0) : Type 1 where

@@ -1,18 +1,11 @@
 -- What holds of every book, whatever is asked.
 use Rattle.std.specs.Prelude.{◌≡◌, ℕ, List, [], ◌∷◌, Option, None, Some, is_some, true}
-use Rattle.pawn_debt.specs.declared.entry.Sort.{Sort}
-use Rattle.pawn_book.specs.Common.{Command, Done, MayExtend, PledgeValue, Stamp, end_of, entry_command}
-use Rattle.pawn_book.specs.declared.request.Caller.{Caller}
-use Rattle.pawn_book.specs.declared.request.Caller.TheVariants.{Operator, Broker, Bearer}
-use Rattle.pawn_book.specs.declared.request.BrokerRequest.{BrokerRequest}
+use Rattle.{pawn_debt.specs.declared.entry.Sort.Sort, pawn_book.specs.Common.{Command, Done, MayExtend, PledgeValue, Stamp, end_of, entry_command}}
+use Rattle.pawn_book.specs.declared.request.{Caller.{Caller, TheVariants.{Operator, Broker, Bearer}}, BrokerRequest.BrokerRequest, BearerRequest.BearerRequest}
+use Rattle.pawn_book.specs.{declared.{reply.Reply.{Reply, TheVariants.Commanded}, change.Change.Change}, BookStep.{BookValue, Told, Says, Makes, changed_book}}
+use Rattle.pawn_book.specs.{BookStep.{book_after, book_step, live_at, pledge_from, pledge_in}, Sound.IsSoundBook}
 use Rattle.pawn_book.specs.declared.request.BrokerRequest.TheVariants as asked
-use Rattle.pawn_book.specs.declared.request.BearerRequest.{BearerRequest}
 use Rattle.pawn_book.specs.declared.request.BearerRequest.TheVariants as presented
-use Rattle.pawn_book.specs.declared.reply.Reply.{Reply}
-use Rattle.pawn_book.specs.declared.reply.Reply.TheVariants.{Commanded}
-use Rattle.pawn_book.specs.declared.change.Change.{Change}
-use Rattle.pawn_book.specs.BookStep.{BookValue, Told, Says, Makes, changed_book, book_after, book_step, live_at, pledge_from, pledge_in}
-use Rattle.pawn_book.specs.Sound.{IsSoundBook}
 
 -- the book after requests, one after the other
 abbrev pub book_run : Option BookValue → ℕ → ℕ → List (Stamp × Caller) → Option BookValue
@@ -130,7 +123,8 @@ abbrev pub StandingEndIsTold : Type 0
 StandingEndIsTold =
     (book : BookValue) (operator b n : ℕ) (stamp : Stamp) (p : PledgeValue)
     → pledge_from 1 book.pledges n ≡ Some p → MayExtend p stamp.day
-    → book_step (Some book) operator b stamp (Broker book.key (asked.OnPledge n (Command.Extend (end_of p)))) ≡ Says (Told (Commanded n (Done.Extended (end_of p))))
+    → book_step (Some book) operator b stamp (Broker book.key (asked.OnPledge n (Command.Extend (end_of p)))) ≡ Says
+    (Told (Commanded n (Done.Extended (end_of p))))
 
 -- So an extension that was made is answered the same again and makes none, whatever was asked in between. It is so
 -- while its end is the present one, and nothing bars an extension.

@@ -8,7 +8,6 @@ pub mod Runs
 pub mod Visits
 pub mod Gathering
 pub mod Changes
-pub mod SlotNames
 pub mod Keeping
 pub mod Plans
 pub mod Written

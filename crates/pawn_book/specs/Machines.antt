@@ -1,8 +1,9 @@
 -- The plain machines: a book that is fed its trace alone, and a slot that is fed its own.
-use Rattle.std.specs.Prelude.{ℕ, List, [], ◌∷◌, ◌==◌, Bool, ◌&&◌, Option, None, Some, if◌then◌else◌}
-use Rattle.pawn_book.specs.SlotNames.{list_any, list_all, Stamp, Command, Receipt, PledgeValue, Judged, Changed, pledge_step, Caller}
-use Rattle.pawn_book.specs.SlotNames.{BearerRequest, Present, OnReceipt, BookValue, Out, out_of, book_step, bearer_step, book_run}
-use Rattle.pawn_book.specs.Traces.{SlotEvent, Entered, Did, within_slot}
+use Rattle.std.specs.{Prelude.{ℕ, List, [], ◌∷◌, ◌==◌, Bool, ◌&&◌, Option, None, Some, if◌then◌else◌}, List.{list_any, list_all}}
+use Rattle.pawn_pledge.specs.{declared.{command.{Stamp.Stamp, Command.Command}, receipt.Receipt.Receipt}, Pledge.PledgeValue, Step.{Judged, Changed}}
+use Rattle.{pawn_pledge.specs.Step.pledge_step, pawn_book.specs.declared.request.{Caller.Caller, BearerRequest.{BearerRequest, TheVariants.Present}}}
+use Rattle.pawn_book.specs.{declared.request.BearerRequest.TheVariants.OnPledge as OnReceipt, BookStep.{BookValue, Out, out_of, book_step, bearer_step}}
+use Rattle.pawn_book.specs.{Laws.book_run, Traces.{SlotEvent, Entered, Did, within_slot}}
 
 -- book b's reply to a request after a trace, without a limit on rows
 abbrev pub reply_alone : Option BookValue → ℕ → ℕ → List (Stamp × Caller) → Stamp → Caller → Out

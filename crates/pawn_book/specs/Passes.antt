@@ -1,17 +1,8 @@
 -- The laws of slots pass by pass: first of slots of one receipt, and of runs that have only some sorts of requests.
-use Rattle.std.specs.Prelude.{◌≡◌, ℕ, List, [], ◌∷◌, true, Ok}
-use Rattle.pawn_book.specs.Common.{Command, IsReplacing, Receipt, Stamp, get}
-use Rattle.pawn_book.specs.declared.request.Request.{Request}
-use Rattle.pawn_book.specs.declared.request.Caller.{Caller}
-use Rattle.pawn_book.specs.declared.request.Caller.TheVariants.{Broker, Bearer}
-use Rattle.pawn_book.specs.declared.request.BrokerRequest.TheVariants.{TakePledge, Import}
-use Rattle.pawn_book.specs.declared.request.BearerRequest.{BearerRequest}
-use Rattle.pawn_book.specs.HostStep.{Host}
-use Rattle.pawn_book.specs.Laws.{Asks}
-use Rattle.pawn_book.specs.Machines.{is_slots, solo, solo_reply}
-use Rattle.pawn_book.specs.Runs.{Event, read_as, run_host, is_settled}
-use Rattle.pawn_book.specs.Slots.{reply_after}
-use Rattle.pawn_book.specs.Traces.{slot_of, slot_trace}
+use Rattle.std.specs.{Prelude.{◌≡◌, ℕ, List, [], ◌∷◌, true, Ok}, FinMap.get}
+use Rattle.pawn_book.specs.{Common.{Command, IsReplacing, Receipt, Stamp}, declared.request.{Request.Request, Caller.{Caller, TheVariants.{Broker, Bearer}}}}
+use Rattle.pawn_book.specs.{declared.request.{BrokerRequest.TheVariants.{TakePledge, Import}, BearerRequest.BearerRequest}, HostStep.Host, Laws.Asks}
+use Rattle.pawn_book.specs.{Machines.{is_slots, solo, solo_reply}, Runs.{Event, read_as, run_host, is_settled}, Slots.reply_after, Traces.{slot_of, slot_trace}}
 
 -- the request opens no pledge and imports none
 abbrev pub BringsNone : Caller → Type 0

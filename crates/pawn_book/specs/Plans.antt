@@ -1,24 +1,13 @@
 -- What is planned and made of a request.
 use Rattle.std.specs.Prelude.{◌≡◌, ◌⊎◌, ℕ, ◌≤◌, ◌<◌, Option, Some, None, Result, Ok, Err, IfSome}
-use Rattle.pawn_pledge.specs.declared.command.Stamp.{Stamp}
-use Rattle.pawn_book.specs.declared.request.Caller.{Caller}
-use Rattle.pawn_book.specs.declared.request.Caller.TheVariants.{Operator, Broker, Bearer}
-use Rattle.pawn_book.specs.declared.request.BrokerRequest.{BrokerRequest}
+use Rattle.{pawn_pledge.specs.declared.command.Stamp.Stamp, pawn_book.specs.declared.request.Caller.{Caller, TheVariants.{Operator, Broker, Bearer}}}
+use Rattle.pawn_book.specs.declared.{request.{BrokerRequest.BrokerRequest, BearerRequest.BearerRequest, Request.Request}, reply.Reply.Reply}
+use Rattle.pawn_book.specs.{declared.{refusal.Refusal.Refusal, change.{BookHead.BookHead, Change.Change, Planned.Planned}}, BookStep.{BookValue, Told, Outcome}}
+use Rattle.pawn_book.specs.{BookStep.{Refuses, Says, Makes, out_of, gate_step, book_head}, HostStep.{Host, rows, host_step, host_after}, Sound.IsSound}
+use Rattle.pawn_book.specs.{Changes.{CanSave, book_number, with_change}, Keeping.IsFitting}
 use Rattle.pawn_book.specs.declared.request.BrokerRequest.TheVariants as broker
-use Rattle.pawn_book.specs.declared.request.BearerRequest.{BearerRequest}
 use Rattle.pawn_book.specs.declared.request.BearerRequest.TheVariants as bearer
-use Rattle.pawn_book.specs.declared.request.Request.{Request}
-use Rattle.pawn_book.specs.declared.reply.Reply.{Reply}
-use Rattle.pawn_book.specs.declared.refusal.Refusal.{Refusal}
 use Rattle.pawn_book.specs.declared.refusal.Refusal.TheVariants as No
-use Rattle.pawn_book.specs.declared.change.BookHead.{BookHead}
-use Rattle.pawn_book.specs.declared.change.Change.{Change}
-use Rattle.pawn_book.specs.declared.change.Planned.{Planned}
-use Rattle.pawn_book.specs.BookStep.{BookValue, Told, Outcome, Refuses, Says, Makes, out_of, gate_step, book_head}
-use Rattle.pawn_book.specs.HostStep.{Host, rows, host_step, host_after}
-use Rattle.pawn_book.specs.Sound.{IsSound}
-use Rattle.pawn_book.specs.Changes.{CanSave, book_number, with_change}
-use Rattle.pawn_book.specs.Keeping.{IsFitting}
 
 -- memory was refused, or the store failed
 abbrev pub IsUnwell : Refusal → Type 0

@@ -1,9 +1,9 @@
 -- Why a request is refused.
-use Rattle.std.specs.Prelude.{ℕ, List, Option, None, codes}
+use Rattle.{std.specs.Prelude.{ℕ, List, Option, None, codes}, pawn_book.specs.declared.refusal.Refusal.{Refusal, TheVariants.{Pledge, Terms, NoSuchBook}}}
+use Rattle.pawn_book.specs.declared.refusal.Refusal.TheVariants.{NoSuchReceipt, NoSuchPledge, BookTaken, NoTerms, TermsSeq, RefTaken, WindowFull, BookNotEmpty}
+use Rattle.pawn_book.specs.declared.refusal.Refusal.TheVariants.{NotOperator, TermsFull, PledgesFull, Full, Memory, Store}
 use Rattle.pawn_terms.specs.TermsFault as terms
 use Rattle.pawn_pledge.specs.Refusal as pledge
-use Rattle.pawn_book.specs.declared.refusal.Refusal.{Refusal}
-use Rattle.pawn_book.specs.declared.refusal.Refusal.TheVariants.{Pledge, Terms, NoSuchBook, NoSuchReceipt, NoSuchPledge, BookTaken, NoTerms, TermsSeq, RefTaken, WindowFull, BookNotEmpty, NotOperator, TermsFull, PledgesFull, Full, Memory, Store}
 
 -- the refusal's number
 abbrev pub book_refusal_code : Refusal → ℕ

@@ -1,8 +1,7 @@
 -- Which rows make a book.
 use Rattle.std.specs.Prelude.{◌≡◌, ℕ, zero, suc, ◌+◌, ◌≤◌, Bool, false, List, [], ◌∷◌, Option, None, Some, length, map, nat_eq, slice_get}
 use Rattle.std.specs.Cmp.Lexicographic.{pointwise}
-use Rattle.pawn_book.specs.Common.{DoNotFall, Each, IsChecked, IsStanding, PledgeValue, Rates, list_any}
-use Rattle.pawn_book.specs.Limits.{most_pledges, most_terms}
+use Rattle.pawn_book.specs.{Common.{DoNotFall, Each, IsChecked, IsStanding, PledgeValue, Rates, list_any}, Limits.{most_pledges, most_terms}}
 
 -- two texts are the same
 abbrev pub is_same_text : List ℕ → List ℕ → Bool

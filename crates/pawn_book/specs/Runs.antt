@@ -1,11 +1,8 @@
 -- Runs: requests one after the other, each with how it was answered.
 use Rattle.std.specs.Prelude.{ℕ, List, [], ◌∷◌, ◌++◌, Bool, true, false, Option, None, Some, Result, Ok, Err}
-use Rattle.pawn_pledge.specs.declared.command.Stamp.{Stamp}
-use Rattle.pawn_book.specs.declared.request.Request.{Request}
-use Rattle.pawn_book.specs.declared.refusal.Refusal.{Refusal}
-use Rattle.pawn_book.specs.declared.refusal.Refusal.TheVariants.{Full, Memory, Store}
-use Rattle.pawn_book.specs.BookStep.{Out, Told, Denied, Shown, Listed, Exported, out_of}
-use Rattle.pawn_book.specs.HostStep.{Host, host_step, host_after}
+use Rattle.{pawn_pledge.specs.declared.command.Stamp.Stamp, pawn_book.specs.declared.{request.Request.Request, refusal.Refusal.{Refusal, TheVariants.Full}}}
+use Rattle.pawn_book.specs.{declared.refusal.Refusal.TheVariants.{Memory, Store}, BookStep.{Out, Told, Denied, Shown, Listed, Exported, out_of}, HostStep.Host}
+use Rattle.pawn_book.specs.HostStep.{host_step, host_after}
 
 -- how an item was answered: as the request or the fault that its bytes read as, or as refused for memory or by the
 -- store

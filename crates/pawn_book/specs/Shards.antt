@@ -1,13 +1,8 @@
 -- Shards: each book's requests are handed to one of several hosts. Each settled reply is that of one host that was
 -- asked everything.
-use Rattle.std.specs.Prelude.{◌≡◌, ◌≢◌, ℕ, List, [], ◌∷◌, ◌==◌, true, Ok, if◌then◌else◌, map}
-use Rattle.pawn_book.specs.Common.{Stamp, filter, flat_map, get}
-use Rattle.pawn_book.specs.declared.request.Caller.{Caller}
-use Rattle.pawn_book.specs.declared.request.Request.{Request}
-use Rattle.pawn_book.specs.HostStep.{Host}
-use Rattle.pawn_book.specs.Runs.{Event, read_as, run_host, is_settled}
-use Rattle.pawn_book.specs.Slots.{reply_after}
-use Rattle.pawn_book.specs.Traces.{book_trace}
+use Rattle.std.specs.{Prelude.{◌≡◌, ◌≢◌, ℕ, List, [], ◌∷◌, ◌==◌, true, Ok, if◌then◌else◌, map}, FinMap.get}
+use Rattle.pawn_book.specs.{Common.{Stamp, filter, flat_map}, declared.request.{Caller.Caller, Request.Request}, HostStep.Host, Runs.{Event, read_as, run_host}}
+use Rattle.pawn_book.specs.{Runs.is_settled, Slots.reply_after, Traces.book_trace}
 
 -- what shard k is handed, where each book has a shard: the requests on its books, in order, with their stamps
 abbrev pub handed : (ℕ → ℕ) → ℕ → List (Stamp × Request) → List (Stamp × Request)
@@ -34,7 +29,8 @@ pub record IsAskedAlike {F : Type 0} (b operator : ℕ) (h g : Host) (before oth
 -- Each shard has rows and refusals of its own: what it was asked, and what of it was settled, is said of this book
 -- alone.
 pub record ShardsAnswerAsOne (F : Type 0) : Type 0 where
-  pub replies : (shard : ℕ → ℕ) (shards : ℕ → Host) (runs : ℕ → List (Event F)) (one : Host) (all : List (Event F)) (operator k : ℕ) (stamp : Stamp) (request : Request)
+  pub replies : (shard : ℕ → ℕ) (shards : ℕ → Host) (runs : ℕ → List (Event F)) (one : Host) (all : List (Event F)) (operator k : ℕ) (stamp : Stamp)
+      (request : Request)
       → shard request.book ≡ k → IsAskedAlike request.book operator (shards k) one (runs k) all
       → is_settled (reply_after (shards k) operator (runs k) stamp request) ≡ true
       → is_settled (reply_after one operator all stamp request) ≡ true

@@ -1,13 +1,9 @@
 -- A book's day: who comes in which window, who asked to, and whose period ends.
 use Rattle.std.specs.Prelude.{ℕ, zero, suc, ◌+◌, List, [], ◌∷◌, ◌++◌, ◌&&◌, Option, Some, None, if◌then◌else◌, ◌==◌, length, filter_map}
-use Rattle.pawn_book.specs.Common.{Booking, PledgeValue, end_of, flat_map}
-use Rattle.pawn_pledge.specs.Limits.{last_window}
-use Rattle.pawn_pledge.specs.Words.{is_open}
-use Rattle.pawn_book.specs.declared.sheet.Part.{Part}
+use Rattle.pawn_book.specs.{Common.{Booking, PledgeValue, end_of, flat_map}, declared.sheet.{Part.Part, SheetItem.{SheetItem, TheVariants.{Window, Confirmed}}}}
+use Rattle.pawn_book.specs.{declared.sheet.SheetItem.TheVariants.{AskedHead, Asked, EndsHead, Ends}, Bookings.{is_asked, is_confirmed_for}}
+use Rattle.pawn_pledge.specs.{Limits.last_window, Words.is_open}
 use Rattle.pawn_book.specs.declared.sheet.Part.TheVariants as part
-use Rattle.pawn_book.specs.declared.sheet.SheetItem.{SheetItem}
-use Rattle.pawn_book.specs.declared.sheet.SheetItem.TheVariants.{Window, Confirmed, AskedHead, Asked, EndsHead, Ends}
-use Rattle.pawn_book.specs.Bookings.{is_asked, is_confirmed_for}
 
 -- the item of a booking that is asked for a day
 abbrev pub asked_item : ℕ → ℕ → Option Booking → Option SheetItem

@@ -1,20 +1,11 @@
 -- The laws of slots: what other callers do shows in no reply to a slot's own request.
-use Rattle.std.specs.Prelude.{◌≡◌, ℕ, List, [], ◌∷◌, ◌==◌, true, Option, None, Some}
-use Rattle.pawn_book.specs.Common.{Changed, Command, Done, Each, IsReplacing, IsSpent, PledgeValue, Receipt, Stamp, get, list_any, pledge_step}
-use Rattle.pawn_book.specs.declared.change.Change.{Change}
-use Rattle.pawn_book.specs.declared.refusal.Refusal.TheVariants.{NoSuchReceipt}
-use Rattle.pawn_book.specs.declared.reply.Reply.{Reply}
-use Rattle.pawn_book.specs.declared.request.Request.{Request}
-use Rattle.pawn_book.specs.declared.request.Caller.TheVariants.{Bearer}
-use Rattle.pawn_book.specs.declared.request.BearerRequest.{BearerRequest}
-use Rattle.pawn_book.specs.declared.request.BearerRequest.TheVariants.{Present, OnPledge as OnReceipt}
-use Rattle.pawn_book.specs.BookStep.{BookValue, Out, Outcome, Refuses, Says, Makes, out_of, bearer_step, live_at, pledge_in}
-use Rattle.pawn_book.specs.HostStep.{Host, host_step}
-use Rattle.pawn_book.specs.Laws.{Asks}
-use Rattle.pawn_book.specs.Plans.{next_host}
-use Rattle.pawn_book.specs.Runs.{Event, run_host, is_settled}
-use Rattle.pawn_book.specs.Traces.{SlotEvent, Entered, Did, book_trace, slot_of, slot_trace, slot_events}
-use Rattle.pawn_book.specs.Machines.{is_slots, no_pledge, reply_alone, solo, solo_reply, solo_step}
+use Rattle.std.specs.{Prelude.{◌≡◌, ℕ, List, [], ◌∷◌, ◌==◌, true, Option, None, Some}, FinMap.get}
+use Rattle.pawn_book.specs.Common.{Changed, Command, Done, Each, IsReplacing, IsSpent, PledgeValue, Receipt, Stamp, list_any, pledge_step}
+use Rattle.pawn_book.specs.declared.{change.Change.Change, refusal.Refusal.TheVariants.NoSuchReceipt, reply.Reply.Reply, request.Request.Request}
+use Rattle.pawn_book.specs.declared.request.{Caller.TheVariants.Bearer, BearerRequest.{BearerRequest, TheVariants.{Present, OnPledge as OnReceipt}}}
+use Rattle.pawn_book.specs.{BookStep.{BookValue, Out, Outcome, Refuses, Says, Makes, out_of, bearer_step, live_at, pledge_in}, HostStep.{Host, host_step}}
+use Rattle.pawn_book.specs.{Laws.Asks, Plans.next_host, Runs.{Event, run_host, is_settled}, Traces.{SlotEvent, Entered, Did, book_trace, slot_of, slot_trace}}
+use Rattle.pawn_book.specs.{Traces.slot_events, Machines.{is_slots, no_pledge, reply_alone, solo, solo_reply, solo_step}}
 
 -- the reply to a request after a run
 abbrev pub reply_after : {F : Type 0} → Host → ℕ → List (Event F) → Stamp → Request → Out

@@ -1,11 +1,8 @@
 -- Hosts that can have come about.
-use Rattle.std.specs.Prelude.{◌≡◌, ℕ, ◌≤◌, Some, IfSome}
-use Rattle.pawn_book.specs.Common.{Each, IsNumber, IsText, IsUtf8, get}
-pub use Rattle.pawn_book.specs.Written.{IsWord, AreWords, HasTextsAndWords}
-use Rattle.pawn_book.specs.BookStep.{BookValue}
-use Rattle.pawn_book.specs.HostStep.{Host, rows}
-use Rattle.pawn_book.specs.Limits.{IsCapacity, most_name_bytes}
+use Rattle.std.specs.{Prelude.{◌≡◌, ℕ, ◌≤◌, Some, IfSome}, FinMap.get}
+use Rattle.pawn_book.specs.{Common.{Each, IsNumber, IsText, IsUtf8}, BookStep.BookValue, HostStep.{Host, rows}, Limits.{IsCapacity, most_name_bytes}}
 use Rattle.pawn_book.specs.Rows.{AreReplayable}
+pub use Rattle.pawn_book.specs.Written.{IsWord, AreWords, HasTextsAndWords}
 
 -- a book within the limits, whose rows can have come about; its keys are words, and its texts UTF-8
 pub record IsSoundBook (book : BookValue) : Type 0 where

@@ -1,8 +1,8 @@
 -- What a run of requests leaves of one book, and of a slot: a list of receipts of one book.
-use Rattle.std.specs.Prelude.{ℕ, List, [], ◌∷◌, ◌++◌, ◌==◌, Bool, ◌&&◌, Option, None, Some, is_some, if◌then◌else◌}
-use Rattle.pawn_book.specs.SlotNames.{list_any, flat_map, get, Stamp, Command, Receipt, PledgeValue, Caller, BookValue, Outcome, Makes, out_of}
-use Rattle.pawn_book.specs.SlotNames.{is_live, pledge_in, Host, host_step, numbered_pledges, touched_pledges, pledges_of, command_of, Event}
-use Rattle.pawn_book.specs.SlotNames.{Moment, is_settled, moments}
+use Rattle.std.specs.{Prelude.{ℕ, List, [], ◌∷◌, ◌++◌, ◌==◌, Bool, ◌&&◌, Option, None, Some, is_some, if◌then◌else◌}, List.{list_any, flat_map}, FinMap.get}
+use Rattle.pawn_pledge.specs.{declared.{command.{Stamp.Stamp, Command.Command}, receipt.Receipt.Receipt}, Pledge.PledgeValue}
+use Rattle.pawn_book.specs.{declared.request.Caller.Caller, BookStep.{BookValue, Outcome, Makes, out_of, is_live, pledge_in}, HostStep.{Host, host_step}}
+use Rattle.pawn_book.specs.{Changes.{numbered_pledges, touched_pledges}, Keeping.pledges_of, Laws.command_of, Runs.{Event, Moment, is_settled, moments}}
 
 -- what comes of a request on the host that it met
 abbrev pub outcome_alone : ℕ → Moment → Outcome

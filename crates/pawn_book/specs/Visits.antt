@@ -1,7 +1,6 @@
 -- What a visitor was handed.
 use Rattle.std.specs.Prelude.{List, [], ◌∷◌, ◌++◌, ◌≡◌, ◌⊎◌, Result, Ok, Err}
-use Rattle.pawn_book.specs.declared.visit.Flow.{Flow}
-use Rattle.pawn_book.specs.declared.visit.Flow.TheVariants.{Go, Stop}
+use Rattle.pawn_book.specs.declared.visit.Flow.{Flow, TheVariants.{Go, Stop}}
 
 -- the visitor became w by its own step over these items in turn; it answered Stop at the last alone, or never
 abbrev pub Handed : {V T : Type 0} → (V → T → Flow → V → Type 0) → V → List T → Flow → V → Type 0

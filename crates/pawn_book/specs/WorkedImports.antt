@@ -1,14 +1,9 @@
 -- Imports worked out: a book is filled once.
 use Rattle.std.specs.Prelude.{◌≡◌, ℕ, [], ◌∷◌, Option, Some, None, codes}
-use Rattle.pawn_book.specs.Common.{free, ring}
-use Rattle.pawn_book.specs.declared.change.Change.TheVariants.{ImportBook}
-use Rattle.pawn_book.specs.declared.refusal.Refusal.TheVariants.{BookNotEmpty, NoSuchBook}
-use Rattle.pawn_book.specs.declared.reply.Reply.TheVariants.{BookFilled}
-use Rattle.pawn_book.specs.declared.request.BrokerRequest.TheVariants.{Import}
-use Rattle.pawn_book.specs.declared.request.Caller.TheVariants.{Broker}
-use Rattle.pawn_book.specs.declared.rows.BookRows.{BookRows}
-use Rattle.pawn_book.specs.BookStep.{BookValue, Outcome, Told, Refuses, Says, Makes, book_after, book_step}
-use Rattle.pawn_book.specs.WorkedSlots.{at, one_book}
+use Rattle.pawn_book.specs.{Common.{free, ring}, declared.{change.Change.TheVariants.ImportBook, refusal.Refusal.TheVariants.{BookNotEmpty, NoSuchBook}}}
+use Rattle.pawn_book.specs.declared.{reply.Reply.TheVariants.BookFilled, request.{BrokerRequest.TheVariants.Import, Caller.TheVariants.Broker}}
+use Rattle.pawn_book.specs.{declared.rows.BookRows.BookRows, BookStep.{BookValue, Outcome, Told, Refuses, Says, Makes, book_after, book_step}, WorkedSlots.at}
+use Rattle.pawn_book.specs.WorkedSlots.{one_book}
 
 -- book 7, run by the key 5, before anything was put into it
 abbrev pub empty_book : Option BookValue
@@ -31,7 +26,8 @@ book_filled = book_after empty_book (importing 6 ring_rows empty_book)
 pub record WorkedImports : Type 0 where
   -- the rows become the book's, and their key its import's
   pub first : importing 6 ring_rows empty_book ≡ Makes (ImportBook 7 6 ring_rows) (BookFilled 1)
-  pub fills : book_filled ≡ Some (record { key = 5; name = codes "High Street"; capacity = 1; terms = free ∷ []; pledges = ring 10000 ∷ []; imported = Some (record { key = 6; pledges = 1 }) })
+  pub fills : book_filled ≡ Some (record
+      { key = 5; name = codes "High Street"; capacity = 1; terms = free ∷ []; pledges = ring 10000 ∷ []; imported = Some (record { key = 6; pledges = 1 }) })
   -- again under its key it is answered as the first time, whatever rows come
   pub again : importing 6 ring_rows book_filled ≡ Says (Told (BookFilled 1))
   pub again_without : importing 6 no_book_rows book_filled ≡ Says (Told (BookFilled 1))

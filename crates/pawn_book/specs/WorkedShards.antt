@@ -1,17 +1,9 @@
 -- Two books on two shards, worked out beside one host that has both.
-use Rattle.std.specs.Prelude.{◌≡◌, ℕ, true, false, List, [], ◌∷◌, ◌==◌, if◌then◌else◌, None, codes}
-use Rattle.pawn_book.specs.Common.{Command, Done, Fixed, Stamp, empty, free, insert, ring_opening}
-use Rattle.pawn_book.specs.declared.refusal.Refusal.TheVariants.{Full}
-use Rattle.pawn_book.specs.declared.reply.Reply.TheVariants.{Opened, Commanded}
-use Rattle.pawn_book.specs.declared.request.BrokerRequest.{BrokerRequest}
-use Rattle.pawn_book.specs.declared.request.BrokerRequest.TheVariants.{TakePledge, OnPledge}
-use Rattle.pawn_book.specs.declared.request.Caller.TheVariants.{Broker}
-use Rattle.pawn_book.specs.declared.request.Request.{Request}
-use Rattle.pawn_book.specs.BookStep.{BookValue, Told, Denied}
-use Rattle.pawn_book.specs.HostStep.{Host}
-use Rattle.pawn_book.specs.Runs.{Said, Answered, run_replies}
-use Rattle.pawn_book.specs.Shards.{handed, taken}
-use Rattle.pawn_book.specs.WorkedSlots.{at, receipt}
+use Rattle.std.specs.{Prelude.{◌≡◌, ℕ, true, false, List, [], ◌∷◌, ◌==◌, if◌then◌else◌, None, codes}, FinMap.{empty, insert}}
+use Rattle.pawn_book.specs.{Common.{Command, Done, Fixed, Stamp, free, ring_opening}, declared.refusal.Refusal.TheVariants.Full}
+use Rattle.pawn_book.specs.declared.{reply.Reply.TheVariants.{Opened, Commanded}, request.BrokerRequest.{BrokerRequest, TheVariants.{TakePledge, OnPledge}}}
+use Rattle.pawn_book.specs.{declared.request.{Caller.TheVariants.Broker, Request.Request}, BookStep.{BookValue, Told, Denied}, HostStep.Host, Runs.Said}
+use Rattle.pawn_book.specs.{Runs.{Answered, run_replies}, Shards.{handed, taken}, WorkedSlots.{at, receipt}}
 
 -- a book that is run by a key, with terms without charges
 abbrev pub book_of : ℕ → BookValue

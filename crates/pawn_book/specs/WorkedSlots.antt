@@ -1,17 +1,10 @@
 -- A pledge whose receipt changes hands, worked out: what each slot's trace is.
 use Rattle.std.specs.Prelude.{◌≡◌, ℕ, true, false, List, [], ◌∷◌, ◌++◌, Option, Some, None, codes}
-use Rattle.pawn_terms.specs.Worked.{date}
-use Rattle.pawn_book.specs.Common.{Command, Fixed, Issued, PledgeValue, Receipt, Stamp, free, ring, ring_opening}
-use Rattle.pawn_pledge.specs.declared.command.Paper.{Paper}
-use Rattle.pawn_pledge.specs.declared.record.Issue.{Issue}
-use Rattle.pawn_book.specs.declared.refusal.Refusal.TheVariants.{NoSuchReceipt}
-use Rattle.pawn_book.specs.declared.request.BearerRequest.TheVariants.{OnPledge as OnReceipt}
-use Rattle.pawn_book.specs.declared.request.BrokerRequest.TheVariants.{TakePledge, OnPledge}
-use Rattle.pawn_book.specs.declared.request.Caller.{Caller}
-use Rattle.pawn_book.specs.declared.request.Caller.TheVariants.{Broker}
-use Rattle.pawn_book.specs.BookStep.{BookValue, Denied, book_after, book_step}
-use Rattle.pawn_book.specs.Traces.{SlotEvent, Entered, Did, slot_events}
-use Rattle.pawn_book.specs.Machines.{solo, solo_reply}
+use Rattle.{pawn_terms.specs.Worked.date, pawn_book.specs.Common.{Command, Fixed, Issued, PledgeValue, Receipt, Stamp, free, ring, ring_opening}}
+use Rattle.pawn_book.specs.declared.{refusal.Refusal.TheVariants.NoSuchReceipt, request.BearerRequest.TheVariants.OnPledge as OnReceipt}
+use Rattle.pawn_book.specs.{declared.request.{BrokerRequest.TheVariants.{TakePledge, OnPledge}, Caller.{Caller, TheVariants.Broker}}, BookStep.BookValue}
+use Rattle.pawn_book.specs.{BookStep.{Denied, book_after, book_step}, Traces.{SlotEvent, Entered, Did, slot_events}, Machines.{solo, solo_reply}}
+use Rattle.pawn_pledge.specs.{declared.command.Paper.Paper, declared.record.Issue.Issue}
 
 -- on the day of the pledge, with a word
 abbrev pub at : ℕ → Stamp
@@ -67,10 +60,12 @@ pub record WorkedSlots : Type 0 where
   pub first : trace_of (receipt 1 ∷ []) ≡ Entered 1 (ring 10000) ∷ Did 1 (at 2) declare ∷ []
   pub second : trace_of (receipt 2 ∷ []) ≡ Entered 1 declared_ring ∷ Did 1 (at 9) Command.Hold ∷ Did 1 (at 3) declare ∷ []
   pub first_and_third : trace_of (receipt 1 ∷ receipt 3 ∷ []) ≡ Entered 1 (ring 10000) ∷ Did 1 (at 2) declare ∷ Entered 1 held_ring ∷ []
-  pub first_and_second : trace_of (receipt 1 ∷ receipt 2 ∷ []) ≡ Entered 1 (ring 10000) ∷ Did 1 (at 2) declare ∷ Did 1 (at 9) Command.Hold ∷ Did 1 (at 3) declare ∷ []
+  pub first_and_second : trace_of (receipt 1 ∷ receipt 2 ∷ []) ≡ Entered 1 (ring 10000) ∷ Did 1 (at 2) declare ∷ Did 1 (at 9) Command.Hold
+      ∷ Did 1 (at 3) declare ∷ []
   -- the machines of the first two are empty at the end, that of the first and third has the pledge
   pub first_left : solo (receipt 1 ∷ []) (trace_of (receipt 1 ∷ [])) 1 ≡ None
   pub both_left : solo (receipt 1 ∷ receipt 2 ∷ []) (trace_of (receipt 1 ∷ receipt 2 ∷ [])) 1 ≡ None
   pub third_is_in : solo (receipt 1 ∷ receipt 3 ∷ []) (trace_of (receipt 1 ∷ receipt 3 ∷ [])) 1 ≡ Some held_ring
   -- a repayment by the first receipt is then refused as by a receipt that never was, whatever its day
-  pub first_unknown : solo_reply (receipt 1 ∷ []) (trace_of (receipt 1 ∷ [])) 7 (record { day = 0; word = 0 }) (OnReceipt (receipt 1) (Command.Repay 1 100)) ≡ Denied NoSuchReceipt
+  pub first_unknown : solo_reply (receipt 1 ∷ []) (trace_of (receipt 1 ∷ [])) 7 (record { day = 0; word = 0 })
+      (OnReceipt (receipt 1) (Command.Repay 1 100)) ≡ Denied NoSuchReceipt

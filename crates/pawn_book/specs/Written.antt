@@ -1,6 +1,6 @@
 -- The limits that the types of a record's texts, secrets and days keep.
 use Rattle.std.specs.Prelude.{ℕ, ◌^◌, ◌<◌, List}
-use Rattle.pawn_book.specs.Common.{Each, IsDayNumber, IsUtf8, Issued, PledgeValue}
+use Rattle.{pawn_book.specs.Common.{Each, IsUtf8, Issued, PledgeValue}, pawn_terms.specs.Calendar.IsDayNumber}
 
 -- a key or a secret: a word of 128 bits
 abbrev pub IsWord : ℕ → Type 0

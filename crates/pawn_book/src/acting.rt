@@ -1,5 +1,5 @@
-ghost use Rattle.std.specs.Prelude.{IfSome};
-ghost use Rattle.pawn_book.specs.Books.{Acts, CanSave, Commits, GoesOn, Host, IsLeftByAct, IsLeftByCommit, IsQuiet, IsWritten, OfHost};
+ghost use Rattle.{std.specs.Prelude.IfSome, pawn_book.specs.{Plans.{Acts, Commits, IsLeftByAct, IsLeftByCommit, IsWritten}, Changes.CanSave, Keeping.GoesOn}};
+ghost use Rattle.pawn_book.specs.{Keeping.{IsQuiet, OfHost}, HostStep.Host};
 
 use crate::change::Planned;
 use crate::fault::SaveError;
@@ -14,14 +14,11 @@ use std::alloc::Global;
 /// Makes the change of a plan, if it has one. Refused as `Full` if the rows would be above the limit, and as `Memory`
 /// or `Store` if the keeper does not save it.
 pub fn commit<K: Keep>(keep: &mut K, planned: &Planned) -> Result<(), Refusal>
-    requires saves { K.keeping.serves keep.old → OfHost K.keeping keep.old keep.old
-        (λ h. IfSome planned.now.change (CanSave h)) }
+    requires saves { K.keeping.serves keep.old → OfHost K.keeping keep.old keep.old (λ h. IfSome planned.now.change (CanSave h)) }
     ensures on { GoesOn K.keeping keep.old keep.new }
-    ensures commits { OfHost K.keeping keep.old keep.new
-        (λ h. Commits h planned.now.change result (K.keeping.stands keep.new)) }
+    ensures commits { OfHost K.keeping keep.old keep.new (λ h. Commits h planned.now.change result (K.keeping.stands keep.new)) }
     ensures crash { OfHost K.keeping keep.old keep.new
-        (λ h. (left : Host) → K.keeping.leaves keep.new left
-        → IsLeftByCommit h planned.now.change (K.keeping.leaves keep.old) result left) }
+        (λ h. (left : Host) → K.keeping.leaves keep.new left → IsLeftByCommit h planned.now.change (K.keeping.leaves keep.old) result left) }
     ensures steady { IsQuiet K.keeping keep.old result }
 {
     match &planned.change {
@@ -45,11 +42,9 @@ pub fn act<K: Keep>(
 ) -> Result<Reply, Refusal>
     requires written { IsWritten request.now.caller }
     ensures on { GoesOn K.keeping keep.old keep.new }
-    ensures acts { OfHost K.keeping keep.old keep.new
-        (λ h. Acts h operator stamp.now request.now result (K.keeping.stands keep.new)) }
+    ensures acts { OfHost K.keeping keep.old keep.new (λ h. Acts h operator stamp.now request.now result (K.keeping.stands keep.new)) }
     ensures crash { OfHost K.keeping keep.old keep.new
-        (λ h. (left : Host) → K.keeping.leaves keep.new left
-        → IsLeftByAct h operator stamp.now request.now (K.keeping.leaves keep.old) result left) }
+        (λ h. (left : Host) → K.keeping.leaves keep.new left → IsLeftByAct h operator stamp.now request.now (K.keeping.leaves keep.old) result left) }
     ensures steady { IsQuiet K.keeping keep.old result }
 {
     let planned = plan(alloc, keep, operator, stamp, request)?;

@@ -1,7 +1,8 @@
 //! Plans of commands on a pledge that the book has.
-ghost use Rattle.std.specs.Prelude.{◌≡◌, Err, IfOk};
-ghost use Rattle.pawn_book.specs.Common.{IsCommand, IsStampDay, get, pledge_step};
-ghost use Rattle.pawn_book.specs.Books.{BookValue, IsOutcome, IsQuiet, IsSound, IsWord, Plans, Reads, bearer_commands, book_head, broker_commands, confirmed_booking, judged_outcome, live_at, outcome_of, pledge_from, pledge_in, within_window};
+ghost use Rattle.std.specs.{Prelude.{◌≡◌, Err, IfOk}, FinMap.get};
+ghost use Rattle.{pawn_pledge.specs.Commands.IsCommand, pawn_terms.specs.Calendar.IsStampDay, pawn_book.specs.{Common.pledge_step, BookStep.BookValue}};
+ghost use Rattle.pawn_book.specs.BookStep.{bearer_commands, book_head, broker_commands, confirmed_booking, judged_outcome, live_at, pledge_from, pledge_in};
+ghost use Rattle.pawn_book.specs.{BookStep.within_window, Plans.{IsOutcome, Plans, outcome_of}, Keeping.{IsQuiet, Reads}, Sound.{IsSound, IsWord}};
 
 use crate::change::{BookHead, Change, Planned};
 use crate::gates::{find_live, know_word, unwell_refusal};
@@ -22,10 +23,8 @@ pub(crate) fn plan_number<K: Keep>(
     command: &Command,
 ) -> Result<Planned, Refusal>
     requires within { IsCommand command.now }
-    ensures reads { Reads K.keeping keep.old keep.new
-        (λ h. IsSound h → (at : BookValue) → get h.books book ≡ Some at → head.now ≡ book_head at →
-        Plans h book (broker_commands at book number stamp.now command.now
-        (pledge_from 1 at.pledges number)) result) }
+    ensures reads { Reads K.keeping keep.old keep.new (λ h. IsSound h → (at : BookValue) → get h.books book ≡ Some at → head.now ≡ book_head at
+        → Plans h book (broker_commands at book number stamp.now command.now (pledge_from 1 at.pledges number)) result) }
     ensures steady { IsQuiet K.keeping keep.old result }
 {
     let pledge = match keep.pledge(book, number) {
@@ -46,8 +45,7 @@ pub(crate) fn plan_receipt<K: Keep>(
     command: &Command,
 ) -> Result<Planned, Refusal>
     requires within { IsCommand command.now }
-    ensures reads { Reads K.keeping keep.old keep.new (λ h. IsSound h →
-        Plans h book (bearer_commands book receipt.now.number stamp.now command.now
+    ensures reads { Reads K.keeping keep.old keep.new (λ h. IsSound h → Plans h book (bearer_commands book receipt.now.number stamp.now command.now
         (live_at (pledge_in (get h.books book)) receipt.now)) result) }
     ensures steady { IsQuiet K.keeping keep.old result }
 {
@@ -66,8 +64,7 @@ fn plan_command(
     stamp: &Stamp,
     command: &Command,
 ) -> Result<Planned, Refusal>
-    ensures judged { IsOutcome (judged_outcome book number
-        (pledge_step pledge stamp.now command.now)) result }
+    ensures judged { IsOutcome (judged_outcome book number (pledge_step pledge stamp.now command.now)) result }
     ensures day { IsStampDay stamp.now.day }
     ensures word { IsWord stamp.now.word }
     ensures store { result ≡ Err Refusal.Store → ⊥ }
@@ -108,9 +105,8 @@ fn find_room<K: Keep>(
     head: &BookHead,
     planned: Planned,
 ) -> Result<Planned, Refusal>
-    ensures reads { Reads K.keeping keep.old keep.new
-        (λ h. (at : BookValue) → get h.books book ≡ Some at → head.now ≡ book_head at →
-        IsOutcome (within_window at (outcome_of planned.change planned.reply)) result) }
+    ensures reads { Reads K.keeping keep.old keep.new (λ h. (at : BookValue) → get h.books book ≡ Some at → head.now ≡ book_head at
+        → IsOutcome (within_window at (outcome_of planned.change planned.reply)) result) }
     ensures same { IfOk result (λ p. p ≡ planned) }
     ensures steady { IsQuiet K.keeping keep.old result }
 {

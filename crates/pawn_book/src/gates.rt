@@ -1,7 +1,6 @@
 //! Who is let in, and to what.
-ghost use Rattle.std.specs.Prelude.{◌≡◌, IfOk};
-ghost use Rattle.std.specs.FinMap.{get};
-ghost use Rattle.pawn_book.specs.Books.{Gates, IsQuiet, IsSteady, IsUnwell, IsWord, Reads, live_at, pledge_in};
+ghost use Rattle.std.specs.{Prelude.{◌≡◌, IfOk}, FinMap.get};
+ghost use Rattle.pawn_book.specs.{Plans.{Gates, IsUnwell}, Keeping.{IsQuiet, IsSteady, Reads}, Sound.IsWord, BookStep.{live_at, pledge_in}};
 
 use crate::change::BookHead;
 use crate::fault::KeepError;
@@ -34,8 +33,7 @@ pub fn find_live<K: Keep>(
     book: Number,
     receipt: &Receipt,
 ) -> Result<Option<Pledge>, KeepError>
-    ensures reads { Reads K.keeping keep.old keep.new
-        (λ h. IfOk result (λ pledge. pledge ≡ live_at (pledge_in (get h.books book)) receipt.now)) }
+    ensures reads { Reads K.keeping keep.old keep.new (λ h. IfOk result (λ pledge. pledge ≡ live_at (pledge_in (get h.books book)) receipt.now)) }
     ensures steady { IsSteady K.keeping keep.old result }
 {
     match keep.pledge(book, receipt.number) {

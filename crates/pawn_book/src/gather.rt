@@ -1,10 +1,6 @@
 //! Gathers in a list what a keeper hands out one at a time.
-ghost use Rattle.std.specs.Prelude.{◌≡◌, IfOk};
-ghost use Rattle.std.specs.FinMap.{get};
-ghost use Rattle.pawn_book.specs.Gathering.{Gathers};
-ghost use Rattle.pawn_book.specs.Keeping.{Errs, Reads, pledges_of};
-ghost use Rattle.pawn_book.specs.Sheet.{day_sheet};
-ghost use Rattle.pawn_book.specs.Sound.{IsUnsoundAt};
+ghost use Rattle.std.specs.{Prelude.{◌≡◌, IfOk}, FinMap.get};
+ghost use Rattle.pawn_book.specs.{Gathering.Gathers, Keeping.{Errs, Reads, pledges_of}, Sheet.day_sheet, Sound.IsUnsoundAt};
 
 use crate::fault::KeepError;
 use crate::keep::Keep;
@@ -41,8 +37,7 @@ pub fn day_sheet<K: Keep>(
     book: Number,
     day: Day,
 ) -> Result<Vec<SheetItem>, KeepError>
-    ensures reads { Reads K.keeping keep.old keep.new
-        (λ h. IfOk result (λ items. items.items ≡ day_sheet (pledges_of (get h.books book)) day)) }
+    ensures reads { Reads K.keeping keep.old keep.new (λ h. IfOk result (λ items. items.items ≡ day_sheet (pledges_of (get h.books book)) day)) }
     ensures errs { Errs K.keeping keep.old keep.new (IsUnsoundAt book) result }
 {
     let mut gathering = Gathering {

@@ -1,10 +1,6 @@
 //! Plans of imports.
-ghost use Rattle.std.specs.Prelude.{◌≡◌, IfErr, IfOk, Err, Some, length};
-ghost use Rattle.pawn_book.specs.Common.{Each, get};
-ghost use Rattle.pawn_book.specs.BookStep.{BookValue, book_head, import_rows, is_empty};
-ghost use Rattle.pawn_book.specs.HostStep.{Host};
-ghost use Rattle.pawn_book.specs.Plans.{Plans};
-ghost use Rattle.pawn_book.specs.Rows.{AreReplayable};
+ghost use Rattle.std.specs.{Prelude.{◌≡◌, IfErr, IfOk, Err, Some, length}, FinMap.get};
+ghost use Rattle.pawn_book.specs.{Common.Each, BookStep.{BookValue, book_head, import_rows, is_empty}, HostStep.Host, Plans.Plans, Rows.AreReplayable};
 ghost use Rattle.pawn_book.specs.Sound.{HasTextsAndWords, IsSound, IsWord};
 
 use crate::change::{BookHead, Change, Planned};
@@ -71,8 +67,7 @@ pub(crate) fn plan_import(
     rows: &ReplayableRows,
 ) -> Result<Planned, Refusal>
     ensures plans { (h : Host) (at : BookValue) → IsSound h → get h.books book ≡ Some at
-        → head.now ≡ book_head at →
-        Plans h book (import_rows (book_head at) book key rows.now at.imported) result }
+        → head.now ≡ book_head at → Plans h book (import_rows (book_head at) book key rows.now at.imported) result }
     ensures quiet { result ≡ Err Refusal.Store → ⊥ }
 {
     match head.imported {
@@ -98,8 +93,7 @@ pub(crate) fn plan_import(
 fn fill_book(book: Number, key: Secret, rows: &ReplayableRows) -> Result<Planned, Refusal>
     ensures planned { IfOk result (λ planned. planned ≡ record {
       change = Some (Change.ImportBook book key rows.now);
-      reply = Reply.BookFilled
-          (length rows.now.pledges);
+      reply = Reply.BookFilled (length rows.now.pledges);
     }) }
     ensures memory { IfErr result (λ why. why ≡ Refusal.Memory) }
     ensures key { IsWord key }

@@ -1,15 +1,8 @@
-ghost use Rattle.std.specs.Prelude.{◌≡◌, IfOk, option_map, unwrap_or};
-ghost use Rattle.std.specs.FinMap.{get};
-ghost use Rattle.pawn_pledge.specs.Brief.{brief_of};
-ghost use Rattle.pawn_book.specs.Bookings.{confirmed_count};
-ghost use Rattle.pawn_book.specs.BookStep.{book_head, pledge_in};
-ghost use Rattle.pawn_book.specs.Rows.{terms_at};
-ghost use Rattle.pawn_book.specs.HostStep.{rows};
-ghost use Rattle.pawn_book.specs.Changes.{CanSave};
-ghost use Rattle.pawn_book.specs.Keeping.{Errs, IsNextBook, Keeping, OfHost, Reads, Saves, WholeIsSound, entries_of, extensions_of, number_of, pledges_of, secrets_of, terms_of};
-ghost use Rattle.pawn_book.specs.Sheet.{day_sheet};
-ghost use Rattle.pawn_book.specs.Sound.{HasUnsoundBook, IsUnsoundAt};
-ghost use Rattle.pawn_book.specs.Visits.{IsShare, Visits, call_end};
+ghost use Rattle.std.specs.{Prelude.{◌≡◌, IfOk, option_map, unwrap_or}, FinMap.get};
+ghost use Rattle.{pawn_pledge.specs.Brief.brief_of, pawn_book.specs.{Bookings.confirmed_count, BookStep.{book_head, pledge_in}, Rows.terms_at, HostStep.rows}};
+ghost use Rattle.pawn_book.specs.{Changes.CanSave, Keeping.{Errs, IsNextBook, Keeping, OfHost, Reads, Saves, WholeIsSound, entries_of, extensions_of}};
+ghost use Rattle.pawn_book.specs.{Keeping.{number_of, pledges_of, secrets_of, terms_of}, Sheet.day_sheet, Sound.{HasUnsoundBook, IsUnsoundAt}, Visits.IsShare};
+ghost use Rattle.pawn_book.specs.Visits.{Visits, call_end};
 
 use crate::change::{BookHead, Change};
 use crate::fault::{KeepError, SaveError};
@@ -25,55 +18,45 @@ pub trait Keep {
 
     /// The head of a book, if there is such a book.
     fn book_head(&mut self, book: Number) -> Result<Option<BookHead>, KeepError>
-        ensures reads { Reads keeping self.old self.new
-            (λ h. IfOk result (λ head. head ≡ option_map book_head (get h.books book))) }
+        ensures reads { Reads keeping self.old self.new (λ h. IfOk result (λ head. head ≡ option_map book_head (get h.books book))) }
         ensures errs { Errs keeping self.old self.new (IsUnsoundAt book) result };
 
     /// The terms that a book has under a version, if it has any.
     fn terms(&mut self, book: Number, version: u64) -> Result<Option<Terms>, KeepError>
-        ensures reads { Reads keeping self.old self.new
-            (λ h. IfOk result (λ terms. terms ≡ terms_at (terms_of (get h.books book)) version)) }
+        ensures reads { Reads keeping self.old self.new (λ h. IfOk result (λ terms. terms ≡ terms_at (terms_of (get h.books book)) version)) }
         ensures errs { Errs keeping self.old self.new (IsUnsoundAt book) result };
 
     /// The pledge with this number in a book, if there is one.
     fn pledge(&mut self, book: Number, number: Number) -> Result<Option<Pledge>, KeepError>
-        ensures reads { Reads keeping self.old self.new
-            (λ h. IfOk result (λ pledge. pledge ≡ pledge_in (get h.books book) number)) }
+        ensures reads { Reads keeping self.old self.new (λ h. IfOk result (λ pledge. pledge ≡ pledge_in (get h.books book) number)) }
         ensures errs { Errs keeping self.old self.new (IsUnsoundAt book) result };
 
     /// The number of the pledge with this reference in a book, if there is one.
     fn find_ref(&mut self, book: Number, reference: &Reference) -> Result<Option<Number>, KeepError>
-        ensures reads { Reads keeping self.old self.new
-            (λ h. IfOk result (λ number. number ≡ number_of (get h.books book) reference.now)) }
+        ensures reads { Reads keeping self.old self.new (λ h. IfOk result (λ number. number ≡ number_of (get h.books book) reference.now)) }
         ensures errs { Errs keeping self.old self.new (IsUnsoundAt book) result };
 
     /// How many pledges of a book have a confirmed booking for a day and a window.
     fn confirmed_count(&mut self, book: Number, day: Day, window: u64) -> Result<u64, KeepError>
-        ensures reads { Reads keeping self.old self.new
-            (λ h. IfOk result
-            (λ count. count ≡ confirmed_count (pledges_of (get h.books book)) day window)) }
+        ensures reads { Reads keeping self.old self.new (λ h. IfOk result (λ count. count ≡ confirmed_count (pledges_of (get h.books book)) day window)) }
         ensures errs { Errs keeping self.old self.new (IsUnsoundAt book) result };
 
     /// Hands the visitor the pledges of a book in order of their numbers, until it wants no more. If the call fails, it
     /// may have been handed only the first of them.
     fn walk<V: Visitor<Pledge>>(&mut self, book: Number, visitor: &mut V) -> Result<(), KeepError>
-        ensures reads { Visits V.step visitor.old visitor.new (λ given flow.
-            Reads keeping self.old self.new
+        ensures reads { Visits V.step visitor.old visitor.new (λ given flow. Reads keeping self.old self.new
             (λ h. IsShare given flow (call_end result) (pledges_of (get h.books book)))) }
         ensures errs { Errs keeping self.old self.new (IsUnsoundAt book) result };
 
     /// The next book number above `after`, or the first if `after` is none. The result is none if there is no such
     /// book.
     fn next_book(&mut self, after: Option<Number>) -> Result<Option<Number>, KeepError>
-        ensures reads { Reads keeping self.old self.new
-            (λ h. IfOk result (λ next. IsNextBook h (unwrap_or after 0) next)) }
+        ensures reads { Reads keeping self.old self.new (λ h. IfOk result (λ next. IsNextBook h (unwrap_or after 0) next)) }
         ensures errs { Errs keeping self.old self.new HasUnsoundBook result };
 
     /// The pledge with this number in a book, without its lists, if there is one.
     fn brief(&mut self, book: Number, number: Number) -> Result<Option<Brief>, KeepError>
-        ensures reads { Reads keeping self.old self.new
-            (λ h. IfOk result
-            (λ brief. brief ≡ option_map brief_of (pledge_in (get h.books book) number))) }
+        ensures reads { Reads keeping self.old self.new (λ h. IfOk result (λ brief. brief ≡ option_map brief_of (pledge_in (get h.books book) number))) }
         ensures errs { Errs keeping self.old self.new (IsUnsoundAt book) result };
 
     /// Hands the visitor the entries of a pledge in order, until it wants no more. If the call fails, it may have been
@@ -84,10 +67,8 @@ pub trait Keep {
         number: Number,
         visitor: &mut V,
     ) -> Result<(), KeepError>
-        ensures reads { Visits V.step visitor.old visitor.new (λ given flow.
-            Reads keeping self.old self.new
-            (λ h. IsShare given flow (call_end result)
-            (entries_of (pledge_in (get h.books book) number)))) }
+        ensures reads { Visits V.step visitor.old visitor.new (λ given flow. Reads keeping self.old self.new
+            (λ h. IsShare given flow (call_end result) (entries_of (pledge_in (get h.books book) number)))) }
         ensures errs { Errs keeping self.old self.new (IsUnsoundAt book) result };
 
     /// Hands the visitor the secrets of a pledge in order, until it wants no more. If the call fails, it may have been
@@ -98,10 +79,8 @@ pub trait Keep {
         number: Number,
         visitor: &mut V,
     ) -> Result<(), KeepError>
-        ensures reads { Visits V.step visitor.old visitor.new (λ given flow.
-            Reads keeping self.old self.new
-            (λ h. IsShare given flow (call_end result)
-            (secrets_of (pledge_in (get h.books book) number)))) }
+        ensures reads { Visits V.step visitor.old visitor.new (λ given flow. Reads keeping self.old self.new
+            (λ h. IsShare given flow (call_end result) (secrets_of (pledge_in (get h.books book) number)))) }
         ensures errs { Errs keeping self.old self.new (IsUnsoundAt book) result };
 
     /// Hands the visitor the extensions of a pledge in order, until it wants no more. If the call fails, it may have
@@ -112,10 +91,8 @@ pub trait Keep {
         number: Number,
         visitor: &mut V,
     ) -> Result<(), KeepError>
-        ensures reads { Visits V.step visitor.old visitor.new (λ given flow.
-            Reads keeping self.old self.new
-            (λ h. IsShare given flow (call_end result)
-            (extensions_of (pledge_in (get h.books book) number)))) }
+        ensures reads { Visits V.step visitor.old visitor.new (λ given flow. Reads keeping self.old self.new
+            (λ h. IsShare given flow (call_end result) (extensions_of (pledge_in (get h.books book) number)))) }
         ensures errs { Errs keeping self.old self.new (IsUnsoundAt book) result };
 
     /// Hands the visitor the items of a day's sheet in order, until it wants no more. If the call fails, it may have
@@ -126,23 +103,19 @@ pub trait Keep {
         day: Day,
         visitor: &mut V,
     ) -> Result<(), KeepError>
-        ensures reads { Visits V.step visitor.old visitor.new (λ given flow.
-            Reads keeping self.old self.new
-            (λ h. IsShare given flow (call_end result)
-            (day_sheet (pledges_of (get h.books book)) day))) }
+        ensures reads { Visits V.step visitor.old visitor.new (λ given flow. Reads keeping self.old self.new
+            (λ h. IsShare given flow (call_end result) (day_sheet (pledges_of (get h.books book)) day))) }
         ensures errs { Errs keeping self.old self.new (IsUnsoundAt book) result };
 
     /// How many rows all books have together.
     fn rows(&mut self) -> Result<u64, KeepError>
-        ensures reads { Reads keeping self.old self.new
-            (λ h. IfOk result (λ count. count ≡ rows h)) }
+        ensures reads { Reads keeping self.old self.new (λ h. IfOk result (λ count. count ≡ rows h)) }
         ensures errs { Errs keeping self.old self.new HasUnsoundBook result };
 
     /// Makes a change, or answers `Full` if the rows would be above the limit. After any error the books are as before,
     /// though a crash may then leave the change made, unless the error is `Full`.
     fn save(&mut self, change: &Change) -> Result<(), SaveError>
-        requires can_save { keeping.serves self.old → OfHost keeping self.old self.old
-            (λ h. CanSave h change.now) }
+        requires can_save { keeping.serves self.old → OfHost keeping self.old self.old (λ h. CanSave h change.now) }
         ensures saves { Saves keeping self.old self.new change.now result };
 
     // A whole keeper stands for a sound host, and a crash may leave only sound ones.

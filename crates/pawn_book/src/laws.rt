@@ -1,5 +1,7 @@
-ghost use Rattle.pawn_book.specs.Books.{BearersJoin, BookChangesDiffer, BookEntriesActOnce, BookExtensionsActOnce, BooksAnswerAlone, EarlierReceiptsAreSpent, EntriesActOnceForAll, EqualBookTracesAnswerAlike, EqualTracesAnswerAlike, HandedOutAnswersAsOne, HandsAll, OtherBooksStay, RepeatsActOnce, ShardsAnswerAsOne, SlotsAnswerAlone, SlotsAreHeld, SpentIsUnknown, SpentReceiptsStaySpent, StandingEndIsTold, TracesAreAccepted};
-ghost use Rattle.pawn_book.specs.Passes.{IsOne, KeepsReceipts, Pass, ReplacesNone};
+ghost use Rattle.pawn_book.specs.Slots.{BearersJoin, BooksAnswerAlone, EarlierReceiptsAreSpent, EqualBookTracesAnswerAlike, EqualTracesAnswerAlike};
+ghost use Rattle.pawn_book.specs.Slots.{OtherBooksStay, SlotsAnswerAlone, SlotsAreHeld, SpentIsUnknown, SpentReceiptsStaySpent, TracesAreAccepted};
+ghost use Rattle.pawn_book.specs.Laws.{BookChangesDiffer, BookEntriesActOnce, BookExtensionsActOnce, EntriesActOnceForAll, RepeatsActOnce, StandingEndIsTold};
+ghost use Rattle.pawn_book.specs.{Shards.{HandedOutAnswersAsOne, HandsAll, ShardsAnswerAsOne}, Passes.{IsOne, KeepsReceipts, Pass, ReplacesNone}};
 
 /// Whenever a request makes a change, the book differs after it.
 pub fn changes_differ()

@@ -1,7 +1,8 @@
 //! Plans of new pledges.
-ghost use Rattle.std.specs.Prelude.{◌≡◌, Err, IfOk, Some};
-ghost use Rattle.pawn_book.specs.Common.{IsDayNumber, IsSaid, IsStanding, IsUtf8, get};
-ghost use Rattle.pawn_book.specs.Books.{BookValue, IsQuiet, IsSound, IsSteady, IsUnwell, IsWord, Plans, Reads, book_head, first_receipt, is_same_opening, newest, next_pledge, pledges_of, take_pledge, with_reference};
+ghost use Rattle.std.specs.{Prelude.{◌≡◌, Err, IfOk, Some}, FinMap.get};
+ghost use Rattle.{pawn_terms.specs.Calendar.IsDayNumber, pawn_book.specs.{Common.{IsSaid, IsStanding, IsUtf8}, BookStep.{BookValue, book_head, first_receipt}}};
+ghost use Rattle.pawn_book.specs.{BookStep.{is_same_opening, newest, next_pledge, take_pledge, with_reference}, Keeping.{IsQuiet, IsSteady, Reads, pledges_of}};
+ghost use Rattle.pawn_book.specs.{Sound.{IsSound, IsWord}, Plans.{IsUnwell, Plans}};
 
 use crate::change::{BookHead, Change, Planned};
 use crate::fault::KeepError;
@@ -25,10 +26,8 @@ pub(crate) fn plan_pledge<K: Keep>(
     opening: &Opening,
     stamp: &Stamp,
 ) -> Result<Planned, Refusal>
-    ensures reads { Reads K.keeping keep.old keep.new
-        (λ h. IsSound h → (at : BookValue) → get h.books book ≡ Some at → head.now ≡ book_head at →
-        Plans h book (take_pledge at book opening.now stamp.now
-        (with_reference at.pledges opening.now.reference)) result) }
+    ensures reads { Reads K.keeping keep.old keep.new (λ h. IsSound h → (at : BookValue) → get h.books book ≡ Some at → head.now ≡ book_head at
+        → Plans h book (take_pledge at book opening.now stamp.now (with_reference at.pledges opening.now.reference)) result) }
     ensures steady { IsQuiet K.keeping keep.old result }
 {
     know_given(opening, stamp);
@@ -83,8 +82,7 @@ fn find_reference<K: Keep>(
     reference: &Reference,
 ) -> Result<Option<Pledge>, KeepError>
     ensures reads { Reads K.keeping keep.old keep.new
-        (λ h. IsSound h → IfOk result
-        (λ pledge. pledge ≡ with_reference (pledges_of (get h.books book)) reference.now)) }
+        (λ h. IsSound h → IfOk result (λ pledge. pledge ≡ with_reference (pledges_of (get h.books book)) reference.now)) }
     ensures steady { IsSteady K.keeping keep.old result }
 {
     match keep.find_ref(book, reference) {
@@ -103,9 +101,8 @@ fn new_pledge<K: Keep>(
     opening: &Opening,
     stamp: &Stamp,
 ) -> Result<Pledge, Refusal>
-    ensures reads { Reads K.keeping keep.old keep.new
-        (λ h. (at : BookValue) → get h.books book ≡ Some at → head.now ≡ book_head at →
-        IsSaid IsUnwell (next_pledge head.now opening.now stamp.now (newest at.terms)) result) }
+    ensures reads { Reads K.keeping keep.old keep.new (λ h. (at : BookValue) → get h.books book ≡ Some at → head.now ≡ book_head at
+        → IsSaid IsUnwell (next_pledge head.now opening.now stamp.now (newest at.terms)) result) }
     ensures standing { IfOk result IsStanding }
     ensures steady { IsQuiet K.keeping keep.old result }
 {
@@ -124,8 +121,7 @@ fn start(
     terms: Terms,
     stamp: &Stamp,
 ) -> Result<Pledge, Refusal>
-    ensures taken { IsSaid IsUnwell
-        (next_pledge head.now opening.now stamp.now (Some terms)) result }
+    ensures taken { IsSaid IsUnwell (next_pledge head.now opening.now stamp.now (Some terms)) result }
     ensures standing { IfOk result IsStanding }
     ensures store { result ≡ Err Refusal.Store → ⊥ }
 {

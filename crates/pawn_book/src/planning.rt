@@ -1,6 +1,5 @@
 //! Plans of requests.
-ghost use Rattle.std.specs.FinMap.{get};
-ghost use Rattle.pawn_book.specs.Books.{IsQuiet, IsSound, IsWritten, Plans, Reads, book_step};
+ghost use Rattle.{std.specs.FinMap.get, pawn_book.specs.{Keeping.{IsQuiet, Reads}, Sound.IsSound, Plans.{IsWritten, Plans}, BookStep.book_step}};
 
 use crate::change::Planned;
 use crate::commands::{plan_number, plan_receipt};
@@ -25,9 +24,7 @@ pub fn plan<K: Keep>(
 ) -> Result<Planned, Refusal>
     requires written { IsWritten request.now.caller }
     ensures reads { Reads K.keeping keep.old keep.new
-        (λ h. IsSound h → Plans h request.now.book
-        (book_step (get h.books request.now.book) operator request.now.book stamp.now
-        request.now.caller) result) }
+        (λ h. IsSound h → Plans h request.now.book (book_step (get h.books request.now.book) operator request.now.book stamp.now request.now.caller) result) }
     ensures steady { IsQuiet K.keeping keep.old result }
 {
     match &request.caller {

@@ -1,7 +1,8 @@
 //! Which rows make a book.
 ghost use Rattle.std.specs.Prelude.{◌≡◌, ◌≤◌, ◌↔◌, ℕ, IsTrue, length};
-ghost use Rattle.pawn_book.specs.Common.{DoNotFall, Each, IsChecked, IsStanding, list_any};
-ghost use Rattle.pawn_book.specs.Books.{AreDistinct, AreNumberedFrom, AreReplayable, BookValue, IsSoundBook, IsUnder, IsWord, filled_book, is_same_text, most_pledges, most_terms, references_of, version_of};
+ghost use Rattle.pawn_book.specs.{Common.{DoNotFall, Each, IsChecked, IsStanding, list_any}, Rows.{AreDistinct, AreNumberedFrom, AreReplayable, IsUnder}};
+ghost use Rattle.pawn_book.specs.{Rows.{is_same_text, references_of, version_of}, BookStep.{BookValue, filled_book}, Sound.{IsSoundBook, IsWord}};
+ghost use Rattle.pawn_book.specs.Limits.{most_pledges, most_terms};
 
 use crate::limits::{MOST_PLEDGES, MOST_TERMS};
 use crate::rows::BookRows;
@@ -11,8 +12,7 @@ use pawn_pledge::{Parts, Rates, Reference};
 /// References are compared pairwise, so the time grows with the square of the number of pledges.
 pub fn replayable(rows: &BookRows) -> bool
     ensures answer { IsTrue result ↔ AreReplayable rows.now.terms rows.now.pledges }
-    ensures sound { (book : BookValue) (key : ℕ) → IsSoundBook book → IsWord key
-        → (IsTrue result ↔ IsSoundBook (filled_book book key rows.now)) }
+    ensures sound { (book : BookValue) (key : ℕ) → IsSoundBook book → IsWord key → (IsTrue result ↔ IsSoundBook (filled_book book key rows.now)) }
 {
     are_replayable(rows.terms.as_slice(), rows.pledges.as_slice())
 }
@@ -31,8 +31,7 @@ fn are_replayable(terms: &[Rates], pledges: &[Parts]) -> bool
 
 // Whether a book may have as many terms and pledges.
 fn are_few(terms: &[Rates], pledges: &[Parts]) -> bool
-    ensures answer { IsTrue result ↔
-        ((length terms.now ≤ most_terms) × (length pledges.now ≤ most_pledges)) }
+    ensures answer { IsTrue result ↔ ((length terms.now ≤ most_terms) × (length pledges.now ≤ most_pledges)) }
 {
     terms.len() as u64 <= MOST_TERMS && pledges.len() as u64 <= MOST_PLEDGES
 }

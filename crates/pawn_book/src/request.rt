@@ -1,6 +1,5 @@
 ghost use Rattle.std.specs.Prelude.{◌≡◌, ◌↔◌, IfOk, IsTrue};
-ghost use Rattle.pawn_book.specs.Common.{IsText, IsUtf8};
-ghost use Rattle.pawn_book.specs.Books.{IsBearerWrite, IsBrokerWrite, IsCapacity, IsWord, IsWritten};
+ghost use Rattle.pawn_book.specs.{Common.{IsText, IsUtf8}, Plans.{IsBearerWrite, IsBrokerWrite, IsWritten}, Limits.IsCapacity, Sound.IsWord};
 
 use crate::capacity::Capacity;
 use crate::importing::ReplayableRows;

@@ -1,7 +1,6 @@
 //! The rows of a book.
 ghost use Rattle.std.specs.Prelude.{◌≡◌, IfOk};
-ghost use Rattle.pawn_base.specs.Lists.{Each};
-ghost use Rattle.pawn_book.specs.Written.{HasTextsAndWords};
+ghost use Rattle.{pawn_base.specs.Lists.Each, pawn_book.specs.Written.HasTextsAndWords};
 
 use pawn_pledge::{Parts, Rates, Rows};
 use std::alloc::AllocError;

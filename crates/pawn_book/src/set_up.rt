@@ -1,7 +1,7 @@
 //! Plans of books and of their terms.
-ghost use Rattle.std.specs.Prelude.{◌≡◌, IfOk};
-ghost use Rattle.pawn_book.specs.Common.{IsChecked, get};
-ghost use Rattle.pawn_book.specs.Books.{BookValue, IsQuiet, IsSound, Plans, Reads, are_same_rates, book_head, is_same_book, make_book, next_terms, put_terms, terms_at};
+ghost use Rattle.std.specs.{Prelude.{◌≡◌, IfOk}, FinMap.get};
+ghost use Rattle.pawn_book.specs.{Common.IsChecked, BookStep.{BookValue, are_same_rates, book_head, is_same_book, make_book, next_terms, put_terms}};
+ghost use Rattle.pawn_book.specs.{Keeping.{IsQuiet, Reads}, Sound.IsSound, Plans.Plans, Rows.terms_at};
 
 use crate::change::{BookHead, Change, Planned};
 use crate::gates::unwell_refusal;
@@ -19,8 +19,7 @@ pub(crate) fn plan_book<K: Keep>(
     book: Number,
     new_book: &NewBook,
 ) -> Result<Planned, Refusal>
-    ensures reads { Reads K.keeping keep.old keep.new
-        (λ h. IsSound h → Plans h book (make_book (get h.books book) book new_book.now) result) }
+    ensures reads { Reads K.keeping keep.old keep.new (λ h. IsSound h → Plans h book (make_book (get h.books book) book new_book.now) result) }
     ensures steady { IsQuiet K.keeping keep.old result }
 {
     // Reading the number gives a proof that a book may have it.
@@ -65,10 +64,8 @@ pub(crate) fn plan_terms<K: Keep>(
     head: &BookHead,
     new_terms: &NewTerms,
 ) -> Result<Planned, Refusal>
-    ensures reads { Reads K.keeping keep.old keep.new
-        (λ h. IsSound h → (at : BookValue) → get h.books book ≡ Some at → head.now ≡ book_head at →
-        Plans h book (put_terms at book new_terms.now (terms_at at.terms new_terms.now.version))
-        result) }
+    ensures reads { Reads K.keeping keep.old keep.new (λ h. IsSound h → (at : BookValue) → get h.books book ≡ Some at → head.now ≡ book_head at
+        → Plans h book (put_terms at book new_terms.now (terms_at at.terms new_terms.now.version)) result) }
     ensures steady { IsQuiet K.keeping keep.old result }
 {
     let version = new_terms.version;

@@ -1,6 +1,4 @@
-ghost use Rattle.pawn_book.specs.WorkedImports.{WorkedImports};
-ghost use Rattle.pawn_book.specs.WorkedShards.{WorkedShards};
-ghost use Rattle.pawn_book.specs.WorkedSlots.{WorkedSlots};
+ghost use Rattle.pawn_book.specs.{WorkedImports.WorkedImports, WorkedShards.WorkedShards, WorkedSlots.WorkedSlots};
 
 /// A pledge whose receipt changes hands twice: what each slot's trace is.
 pub fn worked_slots()

@@ -1,11 +1,15 @@
 -- The terms and the pledges of a book, judged one after the other.
-use Rattle.pawn_check.proofs.Basics.{◌≡◌, ◌∙◌, ℕ, ◌+◌, ◌<◌, ◌≤◌, zero, suc, true, false, List, [], ◌∷◌, ◌++◌, length, take, Some, None, refl, sym, ap, subst, arith, ◌==◌, ◌||◌, if◌then◌else◌, Bool, Option, option_map, slice_get, AreDistinct, AreNumberedFrom, BookValue, DoNotFall, Each, Err, HasTextsAndWords, HasUnsoundBook, Host, IfSome, IsCapacity, IsChecked, IsSoundBook, IsStanding, IsText, IsTrue, IsUnder, IsUtf8, IsWord, PledgeValue, Rates, Result, book_head, get, is_same_text, last_by, most_name_bytes, most_pledges, most_terms, pledge_from, pledge_in, pledge_rows, references_of, terms_at, terms_of, version_of, with_reference, absurd_none, nat_tests, references_push, some_is, sum_by_push, BookHead, AreOfBook, Blames, FindsSound, FitsAt, IsFront}
-use Rattle.std.specs.List.{list_any}
-use Rattle.pawn_base.proofs.ListLemmas.{Each-push, take_each}
-use Rattle.pawn_book.proofs.LawLemmas.{text_same}
-use Rattle.pawn_book.proofs.Sounds.{each_at, numbered_at}
+use Rattle.std.proofs.Common.{◌≡◌, ◌∙◌, ℕ, ◌+◌, ◌<◌, ◌≤◌, zero, suc, true, false, List, [], ◌∷◌, ◌++◌, length, take, Some, None, refl, sym, ap, subst, arith}
+use Rattle.std.{proofs.Common.{◌==◌, ◌||◌, if◌then◌else◌, Bool, Option, option_map, slice_get, Err, IfSome, IsTrue, Result}, specs.{Str.IsUtf8, FinMap.get}}
+use Rattle.{std.{proofs.lemmas.{Bool.Decides.nat_tests, List.Sums.sum_by_push}, specs.List.list_any}, pawn_book.specs.Rows.{AreDistinct, AreNumberedFrom}}
+use Rattle.pawn_book.specs.{Rows.{IsUnder, is_same_text, references_of, terms_at, version_of}, BookStep.{BookValue, book_head, pledge_from, pledge_in}}
+use Rattle.pawn_book.specs.{BookStep.with_reference, Sound.{HasTextsAndWords, HasUnsoundBook, IsSoundBook, IsWord}, HostStep.{Host, pledge_rows}}
+use Rattle.pawn_book.{specs.{Limits.{IsCapacity, most_name_bytes, most_pledges, most_terms}, Keeping.terms_of}, proofs.SoundLists.absurd_none}
+use Rattle.pawn_book.{proofs.{SoundLists.{references_push, some_is}, LawLemmas.text_same, Sounds.each_at}, specs.declared.change.BookHead.BookHead}
+use Rattle.{pawn_book.proofs.{Sounds.numbered_at, Places.terms_at_place}, pawn_base.specs.{Lists.{DoNotFall, Each, last_by}, Text.IsText}}
+use Rattle.{pawn_base.proofs.ListLemmas.{Each-push, take_each}, pawn_terms.specs.{Terms.IsChecked, declared.terms.Rates.Rates}}
+use Rattle.{pawn_pledge.specs.{Replayable.IsStanding, Pledge.PledgeValue}, pawn_check.specs.Judging.{AreOfBook, Blames, FindsSound, FitsAt, IsFront}}
 use Rattle.pawn_check.specs.declared.fault.CheckFault.{CheckFault}
-use Rattle.pawn_book.proofs.Places.{terms_at_place}
 
 -- ---- terms
 
@@ -15,12 +19,14 @@ stands [] i less none = absurd (omega (arith, less))
 stands (t ∷ terms) zero less none = cc
 stands (t ∷ terms) (suc i) less none = stands terms i (omega (arith, less)) none
 
-more_checked : (terms : List Rates) (i : ℕ) (t : Rates) → slice_get terms i ≡ Some t → IsChecked t → Each {X = Rates} IsChecked (take i terms) → Each {X = Rates} IsChecked (take (suc i) terms)
+more_checked : (terms : List Rates) (i : ℕ) (t : Rates) → slice_get terms i ≡ Some t → IsChecked t → Each {X = Rates} IsChecked (take i terms)
+    → Each {X = Rates} IsChecked (take (suc i) terms)
 more_checked [] i t at is all = absurd_none at
 more_checked (u ∷ terms) zero t at is all = (subst IsChecked (sym (some_is u t at)) is, tt)
 more_checked (u ∷ terms) (suc i) t at is all = (all.0, more_checked terms i t at is all.1)
 
-pub checked_more : (terms : List Rates) (i : ℕ) (t : Rates) → terms_at terms (i + 1) ≡ Some t → IsChecked t → Each {X = Rates} IsChecked (take i terms) → Each {X = Rates} IsChecked (take (i + 1) terms)
+pub checked_more : (terms : List Rates) (i : ℕ) (t : Rates) → terms_at terms (i + 1) ≡ Some t → IsChecked t → Each {X = Rates} IsChecked (take i terms)
+    → Each {X = Rates} IsChecked (take (i + 1) terms)
 checked_more terms i t at is all =
     let next : suc i ≡ i + 1 = omega arith in
     subst (λ (n : ℕ). Each {X = Rates} IsChecked (take n terms)) next (more_checked terms i t (sym (terms_at_place terms i) ∙ at) is all)
@@ -45,23 +51,27 @@ take_pledge k (q ∷ ps) zero p is =
 take_pledge k (q ∷ ps) (suc i) p is =
     let past : (k + suc i == k) ≡ false = grind (arith, nat_tests) in
     let next : k + suc i ≡ (k + 1) + i = omega arith in
-    let rest : pledge_from (k + 1) ps ((k + 1) + i) ≡ Some p = ap (pledge_from (k + 1) ps) (sym next) ∙ sym (ap (λ v. if v then Some q else pledge_from (k + 1) ps (k + suc i)) past) ∙ is in
+    let rest : pledge_from (k + 1) ps ((k + 1) + i) ≡ Some p = ap (pledge_from (k + 1) ps) (sym next)
+    ∙ sym (ap (λ v. if v then Some q else pledge_from (k + 1) ps (k + suc i)) past) ∙ is in
     ap (λ qs. q ∷ qs) (take_pledge (k + 1) ps i p rest)
 
 -- the first with a text is the one that has it, where no text stands twice
-apart_at : (t : List ℕ) (k : ℕ) (ps : List PledgeValue) (n : ℕ) (p : PledgeValue) → list_any (is_same_text t) (references_of ps) ≡ false → pledge_from k ps n ≡ Some p → is_same_text t p.agreement.opening.reference ≡ false
+apart_at : (t : List ℕ) (k : ℕ) (ps : List PledgeValue) (n : ℕ) (p : PledgeValue) → list_any (is_same_text t) (references_of ps) ≡ false
+    → pledge_from k ps n ≡ Some p → is_same_text t p.agreement.opening.reference ≡ false
 apart_at t k [] n p none is = absurd_none is
 apart_at t k (q ∷ ps) n p none is =
     elim (n == k) as (λ v. (if v then Some q else pledge_from (k + 1) ps n) ≡ Some p → is_same_text t p.agreement.opening.reference ≡ false) [
-      | true ↦ λ here. subst (λ (r : PledgeValue). is_same_text t r.agreement.opening.reference ≡ false) (some_is q p here) (neither (is_same_text t q.agreement.opening.reference) (list_any (is_same_text t) (references_of ps)) none).0
-      | false ↦ λ past. apart_at t (k + 1) ps n p (neither (is_same_text t q.agreement.opening.reference) (list_any (is_same_text t) (references_of ps)) none).1 past
-    ] is
-  where
-    neither : (a b : Bool) → (a || b) ≡ false → (a ≡ false) × (b ≡ false)
-    neither true b is = cc is
-    neither false b is = (refl, is)
+      | true ↦ λ here. subst (λ (r : PledgeValue). is_same_text t r.agreement.opening.reference ≡ false) (some_is q p here)
+          (neither (is_same_text t q.agreement.opening.reference) (list_any (is_same_text t) (references_of ps)) none).0
+      | false ↦
+          λ past. apart_at t (k + 1) ps n p (neither (is_same_text t q.agreement.opening.reference) (list_any (is_same_text t) (references_of ps)) none).1 past
+    ] is where
+      neither : (a b : Bool) → (a || b) ≡ false → (a ≡ false) × (b ≡ false)
+      neither true b is = cc is
+      neither false b is = (refl, is)
 
-pub first_is : (k : ℕ) (ps : List PledgeValue) (n : ℕ) (p : PledgeValue) → AreDistinct (references_of ps) → pledge_from k ps n ≡ Some p → with_reference ps p.agreement.opening.reference ≡ Some p
+pub first_is : (k : ℕ) (ps : List PledgeValue) (n : ℕ) (p : PledgeValue) → AreDistinct (references_of ps) → pledge_from k ps n ≡ Some p
+    → with_reference ps p.agreement.opening.reference ≡ Some p
 first_is k [] n p all is = absurd_none is
 first_is k (q ∷ ps) n p all is =
     elim (n == k) as (λ v. (if v then Some q else pledge_from (k + 1) ps n) ≡ Some p → with_reference (q ∷ ps) p.agreement.opening.reference ≡ Some p) [
@@ -69,17 +79,19 @@ first_is k (q ∷ ps) n p all is =
           let same : q ≡ p = some_is q p here in
           subst (λ (r : PledgeValue). with_reference (q ∷ ps) r.agreement.opening.reference ≡ Some r) same
           (ap (λ v. if v then Some q else with_reference ps q.agreement.opening.reference) (text_same q.agreement.opening.reference))
-      | false ↦ λ past.
-          ap (λ v. if v then Some q else with_reference ps p.agreement.opening.reference) (apart_at q.agreement.opening.reference (k + 1) ps n p all.0 past) ∙ first_is (k + 1) ps n p all.1 past
+      | false ↦ λ past. ap (λ v. if v then Some q else with_reference ps p.agreement.opening.reference)
+          (apart_at q.agreement.opening.reference (k + 1) ps n p all.0 past) ∙ first_is (k + 1) ps n p all.1 past
     ] is
 
 -- no pledge of a front has a text that the first later one has
-pub none_before : (k : ℕ) (front rest : List PledgeValue) (t : List ℕ) (q : PledgeValue) → AreNumberedFrom k front → with_reference (front ++ rest) t ≡ Some q → k + length front ≤ q.agreement.number
-    → with_reference front t ≡ None
+pub none_before : (k : ℕ) (front rest : List PledgeValue) (t : List ℕ) (q : PledgeValue) → AreNumberedFrom k front → with_reference (front ++ rest) t ≡ Some q
+    → k + length front ≤ q.agreement.number → with_reference front t ≡ None
 none_before k [] rest t q all is far = refl
 none_before k (p ∷ front) rest t q all is far =
-    elim (is_same_text p.agreement.opening.reference t) as (λ v. (if v then Some p else with_reference (front ++ rest) t) ≡ Some q → (if v then Some p else with_reference front t) ≡ None) [
-      | true ↦ λ here. let own : q.agreement.number ≡ k = ap (λ (r : PledgeValue). r.agreement.number) (sym (some_is p q here)) ∙ all.0 in absurd (omega (arith, own, far))
+    elim (is_same_text p.agreement.opening.reference t) as
+    (λ v. (if v then Some p else with_reference (front ++ rest) t) ≡ Some q → (if v then Some p else with_reference front t) ≡ None) [
+      | true ↦ λ here. let own : q.agreement.number ≡ k = ap (λ (r : PledgeValue). r.agreement.number) (sym (some_is p q here))
+          ∙ all.0 in absurd (omega (arith, own, far))
       | false ↦ λ past. none_before (k + 1) front rest t q all.1 past (omega (arith, far))
     ] is
 
@@ -87,7 +99,8 @@ numbered_push : (k : ℕ) (ps : List PledgeValue) (p : PledgeValue) → AreNumbe
 numbered_push k [] p all is = (omega (arith, is), tt)
 numbered_push k (q ∷ ps) p all is = (all.0, numbered_push (k + 1) ps p all.1 (omega (arith, is)))
 
-falls_push : (n : ℕ) (ps : List PledgeValue) (p : PledgeValue) → DoNotFall version_of n ps → last_by version_of n ps ≤ version_of p → DoNotFall version_of n (ps ++ p ∷ [])
+falls_push : (n : ℕ) (ps : List PledgeValue) (p : PledgeValue) → DoNotFall version_of n ps → last_by version_of n ps ≤ version_of p
+    → DoNotFall version_of n (ps ++ p ∷ [])
 falls_push n [] p all low = (low, tt)
 falls_push n (q ∷ ps) p all low = (all.0, falls_push (version_of q) ps p all.1 low)
 
@@ -107,18 +120,21 @@ take_drop [] (suc i) = ([], refl)
 take_drop (p ∷ ps) zero = (p ∷ ps, refl)
 take_drop (p ∷ ps) (suc i) = let more = take_drop ps i in (more.0, ap (λ qs. p ∷ qs) more.1)
 
-number_is : (o : Option PledgeValue) (n : ℕ) → option_map (λ (p : PledgeValue). p.agreement.number) o ≡ Some n → (q : PledgeValue) × (o ≡ Some q) × (q.agreement.number ≡ n)
+number_is : (o : Option PledgeValue) (n : ℕ) → option_map (λ (p : PledgeValue). p.agreement.number) o ≡ Some n
+    → (q : PledgeValue) × (o ≡ Some q) × (q.agreement.number ≡ n)
 number_is None n is = absurd_none is
 number_is (Some q) n is = (q, refl, some_is _ _ is)
 
-pub front_more : (k : BookValue) (i : ℕ) (version rows next more : ℕ) (p : PledgeValue) → i < length k.pledges → pledge_from 1 k.pledges (1 + i) ≡ Some p → FitsAt k (1 + i) p
-    → version ≤ next → next ≡ version_of p → more ≡ pledge_rows p → IsFront k (take i k.pledges) version rows → IsFront k (take (i + 1) k.pledges) next (rows + more)
+pub front_more : (k : BookValue) (i : ℕ) (version rows next more : ℕ) (p : PledgeValue) → i < length k.pledges → pledge_from 1 k.pledges (1 + i) ≡ Some p
+    → FitsAt k (1 + i) p → version ≤ next → next ≡ version_of p → more ≡ pledge_rows p → IsFront k (take i k.pledges) version rows
+    → IsFront k (take (i + 1) k.pledges) next (rows + more)
 front_more k i version rows next more p less at fits rise is few front =
     let long = length_take k.pledges i (omega (arith, less)) in
     let one_more : i + 1 ≡ suc i = omega arith in
     let rest = take_drop k.pledges i in
     let first = number_is (with_reference k.pledges p.agreement.opening.reference) (1 + i) fits.reference in
-    let found : with_reference (take i k.pledges ++ rest.0) p.agreement.opening.reference ≡ Some first.0 = ap (λ qs. with_reference qs p.agreement.opening.reference) rest.1 ∙ first.1 in
+    let found : with_reference (take i k.pledges ++ rest.0) p.agreement.opening.reference ≡ Some first.0 =
+    ap (λ qs. with_reference qs p.agreement.opening.reference) rest.1 ∙ first.1 in
     let far : 1 + length (take i k.pledges) ≤ first.0.agreement.number = omega (arith, long, first.2) in
     let none = none_before 1 (take i k.pledges) rest.0 p.agreement.opening.reference first.0 front.numbered found far in
     subst (λ qs. IsFront k qs next (rows + more)) (sym (ap (λ n. take n k.pledges) one_more ∙ take_pledge 1 k.pledges i p at)) (record {
@@ -139,7 +155,8 @@ pub front_next : (k : BookValue) (i n : ℕ) (version rows next more : ℕ) → 
 front_next k i n version rows next more less at found front =
     let same : n ≡ 1 + i = omega (arith, at) in
     let p = found.0 in
-    front_more k i version rows next more p less (subst (λ (m : ℕ). pledge_from 1 k.pledges m ≡ Some p) same found.1) (subst (λ (m : ℕ). FitsAt k m p) same found.2)
+    front_more k i version rows next more p less (subst (λ (m : ℕ). pledge_from 1 k.pledges m ≡ Some p) same found.1)
+    (subst (λ (m : ℕ). FitsAt k m p) same found.2)
     found.3 found.4 found.5 front
 
 pub front_all : (k : BookValue) (i version rows : ℕ) → i ≡ length k.pledges → IsFront k (take i k.pledges) version rows → IsFront k k.pledges version rows
@@ -147,7 +164,8 @@ front_all k i version rows all front = subst (λ qs. IsFront k qs version rows) 
 
 -- ---- the pledges of sound books
 
-falls_at : (n k : ℕ) (ps : List PledgeValue) (i : ℕ) (p : PledgeValue) → DoNotFall version_of n ps → pledge_from k ps (k + i) ≡ Some p → last_by version_of n (take i ps) ≤ version_of p
+falls_at : (n k : ℕ) (ps : List PledgeValue) (i : ℕ) (p : PledgeValue) → DoNotFall version_of n ps → pledge_from k ps (k + i) ≡ Some p
+    → last_by version_of n (take i ps) ≤ version_of p
 falls_at n k [] i p all is = absurd_none is
 falls_at n k (q ∷ ps) zero p all is =
     let here : (k + 0 == k) ≡ true = grind (arith, nat_tests) in
@@ -156,10 +174,12 @@ falls_at n k (q ∷ ps) zero p all is =
 falls_at n k (q ∷ ps) (suc i) p all is =
     let past : (k + suc i == k) ≡ false = grind (arith, nat_tests) in
     let next : k + suc i ≡ (k + 1) + i = omega arith in
-    let rest : pledge_from (k + 1) ps ((k + 1) + i) ≡ Some p = ap (pledge_from (k + 1) ps) (sym next) ∙ sym (ap (λ v. if v then Some q else pledge_from (k + 1) ps (k + suc i)) past) ∙ is in
+    let rest : pledge_from (k + 1) ps ((k + 1) + i) ≡ Some p = ap (pledge_from (k + 1) ps) (sym next)
+    ∙ sym (ap (λ v. if v then Some q else pledge_from (k + 1) ps (k + suc i)) past) ∙ is in
     falls_at (version_of q) (k + 1) ps i p all.1 rest
 
-pub sound_versions : (k : BookValue) (i : ℕ) (p : PledgeValue) → IsSoundBook k → pledge_from 1 k.pledges (1 + i) ≡ Some p → last_by version_of 0 (take i k.pledges) ≤ version_of p
+pub sound_versions : (k : BookValue) (i : ℕ) (p : PledgeValue) → IsSoundBook k → pledge_from 1 k.pledges (1 + i) ≡ Some p
+    → last_by version_of 0 (take i k.pledges) ≤ version_of p
 sound_versions k i p sound is = falls_at 0 1 k.pledges i p sound.rows.versions is
 
 pub sound_fits : (k : BookValue) (n : ℕ) (p : PledgeValue) → IsSoundBook k → pledge_from 1 k.pledges n ≡ Some p → FitsAt k n p
@@ -168,7 +188,8 @@ sound_fits k n p sound is =
       number = number;
       standing = each_at IsStanding 1 k.pledges n p sound.rows.standing is;
       under = each_at (IsUnder k.terms) 1 k.pledges n p sound.rows.under is;
-      reference = ap (λ (o : Option PledgeValue). option_map (λ (q : PledgeValue). q.agreement.number) o) (first_is 1 k.pledges n p sound.rows.references is) ∙ ap (λ m. Some m) number;
+      reference = ap (λ (o : Option PledgeValue). option_map (λ (q : PledgeValue). q.agreement.number) o) (first_is 1 k.pledges n p sound.rows.references is)
+          ∙ ap (λ m. Some m) number;
       written = each_at HasTextsAndWords 1 k.pledges n p sound.written is;
     }
 
@@ -188,12 +209,13 @@ pub unsound_at : (h : Host) (b : ℕ) (k : BookValue) → get h.books b ≡ Some
 unsound_at h b k is refuted = (b, (k, is, λ sound. refuted sound.1))
 
 -- a pledge that does not fit
-pub unfit_at : (h : Host) (b n : ℕ) (k : BookValue) (p : PledgeValue) → get h.books b ≡ Some k → pledge_from 1 k.pledges n ≡ Some p → (FitsAt k n p → ⊥) → HasUnsoundBook h
+pub unfit_at : (h : Host) (b n : ℕ) (k : BookValue) (p : PledgeValue) → get h.books b ≡ Some k → pledge_from 1 k.pledges n ≡ Some p → (FitsAt k n p → ⊥)
+    → HasUnsoundBook h
 unfit_at h b n k p is at unfit = unsound_at h b k is (λ sound. unfit (sound_fits k n p sound at))
 
 -- one under an earlier version than the one before it
-pub falls_below : (h : Host) (b place n version : ℕ) (k : BookValue) (p : PledgeValue) → get h.books b ≡ Some k → n ≡ place + 1 → pledge_from 1 k.pledges n ≡ Some p
-    → version ≡ last_by version_of 0 (take place k.pledges) → version_of p < version → HasUnsoundBook h
+pub falls_below : (h : Host) (b place n version : ℕ) (k : BookValue) (p : PledgeValue) → get h.books b ≡ Some k → n ≡ place + 1
+    → pledge_from 1 k.pledges n ≡ Some p → version ≡ last_by version_of 0 (take place k.pledges) → version_of p < version → HasUnsoundBook h
 falls_below h b place n version k p is next at last falls =
     unsound_at h b k is (λ sound.
     let same : n ≡ 1 + place = omega (arith, next) in
@@ -208,8 +230,8 @@ both_ways false holds not' = cc holds
 
 -- ---- the terms of a book that stands
 
-pub next_checked : (h : Host) (b i : ℕ) (k : BookValue) (t : Rates) → get h.books b ≡ Some k → Some t ≡ terms_at (terms_of (get h.books b)) (i + 1) → IsChecked t → Each {X = Rates} IsChecked (take i k.terms)
-    → Each {X = Rates} IsChecked (take (i + 1) k.terms)
+pub next_checked : (h : Host) (b i : ℕ) (k : BookValue) (t : Rates) → get h.books b ≡ Some k → Some t ≡ terms_at (terms_of (get h.books b)) (i + 1)
+    → IsChecked t → Each {X = Rates} IsChecked (take i k.terms) → Each {X = Rates} IsChecked (take (i + 1) k.terms)
 next_checked h b i k t is at checked all = checked_more k.terms i t (ap (λ o. terms_at (terms_of o) (i + 1)) (sym is) ∙ sym at) checked all
 
 pub all_checked : (k : BookValue) (i : ℕ) → i ≡ length k.terms → Each {X = Rates} IsChecked (take i k.terms) → Each {X = Rates} IsChecked k.terms
@@ -218,7 +240,8 @@ all_checked k i all each = subst (Each {X = Rates} IsChecked) (take_each k.terms
 -- ---- a whole book
 
 module _ (k : BookValue) (head : BookHead) (is : head ≡ book_head k) (rows : ℕ) where
-  pub sound_book : IsWord head.key → IfSome head.imported (λ i. IsWord i.key) → IsUtf8 head.name → IsText most_name_bytes head.name → IsCapacity head.capacity → head.terms ≤ most_terms → head.pledges ≤ most_pledges
+  pub sound_book : IsWord head.key → IfSome head.imported (λ i. IsWord i.key) → IsUtf8 head.name → IsText most_name_bytes head.name → IsCapacity head.capacity
+      → head.terms ≤ most_terms → head.pledges ≤ most_pledges
       → Each {X = Rates} IsChecked k.terms → ((version : ℕ) × IsFront k k.pledges version rows) → IsSoundBook k
   sound_book key imported utf8 name capacity few_terms few_pledges checked front = record {
     key = subst (λ (x : BookHead). IsWord x.key) is key;

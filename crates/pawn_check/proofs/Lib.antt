@@ -1,3 +1,2 @@
-pub mod Basics
 pub mod Fronts
 pub mod Meeting

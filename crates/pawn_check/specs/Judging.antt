@@ -1,13 +1,11 @@
 -- What the result of a check says of a host.
-use Rattle.std.specs.Prelude.{◌≡◌, ℕ, List, length, Result, Ok, Err, sum_by, IsErrOf, Some}
-use Rattle.pawn_check.specs.Common.{AreDistinct, AreNumberedFrom, AreSound, BookValue, DoNotFall, Each, HasTextsAndWords, HasUnsoundBook, Host, IsSoundAt, IsStanding, IsUnder, Keeping, PledgeValue, book_rows, entries, get, last_by, number_of, pledge_rows, references_of, rows, version_of}
-use Rattle.pawn_book.specs.declared.fault.KeepError.{KeepError}
+use Rattle.std.specs.{Prelude.{◌≡◌, ℕ, List, length, Result, Ok, Err, sum_by, IsErrOf, Some}, FinMap.{entries, get}}
+use Rattle.pawn_book.specs.{Rows.{AreDistinct, AreNumberedFrom, IsUnder, references_of, version_of}, Sound.{AreSound, HasTextsAndWords, HasUnsoundBook}}
+use Rattle.pawn_book.specs.{Sound.IsSoundAt, BookStep.BookValue, HostStep.{Host, book_rows, pledge_rows, rows}, Keeping.{Keeping, number_of}}
+use Rattle.{pawn_book.specs.declared.fault.{KeepError.KeepError, StoreFault.TheVariants.{NoRecord, Database}}, pawn_base.specs.Lists.{DoNotFall, Each, last_by}}
+use Rattle.{pawn_pledge.specs.{Replayable.IsStanding, Pledge.PledgeValue}, pawn_check.specs.declared.counts.{Counts.Counts, BookCounts.BookCounts}}
+use Rattle.pawn_check.specs.declared.fault.CheckFault.{CheckFault, TheVariants.{Damaged, Memory, Store}}
 use Rattle.pawn_book.specs.declared.fault.KeepError.TheVariants as Keeper
-use Rattle.pawn_book.specs.declared.fault.StoreFault.TheVariants.{NoRecord, Database}
-use Rattle.pawn_check.specs.declared.counts.Counts.{Counts}
-use Rattle.pawn_check.specs.declared.counts.BookCounts.{BookCounts}
-use Rattle.pawn_check.specs.declared.fault.CheckFault.{CheckFault}
-use Rattle.pawn_check.specs.declared.fault.CheckFault.TheVariants.{Damaged, Memory, Store}
 
 -- a keeper's error as a fault of a check: a row that is no record is damage
 abbrev pub check_fault_of : KeepError → CheckFault

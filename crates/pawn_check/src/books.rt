@@ -1,6 +1,7 @@
 //! The books of a store, judged one after the other.
-ghost use Rattle.std.specs.Prelude.{◌≡◌, ◌≤◌, IfOk, IfSome, Some, length, unwrap_or};
-ghost use Rattle.pawn_check.specs.Common.{BookValue, Each, IsCapacity, IsChecked, IsNextBook, IsText, IsUtf8, IsWord, Reads, book_head, get, most_name_bytes, most_pledges, rows, terms_at, terms_of};
+ghost use Rattle.std.specs.{Prelude.{◌≡◌, ◌≤◌, IfOk, IfSome, Some, length, unwrap_or}, Str.IsUtf8, FinMap.get};
+ghost use Rattle.pawn_book.specs.{BookStep.{BookValue, book_head}, Limits.{IsCapacity, most_name_bytes, most_pledges}, Keeping.{IsNextBook, Reads, terms_of}};
+ghost use Rattle.{pawn_book.specs.{Sound.IsWord, HostStep.rows, Rows.terms_at}, pawn_base.specs.{Lists.Each, Text.IsText}, pawn_terms.specs.Terms.IsChecked};
 ghost use Rattle.pawn_check.specs.Judging.{FindsSound, IsQuietCheck, Judges, JudgesBook};
 
 use crate::counts::{BookCounts, Counts};
@@ -30,8 +31,7 @@ fn terms_under<K: Keep>(
     book: Number,
     version: u64,
 ) -> Result<Option<Terms>, CheckFault>
-    ensures reads { Reads K.keeping keep.old keep.new
-        (λ h. FindsSound h result (λ terms. terms ≡ terms_at (terms_of (get h.books book)) version)) }
+    ensures reads { Reads K.keeping keep.old keep.new (λ h. FindsSound h result (λ terms. terms ≡ terms_at (terms_of (get h.books book)) version)) }
     ensures quiet { IsQuietCheck K.keeping keep.old result }
 {
     Ok(keep.terms(book, version)?)
@@ -40,8 +40,7 @@ fn terms_under<K: Keep>(
 // Checks that a book has its versions of terms 1 to `count`, each within the limits.
 fn find_terms<K: Keep>(keep: &mut K, book: Number, count: u64) -> Result<(), CheckFault>
     ensures reads { Reads K.keeping keep.old keep.new
-        (λ h. (k : BookValue) → get h.books book ≡ Some k → count ≡ length k.terms → FindsSound h result
-        (λ _. Each IsChecked k.terms)) }
+        (λ h. (k : BookValue) → get h.books book ≡ Some k → count ≡ length k.terms → FindsSound h result (λ _. Each IsChecked k.terms)) }
     ensures quiet { IsQuietCheck K.keeping keep.old result }
 {
     for version in 0..count {
@@ -55,9 +54,7 @@ fn find_terms<K: Keep>(keep: &mut K, book: Number, count: u64) -> Result<(), Che
 
 // The head of a book that the keeper has listed. It is `Damaged` if there is none.
 fn head_of<K: Keep>(keep: &mut K, book: Number) -> Result<BookHead, CheckFault>
-    ensures reads { Reads K.keeping keep.old keep.new
-        (λ h. (k : BookValue) → get h.books book ≡ Some k → FindsSound h result
-        (λ head. head ≡ book_head k)) }
+    ensures reads { Reads K.keeping keep.old keep.new (λ h. (k : BookValue) → get h.books book ≡ Some k → FindsSound h result (λ head. head ≡ book_head k)) }
     ensures quiet { IsQuietCheck K.keeping keep.old result }
 {
     match keep.book_head(book)? {
@@ -88,8 +85,7 @@ fn book_counts<K: Keep>(keep: &mut K, book: Number) -> Result<BookCounts, CheckF
 
 // The next book with a number above `after`, if there is one.
 fn book_after<K: Keep>(keep: &mut K, after: Option<Number>) -> Result<Option<Number>, CheckFault>
-    ensures reads { Reads K.keeping keep.old keep.new
-        (λ h. FindsSound h result (λ next. IsNextBook h (unwrap_or after 0) next)) }
+    ensures reads { Reads K.keeping keep.old keep.new (λ h. FindsSound h result (λ next. IsNextBook h (unwrap_or after 0) next)) }
     ensures quiet { IsQuietCheck K.keeping keep.old result }
 {
     Ok(keep.next_book(after)?)
@@ -97,8 +93,7 @@ fn book_after<K: Keep>(keep: &mut K, after: Option<Number>) -> Result<Option<Num
 
 // How many counted rows all books have, as the keeper says.
 fn rows_of<K: Keep>(keep: &mut K) -> Result<u64, CheckFault>
-    ensures reads { Reads K.keeping keep.old keep.new
-        (λ h. FindsSound h result (λ count. count ≡ rows h)) }
+    ensures reads { Reads K.keeping keep.old keep.new (λ h. FindsSound h result (λ count. count ≡ rows h)) }
     ensures quiet { IsQuietCheck K.keeping keep.old result }
 {
     Ok(keep.rows()?)

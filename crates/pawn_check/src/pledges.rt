@@ -1,6 +1,7 @@
 //! The pledges of a book, judged one after the other.
-ghost use Rattle.std.specs.Prelude.{◌≡◌, ◌≤◌, ◌+◌, ◌*◌, ◌↔◌, ℕ, Some, IsTrue, IfOk, length, take};
-ghost use Rattle.pawn_check.specs.Common.{BookValue, IsStanding, IsUnder, PledgeValue, Reads, get, last_by, most_pledges, number_of, pledge_from, pledge_rows, version_of};
+ghost use Rattle.std.specs.{Prelude.{◌≡◌, ◌≤◌, ◌+◌, ◌*◌, ◌↔◌, ℕ, Some, IsTrue, IfOk, length, take}, FinMap.get};
+ghost use Rattle.pawn_book.specs.{BookStep.{BookValue, pledge_from}, Rows.{IsUnder, version_of}, Keeping.{Reads, number_of}, Limits.most_pledges};
+ghost use Rattle.{pawn_book.specs.HostStep.pledge_rows, pawn_pledge.specs.{Replayable.IsStanding, Pledge.PledgeValue}, pawn_base.specs.Lists.last_by};
 ghost use Rattle.pawn_check.specs.Judging.{FindsSound, FitsAt, IsFront, IsQuietCheck};
 
 use crate::fault::CheckFault;
@@ -29,8 +30,7 @@ fn rows_of(parts: &Parts) -> u64
 
 // The parts of the pledge of this number. It is `Damaged` if there is none.
 fn parts_of<K: Keep>(keep: &mut K, book: Number, number: Number) -> Result<Parts, CheckFault>
-    ensures reads { Reads K.keeping keep.old keep.new
-        (λ h. (k : BookValue) → get h.books book ≡ Some k → number ≤ length k.pledges
+    ensures reads { Reads K.keeping keep.old keep.new (λ h. (k : BookValue) → get h.books book ≡ Some k → number ≤ length k.pledges
         → FindsSound h result (λ parts. pledge_from 1 k.pledges number ≡ Some parts)) }
     ensures quiet { IsQuietCheck K.keeping keep.old result }
 {
@@ -47,8 +47,7 @@ fn parts_of<K: Keep>(keep: &mut K, book: Number, number: Number) -> Result<Parts
 // Whether the book's terms of the pledge's version are those that the pledge has.
 fn is_under<K: Keep>(keep: &mut K, book: Number, parts: &Parts) -> Result<bool, CheckFault>
     ensures reads { Reads K.keeping keep.old keep.new
-        (λ h. (k : BookValue) → get h.books book ≡ Some k → FindsSound h result
-        (λ under. IsTrue under ↔ IsUnder k.terms parts.now)) }
+        (λ h. (k : BookValue) → get h.books book ≡ Some k → FindsSound h result (λ under. IsTrue under ↔ IsUnder k.terms parts.now)) }
     ensures quiet { IsQuietCheck K.keeping keep.old result }
 {
     match keep.terms(book, parts.agreement.version)? {
@@ -65,8 +64,7 @@ fn is_first<K: Keep>(
     reference: &Reference,
 ) -> Result<bool, CheckFault>
     ensures reads { Reads K.keeping keep.old keep.new
-        (λ h. (k : BookValue) → get h.books book ≡ Some k → FindsSound h result
-        (λ first. IsTrue first ↔ (number_of (Some k) reference.now ≡ Some number))) }
+        (λ h. (k : BookValue) → get h.books book ≡ Some k → FindsSound h result (λ first. IsTrue first ↔ (number_of (Some k) reference.now ≡ Some number))) }
     ensures quiet { IsQuietCheck K.keeping keep.old result }
 {
     match keep.find_ref(book, reference)? {
@@ -83,12 +81,9 @@ fn next_step<K: Keep>(
     number: Number,
     version: u64,
 ) -> Result<Step, CheckFault>
-    ensures reads { Reads K.keeping keep.old keep.new
-        (λ h. (k : BookValue) (place : ℕ) → get h.books book ≡ Some k → number ≡ place + 1
-        → number ≤ length k.pledges → version ≡ last_by version_of 0 (take place k.pledges)
-        → FindsSound h result
-        (λ step. (p : PledgeValue) × (pledge_from 1 k.pledges number ≡ Some p) × FitsAt k number p
-        × (version ≤ step.version) × (step.version ≡ version_of p) × (step.rows ≡ pledge_rows p))) }
+    ensures reads { Reads K.keeping keep.old keep.new (λ h. (k : BookValue) (place : ℕ) → get h.books book ≡ Some k → number ≡ place + 1
+        → number ≤ length k.pledges → version ≡ last_by version_of 0 (take place k.pledges) → FindsSound h result (λ step. (p : PledgeValue) × (pledge_from 1
+        k.pledges number ≡ Some p) × FitsAt k number p × (version ≤ step.version) × (step.version ≡ version_of p) × (step.rows ≡ pledge_rows p))) }
     ensures few { IfOk result (λ step. step.rows ≤ 10102) }
     ensures quiet { IsQuietCheck K.keeping keep.old result }
 {
@@ -117,8 +112,7 @@ pub(crate) fn pledges_rows<K: Keep>(
     count: u64,
 ) -> Result<u64, CheckFault>
     requires few { count ≤ most_pledges }
-    ensures reads { Reads K.keeping keep.old keep.new
-        (λ h. (k : BookValue) → get h.books book ≡ Some k → count ≡ length k.pledges
+    ensures reads { Reads K.keeping keep.old keep.new (λ h. (k : BookValue) → get h.books book ≡ Some k → count ≡ length k.pledges
         → FindsSound h result (λ rows. (version : ℕ) × IsFront k k.pledges version rows)) }
     ensures few { IfOk result (λ rows. rows ≤ count * 10102) }
     ensures quiet { IsQuietCheck K.keeping keep.old result }

@@ -1,5 +1,11 @@
 -- Rows that were taken to their end are those of the book.
-use Rattle.pawn_csv.proofs.Basics.{◌≡◌, ◌∙◌, ◌+◌, ℕ, Bool, true, false, List, [], ◌∷◌, ◌++◌, length, map, Option, Some, None, Result, Ok, Err, refl, sym, ap, subst, append_assoc, arith, cond, nat_lt, nat_le, ◌==◌, ◌&&◌, ◌||◌, IfOk, IfSome, AreRecords, BookRows, Each, PledgeValue, Rates, default_config, flat_map, most_pledges, most_terms, strip_bom, Each-push, and_parts, append-nil, nat_tests, AreTaken, Begun, Cause, FitsColumns, IsFinishedAs, IsHeldBy, IsReadAs, IsTextOf, Knows, PledgeColumns, RawPledge, Row, Version, hand, header, is_whole, may_end, on_hand, on_second, place, place_booking, place_entry, place_extension, place_pledge, place_secret, place_terms, pledge_csv_rows, pledges_begun, put_hand, raw_of, raw_pledge, raw_rows, row_fields, rows_of_csv, run, terms_rows, then_run, version_rows, State}
+use Rattle.pawn_csv.proofs.Basics.{◌≡◌, ◌∙◌, ◌+◌, ℕ, Bool, true, false, List, [], ◌∷◌, ◌++◌, length, map, Option, Some, None, Result, Ok, Err, refl, sym, ap}
+use Rattle.pawn_csv.proofs.Basics.{subst, append_assoc, arith, cond, nat_lt, nat_le, ◌==◌, ◌&&◌, ◌||◌, IfOk, IfSome, Each-push, and_parts, append-nil}
+use Rattle.pawn_csv.{proofs.Basics.nat_tests, specs.Common.{AreRecords, BookRows, Each, PledgeValue, Rates, default_config, flat_map, most_pledges, most_terms}}
+use Rattle.pawn_csv.specs.{Common.{strip_bom, State}, Reading.{AreTaken, IsHeldBy, IsReadAs, IsTextOf}, Order.{Begun, hand, is_whole, may_end, on_hand}}
+use Rattle.pawn_csv.specs.Order.{on_second, place, place_booking, place_entry, place_extension, place_pledge, place_secret, place_terms, pledges_begun}
+use Rattle.pawn_csv.specs.{Order.{put_hand, raw_pledge, run, then_run}, Types.{Cause, PledgeColumns, RawPledge, Row, Version}, Rows.{FitsColumns, Knows}}
+use Rattle.pawn_csv.specs.{Rows.{header, pledge_csv_rows, row_fields, rows_of_csv, terms_rows, version_rows}, Finishing.{IsFinishedAs, raw_of}, Layout.raw_rows}
 use Rattle.pawn_csv.proofs.OrderLemmas.{Shows, booking_shown, entry_shown, extension_shown, guard_err, guard_ok, ok_same, secret_shown}
 
 -- the rows that were taken
@@ -42,14 +48,12 @@ each_last (x ∷ ps) p q h f = (h.0, each_last ps p q h.1 f)
 -- a row that the pledge at hand takes
 hand_shown : (first : Row) (ts : List Row) (ps : List RawPledge) (p q : RawPledge) (row : Row) → Shows p q row
     → first ∷ (ts ++ flat_map raw_rows (ps ++ q ∷ [])) ≡ (first ∷ (ts ++ flat_map raw_rows (ps ++ p ∷ []))) ++ row ∷ []
-hand_shown first ts ps p q row shows =
-    ap (λ (rs : List Row). first ∷ (ts ++ rs))
-    (flat_map-push ps q ∙ ap (λ (rs : List Row). flat_map raw_rows ps ++ rs) shows ∙ sym (append_assoc (flat_map raw_rows ps) (raw_rows p) (row ∷ []))
-    ∙ ap (λ (rs : List Row). rs ++ row ∷ []) (sym (flat_map-push ps p)))
+hand_shown first ts ps p q row shows = ap (λ (rs : List Row). first ∷ (ts ++ rs)) (flat_map-push ps q ∙ ap (λ (rs : List Row). flat_map raw_rows ps ++ rs) shows
+    ∙ sym (append_assoc (flat_map raw_rows ps) (raw_rows p) (row ∷ [])) ∙ ap (λ (rs : List Row). rs ++ row ∷ []) (sym (flat_map-push ps p)))
     ∙ ap (λ (rs : List Row). first ∷ rs) (sym (append_assoc ts (flat_map raw_rows (ps ++ p ∷ [])) (row ∷ [])))
 
-hand_grows : (b : Begun) (p q : RawPledge) (row : Row) → b.at_hand ≡ Some p → Shows p q row → (b.version ≡ Version.One → HasNone p → HasNone q) → IsPlain (Some b)
-    → Grows (Some b) row (record b { at_hand = Some q })
+hand_grows : (b : Begun) (p q : RawPledge) (row : Row) → b.at_hand ≡ Some p → Shows p q row → (b.version ≡ Version.One → HasNone p → HasNone q)
+    → IsPlain (Some b) → Grows (Some b) row (record b { at_hand = Some q })
 hand_grows b p q row at shows none plain =
     let first = Row.Book b.version b.terms_due b.pledges_due in (
       hand_shown first (terms_rows 1 b.terms) b.pledges p q row shows
@@ -57,8 +61,10 @@ hand_grows b p q row at shows none plain =
       λ one. each_last b.pledges p q (subst (λ (o : Option RawPledge). Each HasNone (b.pledges ++ hand o)) at (plain one)) (none one),
     )
 
-on_hand_grows : (b c : Begun) (number : ℕ) (o : Option RawPledge) (f : RawPledge → Result RawPledge Cause) (row : Row) → b.at_hand ≡ o → on_hand b number o f ≡ Ok c
-    → ((p q : RawPledge) → p.columns.number ≡ number → f p ≡ Ok q → Shows p q row × (b.version ≡ Version.One → HasNone p → HasNone q)) → IsPlain (Some b) → Grows (Some b) row c
+on_hand_grows : (b c : Begun) (number : ℕ) (o : Option RawPledge) (f : RawPledge → Result RawPledge Cause) (row : Row) → b.at_hand ≡ o
+    → on_hand b number o f ≡ Ok c
+    → ((p q : RawPledge) → p.columns.number ≡ number → f p ≡ Ok q → Shows p q row × (b.version ≡ Version.One → HasNone p → HasNone q)) → IsPlain (Some b)
+    → Grows (Some b) row c
 on_hand_grows b c number None f row at h step plain = cc
 on_hand_grows b c number (Some p) f row at h step plain =
     let guard = guard_then (p.columns.number == number) (put_hand b (f p)) c Cause.Order h in
@@ -70,10 +76,12 @@ on_hand_grows b c number (Some p) f row at h step plain =
     ] refl guard.1
 
 secret_keeps : (p q : RawPledge) (at : ℕ) (x : _) → place_secret p at x ≡ Ok q → q.extensions ≡ p.extensions
-secret_keeps p q at x h = let g = guard_ok _ (record p { secrets = p.secrets ++ x ∷ [] }) q Cause.Order (guard_err _ _ q Cause.TooMany h) in sym (ap (λ (r : RawPledge). r.extensions) g.1)
+secret_keeps p q at x h = let g = guard_ok _ (record p { secrets = p.secrets ++ x ∷ [] }) q Cause.Order (guard_err _ _ q Cause.TooMany h) in
+    sym (ap (λ (r : RawPledge). r.extensions) g.1)
 
 entry_keeps : (p q : RawPledge) (x : _) → place_entry p x ≡ Ok q → q.extensions ≡ p.extensions
-entry_keeps p q x h = let g = guard_ok _ (record p { entries = p.entries ++ x ∷ [] }) q Cause.Order (guard_err _ _ q Cause.TooMany h) in sym (ap (λ (r : RawPledge). r.extensions) g.1)
+entry_keeps p q x h = let g = guard_ok _ (record p { entries = p.entries ++ x ∷ [] }) q Cause.Order (guard_err _ _ q Cause.TooMany h) in
+    sym (ap (λ (r : RawPledge). r.extensions) g.1)
 
 booking_keeps : (p q : RawPledge) (x : _) → place_booking p x ≡ Ok q → q.extensions ≡ p.extensions
 booking_keeps p q x h = let g = guard_ok _ (record p { booking = Some x }) q Cause.Order h in sym (ap (λ (r : RawPledge). r.extensions) g.1)
@@ -90,8 +98,8 @@ terms_grows b c v x h plain =
     let none : pledges_begun b ≡ [] = none_counted (pledges_begun b) (grind (arith, nat_tests, last)) in
     let head = Row.Book b.version b.terms_due b.pledges_due in
     let rows : shown (Some new) ≡ shown (Some b) ++ Row.Terms v x ∷ [] =
-    ap (λ (ps : List RawPledge). head ∷ (terms_rows 1 (b.terms ++ x ∷ []) ++ flat_map raw_rows ps)) none
-    ∙ ap (λ (rs : List Row). head ∷ rs) (append-nil (terms_rows 1 (b.terms ++ x ∷ [])) ∙ terms_rows-snoc 1 b.terms x ∙ ap (λ (m : ℕ). terms_rows 1 b.terms ++ Row.Terms m x ∷ []) at
+    ap (λ (ps : List RawPledge). head ∷ (terms_rows 1 (b.terms ++ x ∷ []) ++ flat_map raw_rows ps)) none ∙ ap (λ (rs : List Row). head ∷ rs)
+    (append-nil (terms_rows 1 (b.terms ++ x ∷ [])) ∙ terms_rows-snoc 1 b.terms x ∙ ap (λ (m : ℕ). terms_rows 1 b.terms ++ Row.Terms m x ∷ []) at
     ∙ ap (λ (rs : List Row). rs ++ Row.Terms v x ∷ []) (sym (append-nil (terms_rows 1 b.terms))))
     ∙ ap (λ (ps : List RawPledge). (head ∷ (terms_rows 1 b.terms ++ flat_map raw_rows ps)) ++ Row.Terms v x ∷ []) (sym none) in
     subst (λ (d : Begun). Grows (Some b) (Row.Terms v x) d) guard.1 (rows, plain)
@@ -116,23 +124,21 @@ not_one v a b = let e = sym a ∙ b in cc
 -- a row that is taken is shown at the end
 place_grows : (s : Option Begun) (r : Row) (c : Begun) → place s r ≡ Ok c → IsPlain s → Grows s r c
 place_grows None (Row.Book v t p) c h plain =
-    subst (λ (d : Begun). Grows None (Row.Book v t p) d) (ok_same _ c (guard_err (nat_lt most_terms t || nat_lt most_pledges p) _ c Cause.TooMany h)) (refl, λ one. tt)
+    subst (λ (d : Begun). Grows None (Row.Book v t p) d) (ok_same _ c (guard_err (nat_lt most_terms t || nat_lt most_pledges p) _ c Cause.TooMany h))
+    (refl, λ one. tt)
 place_grows None r c h plain = cc
 place_grows (Some b) (Row.Book v t p) c h plain = let e = guard_err (nat_lt most_terms t || nat_lt most_pledges p) _ c Cause.TooMany h in cc
 place_grows (Some b) (Row.Terms v x) c h plain = terms_grows b c v x h plain
 place_grows (Some b) (Row.Pledge x) c h plain = pledge_grows b c x h plain
-place_grows (Some b) (Row.Secret n at x) c h plain =
-    on_hand_grows b c n b.at_hand (λ p. place_secret p at x) (Row.Secret n at x) refl h
+place_grows (Some b) (Row.Secret n at x) c h plain = on_hand_grows b c n b.at_hand (λ p. place_secret p at x) (Row.Secret n at x) refl h
     (λ p q same is. (subst (λ (m : ℕ). Shows p q (Row.Secret m at x)) same (secret_shown p q at x is), λ one none. secret_keeps p q at x is ∙ none)) plain
-place_grows (Some b) (Row.Entry n x) c h plain =
-    on_hand_grows b c n b.at_hand (λ p. place_entry p x) (Row.Entry n x) refl h
+place_grows (Some b) (Row.Entry n x) c h plain = on_hand_grows b c n b.at_hand (λ p. place_entry p x) (Row.Entry n x) refl h
     (λ p q same is. (subst (λ (m : ℕ). Shows p q (Row.Entry m x)) same (entry_shown p q x is), λ one none. entry_keeps p q x is ∙ none)) plain
 place_grows (Some b) (Row.Extension n at x) c h plain =
     let s = second_only b.version _ c h in
-    on_hand_grows b c n b.at_hand (λ p. place_extension p at x) (Row.Extension n at x) refl s.1
-    (λ p q same is. (subst (λ (m : ℕ). Shows p q (Row.Extension m at x)) same (extension_shown p q at x is), λ one none. absurd (not_one b.version s.0 one))) plain
-place_grows (Some b) (Row.Booking n x) c h plain =
-    on_hand_grows b c n b.at_hand (λ p. place_booking p x) (Row.Booking n x) refl h
+    on_hand_grows b c n b.at_hand (λ p. place_extension p at x) (Row.Extension n at x) refl s.1 (λ p q same is.
+    (subst (λ (m : ℕ). Shows p q (Row.Extension m at x)) same (extension_shown p q at x is), λ one none. absurd (not_one b.version s.0 one))) plain
+place_grows (Some b) (Row.Booking n x) c h plain = on_hand_grows b c n b.at_hand (λ p. place_booking p x) (Row.Booking n x) refl h
     (λ p q same is. (subst (λ (m : ℕ). Shows p q (Row.Booking m x)) same (booking_shown p q x is), λ one none. booking_keeps p q x is ∙ none)) plain
 
 pub run_grows : (rows : List Row) (s t : Option Begun) → run s rows ≡ Ok t → IsPlain s → (shown t ≡ shown s ++ rows) × IsPlain t
@@ -163,7 +169,8 @@ knows Version.One k h = h refl
 knows Version.Two k h = tt
 
 -- what is there once all is
-pub whole_counts : (b : Begun) → is_whole (Some b) ≡ true → (b.terms_due ≡ length b.terms) × (b.pledges_due ≡ length (pledges_begun b)) × (may_end b.at_hand ≡ true)
+pub whole_counts : (b : Begun) → is_whole (Some b) ≡ true
+    → (b.terms_due ≡ length b.terms) × (b.pledges_due ≡ length (pledges_begun b)) × (may_end b.at_hand ≡ true)
 whole_counts b whole =
     let w = and_parts ((length b.terms == b.terms_due) && (length (pledges_begun b) == b.pledges_due)) (may_end b.at_hand) whole in
     let u = and_parts (length b.terms == b.terms_due) (length (pledges_begun b) == b.pledges_due) w.0 in
@@ -172,12 +179,13 @@ whole_counts b whole =
     (grind (arith, nat_tests, first), grind (arith, nat_tests, second), w.1)
 
 -- what is shown once all is there
-pub whole_rows : (b : Begun) (k : BookRows) → is_whole (Some b) ≡ true → b.terms ≡ k.terms → pledges_begun b ≡ map raw_of k.pledges → shown (Some b) ≡ rows_of_csv b.version k
+pub whole_rows : (b : Begun) (k : BookRows) → is_whole (Some b) ≡ true → b.terms ≡ k.terms → pledges_begun b ≡ map raw_of k.pledges
+    → shown (Some b) ≡ rows_of_csv b.version k
 whole_rows b k whole terms pledges =
     let (m, n, ended) = whole_counts b whole in
     let count = n ∙ ap (λ (ps : List RawPledge). length ps) pledges ∙ length-raw k.pledges in
-    ap (λ (d : ℕ). Row.Book b.version d b.pledges_due ∷ (terms_rows 1 b.terms ++ flat_map raw_rows (pledges_begun b))) (m ∙ ap (λ (ts : List Rates). length ts) terms)
-    ∙ ap (λ (d : ℕ). Row.Book b.version (length k.terms) d ∷ (terms_rows 1 b.terms ++ flat_map raw_rows (pledges_begun b))) count
+    ap (λ (d : ℕ). Row.Book b.version d b.pledges_due ∷ (terms_rows 1 b.terms ++ flat_map raw_rows (pledges_begun b))) (m ∙ ap (λ (ts : List Rates). length ts)
+    terms) ∙ ap (λ (d : ℕ). Row.Book b.version (length k.terms) d ∷ (terms_rows 1 b.terms ++ flat_map raw_rows (pledges_begun b))) count
     ∙ ap (λ (ts : List Rates). Row.Book b.version (length k.terms) (length k.pledges) ∷ (terms_rows 1 ts ++ flat_map raw_rows (pledges_begun b))) terms
     ∙ ap (λ (rs : List Row). Row.Book b.version (length k.terms) (length k.pledges) ∷ (terms_rows 1 k.terms ++ rs))
     (ap (λ (ps : List RawPledge). flat_map raw_rows ps) pledges ∙ flat_map-raw k.pledges)
@@ -194,7 +202,11 @@ taken_is (h ∷ rs) rows s k taken (b, is, whole, begun, replayable) =
     let same : rows ≡ rows_of_csv b.version k = sym grown.0 ∙ whole_rows b k whole' begun.0 begun.1.0 in (
       b.version,
       ap (λ (x : List (List ℕ)). x ∷ rs) taken.0 ∙ ap (λ (xs : List (List (List ℕ))). header ∷ xs) (taken.1 ∙ ap (λ (xs : List Row). map row_fields xs) same),
-      (replayable, knows b.version k (λ one. none_known k.pledges (subst (λ (ps : List RawPledge). Each HasNone ps) begun.1.0 (grown.1 one))), subst (λ (xs : List Row). Each FitsColumns xs) same taken.2),
+      (
+        replayable,
+        knows b.version k (λ one. none_known k.pledges (subst (λ (ps : List RawPledge). Each HasNone ps) begun.1.0 (grown.1 one))),
+        subst (λ (xs : List Row). Each FitsColumns xs) same taken.2,
+      ),
     )
 
 -- a text that is read as a book is a text of it
@@ -203,7 +215,8 @@ read_is text k (records, rows, s, are, taken, done) =
     let (v, same, held) = taken_is records rows s k taken done in
     (v, subst (λ (rs : List (List (List ℕ))). AreRecords default_config State.StartRecord text rs) same are, held)
 
-pub text_is : {E : Type 0} (o : Option (List ℕ)) (res : Result BookRows E) → IfOk res (λ k. IfSome o (λ text. IsReadAs (strip_bom text) k)) → IfOk res (λ k. IfSome o (λ text. IsTextOf (strip_bom text) k))
+pub text_is : {E : Type 0} (o : Option (List ℕ)) (res : Result BookRows E) → IfOk res (λ k. IfSome o (λ text. IsReadAs (strip_bom text) k))
+    → IfOk res (λ k. IfSome o (λ text. IsTextOf (strip_bom text) k))
 text_is None (Ok k) h = tt
 text_is (Some text) (Ok k) h = read_is (strip_bom text) k h
 text_is o (Err e) h = tt

@@ -1,8 +1,10 @@
 -- Rows that are asked for one by one: the terms and the pledges of a book.
-use Rattle.pawn_csv.proofs.Basics.{◌≡◌, ◌∙◌, ℕ, ◌+◌, ◌<◌, ◌≤◌, zero, suc, true, false, List, [], ◌∷◌, ◌++◌, length, take, Option, Some, None, refl, sym, ap, subst, arith, append_assoc, ◌==◌, if◌then◌else◌, option_map, slice_get, unwrap_or, BookValue, BriefFields, Front, Host, IsNumber, IsSound, PledgeValue, Rates, Whole, brief_of, flat_map, get, most_pledges, pledge_from, pledge_in, pledges_of, terms_at, append-nil, flat_map-append, nat_tests, share_front, share_more, share_puts, share_then, take_each, PutsRow, PutsRowsShare, Row, Sink, pledge_csv_rows, terms_rows, text_of_row}
-use Rattle.pawn_csv.proofs.ListLemmas.{lines_from}
-use Rattle.pawn_csv.proofs.SentLemmas.{rows_in_turn}
-use Rattle.pawn_book.proofs.Places.{terms_at_place}
+use Rattle.pawn_csv.proofs.Basics.{◌≡◌, ◌∙◌, ℕ, ◌+◌, ◌<◌, ◌≤◌, zero, suc, true, false, List, [], ◌∷◌, ◌++◌, length, take, Option, Some, None, refl, sym, ap}
+use Rattle.pawn_csv.proofs.Basics.{subst, arith, append_assoc, ◌==◌, if◌then◌else◌, option_map, slice_get, unwrap_or, append-nil, flat_map-append, nat_tests}
+use Rattle.pawn_csv.{proofs.Basics.{share_front, share_more, share_puts, share_then, take_each}, specs.Common.{BookValue, BriefFields, Front, Host, IsNumber}}
+use Rattle.pawn_csv.specs.Common.{IsSound, PledgeValue, Rates, Whole, brief_of, flat_map, get, most_pledges, pledge_from, pledge_in, pledges_of, terms_at}
+use Rattle.pawn_csv.{specs.{Sent.{PutsRow, PutsRowsShare, text_of_row}, Types.{Row, Sink}, Rows.{pledge_csv_rows, terms_rows}}, proofs.ListLemmas.lines_from}
+use Rattle.{pawn_csv.proofs.SentLemmas.rows_in_turn, pawn_book.proofs.Places.terms_at_place}
 
 -- ---- as many as are asked for one by one
 
@@ -16,8 +18,8 @@ lines_more line number place (y ∷ xs) zero x at =
 lines_more line number place (y ∷ xs) (suc i) x at =
     let further : suc i + 1 ≡ suc (i + 1) = omega arith in
     let next : (place + 1) + i ≡ place + suc i = omega arith in
-    ap (λ (k : ℕ). lines_from line number place (take k (y ∷ xs))) further
-    ∙ ap (λ (t : List ℕ). line number place y ++ t) (lines_more line number (place + 1) xs i x at ∙ ap (λ (k : ℕ). lines_from line number (place + 1) (take i xs) ++ line number k x) next)
+    ap (λ (k : ℕ). lines_from line number place (take k (y ∷ xs))) further ∙ ap (λ (t : List ℕ). line number place y ++ t)
+    (lines_more line number (place + 1) xs i x at ∙ ap (λ (k : ℕ). lines_from line number (place + 1) (take i xs) ++ line number k x) next)
     ∙ sym (append_assoc (line number place y) (lines_from line number (place + 1) (take i xs)) (line number (place + suc i) x))
 
 -- a front of the rows, and the rest of them
@@ -44,24 +46,25 @@ front_share {contents = contents} {a = a} {b = b} line number place xs i share =
     subst (λ (t : List ℕ). PutsRowsShare contents a t Front b) cut.1 (share_more rows_in_turn cut.0 (share_front rows_in_turn share))
 
 -- a front, and of the next a front
-pub next_front : {W T : Type 0} {contents : W → Option (List ℕ)} {a b c : Sink W} (line : ℕ → ℕ → T → List ℕ) (number place : ℕ) (xs : List T) (i : ℕ) (x : T) → slice_get xs i ≡ Some x
-    → PutsRowsShare contents a (lines_from line number place (take i xs)) Whole b → PutsRowsShare contents b (line number (place + i) x) Front c
-    → PutsRowsShare contents a (lines_from line number place xs) Front c
+pub next_front : {W T : Type 0} {contents : W → Option (List ℕ)} {a b c : Sink W} (line : ℕ → ℕ → T → List ℕ) (number place : ℕ) (xs : List T) (i : ℕ) (x : T)
+    → slice_get xs i ≡ Some x → PutsRowsShare contents a (lines_from line number place (take i xs)) Whole b
+    → PutsRowsShare contents b (line number (place + i) x) Front c → PutsRowsShare contents a (lines_from line number place xs) Front c
 next_front {contents = contents} {a = a} {c = c} line number place xs i x at before share =
     let cut = lines_cut line number place xs (i + 1) in
     subst (λ (t : List ℕ). PutsRowsShare contents a t Front c) (ap (λ (t : List ℕ). t ++ cut.0) (sym (lines_more line number place xs i x at)) ∙ cut.1)
     (share_more rows_in_turn cut.0 (share_then rows_in_turn before share))
 
 -- a front, and the next
-pub next_share : {W T : Type 0} {contents : W → Option (List ℕ)} {a b c : Sink W} (line : ℕ → ℕ → T → List ℕ) (number place : ℕ) (xs : List T) (i : ℕ) (x : T) → slice_get xs i ≡ Some x
-    → PutsRowsShare contents a (lines_from line number place (take i xs)) Whole b → PutsRowsShare contents b (line number (place + i) x) Whole c
-    → PutsRowsShare contents a (lines_from line number place (take (i + 1) xs)) Whole c
+pub next_share : {W T : Type 0} {contents : W → Option (List ℕ)} {a b c : Sink W} (line : ℕ → ℕ → T → List ℕ) (number place : ℕ) (xs : List T) (i : ℕ) (x : T)
+    → slice_get xs i ≡ Some x → PutsRowsShare contents a (lines_from line number place (take i xs)) Whole b
+    → PutsRowsShare contents b (line number (place + i) x) Whole c → PutsRowsShare contents a (lines_from line number place (take (i + 1) xs)) Whole c
 next_share {contents = contents} {a = a} {c = c} line number place xs i x at before share =
     subst (λ (t : List ℕ). PutsRowsShare contents a t Whole c) (sym (lines_more line number place xs i x at)) (share_then rows_in_turn before share)
 
 -- all of them
-pub all_share : {W T : Type 0} {contents : W → Option (List ℕ)} {a b : Sink W} (line : ℕ → ℕ → T → List ℕ) (number place : ℕ) (xs : List T) (i : ℕ) → i ≡ length xs
-    → PutsRowsShare contents a (lines_from line number place (take i xs)) Whole b → PutsRowsShare contents a (lines_from line number place xs) Whole b
+pub all_share : {W T : Type 0} {contents : W → Option (List ℕ)} {a b : Sink W} (line : ℕ → ℕ → T → List ℕ) (number place : ℕ) (xs : List T) (i : ℕ)
+    → i ≡ length xs → PutsRowsShare contents a (lines_from line number place (take i xs)) Whole b
+    → PutsRowsShare contents a (lines_from line number place xs) Whole b
 all_share {contents = contents} {a = a} {b = b} line number place xs i all share =
     subst (λ (ys : List _). PutsRowsShare contents a (lines_from line number place ys) Whole b) (take_each xs i all) share
 
@@ -81,8 +84,7 @@ version_lines version (t ∷ ts) = ap (λ (x : List ℕ). version_line 0 version
 
 pub all_records : (place : ℕ) (ps : List PledgeValue) → lines_from record_lines 0 place ps ≡ flat_map text_of_row (flat_map pledge_csv_rows ps)
 all_records place [] = refl
-all_records place (p ∷ ps) =
-    ap (λ (x : List ℕ). flat_map text_of_row (pledge_csv_rows p) ++ x) (all_records (place + 1) ps)
+all_records place (p ∷ ps) = ap (λ (x : List ℕ). flat_map text_of_row (pledge_csv_rows p) ++ x) (all_records (place + 1) ps)
     ∙ sym (flat_map-append text_of_row (pledge_csv_rows p) (flat_map pledge_csv_rows ps))
 
 pledge_there : (k : ℕ) (ps : List PledgeValue) (n i : ℕ) → n ≡ k + i → pledge_from k ps n ≡ slice_get ps i
@@ -103,13 +105,12 @@ record_there (Some book) i = pledge_there 1 book.pledges (i + 1) i (omega arith)
 
 -- the pledges of a sound host have numbers
 pub has_number : (h : Host) (book i : ℕ) → IsSound h → i < length (pledges_of (get h.books book)) → IsNumber (i + 1)
-has_number h book i sound less = from (get h.books book) refl less
-  where
-    from : (o : Option BookValue) → get h.books book ≡ o → i < length (pledges_of o) → IsNumber (i + 1)
-    from None e less = absurd (omega (arith, less))
-    from (Some at) e less =
-        let few : length at.pledges ≤ most_pledges = (sound.books book at e).1.rows.few_pledges in
-        omega (arith, few, less)
+has_number h book i sound less = from (get h.books book) refl less where
+  from : (o : Option BookValue) → get h.books book ≡ o → i < length (pledges_of o) → IsNumber (i + 1)
+  from None e less = absurd (omega (arith, less))
+  from (Some at) e less =
+      let few : length at.pledges ≤ most_pledges = (sound.books book at e).1.rows.few_pledges in
+      omega (arith, few, less)
 
 -- ---- the versions of the terms, one by one
 
@@ -134,12 +135,14 @@ versions_all {contents = contents} {a = a} {b = b} ts i all share =
 -- ---- the pledges, one by one
 
 pub records_front : {W : Type 0} {contents : W → Option (List ℕ)} {a b : Sink W} (ps : List PledgeValue) (i : ℕ)
-    → PutsRowsShare contents a (lines_from record_lines 0 1 (take i ps)) Whole b → PutsRowsShare contents a (flat_map text_of_row (flat_map pledge_csv_rows ps)) Front b
+    → PutsRowsShare contents a (lines_from record_lines 0 1 (take i ps)) Whole b
+    → PutsRowsShare contents a (flat_map text_of_row (flat_map pledge_csv_rows ps)) Front b
 records_front {contents = contents} {a = a} {b = b} ps i share =
     subst (λ (t : List ℕ). PutsRowsShare contents a t Front b) (all_records 1 ps) (front_share record_lines 0 1 ps i share)
 
 pub records_all : {W : Type 0} {contents : W → Option (List ℕ)} {a b : Sink W} (ps : List PledgeValue) (i : ℕ) → i ≡ length ps
-    → PutsRowsShare contents a (lines_from record_lines 0 1 (take i ps)) Whole b → PutsRowsShare contents a (flat_map text_of_row (flat_map pledge_csv_rows ps)) Whole b
+    → PutsRowsShare contents a (lines_from record_lines 0 1 (take i ps)) Whole b
+    → PutsRowsShare contents a (flat_map text_of_row (flat_map pledge_csv_rows ps)) Whole b
 records_all {contents = contents} {a = a} {b = b} ps i all share =
     subst (λ (t : List ℕ). PutsRowsShare contents a t Whole b) (all_records 1 ps) (all_share record_lines 0 1 ps i all share)
 
@@ -159,14 +162,13 @@ placed o i n p next at = sym (record_there o i) ∙ ap (pledge_in o) (sym next) 
 
 pub record_missing : (o : Option BookValue) (i n : ℕ) → n ≡ i + 1 → i < length (pledges_of o) → None ≡ option_map brief_of (pledge_in o n) → ⊥
 record_missing o i n next less said =
-    stands_there (pledges_of o) i less (sym (record_there o i) ∙ ap (pledge_in o) (sym next) ∙ none (pledge_in o n) said)
-  where
-    none : (q : Option PledgeValue) → None ≡ option_map brief_of q → q ≡ None
-    none None said = refl
-    none (Some p) said = cc
+    stands_there (pledges_of o) i less (sym (record_there o i) ∙ ap (pledge_in o) (sym next) ∙ none (pledge_in o n) said) where
+      none : (q : Option PledgeValue) → None ≡ option_map brief_of q → q ≡ None
+      none None said = refl
+      none (Some p) said = cc
 
-pub records_cut : {W : Type 0} {contents : W → Option (List ℕ)} {a b c : Sink W} (o : Option BookValue) (i n : ℕ) (brief : BriefFields) → n ≡ i + 1 → Some brief ≡ option_map brief_of (pledge_in o n)
-    → PutsRowsShare contents a (lines_from record_lines 0 1 (take i (pledges_of o))) Whole b
+pub records_cut : {W : Type 0} {contents : W → Option (List ℕ)} {a b c : Sink W} (o : Option BookValue) (i n : ℕ) (brief : BriefFields) → n ≡ i + 1
+    → Some brief ≡ option_map brief_of (pledge_in o n) → PutsRowsShare contents a (lines_from record_lines 0 1 (take i (pledges_of o))) Whole b
     → ((p : PledgeValue) → pledge_in o n ≡ Some p → brief ≡ brief_of p → PutsRowsShare contents b (flat_map text_of_row (pledge_csv_rows p)) Front c)
     → PutsRowsShare contents a (flat_map text_of_row (flat_map pledge_csv_rows (pledges_of o))) Front c
 records_cut {contents = contents} {a = a} {c = c} o i n brief next said before share =
@@ -174,8 +176,8 @@ records_cut {contents = contents} {a = a} {c = c} o i n brief next said before s
     subst (λ (t : List ℕ). PutsRowsShare contents a t Front c) (all_records 1 (pledges_of o))
     (next_front record_lines 0 1 (pledges_of o) i known.pledge (placed o i n known.pledge next known.at) before (share known.pledge known.at known.is))
 
-pub records_next : {W : Type 0} {contents : W → Option (List ℕ)} {a b c : Sink W} (o : Option BookValue) (i n : ℕ) (brief : BriefFields) → n ≡ i + 1 → Some brief ≡ option_map brief_of (pledge_in o n)
-    → PutsRowsShare contents a (lines_from record_lines 0 1 (take i (pledges_of o))) Whole b
+pub records_next : {W : Type 0} {contents : W → Option (List ℕ)} {a b c : Sink W} (o : Option BookValue) (i n : ℕ) (brief : BriefFields) → n ≡ i + 1
+    → Some brief ≡ option_map brief_of (pledge_in o n) → PutsRowsShare contents a (lines_from record_lines 0 1 (take i (pledges_of o))) Whole b
     → ((p : PledgeValue) → pledge_in o n ≡ Some p → brief ≡ brief_of p → PutsRowsShare contents b (flat_map text_of_row (pledge_csv_rows p)) Whole c)
     → PutsRowsShare contents a (lines_from record_lines 0 1 (take (i + 1) (pledges_of o))) Whole c
 records_next o i n brief next said before share =

@@ -1,5 +1,8 @@
 -- The records of pledges whose rows are read.
-use Rattle.pawn_csv.proofs.Basics.{◌≡◌, ℕ, List, [], ◌∷◌, ◌++◌, map, Option, None, Some, Result, Ok, Err, true, sym, ◌∙◌, subst, refl, ap, AreReplayable, BookRows, Closing, Each, IfErr, IfNone, IfOk, IfSome, IsUnder, PledgeValue, Rates, terms_at, AreRawOf, Begun, Cause, Ends, IsBegunOf, IsRawOf, RawPledge, closing_amount, closing_day, closing_word, is_whole, raw_of}
+use Rattle.pawn_csv.proofs.Basics.{◌≡◌, ℕ, List, [], ◌∷◌, ◌++◌, map, Option, None, Some, Result, Ok, Err, true, sym, ◌∙◌, subst, refl, ap, IfErr, IfNone, IfOk}
+use Rattle.pawn_csv.{proofs.Basics.IfSome, specs.{Common.{AreReplayable, BookRows, Closing, Each, IsUnder, PledgeValue, Rates, terms_at}, Finishing.AreRawOf}}
+use Rattle.pawn_csv.specs.{Finishing.{Ends, IsBegunOf, IsRawOf, raw_of}, Order.{Begun, is_whole}, Types.{Cause, RawPledge}, Rows.{closing_amount, closing_day}}
+use Rattle.pawn_csv.specs.Rows.{closing_word}
 
 same_first : (x y : RawPledge) (xs ys : List RawPledge) → x ∷ xs ≡ y ∷ ys → x ≡ y
 same_first x y xs ys e = cc
@@ -30,8 +33,9 @@ pub same_rates : (terms : List Rates) (v w : ℕ) (a b : Rates) → v ≡ w → 
 same_rates terms v w a b same x y = let e = sym x ∙ ap (terms_at terms) same ∙ y in cc
 
 same_record : (p q : PledgeValue) → p.agreement.number ≡ q.agreement.number → p.agreement.opening ≡ q.agreement.opening → p.agreement.taken ≡ q.agreement.taken
-    → p.agreement.version ≡ q.agreement.version → p.agreement.terms ≡ q.agreement.terms → p.entries ≡ q.entries → p.secrets ≡ q.secrets → p.extensions ≡ q.extensions
-    → p.standing.held ≡ q.standing.held → p.standing.booking ≡ q.standing.booking → p.standing.last ≡ q.standing.last → p.standing.closing ≡ q.standing.closing → p ≡ q
+    → p.agreement.version ≡ q.agreement.version → p.agreement.terms ≡ q.agreement.terms → p.entries ≡ q.entries → p.secrets ≡ q.secrets
+    → p.extensions ≡ q.extensions → p.standing.held ≡ q.standing.held → p.standing.booking ≡ q.standing.booking → p.standing.last ≡ q.standing.last
+    → p.standing.closing ≡ q.standing.closing → p ≡ q
 same_record p q a b c d e f g h i j k l = rw (a, b, c, d, e, f, g, h, i, j, k, l) refl
 
 -- rows and terms tell one pledge
@@ -40,9 +44,9 @@ same_pledge terms p q e u v =
     let version = ap (λ (r : RawPledge). r.columns.version) e in
     same_record p q (ap (λ (r : RawPledge). r.columns.number) e) (ap (λ (r : RawPledge). r.columns.opening) e) (ap (λ (r : RawPledge). r.columns.taken) e)
     version (same_rates terms p.agreement.version q.agreement.version p.agreement.terms q.agreement.terms version u v)
-    (ap (λ (r : RawPledge). r.entries) e) (ap (λ (r : RawPledge). r.secrets) e) (ap (λ (r : RawPledge). r.extensions) e)
-    (ap (λ (r : RawPledge). r.columns.held) e) (ap (λ (r : RawPledge). r.booking) e) (ap (λ (r : RawPledge). r.columns.last) e)
-    (same_closing p.standing.closing q.standing.closing (ap (λ (r : RawPledge). r.columns.closing) e) (ap (λ (r : RawPledge). r.columns.closing_day) e) (ap (λ (r : RawPledge). r.columns.amount) e))
+    (ap (λ (r : RawPledge). r.entries) e) (ap (λ (r : RawPledge). r.secrets) e) (ap (λ (r : RawPledge). r.extensions) e) (ap (λ (r : RawPledge). r.columns.held)
+    e) (ap (λ (r : RawPledge). r.booking) e) (ap (λ (r : RawPledge). r.columns.last) e) (same_closing p.standing.closing q.standing.closing
+    (ap (λ (r : RawPledge). r.columns.closing) e) (ap (λ (r : RawPledge). r.columns.closing_day) e) (ap (λ (r : RawPledge). r.columns.amount) e))
 
 no_tail : (p : PledgeValue) (ps : List PledgeValue) → map raw_of (p ∷ ps) ≡ map raw_of [] → ⊥
 no_tail p ps e = cc
@@ -65,10 +69,8 @@ one_book b j k x y h =
 
 -- what the judge says of rows that are whole
 pub ends : (b : Begun) (rows : Option BookRows) (res : Result BookRows Cause) → is_whole (Some b) ≡ true
-    → IfSome rows (IsBegunOf b) → IfNone rows ((k : BookRows) → IsBegunOf b k → ⊥)
-    → IfOk res (λ k. (rows ≡ Some k) × AreReplayable k.terms k.pledges)
-    → IfErr res (λ e. (e ≡ Cause.NotReplayable) × IfSome rows (λ k. AreReplayable k.terms k.pledges → ⊥))
-    → Ends (Some b) res
+    → IfSome rows (IsBegunOf b) → IfNone rows ((k : BookRows) → IsBegunOf b k → ⊥) → IfOk res (λ k. (rows ≡ Some k) × AreReplayable k.terms k.pledges)
+    → IfErr res (λ e. (e ≡ Cause.NotReplayable) × IfSome rows (λ k. AreReplayable k.terms k.pledges → ⊥)) → Ends (Some b) res
 ends b None (Ok k) whole some none found why = let e = found.0 in cc
 ends b (Some j) (Ok k) whole some none found why =
     let same : j ≡ k = let e = found.0 in cc in

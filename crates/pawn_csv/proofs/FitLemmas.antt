@@ -1,15 +1,14 @@
 -- The rows of a book that can have come about can be spelled.
-use Rattle.pawn_csv.proofs.Basics.{◌≡◌, ◌∙◌, ◌+◌, ◌-◌, ◌*◌, ◌≤◌, ℕ, false, List, [], ◌∷◌, ◌++◌, length, Option, Some, None, IsOk, Ok, sym, ap, subst, arith, AreExtended, AreNumbered, AreOrdered, AreWords, Booking, Closing, DebtValue, DoNotFall, Draw, Due, Each, Entry, Extension, HasTextsAndWords, IfSome, IsBooked, IsClosed, IsStampDay, IsStanding, IsUnder, Issued, PledgeValue, Rates, Repay, Sort, debt_of, due, end_with, flat_map, last_by, last_of, most_pence, total_on, last_by-le, nat_tests, first_day, AreColumns, BooksAreHeld, FitsColumns, IsColumnNumber, Row, TextsAreRead, TextsOfHostsAreRead, booking_csv_rows, closing_amount, closing_day, entry_rows, extension_rows, pledge_columns, pledge_csv_rows, secret_rows, terms_rows, Version}
-use Rattle.pawn_base.proofs.RefusalLemmas.{first_of-is_ok}
-use Rattle.pawn_terms.specs.Limits.{last_stamp_day}
-use Rattle.pawn_terms.specs.Terms.{IsChecked}
-use Rattle.pawn_debt.proofs.Bounds.{accepted-bounded, after_days-small}
-use Rattle.pawn_debt.proofs.DueLemmas.{after_days-principal}
-use Rattle.pawn_debt.proofs.EntryLemmas.{due-from-last}
-use Rattle.pawn_debt.specs.Answers.{draw_rows, is_bad_amount, repay_rows, with_entry}
-use Rattle.pawn_debt.specs.Replay.{AreEntriesAccepted, sort_answer}
-use Rattle.pawn_csv.proofs.RoundLemmas.{held_texts_are_read}
-use Rattle.pawn_book.proofs.SoundLists.{under_length}
+use Rattle.pawn_csv.proofs.Basics.{◌≡◌, ◌∙◌, ◌+◌, ◌-◌, ◌*◌, ◌≤◌, ℕ, false, List, [], ◌∷◌, ◌++◌, length, Option, Some, None, IsOk, Ok, sym, ap, subst, arith}
+use Rattle.pawn_csv.{proofs.Basics.{IfSome, last_by-le, nat_tests}, specs.Common.{AreExtended, AreNumbered, AreOrdered, AreWords, Booking, Closing, DebtValue}}
+use Rattle.pawn_csv.specs.Common.{DoNotFall, Draw, Due, Each, Entry, Extension, HasTextsAndWords, IsBooked, IsClosed, IsStanding, IsUnder, Issued, PledgeValue}
+use Rattle.pawn_csv.specs.{Common.{Rates, Repay, Sort, debt_of, due, end_with, flat_map, last_by, last_of, most_pence, total_on}, Rows.AreColumns}
+use Rattle.pawn_csv.specs.Rows.{FitsColumns, IsColumnNumber, booking_csv_rows, closing_amount, closing_day, entry_rows, extension_rows, pledge_columns}
+use Rattle.pawn_csv.specs.{Rows.{pledge_csv_rows, secret_rows, terms_rows}, Laws.{BooksAreHeld, TextsAreRead, TextsOfHostsAreRead}, Types.{Row, Version}}
+use Rattle.{pawn_csv.proofs.RoundLemmas.held_texts_are_read, pawn_terms.specs.{Calendar.{IsStampDay, first_day}, Limits.last_stamp_day, Terms.IsChecked}}
+use Rattle.{pawn_base.proofs.RefusalLemmas.first_of-is_ok, pawn_debt.proofs.{Bounds.{accepted-bounded, after_days-small}, DueLemmas.after_days-principal}}
+use Rattle.pawn_debt.{proofs.EntryLemmas.due-from-last, specs.{Answers.{draw_rows, is_bad_amount, repay_rows, with_entry}, Replay.AreEntriesAccepted}}
+use Rattle.{pawn_debt.specs.Replay.sort_answer, pawn_book.proofs.SoundLists.under_length}
 
 each_both : (xs ys : List Row) → Each FitsColumns xs → Each FitsColumns ys → Each FitsColumns (xs ++ ys)
 each_both [] ys hx hy = hy
@@ -42,7 +41,8 @@ total_fits p h =
     let same = due-from-last d x entered.ordered entered.before in
     let principal = after_days-principal d.terms d.ends last (x - last) (due d last) in
     let small = after_days-small d.terms d.ends last (x - last) (due d last) h.terms bounded.principal in
-    let millionths : (due d x).millionths ≤ 84005 * 2000010000000 = omega (arith, ap (λ (o : Due). o.millionths) same, small, bounded.millionths, low, entered.before, h.within.last) in
+    let millionths : (due d x).millionths ≤ 84005 * 2000010000000 =
+    omega (arith, ap (λ (o : Due). o.millionths) same, small, bounded.millionths, low, entered.before, h.within.last) in
     let pence : (due d x).principal ≤ most_pence = omega (arith, ap (λ (o : Due). o.principal) same, principal, bounded.principal) in
     omega (arith, millionths, pence)
 
@@ -50,12 +50,13 @@ total_fits p h =
 
 fit_terms : (v : ℕ) (ts : List Rates) → Each IsChecked ts → v + length ts ≤ 1000 → Each FitsColumns (terms_rows v ts)
 fit_terms v [] h few = tt
-fit_terms v (t ∷ ts) h few = ((omega (arith, few), omega (arith, h.0.0), omega (arith, h.0.1), omega (arith, h.0.1, h.0.2)), fit_terms (v + 1) ts h.1 (omega (arith, few)))
+fit_terms v (t ∷ ts) h few =
+    ((omega (arith, few), omega (arith, h.0.0), omega (arith, h.0.1), omega (arith, h.0.1, h.0.2)), fit_terms (v + 1) ts h.1 (omega (arith, few)))
 
 -- ---- the rows of a pledge
 
-fit_secrets : (n k low : ℕ) (is : List Issued) → IsColumnNumber n → k + length is ≤ 1000 → first_day ≤ low → DoNotFall (λ i. i.day) low is → last_by (λ i. i.day) low is ≤ last_stamp_day → AreWords is
-    → Each FitsColumns (secret_rows n k is)
+fit_secrets : (n k low : ℕ) (is : List Issued) → IsColumnNumber n → k + length is ≤ 1000 → first_day ≤ low → DoNotFall (λ i. i.day) low is
+    → last_by (λ i. i.day) low is ≤ last_stamp_day → AreWords is → Each FitsColumns (secret_rows n k is)
 fit_secrets n k low [] hn few from ordered before words = tt
 fit_secrets n k low (i ∷ is) hn few from ordered before words =
     let late = last_by-le (λ (i : Issued). i.day) i.day is ordered.1 in (
@@ -63,8 +64,8 @@ fit_secrets n k low (i ∷ is) hn few from ordered before words =
       fit_secrets n (k + 1) i.day is hn (omega (arith, few)) (omega (arith, from, ordered.0)) ordered.1 before words.1,
     )
 
-fit_entries : (n k low : ℕ) (es : List Entry) → IsColumnNumber n → AreNumbered k es → k + length es ≤ 100000 → first_day ≤ low → AreOrdered low es → last_of low es ≤ last_stamp_day → Each (λ e. IsColumnNumber e.pence) es
-    → Each FitsColumns (entry_rows n es)
+fit_entries : (n k low : ℕ) (es : List Entry) → IsColumnNumber n → AreNumbered k es → k + length es ≤ 100000 → first_day ≤ low → AreOrdered low es
+    → last_of low es ≤ last_stamp_day → Each (λ e. IsColumnNumber e.pence) es → Each FitsColumns (entry_rows n es)
 fit_entries n k low [] hn numbered few from ordered before pence = tt
 fit_entries n k low (e ∷ es) hn numbered few from ordered before pence =
     let late = last_by-le (λ (e : Entry). e.day) e.day es ordered.1 in (
@@ -72,15 +73,21 @@ fit_entries n k low (e ∷ es) hn numbered few from ordered before pence =
       fit_entries n (k + 1) e.day es hn numbered.1 (omega (arith, few)) (omega (arith, from, ordered.0)) ordered.1 before pence.1,
     )
 
-fit_extensions : (n k low ends : ℕ) (xs : List Extension) → IsColumnNumber n → k + length xs ≤ 1000 → first_day ≤ low → AreExtended low ends xs → Each (λ e. e.until ≤ last_stamp_day) xs
-    → Each FitsColumns (extension_rows n k xs)
+fit_extensions : (n k low ends : ℕ) (xs : List Extension) → IsColumnNumber n → k + length xs ≤ 1000 → first_day ≤ low → AreExtended low ends xs
+    → Each (λ e. e.until ≤ last_stamp_day) xs → Each FitsColumns (extension_rows n k xs)
 fit_extensions n k low ends [] hn few from extended untils = tt
 fit_extensions n k low ends (e ∷ es) hn few from extended untils = (
-  (hn, omega (arith, few), (omega (arith, from, extended.0), omega (arith, extended.1, extended.2, untils.0)), (omega (arith, from, extended.0, extended.1, extended.2), untils.0)),
+  (
+    hn,
+    omega (arith, few),
+    (omega (arith, from, extended.0), omega (arith, extended.1, extended.2, untils.0)),
+    (omega (arith, from, extended.0, extended.1, extended.2), untils.0),
+  ),
   fit_extensions n (k + 1) e.day e.until es hn (omega (arith, few)) (omega (arith, from, extended.0)) extended.3 untils.1,
 )
 
-fit_booking : (p : PledgeValue) (n : ℕ) (o : Option Booking) → IsColumnNumber n → first_day ≤ p.agreement.taken → IsBooked p o → IfSome o (λ b. b.day ≤ last_stamp_day) → Each FitsColumns (booking_csv_rows n o)
+fit_booking : (p : PledgeValue) (n : ℕ) (o : Option Booking) → IsColumnNumber n → first_day ≤ p.agreement.taken → IsBooked p o
+    → IfSome o (λ b. b.day ≤ last_stamp_day) → Each FitsColumns (booking_csv_rows n o)
 fit_booking p n None hn from booked before = tt
 fit_booking p n (Some b) hn from booked before = ((hn, (omega (arith, from, booked.0), before), omega (arith, booked.2)), tt)
 
@@ -115,22 +122,28 @@ fit_columns terms p few under h written =
       amount = fit_amount p p.standing.closing r.closed (total_fits p h);
     }
 
-fit_pledge : (terms : List Rates) (p : PledgeValue) → length terms ≤ 1000 → IsUnder terms p → IsStanding p → HasTextsAndWords p → Each FitsColumns (pledge_csv_rows p)
+fit_pledge : (terms : List Rates) (p : PledgeValue) → length terms ≤ 1000 → IsUnder terms p → IsStanding p → HasTextsAndWords p
+    → Each FitsColumns (pledge_csv_rows p)
 fit_pledge terms p few under h written =
     let from = written.taken.0 in
     let n = p.agreement.number in
     let a = p.agreement in
     let r = h.replayable in
     let short : IsColumnNumber n = omega (arith, h.within.number.1) in
-    let secrets = fit_secrets n 1 a.taken p.secrets short (omega (arith, h.within.secrets)) from r.issued.ordered (omega (arith, r.issued.before, h.within.last)) written.secrets in
-    let entries = fit_entries n 1 a.taken p.entries short r.entered.numbered (omega (arith, h.within.entries)) from r.entered.ordered (omega (arith, r.entered.before, h.within.last)) (all_pence (debt_of p) [] p.entries r.entered.accepted) in
-    let extensions = fit_extensions n 1 a.taken (end_with a None) p.extensions short (omega (arith, h.within.extensions)) from r.extended.each h.within.untils in
+    let secrets = fit_secrets n 1 a.taken p.secrets short (omega (arith, h.within.secrets)) from r.issued.ordered
+    (omega (arith, r.issued.before, h.within.last)) written.secrets in
+    let entries = fit_entries n 1 a.taken p.entries short r.entered.numbered (omega (arith, h.within.entries)) from r.entered.ordered
+    (omega (arith, r.entered.before, h.within.last)) (all_pence (debt_of p) [] p.entries r.entered.accepted) in
+    let extensions =
+    fit_extensions n 1 a.taken (end_with a None) p.extensions short (omega (arith, h.within.extensions)) from r.extended.each h.within.untils in
     let booking = fit_booking p n p.standing.booking short from r.booked h.within.booking in (
       fit_columns terms p few under h written,
-      each_both (secret_rows n 1 p.secrets) _ secrets (each_both (entry_rows n p.entries) _ entries (each_both (extension_rows n 1 p.extensions) (booking_csv_rows n p.standing.booking) extensions booking)),
+      each_both (secret_rows n 1 p.secrets) _ secrets (each_both (entry_rows n p.entries) _ entries
+          (each_both (extension_rows n 1 p.extensions) (booking_csv_rows n p.standing.booking) extensions booking)),
     )
 
-fit_pledges : (terms : List Rates) (ps : List PledgeValue) → length terms ≤ 1000 → Each (IsUnder terms) ps → Each IsStanding ps → Each HasTextsAndWords ps → Each FitsColumns (flat_map pledge_csv_rows ps)
+fit_pledges : (terms : List Rates) (ps : List PledgeValue) → length terms ≤ 1000 → Each (IsUnder terms) ps → Each IsStanding ps → Each HasTextsAndWords ps
+    → Each FitsColumns (flat_map pledge_csv_rows ps)
 fit_pledges terms [] few under h written = tt
 fit_pledges terms (p ∷ ps) few under h written =
     each_both (pledge_csv_rows p) (flat_map pledge_csv_rows ps) (fit_pledge terms p few under.0 h.0 written.0) (fit_pledges terms ps few under.1 h.1 written.1)

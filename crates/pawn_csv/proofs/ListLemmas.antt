@@ -1,7 +1,9 @@
 -- The rows of a list that is handed out, put one by one.
-use Rattle.pawn_csv.proofs.Basics.{◌≡◌, ◌∙◌, ℕ, ◌+◌, ◌-◌, ◌^◌, ◌≤◌, suc, Bool, false, List, [], ◌∷◌, ◌++◌, length, Option, Some, None, refl, sym, ap, subst, inl, inr, arith, length-append, append_assoc, if◌then◌else◌, End, Entry, Extension, Flow, Go, Handed, Host, IsShare, IsSound, Issued, PledgeValue, Stop, entries_of, extensions_of, flat_map, get, pledge_in, secrets_of, append-nil, standing_at, PutsAt, PutsRow, PutsRowsShare, entry_row_text, entry_rows, extension_line, extension_rows, has_ended, secret_line, secret_rows, text_of_row}
-use Rattle.pawn_csv.specs.Types.{RowWriter}
-use Rattle.pawn_csv.proofs.SentLemmas.{puts_nil, puts_then}
+use Rattle.pawn_csv.proofs.Basics.{◌≡◌, ◌∙◌, ℕ, ◌+◌, ◌-◌, ◌^◌, ◌≤◌, suc, Bool, false, List, [], ◌∷◌, ◌++◌, length, Option, Some, None, refl, sym, ap, subst}
+use Rattle.pawn_csv.{proofs.Basics.{inl, inr, arith, length-append, append_assoc, if◌then◌else◌, append-nil, standing_at}, specs.Common.{End, Entry, Extension}}
+use Rattle.pawn_csv.specs.Common.{Flow, Go, Handed, Host, IsShare, IsSound, Issued, PledgeValue, Stop, entries_of, extensions_of, flat_map, get, pledge_in}
+use Rattle.pawn_csv.specs.{Common.secrets_of, Exports.{PutsAt, entry_row_text, extension_line, secret_line}, Sent.{PutsRow, PutsRowsShare, has_ended}}
+use Rattle.pawn_csv.{specs.{Sent.text_of_row, Rows.{entry_rows, extension_rows, secret_rows}, Types.RowWriter}, proofs.SentLemmas.{puts_nil, puts_then}}
 
 -- the rows of a list from a place on
 abbrev pub lines_from : {T : Type 0} → (ℕ → ℕ → T → List ℕ) → ℕ → ℕ → List T → List ℕ
@@ -13,7 +15,8 @@ lines_of_append : {T : Type 0} (line : ℕ → ℕ → T → List ℕ) (number p
 lines_of_append line number place [] ys = let same : place ≡ place + 0 = omega arith in ap (λ (k : ℕ). lines_from line number k ys) same
 lines_of_append line number place (x ∷ xs) ys =
     let next : (place + 1) + length xs ≡ place + suc (length xs) = omega arith in
-    ap (λ (t : List ℕ). line number place x ++ t) (lines_of_append line number (place + 1) xs ys ∙ ap (λ (k : ℕ). lines_from line number (place + 1) xs ++ lines_from line number k ys) next)
+    ap (λ (t : List ℕ). line number place x ++ t)
+    (lines_of_append line number (place + 1) xs ys ∙ ap (λ (k : ℕ). lines_from line number (place + 1) xs ++ lines_from line number k ys) next)
     ∙ sym (append_assoc (line number place x) (lines_from line number (place + 1) xs) (lines_from line number (place + suc (length xs)) ys))
 
 -- the rows of what was handed were put
@@ -26,8 +29,7 @@ lines_put contents line v w (x ∷ xs) flow few handed = elim handed [
       let next : u.place ≡ v.place + 1 = going.1.place ∙ omega (arith, few) in
       let fewer : u.place + length xs ≤ 2 ^ 64 - 1 = omega (arith, few, next) in
       let rest = lines_put contents line u w xs flow fewer going.2 in
-      puts_then going.1.puts
-      (subst (λ (k : ℕ). PutsRow contents u.sink (lines_from line v.number k xs) w.sink) next
+      puts_then going.1.puts (subst (λ (k : ℕ). PutsRow contents u.sink (lines_from line v.number k xs) w.sink) next
       (subst (λ (n : ℕ). PutsRow contents u.sink (lines_from line n u.place xs) w.sink) going.1.number rest))
   | inr stopped ↦ subst (λ (ys : List _). PutsRow contents v.sink (line v.number v.place x ++ lines_from line v.number (v.place + 1) ys) w.sink) (sym stopped.1)
       (subst (λ (t : List ℕ). PutsRow contents v.sink t w.sink) (sym (append-nil (line v.number v.place x))) stopped.2.puts)
@@ -66,7 +68,8 @@ pub entry_lines : (number place : ℕ) (es : List Entry) → lines_from entry_ro
 entry_lines number place [] = refl
 entry_lines number place (e ∷ es) = ap (λ (t : List ℕ). entry_row_text number place e ++ t) (entry_lines number (place + 1) es)
 
-pub extension_lines : (number place : ℕ) (es : List Extension) → lines_from extension_line number place es ≡ flat_map text_of_row (extension_rows number place es)
+pub extension_lines : (number place : ℕ) (es : List Extension)
+    → lines_from extension_line number place es ≡ flat_map text_of_row (extension_rows number place es)
 extension_lines number place [] = refl
 extension_lines number place (e ∷ es) = ap (λ (t : List ℕ). extension_line number place e ++ t) (extension_lines number (place + 1) es)
 
@@ -77,20 +80,18 @@ pub record AreFew (o : Option PledgeValue) : Type 0 where
   pub extensions : length (extensions_of o) ≤ 2 ^ 64 - 2
 
 pub few_of : (h : Host) (book number : ℕ) → IsSound h → AreFew (pledge_in (get h.books book) number)
-few_of h book number sound = from (pledge_in (get h.books book) number) refl
-  where
-    from : (o : Option PledgeValue) → pledge_in (get h.books book) number ≡ o → AreFew o
-    from None at = record { secrets = omega arith; entries = omega arith; extensions = omega arith }
-    from (Some p) at =
-        let within = (standing_at h book number p sound at).0.within in
-        record { secrets = omega (arith, within.secrets); entries = omega (arith, within.entries); extensions = omega (arith, within.extensions) }
+few_of h book number sound = from (pledge_in (get h.books book) number) refl where
+  from : (o : Option PledgeValue) → pledge_in (get h.books book) number ≡ o → AreFew o
+  from None at = record { secrets = omega arith; entries = omega arith; extensions = omega arith }
+  from (Some p) at =
+      let within = (standing_at h book number p sound at).0.within in
+      record { secrets = omega (arith, within.secrets); entries = omega (arith, within.entries); extensions = omega (arith, within.extensions) }
 
 -- what was put of the rows of a list that was handed out from its first place on
-pub list_share : {W T : Type 0} (contents : W → Option (List ℕ)) (line : ℕ → ℕ → T → List ℕ) (number : ℕ) (items : List T) (text : List ℕ) (v w : RowWriter W) (given : List T) (flow : Flow) (end : End)
-    → length items ≤ 2 ^ 64 - 2 → lines_from line number 1 items ≡ text → v.number ≡ number → v.place ≡ 1 → Handed (PutsAt contents line) v given flow w → IsShare given flow end items
-    → PutsRowsShare contents v.sink text end w.sink
+pub list_share : {W T : Type 0} (contents : W → Option (List ℕ)) (line : ℕ → ℕ → T → List ℕ) (number : ℕ) (items : List T) (text : List ℕ) (v w : RowWriter W)
+    (given : List T) (flow : Flow) (end : End) → length items ≤ 2 ^ 64 - 2 → lines_from line number 1 items ≡ text → v.number ≡ number → v.place ≡ 1
+    → Handed (PutsAt contents line) v given flow w → IsShare given flow end items → PutsRowsShare contents v.sink text end w.sink
 list_share contents line number items text v w given flow end few is number_is place_is handed share =
     let room : v.place + length items ≤ 2 ^ 64 - 1 = omega (arith, few, place_is) in
-    subst (λ (t : List ℕ). PutsRowsShare contents v.sink t end w.sink)
-    (ap (λ (n : ℕ). lines_from line n v.place items) number_is ∙ ap (λ (k : ℕ). lines_from line number k items) place_is ∙ is)
-    (lines_share contents line v w given items flow end room handed share)
+    subst (λ (t : List ℕ). PutsRowsShare contents v.sink t end w.sink) (ap (λ (n : ℕ). lines_from line n v.place items) number_is
+    ∙ ap (λ (k : ℕ). lines_from line number k items) place_is ∙ is) (lines_share contents line v w given items flow end room handed share)

@@ -1,8 +1,9 @@
 -- A text holds one book.
-use Rattle.pawn_csv.proofs.Basics.{◌≡◌, ◌∙◌, ◌++◌, ◌∷◌, ◌≤◌, ℕ, [], Bool, true, false, List, length, Option, Some, refl, sym, ap, subst, arith, nat_le, Agreement, BookRows, Each, IsUnder, PledgeValue, Rates, Standing, default_config, map, append-nil, nat_tests, AreTaken, Begun, IsBegunOf, IsFinishedAs, IsReadAs, RawPledge, TextsHoldOneBook, raw_of, State}
-use Rattle.pawn_csv.proofs.OneReading.{no_further, reached_on, taken_same}
-use Rattle.pawn_csv.proofs.TakenLemmas.{texts_are_read_as}
-use Rattle.pawn_csv.proofs.FinishLemmas.{same_closing, same_rates}
+use Rattle.pawn_csv.proofs.Basics.{◌≡◌, ◌∙◌, ◌++◌, ◌∷◌, ◌≤◌, ℕ, [], Bool, true, false, List, length, Option, Some, refl, sym, ap, subst, arith, nat_le, map}
+use Rattle.pawn_csv.{proofs.Basics.{append-nil, nat_tests}, specs.Common.{BookRows, Each, IsUnder, PledgeValue, Rates, Standing, default_config, State}}
+use Rattle.pawn_csv.specs.{Reading.{AreTaken, IsReadAs}, Order.Begun, Finishing.{IsBegunOf, IsFinishedAs, raw_of}, Types.RawPledge, Laws.TextsHoldOneBook}
+use Rattle.pawn_csv.proofs.{OneReading.{no_further, reached_on, taken_same}, TakenLemmas.texts_are_read_as, FinishLemmas.{same_closing, same_rates}}
+use Rattle.pawn_pledge.specs.declared.record.Agreement.{Agreement}
 
 some_same : (a b : ℕ) → Some a ≡ Some b → a ≡ b
 some_same a b e = cc
@@ -13,7 +14,8 @@ same_agreement a b e f g h i = rw (e, f, g, h, i) refl
 same_standing : (a b : Standing) → a.held ≡ b.held → a.booking ≡ b.booking → a.last ≡ b.last → a.closing ≡ b.closing → a ≡ b
 same_standing a b e f g h = rw (e, f, g, h) refl
 
-same_pledge : (p q : PledgeValue) → p.agreement ≡ q.agreement → p.standing ≡ q.standing → p.entries ≡ q.entries → p.secrets ≡ q.secrets → p.extensions ≡ q.extensions → p ≡ q
+same_pledge : (p q : PledgeValue) → p.agreement ≡ q.agreement → p.standing ≡ q.standing → p.entries ≡ q.entries → p.secrets ≡ q.secrets
+    → p.extensions ≡ q.extensions → p ≡ q
 same_pledge p q e f g h i = rw (e, f, g, h, i) refl
 
 -- a pledge is told by its rows, under its book's terms
@@ -21,11 +23,11 @@ one_pledge : (terms : List Rates) (p q : PledgeValue) → IsUnder terms p → Is
 one_pledge terms p q hp hq e =
     let columns = λ (r : RawPledge). r.columns in
     let version = ap (λ (r : RawPledge). r.columns.version) e in
-    same_pledge p q
-    (same_agreement p.agreement q.agreement (ap (λ (r : RawPledge). r.columns.number) e) (ap (λ (r : RawPledge). r.columns.opening) e) (ap (λ (r : RawPledge). r.columns.taken) e) version
-    (same_rates terms p.agreement.version q.agreement.version p.agreement.terms q.agreement.terms version hp hq))
-    (same_standing p.standing q.standing (ap (λ (r : RawPledge). r.columns.held) e) (ap (λ (r : RawPledge). r.booking) e) (ap (λ (r : RawPledge). r.columns.last) e)
-    (same_closing p.standing.closing q.standing.closing (ap (λ (r : RawPledge). r.columns.closing) e) (ap (λ (r : RawPledge). r.columns.closing_day) e) (ap (λ (r : RawPledge). r.columns.amount) e)))
+    same_pledge p q (same_agreement p.agreement q.agreement (ap (λ (r : RawPledge). r.columns.number) e) (ap (λ (r : RawPledge). r.columns.opening) e)
+    (ap (λ (r : RawPledge). r.columns.taken) e) version (same_rates terms p.agreement.version q.agreement.version p.agreement.terms q.agreement.terms version hp
+    hq)) (same_standing p.standing q.standing (ap (λ (r : RawPledge). r.columns.held) e) (ap (λ (r : RawPledge). r.booking) e)
+    (ap (λ (r : RawPledge). r.columns.last) e) (same_closing p.standing.closing q.standing.closing (ap (λ (r : RawPledge). r.columns.closing) e)
+    (ap (λ (r : RawPledge). r.columns.closing_day) e) (ap (λ (r : RawPledge). r.columns.amount) e)))
     (ap (λ (r : RawPledge). r.entries) e) (ap (λ (r : RawPledge). r.secrets) e) (ap (λ (r : RawPledge). r.extensions) e)
 
 one_list : (terms : List Rates) (ps qs : List PledgeValue) → Each (IsUnder terms) ps → Each (IsUnder terms) qs → map raw_of ps ≡ map raw_of qs → ps ≡ qs
@@ -57,11 +59,10 @@ shorter text j k a b short =
     one_finish a.2 j k a.5 (subst (λ (s : Option Begun). IsFinishedAs s k) (sym begun) b.5)
 
 one_reading : (text : List ℕ) (j k : BookRows) → IsReadAs text j → IsReadAs text k → j ≡ k
-one_reading text j k a b = from (nat_le (length a.0) (length b.0)) refl
-  where
-    from : (v : Bool) → nat_le (length a.0) (length b.0) ≡ v → j ≡ k
-    from true is = shorter text j k a b (grind (arith, nat_tests, is))
-    from false is = sym (shorter text k j b a (grind (arith, nat_tests, is)))
+one_reading text j k a b = from (nat_le (length a.0) (length b.0)) refl where
+  from : (v : Bool) → nat_le (length a.0) (length b.0) ≡ v → j ≡ k
+  from true is = shorter text j k a b (grind (arith, nat_tests, is))
+  from false is = sym (shorter text k j b a (grind (arith, nat_tests, is)))
 
 pub texts_hold_one_book : TextsHoldOneBook
 texts_hold_one_book text j k a b = one_reading text j k (texts_are_read_as text j a) (texts_are_read_as text k b)

@@ -1,8 +1,10 @@
 -- A text has one reading.
-use Rattle.pawn_csv.proofs.Basics.{◌≡◌, ◌≢◌, ◌⊎◌, ◌∙◌, ◌++◌, ◌∷◌, ◌+◌, ◌<◌, ◌≤◌, [], ℕ, Bool, true, false, List, length, Option, Some, None, Result, Ok, Err, refl, sym, ap, subst, inl, inr, arith, nat_le, BookRows, Each, Reached, Read, State, default_config, map, nat_eq, next_record, append-nil, nat_tests, AreTaken, Begun, Cause, EndsReadingAs, FirstFaultsAreOne, FirstFaultsExcludeBooks, FitsColumns, IsBegunOf, IsFinishedAs, IsFirstCause, IsNoRow, IsOfNoBook, IsReadAs, IsRowRefused, RefusesEnd, RefusesRow, Row, Taking, header, is_whole, place, row_fields, run, then_run}
-use Rattle.csv.specs.declared.parser.Config.{Config}
-use Rattle.pawn_csv.proofs.OneSpelling.{one_row}
-use Rattle.pawn_csv.proofs.TakenLemmas.{texts_are_read_as}
+use Rattle.pawn_csv.proofs.Basics.{◌≡◌, ◌≢◌, ◌⊎◌, ◌∙◌, ◌++◌, ◌∷◌, ◌+◌, ◌<◌, ◌≤◌, [], ℕ, Bool, true, false, List, length, Option, Some, None, Result, Ok, Err}
+use Rattle.pawn_csv.{proofs.Basics.{refl, sym, ap, subst, inl, inr, arith, nat_le, map, nat_eq, append-nil, nat_tests}, specs.Common.{BookRows, Each, Reached}}
+use Rattle.pawn_csv.specs.{Common.{Read, State, default_config, next_record}, Reading.{AreTaken, EndsReadingAs, IsFirstCause, IsNoRow, IsReadAs, IsRowRefused}}
+use Rattle.pawn_csv.specs.{Reading.{RefusesEnd, RefusesRow, Taking}, Order.{Begun, is_whole, place, run, then_run}, Types.{Cause, Row}, Laws.FirstFaultsAreOne}
+use Rattle.pawn_csv.specs.{Laws.FirstFaultsExcludeBooks, Rows.{FitsColumns, header, row_fields}, Finishing.{IsBegunOf, IsFinishedAs, IsOfNoBook}}
+use Rattle.{pawn_csv.proofs.{OneSpelling.one_row, TakenLemmas.texts_are_read_as}, csv.specs.declared.parser.Config.Config}
 
 -- records that were reached
 
@@ -21,7 +23,8 @@ reached_on cfg [] bs s xs s2 ys s3 zs a b short = (bs, refl, rw (a.0, a.1) at b)
 reached_on cfg (f ∷ fronts) [] s xs s2 ys s3 zs a b short = absurd (omega (arith, short))
 reached_on cfg (f ∷ fronts) (r ∷ bs) s xs s2 ys s3 zs a b short =
     let same = same_read a.0 b.0 _ a.1 b.1 in
-    let (more, whole, on) = reached_on cfg fronts bs a.0.1 a.0.2 s2 ys s3 zs a.3 (subst (λ (q : Read). Reached cfg q.1 q.2 bs s3 zs) (sym same) b.3) (omega (arith, short)) in
+    let (more, whole, on) =
+    reached_on cfg fronts bs a.0.1 a.0.2 s2 ys s3 zs a.3 (subst (λ (q : Read). Reached cfg q.1 q.2 bs s3 zs) (sym same) b.3) (omega (arith, short)) in
     (more, ap (λ x. x ∷ (fronts ++ more)) (a.2 ∙ ap (λ (q : Read). q.0) same ∙ sym b.2) ∙ ap (λ xs. r ∷ xs) whole, on)
 
 -- the first of the records that go on
@@ -73,21 +76,23 @@ one_refusal fields s c d a b =
     same_answer (place s a.0) c d a.2 (subst (λ (r : Row). place s r ≡ Err d) (sym same) b.2)
 
 -- columns that were taken are refused for none
-no_refusal : (fields : List (List ℕ)) (s : Option Begun) (r : Row) (b : Begun) (c : Cause) → FitsColumns r → fields ≡ row_fields r → place s r ≡ Ok b → IsRowRefused fields s c → ⊥
+no_refusal : (fields : List (List ℕ)) (s : Option Begun) (r : Row) (b : Begun) (c : Cause) → FitsColumns r → fields ≡ row_fields r → place s r ≡ Ok b
+    → IsRowRefused fields s c → ⊥
 no_refusal fields s r b c fits spelled placed a =
     let same = one_row r a.0 fits a.1.0 (sym spelled ∙ a.1.1) in
     no_answer (place s a.0) b c (subst (λ (x : Row). place s x ≡ Ok b) same placed) a.2
 
 -- columns that were taken are refused for no cause
-not_taken : (x : List (List ℕ)) (s : Option Begun) (r : Row) (u : Begun) → FitsColumns r → x ≡ row_fields r → place s r ≡ Ok u → (e : Cause) → e ≢ Cause.Memory → RefusesRow x s e → ⊥
+not_taken : (x : List (List ℕ)) (s : Option Begun) (r : Row) (u : Begun) → FitsColumns r → x ≡ row_fields r → place s r ≡ Ok u → (e : Cause) → e ≢ Cause.Memory
+    → RefusesRow x s e → ⊥
 not_taken x s r u fits spelled placed e other (inl memory) = other memory
 not_taken x s r u fits spelled placed e other (inr (inl few)) = few.1 (ap length spelled ∙ fifteen r)
 not_taken x s r u fits spelled placed e other (inr (inr (inl none))) = none.2 r fits spelled
 not_taken x s r u fits spelled placed e other (inr (inr (inr refusal))) = no_refusal x s r u e fits spelled placed refusal
 
 -- of rows that ran the first was placed, and the others ran from there
-run_first : (from : Option Begun) (r : Row) (later : List Row) (t : Option Begun) (o : Result Begun Cause) → place from r ≡ o → then_run o (λ v. run v later) ≡ Ok t
-    → (u : Begun) × (place from r ≡ Ok u) × (run (Some u) later ≡ Ok t)
+run_first : (from : Option Begun) (r : Row) (later : List Row) (t : Option Begun) (o : Result Begun Cause) → place from r ≡ o
+    → then_run o (λ v. run v later) ≡ Ok t → (u : Begun) × (place from r ≡ Ok u) × (run (Some u) later ≡ Ok t)
 run_first from r later t (Ok u) is ran = (u, is, ran)
 run_first from r later t (Err e) is ran = absurd cc
 
@@ -128,18 +133,18 @@ taken_next (h ∷ rs) x more rows others s t c why a b refused =
 
 -- why the records that were taken go on no further
 abbrev pub Stops : List (List (List ℕ)) → State → List ℕ → Option Begun → Cause → Type 0
-Stops before state rest s c =
-    ((p : Read) × (next_record default_config state [] [] rest ≡ Some p) × Taking (nat_eq (length before) 0) p.0 s (let r : Result (Unit {0}) Cause = Err c in r) s)
-    ⊎ ((next_record default_config state [] [] rest ≡ None) × EndsReadingAs before s c)
+Stops before state rest s c = ((p : Read) × (next_record default_config state [] [] rest ≡ Some p) × Taking (nat_eq (length before) 0) p.0 s
+    (let r : Result (Unit {0}) Cause = Err c in r) s) ⊎ ((next_record default_config state [] [] rest ≡ None) × EndsReadingAs before s c)
 
 -- they stop where no other reading goes on
-goes_on : (before : List (List (List ℕ))) (x : List (List ℕ)) (more : List (List (List ℕ))) (rows others : List Row) (s t : Option Begun) (c : Cause) (state : State) (rest : List ℕ) (s2 : State) (ys : List ℕ)
-    → c ≢ Cause.Memory → AreTaken before rows s → AreTaken (before ++ x ∷ more) others t → Reached default_config state rest (x ∷ more) s2 ys → Stops before state rest s c → ⊥
+goes_on : (before : List (List (List ℕ))) (x : List (List ℕ)) (more : List (List (List ℕ))) (rows others : List Row) (s t : Option Begun) (c : Cause)
+    (state : State) (rest : List ℕ) (s2 : State) (ys : List ℕ) → c ≢ Cause.Memory → AreTaken before rows s → AreTaken (before ++ x ∷ more) others t
+    → Reached default_config state rest (x ∷ more) s2 ys → Stops before state rest s c → ⊥
 goes_on before x more rows others s t c state rest s2 ys why taken taken2 on (inl w) =
     let (p, next, is) = next_of default_config state rest x more s2 ys on in
     let same = same_read w.0 p _ w.1 next in
-    taken_next before x more rows others s t c why taken taken2
-    (subst (λ (q : List (List ℕ)). Taking (nat_eq (length before) 0) q s (let r : Result (Unit {0}) Cause = Err c in r) s) (ap (λ (q : Read). q.0) same ∙ sym is) w.2)
+    taken_next before x more rows others s t c why taken taken2 (subst (λ (q : List (List ℕ)). Taking (nat_eq (length before) 0) q s
+    (let r : Result (Unit {0}) Cause = Err c in r) s) (ap (λ (q : Read). q.0) same ∙ sym is) w.2)
 goes_on before x more rows others s t c state rest s2 ys why taken taken2 on (inr w) =
     let (p, next, is) = next_of default_config state rest x more s2 ys on in no_read p _ w.0 next
 
@@ -168,7 +173,8 @@ one_taking true x s c d hc hd a b = a.1 ∙ sym b.1
 one_taking false x s c d hc hd a b = one_verdict x s c d (verdict_of x s c hc a) (verdict_of x s d hd b)
 
 -- why the end is refused: rows are wanting, or they make no book
-end_of : (s : Option Begun) (e : Cause) → e ≢ Cause.Memory → RefusesEnd s e → ((e ≡ Cause.Order) × (is_whole s ≡ false)) ⊎ ((e ≡ Cause.NotReplayable) × IsOfNoBook s)
+end_of : (s : Option Begun) (e : Cause) → e ≢ Cause.Memory → RefusesEnd s e
+    → ((e ≡ Cause.Order) × (is_whole s ≡ false)) ⊎ ((e ≡ Cause.NotReplayable) × IsOfNoBook s)
 end_of s Cause.Order other says = inl (refl, says)
 end_of s Cause.NotReplayable other says = inr (refl, says)
 end_of s Cause.Memory other says = absurd (other refl)
@@ -177,16 +183,16 @@ end_of s e other says = absurd says
 whole_or_not : (v : Bool) → v ≡ false → v ≡ true → ⊥
 whole_or_not v a b = let e = sym a ∙ b in cc
 
-one_end : (before : List (List (List ℕ))) (s : Option Begun) (c d : Cause) → c ≢ Cause.Memory → d ≢ Cause.Memory → EndsReadingAs before s c → EndsReadingAs before s d → c ≡ d
+one_end : (before : List (List (List ℕ))) (s : Option Begun) (c d : Cause) → c ≢ Cause.Memory → d ≢ Cause.Memory → EndsReadingAs before s c
+    → EndsReadingAs before s d → c ≡ d
 one_end [] s c d hc hd a b = a ∙ sym b
-one_end (h ∷ rs) s c d hc hd a b = from (end_of s c hc a) (end_of s d hd b)
-  where
-    from : ((c ≡ Cause.Order) × (is_whole s ≡ false)) ⊎ ((c ≡ Cause.NotReplayable) × IsOfNoBook s)
-        → ((d ≡ Cause.Order) × (is_whole s ≡ false)) ⊎ ((d ≡ Cause.NotReplayable) × IsOfNoBook s) → c ≡ d
-    from (inl x) (inl y) = x.0 ∙ sym y.0
-    from (inl x) (inr y) = absurd (whole_or_not (is_whole s) x.1 y.1.2)
-    from (inr x) (inl y) = absurd (whole_or_not (is_whole s) y.1 x.1.2)
-    from (inr x) (inr y) = x.0 ∙ sym y.0
+one_end (h ∷ rs) s c d hc hd a b = from (end_of s c hc a) (end_of s d hd b) where
+  from : ((c ≡ Cause.Order) × (is_whole s ≡ false)) ⊎ ((c ≡ Cause.NotReplayable) × IsOfNoBook s)
+      → ((d ≡ Cause.Order) × (is_whole s ≡ false)) ⊎ ((d ≡ Cause.NotReplayable) × IsOfNoBook s) → c ≡ d
+  from (inl x) (inl y) = x.0 ∙ sym y.0
+  from (inl x) (inr y) = absurd (whole_or_not (is_whole s) x.1 y.1.2)
+  from (inr x) (inl y) = absurd (whole_or_not (is_whole s) y.1 x.1.2)
+  from (inr x) (inr y) = x.0 ∙ sym y.0
 
 -- they stop for one cause
 one_stop : (before : List (List (List ℕ))) (state : State) (rest : List ℕ) (s : Option Begun) (c d : Cause) → c ≢ Cause.Memory → d ≢ Cause.Memory
@@ -211,55 +217,56 @@ no_longer text c d m n f g why (x ∷ more) whole on =
 same_fault : (text : List ℕ) (c d : Cause) (m n : ℕ) (f : IsFirstCause text c m) (g : IsFirstCause text d n) → c ≢ Cause.Memory → d ≢ Cause.Memory
     → length f.at.before ≤ length g.at.before → (c ≡ d) × (m ≡ n)
 same_fault text c d m n f g hc hd short =
-    let (more, whole, on) = reached_on default_config f.at.before g.at.before State.StartRecord text f.at.state f.at.rest g.at.state g.at.rest f.at.reached g.at.reached short in
+    let (more, whole, on) =
+    reached_on default_config f.at.before g.at.before State.StartRecord text f.at.state f.at.rest g.at.state g.at.rest f.at.reached g.at.reached short in
     let none = no_longer text c d m n f g hc more whole on in
     let same : f.at.before ≡ g.at.before = sym (append-nil f.at.before) ∙ ap (λ (b : List (List (List ℕ))). f.at.before ++ b) (sym none) ∙ whole in
-    let (states, rests) = ended default_config f.at.state f.at.rest g.at.state g.at.rest (subst (λ (b : List (List (List ℕ))). Reached default_config f.at.state f.at.rest b g.at.state g.at.rest) none on) in
+    let (states, rests) = ended default_config f.at.state f.at.rest g.at.state g.at.rest
+    (subst (λ (b : List (List (List ℕ))). Reached default_config f.at.state f.at.rest b g.at.state g.at.rest) none on) in
     let taken = subst (λ (b : List (List (List ℕ))). AreTaken b g.at.rows g.at.begun) (sym same) g.at.taken in
     let begun = taken_same f.at.before f.at.rows g.at.rows f.at.begun g.at.begun f.at.taken taken in
     let there : Stops f.at.before f.at.state f.at.rest f.at.begun d = rw (same, states, rests, begun) g.why in
     (one_stop f.at.before f.at.state f.at.rest f.at.begun c d hc hd f.why there, omega (arith, f.at.place, g.at.place, ap length same))
 
 pub first_faults_are_one : FirstFaultsAreOne
-first_faults_are_one text c d m n hc hd f g = from (nat_le (length f.at.before) (length g.at.before)) refl
-  where
-    from : (v : Bool) → nat_le (length f.at.before) (length g.at.before) ≡ v → (c ≡ d) × (m ≡ n)
-    from true is = same_fault text c d m n f g hc hd (grind (arith, nat_tests, is))
-    from false is = let same = same_fault text d c n m g f hd hc (grind (arith, nat_tests, is)) in (sym same.0, sym same.1)
+first_faults_are_one text c d m n hc hd f g = from (nat_le (length f.at.before) (length g.at.before)) refl where
+  from : (v : Bool) → nat_le (length f.at.before) (length g.at.before) ≡ v → (c ≡ d) × (m ≡ n)
+  from true is = same_fault text c d m n f g hc hd (grind (arith, nat_tests, is))
+  from false is = let same = same_fault text d c n m g f hd hc (grind (arith, nat_tests, is)) in (sym same.0, sym same.1)
 
 -- a text that is read to its end has no fault
-no_fault_in : (text : List ℕ) (c : Cause) (m : ℕ) (k : BookRows) (f : IsFirstCause text c m) (records : List (List (List ℕ))) (rows : List Row) (s : Option Begun) (s2 : State) (ys : List ℕ)
-    → c ≢ Cause.Memory → Reached default_config State.StartRecord text records s2 ys → next_record default_config s2 [] [] ys ≡ None → AreTaken records rows s → IsFinishedAs s k
+no_fault_in : (text : List ℕ) (c : Cause) (m : ℕ) (k : BookRows) (f : IsFirstCause text c m) (records : List (List (List ℕ))) (rows : List Row)
+    (s : Option Begun) (s2 : State) (ys : List ℕ) → c ≢ Cause.Memory → Reached default_config State.StartRecord text records s2 ys
+    → next_record default_config s2 [] [] ys ≡ None → AreTaken records rows s → IsFinishedAs s k
     → (more : List (List (List ℕ))) → f.at.before ++ more ≡ records → Reached default_config f.at.state f.at.rest more s2 ys → ⊥
 no_fault_in text c m k f records rows s s2 ys hc all none taken finished (x ∷ more) whole on =
-    goes_on f.at.before x more f.at.rows rows f.at.begun s c f.at.state f.at.rest s2 ys hc f.at.taken (subst (λ (b : List (List (List ℕ))). AreTaken b rows s) (sym whole) taken) on f.why
-no_fault_in text c m k f records rows s s2 ys hc all none taken finished [] whole on = from f.why
-  where
-    same : f.at.before ≡ records
-    same = sym (append-nil f.at.before) ∙ whole
+    goes_on f.at.before x more f.at.rows rows f.at.begun s c f.at.state f.at.rest s2 ys hc f.at.taken
+    (subst (λ (b : List (List (List ℕ))). AreTaken b rows s) (sym whole) taken) on f.why
+no_fault_in text c m k f records rows s s2 ys hc all none taken finished [] whole on = from f.why where
+  same : f.at.before ≡ records
+  same = sym (append-nil f.at.before) ∙ whole
 
-    begun : f.at.begun ≡ s
-    begun = taken_same f.at.before f.at.rows rows f.at.begun s f.at.taken (subst (λ (b : List (List (List ℕ))). AreTaken b rows s) (sym same) taken)
+  begun : f.at.begun ≡ s
+  begun = taken_same f.at.before f.at.rows rows f.at.begun s f.at.taken (subst (λ (b : List (List (List ℕ))). AreTaken b rows s) (sym same) taken)
 
-    ends : (e : Option Begun) → e ≡ s → ((c ≡ Cause.Order) × (is_whole e ≡ false)) ⊎ ((c ≡ Cause.NotReplayable) × IsOfNoBook e) → ⊥
-    ends e is (inl x) = whole_or_not (is_whole s) (subst (λ (o : Option Begun). is_whole o ≡ false) is x.1) finished.2
-    ends e is (inr x) =
-        let b : x.1.0 ≡ finished.0 = (let a = sym x.1.1 ∙ is ∙ finished.1 in cc) in
-        x.1.3 k (subst (λ (v : Begun). IsBegunOf v k) (sym b) finished.3) finished.4
+  ends : (e : Option Begun) → e ≡ s → ((c ≡ Cause.Order) × (is_whole e ≡ false)) ⊎ ((c ≡ Cause.NotReplayable) × IsOfNoBook e) → ⊥
+  ends e is (inl x) = whole_or_not (is_whole s) (subst (λ (o : Option Begun). is_whole o ≡ false) is x.1) finished.2
+  ends e is (inr x) =
+      let b : x.1.0 ≡ finished.0 = (let a = sym x.1.1 ∙ is ∙ finished.1 in cc) in
+      x.1.3 k (subst (λ (v : Begun). IsBegunOf v k) (sym b) finished.3) finished.4
 
-    at_end : (before : List (List (List ℕ))) → before ≡ records → EndsReadingAs before f.at.begun c → ⊥
-    at_end [] is e = empty records is taken
-      where
-        empty : (rs : List (List (List ℕ))) → [] ≡ rs → AreTaken rs rows s → ⊥
-        empty [] is a = let e = sym a.1 ∙ finished.1 in cc
-        empty (r ∷ rs) is a = absurd (omega (arith, ap length is))
-    at_end (h ∷ rs) is e = ends f.at.begun begun (end_of f.at.begun c hc e)
+  at_end : (before : List (List (List ℕ))) → before ≡ records → EndsReadingAs before f.at.begun c → ⊥
+  at_end [] is e = empty records is taken where
+    empty : (rs : List (List (List ℕ))) → [] ≡ rs → AreTaken rs rows s → ⊥
+    empty [] is a = let e = sym a.1 ∙ finished.1 in cc
+    empty (r ∷ rs) is a = absurd (omega (arith, ap length is))
+  at_end (h ∷ rs) is e = ends f.at.begun begun (end_of f.at.begun c hc e)
 
-    from : Stops f.at.before f.at.state f.at.rest f.at.begun c → ⊥
-    from (inl w) =
-        let (states, rests) = ended default_config f.at.state f.at.rest s2 ys on in
-        no_read w.0 _ (rw (states, rests) none) w.1
-    from (inr w) = at_end f.at.before same w.1
+  from : Stops f.at.before f.at.state f.at.rest f.at.begun c → ⊥
+  from (inl w) =
+      let (states, rests) = ended default_config f.at.state f.at.rest s2 ys on in
+      no_read w.0 _ (rw (states, rests) none) w.1
+  from (inr w) = at_end f.at.before same w.1
 
 -- nothing goes on behind the end
 pub no_further : (state : State) (rest : List ℕ) (more : List (List (List ℕ))) (s2 : State) (ys : List ℕ)
@@ -269,19 +276,20 @@ no_further state rest (x ∷ more) s2 ys none on = let (p, next, is) = next_of d
 
 -- a text with a first fault is read as no book
 no_reading : (text : List ℕ) (c : Cause) (m : ℕ) (k : BookRows) → c ≢ Cause.Memory → IsFirstCause text c m → IsReadAs text k → ⊥
-no_reading text c m k hc f read = from (nat_le (length f.at.before) (length read.0)) refl
-  where
-    from : (v : Bool) → nat_le (length f.at.before) (length read.0) ≡ v → ⊥
-    from true is =
-        let (more, whole, on) = reached_on default_config f.at.before read.0 State.StartRecord text f.at.state f.at.rest read.3.0 read.3.1 f.at.reached read.3.2 (grind (arith, nat_tests, is)) in
-        no_fault_in text c m k f read.0 read.1 read.2 read.3.0 read.3.1 hc read.3.2 read.3.3 read.4 read.5 more whole on
-    from false is =
-        let (more, whole, on) = reached_on default_config read.0 f.at.before State.StartRecord text read.3.0 read.3.1 f.at.state f.at.rest read.3.2 f.at.reached (grind (arith, nat_tests, is)) in
-        let none = no_further read.3.0 read.3.1 more f.at.state f.at.rest read.3.3 on in
-        let same : read.0 ≡ f.at.before = sym (append-nil read.0) ∙ ap (λ (b : List (List (List ℕ))). read.0 ++ b) (sym none) ∙ whole in
-        let longer : length f.at.before < length read.0 + 1 = omega (arith, ap length same) in
-        let short : length read.0 < length f.at.before = grind (arith, nat_tests, is) in
-        absurd (omega (arith, short, ap length same))
+no_reading text c m k hc f read = from (nat_le (length f.at.before) (length read.0)) refl where
+  from : (v : Bool) → nat_le (length f.at.before) (length read.0) ≡ v → ⊥
+  from true is =
+      let (more, whole, on) = reached_on default_config f.at.before read.0 State.StartRecord text f.at.state f.at.rest read.3.0 read.3.1 f.at.reached read.3.2
+      (grind (arith, nat_tests, is)) in
+      no_fault_in text c m k f read.0 read.1 read.2 read.3.0 read.3.1 hc read.3.2 read.3.3 read.4 read.5 more whole on
+  from false is =
+      let (more, whole, on) = reached_on default_config read.0 f.at.before State.StartRecord text read.3.0 read.3.1 f.at.state f.at.rest read.3.2 f.at.reached
+      (grind (arith, nat_tests, is)) in
+      let none = no_further read.3.0 read.3.1 more f.at.state f.at.rest read.3.3 on in
+      let same : read.0 ≡ f.at.before = sym (append-nil read.0) ∙ ap (λ (b : List (List (List ℕ))). read.0 ++ b) (sym none) ∙ whole in
+      let longer : length f.at.before < length read.0 + 1 = omega (arith, ap length same) in
+      let short : length read.0 < length f.at.before = grind (arith, nat_tests, is) in
+      absurd (omega (arith, short, ap length same))
 
 pub first_faults_exclude_books : FirstFaultsExcludeBooks
 first_faults_exclude_books text c m k hc f is = no_reading text c m k hc f (texts_are_read_as text k is)

@@ -1,8 +1,11 @@
 -- A row has one spelling: columns that two rows have are the columns of one row.
-use Rattle.pawn_csv.proofs.Basics.{◌≡◌, ◌∙◌, ◌^◌, ◌<◌, ◌-◌, ℕ, Bool, true, false, List, [], length, Option, None, Some, refl, sym, ap, arith, get_or, Booking, Draw, Entry, Extension, Fixed, IfSome, Issue, Issued, Kind, Opening, Rates, Repay, Running, Sort, credit_of, decimal, secret_of_text, secret_text, sort_text, state_text, decimal_injective, decimal_nonempty, IsStampDay, civil_of, day_text, first_day, secret_texts_read_back, AreColumns, ClosingWord, FitsColumns, IsColumnNumber, PledgeColumns, Row, Version, closing_text, form_text, issue_text, kind_text, pledge_fields, row_fields, text_if_any, yes_text}
-use Rattle.pawn_terms.proofs.CalendarLemmas.{civil_after_is, count_of}
-use Rattle.pawn_terms.proofs.TextLemmas.{civil_of-stamp, civil_text-injective}
-use Rattle.pawn_pledge.specs.declared.record.BookingState.{BookingState}
+use Rattle.pawn_csv.proofs.Basics.{◌≡◌, ◌∙◌, ◌^◌, ◌<◌, ◌-◌, ℕ, Bool, true, false, List, [], length, Option, None, Some, refl, sym, ap, arith, get_or, IfSome}
+use Rattle.pawn_csv.{proofs.Basics.{decimal, secret_texts_read_back}, specs.Common.{Booking, Draw, Entry, Extension, Fixed, Issue, Issued, Kind, Opening}}
+use Rattle.pawn_csv.specs.{Common.{Rates, Repay, Running, Sort, credit_of, secret_of_text, secret_text, sort_text, state_text}, Rows.{AreColumns, FitsColumns}}
+use Rattle.pawn_csv.specs.{Rows.{IsColumnNumber, pledge_fields, row_fields}, Types.{ClosingWord, PledgeColumns, Row, Version}, Columns.closing_text}
+use Rattle.{pawn_csv.specs.Columns.{form_text, issue_text, kind_text, text_if_any, yes_text}, pawn_terms.specs.Calendar.{IsStampDay, day_text, civil_of}}
+use Rattle.pawn_terms.{specs.Calendar.first_day, proofs.{CalendarLemmas.{civil_after_is, count_of}, TextLemmas.{civil_of-stamp, civil_text-injective}}}
+use Rattle.{std.proofs.lemmas.Fmt.{decimal_injective, decimal_nonempty}, pawn_pledge.specs.declared.record.BookingState.BookingState}
 
 -- columns
 
@@ -96,18 +99,16 @@ same_booking a b e f g = rw (e, f, g) refl
 same_opening : (a b : Opening) → a.reference ≡ b.reference → a.article ≡ b.article → a.kind ≡ b.kind → a.agreed ≡ b.agreed → a.five_days ≡ b.five_days → a ≡ b
 same_opening a b e f g h i = rw (e, f, g, h, i) refl
 
-same_columns : (a b : PledgeColumns) → a.number ≡ b.number → a.opening ≡ b.opening → a.taken ≡ b.taken → a.version ≡ b.version → a.held ≡ b.held → a.last ≡ b.last
-    → a.closing ≡ b.closing → a.closing_day ≡ b.closing_day → a.amount ≡ b.amount → a ≡ b
+same_columns : (a b : PledgeColumns) → a.number ≡ b.number → a.opening ≡ b.opening → a.taken ≡ b.taken → a.version ≡ b.version → a.held ≡ b.held
+    → a.last ≡ b.last → a.closing ≡ b.closing → a.closing_day ≡ b.closing_day → a.amount ≡ b.amount → a ≡ b
 same_columns a b e f g h i j k l m = rw (e, f, g, h, i, j, k, l, m) refl
 
 one_pledge : (a b : PledgeColumns) → AreColumns a → AreColumns b → pledge_fields a ≡ pledge_fields b → a ≡ b
 one_pledge a b ha hb e =
     let at = λ (place : ℕ). column place (pledge_fields a) (pledge_fields b) e in
-    same_columns a b (number a.number b.number ha.number hb.number (at 1))
-    (same_opening a.opening b.opening (at 2) (at 3)
+    same_columns a b (number a.number b.number ha.number hb.number (at 1)) (same_opening a.opening b.opening (at 2) (at 3)
     (kind a.opening.kind b.opening.kind (at 4) (number (credit_of a.opening.kind) (credit_of b.opening.kind) ha.credit hb.credit (at 5)))
-    (day_if_any a.opening.agreed b.opening.agreed ha.opening.agreed hb.opening.agreed (at 7))
-    (yes_word a.opening.five_days b.opening.five_days (at 8)))
+    (day_if_any a.opening.agreed b.opening.agreed ha.opening.agreed hb.opening.agreed (at 7)) (yes_word a.opening.five_days b.opening.five_days (at 8)))
     (day a.taken b.taken ha.taken hb.taken (at 6)) (number a.version b.version ha.version hb.version (at 9)) (yes_word a.held b.held (at 10))
     (day a.last b.last ha.last hb.last (at 11)) (closing_word a.closing b.closing (at 12))
     (day_if_any a.closing_day b.closing_day ha.closing_day hb.closing_day (at 13)) (number_if_any a.amount b.amount ha.amount hb.amount (at 14))

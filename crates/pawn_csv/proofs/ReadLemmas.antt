@@ -1,6 +1,10 @@
 -- The records so far, and what they make.
-use Rattle.pawn_csv.proofs.Basics.{◌≡◌, ◌≢◌, ◌∙◌, ◌+◌, ℕ, Bool, true, false, List, [], ◌∷◌, ◌++◌, length, map, Option, Some, None, Result, Ok, Err, refl, sym, ap, subst, arith, nat_eq, inl, inr, BookRows, ErrorKind, ExplainsRead, IfSome, NextIs, Reached, Read, ReadRecord, ReadsNext, State, default_config, next_record, pending_of, source_of, Each-push, length-append, map-append, nat_tests, AnswersBegun, AreTaken, AreTakenBefore, Begun, Cause, CauseOf, Ends, EndsReadingAs, Fails, FitsColumns, IsFaultOf, IsFinishedAs, IsFirstCause, IsReadAs, IsSpelled, RefusesRow, Row, Taking, place, row_fields, run, then_run}
-use Rattle.csv.specs.declared.reader.Reader.{Reader}
+use Rattle.pawn_csv.proofs.Basics.{◌≡◌, ◌≢◌, ◌∙◌, ◌+◌, ℕ, Bool, true, false, List, [], ◌∷◌, ◌++◌, length, map, Option, Some, None, Result, Ok, Err, refl, sym}
+use Rattle.pawn_csv.{proofs.Basics.{ap, subst, arith, nat_eq, inl, inr, IfSome, Each-push, length-append, nat_tests}, specs.Common.{BookRows, ErrorKind}}
+use Rattle.pawn_csv.specs.Common.{ExplainsRead, NextIs, Reached, Read, ReadRecord, ReadsNext, State, default_config, next_record, pending_of, source_of}
+use Rattle.pawn_csv.specs.{Answers.{AnswersBegun, Fails}, Reading.{AreTaken, AreTakenBefore, CauseOf, EndsReadingAs, IsFaultOf, IsFirstCause, IsReadAs}}
+use Rattle.pawn_csv.specs.{Reading.{IsSpelled, RefusesRow, Taking}, Order.{Begun, place, run, then_run}, Types.{Cause, Row}, Finishing.{Ends, IsFinishedAs}}
+use Rattle.{pawn_csv.specs.Rows.{FitsColumns, row_fields}, std.proofs.lemmas.List.map-append, csv.specs.declared.reader.Reader.Reader}
 use Rattle.csv.proofs.ReadFacts.{rows-end, rows-more}
 
 pub record SoFar {R : Type 0} (rem : R → Option (List ℕ)) (text : List ℕ) (reader : Reader R) (index : ℕ) (raw : Option Begun) : Type 0 where
@@ -21,8 +25,8 @@ run-push (q ∷ rows) r s t b ran placed =
       | Err e ↦ λ rest. cc
     ] ran
 
-taken_more : {U : Type 0} (u : U) (records : List (List (List ℕ))) (rows : List Row) (i : ℕ) (f : List (List ℕ)) (raw new : Option Begun)
-    → length records ≡ i → AreTaken records rows raw → Taking (nat_eq i 0) f raw (let r : Result U Cause = Ok u in r) new → (more : List Row) × AreTaken (records ++ f ∷ []) more new
+taken_more : {U : Type 0} (u : U) (records : List (List (List ℕ))) (rows : List Row) (i : ℕ) (f : List (List ℕ)) (raw new : Option Begun) → length records ≡ i
+    → AreTaken records rows raw → Taking (nat_eq i 0) f raw (let r : Result U Cause = Ok u in r) new → (more : List Row) × AreTaken (records ++ f ∷ []) more new
 taken_more u [] rows i f raw new count taken step =
     let first : nat_eq i 0 ≡ true = grind (arith, nat_tests, count) in
     let step' = rw first at step in
@@ -41,11 +45,20 @@ taken_more u (h ∷ rs) rows i f raw new count taken step =
 
 -- one record more
 pub so_far_more : {R U : Type 0} (u : U) (rem : R → Option (List ℕ)) (text : List ℕ) (a b : Reader R) (i : ℕ) (f : List (List ℕ)) (raw new : Option Begun)
-    → a.config ≡ default_config → SoFar rem text a i raw → ReadRecord rem a b true f → Taking (nat_eq i 0) f raw (let r : Result U Cause = Ok u in r) new → SoFar rem text b (i + 1) new
+    → a.config ≡ default_config → SoFar rem text a i raw → ReadRecord rem a b true f → Taking (nat_eq i 0) f raw (let r : Result U Cause = Ok u in r) new
+    → SoFar rem text b (i + 1) new
 so_far_more u rem text a b i f raw new config so read step =
     let (z, at_z, reached) = rows-more rem a b f default_config State.StartRecord text so.rest so.records config so.source so.reached read in
     let (rows, taken) = taken_more u so.records so.rows i f raw new so.count so.taken step in
-    record { rest = z; source = at_z; records = so.records ++ f ∷ []; rows = rows; reached = reached; taken = taken; count = grind (arith, length-append so.records (f ∷ []), so.count) }
+    record {
+      rest = z;
+      source = at_z;
+      records = so.records ++ f ∷ [];
+      rows = rows;
+      reached = reached;
+      taken = taken;
+      count = grind (arith, length-append so.records (f ∷ []), so.count);
+    }
 
 -- the end of the text
 pub so_far_end : {R : Type 0} (rem : R → Option (List ℕ)) (text : List ℕ) (a b : Reader R) (i : ℕ) (f : List (List ℕ)) (raw : Option Begun) (k : BookRows)
@@ -65,7 +78,8 @@ first_is text Cause.Read row h = h.at
 first_is text c row h = h
 
 -- the records so far were taken before the next row
-abbrev pub so_far_before : {R : Type 0} (rem : R → Option (List ℕ)) (text : List ℕ) (a : Reader R) (i : ℕ) (raw : Option Begun) → SoFar rem text a i raw → AreTakenBefore text (i + 1)
+abbrev pub so_far_before : {R : Type 0} (rem : R → Option (List ℕ)) (text : List ℕ) (a : Reader R) (i : ℕ) (raw : Option Begun) → SoFar rem text a i raw
+    → AreTakenBefore text (i + 1)
 so_far_before rem text a i raw so = record {
   before = so.records;
   rows = so.rows;
@@ -80,8 +94,10 @@ so_far_before rem text a i raw so = record {
 -- an error of a reader that takes any length is the reader's own or memory's
 pub reader_fault : {R : Type 0} (rem : R → Option (List ℕ)) (text : List ℕ) (a b : Reader R) (i : ℕ) (raw : Option Begun) (k : ErrorKind) (c : Cause)
     → a.flexible ≡ true → SoFar rem text a i raw → ExplainsRead rem a b false k → CauseOf k c → IsFaultOf text c (i + 1)
-reader_fault rem text a b i raw (ErrorKind.Io e) c flexible so why is = subst (λ (x : Cause). IsFaultOf text x (i + 1)) (sym is) (so_far_before rem text a i raw so)
-reader_fault rem text a b i raw ErrorKind.OutOfMemory c flexible so why is = subst (λ (x : Cause). IsFaultOf text x (i + 1)) (sym is) (so_far_before rem text a i raw so)
+reader_fault rem text a b i raw (ErrorKind.Io e) c flexible so why is =
+    subst (λ (x : Cause). IsFaultOf text x (i + 1)) (sym is) (so_far_before rem text a i raw so)
+reader_fault rem text a b i raw ErrorKind.OutOfMemory c flexible so why is =
+    subst (λ (x : Cause). IsFaultOf text x (i + 1)) (sym is) (so_far_before rem text a i raw so)
 reader_fault rem text a b i raw (ErrorKind.UnequalLengths pos expected len) c flexible so why is = absurd (let e = sym flexible ∙ why.0 in cc)
 reader_fault rem text a b i raw (ErrorKind.Utf8 pos err) c flexible so why is = absurd (let e = why.0 in cc)
 reader_fault rem text a b i raw (ErrorKind.Serialize t) c flexible so why is = absurd why
@@ -92,16 +108,19 @@ next_is : (o : Option Read) (f : List (List ℕ)) (s : State) (ys : List ℕ) �
 next_is None f s ys h = cc
 next_is (Some p) f s ys h = (p, refl, h.1)
 
-next_was : (f : List (List ℕ)) (s : State) (k : Option (List ℕ)) (xs : List ℕ) (state : State) → ReadsNext default_config state (Some xs) k true f s → (p : Read) × (next_record default_config state [] [] xs ≡ Some p) × (f ≡ p.0)
+next_was : (f : List (List ℕ)) (s : State) (k : Option (List ℕ)) (xs : List ℕ) (state : State) → ReadsNext default_config state (Some xs) k true f s
+    → (p : Read) × (next_record default_config state [] [] xs ≡ Some p) × (f ≡ p.0)
 next_was f s None xs state h = absurd h
 next_was f s (Some ys) xs state h = next_is (next_record default_config state [] [] xs) f s ys h
 
 -- a refusal says nothing of the state after it
-refused_as : (first : Bool) (f : List (List ℕ)) (raw new other : Option Begun) (c : Cause) → Taking first f raw (let r : Result (Unit {0}) Cause = Err c in r) new → Taking first f raw (let r : Result (Unit {0}) Cause = Err c in r) other
+refused_as : (first : Bool) (f : List (List ℕ)) (raw new other : Option Begun) (c : Cause)
+    → Taking first f raw (let r : Result (Unit {0}) Cause = Err c in r) new → Taking first f raw (let r : Result (Unit {0}) Cause = Err c in r) other
 refused_as true f raw new other c h = h
 refused_as false f raw new other c h = h
 
-end_refused : (records : List (List (List ℕ))) (raw : Option Begun) (c : Cause) → length records ≢ 0 → (let r : Result BookRows Cause = Err c in Ends raw r) → EndsReadingAs records raw c
+end_refused : (records : List (List (List ℕ))) (raw : Option Begun) (c : Cause) → length records ≢ 0 → (let r : Result BookRows Cause = Err c in Ends raw r)
+    → EndsReadingAs records raw c
 end_refused [] raw c some h = absurd (some refl)
 end_refused (h ∷ rs) raw Cause.Memory some is = tt
 end_refused (h ∷ rs) raw c some is = is
@@ -112,38 +131,44 @@ end_empty (h ∷ rs) raw none = absurd (omega (arith, none))
 
 -- the row that was read is refused
 pub so_far_refused : {R : Type 0} (rem : R → Option (List ℕ)) (text : List ℕ) (a b : Reader R) (i : ℕ) (f : List (List ℕ)) (raw new : Option Begun) (c : Cause)
-    → a.config ≡ default_config → SoFar rem text a i raw → ReadRecord rem a b true f → Taking (nat_eq i 0) f raw (let r : Result (Unit {0}) Cause = Err c in r) new → IsFaultOf text c (i + 1)
+    → a.config ≡ default_config → SoFar rem text a i raw → ReadRecord rem a b true f
+    → Taking (nat_eq i 0) f raw (let r : Result (Unit {0}) Cause = Err c in r) new → IsFaultOf text c (i + 1)
 so_far_refused rem text a b i f raw new c config so read step =
     let (p, is, same) = next_was f b.state (pending_of (rem b.rdr) b) so.rest a.state (rw (config, so.source) at read.0) in
     first_is text c (i + 1) (record {
       at = so_far_before rem text a i raw so;
-      why = inl (p, is, rw same at (refused_as (nat_eq (length so.records) 0) f raw new raw c (subst (λ n. Taking (nat_eq n 0) f raw (let r : Result (Unit {0}) Cause = Err c in r) new) (sym so.count) step)));
+      why = inl (
+        p,
+        is,
+        rw same at (refused_as (nat_eq (length so.records) 0) f raw new raw c
+            (subst (λ n. Taking (nat_eq n 0) f raw (let r : Result (Unit {0}) Cause = Err c in r) new) (sym so.count) step)),
+      );
     })
 
 -- the end is refused
 pub so_far_unfinished : {R : Type 0} (rem : R → Option (List ℕ)) (text : List ℕ) (a b : Reader R) (i : ℕ) (f : List (List ℕ)) (raw : Option Begun) (c : Cause)
-    → a.config ≡ default_config → SoFar rem text a i raw → ReadRecord rem a b false f → i ≢ 0 → (let r : Result BookRows Cause = Err c in Ends raw r) → IsFaultOf text c (i + 1)
-so_far_unfinished rem text a b i f raw c config so read some refused =
-    first_is text c (i + 1) (record {
-      at = so_far_before rem text a i raw so;
-      why = inr (rows-end rem a b f default_config so.rest config so.source read, end_refused so.records raw c (λ e. some (sym so.count ∙ e)) refused);
-    })
+    → a.config ≡ default_config → SoFar rem text a i raw → ReadRecord rem a b false f → i ≢ 0 → (let r : Result BookRows Cause = Err c in Ends raw r)
+    → IsFaultOf text c (i + 1)
+so_far_unfinished rem text a b i f raw c config so read some refused = first_is text c (i + 1) (record {
+  at = so_far_before rem text a i raw so;
+  why = inr (rows-end rem a b f default_config so.rest config so.source read, end_refused so.records raw c (λ e. some (sym so.count ∙ e)) refused);
+})
 
 -- a text without records is refused
 pub so_far_empty : {R : Type 0} (rem : R → Option (List ℕ)) (text : List ℕ) (a b : Reader R) (i : ℕ) (f : List (List ℕ)) (raw : Option Begun)
     → a.config ≡ default_config → SoFar rem text a i raw → ReadRecord rem a b false f → i ≡ 0 → IsFaultOf text Cause.Columns 1
-so_far_empty rem text a b i f raw config so read none =
-    subst (λ (n : ℕ). IsFirstCause text Cause.Columns (n + 1)) none (record {
-      at = so_far_before rem text a i raw so;
-      why = inr (rows-end rem a b f default_config so.rest config so.source read, end_empty so.records raw (so.count ∙ none));
-    })
+so_far_empty rem text a b i f raw config so read none = subst (λ (n : ℕ). IsFirstCause text Cause.Columns (n + 1)) none (record {
+  at = so_far_before rem text a i raw so;
+  why = inr (rows-end rem a b f default_config so.rest config so.source read, end_empty so.records raw (so.count ∙ none));
+})
 
 refused_for : (fs : List (List ℕ)) (s : Option Begun) (r : Row) (c : Cause) → IsSpelled fs r → Fails (place s r) c → RefusesRow fs s c
 refused_for fs s r Cause.Memory spelled h = inl refl
 refused_for fs s r c spelled h = inr (inr (inr (r, spelled, h)))
 
 -- a row that is placed, or refused there
-pub placed_is : {U : Type 0} (first : Bool) (fs : List (List ℕ)) (s new : Option Begun) (r : Row) (res : Result U Cause) → first ≡ false → IsSpelled fs r → AnswersBegun (place s r) res new → Taking first fs s res new
+pub placed_is : {U : Type 0} (first : Bool) (fs : List (List ℕ)) (s new : Option Begun) (r : Row) (res : Result U Cause) → first ≡ false → IsSpelled fs r
+    → AnswersBegun (place s r) res new → Taking first fs s res new
 placed_is true fs s new r res is spelled h = cc
 placed_is false fs s new r (Ok u) is spelled h = (r, h.0, spelled, h.1, h.2)
 placed_is false fs s new r (Err e) is spelled h = refused_for fs s r e spelled h

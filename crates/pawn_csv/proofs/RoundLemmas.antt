@@ -1,6 +1,7 @@
 -- The text of a book, read back.
-use Rattle.pawn_csv.proofs.Basics.{◌≡◌, ◌++◌, ◌∷◌, [], List, refl, map, BookRows, Reached, default_config, default_writer, escaped, fields_text, flat_map, is_blank, next_record, read_back, row_text, strip_bom, ℕ, None, IsHeldBy, IsTextOf, Row, csv_of, header, row_fields, rows_of_csv, State, Version}
-use Rattle.csv.proofs.RoundTrip.{read-write}
+use Rattle.pawn_csv.{proofs.Basics.{◌≡◌, ◌++◌, ◌∷◌, [], List, refl, map, ℕ, None}, specs.Common.{BookRows, Reached, default_config, default_writer, escaped}}
+use Rattle.pawn_csv.specs.{Common.{fields_text, flat_map, is_blank, next_record, read_back, row_text, strip_bom, State}, Reading.{IsHeldBy, IsTextOf}}
+use Rattle.{pawn_csv.specs.{Types.{Row, Version}, Rows.{csv_of, header, row_fields, rows_of_csv}}, csv.proofs.RoundTrip.read-write}
 
 -- a record of more than one column is read as it is
 row_back : (r : Row) → read_back (row_fields r) ≡ row_fields r
@@ -8,10 +9,16 @@ row_back (Row.Book v t p) = refl
 row_back r = refl
 
 -- written records are read back
-rows_reached : (rows : List Row) → Reached default_config State.StartRecord (flat_map (row_text default_writer) (map row_fields rows)) (map row_fields rows) State.StartRecord []
+rows_reached : (rows : List Row)
+    → Reached default_config State.StartRecord (flat_map (row_text default_writer) (map row_fields rows)) (map row_fields rows) State.StartRecord []
 unfolding Reached
 rows_reached [] = (refl, refl)
-rows_reached (r ∷ rs) = ((row_fields r, State.StartRecord, flat_map (row_text default_writer) (map row_fields rs)), (rw (row_back r) at (read-write (row_fields r) (flat_map (row_text default_writer) (map row_fields rs)))), refl, rows_reached rs)
+rows_reached (r ∷ rs) = (
+  (row_fields r, State.StartRecord, flat_map (row_text default_writer) (map row_fields rs)),
+  (rw (row_back r) at (read-write (row_fields r) (flat_map (row_text default_writer) (map row_fields rs)))),
+  refl,
+  rows_reached rs,
+)
 
 at_end : next_record default_config State.StartRecord [] [] [] ≡ None
 unfolding next_record
@@ -26,5 +33,9 @@ no_mark rest = refl
 pub held_texts_are_read : (k : BookRows) → IsHeldBy Version.Two k → IsTextOf (strip_bom (csv_of k)) k
 unfolding Reached
 held_texts_are_read k held =
-    let tail = flat_map (row_text default_writer) (map row_fields (rows_of_csv Version.Two k)) in
-    (Version.Two, rw (no_mark tail) (State.StartRecord, [], ((header, State.StartRecord, tail), read-write header tail, refl, rows_reached (rows_of_csv Version.Two k)), at_end), held)
+    let tail = flat_map (row_text default_writer) (map row_fields (rows_of_csv Version.Two k)) in (
+      Version.Two,
+      rw (no_mark tail)
+          (State.StartRecord, [], ((header, State.StartRecord, tail), read-write header tail, refl, rows_reached (rows_of_csv Version.Two k)), at_end),
+      held,
+    )

@@ -1,6 +1,6 @@
 -- Rows from their columns.
-use Rattle.pawn_csv.proofs.Basics.{◌≡◌, ◌∙◌, ◌≤◌, ◌+◌, ℕ, zero, suc, List, [], ◌∷◌, length, ap, arith, drop, replicate, drop_all, AreBlankFrom, COLUMNS, column_at}
-use Rattle.std.proofs.Math.Seq.{drop-cons}
+use Rattle.pawn_csv.{proofs.Basics.{◌≡◌, ◌∙◌, ◌≤◌, ◌+◌, ℕ, zero, suc, List, [], ◌∷◌, length, ap, arith, drop, replicate}, specs.Spelling.AreBlankFrom}
+use Rattle.{pawn_csv.specs.{Spelling.column_at, Types.COLUMNS}, std.proofs.{lemmas.List.drop_all, Math.Seq.drop-cons}}
 
 -- the columns from a place on are these
 abbrev pub Follow : List (List ℕ) → ℕ → List (List ℕ) → Type 0
@@ -9,8 +9,7 @@ Follow fs place (x ∷ xs) = (column_at fs place ≡ x) × Follow fs (suc place)
 
 left_are : (fs : List (List ℕ)) (place : ℕ) (xs : List (List ℕ)) → length fs ≡ place + length xs → Follow fs place xs → drop place fs ≡ xs
 left_are fs place [] n follow = drop_all place fs (omega (arith, n))
-left_are fs place (x ∷ xs) n follow =
-    drop-cons fs place [] (omega (arith, n)) ∙ ap (λ (f : List ℕ). f ∷ drop (suc place) fs) follow.0
+left_are fs place (x ∷ xs) n follow = drop-cons fs place [] (omega (arith, n)) ∙ ap (λ (f : List ℕ). f ∷ drop (suc place) fs) follow.0
     ∙ ap (λ (rest : List (List ℕ)). x ∷ rest) (left_are fs (suc place) xs (omega (arith, n)) follow.1)
 
 -- columns that are known make the record

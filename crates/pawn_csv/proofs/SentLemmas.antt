@@ -1,5 +1,5 @@
 -- Rows put one after the other.
-use Rattle.pawn_csv.proofs.Basics.{◌∙◌, ℕ, List, [], ◌++◌, Option, refl, ap, PutsInTurn, PutsRow, Sink, has_ended, seen}
+use Rattle.pawn_csv.{proofs.Basics.{◌∙◌, ℕ, List, [], ◌++◌, Option, refl, ap, PutsInTurn}, specs.{Sent.{PutsRow, has_ended, seen}, Types.Sink}}
 use Rattle.pawn_writing.specs.Ends as view
 use Rattle.pawn_writing.proofs.PutLemmas as put
 
@@ -12,7 +12,8 @@ pub puts_nil : {W : Type 0} (contents : W → Option (List ℕ)) (a : Sink W) �
 puts_nil contents a = let none = put.puts_nil contents (seen a) in record { ended = λ ended. refl; fine = none.fine }
 
 -- a text and then another
-pub puts_then : {W : Type 0} {contents : W → Option (List ℕ)} {a b c : Sink W} {s t : List ℕ} → PutsRow contents a s b → PutsRow contents b t c → PutsRow contents a (s ++ t) c
+pub puts_then : {W : Type 0} {contents : W → Option (List ℕ)} {a b c : Sink W} {s t : List ℕ} → PutsRow contents a s b → PutsRow contents b t c
+    → PutsRow contents a (s ++ t) c
 puts_then first second = let both = put.puts_then (as_writer first) (as_writer second) in record {
   ended = λ ended. let same = first.ended ended in second.ended (ap has_ended same ∙ ended) ∙ same;
   fine = both.fine;

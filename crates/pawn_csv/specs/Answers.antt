@@ -1,7 +1,6 @@
 -- How calls of the code answer, compared with what the order of rows says.
 use Rattle.std.specs.Prelude.{◌≡◌, Option, Some, Result, Ok, Err}
-use Rattle.pawn_csv.specs.Types.{Cause}
-use Rattle.pawn_csv.specs.Order.{Begun}
+use Rattle.pawn_csv.specs.{Types.Cause, Order.Begun}
 
 -- a refusal is the expected one, unless memory was refused
 abbrev pub Fails : {A : Type 0} → Result A Cause → Cause → Type 0

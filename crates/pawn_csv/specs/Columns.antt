@@ -1,6 +1,5 @@
 -- How a column is spelled. Numbers are decimal, days `2024-01-31`, secrets hyphenated with small letters.
-use Rattle.std.specs.Prelude.{ℕ, Bool, true, false, List, [], Option, Some, None, codes}
-use Rattle.pawn_csv.specs.Common.{Fixed, Issue, Kind, Running}
+use Rattle.{std.specs.Prelude.{ℕ, Bool, true, false, List, [], Option, Some, None, codes}, pawn_csv.specs.Common.{Fixed, Issue, Kind, Running}}
 use Rattle.pawn_csv.specs.Types.{ClosingWord, Version}
 
 abbrev pub form_text : Version → List ℕ

@@ -1,10 +1,9 @@
 -- What an export writes and answers.
-use Rattle.std.specs.Prelude.{◌≡◌, ℕ, ◌+◌, ◌-◌, ◌^◌, min, Bool, true, false, if◌then◌else◌, List, [], Option, Some, None, option_map, unwrap_or, Result, Ok, Err}
-use Rattle.pawn_csv.specs.Common.{Entry, Extension, Flow, Go, Host, Issued, KeepError, PutFront, Stop, ViewFault, Whole, Written, get, rows_of_book, write_failed}
+use Rattle.std.specs.Prelude.{◌≡◌, ℕ, ◌+◌, ◌-◌, ◌^◌, min, Bool, true, false, if◌then◌else◌, List, [], Option, Some, None, option_map, unwrap_or, Result, Ok}
+use Rattle.std.specs.Prelude.{Err}
+use Rattle.pawn_csv.specs.{Common.{Entry, Extension, Flow, Go, Host, Issued, KeepError, Stop, ViewFault, Whole, get, rows_of_book}, Rows.csv_of, Sent.PutsRow}
+use Rattle.{pawn_csv.specs.{Sent.{has_ended, text_of_row, seen}, Types.{Row, RowWriter, Sink}}, pawn_writing.specs.Ends.{PutFront, Written, write_failed}}
 use Rattle.pawn_writing.specs.Fault.{view_fault}
-use Rattle.pawn_csv.specs.Rows.{csv_of}
-use Rattle.pawn_csv.specs.Sent.{PutsRow, has_ended, text_of_row, seen}
-use Rattle.pawn_csv.specs.Types.{Row, RowWriter, Sink}
 
 -- the row of a pledge's secret, at its place
 abbrev pub secret_line : ℕ → ℕ → Issued → List ℕ
@@ -20,7 +19,8 @@ extension_line number place extension = text_of_row (Row.Extension number place 
 
 -- a row writer as a visitor: it writes a pledge's row at its place, goes to the next place, and stops once a row was
 -- not written whole
-pub record PutsAt {W T : Type 0} (contents : W → Option (List ℕ)) (line : ℕ → ℕ → T → List ℕ) (v : RowWriter W) (item : T) (flow : Flow) (w : RowWriter W) : Type 0 where
+pub record PutsAt {W T : Type 0} (contents : W → Option (List ℕ)) (line : ℕ → ℕ → T → List ℕ) (v : RowWriter W) (item : T) (flow : Flow)
+    (w : RowWriter W) : Type 0 where
   pub puts : PutsRow contents v.sink (line v.number v.place item) w.sink
   pub number : w.number ≡ v.number
   pub place : w.place ≡ min (v.place + 1) (2 ^ 64 - 1)
@@ -44,7 +44,8 @@ sink_ending done sink = ending_by done (write_failed sink.writer) sink.is_starve
 -- no such book. For any other reason the beginning of the text went out.
 abbrev pub Exports : {W U : Type 0} → (W → Option (List ℕ)) → Sink W → Option (List ℕ) → Result U ViewFault → Sink W → Type 0
 Exports contents old text (Ok u) new = (t : List ℕ) × (text ≡ Some t) × Written contents (seen old) t Whole (seen new)
-Exports contents old text (Err ViewFault.Write) new = (t : List ℕ) × (text ≡ Some t) × PutFront contents (seen old) t (seen new) × (write_failed new.writer ≡ true)
+Exports contents old text (Err ViewFault.Write) new =
+    (t : List ℕ) × (text ≡ Some t) × PutFront contents (seen old) t (seen new) × (write_failed new.writer ≡ true)
 Exports contents old text (Err ViewFault.Memory) new = PutFront contents (seen old) (unwrap_or text []) (seen new) × (write_failed new.writer ≡ false)
 Exports contents old text (Err ViewFault.Store) new = PutFront contents (seen old) (unwrap_or text []) (seen new) × (write_failed new.writer ≡ false)
 Exports contents old text (Err ViewFault.Unknown) new = (text ≡ None) × (new ≡ old)

@@ -1,6 +1,5 @@
 -- The faults of a text that is no book.
-use Rattle.std.specs.Prelude.{ℕ, List, codes}
-use Rattle.pawn_csv.specs.Types.{Cause}
+use Rattle.{std.specs.Prelude.{ℕ, List, codes}, pawn_csv.specs.Types.Cause}
 
 -- a fault's number and its name
 abbrev pub cause_row : Cause → ℕ × List ℕ

@@ -1,9 +1,7 @@
 -- The book that rows make once all of them are read.
 use Rattle.std.specs.Prelude.{◌≡◌, true, false, List, map, Option, Some, Result, Ok, Err}
-use Rattle.pawn_csv.specs.Common.{AreReplayable, BookRows, Closing, Each, IsNumber, IsUnder, PledgeValue, Rates}
-use Rattle.pawn_csv.specs.Types.{Cause, PledgeColumns, RawPledge}
-use Rattle.pawn_csv.specs.Order.{Begun, is_whole, pledges_begun}
-use Rattle.pawn_csv.specs.Rows.{closing_amount, closing_day, closing_word, pledge_columns}
+use Rattle.pawn_csv.specs.{Common.{AreReplayable, BookRows, Closing, Each, IsNumber, IsUnder, PledgeValue, Rates}, Types.{Cause, PledgeColumns, RawPledge}}
+use Rattle.pawn_csv.specs.{Order.{Begun, is_whole, pledges_begun}, Rows.{closing_amount, closing_day, closing_word, pledge_columns}}
 
 -- a pledge as its rows give it
 abbrev pub raw_of : PledgeValue → RawPledge

@@ -1,9 +1,7 @@
 -- Laws of texts and of their rows.
 use Rattle.std.specs.Prelude.{◌≡◌, ◌≢◌, ℕ, List, Some}
-use Rattle.pawn_csv.specs.Common.{BookRows, BookValue, Host, IsSound, get, rows_of_book, strip_bom}
-use Rattle.pawn_csv.specs.Types.{Cause, Row, Version}
-use Rattle.pawn_csv.specs.Reading.{CanBeWritten, IsFirstCause, IsHeldBy, IsReadAs, IsTextOf}
-use Rattle.pawn_csv.specs.Rows.{FitsColumns, Knows, csv_of, row_fields}
+use Rattle.pawn_csv.specs.{Common.{BookRows, BookValue, Host, IsSound, get, rows_of_book, strip_bom}, Types.{Cause, Row, Version}, Reading.CanBeWritten}
+use Rattle.pawn_csv.specs.{Reading.{IsFirstCause, IsHeldBy, IsReadAs, IsTextOf}, Rows.{FitsColumns, Knows, csv_of, row_fields}}
 
 -- a book that can be written is one that a text can hold, in each version that has rows for all that it has
 abbrev pub BooksAreHeld : Type 0

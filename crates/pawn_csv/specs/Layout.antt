@@ -1,10 +1,9 @@
 -- How the rows of a book are laid out, whether or not it can have come about.
 use Rattle.std.specs.Prelude.{◌≡◌, ◌≢◌, ◌⊎◌, ◌↔◌, ℕ, ◌+◌, ◌≤◌, ◌<◌, true, List, [], ◌∷◌, ◌++◌, length, Option, None, Some, Ok, Err}
-use Rattle.pawn_csv.specs.Common.{AreNumbered, AreReplayable, BookRows, Booking, Entry, Extension, Issued, Rates, flat_map, most_entries, most_extensions, most_pledges, most_secrets, most_terms}
-use Rattle.pawn_csv.specs.Types.{Cause, RawPledge, Row, Version}
-use Rattle.pawn_csv.specs.Order.{Begun, has_secret, is_whole, place, pledges_begun, run}
-use Rattle.pawn_csv.specs.Reading.{RefusesEnd}
-use Rattle.pawn_csv.specs.Rows.{Knows, booking_csv_rows, entry_rows, extension_rows, rows_of_csv, secret_rows, terms_rows}
+use Rattle.pawn_csv.specs.Common.{AreNumbered, AreReplayable, BookRows, Booking, Entry, Extension, Issued, Rates, flat_map, most_entries, most_extensions}
+use Rattle.pawn_csv.specs.{Common.{most_pledges, most_secrets, most_terms}, Types.{Cause, RawPledge, Row, Version}, Order.{Begun, has_secret, is_whole, place}}
+use Rattle.pawn_csv.specs.{Order.{pledges_begun, run}, Reading.RefusesEnd, Rows.{Knows, booking_csv_rows, entry_rows, extension_rows, rows_of_csv, secret_rows}}
+use Rattle.pawn_csv.specs.Rows.{terms_rows}
 
 -- the rows of a pledge's lists
 abbrev pub list_rows : ℕ → List Issued → List Entry → List Extension → Option Booking → List Row

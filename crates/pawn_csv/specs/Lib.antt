@@ -14,4 +14,3 @@ pub mod Exports
 pub mod Imports
 pub mod WorkedTexts
 pub mod Common
-pub mod Csv

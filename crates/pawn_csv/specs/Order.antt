@@ -1,7 +1,8 @@
 -- The order of rows: what each row does to what was read so far.
-use Rattle.std.specs.Prelude.{ℕ, ◌+◌, nat_le, nat_lt, Bool, true, false, ◌==◌, ◌&&◌, ◌||◌, not, if◌then◌else◌, List, [], ◌∷◌, ◌++◌, length, Option, None, Some, Result, Ok, Err}
+use Rattle.std.specs.Prelude.{ℕ, ◌+◌, nat_le, nat_lt, Bool, true, false, ◌==◌, ◌&&◌, ◌||◌, not, if◌then◌else◌, List, [], ◌∷◌, ◌++◌, length, Option, None, Some}
+use Rattle.std.specs.Prelude.{Result, Ok, Err}
 use Rattle.pawn_csv.specs.Common.{Booking, Entry, Extension, Issued, Rates, most_entries, most_extensions, most_pledges, most_secrets, most_terms}
-use Rattle.pawn_csv.specs.Types.{BegunBook, Cause, PledgeColumns, RawBook, RawPledge, Row, Version}
+use Rattle.pawn_csv.specs.{declared.order.{BegunBook.BegunBook, RawBook.RawBook}, Types.{Cause, PledgeColumns, RawPledge, Row, Version}}
 
 -- a book of which some rows were read: what its first row says, its terms, the pledges whose rows are over, and the one at hand
 pub record Begun : Type 0 where

@@ -1,10 +1,8 @@
 -- What a text holds, and why it holds no book.
 use Rattle.std.specs.Prelude.{◌≡◌, ◌≢◌, ◌⊎◌, ℕ, ◌+◌, nat_eq, Bool, true, false, List, [], ◌∷◌, length, map, Option, None, Some, Result, Ok, Err}
 use Rattle.pawn_csv.specs.Common.{AreRecords, AreReplayable, BookRows, Each, ErrorKind, HasTextsAndWords, Reached, Read, State, default_config, next_record}
-use Rattle.pawn_csv.specs.Types.{Cause, Row, Version}
-use Rattle.pawn_csv.specs.Finishing.{IsFinishedAs, IsOfNoBook}
-use Rattle.pawn_csv.specs.Order.{Begun, place, run, is_whole}
-use Rattle.pawn_csv.specs.Rows.{FitsColumns, Knows, header, row_fields, rows_of_csv, version_rows}
+use Rattle.pawn_csv.specs.{Types.{Cause, Row, Version}, Finishing.{IsFinishedAs, IsOfNoBook}, Order.{Begun, place, run, is_whole}, Rows.{FitsColumns, Knows}}
+use Rattle.pawn_csv.specs.Rows.{header, row_fields, rows_of_csv, version_rows}
 
 -- a book that a text of this version can hold: it can have come about, and each column can be spelled
 abbrev pub IsHeldBy : Version → BookRows → Type 0
@@ -93,7 +91,8 @@ IsFaultOf text c row = IsFirstCause text c row
 -- the records of this text are taken to their end, and make the book
 abbrev pub IsReadAs : List ℕ → BookRows → Type 0
 IsReadAs text k =
-    (records : List (List (List ℕ))) × (rows : List Row) × (s : Option Begun) × AreRecords default_config State.StartRecord text records × AreTaken records rows s × IsFinishedAs s k
+    (records : List (List (List ℕ))) × (rows : List Row) × (s : Option Begun) × AreRecords default_config State.StartRecord text records
+    × AreTaken records rows s × IsFinishedAs s k
 
 -- the cause for an error of the CSV reader; since it takes any number of columns, the error is a failed read or refused
 -- memory

@@ -1,8 +1,9 @@
 -- A book as rows, and a row as columns.
 use Rattle.std.specs.Prelude.{◌≡◌, ℕ, ◌+◌, ◌-◌, ◌<◌, List, [], ◌∷◌, ◌++◌, length, map, replicate, Option, Some, None, IfSome, codes, decimal}
-use Rattle.pawn_csv.specs.Common.{Agreement, BookRows, Booking, Closing, Each, Entry, Extension, IsOpening, IsStampDay, IsUtf8, IsWord, Issued, PledgeValue, Rates, Standing, credit_of, day_text, default_writer, flat_map, row_text, secret_text, sort_text, state_text}
-use Rattle.pawn_csv.specs.Columns.{form_text, yes_text, kind_text, closing_text, issue_text, text_if_any}
-use Rattle.pawn_csv.specs.Types.{COLUMNS, ClosingWord, NUMBERS_END, PledgeColumns, Row, Version}
+use Rattle.{pawn_pledge.specs.declared.record.Agreement.Agreement, pawn_csv.specs.Common.{BookRows, Booking, Closing, Each, Entry, Extension, IsOpening}}
+use Rattle.pawn_csv.specs.Common.{IsUtf8, IsWord, Issued, PledgeValue, Rates, Standing, credit_of, default_writer, flat_map, row_text, secret_text, sort_text}
+use Rattle.pawn_csv.specs.{Common.state_text, Columns.{form_text, yes_text, kind_text, closing_text, issue_text, text_if_any}, Types.{COLUMNS, ClosingWord}}
+use Rattle.{pawn_csv.specs.Types.{NUMBERS_END, PledgeColumns, Row, Version}, pawn_terms.specs.Calendar.{IsStampDay, day_text}}
 
 -- the first row: the names of the columns
 abbrev pub header : List (List ℕ)

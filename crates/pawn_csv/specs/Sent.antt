@@ -1,9 +1,7 @@
 -- What contracts say of a writer of rows, and what it means that a text was written.
 use Rattle.std.specs.Prelude.{ℕ, Bool, true, false, List, ◌||◌, ◌≡◌, Option}
-use Rattle.pawn_csv.specs.Common.{BriefFields, End, Share, Written, default_writer, end_by, row_text, write_failed}
-use Rattle.pawn_writing.specs.declared.writing.Writing.{Writing}
-use Rattle.pawn_csv.specs.Rows.{own_columns, row_fields}
-use Rattle.pawn_csv.specs.Types.{PledgeColumns, Row, Sink}
+use Rattle.pawn_csv.specs.{Common.{BriefFields, End, default_writer, row_text}, Rows.{own_columns, row_fields}, Types.{PledgeColumns, Row, Sink}}
+use Rattle.pawn_writing.specs.{Ends.{Share, Written, end_by, write_failed}, declared.writing.Writing.Writing}
 
 -- the writer failed, or there was no memory for a row
 abbrev pub has_ended : {W : Type 0} → Sink W → Bool

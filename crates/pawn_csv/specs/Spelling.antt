@@ -1,10 +1,7 @@
 -- What it means to read a column.
 use Rattle.std.specs.Prelude.{◌≡◌, ℕ, ◌≤◌, ◌<◌, List, [], Option, None, Some, IfSome, decimal, get_or}
-use Rattle.pawn_csv.specs.Common.{IsOpening, IsStampDay, IsUtf8, Opening, credit_of, day_text}
-use Rattle.pawn_base.specs.Text.{IsText}
-use Rattle.pawn_csv.specs.Columns.{kind_text, text_if_any, yes_text}
-use Rattle.pawn_csv.specs.Types.{COLUMNS}
-use Rattle.pawn_csv.specs.Rows.{IsColumnNumber}
+use Rattle.pawn_csv.specs.{Common.{IsOpening, IsUtf8, Opening, credit_of}, Columns.{kind_text, text_if_any, yes_text}, Types.COLUMNS, Rows.IsColumnNumber}
+use Rattle.{pawn_terms.specs.Calendar.{IsStampDay, day_text}, pawn_base.specs.Text.IsText}
 
 -- what a spelling reads as: the value that is spelled so and keeps its rule, or none if there is no such value
 abbrev pub ReadsAs : {A B : Type 0} → (A → B) → (A → Type 0) → B → Option A → Type 0

@@ -1,13 +1,8 @@
 -- Examples of rows, worked out: which are taken, and for which cause others are refused.
 use Rattle.std.specs.Prelude.{◌≡◌, Bool, true, false, ℕ, List, [], ◌∷◌, map, Option, None, Some, Result, Ok, Err, codes}
-use Rattle.pawn_csv.specs.Common.{BookRows, Issue, PledgeValue, default_writer, row_text}
-use Rattle.pawn_terms.specs.Worked.{date}
-use Rattle.pawn_debt.specs.Worked.{free}
-use Rattle.pawn_pledge.specs.Worked.{ring}
-use Rattle.pawn_pledge.specs.declared.record.BookingState.TheVariants.{Asked}
-use Rattle.pawn_csv.specs.Types.{Cause, NUMBERS_END, Row, Version}
-use Rattle.pawn_csv.specs.Order.{Begun, is_whole, run}
-use Rattle.pawn_csv.specs.Rows.{pledge_columns, csv1_rows, row_fields, rows_of_csv}
+use Rattle.pawn_csv.specs.{Common.{BookRows, Issue, PledgeValue, default_writer, row_text}, Types.{Cause, NUMBERS_END, Row, Version}, Order.{Begun, is_whole}}
+use Rattle.{pawn_csv.specs.{Order.run, Rows.{pledge_columns, csv1_rows, row_fields, rows_of_csv}}, pawn_terms.specs.Worked.date, pawn_debt.specs.Worked.free}
+use Rattle.pawn_pledge.specs.{Worked.ring, declared.record.BookingState.TheVariants.Asked}
 
 -- a ring whose period was made longer
 abbrev pub extended_ring : PledgeValue
@@ -51,10 +46,12 @@ pub record WorkedRowTexts : Type 0 where
   -- a version of terms is a row of 15 columns
   pub terms : row_fields (Row.Terms 1 free) ≡ codes "T" ∷ codes "1" ∷ codes "0" ∷ codes "0" ∷ codes "0" ∷ [] ∷ [] ∷ [] ∷ [] ∷ [] ∷ [] ∷ [] ∷ [] ∷ [] ∷ [] ∷ []
   -- an extension, and a pledge
-  pub extension : row_fields (Row.Extension 1 1 (record { day = date 2024 2 1; until = date 2024 9 30 })) ≡ codes "X" ∷ codes "1" ∷ codes "1" ∷ codes "2024-02-01" ∷ codes "2024-09-30" ∷ [] ∷ [] ∷ [] ∷ [] ∷ [] ∷ [] ∷ [] ∷ [] ∷ [] ∷ [] ∷ []
+  pub extension : row_fields (Row.Extension 1 1 (record { day = date 2024 2 1; until = date 2024 9 30 })) ≡ codes "X" ∷ codes "1" ∷ codes "1"
+      ∷ codes "2024-02-01" ∷ codes "2024-09-30" ∷ [] ∷ [] ∷ [] ∷ [] ∷ [] ∷ [] ∷ [] ∷ [] ∷ [] ∷ [] ∷ []
   pub pledge :
       row_fields (Row.Pledge (pledge_columns (ring 10000)))
-      ≡ codes "P" ∷ codes "1" ∷ codes "A1" ∷ codes "Gold ring" ∷ codes "fixed" ∷ codes "10000" ∷ codes "2024-01-31" ∷ [] ∷ codes "no" ∷ codes "1" ∷ codes "no" ∷ codes "2024-01-31" ∷ codes "open" ∷ [] ∷ [] ∷ []
+      ≡ codes "P" ∷ codes "1" ∷ codes "A1" ∷ codes "Gold ring" ∷ codes "fixed" ∷ codes "10000" ∷ codes "2024-01-31" ∷ [] ∷ codes "no" ∷ codes "1" ∷ codes "no"
+      ∷ codes "2024-01-31" ∷ codes "open" ∷ [] ∷ [] ∷ []
   -- a whole book, line by line
   pub example :
       lines_of (csv1_rows declared_book)
@@ -70,7 +67,8 @@ pub record WorkedRowTexts : Type 0 where
   pub quoted : row_text default_writer (codes "a,b" ∷ codes "\"" ∷ []) ≡ codes "\"a,b\",\"\"\"\"\n"
   -- the rows of a book may end
   pub declared : comes_to (rows_of_csv Version.One declared_book) ≡ Ok true
-  pub unbooked : comes_to (rows_of_csv Version.One (record { terms = free ∷ []; pledges = record ring_tendered { standing = record ring_tendered.standing { booking = None } } ∷ [] })) ≡ Ok true
+  pub unbooked : comes_to (rows_of_csv Version.One
+      (record { terms = free ∷ []; pledges = record ring_tendered { standing = record ring_tendered.standing { booking = None } } ∷ [] })) ≡ Ok true
   pub whole : comes_to (rows_of_csv Version.Two ring_book) ≡ Ok true
   pub extended : comes_to (rows_of_csv Version.Two extended_book) ≡ Ok true
   -- the first version has no extensions

@@ -1,7 +1,8 @@
 //! Reading one column.
 ghost use Rattle.std.specs.Prelude.{◌≡◌, ℕ, ◌↔◌, List, IfOk, IfNone, IfSome, IsTrue, decimal};
-ghost use Rattle.pawn_csv.specs.Common.{IsStampDay, IsWord, credit_of, day_text, fields_of, secret_text, sort_text, state_text};
-ghost use Rattle.pawn_csv.specs.Csv.{AreBlankFrom, IsAny, IsColumnNumber, IsColumnNumberIfAny, IsStampDayIfAny, IsTextColumn, ReadsAs, closing_text, column_at, form_text, issue_text, kind_text, text_if_any, yes_text};
+ghost use Rattle.{pawn_terms.specs.Calendar.{IsStampDay, day_text}, pawn_csv.specs.Common.{IsWord, credit_of, fields_of, secret_text, sort_text, state_text}};
+ghost use Rattle.pawn_csv.specs.{Spelling.{AreBlankFrom, IsColumnNumberIfAny, IsStampDayIfAny, IsTextColumn, ReadsAs, column_at}, Columns.IsAny};
+ghost use Rattle.pawn_csv.specs.{Columns.{closing_text, form_text, issue_text, kind_text, text_if_any, yes_text}, Rows.IsColumnNumber};
 
 use crate::row::{COLUMNS, ClosingWord, NUMBERS_END, Version};
 use csv::ByteRecord;
@@ -183,8 +184,7 @@ pub(crate) fn read_text<const MOST: usize>(
     alloc: Global,
     field: &[u8],
 ) -> Result<Option<Text<MOST>>, AllocError>
-    ensures value { IfOk result
-        (λ text. ReadsAs (λ (bytes : List ℕ). bytes) (IsTextColumn MOST) field.now text) }
+    ensures value { IfOk result (λ text. ReadsAs (λ (bytes : List ℕ). bytes) (IsTextColumn MOST) field.now text) }
 {
     let Ok(text) = str::from_utf8(field) else {
         return Ok(None);
@@ -194,10 +194,8 @@ pub(crate) fn read_text<const MOST: usize>(
 
 // The kind of a pledge, with its amount in pence, that two columns spell.
 pub(crate) fn read_kind(word: &[u8], amount: &[u8]) -> Option<Kind>
-    ensures found { IfSome result (λ kind. (word.now ≡ kind_text kind) × IsColumnNumber (credit_of kind)
-        × (amount.now ≡ decimal (credit_of kind))) }
-    ensures none { IfNone result ((kind : Kind) → word.now ≡ kind_text kind
-        → IsColumnNumber (credit_of kind) → amount.now ≡ decimal (credit_of kind) → ⊥) }
+    ensures found { IfSome result (λ kind. (word.now ≡ kind_text kind) × IsColumnNumber (credit_of kind) × (amount.now ≡ decimal (credit_of kind))) }
+    ensures none { IfNone result ((kind : Kind) → word.now ≡ kind_text kind → IsColumnNumber (credit_of kind) → amount.now ≡ decimal (credit_of kind) → ⊥) }
 {
     let Some(amount) = read_number(amount) else {
         return None;

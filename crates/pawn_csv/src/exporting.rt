@@ -1,10 +1,10 @@
 //! Writing a book's text.
 ghost use Rattle.std.specs.Prelude.{◌≡◌, ◌++◌, ◌+◌, ◌-◌, ◌^◌, min, if◌then◌else◌, false, true, Some, length, IsErrOf};
-ghost use Rattle.pawn_csv.specs.Common.{BookValue, Go, IsSound, IsSteady, PledgeValue, Reads, Stop, book_head, brief_of, call_end, entries_of, extensions_of, flat_map, get, pledge_in, pledges_of, secrets_of, terms_of, write_failed, writing_inner};
-ghost use Rattle.pawn_writing.specs.Fault.{IsQuietView};
-ghost use Rattle.pawn_csv.specs.Rows.{booking_csv_rows, entry_rows, extension_rows, pledge_csv_rows, secret_rows, terms_rows};
-ghost use Rattle.pawn_csv.specs.Sent.{PutsRow, PutsRowsShare, has_ended, text_of_row};
-ghost use Rattle.pawn_csv.specs.Exports.{Exports, PutsAt, sink_ending, entry_row_text, extension_line, secret_line, text_of};
+ghost use Rattle.pawn_csv.specs.Common.{BookValue, Go, IsSound, IsSteady, PledgeValue, Reads, Stop, book_head, brief_of, call_end, entries_of, extensions_of};
+ghost use Rattle.pawn_csv.specs.{Common.{flat_map, get, pledge_in, pledges_of, secrets_of, terms_of}, Rows.{booking_csv_rows, entry_rows, extension_rows}};
+ghost use Rattle.pawn_csv.specs.{Rows.{pledge_csv_rows, secret_rows, terms_rows}, Sent.{PutsRow, PutsRowsShare, has_ended, text_of_row}, Exports.Exports};
+ghost use Rattle.{pawn_csv.specs.Exports.{PutsAt, sink_ending, entry_row_text, extension_line, secret_line, text_of}, pawn_writing.specs.Ends.write_failed};
+ghost use Rattle.pawn_writing.specs.{Ends.writing_inner, Fault.IsQuietView};
 
 use crate::writing::{
     Sink, put_book, put_booking, put_entry, put_extension, put_header, put_pledge, put_secret,
@@ -96,10 +96,8 @@ fn put_secrets<K: Keep, W: Write>(
     number: Number,
     rows: &mut RowWriter<W>,
 ) -> Result<(), KeepError>
-    ensures shares { Reads K.keeping keep.old keep.new (λ h. IsSound h
-        → PutsRowsShare W.contents rows.old.sink
-        (flat_map text_of_row (secret_rows number 1 (secrets_of (pledge_in (get h.books book) number))))
-        (call_end result) rows.new.sink) }
+    ensures shares { Reads K.keeping keep.old keep.new (λ h. IsSound h → PutsRowsShare W.contents rows.old.sink
+        (flat_map text_of_row (secret_rows number 1 (secrets_of (pledge_in (get h.books book) number)))) (call_end result) rows.new.sink) }
     ensures steady { IsSteady K.keeping keep.old result }
 {
     rows.number = u64::from(number.get());
@@ -116,11 +114,8 @@ fn put_entries<K: Keep, W: Write>(
     rows: &mut RowWriter<W>,
 ) -> Result<(), KeepError>
     ensures shares { Reads K.keeping keep.old keep.new
-        (λ h. IsSound h → (p : PledgeValue) → pledge_in (get h.books book) number ≡ Some p
-        → brief.now ≡ brief_of p
-        → PutsRowsShare W.contents rows.old.sink
-        (flat_map text_of_row (entry_rows number (entries_of (pledge_in (get h.books book) number))))
-        (call_end result) rows.new.sink) }
+        (λ h. IsSound h → (p : PledgeValue) → pledge_in (get h.books book) number ≡ Some p → brief.now ≡ brief_of p → PutsRowsShare W.contents rows.old.sink
+        (flat_map text_of_row (entry_rows number (entries_of (pledge_in (get h.books book) number)))) (call_end result) rows.new.sink) }
     ensures steady { IsSteady K.keeping keep.old result }
 {
     rows.number = u64::from(number.get());
@@ -137,12 +132,8 @@ fn put_extensions<K: Keep, W: Write>(
     rows: &mut RowWriter<W>,
 ) -> Result<(), KeepError>
     ensures shares { Reads K.keeping keep.old keep.new
-        (λ h. IsSound h → (p : PledgeValue) → pledge_in (get h.books book) number ≡ Some p
-        → brief.now ≡ brief_of p
-        → PutsRowsShare W.contents rows.old.sink
-        (flat_map text_of_row
-        (extension_rows number 1 (extensions_of (pledge_in (get h.books book) number))))
-        (call_end result) rows.new.sink) }
+        (λ h. IsSound h → (p : PledgeValue) → pledge_in (get h.books book) number ≡ Some p → brief.now ≡ brief_of p → PutsRowsShare W.contents rows.old.sink
+        (flat_map text_of_row (extension_rows number 1 (extensions_of (pledge_in (get h.books book) number)))) (call_end result) rows.new.sink) }
     ensures steady { IsSteady K.keeping keep.old result }
 {
     rows.number = u64::from(number.get());
@@ -152,8 +143,7 @@ fn put_extensions<K: Keep, W: Write>(
 
 // Writes the row of a pledge's booking, if there is one.
 fn put_booked<W: Write>(sink: &mut Sink<W>, number: Number, booking: Option<Booking>)
-    ensures puts { PutsRow W.contents sink.old
-        (flat_map text_of_row (booking_csv_rows number booking)) sink.new }
+    ensures puts { PutsRow W.contents sink.old (flat_map text_of_row (booking_csv_rows number booking)) sink.new }
 {
     match booking {
         Some(booking) => put_booking(sink, u64::from(number.get()), booking),
@@ -169,11 +159,8 @@ fn put_record<K: Keep, W: Write>(
     brief: &Brief,
     rows: &mut RowWriter<W>,
 ) -> Result<(), KeepError>
-    ensures shares { Reads K.keeping keep.old keep.new
-        (λ h. IsSound h → (p : PledgeValue) → pledge_in (get h.books book) number ≡ Some p
-        → brief.now ≡ brief_of p
-        → PutsRowsShare W.contents rows.old.sink (flat_map text_of_row (pledge_csv_rows p))
-        (call_end result) rows.new.sink) }
+    ensures shares { Reads K.keeping keep.old keep.new (λ h. IsSound h → (p : PledgeValue) → pledge_in (get h.books book) number ≡ Some p
+        → brief.now ≡ brief_of p → PutsRowsShare W.contents rows.old.sink (flat_map text_of_row (pledge_csv_rows p)) (call_end result) rows.new.sink) }
     ensures steady { IsSteady K.keeping keep.old result }
 {
     let fields = brief.fields();
@@ -192,11 +179,8 @@ fn put_versions<K: Keep, W: Write>(
     count: u64,
     rows: &mut RowWriter<W>,
 ) -> Result<(), KeepError>
-    ensures shares { Reads K.keeping keep.old keep.new
-        (λ h. count ≡ length (terms_of (get h.books book))
-        → PutsRowsShare W.contents rows.old.sink
-        (flat_map text_of_row (terms_rows 1 (terms_of (get h.books book))))
-        (call_end result) rows.new.sink) }
+    ensures shares { Reads K.keeping keep.old keep.new (λ h. count ≡ length (terms_of (get h.books book))
+        → PutsRowsShare W.contents rows.old.sink (flat_map text_of_row (terms_rows 1 (terms_of (get h.books book)))) (call_end result) rows.new.sink) }
     ensures steady { IsSteady K.keeping keep.old result }
 {
     for index in 0..count {
@@ -215,11 +199,8 @@ fn put_pledges<K: Keep, W: Write>(
     count: u64,
     rows: &mut RowWriter<W>,
 ) -> Result<(), KeepError>
-    ensures shares { Reads K.keeping keep.old keep.new
-        (λ h. IsSound h → count ≡ length (pledges_of (get h.books book))
-        → PutsRowsShare W.contents rows.old.sink
-        (flat_map text_of_row (flat_map pledge_csv_rows (pledges_of (get h.books book))))
-        (call_end result) rows.new.sink) }
+    ensures shares { Reads K.keeping keep.old keep.new (λ h. IsSound h → count ≡ length (pledges_of (get h.books book)) → PutsRowsShare W.contents rows.old.sink
+        (flat_map text_of_row (flat_map pledge_csv_rows (pledges_of (get h.books book)))) (call_end result) rows.new.sink) }
     ensures steady { IsSteady K.keeping keep.old result }
 {
     for index in 0..count {
@@ -242,10 +223,8 @@ fn put_rows<K: Keep, W: Write>(
     rows: &mut RowWriter<W>,
 ) -> Result<(), KeepError>
     ensures shares { Reads K.keeping keep.old keep.new
-        (λ h. IsSound h → (at : BookValue) → get h.books book ≡ Some at → head.now ≡ book_head at
-        → PutsRowsShare W.contents rows.old.sink
-        (flat_map text_of_row (terms_rows 1 at.terms) ++ flat_map text_of_row
-        (flat_map pledge_csv_rows at.pledges)) (call_end result) rows.new.sink) }
+        (λ h. IsSound h → (at : BookValue) → get h.books book ≡ Some at → head.now ≡ book_head at → PutsRowsShare W.contents rows.old.sink
+        (flat_map text_of_row (terms_rows 1 at.terms) ++ flat_map text_of_row (flat_map pledge_csv_rows at.pledges)) (call_end result) rows.new.sink) }
     ensures steady { IsSteady K.keeping keep.old result }
 {
     put_versions(keep, book, head.terms, rows)?;
@@ -277,8 +256,7 @@ pub fn export<K: Keep, W: Write>(
     rows: &mut RowWriter<W>,
 ) -> Result<(), ViewFault>
     requires fine { has_ended rows.old.sink ≡ false }
-    ensures exports { Reads K.keeping keep.old keep.new
-        (λ h. IsSound h → Exports W.contents rows.old.sink (text_of h book) result rows.new.sink) }
+    ensures exports { Reads K.keeping keep.old keep.new (λ h. IsSound h → Exports W.contents rows.old.sink (text_of h book) result rows.new.sink) }
     ensures write { IsErrOf result ViewFault.Write → write_failed rows.new.sink.writer ≡ true }
     ensures steady { IsQuietView K.keeping keep.old result }
 {

@@ -1,8 +1,8 @@
 //! The end of a book's rows.
 ghost use Rattle.std.specs.Prelude.{◌≡◌, ◌++◌, IfErr, IfNone, IfOk, IfSome, Some};
-ghost use Rattle.pawn_csv.specs.Common.{AreReplayable, BookRows, Closing, PledgeValue, terms_at};
+ghost use Rattle.pawn_csv.specs.{Common.{AreReplayable, BookRows, Closing, PledgeValue, terms_at}, Finishing.{AreRawOf, Ends, IsBegunOf, IsClosingOf, IsRawOf}};
+ghost use Rattle.pawn_csv.specs.Order.{begun_of, hand, view_begun};
 ghost use Rattle.pawn_csv.specs.declared.fault.Cause.TheVariants as Cause;
-ghost use Rattle.pawn_csv.specs.Csv.{AreRawOf, Ends, IsBegunOf, IsClosingOf, IsRawOf, begun_of, hand, view_begun};
 
 use crate::fault::Cause;
 use crate::order::{BegunBook, RawBook, RawPledge};
@@ -95,10 +95,8 @@ fn all_parts(
     raws: Vec<RawPledge>,
     terms: &[Rates],
 ) -> Result<Option<Vec<Parts>>, AllocError>
-    ensures found { IfOk result
-        (λ all. IfSome all (λ parts. AreRawOf terms.now raws.items parts.items)) }
-    ensures none { IfOk result
-        (λ all. IfNone all ((pledges : _) → AreRawOf terms.now raws.items pledges → ⊥)) }
+    ensures found { IfOk result (λ all. IfSome all (λ parts. AreRawOf terms.now raws.items parts.items)) }
+    ensures none { IfOk result (λ all. IfNone all ((pledges : _) → AreRawOf terms.now raws.items pledges → ⊥)) }
 {
     let mut all = Vec::new(alloc);
     for raw in raws {
@@ -131,8 +129,7 @@ impl BegunBook {
     // The book's rows, if the columns of each pledge fit together.
     fn into_rows(self, alloc: Global) -> Result<Option<BookRows>, AllocError>
         ensures found { IfOk result (λ rows. IfSome rows (IsBegunOf (view_begun self))) }
-        ensures none { IfOk result
-            (λ rows. IfNone rows ((k : BookRows) → IsBegunOf (view_begun self) k → ⊥)) }
+        ensures none { IfOk result (λ rows. IfNone rows ((k : BookRows) → IsBegunOf (view_begun self) k → ⊥)) }
     {
         let BegunBook {
             terms,
@@ -154,8 +151,7 @@ impl BegunBook {
 // These rows as replayable ones, if a book can have come to have them; else `NotReplayable`.
 fn judge(rows: Option<BookRows>) -> Result<ReplayableRows, Cause>
     ensures found { IfOk result (λ k. (rows ≡ Some k) × AreReplayable k.terms k.pledges) }
-    ensures refused { IfErr result (λ e. (e ≡ Cause.NotReplayable)
-        × IfSome rows (λ k. AreReplayable k.terms k.pledges → ⊥)) }
+    ensures refused { IfErr result (λ e. (e ≡ Cause.NotReplayable) × IfSome rows (λ k. AreReplayable k.terms k.pledges → ⊥)) }
 {
     let Some(rows) = rows else {
         return Err(Cause::NotReplayable);

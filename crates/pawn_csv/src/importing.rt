@@ -1,7 +1,5 @@
 //! Filling an empty book with rows.
-ghost use Rattle.pawn_csv.specs.Common.{GoesOn, Host, IsQuiet, OfHost, ℕ};
-ghost use Rattle.pawn_book.specs.Plans.{Acts, IsLeftByAct};
-ghost use Rattle.pawn_csv.specs.Imports.{import_of};
+ghost use Rattle.{pawn_csv.specs.{Common.{GoesOn, Host, IsQuiet, OfHost, ℕ}, Imports.import_of}, pawn_book.specs.Plans.{Acts, IsLeftByAct}};
 
 use pawn_book::{
     BrokerRequest, Caller, Keep, Number, Refusal, ReplayableRows, Reply, Request, Secret, Stamp,
@@ -26,12 +24,9 @@ pub fn import<K: Keep>(
 ) -> Result<Reply, Refusal>
     ensures on { GoesOn K.keeping keep.old keep.new }
     ensures acts { (operator : ℕ) → OfHost K.keeping keep.old keep.new
-        (λ h. Acts h operator stamp.now (import_of book broker key rows) result
-        (K.keeping.stands keep.new)) }
-    ensures crash { (operator : ℕ) → OfHost K.keeping keep.old keep.new
-        (λ h. (left : Host) → K.keeping.leaves keep.new left
-        → IsLeftByAct h operator stamp.now (import_of book broker key rows)
-        (K.keeping.leaves keep.old) result left) }
+        (λ h. Acts h operator stamp.now (import_of book broker key rows) result (K.keeping.stands keep.new)) }
+    ensures crash { (operator : ℕ) → OfHost K.keeping keep.old keep.new (λ h. (left : Host) → K.keeping.leaves keep.new left
+        → IsLeftByAct h operator stamp.now (import_of book broker key rows) (K.keeping.leaves keep.old) result left) }
     ensures steady { IsQuiet K.keeping keep.old result }
 {
     let asked = BrokerRequest::Import { key, rows };

@@ -1,5 +1,7 @@
 //! Laws of texts and of their rows.
-ghost use Rattle.pawn_csv.specs.Csv.{BooksAreHeld, FirstFaultsAreOne, FirstFaultsExcludeBooks, LayoutsAreTaken, NotReplayableIsOfNoBook, RefusedAreNoFront, RowsHaveOneSpelling, TakenAreLaidOut, TextsAreRead, TextsAreReadAs, TextsHoldOneBook, TextsOfHostsAreRead, TooManyIsAboveALimit};
+ghost use Rattle.pawn_csv.specs.Laws.{BooksAreHeld, FirstFaultsAreOne, FirstFaultsExcludeBooks, RowsHaveOneSpelling, TextsAreRead, TextsAreReadAs};
+ghost use Rattle.pawn_csv.specs.{Laws.{TextsHoldOneBook, TextsOfHostsAreRead}, Layout.{LayoutsAreTaken, NotReplayableIsOfNoBook, RefusedAreNoFront}};
+ghost use Rattle.pawn_csv.specs.Layout.{TakenAreLaidOut, TooManyIsAboveALimit};
 
 /// The text that is written for a book holds that book, and so it is for each book of a sound host. A text that holds a
 /// book is read to its end as that book.

@@ -1,6 +1,8 @@
 //! The order of a book's rows.
 ghost use Rattle.std.specs.Prelude.{◌≡◌, Some, length};
-ghost use Rattle.pawn_csv.specs.Csv.{AnswersBegun, GivesAs, Places, begun_of, has_secret, is_whole, may_end, on_hand, on_second, place, place_after, place_before, place_booking, place_entry, place_extension, place_pledge, place_secret, place_terms, pledges_begun, raw_pledge, view_begun};
+ghost use Rattle.pawn_csv.specs.{Answers.{AnswersBegun, GivesAs, Places}, Order.{begun_of, has_secret, is_whole, may_end, on_hand, on_second, place}};
+ghost use Rattle.pawn_csv.specs.Order.{place_after, place_before, place_booking, place_entry, place_extension, place_pledge, place_secret, place_terms};
+ghost use Rattle.pawn_csv.specs.Order.{pledges_begun, raw_pledge, view_begun};
 
 use crate::fault::Cause;
 use crate::row::{PledgeColumns, Row, Version};
@@ -173,8 +175,7 @@ impl BegunBook {
 
     // Takes the row of a version of terms.
     fn place_terms(&mut self, version: u64, rates: Rates) -> Result<(), Cause>
-        ensures answer { Places (place_terms (view_begun self.old) version rates) result
-            (view_begun self.new) }
+        ensures answer { Places (place_terms (view_begun self.old) version rates) result (view_begun self.new) }
     {
         if self.terms.len() as u64 >= self.terms_due || version != self.terms.len() as u64 + 1 {
             return Err(Cause::Order);
@@ -190,8 +191,7 @@ impl BegunBook {
 
     // Takes the row of a pledge.
     fn place_pledge(&mut self, alloc: Global, columns: PledgeColumns) -> Result<(), Cause>
-        ensures answer { Places (place_pledge (view_begun self.old) columns) result
-            (view_begun self.new) }
+        ensures answer { Places (place_pledge (view_begun self.old) columns) result (view_begun self.new) }
     {
         if self.terms.len() as u64 != self.terms_due || !self.may_end() {
             return Err(Cause::Order);
@@ -210,8 +210,7 @@ impl BegunBook {
 
     // Takes the row of a secret of the pledge at hand.
     fn place_secret(&mut self, number: u64, place: u64, issued: Issued) -> Result<(), Cause>
-        ensures answer { Places (on_hand (view_begun self.old) number self.old.at_hand
-            (λ p. place_secret p place issued)) result (view_begun self.new) }
+        ensures answer { Places (on_hand (view_begun self.old) number self.old.at_hand (λ p. place_secret p place issued)) result (view_begun self.new) }
     {
         match &mut self.at_hand {
             None => Err(Cause::Order),
@@ -226,8 +225,7 @@ impl BegunBook {
 
     // Takes the row of an entry of the pledge at hand.
     fn place_entry(&mut self, number: u64, entry: Entry) -> Result<(), Cause>
-        ensures answer { Places (on_hand (view_begun self.old) number self.old.at_hand
-            (λ p. place_entry p entry)) result (view_begun self.new) }
+        ensures answer { Places (on_hand (view_begun self.old) number self.old.at_hand (λ p. place_entry p entry)) result (view_begun self.new) }
     {
         match &mut self.at_hand {
             None => Err(Cause::Order),
@@ -249,8 +247,7 @@ impl BegunBook {
         extension: Extension,
     ) -> Result<(), Cause>
         ensures answer { Places (on_second self.old.version
-            (on_hand (view_begun self.old) number self.old.at_hand
-            (λ p. place_extension p place extension))) result (view_begun self.new) }
+            (on_hand (view_begun self.old) number self.old.at_hand (λ p. place_extension p place extension))) result (view_begun self.new) }
     {
         if let Version::One = self.version {
             return Err(Cause::BadField);
@@ -268,8 +265,7 @@ impl BegunBook {
 
     // Takes the row of the booking of the pledge at hand.
     fn place_booking(&mut self, number: u64, booking: Booking) -> Result<(), Cause>
-        ensures answer { Places (on_hand (view_begun self.old) number self.old.at_hand
-            (λ p. place_booking p booking)) result (view_begun self.new) }
+        ensures answer { Places (on_hand (view_begun self.old) number self.old.at_hand (λ p. place_booking p booking)) result (view_begun self.new) }
     {
         match &mut self.at_hand {
             None => Err(Cause::Order),
@@ -284,8 +280,7 @@ impl BegunBook {
 
     // Takes a row after the first.
     fn place(&mut self, alloc: Global, row: Row) -> Result<(), Cause>
-        ensures answer { Places (place_after (view_begun self.old) row) result
-            (view_begun self.new) }
+        ensures answer { Places (place_after (view_begun self.old) row) result (view_begun self.new) }
     {
         match row {
             Row::Book { terms, pledges, .. } => {

@@ -1,6 +1,6 @@
 //! Reading a book's text.
-ghost use Rattle.pawn_csv.specs.Common.{IfErr, IfOk, IfSome, error_kind, fields_of, strip_bom};
-ghost use Rattle.pawn_csv.specs.Csv.{CauseOf, IsFaultOf, IsReadAs, IsTextOf, Taking, begun_of};
+ghost use Rattle.pawn_csv.specs.{Common.{IfErr, IfOk, IfSome, error_kind, fields_of, strip_bom}, Reading.{CauseOf, IsFaultOf, IsReadAs, IsTextOf, Taking}};
+ghost use Rattle.pawn_csv.specs.Order.{begun_of};
 
 use crate::fault::{Cause, CsvFault};
 use crate::order::RawBook;
@@ -29,8 +29,7 @@ fn take_record(
     columns: &ByteRecord,
     first: bool,
 ) -> Result<(), Cause>
-    ensures taking { Taking first (fields_of columns.now) (begun_of raw.old) result
-        (begun_of raw.new) }
+    ensures taking { Taking first (fields_of columns.now) (begun_of raw.old) result (begun_of raw.new) }
 {
     if first {
         return if is_header(columns) {
@@ -53,10 +52,8 @@ fn take_record(
 
 // Takes the records of a text one after another, and makes the book at their end.
 fn take_records<R: Read + Drop>(alloc: Global, reader: R) -> Result<ReplayableRows, CsvFault>
-    ensures found { IfOk result (λ k. IfSome (R.remaining reader)
-        (λ text. IsReadAs (strip_bom text) k)) }
-    ensures fault { IfErr result (λ f. IfSome (R.remaining reader)
-        (λ text. IsFaultOf (strip_bom text) f.cause f.row)) }
+    ensures found { IfOk result (λ k. IfSome (R.remaining reader) (λ text. IsReadAs (strip_bom text) k)) }
+    ensures fault { IfErr result (λ f. IfSome (R.remaining reader) (λ text. IsFaultOf (strip_bom text) f.cause f.row)) }
 {
     let mut csv_reader = ReaderBuilder::new()
         .has_headers(false)
@@ -111,10 +108,8 @@ fn take_records<R: Read + Drop>(alloc: Global, reader: R) -> Result<ReplayableRo
 /// `Read` and `Memory` may come at any row, once those before it were taken; they have the row that would have come
 /// next.
 pub fn read_book<R: Read + Drop>(alloc: Global, reader: R) -> Result<ReplayableRows, CsvFault>
-    ensures found { IfOk result (λ k. IfSome (R.remaining reader)
-        (λ text. IsTextOf (strip_bom text) k)) }
-    ensures fault { IfErr result (λ f. IfSome (R.remaining reader)
-        (λ text. IsFaultOf (strip_bom text) f.cause f.row)) }
+    ensures found { IfOk result (λ k. IfSome (R.remaining reader) (λ text. IsTextOf (strip_bom text) k)) }
+    ensures fault { IfErr result (λ f. IfSome (R.remaining reader) (λ text. IsFaultOf (strip_bom text) f.cause f.row)) }
 {
     take_records(alloc, reader)
 }

@@ -1,7 +1,7 @@
 //! Rows from their columns.
 ghost use Rattle.std.specs.Prelude.{◌≡◌, ◌↔◌, IfOk, IfNone, IfSome, IsTrue, codes, length};
-ghost use Rattle.csv.specs.Records.{fields_of};
-ghost use Rattle.pawn_csv.specs.Csv.{AreColumns, FitsColumns, IsOpeningOf, ReadsAs, column_at, header, pledge_fields, row_fields};
+ghost use Rattle.{csv.specs.Records.fields_of, pawn_csv.specs.{Rows.{AreColumns, FitsColumns, header, pledge_fields, row_fields}, Spelling.IsOpeningOf}};
+ghost use Rattle.pawn_csv.specs.Spelling.{ReadsAs, column_at};
 
 use crate::columns::{
     are_blank, column, read_agreed, read_closing, read_day, read_day_if_any, read_issue, read_kind,
@@ -143,8 +143,7 @@ fn read_booking_row(columns: &ByteRecord) -> Option<Row>
 // The opening in the columns of a pledge's own row. `None` if a column is malformed.
 fn read_opening(alloc: Global, columns: &ByteRecord) -> Result<Option<Opening>, AllocError>
     ensures found { IfOk result (λ opening. IfSome opening (IsOpeningOf (fields_of columns.now))) }
-    ensures none { IfOk result
-        (λ opening. IfNone opening ((o : _) → IsOpeningOf (fields_of columns.now) o → ⊥)) }
+    ensures none { IfOk result (λ opening. IfNone opening ((o : _) → IsOpeningOf (fields_of columns.now) o → ⊥)) }
 {
     let Some(kind) = read_kind(column(columns, 4), column(columns, 5)) else {
         return Ok(None);

@@ -1,7 +1,7 @@
 //! The words of columns.
 ghost use Rattle.std.specs.Prelude.{◌≡◌, decimal};
-ghost use Rattle.pawn_csv.specs.Common.{day_text, secret_text};
-ghost use Rattle.pawn_csv.specs.Csv.{closing_amount, closing_day, closing_text, closing_word, issue_text, kind_text, text_if_any, yes_text};
+ghost use Rattle.{pawn_terms.specs.Calendar.day_text, pawn_csv.specs.{Common.secret_text, Rows.{closing_amount, closing_day, closing_word}}};
+ghost use Rattle.pawn_csv.specs.Columns.{closing_text, issue_text, kind_text, text_if_any, yes_text};
 
 use itoa::Buffer;
 use pawn_book::{Closing, Day, Issue, Kind, Secret};

@@ -1,7 +1,7 @@
 //! Writing the rows of a book's text.
 ghost use Rattle.std.specs.Prelude.{◌≡◌, ◌≤◌, ◌-◌, ◌∷◌, ◌++◌, [], IfOk, true, false, codes, decimal, length, map};
-ghost use Rattle.pawn_csv.specs.Common.{credit_of, day_text, default_writer, row_text, write_failed, writing_inner};
-ghost use Rattle.pawn_csv.specs.Csv.{PutsRow, Row, brief_columns, empty_columns, has_ended, header, text_of_row, Version};
+ghost use Rattle.pawn_csv.specs.{Common.{credit_of, default_writer, row_text}, Sent.{PutsRow, brief_columns, has_ended, text_of_row}, Types.{Row, Version}};
+ghost use Rattle.{pawn_csv.specs.Rows.{empty_columns, header}, pawn_terms.specs.Calendar.day_text, pawn_writing.specs.Ends.{write_failed, writing_inner}};
 
 use crate::row::{COLUMNS, HEADER};
 use crate::words::{
@@ -63,8 +63,7 @@ impl<W> Sink<W> {
 // The text of a row with these columns. It is made in memory before it is written, since csv's writer does not say what
 // went out before it failed. Each row has a writer of its own, since one gives back what it wrote only at its end.
 fn row_text(alloc: Global, columns: &[&[u8]]) -> Result<Vec<u8>, AllocError>
-    ensures value { IfOk result
-        (λ text. text.items ≡ row_text default_writer (map (λ c. c.now) columns.now)) }
+    ensures value { IfOk result (λ text. text.items ≡ row_text default_writer (map (λ c. c.now) columns.now)) }
 {
     let mut writer = Writer::from_writer(Vec::new(alloc));
     match writer.write_fields(columns) {
@@ -79,8 +78,7 @@ fn row_text(alloc: Global, columns: &[&[u8]]) -> Result<Vec<u8>, AllocError>
 
 /// Writes a row with these columns, unless a row before it was not written whole.
 pub(crate) fn put_row<W: Write>(sink: &mut Sink<W>, columns: &[&[u8]])
-    ensures puts { PutsRow W.contents sink.old
-        (row_text default_writer (map (λ c. c.now) columns.now)) sink.new }
+    ensures puts { PutsRow W.contents sink.old (row_text default_writer (map (λ c. c.now) columns.now)) sink.new }
 {
     if sink.has_ended() {
         return;
@@ -113,8 +111,7 @@ pub(crate) fn put_header<W: Write>(sink: &mut Sink<W>)
 
 /// `B,2,1,1`: a text of the second version, with so many versions of terms and so many pledges.
 pub(crate) fn put_book<W: Write>(sink: &mut Sink<W>, terms: u64, pledges: u64)
-    ensures puts { PutsRow W.contents sink.old
-        (text_of_row (Row.Book Version.Two terms pledges)) sink.new }
+    ensures puts { PutsRow W.contents sink.old (text_of_row (Row.Book Version.Two terms pledges)) sink.new }
 {
     put_padded(
         sink,
@@ -146,8 +143,7 @@ pub(crate) fn put_terms<W: Write>(sink: &mut Sink<W>, version: u64, rates: Rates
 /// `P,1,A1,Gold ring,fixed,10000,2024-01-31,,no,1,no,2024-02-01,open,,`: what was agreed when a
 /// pledge was taken, and how it stands.
 pub(crate) fn put_pledge<W: Write>(sink: &mut Sink<W>, brief: &BriefFields)
-    ensures puts { PutsRow W.contents sink.old
-        (text_of_row (Row.Pledge (brief_columns brief.now))) sink.new }
+    ensures puts { PutsRow W.contents sink.old (text_of_row (Row.Pledge (brief_columns brief.now))) sink.new }
 {
     let opening = &brief.agreement.opening;
     let standing = &brief.standing;
@@ -224,8 +220,7 @@ fn agreed_end(agreed: Option<RequestDay>) -> Option<Day>
 
 /// `S,1,2,2024-02-01,sworn,00000000-0000-0000-0000-000000000004`: a secret, at its place from 1.
 pub(crate) fn put_secret<W: Write>(sink: &mut Sink<W>, number: u64, place: u64, issued: &Issued)
-    ensures puts { PutsRow W.contents sink.old
-        (text_of_row (Row.Secret number place issued.now)) sink.new }
+    ensures puts { PutsRow W.contents sink.old (text_of_row (Row.Secret number place issued.now)) sink.new }
 {
     put_padded(
         sink,
@@ -264,8 +259,7 @@ pub(crate) fn put_extension<W: Write>(
     place: u64,
     extension: &Extension,
 )
-    ensures puts { PutsRow W.contents sink.old
-        (text_of_row (Row.Extension number place extension.now)) sink.new }
+    ensures puts { PutsRow W.contents sink.old (text_of_row (Row.Extension number place extension.now)) sink.new }
 {
     put_padded(
         sink,

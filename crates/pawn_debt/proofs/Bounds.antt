@@ -1,20 +1,22 @@
 -- What accepted entries leave owing is within its bounds.
-use Rattle.pawn_debt.proofs.Basics.{◌≡◌, ℕ, zero, suc, ◌+◌, ◌-◌, ◌*◌, ◌≤◌, nat_lt, nat_le, Bool, true, false, if◌then◌else◌, List, [], ◌∷◌, ◌++◌, Ok, IsOk, refl, sym, ap, subst, ◌∙◌, arith, append_assoc, DoNotFall-push, append-nil, first_of-is_ok, last_by-le, last_by-push, nat_tests, IsChecked, Rates, AreEntriesAccepted, AreOrdered, DebtValue, Draw, Due, Entry, IsEntryAccepted, Repay, Sort, after_days, after_sort, credit_of, draw_rows, due, due_after, first_principal, keep_on, last_of, most_a_day, most_pence, repay_rows, sort_answer, with_entry}
-use Rattle.std.proofs.lemmas.Nat.{mul-le}
-use Rattle.pawn_debt.specs.declared.entry.Kind.{Kind}
-use Rattle.pawn_debt.specs.declared.entry.Kind.TheVariants.{Fixed, Running}
-use Rattle.pawn_debt.proofs.DueLemmas.{after_days-principal}
+use Rattle.std.proofs.Common.{◌≡◌, ℕ, zero, suc, ◌+◌, ◌-◌, ◌*◌, ◌≤◌, nat_lt, nat_le, Bool, true, false, if◌then◌else◌, List, [], ◌∷◌, ◌++◌, Ok, IsOk, refl, sym}
+use Rattle.std.proofs.{Common.{ap, subst, ◌∙◌, arith, append_assoc, append-nil}, lemmas.{Bool.Decides.nat_tests, Nat.mul-le}}
+use Rattle.{pawn_base.proofs.{ListLemmas.{DoNotFall-push, last_by-le, last_by-push}, RefusalLemmas.first_of-is_ok}, pawn_terms.specs.Terms.IsChecked}
+use Rattle.{pawn_terms.specs.declared.terms.Rates.Rates, pawn_debt.specs.{Replay.{AreEntriesAccepted, IsEntryAccepted, sort_answer}, Due.AreOrdered}}
+use Rattle.pawn_debt.specs.Due.{DebtValue, Due, after_days, after_sort, credit_of, due, due_after, first_principal, keep_on, last_of}
+use Rattle.pawn_debt.specs.{declared.entry.{Sort.{TheVariants.{Draw, Repay}, Sort}, Entry.Entry}, Answers.{draw_rows, repay_rows, with_entry}}
+use Rattle.pawn_debt.{specs.{Limits.{most_a_day, most_pence}, declared.entry.Kind.{Kind, TheVariants.{Fixed, Running}}}, proofs.DueLemmas.after_days-principal}
 use Rattle.pawn_debt.proofs.EntryLemmas.{due-from-last, due-pushed, due-start, pushed}
 
 pub keep-small : (t : Rates) (ends x : ℕ) → IsChecked t → keep_on t ends x ≤ 10000000
-keep-small t ends x h = from (nat_le x ends)
-  where
-    from : (b : Bool) → (if b then t.keep_before else t.keep_after) ≤ 10000000
-    from true = h.1
-    from false = omega (arith, h.1, h.2)
+keep-small t ends x h = from (nat_le x ends) where
+  from : (b : Bool) → (if b then t.keep_before else t.keep_after) ≤ 10000000
+  from true = h.1
+  from false = omega (arith, h.1, h.2)
 
 -- no day adds more than the most
-pub after_days-small : (t : Rates) (ends x n : ℕ) (o : Due) → IsChecked t → o.principal ≤ most_pence → (after_days t ends x n o).millionths ≤ o.millionths + n * most_a_day
+pub after_days-small : (t : Rates) (ends x n : ℕ) (o : Due) → IsChecked t → o.principal ≤ most_pence
+    → (after_days t ends x n o).millionths ≤ o.millionths + n * most_a_day
 unfolding after_days
 after_days-small t ends x zero o h small = omega arith
 after_days-small t ends x (suc n) o h small =
@@ -48,7 +50,8 @@ later-bounded p x h r late =
 
 -- an accepted entry keeps the bounds of what was owed before it
 entered-bounded : (p : DebtValue) (s : Sort) (x pence : ℕ) → credit_of p.kind ≤ most_pence → IsBounded p x → IsOk (sort_answer s p x pence)
-    → ((after_sort s pence (due p x)).principal ≤ most_pence) × ((after_sort s pence (due p x)).millionths ≤ (x - p.taken) * most_a_day) × (last_of p.taken p.entries ≤ x)
+    → ((after_sort s pence (due p x)).principal ≤ most_pence) × ((after_sort s pence (due p x)).millionths ≤ (x - p.taken) * most_a_day)
+    × (last_of p.taken p.entries ≤ x)
 entered-bounded p Draw x pence credit b h =
     let a = first_of-is_ok (draw_rows p x pence) (Ok (with_entry p x Draw pence)) h in
     let over : nat_lt (credit_of p.kind) ((due p x).principal + pence) ≡ false = a.0.1.1.1.1.0 in
@@ -73,26 +76,25 @@ next-running p e h credit r ok =
         principal = omega (arith, ap (λ (o : Due). o.principal) after, a.0);
         millionths = omega (arith, ap (λ (o : Due). o.millionths) after, a.1);
       });
-    }
-  where
-    late_of : (p : DebtValue) (s : Sort) (x pence : ℕ) → IsOk (sort_answer s p x pence) → last_of p.taken p.entries ≤ x
-    late_of p Draw x pence h =
-        let a = first_of-is_ok (draw_rows p x pence) (Ok (with_entry p x Draw pence)) h in
-        let early : nat_lt x (last_of p.taken p.entries) ≡ false = a.0.0 in
-        grind (arith, nat_tests, early)
-    late_of p Repay x pence h =
-        let a = first_of-is_ok (repay_rows p x pence) (Ok (with_entry p x Repay pence)) h in
-        let early : nat_lt x (last_of p.taken p.entries) ≡ false = a.0.0 in
-        grind (arith, nat_tests, early)
+    } where
+      late_of : (p : DebtValue) (s : Sort) (x pence : ℕ) → IsOk (sort_answer s p x pence) → last_of p.taken p.entries ≤ x
+      late_of p Draw x pence h =
+          let a = first_of-is_ok (draw_rows p x pence) (Ok (with_entry p x Draw pence)) h in
+          let early : nat_lt x (last_of p.taken p.entries) ≡ false = a.0.0 in
+          grind (arith, nat_tests, early)
+      late_of p Repay x pence h =
+          let a = first_of-is_ok (repay_rows p x pence) (Ok (with_entry p x Repay pence)) h in
+          let early : nat_lt x (last_of p.taken p.entries) ≡ false = a.0.0 in
+          grind (arith, nat_tests, early)
 
-all-running : (d : DebtValue) (prior es : List Entry) → IsChecked d.terms → credit_of d.kind ≤ most_pence → IsRunning (record d { entries = prior }) → AreEntriesAccepted d prior es → IsRunning (record d { entries = prior ++ es })
+all-running : (d : DebtValue) (prior es : List Entry) → IsChecked d.terms → credit_of d.kind ≤ most_pence → IsRunning (record d { entries = prior })
+    → AreEntriesAccepted d prior es → IsRunning (record d { entries = prior ++ es })
 all-running d prior [] h credit r ok =
     let R : List Entry → Type 0 = λ l. IsRunning (record d { entries = l }) in
     subst R (sym (append-nil prior)) r
 all-running d prior (e ∷ es) h credit r ok =
     let R : List Entry → Type 0 = λ l. IsRunning (record d { entries = l }) in
-    subst R (append_assoc prior (e ∷ []) es)
-    (all-running d (prior ++ e ∷ []) es h credit (next-running (record d { entries = prior }) e h credit r ok.0) ok.1)
+    subst R (append_assoc prior (e ∷ []) es) (all-running d (prior ++ e ∷ []) es h credit (next-running (record d { entries = prior }) e h credit r ok.0) ok.1)
 
 first-low : (k : Kind) → first_principal k ≤ credit_of k
 first-low (Fixed sum) = omega arith
@@ -111,5 +113,6 @@ none-running d credit low =
     }
 
 -- so a debt whose entries were accepted in turn is within the bounds on the day of the last
-pub accepted-bounded : (d : DebtValue) → IsChecked d.terms → credit_of d.kind ≤ most_pence → AreEntriesAccepted d [] d.entries → IsBounded d (last_of d.taken d.entries)
+pub accepted-bounded : (d : DebtValue) → IsChecked d.terms → credit_of d.kind ≤ most_pence → AreEntriesAccepted d [] d.entries
+    → IsBounded d (last_of d.taken d.entries)
 accepted-bounded d h credit ok = (all-running d [] d.entries h credit (none-running d credit (first-low d.kind)) ok).bounded

@@ -1,6 +1,6 @@
 -- How charges grow over days without entries, by one multiplication.
-use Rattle.pawn_debt.proofs.Basics.{◌≡◌, ℕ, zero, suc, ◌+◌, ◌-◌, ◌*◌, ◌<◌, ◌≤◌, inl, inr, nat_le, true, false, min, refl, sym, ◌∙◌, arith, nat_tests, Rates, Due, after_days, keep_on}
-use Rattle.std.proofs.lemmas.Bool.{cases_lt}
+use Rattle.std.proofs.Common.{◌≡◌, ℕ, zero, suc, ◌+◌, ◌-◌, ◌*◌, ◌<◌, ◌≤◌, inl, inr, nat_le, true, false, min, refl, sym, ◌∙◌, arith}
+use Rattle.{std.proofs.lemmas.Bool.{Decides.nat_tests, cases_lt}, pawn_terms.specs.declared.terms.Rates.Rates, pawn_debt.specs.Due.{Due, after_days, keep_on}}
 
 -- the days of the n after x that are not past the end
 abbrev pub days_inside : ℕ → ℕ → ℕ → ℕ
@@ -24,7 +24,8 @@ after_days-principal t ends x zero o = refl
 after_days-principal t ends x (suc n) o = after_days-principal t ends x n o
 
 -- charges up to the end of the period
-after_days-inside : (t : Rates) (ends x n : ℕ) (o : Due) → x + n ≤ ends → (after_days t ends x n o).millionths ≡ o.millionths + n * (o.principal * t.rate) + n * t.keep_before
+after_days-inside : (t : Rates) (ends x n : ℕ) (o : Due) → x + n ≤ ends
+    → (after_days t ends x n o).millionths ≡ o.millionths + n * (o.principal * t.rate) + n * t.keep_before
 unfolding after_days
 after_days-inside t ends x zero o h = omega arith
 after_days-inside t ends x (suc n) o h =
@@ -34,7 +35,8 @@ after_days-inside t ends x (suc n) o h =
     rw (ih, k, p) (omega arith)
 
 -- charges over days that go past it
-after_days-past : (t : Rates) (ends x n : ℕ) (o : Due) → ends ≤ x + n → (after_days t ends x n o).millionths ≡ o.millionths + n * (o.principal * t.rate) + (ends - x) * t.keep_before + (n - (ends - x)) * t.keep_after
+after_days-past : (t : Rates) (ends x n : ℕ) (o : Due) → ends ≤ x + n
+    → (after_days t ends x n o).millionths ≡ o.millionths + n * (o.principal * t.rate) + (ends - x) * t.keep_before + (n - (ends - x)) * t.keep_after
 unfolding after_days
 after_days-past t ends x zero o h = let z : ends - x ≡ 0 = omega arith in rw z (omega arith)
 after_days-past t ends x (suc n) o h =
@@ -54,7 +56,8 @@ after_days-past t ends x (suc n) o h =
     ]
 
 -- what n days without entries add, in one multiplication
-pub after_days-millionths : (t : Rates) (ends x n : ℕ) (o : Due) → (after_days t ends x n o).millionths ≡ o.millionths + n * (o.principal * t.rate) + days_inside ends x n * t.keep_before + (n - days_inside ends x n) * t.keep_after
+pub after_days-millionths : (t : Rates) (ends x n : ℕ) (o : Due) → (after_days t ends x n o).millionths
+    ≡ o.millionths + n * (o.principal * t.rate) + days_inside ends x n * t.keep_before + (n - days_inside ends x n) * t.keep_after
 after_days-millionths t ends x n o =
     elim (cases_lt ends (x + n)) [
       | inl past ↦ let e : days_inside ends x n ≡ ends - x = omega arith in rw e (after_days-past t ends x n o (omega arith))
@@ -65,5 +68,7 @@ after_days-millionths t ends x n o =
     ]
 
 -- the same, of the two numbers that are kept
-pub after_days-is : (t : Rates) (ends x n : ℕ) (o : Due) (charges : ℕ) → charges ≡ o.millionths + n * (o.principal * t.rate) + days_inside ends x n * t.keep_before + (n - days_inside ends x n) * t.keep_after → record { principal = o.principal; millionths = charges } ≡ after_days t ends x n o
+pub after_days-is : (t : Rates) (ends x n : ℕ) (o : Due) (charges : ℕ)
+    → charges ≡ o.millionths + n * (o.principal * t.rate) + days_inside ends x n * t.keep_before + (n - days_inside ends x n) * t.keep_after
+    → record { principal = o.principal; millionths = charges } ≡ after_days t ends x n o
 after_days-is t ends x n o charges e = due_eq _ _ (sym (after_days-principal t ends x n o)) (e ∙ sym (after_days-millionths t ends x n o))

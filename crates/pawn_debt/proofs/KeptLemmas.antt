@@ -1,19 +1,22 @@
 -- What a debt keeps beside its entries stays true.
-use Rattle.pawn_debt.proofs.Basics.{◌≡◌, ℕ, ◌+◌, ◌-◌, ◌*◌, ◌<◌, ◌≤◌, List, [], ◌∷◌, ◌++◌, length, refl, sym, ap, subst, ◌∙◌, arith, length-append, IsDayNumber, last_by-le, DoNotFall-push, last_by-push, DebtValue, Due, Entry, IsDebtKept, Sort, after_days, after_sort, credit_of, due, due_after, first_principal, last_of, most_a_day, most_entries, most_pence, sums_of, with_entry}
-use Rattle.pawn_debt.specs.declared.owing.Totals.{Totals}
+use Rattle.std.proofs.Common.{◌≡◌, ℕ, ◌+◌, ◌-◌, ◌*◌, ◌<◌, ◌≤◌, List, [], ◌∷◌, ◌++◌, length, refl, sym, ap, subst, ◌∙◌, arith, length-append}
+use Rattle.{pawn_terms.specs.Calendar.IsDayNumber, pawn_base.proofs.ListLemmas.{last_by-le, DoNotFall-push, last_by-push}, pawn_debt.specs.Due.{DebtValue, Due}}
+use Rattle.pawn_debt.specs.{Due.{after_days, after_sort, credit_of, due, due_after, first_principal, last_of}, declared.entry.Entry.Entry, Kept.IsDebtKept}
+use Rattle.pawn_debt.specs.{Kept.sums_of, declared.{entry.Sort.Sort, owing.Totals.Totals}, Limits.{most_a_day, most_entries, most_pence}, Answers.with_entry}
 use Rattle.pawn_debt.proofs.EntryLemmas.{due-from-last, due-pushed, due-start, due-extended}
 
 -- what is owed on a later day; v is the value that a contract sees, and p what the fields hold
-pub owed-later : (p v : DebtValue) (t : Totals) (x : ℕ) → IsDebtKept p t → p ≡ v → last_of v.taken v.entries ≤ x → after_days p.terms p.ends t.day (x - t.day) (sums_of t) ≡ due v x
+pub owed-later : (p v : DebtValue) (t : Totals) (x : ℕ) → IsDebtKept p t → p ≡ v → last_of v.taken v.entries ≤ x
+    → after_days p.terms p.ends t.day (x - t.day) (sums_of t) ≡ due v x
 owed-later p v t x h is late =
     let P : DebtValue → Type 0 = λ q. last_of q.taken q.entries ≤ x in
     let held : last_of p.taken p.entries ≤ x = subst P (sym is) late in
     ap (λ (o : Due). after_days p.terms p.ends t.day (x - t.day) o) h.owed
-    ∙ ap (λ (y : ℕ). after_days p.terms p.ends y (x - y) (due p y)) h.day
-    ∙ due-from-last p x h.ordered held ∙ ap (λ (q : DebtValue). due q x) is
+    ∙ ap (λ (y : ℕ). after_days p.terms p.ends y (x - y) (due p y)) h.day ∙ due-from-last p x h.ordered held ∙ ap (λ (q : DebtValue). due q x) is
 
 -- and a bound on its charges
-pub millionths-later : (p v : DebtValue) (t : Totals) (x charges : ℕ) → IsDebtKept p t → p ≡ v → last_of v.taken v.entries ≤ x → charges ≤ t.millionths + (x - t.day) * most_a_day → charges ≤ (x - v.taken) * most_a_day
+pub millionths-later : (p v : DebtValue) (t : Totals) (x charges : ℕ) → IsDebtKept p t → p ≡ v → last_of v.taken v.entries ≤ x
+    → charges ≤ t.millionths + (x - t.day) * most_a_day → charges ≤ (x - v.taken) * most_a_day
 millionths-later p v t x charges h is late small =
     let P : DebtValue → Type 0 = λ q. last_of q.taken q.entries ≤ x in
     let Q : DebtValue → Type 0 = λ q. charges ≤ (x - q.taken) * most_a_day in
@@ -23,9 +26,9 @@ millionths-later p v t x charges h is late small =
     subst Q is bound
 
 -- one more entry keeps all of it
-pub IsKept-entry : (p : DebtValue) (t after : Totals) (sort : Sort) (pence : ℕ) → IsDebtKept p t → last_of p.taken p.entries ≤ after.day → length p.entries < most_entries
-    → sums_of after ≡ after_sort sort pence (due p after.day) → after.principal ≤ most_pence → after.millionths ≤ (after.day - p.taken) * most_a_day → IsDayNumber after.day
-    → IsDebtKept (with_entry p after.day sort pence) after
+pub IsKept-entry : (p : DebtValue) (t after : Totals) (sort : Sort) (pence : ℕ) → IsDebtKept p t → last_of p.taken p.entries ≤ after.day
+    → length p.entries < most_entries → sums_of after ≡ after_sort sort pence (due p after.day) → after.principal ≤ most_pence
+    → after.millionths ≤ (after.day - p.taken) * most_a_day → IsDayNumber after.day → IsDebtKept (with_entry p after.day sort pence) after
 IsKept-entry p t after sort pence h late few owed principal charges day =
     let e : Entry = record { seq = length p.entries + 1; day = after.day; sort = sort; pence = pence } in
     let low = last_by-le (λ (e : Entry). e.day) p.taken p.entries h.ordered in
@@ -63,8 +66,8 @@ IsKept-enter p v t after sort pence n es h is can len entries =
     subst K (sym e) kept
 
 -- a debt with no entries
-pub IsKept-start : (p : DebtValue) (principal : ℕ) → p.entries ≡ [] → principal ≡ first_principal p.kind → credit_of p.kind ≤ most_pence → first_principal p.kind ≤ credit_of p.kind → IsDayNumber p.taken
-    → IsDebtKept p (record { day = p.taken; principal = principal; millionths = 0 })
+pub IsKept-start : (p : DebtValue) (principal : ℕ) → p.entries ≡ [] → principal ≡ first_principal p.kind → credit_of p.kind ≤ most_pence
+    → first_principal p.kind ≤ credit_of p.kind → IsDayNumber p.taken → IsDebtKept p (record { day = p.taken; principal = principal; millionths = 0 })
 IsKept-start p principal none first small low day =
     let start : due_after p 0 ≡ record { principal = first_principal p.kind; millionths = 0 } = due-start p none in
     record {
@@ -80,7 +83,8 @@ IsKept-start p principal none first small low day =
     }
 
 -- a longer period keeps what was kept, where the last entry was inside the old one
-pub IsKept-extended : (p v : DebtValue) (t : Totals) (ends : ℕ) → IsDebtKept p t → p ≡ v → v.ends ≤ ends → last_of v.taken v.entries ≤ v.ends → IsDebtKept (record p { ends = ends }) t
+pub IsKept-extended : (p v : DebtValue) (t : Totals) (ends : ℕ) → IsDebtKept p t → p ≡ v → v.ends ≤ ends → last_of v.taken v.entries ≤ v.ends
+    → IsDebtKept (record p { ends = ends }) t
 IsKept-extended p v t ends h is later inside =
     let P : DebtValue → Type 0 = λ q. (q.ends ≤ ends) × (last_of q.taken q.entries ≤ q.ends) in
     let a : P p = subst P (sym is) (later, inside) in
@@ -98,16 +102,17 @@ IsKept-extended p v t ends h is later inside =
     }
 
 -- one more entry, as it stands
-pub IsKept-next : (p : DebtValue) (t after : Totals) (e : Entry) (s : Sort) → IsDebtKept p t → t.day ≤ e.day → length p.entries < most_entries → e.sort ≡ s → after.day ≡ e.day
-    → sums_of after ≡ after_sort s e.pence (due p e.day) → after.principal ≤ most_pence → after.millionths ≤ (e.day - p.taken) * most_a_day → IsDayNumber e.day
-    → IsDebtKept (record p { entries = p.entries ++ e ∷ [] }) after
+pub IsKept-next : (p : DebtValue) (t after : Totals) (e : Entry) (s : Sort) → IsDebtKept p t → t.day ≤ e.day → length p.entries < most_entries → e.sort ≡ s
+    → after.day ≡ e.day → sums_of after ≡ after_sort s e.pence (due p e.day) → after.principal ≤ most_pence → after.millionths ≤ (e.day - p.taken) * most_a_day
+    → IsDayNumber e.day → IsDebtKept (record p { entries = p.entries ++ e ∷ [] }) after
 IsKept-next p t after e s h late few sort same owed principal charges day =
     let low = last_by-le (λ (e : Entry). e.day) p.taken p.entries h.ordered in
     let D : ℕ → Type 0 = λ x. IsDayNumber x in
     record {
       ordered = DoNotFall-push (λ (e : Entry). e.day) p.taken p.entries e h.ordered (omega (arith, h.day));
       day = same ∙ sym (last_by-push (λ (e : Entry). e.day) p.taken p.entries e);
-      owed = owed ∙ ap (λ (k : Sort). after_sort k e.pence (due p e.day)) (sym sort) ∙ sym (due-pushed p e (omega (arith, h.day))) ∙ ap (λ (x : ℕ). due (record p { entries = p.entries ++ e ∷ [] }) x) (sym same);
+      owed = owed ∙ ap (λ (k : Sort). after_sort k e.pence (due p e.day)) (sym sort) ∙ sym (due-pushed p e (omega (arith, h.day)))
+          ∙ ap (λ (x : ℕ). due (record p { entries = p.entries ++ e ∷ [] }) x) (sym same);
       credit = h.credit;
       principal_in = principal;
       millionths_in = rw same charges;

@@ -1,16 +1,9 @@
 -- What the calls on a debt answer: the first refusal that applies, or the new debt.
 use Rattle.std.specs.Prelude.{◌≡◌, ℕ, ◌+◌, nat_lt, nat_le, Bool, true, false, ◌||◌, ◌==◌, List, [], ◌∷◌, ◌++◌, length, Result, Ok, Err}
-use Rattle.pawn_base.specs.Refusals.{first_of, IsSaid, IsWant}
-use Rattle.pawn_terms.specs.declared.terms.Rates.{Rates}
-use Rattle.pawn_debt.specs.declared.entry.Sort.{Sort}
-use Rattle.pawn_debt.specs.declared.entry.Sort.TheVariants.{Draw, Repay}
-use Rattle.pawn_debt.specs.declared.entry.Kind.{Kind}
-use Rattle.pawn_debt.specs.declared.entry.Kind.TheVariants.{Fixed, Running}
-use Rattle.pawn_debt.specs.declared.fault.DebtFault.{DebtFault}
-use Rattle.pawn_debt.specs.declared.fault.DebtFault.TheVariants.{BadAmount, FixedSum, OverLimit, OverOwing, EarlierDay, EntriesFull}
-use Rattle.pawn_debt.specs.Due.{DebtValue, due, last_of, credit_of}
-use Rattle.pawn_debt.specs.Owing.{total_of}
-use Rattle.pawn_debt.specs.Limits.{most_pence, most_entries}
+use Rattle.{pawn_base.specs.Refusals.{first_of, IsSaid, IsWant}, pawn_terms.specs.declared.terms.Rates.Rates, pawn_debt.specs.declared.entry.Sort.Sort}
+use Rattle.pawn_debt.specs.declared.{entry.{Sort.TheVariants.{Draw, Repay}, Kind.{Kind, TheVariants.{Fixed, Running}}}, fault.DebtFault.DebtFault}
+use Rattle.pawn_debt.specs.{declared.fault.DebtFault.TheVariants.{BadAmount, FixedSum, OverLimit, OverOwing, EarlierDay, EntriesFull}, Due.{DebtValue, due}}
+use Rattle.pawn_debt.specs.{Due.{last_of, credit_of}, Owing.total_of, Limits.{most_pence, most_entries}}
 
 -- a sum that is refused: nothing, or more than a million pounds
 abbrev pub is_bad_amount : ℕ → Bool

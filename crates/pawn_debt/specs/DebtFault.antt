@@ -1,7 +1,6 @@
 -- Why a call on a debt is refused.
-use Rattle.std.specs.Prelude.{ℕ, List, Option, Some, None, codes}
-use Rattle.pawn_debt.specs.declared.fault.DebtFault.{DebtFault}
-use Rattle.pawn_debt.specs.declared.fault.DebtFault.TheVariants.{BadAmount, FixedSum, OverLimit, OverOwing, EarlierDay, EntriesFull, Memory}
+use Rattle.{std.specs.Prelude.{ℕ, List, Option, Some, None, codes}, pawn_debt.specs.declared.fault.DebtFault.{DebtFault, TheVariants.{BadAmount, FixedSum}}}
+use Rattle.pawn_debt.specs.declared.fault.DebtFault.TheVariants.{OverLimit, OverOwing, EarlierDay, EntriesFull, Memory}
 
 -- the fault's number
 abbrev pub debt_fault_code : DebtFault → ℕ

@@ -1,13 +1,7 @@
 -- What is owed on a day, worked out day by day.
 use Rattle.std.specs.Prelude.{ℕ, zero, suc, ◌+◌, ◌-◌, ◌*◌, ◌/◌, ◌==◌, nat_le, min, if◌then◌else◌, List, [], ◌∷◌, filter}
-use Rattle.pawn_terms.specs.declared.terms.Rates.{Rates}
-use Rattle.pawn_base.specs.Lists.{DoNotFall, last_by}
-use Rattle.pawn_debt.specs.Limits.{penny}
-use Rattle.pawn_debt.specs.declared.entry.Entry.{Entry}
-use Rattle.pawn_debt.specs.declared.entry.Sort.{Sort}
-use Rattle.pawn_debt.specs.declared.entry.Sort.TheVariants.{Draw, Repay}
-use Rattle.pawn_debt.specs.declared.entry.Kind.{Kind}
-use Rattle.pawn_debt.specs.declared.entry.Kind.TheVariants.{Fixed, Running}
+use Rattle.{pawn_terms.specs.declared.terms.Rates.Rates, pawn_base.specs.Lists.{DoNotFall, last_by}, pawn_debt.specs.{Limits.penny, declared.entry.Entry.Entry}}
+use Rattle.pawn_debt.specs.declared.entry.{Sort.{Sort, TheVariants.{Draw, Repay}}, Kind.{Kind, TheVariants.{Fixed, Running}}}
 
 -- principal in pence, charges in millionths of a penny
 pub record Due : Type 0 where

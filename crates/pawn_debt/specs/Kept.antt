@@ -1,8 +1,6 @@
 -- What a debt keeps beside its entries: what is owed on the day of the last one.
 use Rattle.std.specs.Prelude.{◌≡◌, ◌-◌, ◌*◌, ◌≤◌, length}
-use Rattle.pawn_terms.specs.Calendar.{IsDayNumber}
-use Rattle.pawn_debt.specs.declared.owing.Totals.{Totals}
-use Rattle.pawn_debt.specs.Due.{Due, DebtValue, due, last_of, AreOrdered, credit_of}
+use Rattle.{pawn_terms.specs.Calendar.IsDayNumber, pawn_debt.specs.{declared.owing.Totals.Totals, Due.{Due, DebtValue, due, last_of, AreOrdered, credit_of}}}
 use Rattle.pawn_debt.specs.Limits.{most_pence, most_entries, most_a_day}
 
 -- the principal and the charges of totals

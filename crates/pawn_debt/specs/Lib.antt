@@ -7,5 +7,3 @@ pub mod Answers
 pub mod Kept
 pub mod Replay
 pub mod Worked
-pub mod Common
-pub mod Debts

@@ -1,8 +1,6 @@
 -- What is owed, in whole pence.
 use Rattle.std.specs.Prelude.{ℕ, ◌+◌, ◌/◌}
-use Rattle.pawn_debt.specs.declared.owing.Owing.{Owing}
-use Rattle.pawn_debt.specs.Due.{Due}
-use Rattle.pawn_debt.specs.Limits.{penny}
+use Rattle.pawn_debt.specs.{declared.owing.Owing.Owing, Due.Due, Limits.penny}
 
 -- charges are rounded down to whole pence
 abbrev pub whole_pence : ℕ → ℕ

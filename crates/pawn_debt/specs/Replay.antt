@@ -1,12 +1,7 @@
 -- Entries that the rules accept in turn.
 use Rattle.std.specs.Prelude.{◌≡◌, ℕ, ◌+◌, ◌≤◌, List, [], ◌∷◌, ◌++◌, length, Result, IsOk}
-use Rattle.pawn_debt.specs.declared.entry.Entry.{Entry}
-use Rattle.pawn_debt.specs.declared.entry.Sort.{Sort}
-use Rattle.pawn_debt.specs.declared.entry.Sort.TheVariants.{Draw, Repay}
-use Rattle.pawn_debt.specs.declared.fault.DebtFault.{DebtFault}
-use Rattle.pawn_debt.specs.Due.{DebtValue, credit_of}
-use Rattle.pawn_debt.specs.Answers.{draw_answer, repay_answer}
-use Rattle.pawn_debt.specs.Limits.{most_pence}
+use Rattle.pawn_debt.specs.{declared.{entry.{Entry.Entry, Sort.{Sort, TheVariants.{Draw, Repay}}}, fault.DebtFault.DebtFault}, Due.{DebtValue, credit_of}}
+use Rattle.pawn_debt.specs.{Answers.{draw_answer, repay_answer}, Limits.most_pence}
 
 -- what the rules answer to a drawing or a repayment
 abbrev pub sort_answer : Sort → DebtValue → ℕ → ℕ → Result DebtValue DebtFault

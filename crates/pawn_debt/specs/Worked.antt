@@ -1,18 +1,9 @@
 -- Debts, worked out.
-use Rattle.std.specs.Prelude.{◌≡◌, ℕ, ◌-◌, [], ◌∷◌, Ok, Err}
-use Rattle.std.specs.List.{repeat}
-use Rattle.pawn_terms.specs.Calendar.{six_months}
-use Rattle.pawn_debt.specs.Common.{Rates, rates_of}
-use Rattle.pawn_terms.specs.Worked.{date}
-use Rattle.pawn_debt.specs.declared.entry.Kind.{Kind}
-use Rattle.pawn_debt.specs.declared.entry.Kind.TheVariants.{Fixed, Running}
-use Rattle.pawn_debt.specs.declared.entry.Sort.TheVariants.{Draw, Repay}
-use Rattle.pawn_debt.specs.declared.owing.Owing.{Owing}
-use Rattle.pawn_debt.specs.declared.fault.DebtFault.TheVariants.{BadAmount, FixedSum, OverLimit, OverOwing, EarlierDay, EntriesFull}
-use Rattle.pawn_debt.specs.Due.{Due, DebtValue, due, after_days}
-use Rattle.pawn_debt.specs.Owing.{owing_of}
-use Rattle.pawn_debt.specs.Answers.{draw_answer, repay_answer, start_answer, with_entry}
-use Rattle.pawn_debt.specs.Kept.{totals_of}
+use Rattle.std.specs.{Prelude.{◌≡◌, ℕ, ◌-◌, [], ◌∷◌, Ok, Err}, List.repeat}
+use Rattle.{pawn_terms.specs.{Calendar.six_months, declared.terms.Rates.Rates, Terms.rates_of, Worked.date}, pawn_debt.specs.declared.entry.Kind.Kind}
+use Rattle.pawn_debt.specs.declared.{entry.{Kind.TheVariants.{Fixed, Running}, Sort.TheVariants.{Draw, Repay}}, owing.Owing.Owing}
+use Rattle.pawn_debt.specs.{declared.fault.DebtFault.TheVariants.{BadAmount, FixedSum, OverLimit, OverOwing, EarlierDay, EntriesFull}, Due.{Due, DebtValue}}
+use Rattle.pawn_debt.specs.{Due.{due, after_days}, Owing.owing_of, Answers.{draw_answer, repay_answer, start_answer, with_entry}, Kept.totals_of}
 
 -- terms without any charge
 abbrev pub free : Rates
@@ -64,7 +55,8 @@ abbrev pub WorkedTotals : Type 0
 WorkedTotals =
     (totals_of at_interest ≡ record { day = date 2024 1 1; principal = 10000; millionths = 0 })
     × (totals_of part_repayment ≡ record { day = date 2024 1 31; principal = 9800; millionths = 100000 })
-    × (owing_of (after_days (rates_of 2667 0 0) (date 2024 7 1) (date 2024 1 31) (date 2024 3 1 - date 2024 1 31) (pence_and_millionths 9800 100000)) ≡ owed 9800 784 10584)
+    × (owing_of
+    (after_days (rates_of 2667 0 0) (date 2024 7 1) (date 2024 1 31) (date 2024 3 1 - date 2024 1 31) (pence_and_millionths 9800 100000)) ≡ owed 9800 784 10584)
 
 -- a penny a day for safe keeping up to the end, and half a penny after it
 abbrev pub in_safe_keeping : DebtValue

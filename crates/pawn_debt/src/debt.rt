@@ -1,10 +1,6 @@
 ghost use Rattle.std.specs.Prelude.{find, ◌==◌, ◌≡◌, ◌-◌, ◌*◌, ◌≤◌, ◌<◌, length, OnOk, OnErr, IfOk, IfErr};
-ghost use Rattle.pawn_terms.specs.Calendar.{IsDayNumber};
-ghost use Rattle.pawn_debt.specs.Due.{due, last_of, credit_of, after_sort};
-ghost use Rattle.pawn_debt.specs.Owing.{owing_of};
-ghost use Rattle.pawn_debt.specs.Answers.{start_answer, draw_answer, repay_answer, with_entry, IsAnswer};
-ghost use Rattle.pawn_debt.specs.Kept.{IsDebtKept, sums_of, totals_of};
-ghost use Rattle.pawn_debt.specs.Replay.{CanStand};
+ghost use Rattle.{pawn_terms.specs.Calendar.IsDayNumber, pawn_debt.specs.{Due.{due, last_of, credit_of, after_sort}, Owing.owing_of, Answers.start_answer}};
+ghost use Rattle.pawn_debt.specs.{Answers.{draw_answer, repay_answer, with_entry, IsAnswer}, Kept.{IsDebtKept, sums_of, totals_of}, Replay.CanStand};
 ghost use Rattle.pawn_debt.specs.Limits.{most_pence, most_entries, most_a_day, most_millionths};
 
 use crate::entry::{Entries, Entry, Kind, Sort, find_entry};
@@ -85,10 +81,8 @@ impl Debt {
         entries: Entries,
         totals: Totals,
     ) -> Debt
-        requires kept { IsDebtKept (record
-            { kind = kind; terms = terms; taken = taken; ends = ends; entries = entries }) totals }
-        ensures value { result ≡ record
-            { kind = kind; terms = terms; taken = taken; ends = ends; entries = entries } }
+        requires kept { IsDebtKept (record { kind = kind; terms = terms; taken = taken; ends = ends; entries = entries }) totals }
+        ensures value { result ≡ record { kind = kind; terms = terms; taken = taken; ends = ends; entries = entries } }
     {
         Debt {
             kind,
@@ -109,18 +103,9 @@ impl Debt {
         ends: Day,
         entries: Entries,
     ) -> Result<Debt, Entries>
-        ensures ok { IfOk result (λ d.
-            (d ≡ record {
-              kind = kind;
-              terms = terms;
-              taken = taken;
-              ends = ends;
-              entries = entries;
-            }) × CanStand d) }
+        ensures ok { IfOk result (λ d. (d ≡ record { kind = kind; terms = terms; taken = taken; ends = ends; entries = entries }) × CanStand d) }
         ensures err { IfErr result (λ e. e ≡ entries) }
-        ensures refused { OnErr result
-            (CanStand (record
-            { kind = kind; terms = terms; taken = taken; ends = ends; entries = entries }) → ⊥) }
+        ensures refused { OnErr result (CanStand (record { kind = kind; terms = terms; taken = taken; ends = ends; entries = entries }) → ⊥) }
     {
         if kind.credit() == 0 || kind.credit() > MOST_PENCE {
             return Err(entries);
@@ -171,8 +156,7 @@ impl Debt {
     /// Enters a drawing on a running account, or refuses it and leaves the debt unchanged. The first of these that
     /// applies refuses it: `EarlierDay`, `FixedSum`, `BadAmount`, `EntriesFull`, `OverLimit`. `Memory` comes last.
     pub fn draw(&mut self, day: Day, pence: u64) -> Result<(), DebtFault>
-        ensures answer { IsAnswer DebtFault.Memory
-            (draw_answer self.old day pence) self.old result self.new }
+        ensures answer { IsAnswer DebtFault.Memory (draw_answer self.old day pence) self.old result self.new }
         ensures entered { OnOk result (self.new ≡ with_entry self.old day Sort.Draw pence) }
         ensures last { OnOk result (last_of self.new.taken self.new.entries ≡ day) }
     {
@@ -200,8 +184,7 @@ impl Debt {
     /// unchanged. The first of these that applies refuses it: `EarlierDay`, `BadAmount`, `EntriesFull`, `OverOwing`.
     /// `Memory` comes last.
     pub fn repay(&mut self, day: Day, pence: u64) -> Result<(), DebtFault>
-        ensures answer { IsAnswer DebtFault.Memory
-            (repay_answer self.old day pence) self.old result self.new }
+        ensures answer { IsAnswer DebtFault.Memory (repay_answer self.old day pence) self.old result self.new }
         ensures entered { OnOk result (self.new ≡ with_entry self.old day Sort.Repay pence) }
         ensures last { OnOk result (last_of self.new.taken self.new.entries ≡ day) }
     {

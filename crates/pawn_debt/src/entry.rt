@@ -1,6 +1,5 @@
 ghost use Rattle.std.specs.Prelude.{find, ◌==◌, ◌≡◌, ◌≤◌};
-ghost use Rattle.pawn_debt.specs.Due.{credit_of, first_principal};
-ghost use Rattle.pawn_debt.specs.Words.{sort_text};
+ghost use Rattle.pawn_debt.specs.{Due.{credit_of, first_principal}, Words.sort_text};
 
 use pawn_base::Rows;
 use pawn_terms::Day;

@@ -1,6 +1,6 @@
 ghost use Rattle.std.specs.Prelude.{◌≡◌, ◌+◌, ◌-◌, ◌*◌, ◌≤◌};
-ghost use Rattle.pawn_terms.specs.Calendar.{IsDayNumber};
-ghost use Rattle.pawn_debt.specs.Debts.{Draw, Repay, after_days, after_sort, most_a_day, most_millionths, most_pence, owing_of, sums_of, total_of};
+ghost use Rattle.{pawn_terms.specs.Calendar.IsDayNumber, pawn_debt.specs.{declared.entry.Sort.TheVariants.{Draw, Repay}, Due.{after_days, after_sort}}};
+ghost use Rattle.pawn_debt.specs.{Limits.{most_a_day, most_millionths, most_pence}, Owing.{owing_of, total_of}, Kept.sums_of};
 
 use crate::limits::PENNY;
 use pawn_terms::{Day, Terms};
@@ -29,11 +29,9 @@ pub(crate) fn after_days(totals: &Totals, terms: Terms, ends: Day, day: Day) -> 
     requires principal_in { totals.now.principal ≤ most_pence }
     requires millionths_in { totals.now.millionths ≤ most_millionths }
     ensures day { result.day ≡ day }
-    ensures owed { sums_of result ≡ after_days terms ends totals.now.day (day - totals.now.day)
-        (sums_of totals.now) }
+    ensures owed { sums_of result ≡ after_days terms ends totals.now.day (day - totals.now.day) (sums_of totals.now) }
     ensures principal { result.principal ≡ totals.now.principal }
-    ensures small { result.millionths ≤ totals.now.millionths + (day - totals.now.day) *
-        most_a_day }
+    ensures small { result.millionths ≤ totals.now.millionths + (day - totals.now.day) * most_a_day }
     ensures in_range { IsDayNumber result.day }
 {
     let start = totals.day.count();
@@ -55,8 +53,7 @@ pub fn owing_from(totals: &Totals, terms: &Terms, ends: Day, day: Day) -> Owing
     requires later { totals.now.day ≤ day }
     requires principal_in { totals.now.principal ≤ most_pence }
     requires millionths_in { totals.now.millionths ≤ most_millionths }
-    ensures value { result ≡ owing_of
-        (after_days terms.now ends totals.now.day (day - totals.now.day) (sums_of totals.now)) }
+    ensures value { result ≡ owing_of (after_days terms.now ends totals.now.day (day - totals.now.day) (sums_of totals.now)) }
 {
     owing_after(&after_days(totals, *terms, ends, day))
 }

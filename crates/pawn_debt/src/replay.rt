@@ -1,6 +1,6 @@
 ghost use Rattle.std.specs.Prelude.{◌≡◌, ◌-◌, ◌*◌, ◌≤◌, [], ◌∷◌, ◌++◌, IfSome, IfNone};
-ghost use Rattle.pawn_terms.specs.Calendar.{IsDayNumber};
-ghost use Rattle.pawn_debt.specs.Debts.{AreEntriesAccepted, IsDebtKept, IsEntryAccepted, credit_of, due, most_a_day, most_pence, owing_of, sums_of};
+ghost use Rattle.{pawn_terms.specs.Calendar.IsDayNumber, pawn_debt.specs.{Replay.{AreEntriesAccepted, IsEntryAccepted}, Kept.{IsDebtKept, sums_of}}};
+ghost use Rattle.pawn_debt.specs.{Due.{credit_of, due}, Limits.{most_a_day, most_pence}, Owing.owing_of};
 
 use crate::entry::{Entry, Kind, Sort};
 use crate::limits::{MOST_ENTRIES, MOST_PENCE};
@@ -17,14 +17,10 @@ fn owed_at(
     totals: &Totals,
     day: Day,
 ) -> Totals
-    requires kept { IsDebtKept (record
-        { kind = kind; terms = terms; taken = taken; ends = ends; entries = prior.now })
-        totals.now }
+    requires kept { IsDebtKept (record { kind = kind; terms = terms; taken = taken; ends = ends; entries = prior.now }) totals.now }
     requires later { totals.now.day ≤ day }
     ensures day { result.day ≡ day }
-    ensures owed { sums_of result ≡ due
-        (record { kind = kind; terms = terms; taken = taken; ends = ends; entries = prior.now })
-        day }
+    ensures owed { sums_of result ≡ due (record { kind = kind; terms = terms; taken = taken; ends = ends; entries = prior.now }) day }
     ensures principal_in { result.principal ≤ most_pence }
     ensures millionths_in { result.millionths ≤ (day - taken) * most_a_day }
     ensures in_range { IsDayNumber day }
@@ -43,25 +39,10 @@ fn accept(
     totals: &Totals,
     e: &Entry,
 ) -> Option<Totals>
-    requires kept { IsDebtKept (record
-        { kind = kind; terms = terms; taken = taken; ends = ends; entries = prior.now })
-        totals.now }
-    ensures accepted { IfSome result
-        (λ t. IsEntryAccepted
-        (record { kind = kind; terms = terms; taken = taken; ends = ends; entries = prior.now })
-        e.now) }
-    ensures kept { IfSome result
-        (λ t. IsDebtKept (record {
-          kind = kind;
-          terms = terms;
-          taken = taken;
-          ends = ends;
-          entries = prior.now ++ e.now ∷ [];
-        }) t) }
-    ensures refused { IfNone result
-        (IsEntryAccepted (record
-        { kind = kind; terms = terms; taken = taken; ends = ends; entries = prior.now }) e.now
-        → ⊥) }
+    requires kept { IsDebtKept (record { kind = kind; terms = terms; taken = taken; ends = ends; entries = prior.now }) totals.now }
+    ensures accepted { IfSome result (λ t. IsEntryAccepted (record { kind = kind; terms = terms; taken = taken; ends = ends; entries = prior.now }) e.now) }
+    ensures kept { IfSome result (λ t. IsDebtKept (record { kind = kind; terms = terms; taken = taken; ends = ends; entries = prior.now ++ e.now ∷ [] }) t) }
+    ensures refused { IfNone result (IsEntryAccepted (record { kind = kind; terms = terms; taken = taken; ends = ends; entries = prior.now }) e.now → ⊥) }
 {
     if e.seq != prior.len() as u64 + 1 {
         return None;
@@ -98,8 +79,7 @@ fn accept(
 // What is owed before there are entries.
 fn first_totals(kind: Kind, terms: Terms, taken: Day, ends: Day) -> Totals
     requires within { credit_of kind ≤ most_pence }
-    ensures kept { IsDebtKept (record
-        { kind = kind; terms = terms; taken = taken; ends = ends; entries = [] }) result }
+    ensures kept { IsDebtKept (record { kind = kind; terms = terms; taken = taken; ends = ends; entries = [] }) result }
 {
     let _ = taken.count();
     Totals {
@@ -118,17 +98,11 @@ pub fn replay_entries(
     entries: &[Entry],
 ) -> Option<Totals>
     requires within { credit_of kind ≤ most_pence }
-    ensures kept { IfSome result
-        (λ t. IsDebtKept (record
-        { kind = kind; terms = terms; taken = taken; ends = ends; entries = entries.now }) t) }
+    ensures kept { IfSome result (λ t. IsDebtKept (record { kind = kind; terms = terms; taken = taken; ends = ends; entries = entries.now }) t) }
     ensures accepted { IfSome result
-        (λ t. AreEntriesAccepted
-        (record { kind = kind; terms = terms; taken = taken; ends = ends; entries = entries.now })
-        [] entries.now) }
+        (λ t. AreEntriesAccepted (record { kind = kind; terms = terms; taken = taken; ends = ends; entries = entries.now }) [] entries.now) }
     ensures refused { IfNone result
-        (AreEntriesAccepted (record
-        { kind = kind; terms = terms; taken = taken; ends = ends; entries = entries.now }) []
-        entries.now → ⊥) }
+        (AreEntriesAccepted (record { kind = kind; terms = terms; taken = taken; ends = ends; entries = entries.now }) [] entries.now → ⊥) }
 {
     let mut totals = first_totals(kind, terms, taken, ends);
     for i in 0..entries.len() {
@@ -159,18 +133,9 @@ pub fn owing_at(
     totals: &Totals,
     day: Day,
 ) -> Owing
-    requires kept { IsDebtKept (record
-        { kind = kind; terms = terms; taken = taken; ends = ends; entries = entries.now })
-        totals.now }
+    requires kept { IsDebtKept (record { kind = kind; terms = terms; taken = taken; ends = ends; entries = entries.now }) totals.now }
     requires later { totals.now.day ≤ day }
-    ensures value { result ≡ owing_of
-        (due (record {
-          kind = kind;
-          terms = terms;
-          taken = taken;
-          ends = ends;
-          entries = entries.now;
-        }) day) }
+    ensures value { result ≡ owing_of (due (record { kind = kind; terms = terms; taken = taken; ends = ends; entries = entries.now }) day) }
 {
     owing_after(&owed_at(kind, terms, taken, ends, entries, totals, day))
 }

@@ -1,18 +1,22 @@
 -- What a crash may leave: in wider words, over two runs in turn, and as whole requests.
-use Rattle.pawn_host.proofs.Basics.{◌≡◌, ◌∙◌, ◌⊎◌, ℕ, suc, List, [], ◌∷◌, ◌++◌, inl, inr, refl, ap, sym, subst, Ok, Err, Host, IsLeftByStep, IsSound, Keeping, Makes, Mark, Outcome, Refuses, Says, Stamp, WireFault, host_after_event, host_after_mark, host_step, next_host, no_memory, no_store, read_as, GoesBy, GoesTo, IsDone, IsLeftByMark, IsLeftByRun, IsLeftWhole, IsOneMore, Item, Kept, Start, event_of, host_after_run, start_after}
-use Rattle.pawn_host.specs.Common.{Reads}
+use Rattle.{std.proofs.Common.{◌≡◌, ◌∙◌, ◌⊎◌, ℕ, suc, List, [], ◌∷◌, ◌++◌, inl, inr, refl, ap, sym, subst, Ok, Err}, pawn_host.specs.Common.{Host, IsSound}}
+use Rattle.pawn_host.specs.Common.{Keeping, Makes, Mark, Outcome, Refuses, Says, Stamp, WireFault, host_after_event, host_after_mark, host_step, no_memory}
+use Rattle.pawn_host.specs.{Common.{no_store, read_as, Reads}, Keeps.{GoesBy, GoesTo, Kept, Start, start_after}, Crashes.{IsDone, IsLeftByMark, IsLeftByRun}}
+use Rattle.{pawn_host.specs.{Crashes.{IsLeftWhole, IsOneMore}, Run.{Item, event_of, host_after_run}}, pawn_book.specs.Plans.{IsLeftByStep, next_host}}
 use Rattle.pawn_book.specs.HostStep as book
 
 -- ---- where a crash might have left more before
 
-step_wider : (h : Host) (b : ℕ) (o : Outcome) (these those : Host → Type 0) → ((g : Host) → these g → those g) → (left : Host) → IsLeftByStep h b o these left → IsLeftByStep h b o those left
+step_wider : (h : Host) (b : ℕ) (o : Outcome) (these those : Host → Type 0) → ((g : Host) → these g → those g) → (left : Host) → IsLeftByStep h b o these left
+    → IsLeftByStep h b o those left
 step_wider h b (Refuses why) these those wider left by = wider left by
 step_wider h b (Says out) these those wider left by = wider left by
 step_wider h b (Makes change reply) these those wider left by = by
 
-mark_wider : (h : Host) (operator : ℕ) (stamp : Stamp) (bytes : List ℕ) (mark : Mark WireFault) (these those : Host → Type 0) → ((g : Host) → these g → those g) → (left : Host)
-    → IsLeftByMark h operator stamp bytes mark these left → IsLeftByMark h operator stamp bytes mark those left
-mark_wider h operator stamp bytes (read_as (Ok request)) these those wider left by = step_wider h request.book (host_step h operator stamp request) these those wider left by
+mark_wider : (h : Host) (operator : ℕ) (stamp : Stamp) (bytes : List ℕ) (mark : Mark WireFault) (these those : Host → Type 0) → ((g : Host) → these g → those g)
+    → (left : Host) → IsLeftByMark h operator stamp bytes mark these left → IsLeftByMark h operator stamp bytes mark those left
+mark_wider h operator stamp bytes (read_as (Ok request)) these those wider left by =
+    step_wider h request.book (host_step h operator stamp request) these those wider left by
 mark_wider h operator stamp bytes (read_as (Err fault)) these those wider left by = wider left by
 mark_wider h operator stamp bytes no_memory these those wider left (inl by) = inl (wider left by)
 mark_wider h operator stamp bytes no_memory these those wider left (inr done) = inr done
@@ -23,8 +27,8 @@ pub run_wider : (h : Host) (operator : ℕ) (items : List Item) (these those : H
     → IsLeftByRun h operator items these left → IsLeftByRun h operator items those left
 run_wider h operator [] these those wider left by = wider left by
 run_wider h operator (x ∷ items) these those wider left by =
-    run_wider (host_after_event h operator (event_of x)) operator items (IsLeftByMark h operator x.stamp x.bytes x.mark these) (IsLeftByMark h operator x.stamp x.bytes x.mark those)
-    (mark_wider h operator x.stamp x.bytes x.mark these those wider) left by
+    run_wider (host_after_event h operator (event_of x)) operator items (IsLeftByMark h operator x.stamp x.bytes x.mark these)
+    (IsLeftByMark h operator x.stamp x.bytes x.mark those) (mark_wider h operator x.stamp x.bytes x.mark these those wider) left by
 
 pub goes_wider : {kept : Kept} {h : Host} {these those : Host → Type 0} → GoesTo kept h these → ((left : Host) → these left → those left) → GoesTo kept h those
 goes_wider goes wider = record { stands_for = goes.stands_for; sound = goes.sound; crash = λ left by. wider left (goes.crash left by) }
@@ -42,7 +46,8 @@ goes_from before now items kept same wider goes =
 -- ---- a call that changes nothing
 
 -- the keeper was not asked
-pub goes_none : {K : Type 0} (k : Keeping K) (keep : K) (h : Host) → k.stands keep h → IsSound h → GoesTo (record { stands = k.stands keep; leaves = k.leaves keep }) h (k.leaves keep)
+pub goes_none : {K : Type 0} (k : Keeping K) (keep : K) (h : Host) → k.stands keep h → IsSound h
+    → GoesTo (record { stands = k.stands keep; leaves = k.leaves keep }) h (k.leaves keep)
 goes_none k keep h at sound = record { stands_for = at; sound = sound; crash = λ left by. by }
 
 -- it was asked
@@ -52,7 +57,8 @@ goes_read reads honest h at sound = record { stands_for = reads.same honest h at
 
 -- ---- two runs in turn
 
-pub host_after-append : (h : Host) (operator : ℕ) (a b : List Item) → host_after_run h operator (a ++ b) ≡ host_after_run (host_after_run h operator a) operator b
+pub host_after-append : (h : Host) (operator : ℕ) (a b : List Item)
+    → host_after_run h operator (a ++ b) ≡ host_after_run (host_after_run h operator a) operator b
 host_after-append h operator [] b = refl
 host_after-append h operator (x ∷ a) b = host_after-append (host_after_event h operator (event_of x)) operator a b
 
@@ -71,7 +77,8 @@ goes-append start kept a b goes = record {
 
 -- ---- a crash leaves whole requests
 
-whole_step : (h : Host) (b : ℕ) (o : Outcome) (before : Host → Type 0) (left : Host) → IsLeftByStep h b o before left → (before left × (book.host_after h b o ≡ h)) ⊎ (left ≡ book.host_after h b o)
+whole_step : (h : Host) (b : ℕ) (o : Outcome) (before : Host → Type 0) (left : Host) → IsLeftByStep h b o before left
+    → (before left × (book.host_after h b o ≡ h)) ⊎ (left ≡ book.host_after h b o)
 whole_step h b (Refuses why) before left by = inl (by, refl)
 whole_step h b (Says out) before left by = inl (by, refl)
 whole_step h b (Makes change reply) before left by = inr by
@@ -80,7 +87,8 @@ whole_step h b (Makes change reply) before left by = inr by
 data WholeItem (h : Host) (operator : ℕ) (stamp : Stamp) (bytes : List ℕ) (mark : Mark WireFault) (before : Host → Type 0) (left : Host) : Type 0 where
   same : before left → host_after_mark h operator stamp mark ≡ h → WholeItem h operator stamp bytes mark before left
   after : left ≡ host_after_mark h operator stamp mark → WholeItem h operator stamp bytes mark before left
-  more : (mark ≡ no_memory) ⊎ (mark ≡ no_store) → host_after_mark h operator stamp mark ≡ h → IsDone h operator stamp bytes left → WholeItem h operator stamp bytes mark before left
+  more : (mark ≡ no_memory) ⊎ (mark ≡ no_store) → host_after_mark h operator stamp mark ≡ h → IsDone h operator stamp bytes left
+      → WholeItem h operator stamp bytes mark before left
 
 whole_item : (h : Host) (operator : ℕ) (stamp : Stamp) (bytes : List ℕ) (mark : Mark WireFault) (before : Host → Type 0) (left : Host)
     → IsLeftByMark h operator stamp bytes mark before left → WholeItem h operator stamp bytes mark before left
@@ -96,27 +104,28 @@ whole_item h operator stamp bytes no_store before left (inr done) = more (inr re
 
 -- .. after the items of a run
 abbrev IsWhole : Host → ℕ → List Item → (Host → Type 0) → Host → Type 0
-IsWhole h operator items before left =
-    (before left × (host_after_run h operator items ≡ h)) ⊎ (left ≡ host_after_run h operator items) ⊎ IsOneMore (host_after_run h operator items) operator items left
+IsWhole h operator items before left = (before left × (host_after_run h operator items ≡ h)) ⊎ (left ≡ host_after_run h operator items)
+    ⊎ IsOneMore (host_after_run h operator items) operator items left
 
-whole_run : (h : Host) (operator : ℕ) (items : List Item) (before : Host → Type 0) (left : Host) → IsLeftByRun h operator items before left → IsWhole h operator items before left
+whole_run : (h : Host) (operator : ℕ) (items : List Item) (before : Host → Type 0) (left : Host) → IsLeftByRun h operator items before left
+    → IsWhole h operator items before left
 whole_run h operator [] before left by = inl (by, refl)
-whole_run h operator (x ∷ items) before left by = from (whole_run next operator items (IsLeftByMark h operator x.stamp x.bytes x.mark before) left by)
-  where
-    next : Host
-    next = host_after_event h operator (event_of x)
+whole_run h operator (x ∷ items) before left by = from (whole_run next operator items (IsLeftByMark h operator x.stamp x.bytes x.mark before) left by) where
+  next : Host
+  next = host_after_event h operator (event_of x)
 
-    here : host_after_run next operator items ≡ next → WholeItem h operator x.stamp x.bytes x.mark before left → IsWhole h operator (x ∷ items) before left
-    here still (same was unchanged) = inl (was, still ∙ unchanged)
-    here still (after is) = inr (inl (is ∙ sym still))
-    here still (more unwell unchanged done) =
-        let at : left ≡ next_host (host_after_run next operator items) operator x.stamp done.0 = done.2 ∙ ap (λ (g : Host). next_host g operator x.stamp done.0) (sym (still ∙ unchanged)) in
-        inr (inr record { place = 0; item = x; there = refl; unwell = unwell; done = (done.0, done.1, at) })
+  here : host_after_run next operator items ≡ next → WholeItem h operator x.stamp x.bytes x.mark before left → IsWhole h operator (x ∷ items) before left
+  here still (same was unchanged) = inl (was, still ∙ unchanged)
+  here still (after is) = inr (inl (is ∙ sym still))
+  here still (more unwell unchanged done) =
+      let at : left ≡ next_host (host_after_run next operator items) operator x.stamp done.0 = done.2
+      ∙ ap (λ (g : Host). next_host g operator x.stamp done.0) (sym (still ∙ unchanged)) in
+      inr (inr record { place = 0; item = x; there = refl; unwell = unwell; done = (done.0, done.1, at) })
 
-    from : IsWhole next operator items (IsLeftByMark h operator x.stamp x.bytes x.mark before) left → IsWhole h operator (x ∷ items) before left
-    from (inl (by, still)) = here still (whole_item h operator x.stamp x.bytes x.mark before left by)
-    from (inr (inl is)) = inr (inl is)
-    from (inr (inr m)) = inr (inr record { place = suc m.place; item = m.item; there = m.there; unwell = m.unwell; done = m.done })
+  from : IsWhole next operator items (IsLeftByMark h operator x.stamp x.bytes x.mark before) left → IsWhole h operator (x ∷ items) before left
+  from (inl (by, still)) = here still (whole_item h operator x.stamp x.bytes x.mark before left by)
+  from (inr (inl is)) = inr (inl is)
+  from (inr (inr m)) = inr (inr record { place = suc m.place; item = m.item; there = m.there; unwell = m.unwell; done = m.done })
 
 pub crash_leaves_whole : (h : Host) (operator : ℕ) (items : List Item) (before : Host → Type 0) → ((g : Host) → before g → g ≡ h) → (left : Host)
     → IsLeftByRun h operator items before left → IsLeftWhole h operator items left

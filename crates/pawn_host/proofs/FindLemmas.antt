@@ -1,16 +1,22 @@
 -- What was found in the buffer stands on the stream.
-use Rattle.pawn_host.proofs.Basics.{◌≡◌, ◌≢◌, ℕ, ◌+◌, ◌<◌, ◌≤◌, Bool, true, false, List, [], ◌∷◌, ◌++◌, length, inl, inr, refl, arith, Option, Some, None, Ok, sym, ◌∙◌, ap, subst, append_assoc, append-nil, length-append, IfSome, ◌==◌, bad_head_stays, nat_tests, reads_more, Consumes, Fault, HeadFacts, HeadFault, IsAtEnd, IsHeadRead, Keeps, Partial, ReadsHead, RequestHead, prepend_known, print_request, AtEnd, Cause, CutOff, Faulty, FindsHead, FindsRest, HasFault, HasHead, IsCausedBy, IsCut, Read, Reads, Write}
-use Rattle.pawn_wire.specs.declared.head.HeadRead.{HeadRead}
+use Rattle.std.proofs.Common.{◌≡◌, ◌≢◌, ℕ, ◌+◌, ◌<◌, ◌≤◌, Bool, true, false, List, [], ◌∷◌, ◌++◌, length, inl, inr, refl, arith, Option, Some, None, Ok, sym}
+use Rattle.std.proofs.{Common.{◌∙◌, ap, subst, append_assoc, append-nil, length-append, IfSome, ◌==◌}, lemmas.Bool.Decides.nat_tests}
+use Rattle.{pawn_wire.{proofs.StreamLemmas.{bad_head_stays, reads_more}, specs.declared.head.HeadRead.HeadRead}, pawn_host.specs.Common.{Consumes, Fault}}
+use Rattle.pawn_host.specs.Common.{HeadFacts, HeadFault, IsAtEnd, IsHeadRead, Keeps, Partial, ReadsHead, RequestHead, prepend_known, print_request}
+use Rattle.pawn_host.specs.{declared.session.{Rest.TheVariants.{AtEnd, CutOff, Faulty}, Cause.Cause}, Finding.{FindsHead, FindsRest, HasHead, IsCausedBy}}
+use Rattle.pawn_host.specs.{Split.{HasFault, IsCut}, declared.session.Cause.TheVariants.{Read, Reads, Write}}
 
 -- the buffer grew by what was read
-pub kept_more : (a b c : Option (List ℕ)) (old new piece : List ℕ) → Keeps a (prepend_known old b) → new ≡ old ++ piece → Consumes b c piece → Keeps a (prepend_known new c)
+pub kept_more : (a b c : Option (List ℕ)) (old new piece : List ℕ) → Keeps a (prepend_known old b) → new ≡ old ++ piece → Consumes b c piece
+    → Keeps a (prepend_known new c)
 kept_more None b c old new piece k e r = tt
 kept_more (Some x) None c old new piece k e r = absurd k
 kept_more (Some x) (Some y) None old new piece k e r = absurd r
 kept_more (Some x) (Some y) (Some z) old new piece k e r = ap (λ (l : List ℕ). l ++ z) e ∙ append_assoc old piece z ∙ ap (λ (l : List ℕ). old ++ l) (sym r) ∙ k
 
 pub head_more : (old new piece : List ℕ) (f : HeadFacts) → HasHead old f → new ≡ old ++ piece → HasHead new f
-head_more old new piece f has e = (has.0, has.1 ++ piece, subst (λ (s : List ℕ). ReadsHead s has.0 (has.1 ++ piece)) (sym e) (reads_more old piece has.0 has.1 has.2), has.3)
+head_more old new piece f has e =
+    (has.0, has.1 ++ piece, subst (λ (s : List ℕ). ReadsHead s has.0 (has.1 ++ piece)) (sym e) (reads_more old piece has.0 has.1 has.2), has.3)
 
 pub empty_by_test : (n : ℕ) (old new : List ℕ) → new ≡ old → n ≡ length new → (n == 0) ≡ true → old ≡ []
 empty_by_test n [] new e len test = refl
@@ -28,7 +34,8 @@ pub fault_stays : (s more : List ℕ) (f : HeadFault) → HasFault s f → HasFa
 fault_stays s more f (inl x) = inl (bad_head_stays s more x.0, x.1)
 fault_stays s more f (inr x) = inr (x.0, x.1 ++ more, reads_more s more x.0 x.1 x.2, x.3)
 
-pub found_faulty : (a b : Option (List ℕ)) (buffer : List ℕ) (f : HeadFault) → Keeps a (prepend_known buffer b) → IsHeadRead buffer (Fault f) → IfSome a (λ s. FindsRest s (Faulty f))
+pub found_faulty : (a b : Option (List ℕ)) (buffer : List ℕ) (f : HeadFault) → Keeps a (prepend_known buffer b) → IsHeadRead buffer (Fault f)
+    → IfSome a (λ s. FindsRest s (Faulty f))
 found_faulty None b buffer f k answers = tt
 found_faulty (Some x) None buffer f k answers = absurd k
 found_faulty (Some x) (Some y) buffer f k answers = subst (λ (s : List ℕ). HasFault s f) k (fault_stays buffer y f answers)
@@ -45,7 +52,8 @@ pub found_end : (a b c : Option (List ℕ)) (old : List ℕ) → Keeps a (prepen
 found_end None b c old k kept end e = tt
 found_end (Some x) b c old k kept end e = all_read x old b c k kept end ∙ e
 
-pub found_cut : (a b c : Option (List ℕ)) (old : List ℕ) → Keeps a (prepend_known old b) → Keeps b c → IsAtEnd c → IsHeadRead old Partial → (old ≡ [] → ⊥) → IfSome a (λ s. FindsRest s CutOff)
+pub found_cut : (a b c : Option (List ℕ)) (old : List ℕ) → Keeps a (prepend_known old b) → Keeps b c → IsAtEnd c → IsHeadRead old Partial → (old ≡ [] → ⊥)
+    → IfSome a (λ s. FindsRest s CutOff)
 found_cut None b c old k kept end answers e = tt
 found_cut (Some x) b c old k kept end answers e =
     subst (λ (s : List ℕ). IsCut s) (sym (all_read x old b c k kept end)) (inl (e, answers.0, answers.1, answers.2))
@@ -53,14 +61,16 @@ found_cut (Some x) b c old k kept end answers e =
 rest_length : (s : List ℕ) (h : RequestHead) (rest : List ℕ) → ReadsHead s h rest → length s ≡ length (print_request h) + length rest
 rest_length s h rest x = ap length x.0.1 ∙ length-append (print_request h) rest
 
-pub found_short : (a b c : Option (List ℕ)) (old : List ℕ) (f : HeadFacts) → Keeps a (prepend_known old b) → Keeps b c → IsAtEnd c → HasHead old f → length old < f.len + f.body → IfSome a (λ s. FindsRest s CutOff)
+pub found_short : (a b c : Option (List ℕ)) (old : List ℕ) (f : HeadFacts) → Keeps a (prepend_known old b) → Keeps b c → IsAtEnd c → HasHead old f
+    → length old < f.len + f.body → IfSome a (λ s. FindsRest s CutOff)
 found_short None b c old f k kept end has short = tt
 found_short (Some x) b c old f k kept end has short =
     let len = rest_length old has.0 has.1 has.2 in
     let less : length has.1 < f.body = omega (arith, len, short, has.3.len) in
     subst (λ (s : List ℕ). IsCut s) (sym (all_read x old b c k kept end)) (inr (has.0, has.1, f.body, has.2, has.3.body, less))
 
-pub found_request : (a b : Option (List ℕ)) (old : List ℕ) (f : HeadFacts) → Keeps a (prepend_known old b) → HasHead old f → f.len + f.body ≤ length old → IfSome a (λ s. FindsHead s (Ok f))
+pub found_request : (a b : Option (List ℕ)) (old : List ℕ) (f : HeadFacts) → Keeps a (prepend_known old b) → HasHead old f → f.len + f.body ≤ length old
+    → IfSome a (λ s. FindsHead s (Ok f))
 found_request None b old f k has fits = tt
 found_request (Some x) None old f k has fits = absurd k
 found_request (Some x) (Some y) old f k has fits =

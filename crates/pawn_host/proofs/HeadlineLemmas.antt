@@ -1,10 +1,15 @@
 -- Each answer of a run is that of a machine alone.
-use Rattle.pawn_host.proofs.Basics.{◌≡◌, ℕ, zero, suc, List, [], ◌∷◌, take, true, Some, Ok, refl, ◌∙◌, ap, sym, subst, All, Denied, Exported, Host, Listed, Mark, Out, Refusal, Request, Result, SaysRequest, Shown, Stamp, Told, WireFault, book_trace, get, host_after_event, host_step, is_settled, mark_reply, no_memory, no_store, out_of, read_as, reply_alone, slice_get, slot_trace, solo_reply, All-head, All-tail, reads_unique, absurd_none, some_is, AnswerAlone, EqualBookTracesReplyAlike, EqualTracesReplyAlike, IsMarkOf, IsMarked, IsRun, IsRunOfSlots, IsSettled, Item, Kept, RunsAnswerAlone, Start, by_bearer, event_of, events, host_after_run, replies, reply_bytes, said_text}
-use Rattle.pawn_book.proofs.SlotRuns.{books_answer_alone, slots_answer_alone}
-use Rattle.pawn_host.proofs.RunMore.{marked_all}
+use Rattle.std.proofs.Common.{◌≡◌, ℕ, zero, suc, List, [], ◌∷◌, take, true, Some, Ok, refl, ◌∙◌, ap, sym, subst, All, Result, slice_get}
+use Rattle.{std.proofs.lemmas.List.Elements.{All-head, All-tail}, pawn_host.specs.Common.{Denied, Exported, Host, Listed, Mark, Out, Refusal, Request}}
+use Rattle.pawn_host.specs.Common.{SaysRequest, Shown, Stamp, Told, WireFault, book_trace, get, host_after_event, host_step, is_settled, mark_reply, no_memory}
+use Rattle.pawn_host.specs.{Common.{no_store, out_of, read_as, reply_alone, slot_trace, solo_reply}, Headline.{AnswerAlone, IsRunOfSlots, IsSettled, by_bearer}}
+use Rattle.pawn_host.specs.{Headline.reply_bytes, Laws.{EqualBookTracesReplyAlike, EqualTracesReplyAlike, RunsAnswerAlone}, Run.{IsMarkOf, IsMarked, Item}}
+use Rattle.pawn_host.{specs.{Run.{event_of, events, host_after_run, replies, said_text}, Keeps.{IsRun, Kept, Start}}, proofs.RunMore.marked_all}
+use Rattle.{pawn_wire.proofs.RequestLemmas.reads_unique, pawn_book.proofs.{Sounds.{absurd_none, some_is}, SlotRuns.{books_answer_alone, slots_answer_alone}}}
 
 -- the answer at a place is what its item was told
-answer_at : (h : Host) (operator : ℕ) (items : List Item) (i : ℕ) (item : Item) (answer : List ℕ) → slice_get items i ≡ Some item → slice_get (replies h operator items) i ≡ Some answer
+answer_at : (h : Host) (operator : ℕ) (items : List Item) (i : ℕ) (item : Item) (answer : List ℕ) → slice_get items i ≡ Some item
+    → slice_get (replies h operator items) i ≡ Some answer
     → answer ≡ said_text (mark_reply (host_after_run h operator (take i items)) operator item.stamp item.mark)
 answer_at h operator [] i item answer is told = absurd_none is
 answer_at h operator (x ∷ items) zero item answer is told =
@@ -32,7 +37,8 @@ settled_out (Listed day capacity items) settled = refl
 settled_out (Exported rows) settled = refl
 
 -- bytes that are a request were read as that request
-request_read : (bytes : List ℕ) (request : Request) (said : Result Request WireFault) → SaysRequest bytes (Ok request) → SaysRequest bytes said → said ≡ Ok request
+request_read : (bytes : List ℕ) (request : Request) (said : Result Request WireFault) → SaysRequest bytes (Ok request) → SaysRequest bytes said
+    → said ≡ Ok request
 request_read bytes request said asked read = reads_unique bytes said (Ok request) read asked
 
 -- a settled answer is the host's reply to the request, and that is settled
@@ -41,7 +47,8 @@ pub record IsHostsReply (h : Host) (operator : ℕ) (stamp : Stamp) (request : R
   pub settled : is_settled (out_of (host_step h operator stamp request)) ≡ true
 
 hosts_reply : (Steady : Type 0) (h : Host) (operator : ℕ) (stamp : Stamp) (bytes : List ℕ) (mark : Mark WireFault) (request : Request) (answer : List ℕ)
-    → IsMarkOf Steady bytes mark → answer ≡ said_text (mark_reply h operator stamp mark) → SaysRequest bytes (Ok request) → IsSettled answer → IsHostsReply h operator stamp request answer
+    → IsMarkOf Steady bytes mark → answer ≡ said_text (mark_reply h operator stamp mark) → SaysRequest bytes (Ok request) → IsSettled answer
+    → IsHostsReply h operator stamp request answer
 hosts_reply Steady h operator stamp bytes (read_as said) request answer marked told asked settled =
     let text : answer ≡ reply_bytes (out_of (host_step h operator stamp request)) =
     told ∙ ap (λ (r : Result Request WireFault). said_text (mark_reply h operator stamp (read_as r))) (request_read bytes request said asked marked.0) in
@@ -49,7 +56,8 @@ hosts_reply Steady h operator stamp bytes (read_as said) request answer marked t
 hosts_reply Steady h operator stamp bytes no_memory request answer marked told asked settled = absurd (settled.1 told)
 hosts_reply Steady h operator stamp bytes no_store request answer marked told asked settled = absurd (settled.2 told)
 
-reply_at : (h : Host) (operator : ℕ) (items : List Item) (i : ℕ) (item : Item) (request : Request) (answer : List ℕ) → All (IsMarked ⊥) items → slice_get items i ≡ Some item → slice_get (replies h operator items) i ≡ Some answer
+reply_at : (h : Host) (operator : ℕ) (items : List Item) (i : ℕ) (item : Item) (request : Request) (answer : List ℕ) → All (IsMarked ⊥) items
+    → slice_get items i ≡ Some item → slice_get (replies h operator items) i ≡ Some answer
     → SaysRequest item.bytes (Ok request) → IsSettled answer → IsHostsReply (host_after_run h operator (take i items)) operator item.stamp request answer
 reply_at h operator items i item request answer marked is told asked settled =
     hosts_reply ⊥ (host_after_run h operator (take i items)) operator item.stamp item.bytes item.mark request answer
@@ -66,21 +74,23 @@ runs_answer_alone h operator items marked = record {
 }
 
 pub equal_traces_answer_alike : EqualTracesReplyAlike
-equal_traces_answer_alike h g operator items others marked also i j item twin answer other is told twin_is twin_told b slot asked read twin_read stamps mine settled twin_settled same =
-    (runs_answer_alone h operator items marked).slots i item answer is told b slot asked read mine settled
-    ∙ ap (λ trace. reply_bytes (solo_reply slot trace b item.stamp asked)) same
-    ∙ ap (λ (stamp : Stamp). reply_bytes (solo_reply slot (slot_trace b slot g operator (events (take j others))) b stamp asked)) stamps
+equal_traces_answer_alike h g operator items others marked also i j item twin answer other is told twin_is twin_told b slot asked read twin_read stamps mine
+    settled twin_settled same =
+    (runs_answer_alone h operator items marked).slots i item answer is told b slot asked read mine settled ∙ ap (λ trace. reply_bytes (solo_reply slot trace b
+    item.stamp asked)) same ∙ ap (λ (stamp : Stamp). reply_bytes (solo_reply slot (slot_trace b slot g operator (events (take j others))) b stamp asked)) stamps
     ∙ sym ((runs_answer_alone g operator others also).slots j twin other twin_is twin_told b slot asked twin_read mine twin_settled)
 
 pub equal_book_traces_answer_alike : EqualBookTracesReplyAlike
-equal_book_traces_answer_alike h g operator items others marked also i j item twin answer other is told twin_is twin_told request read twin_read stamps settled twin_settled start same =
-    (runs_answer_alone h operator items marked).books i item answer is told request read settled
-    ∙ ap (λ book. reply_bytes (reply_alone book operator request.book (book_trace request.book h operator (events (take i items))) item.stamp request.caller)) start
-    ∙ ap (λ trace. reply_bytes (reply_alone (get g.books request.book) operator request.book trace item.stamp request.caller)) same
-    ∙ ap (λ (stamp : Stamp). reply_bytes (reply_alone (get g.books request.book) operator request.book (book_trace request.book g operator (events (take j others))) stamp request.caller)) stamps
+equal_book_traces_answer_alike h g operator items others marked also i j item twin answer other is told twin_is twin_told request read twin_read stamps settled
+    twin_settled start same =
+    (runs_answer_alone h operator items marked).books i item answer is told request read settled ∙ ap (λ book. reply_bytes
+    (reply_alone book operator request.book (book_trace request.book h operator (events (take i items))) item.stamp request.caller)) start ∙ ap (λ trace.
+    reply_bytes (reply_alone (get g.books request.book) operator request.book trace item.stamp request.caller)) same ∙ ap (λ (stamp : Stamp). reply_bytes
+    (reply_alone (get g.books request.book) operator request.book (book_trace request.book g operator (events (take j others))) stamp request.caller)) stamps
     ∙ sym ((runs_answer_alone g operator others also).books j twin other twin_is twin_told request twin_read twin_settled)
 
-pub run_of_slots : (start : Start) (given : List (Stamp × List ℕ)) (answers : List (List ℕ)) (kept : Kept) → IsRun start given answers kept → IsRunOfSlots start given answers kept
+pub run_of_slots : (start : Start) (given : List (Stamp × List ℕ)) (answers : List (List ℕ)) (kept : Kept) → IsRun start given answers kept
+    → IsRunOfSlots start given answers kept
 run_of_slots start given answers kept run =
     let marked : All (IsMarked ⊥) run.items = marked_all start.Steady ⊥ run.items (λ (never : ⊥). absurd never) run.marked in
     record {

@@ -1,6 +1,14 @@
 -- A stream has one split.
-use Rattle.pawn_host.proofs.Basics.{◌≡◌, ℕ, ◌+◌, ◌<◌, ◌≤◌, Bool, true, false, List, [], ◌∷◌, ◌++◌, length, take, map, ◌⊎◌, inl, inr, refl, arith, sym, ◌∙◌, ap, subst, append_assoc, append-nil, length-append, Result, Ok, Err, All, BadHead, EndsInTarget, Event, HasNoRequest, HeadFault, Host, IsBadHead, Mark, ReadsHead, ReadsRequest, RequestHead, Stamp, WireFault, body_length, closes_by, concat, fields_of, max_fields, max_head, nat_le, no_memory, no_store, print_request, read_as, run_host, run_replies, AreCutAndFault, Begins, BeginsAndGoesOn, ClosesAfter, Ending, HasFault, HasNoWhole, IsCut, IsLeftOpen, IsMarkOf, IsMarked, IsOpen, IsRequest, IsWanting, Item, MayGoOn, PassesOver, Splits, StopsAt, at_end, at_limit, closed, cut, events, faulted, host_after_run, input_of, refusal_of_mark, refusals, replies, said_text, All-head, All-tail, append_cancel_left, bad_head_never, head_some, nat_tests, nil_is_no_bad_head, reads_more, reads_unique, request_unique, take-append-le, take_all}
-use Rattle.pawn_host.proofs.SplitLemmas.{length_snoc, passes-snoc}
+use Rattle.std.proofs.Common.{◌≡◌, ℕ, ◌+◌, ◌<◌, ◌≤◌, Bool, true, false, List, [], ◌∷◌, ◌++◌, length, take, map, ◌⊎◌, inl, inr, refl, arith, sym, ◌∙◌, ap, subst}
+use Rattle.std.proofs.{Common.{append_assoc, append-nil, length-append, Result, Ok, Err, All, nat_le, take_all}, lemmas.List.Elements.{All-head, All-tail}}
+use Rattle.{std.proofs.lemmas.{List.{append_cancel_left, take-append-le}, Bool.Decides.nat_tests}, pawn_wire.specs.declared.fault.HeadFault.TheVariants.BadHead}
+use Rattle.pawn_wire.proofs.{StreamLemmas.{bad_head_never, head_some, nil_is_no_bad_head, reads_more}, RequestLemmas.reads_unique}
+use Rattle.pawn_host.specs.Common.{EndsInTarget, Event, HasNoRequest, HeadFault, Host, IsBadHead, Mark, ReadsHead, ReadsRequest, RequestHead, Stamp, WireFault}
+use Rattle.pawn_host.specs.Common.{body_length, closes_by, concat, fields_of, max_fields, max_head, no_memory, no_store, print_request, read_as, run_host}
+use Rattle.pawn_host.specs.{Common.run_replies, Laws.{AreCutAndFault, IsLeftOpen, IsOpen, MayGoOn, refusal_of_mark, refusals}, Split.{Begins, BeginsAndGoesOn}}
+use Rattle.pawn_host.specs.Split.{ClosesAfter, Ending, HasFault, HasNoWhole, IsCut, IsRequest, IsWanting, PassesOver, Splits, StopsAt, at_end, at_limit, closed}
+use Rattle.pawn_host.specs.{Split.{cut, faulted}, Run.{IsMarkOf, IsMarked, Item, events, host_after_run, input_of, replies, said_text}}
+use Rattle.{pawn_host.proofs.SplitLemmas.{length_snoc, passes-snoc}, httparse.proofs.GrammarLemmas.request_unique}
 
 -- ---- fronts
 
@@ -29,8 +37,11 @@ fronts_same x y s t c d e p q =
     let p' : ReadsHead (y ++ t) p.head (p.body ++ s) = subst (λ (l : List ℕ). ReadsHead l p.head (p.body ++ s)) e (reads_more x s p.head p.body p.reads) in
     let q' : ReadsHead (y ++ t) q.head (q.body ++ t) = reads_more y t q.head q.body q.reads in
     let same = request_unique (y ++ t) p.head q.head (p.body ++ s) (q.body ++ t) p'.0 q'.0 in
-    let body : length p.body ≡ length q.body = ok_same (length p.body) (length q.body) (sym p.framed ∙ ap (λ (h : RequestHead). body_length (fields_of h)) same.0 ∙ q.framed) in
-    let len : length x ≡ length y = ap length p.reads.0.1 ∙ length-append (print_request p.head) p.body ∙ ap (λ (h : RequestHead). length (print_request h) + length p.body) same.0 ∙ ap (λ (n : ℕ). length (print_request q.head) + n) body ∙ sym (length-append (print_request q.head) q.body) ∙ sym (ap length q.reads.0.1) in
+    let body : length p.body ≡ length q.body =
+    ok_same (length p.body) (length q.body) (sym p.framed ∙ ap (λ (h : RequestHead). body_length (fields_of h)) same.0 ∙ q.framed) in
+    let len : length x ≡ length y = ap length p.reads.0.1 ∙ length-append (print_request p.head) p.body
+    ∙ ap (λ (h : RequestHead). length (print_request h) + length p.body) same.0 ∙ ap (λ (n : ℕ). length (print_request q.head) + n) body
+    ∙ sym (length-append (print_request q.head) q.body) ∙ sym (ap length q.reads.0.1) in
     let parts = cancel_by_length x y s t len e in
     (parts.0, parts.1, p.closes_is ∙ ap (λ (h : RequestHead). closes_by h.minor (fields_of h)) same.0 ∙ sym q.closes_is)
 
@@ -40,24 +51,23 @@ no_head_of_nil h rest x = (let e = ap length x.0.1 ∙ length-append (print_requ
 -- ---- where a split stops
 
 pub none_in_stop : (e : Ending) (n : ℕ) (rest : List ℕ) → StopsAt e n rest → n < 1000 → (r t : List ℕ) (c : Bool) → rest ≡ r ++ t → IsRequest r c → ⊥
-none_in_stop e n rest stops few r t c parts q = at e stops
-  where
-    here : ReadsHead rest q.head (q.body ++ t)
-    here = subst (λ (l : List ℕ). ReadsHead l q.head (q.body ++ t)) (sym parts) (reads_more r t q.head q.body q.reads)
+none_in_stop e n rest stops few r t c parts q = at e stops where
+  here : ReadsHead rest q.head (q.body ++ t)
+  here = subst (λ (l : List ℕ). ReadsHead l q.head (q.body ++ t)) (sym parts) (reads_more r t q.head q.body q.reads)
 
-    at : (e : Ending) → StopsAt e n rest → ⊥
-    at at_end s = no_head_of_nil q.head (q.body ++ t) (subst (λ (l : List ℕ). ReadsHead l q.head (q.body ++ t)) s.1 here)
-    at cut (few, inl s) = s.2 q.head (q.body ++ t) here.0
-    at cut (few, inr s) =
-        let same = request_unique rest s.0 q.head s.1 (q.body ++ t) s.3.0 here.0 in
-        let body : s.2 ≡ length q.body = ok_same s.2 (length q.body) (sym s.4 ∙ ap (λ (h : RequestHead). body_length (fields_of h)) same.0 ∙ q.framed) in
-        omega (arith, s.5, body, ap length same.1, length-append q.body t)
-    at (faulted f) (few, inl s) = bad_head_never rest s.0 [] q.head ((q.body ++ t) ++ []) (reads_more rest [] q.head (q.body ++ t) here)
-    at (faulted f) (few, inr s) =
-        let same = request_unique rest s.0 q.head s.1 (q.body ++ t) s.2.0 here.0 in
-        ok_not_err (length q.body) f (sym q.framed ∙ ap (λ (h : RequestHead). body_length (fields_of h)) (sym same.0) ∙ s.3)
-    at at_limit s = omega (arith, s, few)
-    at closed s = absurd s
+  at : (e : Ending) → StopsAt e n rest → ⊥
+  at at_end s = no_head_of_nil q.head (q.body ++ t) (subst (λ (l : List ℕ). ReadsHead l q.head (q.body ++ t)) s.1 here)
+  at cut (few, inl s) = s.2 q.head (q.body ++ t) here.0
+  at cut (few, inr s) =
+      let same = request_unique rest s.0 q.head s.1 (q.body ++ t) s.3.0 here.0 in
+      let body : s.2 ≡ length q.body = ok_same s.2 (length q.body) (sym s.4 ∙ ap (λ (h : RequestHead). body_length (fields_of h)) same.0 ∙ q.framed) in
+      omega (arith, s.5, body, ap length same.1, length-append q.body t)
+  at (faulted f) (few, inl s) = bad_head_never rest s.0 [] q.head ((q.body ++ t) ++ []) (reads_more rest [] q.head (q.body ++ t) here)
+  at (faulted f) (few, inr s) =
+      let same = request_unique rest s.0 q.head s.1 (q.body ++ t) s.2.0 here.0 in
+      ok_not_err (length q.body) f (sym q.framed ∙ ap (λ (h : RequestHead). body_length (fields_of h)) (sym same.0) ∙ s.3)
+  at at_limit s = omega (arith, s, few)
+  at closed s = absurd s
 
 stop_bound : (e : Ending) (n : ℕ) (rest : List ℕ) → StopsAt e n rest → n ≤ 1000
 stop_bound at_end n rest s = omega (arith, s.0)
@@ -133,7 +143,8 @@ longer : (a : List (List ℕ)) (m : List ℕ) (ms b : List (List ℕ)) → b ≡
 longer a m ms b e = omega (arith, ap length e, length-append a (m ∷ ms))
 
 -- a split that stops goes no further than another
-stopped : (e : Ending) (a : List (List ℕ)) (p : List ℕ) (b : List (List ℕ)) (q : List ℕ) → StopsAt e (length a) p → length b ≤ 1000 → GoesOn a p b q → (a ≡ b) × (p ≡ q)
+stopped : (e : Ending) (a : List (List ℕ)) (p : List ℕ) (b : List (List ℕ)) (q : List ℕ) → StopsAt e (length a) p → length b ≤ 1000 → GoesOn a p b q
+    → (a ≡ b) × (p ≡ q)
 stopped e a p b q s few ([], is, x) = (sym (is ∙ append-nil a), x)
 stopped e a p b q s few (m ∷ ms, is, x) = absurd (none_in_stop e (length a) p s (omega (arith, few, longer a m ms b is)) m x.0 false x.1 x.2)
 
@@ -143,11 +154,10 @@ closes_or_stops s a b e p x stops y = elim (aligned s a y.0 p (y.1 ++ y.2) x y.3
   | inl z ↦ (let same = stopped e a p y.0 (y.1 ++ y.2) stops (omega (arith, y.5)) z in
       none_in_stop e (length a) p stops (subst (λ (l : List (List ℕ)). length l < 1000) (sym same.0) y.5) y.1 y.2 true same.1 y.4)
   | inr z ↦ goes z
-]
-  where
-    goes : GoesOn y.0 (y.1 ++ y.2) a p → ⊥
-    goes ([], is, z) = none_in_stop e (length a) p stops (subst (λ (l : List (List ℕ)). length l < 1000) (sym (is ∙ append-nil y.0)) y.5) y.1 y.2 true (sym z) y.4
-    goes (m ∷ ms, is, z) = not_both (fronts_same y.1 m y.2 z.0 true false z.1 y.4 z.2).2
+] where
+  goes : GoesOn y.0 (y.1 ++ y.2) a p → ⊥
+  goes ([], is, z) = none_in_stop e (length a) p stops (subst (λ (l : List (List ℕ)). length l < 1000) (sym (is ∙ append-nil y.0)) y.5) y.1 y.2 true (sym z) y.4
+  goes (m ∷ ms, is, z) = not_both (fronts_same y.1 m y.2 z.0 true false z.1 y.4 z.2).2
 
 closes_on : (a b : List (List ℕ)) (l k r q : List ℕ) → GoesOn a (l ++ r) b (k ++ q) → IsRequest l true → IsRequest k true → a ++ l ∷ [] ≡ b ++ k ∷ []
 closes_on a b l k r q ([], is, x) p o =
@@ -172,7 +182,8 @@ splits_unique s a b e f (inl x) (inl y) =
       | inl z ↦ stopped e a x.0 b y.0 x.2 (stop_bound f (length b) y.0 y.2) z
       | inr z ↦ (let k = stopped f b y.0 a x.0 y.2 (stop_bound e (length a) x.0 x.2) z in (sym k.0, sym k.1))
     ] in
-    let y' : StopsAt f (length a) x.0 = subst (λ (l : List ℕ). StopsAt f (length a) l) (sym same.1) (subst (λ (l : List (List ℕ)). StopsAt f (length l) y.0) (sym same.0) y.2) in (
+    let y' : StopsAt f (length a) x.0 =
+    subst (λ (l : List ℕ). StopsAt f (length a) l) (sym same.1) (subst (λ (l : List (List ℕ)). StopsAt f (length l) y.0) (sym same.0) y.2) in (
       same.0,
       elim (stops_alike e f (length a) x.0 x.2 y') [
         | inl k ↦ inl k
@@ -180,39 +191,44 @@ splits_unique s a b e f (inl x) (inl y) =
       ],
     )
 
-pub open_ends : (rest : List ℕ) → IsOpen rest → ((more : List ℕ) × (h : RequestHead) × ReadsRequest (rest ++ more) h [] × (max_fields < length h.fields)) ⊎ EndsInTarget rest
+pub open_ends : (rest : List ℕ) → IsOpen rest
+    → ((more : List ℕ) × (h : RequestHead) × ReadsRequest (rest ++ more) h [] × (max_fields < length h.fields)) ⊎ EndsInTarget rest
 open_ends rest x = elim x.0.3 [
   | inl y ↦ inl (y.0, y.1, y.2, x.1 y.0 y.1 [] y.2)
   | inr y ↦ inr y
 ]
 
-begins_stop : (s : List ℕ) (requests all : List (List ℕ)) (e : Ending) (p q : List ℕ) → PassesOver s requests p → length requests ≤ 1000 → PassesOver s all q → StopsAt e (length all) q → (more : List (List ℕ)) × (all ≡ requests ++ more)
+begins_stop : (s : List ℕ) (requests all : List (List ℕ)) (e : Ending) (p q : List ℕ) → PassesOver s requests p → length requests ≤ 1000 → PassesOver s all q
+    → StopsAt e (length all) q → (more : List (List ℕ)) × (all ≡ requests ++ more)
 begins_stop s requests all e p q x few y stops = elim (aligned s requests all p q x y) [
   | inl z ↦ (z.0, z.1)
   | inr z ↦ (let same = stopped e all q requests p stops few z in ([], same.0 ∙ sym (append-nil requests)))
 ]
 
-begins_close : (s : List ℕ) (requests all : List (List ℕ)) (p : List ℕ) → PassesOver s requests p → ClosesAfter s all → (more : List (List ℕ)) × (all ≡ requests ++ more)
+begins_close : (s : List ℕ) (requests all : List (List ℕ)) (p : List ℕ) → PassesOver s requests p → ClosesAfter s all
+    → (more : List (List ℕ)) × (all ≡ requests ++ more)
 begins_close s requests all p x y = elim (aligned s requests y.0 p (y.1 ++ y.2) x y.3) [
   | inl z ↦ (z.0 ++ y.1 ∷ [], y.6 ∙ ap (λ (l : List (List ℕ)). l ++ y.1 ∷ []) z.1 ∙ append_assoc requests z.0 (y.1 ∷ []))
   | inr z ↦ back z
-]
-  where
-    back : GoesOn y.0 (y.1 ++ y.2) requests p → (more : List (List ℕ)) × (all ≡ requests ++ more)
-    back ([], is, z) = (y.1 ∷ [], y.6 ∙ ap (λ (l : List (List ℕ)). l ++ y.1 ∷ []) (sym (is ∙ append-nil y.0)))
-    back (m ∷ ms, is, z) = absurd (not_both (fronts_same y.1 m y.2 z.0 true false z.1 y.4 z.2).2)
+] where
+  back : GoesOn y.0 (y.1 ++ y.2) requests p → (more : List (List ℕ)) × (all ≡ requests ++ more)
+  back ([], is, z) = (y.1 ∷ [], y.6 ∙ ap (λ (l : List (List ℕ)). l ++ y.1 ∷ []) (sym (is ∙ append-nil y.0)))
+  back (m ∷ ms, is, z) = absurd (not_both (fronts_same y.1 m y.2 z.0 true false z.1 y.4 z.2).2)
 
-pub split_begins : (s : List ℕ) (requests all : List (List ℕ)) (e : Ending) → Splits s all e → Begins s requests → (more : List (List ℕ)) × (all ≡ requests ++ more)
+pub split_begins : (s : List ℕ) (requests all : List (List ℕ)) (e : Ending) → Splits s all e → Begins s requests
+    → (more : List (List ℕ)) × (all ≡ requests ++ more)
 split_begins s requests all e (inl y) (inl x) = begins_stop s requests all e x.0 y.0 x.1 x.2 y.1 y.2
 split_begins s requests all e (inr y) (inl x) = begins_close s requests all x.0 x.1 y.0
 split_begins s requests all e (inl y) (inr x) = absurd (closes_or_stops s all requests e y.0 y.1 y.2 x)
 split_begins s requests all e (inr y) (inr x) = ([], closes_same s all requests y.0 x ∙ sym (append-nil requests))
 
-begins_next : (s : List ℕ) (requests : List (List ℕ)) (next more : List ℕ) (c : Bool) → PassesOver s requests (next ++ more) → IsRequest next c → length requests < 1000 → Begins s (requests ++ next ∷ [])
+begins_next : (s : List ℕ) (requests : List (List ℕ)) (next more : List ℕ) (c : Bool) → PassesOver s requests (next ++ more) → IsRequest next c
+    → length requests < 1000 → Begins s (requests ++ next ∷ [])
 begins_next s requests next more true p q few = inr (requests, next, more, p, q, few, refl)
 begins_next s requests next more false p q few = inl (more, passes-snoc s requests next more p q, omega (arith, length_snoc requests next))
 
-pub split_goes_on : (s : List ℕ) (requests all : List (List ℕ)) (e : Ending) → Splits s all e → BeginsAndGoesOn s requests → (next : List ℕ) × (more : List (List ℕ)) × (all ≡ requests ++ next ∷ more)
+pub split_goes_on : (s : List ℕ) (requests all : List (List ℕ)) (e : Ending) → Splits s all e → BeginsAndGoesOn s requests
+    → (next : List ℕ) × (more : List (List ℕ)) × (all ≡ requests ++ next ∷ more)
 split_goes_on s requests all e y x =
     let k = split_begins s (requests ++ x.0 ∷ []) all e y (begins_next s requests x.0 x.1 x.2 x.3 x.4 x.5) in
     (x.0, k.0, k.1 ∙ append_assoc requests (x.0 ∷ []) k.0)
@@ -223,9 +239,11 @@ passes_front s (r ∷ rs) rest x = x.1 ∙ ap (λ (l : List ℕ). r ++ l) (passe
 
 concat_snoc : (rs : List (List ℕ)) (x rest : List ℕ) → concat rs ++ (x ++ rest) ≡ concat (rs ++ x ∷ []) ++ rest
 concat_snoc [] x rest = ap (λ (l : List ℕ). l ++ rest) (sym (append-nil x))
-concat_snoc (r ∷ rs) x rest = append_assoc r (concat rs) (x ++ rest) ∙ ap (λ (l : List ℕ). r ++ l) (concat_snoc rs x rest) ∙ sym (append_assoc r (concat (rs ++ x ∷ [])) rest)
+concat_snoc (r ∷ rs) x rest = append_assoc r (concat rs) (x ++ rest) ∙ ap (λ (l : List ℕ). r ++ l) (concat_snoc rs x rest)
+    ∙ sym (append_assoc r (concat (rs ++ x ∷ [])) rest)
 
-pub split_is_front : (s : List ℕ) (requests : List (List ℕ)) (e : Ending) → Splits s requests e → (length requests ≤ 1000) × ((rest : List ℕ) × (s ≡ concat requests ++ rest))
+pub split_is_front : (s : List ℕ) (requests : List (List ℕ)) (e : Ending) → Splits s requests e
+    → (length requests ≤ 1000) × ((rest : List ℕ) × (s ≡ concat requests ++ rest))
 split_is_front s requests e (inl x) = (stop_bound e (length requests) x.0 x.2, (x.0, passes_front s requests x.0 x.1))
 split_is_front s requests e (inr (x, is)) = (
   omega (arith, ap length x.6, length_snoc x.0 x.1, x.5),
@@ -258,33 +276,37 @@ items_unique (x ∷ a) [] p q e f = absurd cc
 items_unique (x ∷ a) (y ∷ b) p q e f =
     let given : input_of x ≡ input_of y = cons_head (input_of x) (input_of y) (map input_of a) (map input_of b) e in
     let bytes : x.bytes ≡ y.bytes = ap (λ (g : Stamp × List ℕ). g.1) given in
-    let mark : x.mark ≡ y.mark = marks_same y.bytes x.mark y.mark (subst (λ (l : List ℕ). IsMarkOf ⊥ l x.mark) bytes (All-head (IsMarked ⊥) x a p)) (All-head (IsMarked ⊥) y b q) (cons_head (refusal_of_mark x.mark) (refusal_of_mark y.mark) (refusals a) (refusals b) f) in
-    let rest : a ≡ b = items_unique a b (All-tail (IsMarked ⊥) x a p) (All-tail (IsMarked ⊥) y b q) (cons_tail (input_of x) (input_of y) (map input_of a) (map input_of b) e) (cons_tail (refusal_of_mark x.mark) (refusal_of_mark y.mark) (refusals a) (refusals b) f) in
+    let mark : x.mark ≡ y.mark = marks_same y.bytes x.mark y.mark (subst (λ (l : List ℕ). IsMarkOf ⊥ l x.mark) bytes (All-head (IsMarked ⊥) x a p))
+    (All-head (IsMarked ⊥) y b q) (cons_head (refusal_of_mark x.mark) (refusal_of_mark y.mark) (refusals a) (refusals b) f) in
+    let rest : a ≡ b = items_unique a b (All-tail (IsMarked ⊥) x a p) (All-tail (IsMarked ⊥) y b q) (cons_tail (input_of x) (input_of y) (map input_of a)
+    (map input_of b) e) (cons_tail (refusal_of_mark x.mark) (refusal_of_mark y.mark) (refusals a) (refusals b) f) in
     (λ i. record { stamp = (given i).0; bytes = bytes i; mark = mark i } ∷ rest i)
 
-pub run_events : (h : Host) (operator : ℕ) (a b : List Item) → events a ≡ events b → (host_after_run h operator a ≡ host_after_run h operator b) × (replies h operator a ≡ replies h operator b)
+pub run_events : (h : Host) (operator : ℕ) (a b : List Item) → events a ≡ events b
+    → (host_after_run h operator a ≡ host_after_run h operator b) × (replies h operator a ≡ replies h operator b)
 run_events h operator a b e =
     (ap (λ (es : List (Event WireFault)). run_host h operator es) e, ap (λ (es : List (Event WireFault)). map said_text (run_replies h operator es)) e)
 
-pub fault_is_exact : (rest : List ℕ) → (MayGoOn rest → HasNoRequest rest → (f : HeadFault) → HasFault rest f → ⊥) × ((MayGoOn rest → ⊥) → (length rest < max_head) → HasFault rest BadHead)
-fault_is_exact rest = (never, bad)
-  where
-    never : MayGoOn rest → HasNoRequest rest → (f : HeadFault) → HasFault rest f → ⊥
-    never m none f (inl (inl over, e)) = (let k = over m.1.0 m.1.1 m.1.2 m.1.3 in omega (arith, k, m.1.4))
-    never m none f (inl (inr full, e)) = omega (arith, m.0, full.0)
-    never m none f (inr x) = none x.0 x.1 x.2.0
+pub fault_is_exact : (rest : List ℕ)
+    → (MayGoOn rest → HasNoRequest rest → (f : HeadFault) → HasFault rest f → ⊥) × ((MayGoOn rest → ⊥) → (length rest < max_head) → HasFault rest BadHead)
+fault_is_exact rest = (never, bad) where
+  never : MayGoOn rest → HasNoRequest rest → (f : HeadFault) → HasFault rest f → ⊥
+  never m none f (inl (inl over, e)) = (let k = over m.1.0 m.1.1 m.1.2 m.1.3 in omega (arith, k, m.1.4))
+  never m none f (inl (inr full, e)) = omega (arith, m.0, full.0)
+  never m none f (inr x) = none x.0 x.1 x.2.0
 
-    cases : (b : Bool) (h : RequestHead) → nat_le (length h.fields) max_fields ≡ b → (length h.fields ≤ max_fields → ⊥) → max_fields < length h.fields
-    cases true h t no_room = absurd (no_room (grind (arith, nat_tests, t)))
-    cases false h t no_room = grind (arith, nat_tests, t)
+  cases : (b : Bool) (h : RequestHead) → nat_le (length h.fields) max_fields ≡ b → (length h.fields ≤ max_fields → ⊥) → max_fields < length h.fields
+  cases true h t no_room = absurd (no_room (grind (arith, nat_tests, t)))
+  cases false h t no_room = grind (arith, nat_tests, t)
 
-    bad : (MayGoOn rest → ⊥) → (length rest < max_head) → HasFault rest BadHead
-    bad stuck short = inl (inl (λ more h r x. cases (nat_le (length h.fields) max_fields) h refl (λ few. stuck (short, (more, h, r, x, few)))), refl)
+  bad : (MayGoOn rest → ⊥) → (length rest < max_head) → HasFault rest BadHead
+  bad stuck short = inl (inl (λ more h r x. cases (nat_le (length h.fields) max_fields) h refl (λ few. stuck (short, (more, h, r, x, few)))), refl)
 
 -- ---- what is wanted
 
 -- where requests that do not close come first, and then one more, nothing else was wanted before it
-wants_no_more : (come : List ℕ) (a b : List (List ℕ)) (last rest tail : List ℕ) (closes : Bool) → PassesOver come a (last ++ tail) → IsRequest last closes → PassesOver come b rest → HasNoWhole rest → (length a < length b) × (closes ≡ false)
+wants_no_more : (come : List ℕ) (a b : List (List ℕ)) (last rest tail : List ℕ) (closes : Bool) → PassesOver come a (last ++ tail) → IsRequest last closes
+    → PassesOver come b rest → HasNoWhole rest → (length a < length b) × (closes ≡ false)
 wants_no_more come [] [] last rest tail closes p q w none = absurd (none last tail closes (sym w ∙ p) q)
 wants_no_more come [] (r ∷ rs) last rest tail closes p q w none =
     let same = fronts_same r last w.0 tail false closes (sym w.1 ∙ p) w.2 q in
@@ -309,5 +331,6 @@ wants_all come (r ∷ rs) (t ∷ ts) rest tail p w none =
     let more = wants_all p.0 rs ts rest tail p.3 (subst (λ (l : List ℕ). PassesOver l ts rest) (sym same.1) w.3) none in
     omega (arith, more)
 
-pub full_wants_nothing : (come : List ℕ) (requests : List (List ℕ)) (rest : List ℕ) → PassesOver come requests rest → 1000 ≤ length requests → IsWanting come → ⊥
+pub full_wants_nothing : (come : List ℕ) (requests : List (List ℕ)) (rest : List ℕ) → PassesOver come requests rest → 1000 ≤ length requests → IsWanting come
+    → ⊥
 full_wants_nothing come requests rest p many w = omega (arith, wants_all come requests w.0 w.1 rest p w.2 w.4, many, w.3)

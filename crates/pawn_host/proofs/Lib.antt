@@ -1,4 +1,3 @@
-pub mod Basics
 pub mod SplitLemmas
 pub mod FindLemmas
 pub mod ReadLemmas

@@ -1,18 +1,21 @@
 -- What was read while a request was looked for.
-use Rattle.pawn_host.proofs.Basics.{◌≡◌, ℕ, ◌+◌, ◌<◌, ◌≤◌, Bool, false, List, [], ◌∷◌, ◌++◌, length, take, drop, refl, arith, Option, Some, None, Result, Ok, Err, sym, ◌∙◌, ap, subst, append_assoc, append-nil, length-append, Consumes, HeadFacts, IfOk, IsHeadRead, Keeps, Partial, ReadsHead, body_length, concat, fields_of, print_request, Consumes-nil, Consumes-trans, reads_more, request_unique, take-append-drop, AreMissing, AreWanted, FindsHead, HasHead, HasNoWhole, IsFetched, IsReadWhileWanted, IsRequest, PassesOver, Rest, most_requests}
-use Rattle.std.proofs.lemmas.List.Folds.{concat-append}
-use Rattle.pawn_host.proofs.SplitLemmas.{front_request, length_snoc, passes-snoc}
-use Rattle.pawn_host.proofs.LawLemmas.{ok_same}
+use Rattle.std.proofs.Common.{◌≡◌, ℕ, ◌+◌, ◌<◌, ◌≤◌, Bool, false, List, [], ◌∷◌, ◌++◌, length, take, drop, refl, arith, Option, Some, None, Result, Ok, Err}
+use Rattle.std.proofs.{Common.{sym, ◌∙◌, ap, subst, append_assoc, append-nil, length-append, IfOk, take-append-drop}, KnownBytes.{Consumes-nil, Consumes-trans}}
+use Rattle.{std.proofs.lemmas.List.Folds.concat-append, pawn_host.specs.Common.{Consumes, HeadFacts, IsHeadRead, Keeps, Partial, ReadsHead, body_length}}
+use Rattle.pawn_host.specs.{Common.{concat, fields_of, print_request}, Finding.{AreMissing, FindsHead, HasHead, IsFetched}, Split.{AreWanted, HasNoWhole}}
+use Rattle.pawn_host.specs.{Split.{IsRequest, PassesOver, most_requests}, Session.IsReadWhileWanted, declared.session.Rest.Rest}
+use Rattle.{pawn_host.proofs.{SplitLemmas.{front_request, length_snoc, passes-snoc}, LawLemmas.ok_same}, pawn_wire.proofs.StreamLemmas.reads_more}
+use Rattle.httparse.proofs.GrammarLemmas.{request_unique}
 
 -- ---- no whole request stands in the buffer
 
 -- a whole request begins with a head
 front_head : (rest request more : List ℕ) (closes : Bool) → rest ≡ request ++ more → (q : IsRequest request closes) → ReadsHead rest q.head (q.body ++ more)
-front_head rest request more closes parts q = subst (λ (l : List ℕ). ReadsHead l q.head (q.body ++ more)) (sym parts) (reads_more request more q.head q.body q.reads)
+front_head rest request more closes parts q =
+    subst (λ (l : List ℕ). ReadsHead l q.head (q.body ++ more)) (sym parts) (reads_more request more q.head q.body q.reads)
 
 pub partial_has_no_whole : (buffer : List ℕ) → IsHeadRead buffer Partial → HasNoWhole buffer
-partial_has_no_whole buffer answers request more closes parts q =
-    answers.1 q.head (q.body ++ more) (front_head buffer request more closes parts q).0
+partial_has_no_whole buffer answers request more closes parts q = answers.1 q.head (q.body ++ more) (front_head buffer request more closes parts q).0
 
 pub short_has_no_whole : (buffer : List ℕ) (f : HeadFacts) → HasHead buffer f → length buffer < f.len + f.body → HasNoWhole buffer
 short_has_no_whole buffer f has short request more closes parts q =
@@ -24,7 +27,8 @@ short_has_no_whole buffer f has short request more closes parts q =
 
 -- ---- pieces
 
-missing_more : (buffer : List ℕ) (pieces : List (List ℕ)) (more : List (List ℕ)) → AreMissing buffer pieces → AreMissing (buffer ++ concat pieces) more → AreMissing buffer (pieces ++ more)
+missing_more : (buffer : List ℕ) (pieces : List (List ℕ)) (more : List (List ℕ)) → AreMissing buffer pieces → AreMissing (buffer ++ concat pieces) more
+    → AreMissing buffer (pieces ++ more)
 missing_more buffer [] more first then = subst (λ (b : List ℕ). AreMissing b more) (append-nil buffer) then
 missing_more buffer (p ∷ ps) more first then =
     (first.0, missing_more (buffer ++ p) ps more first.1 (subst (λ (b : List ℕ). AreMissing b more) (sym (append_assoc buffer p (concat ps))) then))
@@ -45,14 +49,15 @@ pub record FetchedSoFar (buffer now : List ℕ) (before after : Option (List ℕ
   pub gave : Consumes before after (concat pieces)
   pub grown : now ≡ buffer ++ concat pieces
 
-pub fetched_more : (buffer now now' piece : List ℕ) (a b c : Option (List ℕ)) (reads reads' reads'' : ℕ) (so : FetchedSoFar buffer now a b reads reads') → HasNoWhole now → reads'' ≡ reads' + 1 → Consumes b c piece → now' ≡ now ++ piece
-    → FetchedSoFar buffer now' a c reads reads''
+pub fetched_more : (buffer now now' piece : List ℕ) (a b c : Option (List ℕ)) (reads reads' reads'' : ℕ) (so : FetchedSoFar buffer now a b reads reads')
+    → HasNoWhole now → reads'' ≡ reads' + 1 → Consumes b c piece → now' ≡ now ++ piece → FetchedSoFar buffer now' a c reads reads''
 fetched_more buffer now now' piece a b c reads reads' reads'' so none counted gave is = record {
   pieces = so.pieces ++ piece ∷ [];
   count = omega (arith, counted, so.count, length-append so.pieces (piece ∷ []));
   missing = missing_more buffer so.pieces (piece ∷ []) so.missing (subst HasNoWhole so.grown none, tt);
   gave = subst (λ (l : List ℕ). Consumes a c l) (sym (concat_snoc so.pieces piece)) (Consumes-trans a b c (concat so.pieces) piece so.gave gave);
-  grown = is ∙ ap (λ (l : List ℕ). l ++ piece) so.grown ∙ append_assoc buffer (concat so.pieces) piece ∙ ap (λ (l : List ℕ). buffer ++ l) (sym (concat_snoc so.pieces piece));
+  grown = is ∙ ap (λ (l : List ℕ). l ++ piece) so.grown ∙ append_assoc buffer (concat so.pieces) piece
+      ∙ ap (λ (l : List ℕ). buffer ++ l) (sym (concat_snoc so.pieces piece));
 }
 
 keeps_is_none : (b c : Option (List ℕ)) → Keeps b c → Consumes b c []
@@ -61,15 +66,19 @@ keeps_is_none (Some x) None k = k
 keeps_is_none (Some x) (Some y) k = sym k
 
 -- a search that ended by a read whose bytes found no room
-pub fetched_last : (buffer now piece : List ℕ) (a b c : Option (List ℕ)) (reads reads' reads'' : ℕ) → FetchedSoFar buffer now a b reads reads' → HasNoWhole now → reads'' ≡ reads' + 1 → Consumes b c piece → FetchedSoFar buffer (now ++ piece) a c reads reads''
-fetched_last buffer now piece a b c reads reads' reads'' so none counted gave = fetched_more buffer now (now ++ piece) piece a b c reads reads' reads'' so none counted gave refl
+pub fetched_last : (buffer now piece : List ℕ) (a b c : Option (List ℕ)) (reads reads' reads'' : ℕ) → FetchedSoFar buffer now a b reads reads' → HasNoWhole now
+    → reads'' ≡ reads' + 1 → Consumes b c piece → FetchedSoFar buffer (now ++ piece) a c reads reads''
+fetched_last buffer now piece a b c reads reads' reads'' so none counted gave =
+    fetched_more buffer now (now ++ piece) piece a b c reads reads' reads'' so none counted gave refl
 
 -- a search that ended without a request, whatever is left of the buffer
-pub fetched_other : (rest : Rest) (buffer now now' : List ℕ) (a b : Option (List ℕ)) (reads reads' : ℕ) → FetchedSoFar buffer now a b reads reads' → IsFetched (Err rest) buffer now' a b reads reads'
+pub fetched_other : (rest : Rest) (buffer now now' : List ℕ) (a b : Option (List ℕ)) (reads reads' : ℕ) → FetchedSoFar buffer now a b reads reads'
+    → IsFetched (Err rest) buffer now' a b reads reads'
 fetched_other rest buffer now now' a b reads reads' so = record { pieces = so.pieces; count = so.count; missing = so.missing; gave = so.gave; grown = tt }
 
 -- a read gave nothing
-pub fetched_nothing : (buffer now : List ℕ) (a b c : Option (List ℕ)) (reads reads' reads'' : ℕ) → FetchedSoFar buffer now a b reads reads' → HasNoWhole now → reads'' ≡ reads' + 1 → Keeps b c → FetchedSoFar buffer now a c reads reads''
+pub fetched_nothing : (buffer now : List ℕ) (a b c : Option (List ℕ)) (reads reads' reads'' : ℕ) → FetchedSoFar buffer now a b reads reads' → HasNoWhole now
+    → reads'' ≡ reads' + 1 → Keeps b c → FetchedSoFar buffer now a c reads reads''
 fetched_nothing buffer now a b c reads reads' reads'' so none counted kept =
     fetched_more buffer now now [] a b c reads reads' reads'' so none counted (keeps_is_none b c kept) (sym (append-nil now))
 
@@ -80,27 +89,28 @@ fetched_then found head buffer now now' a b c reads reads' reads'' one two = rec
   pieces = one.pieces ++ two.pieces;
   count = omega (arith, one.count, two.count, length-append one.pieces two.pieces);
   missing = missing_more buffer one.pieces two.pieces one.missing (subst (λ (l : List ℕ). AreMissing l two.pieces) one.grown two.missing);
-  gave = subst (λ (l : List ℕ). Consumes a c l) (sym (concat-append one.pieces two.pieces)) (Consumes-trans a b c (concat one.pieces) (concat two.pieces) one.gave two.gave);
+  gave = subst (λ (l : List ℕ). Consumes a c l) (sym (concat-append one.pieces two.pieces))
+      (Consumes-trans a b c (concat one.pieces) (concat two.pieces) one.gave two.gave);
   grown = grown found two.grown;
-}
-  where
-    more : now' ≡ now ++ concat two.pieces → now' ≡ buffer ++ concat (one.pieces ++ two.pieces)
-    more e = e ∙ ap (λ (l : List ℕ). l ++ concat two.pieces) one.grown ∙ append_assoc buffer (concat one.pieces) (concat two.pieces)
-        ∙ ap (λ (l : List ℕ). buffer ++ l) (sym (concat-append one.pieces two.pieces))
+} where
+  more : now' ≡ now ++ concat two.pieces → now' ≡ buffer ++ concat (one.pieces ++ two.pieces)
+  more e = e ∙ ap (λ (l : List ℕ). l ++ concat two.pieces) one.grown ∙ append_assoc buffer (concat one.pieces) (concat two.pieces)
+      ∙ ap (λ (l : List ℕ). buffer ++ l) (sym (concat-append one.pieces two.pieces))
 
-    grown : (found : Result HeadFacts Rest) → IfOk found (λ head. now' ≡ now ++ concat two.pieces) → IfOk found (λ head. now' ≡ buffer ++ concat (one.pieces ++ two.pieces))
-    grown (Ok head) e = more e
-    grown (Err rest) e = tt
+  grown : (found : Result HeadFacts Rest) → IfOk found (λ head. now' ≡ now ++ concat two.pieces)
+      → IfOk found (λ head. now' ≡ buffer ++ concat (one.pieces ++ two.pieces))
+  grown (Ok head) e = more e
+  grown (Err rest) e = tt
 
 -- ---- over the requests of a session
 
 passes-append : (s : List ℕ) (requests : List (List ℕ)) (rest more : List ℕ) → PassesOver s requests rest → PassesOver (s ++ more) requests (rest ++ more)
 passes-append s [] rest more p = ap (λ (l : List ℕ). l ++ more) p
-passes-append s (r ∷ rs) rest more p =
-    (p.0 ++ more, ap (λ (l : List ℕ). l ++ more) p.1 ∙ append_assoc r p.0 more, p.2, passes-append p.0 rs rest more p.3)
+passes-append s (r ∷ rs) rest more p = (p.0 ++ more, ap (λ (l : List ℕ). l ++ more) p.1 ∙ append_assoc r p.0 more, p.2, passes-append p.0 rs rest more p.3)
 
 -- what is missing in the buffer is wanted behind all that has come
-wanted_of : (come : List ℕ) (requests : List (List ℕ)) (buffer : List ℕ) (pieces : List (List ℕ)) → PassesOver come requests buffer → length requests < most_requests → AreMissing buffer pieces → AreWanted come pieces
+wanted_of : (come : List ℕ) (requests : List (List ℕ)) (buffer : List ℕ) (pieces : List (List ℕ)) → PassesOver come requests buffer
+    → length requests < most_requests → AreMissing buffer pieces → AreWanted come pieces
 wanted_of come requests buffer [] passes few missing = tt
 wanted_of come requests buffer (p ∷ ps) passes few missing =
     ((requests, buffer, passes, few, missing.0), wanted_of (come ++ p) requests (buffer ++ p) ps (passes-append come requests buffer p passes) few missing.1)
@@ -121,19 +131,23 @@ pub record ReadSoFar (before after : Option (List ℕ)) (count acted : ℕ) (buf
   pub passes : PassesOver (concat pieces) requests buffer
 
 pub read_none : (a : Option (List ℕ)) (count : ℕ) (buffer : List ℕ) → count ≡ 0 → buffer ≡ [] → ReadSoFar a a count 0 buffer
-read_none a count buffer none empty = record { pieces = []; count_is = sym none; wanted = tt; gave = Consumes-nil a; requests = []; acted_is = refl; passes = sym empty }
+read_none a count buffer none empty =
+    record { pieces = []; count_is = sym none; wanted = tt; gave = Consumes-nil a; requests = []; acted_is = refl; passes = sym empty }
 
 -- the session is over
 pub read_all : (a b : Option (List ℕ)) (count acted : ℕ) (buffer : List ℕ) → ReadSoFar a b count acted buffer → IsReadWhileWanted count a b
 read_all a b count acted buffer so = record { pieces = so.pieces; count_is = so.count_is; wanted = so.wanted; gave = so.gave }
 
 -- the session is over after a search
-pub read_then : (found : Result HeadFacts Rest) (a b c : Option (List ℕ)) (count count' acted : ℕ) (buffer buffer' : List ℕ) → ReadSoFar a b count acted buffer → acted < 1000 → IsFetched found buffer buffer' b c count count' → IsReadWhileWanted count' a c
+pub read_then : (found : Result HeadFacts Rest) (a b c : Option (List ℕ)) (count count' acted : ℕ) (buffer buffer' : List ℕ) → ReadSoFar a b count acted buffer
+    → acted < 1000 → IsFetched found buffer buffer' b c count count' → IsReadWhileWanted count' a c
 read_then found a b c count count' acted buffer buffer' so few fetched = record {
   pieces = so.pieces ++ fetched.pieces;
   count_is = omega (arith, length-append so.pieces fetched.pieces, so.count_is, fetched.count);
-  wanted = wanted_more [] so.pieces fetched.pieces so.wanted (wanted_of (concat so.pieces) so.requests buffer fetched.pieces so.passes (omega (arith, so.acted_is, few)) fetched.missing);
-  gave = subst (λ (l : List ℕ). Consumes a c l) (sym (concat-append so.pieces fetched.pieces)) (Consumes-trans a b c (concat so.pieces) (concat fetched.pieces) so.gave fetched.gave);
+  wanted = wanted_more [] so.pieces fetched.pieces so.wanted
+      (wanted_of (concat so.pieces) so.requests buffer fetched.pieces so.passes (omega (arith, so.acted_is, few)) fetched.missing);
+  gave = subst (λ (l : List ℕ). Consumes a c l) (sym (concat-append so.pieces fetched.pieces))
+      (Consumes-trans a b c (concat so.pieces) (concat fetched.pieces) so.gave fetched.gave);
 }
 
 -- the buffer begins with a whole request
@@ -144,8 +158,9 @@ stands_whole buffer f has fits =
     (has.0, has.1, has.2, has.3, whole)
 
 -- the session goes on behind a request
-pub read_more : (head : HeadFacts) (a b c : Option (List ℕ)) (count count' acted : ℕ) (buffer buffer' left : List ℕ) → ReadSoFar a b count acted buffer → acted < 1000 → IsFetched (Ok head) buffer buffer' b c count count'
-    → HasHead buffer' head → head.len + head.body ≤ length buffer' → head.closes ≡ false → left ≡ drop (head.len + head.body) buffer' → ReadSoFar a c count' (acted + 1) left
+pub read_more : (head : HeadFacts) (a b c : Option (List ℕ)) (count count' acted : ℕ) (buffer buffer' left : List ℕ) → ReadSoFar a b count acted buffer
+    → acted < 1000 → IsFetched (Ok head) buffer buffer' b c count count' → HasHead buffer' head → head.len + head.body ≤ length buffer' → head.closes ≡ false
+    → left ≡ drop (head.len + head.body) buffer' → ReadSoFar a c count' (acted + 1) left
 unfolding read_then
 read_more head a b c count count' acted buffer buffer' left so few fetched has fits open' dropped =
     let n : ℕ = head.len + head.body in
@@ -154,8 +169,8 @@ read_more head a b c count count' acted buffer buffer' left so few fetched has f
     let grown : buffer' ≡ buffer ++ concat fetched.pieces = fetched.grown in
     let parts : buffer' ≡ take n buffer' ++ left = sym (take-append-drop n buffer') ∙ ap (λ (l : List ℕ). take n buffer' ++ l) (sym dropped) in
     let passes : PassesOver (concat (so.pieces ++ fetched.pieces)) so.requests (take n buffer' ++ left) =
-    subst (λ (l : List ℕ). PassesOver l so.requests (take n buffer' ++ left)) (sym come)
-    (subst (λ (l : List ℕ). PassesOver (concat so.pieces ++ concat fetched.pieces) so.requests l) (sym grown ∙ parts) (passes-append (concat so.pieces) so.requests buffer (concat fetched.pieces) so.passes)) in
+    subst (λ (l : List ℕ). PassesOver l so.requests (take n buffer' ++ left)) (sym come) (subst (λ (l : List ℕ). PassesOver (concat so.pieces
+    ++ concat fetched.pieces) so.requests l) (sym grown ∙ parts) (passes-append (concat so.pieces) so.requests buffer (concat fetched.pieces) so.passes)) in
     record {
       pieces = so.pieces ++ fetched.pieces;
       count_is = read.count_is;
@@ -163,5 +178,6 @@ read_more head a b c count count' acted buffer buffer' left so few fetched has f
       gave = read.gave;
       requests = so.requests ++ take n buffer' ∷ [];
       acted_is = omega (arith, length_snoc so.requests (take n buffer'), so.acted_is);
-      passes = passes-snoc (concat (so.pieces ++ fetched.pieces)) so.requests (take n buffer') left passes (front_request buffer' head false open' (stands_whole buffer' head has fits));
+      passes = passes-snoc (concat (so.pieces ++ fetched.pieces)) so.requests (take n buffer') left passes
+          (front_request buffer' head false open' (stands_whole buffer' head has fits));
     }

@@ -1,7 +1,8 @@
 -- Lemmas on a request for the rows of a book.
-use Rattle.pawn_host.proofs.Basics.{◌≡◌, ◌∙◌, ℕ, List, ap, sym, Some, None, Ok, codes, BookValue, Export, Exported, Host, Request, Says, SaysRequest, Stamp, csv_of, host_step, option_map, reply_text, rows_of_book, Answer, GoesTo, IsActed, IsKeyOf, Kept, Start, Tells, answer_bytes}
-use Rattle.pawn_csv.specs.Exports.{text_of}
-use Rattle.pawn_host.proofs.RunLemmas.{acted_text, broker_request, some_same, step_past_gate}
+use Rattle.{std.proofs.Common.{◌≡◌, ◌∙◌, ℕ, List, ap, sym, Some, None, Ok, codes, option_map}, pawn_host.specs.Common.{BookValue, Export, Exported, Host}}
+use Rattle.pawn_host.specs.{Common.{Request, Says, SaysRequest, Stamp, csv_of, host_step, reply_text, rows_of_book}, declared.service.Answer.Answer}
+use Rattle.pawn_host.{specs.Keeps.{GoesTo, IsActed, IsKeyOf, Kept, Start, Tells, answer_bytes}, proofs.RunLemmas.{acted_text, broker_request, some_same}}
+use Rattle.{pawn_host.proofs.RunLemmas.step_past_gate, pawn_csv.specs.Exports.text_of}
 
 abbrev pub rows_request : ℕ → ℕ → Request
 rows_request book key = broker_request book key Export

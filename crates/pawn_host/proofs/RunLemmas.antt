@@ -1,19 +1,21 @@
 -- Lemmas on one item of a run.
-use Rattle.pawn_host.proofs.Basics.{◌≡◌, ◌∙◌, ℕ, Bool, true, false, List, [], ◌∷◌, ◌++◌, ◌⊎◌, ◌<◌, arith, inl, inr, refl, ap, sym, subst, Option, Some, None, Result, Ok, Err, codes, if◌then◌else◌, unwrap_or, option_map, ◌==◌, Acts, Answered, Bearer, BearerRequest, BookValue, Broker, BrokerRequest, Commits, Denied, Gates, Host, IsLeftByAct, IsLeftByStep, IsRefused, IsSound, IsUnwell, Out, Outcome, Present, Receipt, Refusal, Refuses, Request, Says, SaysRequest, Show, Shown, Stamp, Told, WireFault, are_unknown, broker_step, fault_text, gate_step, get, host_after, host_step, memory_text, next_host, no_memory, no_store, out_of, out_text, pledge_in, presented_text, read_as, reply_text, rows, show_pledge, statement_text, within_limit, append-nil, nat_tests, Answer, GoesTo, IsActed, IsDone, IsKeyOf, Kept, Start, Tells, answer_bytes, said_text}
+use Rattle.std.proofs.Common.{◌≡◌, ◌∙◌, ℕ, Bool, true, false, List, [], ◌∷◌, ◌++◌, ◌⊎◌, ◌<◌, arith, inl, inr, refl, ap, sym, subst, Option, Some, None, Result}
+use Rattle.std.proofs.{Common.{Ok, Err, codes, if◌then◌else◌, unwrap_or, option_map, ◌==◌, append-nil}, lemmas.Bool.Decides.nat_tests}
+use Rattle.pawn_book.specs.{Plans.{Acts, Commits, Gates, IsLeftByAct, IsLeftByStep, IsRefused, IsUnwell, next_host}, declared.request.Caller.Caller}
+use Rattle.{pawn_book.specs.{declared.{reply.Reply.Reply, change.Change.Change}, Changes.with_change}, pawn_host.specs.Common.{Answered, Bearer, BearerRequest}}
+use Rattle.pawn_host.specs.Common.{BookValue, Broker, BrokerRequest, Denied, Host, IsSound, Out, Outcome, Present, Receipt, Refusal, Refuses, Request, Says}
+use Rattle.pawn_host.specs.Common.{SaysRequest, Show, Shown, Stamp, Told, WireFault, are_unknown, broker_step, fault_text, gate_step, get, host_after}
+use Rattle.pawn_host.specs.Common.{host_step, memory_text, no_memory, no_store, out_of, out_text, pledge_in, read_as, reply_text, rows, show_pledge}
+use Rattle.pawn_host.specs.{Common.within_limit, declared.service.Answer.Answer, Keeps.{GoesTo, IsActed, IsKeyOf, Kept, Start, Tells, answer_bytes}}
+use Rattle.pawn_host.{specs.{Crashes.IsDone, Run.said_text, declared.service.Answer.TheVariants.{Bytes, Memory}}, proofs.CrashLemmas.goes_wider}
+use Rattle.pawn_view.specs.{Text.{presented_text, statement_text}, Shown.{live_pledges, presentation_of, pledge_at, statement_of}}
 use Rattle.pawn_pledge.specs.Pledge.{PledgeValue}
-use Rattle.pawn_book.specs.declared.request.Caller.{Caller}
-use Rattle.pawn_book.specs.declared.reply.Reply.{Reply}
-use Rattle.pawn_book.specs.Changes.{with_change}
-use Rattle.pawn_book.specs.declared.change.Change.{Change}
-use Rattle.pawn_view.specs.Shown.{live_pledges, presentation_of, pledge_at, statement_of}
 use Rattle.pawn_wire.specs.declared.reply.Out.TheVariants as wire
-use Rattle.pawn_host.specs.declared.service.Answer.TheVariants.{Bytes, Memory}
-use Rattle.pawn_host.proofs.CrashLemmas.{goes_wider}
 
 -- memory was wanting, and nothing changed
-pub acted_memory : (start : Start) (stamp : Stamp) (bytes reply : List ℕ) (kept : Kept) → reply ≡ memory_text → GoesTo kept start.host start.leaves → IsActed start stamp bytes reply kept
-acted_memory start stamp bytes reply kept is goes =
-    record { mark = no_memory; marked = tt; text = is; goes = goes_wider goes (λ left by. inl by) }
+pub acted_memory : (start : Start) (stamp : Stamp) (bytes reply : List ℕ) (kept : Kept) → reply ≡ memory_text → GoesTo kept start.host start.leaves
+    → IsActed start stamp bytes reply kept
+acted_memory start stamp bytes reply kept is goes = record { mark = no_memory; marked = tt; text = is; goes = goes_wider goes (λ left by. inl by) }
 
 -- ---- bytes that are no request
 
@@ -50,7 +52,8 @@ faulted_bytes start stamp bytes reply kept e (inr x) is goes = elim (is_memory e
 ]
 
 pub acted_fault : (start : Start) (stamp : Stamp) (bytes : List ℕ) (answer : Answer) (kept : Kept) (e : WireFault)
-    → (e ≡ WireFault.Memory) ⊎ SaysRequest bytes (Err e) → Tells answer (out_text (wire.Fault e)) → GoesTo kept start.host start.leaves → IsActed start stamp bytes (answer_bytes answer) kept
+    → (e ≡ WireFault.Memory) ⊎ SaysRequest bytes (Err e) → Tells answer (out_text (wire.Fault e)) → GoesTo kept start.host start.leaves
+    → IsActed start stamp bytes (answer_bytes answer) kept
 acted_fault start stamp bytes (Bytes v) kept e read is goes = faulted_bytes start stamp bytes v.items kept e read is goes
 acted_fault start stamp bytes Memory kept e read is goes = acted_memory start stamp bytes memory_text kept refl goes
 
@@ -58,8 +61,8 @@ acted_fault start stamp bytes Memory kept e read is goes = acted_memory start st
 
 -- where the keeper goes on after a request's step
 abbrev pub GoesByStep : Start → Stamp → Request → Kept → Type 0
-GoesByStep start stamp request kept =
-    GoesTo kept (next_host start.host start.operator stamp request) (IsLeftByStep start.host request.book (host_step start.host start.operator stamp request) start.leaves)
+GoesByStep start stamp request kept = GoesTo kept (next_host start.host start.operator stamp request)
+    (IsLeftByStep start.host request.book (host_step start.host start.operator stamp request) start.leaves)
 
 -- the outcome is the step's
 pub goes_by : (start : Start) (stamp : Stamp) (request : Request) (kept : Kept) (o : Outcome) → host_step start.host start.operator stamp request ≡ o
@@ -80,65 +83,74 @@ acted_said start stamp bytes reply kept request out read is text goes = record {
 
 -- nothing changed, but for a request that the keeper did not answer, which a crash may leave done all the same
 abbrev pub GoesUnmade : Start → Stamp → Request → Refusal → Kept → Type 0
-GoesUnmade start stamp request why kept =
-    (IsUnwell why × GoesTo kept start.host (IsLeftByAct start.host start.operator stamp request start.leaves (Err why)))
+GoesUnmade start stamp request why kept = (IsUnwell why × GoesTo kept start.host (IsLeftByAct start.host start.operator stamp request start.leaves (Err why)))
     ⊎ ((host_step start.host start.operator stamp request ≡ Refuses why) × GoesTo kept start.host start.leaves)
 
 -- it was not answered
 goes_unwell : (start : Start) (stamp : Stamp) (bytes : List ℕ) (request : Request) (why : Refusal) (kept : Kept) → SaysRequest bytes (Ok request)
     → GoesTo kept start.host (IsLeftByAct start.host start.operator stamp request start.leaves (Err why))
     → GoesTo kept start.host (λ left. start.leaves left ⊎ IsDone start.host start.operator stamp bytes left)
-goes_unwell start stamp bytes request why kept read goes = goes_wider goes from
-  where
-    from : (left : Host) → IsLeftByAct start.host start.operator stamp request start.leaves (Err why) left → start.leaves left ⊎ IsDone start.host start.operator stamp bytes left
-    from left (inl same) = inl same
-    from left (inr done) = inr (request, read, done.1)
+goes_unwell start stamp bytes request why kept read goes = goes_wider goes from where
+  from : (left : Host) → IsLeftByAct start.host start.operator stamp request start.leaves (Err why) left
+      → start.leaves left ⊎ IsDone start.host start.operator stamp bytes left
+  from left (inl same) = inl same
+  from left (inr done) = inr (request, read, done.1)
 
 -- it was refused, and that was told
 pub acted_unmade : (start : Start) (stamp : Stamp) (bytes : List ℕ) (answer : Answer) (kept : Kept) (request : Request) (why : Refusal)
-    → SaysRequest bytes (Ok request) → Tells answer (out_text (wire.Refused why)) → GoesUnmade start stamp request why kept → (start.Steady → why ≡ Refusal.Store → ⊥)
-    → IsActed start stamp bytes (answer_bytes answer) kept
+    → SaysRequest bytes (Ok request) → Tells answer (out_text (wire.Refused why)) → GoesUnmade start stamp request why kept
+    → (start.Steady → why ≡ Refusal.Store → ⊥) → IsActed start stamp bytes (answer_bytes answer) kept
 acted_unmade start stamp bytes Memory kept request why read is (inl unwell) calm =
     record { mark = no_memory; marked = tt; text = refl; goes = goes_unwell start stamp bytes request why kept read unwell.1 }
 acted_unmade start stamp bytes Memory kept request why read is (inr refused) calm = acted_memory start stamp bytes memory_text kept refl refused.1
-acted_unmade start stamp bytes (Bytes v) kept request why read is (inl (inl memory, goes)) calm =
-    record { mark = no_memory; marked = tt; text = is ∙ ap (λ (w : Refusal). out_text (wire.Refused w)) memory; goes = goes_unwell start stamp bytes request why kept read goes }
-acted_unmade start stamp bytes (Bytes v) kept request why read is (inl (inr store, goes)) calm =
-    record { mark = no_store; marked = λ steady. calm steady store; text = is ∙ ap (λ (w : Refusal). out_text (wire.Refused w)) store; goes = goes_unwell start stamp bytes request why kept read goes }
+acted_unmade start stamp bytes (Bytes v) kept request why read is (inl (inl memory, goes)) calm = record {
+  mark = no_memory;
+  marked = tt;
+  text = is ∙ ap (λ (w : Refusal). out_text (wire.Refused w)) memory;
+  goes = goes_unwell start stamp bytes request why kept read goes;
+}
+acted_unmade start stamp bytes (Bytes v) kept request why read is (inl (inr store, goes)) calm = record {
+  mark = no_store;
+  marked = λ steady. calm steady store;
+  text = is ∙ ap (λ (w : Refusal). out_text (wire.Refused w)) store;
+  goes = goes_unwell start stamp bytes request why kept read goes;
+}
 acted_unmade start stamp bytes (Bytes v) kept request why read is (inr refused) calm =
-    acted_said start stamp bytes v.items kept request (Denied why) read (ap out_of refused.0) is (goes_by start stamp request kept (Refuses why) refused.0 refused.1)
+    acted_said start stamp bytes v.items kept request (Denied why) read (ap out_of refused.0) is
+    (goes_by start stamp request kept (Refuses why) refused.0 refused.1)
 
 -- the same, where the keeper was read alone
 pub acted_refused : (start : Start) (stamp : Stamp) (bytes : List ℕ) (answer : Answer) (kept : Kept) (request : Request) (why : Refusal)
-    → SaysRequest bytes (Ok request) → Tells answer (out_text (wire.Refused why)) → GoesTo kept start.host start.leaves → IsRefused (host_step start.host start.operator stamp request) why → (start.Steady → why ≡ Refusal.Store → ⊥)
+    → SaysRequest bytes (Ok request) → Tells answer (out_text (wire.Refused why)) → GoesTo kept start.host start.leaves
+    → IsRefused (host_step start.host start.operator stamp request) why → (start.Steady → why ≡ Refusal.Store → ⊥)
     → IsActed start stamp bytes (answer_bytes answer) kept
 acted_refused start stamp bytes answer kept request why read is goes (inl unwell) calm =
     acted_unmade start stamp bytes answer kept request why read is (inl (unwell, goes_wider goes (λ left by. inl by))) calm
-acted_refused start stamp bytes answer kept request why read is goes (inr step) calm = acted_unmade start stamp bytes answer kept request why read is (inr (step, goes)) calm
+acted_refused start stamp bytes answer kept request why read is goes (inr step) calm =
+    acted_unmade start stamp bytes answer kept request why read is (inr (step, goes)) calm
 
 -- it was acted on, and that was told
 pub acted_done : (start : Start) (stamp : Stamp) (bytes text : List ℕ) (kept : Kept) (request : Request) (reply : Reply)
-    → SaysRequest bytes (Ok request) → text ≡ out_text (wire.Done reply) → Acts start.host start.operator stamp request (Ok reply) kept.stands
-    → ((left : Host) → kept.leaves left → IsLeftByAct start.host start.operator stamp request start.leaves (Ok reply) left) → IsActed start stamp bytes text kept
+    → SaysRequest bytes (Ok request) → text ≡ out_text (wire.Done reply) → Acts start.host start.operator stamp request (Ok reply) kept.stands → ((left : Host)
+    → kept.leaves left → IsLeftByAct start.host start.operator stamp request start.leaves (Ok reply) left) → IsActed start stamp bytes text kept
 acted_done start stamp bytes text kept request reply read is acts crash =
     acted_said start stamp bytes text kept request (Told reply) read acts.0 is (record { stands_for = acts.1; sound = acts.2; crash = crash })
 
 -- a change was not made: where there was no room for it a crash does not leave it either
 pub goes_unmade : (start : Start) (stamp : Stamp) (request : Request) (kept : Kept) (change : Option Change) (why : Refusal) → IsSound start.host
-    → Commits start.host change (Err why) kept.stands → Acts start.host start.operator stamp request (Err why) kept.stands
-    → ((left : Host) → kept.leaves left → IsLeftByAct start.host start.operator stamp request start.leaves (Err why) left) → GoesUnmade start stamp request why kept
+    → Commits start.host change (Err why) kept.stands → Acts start.host start.operator stamp request (Err why) kept.stands → ((left : Host) → kept.leaves left
+    → IsLeftByAct start.host start.operator stamp request start.leaves (Err why) left) → GoesUnmade start stamp request why kept
 goes_unmade start stamp request kept change why sound made (at, inl unwell) crash = inl (unwell, record { stands_for = at; sound = sound; crash = crash })
 goes_unmade start stamp request kept None why sound made (at, inr step) crash = absurd made
-goes_unmade start stamp request kept (Some change) why sound made (at, inr step) crash = from made.1
-  where
-    still : (left : Host) → why ≡ Refusal.Full → IsLeftByAct start.host start.operator stamp request start.leaves (Err why) left → start.leaves left
-    still left full (inl same) = same
-    still left full (inr (inl memory, done)) = absurd (not_memory (sym full ∙ memory))
-    still left full (inr (inr store, done)) = absurd (not_store (sym full ∙ store))
+goes_unmade start stamp request kept (Some change) why sound made (at, inr step) crash = from made.1 where
+  still : (left : Host) → why ≡ Refusal.Full → IsLeftByAct start.host start.operator stamp request start.leaves (Err why) left → start.leaves left
+  still left full (inl same) = same
+  still left full (inr (inl memory, done)) = absurd (not_memory (sym full ∙ memory))
+  still left full (inr (inr store, done)) = absurd (not_store (sym full ∙ store))
 
-    from : IsUnwell why ⊎ ((why ≡ Refusal.Full) × (start.host.limit < rows (with_change start.host change))) → GoesUnmade start stamp request why kept
-    from (inl unwell) = inl (unwell, record { stands_for = at; sound = sound; crash = crash })
-    from (inr full) = inr (step, record { stands_for = at; sound = sound; crash = λ left by. still left full.0 (crash left by) })
+  from : IsUnwell why ⊎ ((why ≡ Refusal.Full) × (start.host.limit < rows (with_change start.host change))) → GoesUnmade start stamp request why kept
+  from (inl unwell) = inl (unwell, record { stands_for = at; sound = sound; crash = crash })
+  from (inr full) = inr (step, record { stands_for = at; sound = sound; crash = λ left by. still left full.0 (crash left by) })
 
 pub err_is : {V : Type 0} (r : Result V Refusal) (why : Refusal) → r ≡ Err why → why ≡ Refusal.Store → r ≡ Err Refusal.Store
 err_is r why is store = is ∙ ap (λ (w : Refusal). Err w) store
@@ -185,20 +197,20 @@ text_unknown false shown is = cc
 -- nothing was to show
 pub nothing_shown : (h : Host) (operator : ℕ) (stamp : Stamp) (book day : ℕ) (receipts : List Receipt) → presentation_of h book receipts day ≡ None
     → host_step h operator stamp (present_request book receipts) ≡ Refuses Refusal.NoSuchReceipt
-nothing_shown h operator stamp book day receipts is =
-    step_unknown h operator stamp book receipts (text_unknown (are_unknown (live_pledges h book receipts)) (presented_text day (live_pledges h book receipts)) is)
+nothing_shown h operator stamp book day receipts is = step_unknown h operator stamp book receipts
+    (text_unknown (are_unknown (live_pledges h book receipts)) (presented_text day (live_pledges h book receipts)) is)
 
 -- the text of the receipts was told
 pub acted_shown : (start : Start) (stamp : Stamp) (bytes : List ℕ) (answer : Answer) (kept : Kept) (book day : ℕ) (receipts : List Receipt) (text out : List ℕ)
     → SaysRequest bytes (Ok (present_request book receipts)) → day ≡ stamp.day → presentation_of start.host book receipts day ≡ Some text → text ≡ out
-    → Tells answer (reply_text 200 plain out) → GoesTo kept start.host start.leaves
-    → IsActed start stamp bytes (answer_bytes answer) kept
+    → Tells answer (reply_text 200 plain out) → GoesTo kept start.host start.leaves → IsActed start stamp bytes (answer_bytes answer) kept
 acted_shown start stamp bytes answer kept book day receipts text out read day_is is all tells goes =
     let shown = live_pledges start.host book receipts in
     let known = text_known (are_unknown shown) (presented_text day shown) text is in
     let step = step_known start.host start.operator stamp book receipts known.0 in
     let same : out ≡ presented_text stamp.day shown = sym all ∙ known.1 ∙ ap (λ (x : ℕ). presented_text x shown) day_is in
-    acted_text start stamp bytes answer kept (present_request book receipts) (Shown stamp.day shown) plain out read step (ap (reply_text 200 plain) same) tells goes
+    acted_text start stamp bytes answer kept (present_request book receipts) (Shown stamp.day shown) plain out read step
+    (ap (reply_text 200 plain) same) tells goes
 
 -- ---- what a broker asks to see
 
@@ -220,36 +232,34 @@ step_past_gate h operator stamp book key asked with_key =
 -- .. for a pledge
 step_key : (h : Host) (operator : ℕ) (stamp : Stamp) (book key number : ℕ) → IsKeyOf h book key
     → host_step h operator stamp (show_request book key number) ≡ within_limit h book (show_pledge stamp (pledge_at h book number))
-step_key h operator stamp book key number with_key =
-    step_past_gate h operator stamp book key (Show number) with_key
+step_key h operator stamp book key number with_key = step_past_gate h operator stamp book key (Show number) with_key
     ∙ ap (λ (o : Option BookValue). within_limit h book (show_pledge stamp (pledge_in o number))) (sym with_key.1)
 
 -- there is no such pledge
 pub no_pledge : (h : Host) (operator : ℕ) (stamp : Stamp) (book key number day : ℕ) → IsKeyOf h book key → statement_of h book number day ≡ None
     → host_step h operator stamp (show_request book key number) ≡ Refuses Refusal.NoSuchPledge
-no_pledge h operator stamp book key number day with_key none = step_key h operator stamp book key number with_key ∙ from (pledge_at h book number) none
-  where
-    from : (o : Option PledgeValue) → option_map (statement_text day) o ≡ None → within_limit h book (show_pledge stamp o) ≡ Refuses Refusal.NoSuchPledge
-    from None none = refl
-    from (Some p) none = cc none
+no_pledge h operator stamp book key number day with_key none = step_key h operator stamp book key number with_key ∙ from (pledge_at h book number) none where
+  from : (o : Option PledgeValue) → option_map (statement_text day) o ≡ None → within_limit h book (show_pledge stamp o) ≡ Refuses Refusal.NoSuchPledge
+  from None none = refl
+  from (Some p) none = cc none
 
 -- the statement of a pledge was told
 pub acted_statement : (start : Start) (stamp : Stamp) (bytes : List ℕ) (answer : Answer) (kept : Kept) (book key number day : ℕ) (text out : List ℕ)
-    → SaysRequest bytes (Ok (show_request book key number)) → IsKeyOf start.host book key → day ≡ stamp.day → statement_of start.host book number day ≡ Some text → text ≡ out
-    → Tells answer (reply_text 200 plain out) → GoesTo kept start.host start.leaves
+    → SaysRequest bytes (Ok (show_request book key number)) → IsKeyOf start.host book key → day ≡ stamp.day
+    → statement_of start.host book number day ≡ Some text → text ≡ out → Tells answer (reply_text 200 plain out) → GoesTo kept start.host start.leaves
     → IsActed start stamp bytes (answer_bytes answer) kept
 acted_statement start stamp bytes answer kept book key number day text out read with_key day_is is all tells goes =
-    from (pledge_at start.host book number) refl is
-  where
-    from : (o : Option PledgeValue) → pledge_at start.host book number ≡ o → option_map (statement_text day) o ≡ Some text → IsActed start stamp bytes (answer_bytes answer) kept
-    from None there is = cc is
-    from (Some p) there is =
-        let said : Out = Shown stamp.day (Some p ∷ []) in
-        let step : host_step start.host start.operator stamp (show_request book key number) ≡ Says said =
-        step_key start.host start.operator stamp book key number with_key ∙ ap (λ o. within_limit start.host book (show_pledge stamp o)) there in
-        let same : out ≡ presented_text stamp.day (Some p ∷ []) =
-        sym all ∙ sym (some_same is) ∙ ap (λ (x : ℕ). statement_text x p) day_is ∙ sym (append-nil (statement_text stamp.day p)) in
-        acted_text start stamp bytes answer kept (show_request book key number) said plain out read step (ap (reply_text 200 plain) same) tells goes
+    from (pledge_at start.host book number) refl is where
+      from : (o : Option PledgeValue) → pledge_at start.host book number ≡ o → option_map (statement_text day) o ≡ Some text
+          → IsActed start stamp bytes (answer_bytes answer) kept
+      from None there is = cc is
+      from (Some p) there is =
+          let said : Out = Shown stamp.day (Some p ∷ []) in
+          let step : host_step start.host start.operator stamp (show_request book key number) ≡ Says said =
+          step_key start.host start.operator stamp book key number with_key ∙ ap (λ o. within_limit start.host book (show_pledge stamp o)) there in
+          let same : out ≡ presented_text stamp.day (Some p ∷ []) =
+          sym all ∙ sym (some_same is) ∙ ap (λ (x : ℕ). statement_text x p) day_is ∙ sym (append-nil (statement_text stamp.day p)) in
+          acted_text start stamp bytes answer kept (show_request book key number) said plain out read step (ap (reply_text 200 plain) same) tells goes
 
 -- the key was another's, or the keeper did not answer
 pub gate_refused : (h : Host) (operator : ℕ) (stamp : Stamp) (book key : ℕ) (asked : BrokerRequest) (why : Refusal) → Gates (get h.books book) key (Err why)
@@ -265,12 +275,12 @@ pub all_written : (old new out text : List ℕ) → out ≡ new → new ≡ old 
 all_written old new out text same written empty = sym (same ∙ written ∙ ap (λ (x : List ℕ). x ++ text) empty)
 
 -- a request, by its parts
-pub read_present : (bytes : List ℕ) (request : Request) (asked : BearerRequest) (receipts : List Receipt) → request.caller ≡ Bearer asked → asked ≡ Present receipts → SaysRequest bytes (Ok request)
-    → SaysRequest bytes (Ok (present_request request.book receipts))
+pub read_present : (bytes : List ℕ) (request : Request) (asked : BearerRequest) (receipts : List Receipt) → request.caller ≡ Bearer asked
+    → asked ≡ Present receipts → SaysRequest bytes (Ok request) → SaysRequest bytes (Ok (present_request request.book receipts))
 read_present bytes request asked receipts called is read =
     subst (λ (caller : Caller). SaysRequest bytes (Ok (record { book = request.book; caller = caller }))) (called ∙ ap Bearer is) read
 
-pub read_broker : (bytes : List ℕ) (request : Request) (key : ℕ) (asked this : BrokerRequest) → request.caller ≡ Broker key asked → asked ≡ this → SaysRequest bytes (Ok request)
-    → SaysRequest bytes (Ok (broker_request request.book key this))
+pub read_broker : (bytes : List ℕ) (request : Request) (key : ℕ) (asked this : BrokerRequest) → request.caller ≡ Broker key asked → asked ≡ this
+    → SaysRequest bytes (Ok request) → SaysRequest bytes (Ok (broker_request request.book key this))
 read_broker bytes request key asked this called is read =
     subst (λ (caller : Caller). SaysRequest bytes (Ok (record { book = request.book; caller = caller }))) (called ∙ ap (Broker key) is) read

@@ -1,12 +1,19 @@
 -- A session so far, and how it ends.
-use Rattle.pawn_host.proofs.Basics.{◌≡◌, ◌≢◌, ℕ, suc, ◌+◌, ◌<◌, ◌≤◌, true, false, List, [], ◌∷◌, ◌++◌, length, take, drop, map, inl, inr, refl, arith, Option, Some, None, Result, Ok, Err, sym, ◌∙◌, ap, subst, append_assoc, append-nil, length-append, IfSome, Bool, Appends, HeadFacts, Host, IfErr, Keeping, Keeps, Mark, OnOk, Stamp, WireFault, Yields, event_reply, fault_text, mark_reply, memory_text, no_memory, no_store, prepend_known, read_as, wire_fault, All-append, All-cons, All-nil, Appends-nil, Appends-trans, take_all, AreTaken, AtEnd, Begins, Cause, CutOff, DueAfter, Ending, EndsAs, Faulty, FindsHead, FindsRest, Given, GoesTo, HadRoom, HasRoom, IsActed, IsCausedBy, IsFinished, IsLeft, IsLeftBy, IsMarkOf, IsMarked, IsOver, IsServed, IsSession, IsUnderWay, IsWithinMost, Item, Kept, NoMemory, Read, Reads, Rest, Splits, Start, StaysOpen, Stopped, StopsAt, StopsBy, Write, acted_count, answer_text, at_end, at_limit, closed, cut, event_of, faulted, host_by, most_requests, requests_of, said_text, stamps_of, start_after, start_of}
-use Rattle.std.proofs.Math.Seq.{take-append-add}
-use Rattle.pawn_book.proofs.Reading.{on_then}
-use Rattle.pawn_host.specs.Types.{Ended, IoFault, Service, SessionEnd}
-use Rattle.pawn_host.proofs.CrashLemmas.{seen_from, goes_from, goes-append}
-use Rattle.pawn_host.proofs.FindLemmas.{not_by_writer}
-use Rattle.pawn_host.specs.declared.session.SessionEnd.TheVariants.{End, Cut, Closed, Faulted, Limit, NoStamp, Memory}
-use Rattle.pawn_host.proofs.SplitLemmas.{SplitsOn, splits_start, splits_more, splits_closed, splits_begun, splits_under_way, splits_goes_on, splits_ending, stops_end, stops_cut, stops_fault, stops_limit}
+use Rattle.std.proofs.Common.{◌≡◌, ◌≢◌, ℕ, suc, ◌+◌, ◌<◌, ◌≤◌, true, false, List, [], ◌∷◌, ◌++◌, length, take, drop, map, inl, inr, refl, arith, Option, Some}
+use Rattle.std.proofs.Common.{None, Result, Ok, Err, sym, ◌∙◌, ap, subst, append_assoc, append-nil, length-append, IfSome, Bool, IfErr, OnOk, take_all}
+use Rattle.std.proofs.{lemmas.List.Elements.{All-append, All-cons, All-nil}, KnownBytes.{Appends-nil, Appends-trans}, Math.Seq.take-append-add}
+use Rattle.pawn_host.specs.Common.{Appends, HeadFacts, Host, Keeping, Keeps, Mark, Stamp, WireFault, Yields, event_reply, fault_text, mark_reply, memory_text}
+use Rattle.pawn_host.specs.{Common.{no_memory, no_store, prepend_known, read_as, wire_fault}, Session.{AreTaken, DueAfter, EndsAs, Given, HadRoom, HasRoom}}
+use Rattle.pawn_host.specs.Session.{IsFinished, IsLeft, IsLeftBy, IsOver, IsServed, IsSession, IsWithinMost, acted_count, answer_text, requests_of, stamps_of}
+use Rattle.pawn_host.specs.{declared.session.Rest.TheVariants.{AtEnd, CutOff, Faulty, NoMemory, Stopped}, Split.{Begins, Ending, IsUnderWay, Splits, StopsAt}}
+use Rattle.pawn_host.specs.{Split.{at_end, at_limit, closed, cut, faulted, most_requests}, declared.session.Cause.Cause, Finding.{FindsHead, FindsRest}}
+use Rattle.pawn_host.specs.{Finding.{IsCausedBy, StopsBy}, Keeps.{GoesTo, IsActed, Kept, Start, StaysOpen, host_by, start_after, start_of}, Run.IsMarkOf}
+use Rattle.pawn_host.specs.{Run.{IsMarked, Item, event_of, said_text}, declared.session.{Cause.TheVariants.{Read, Reads, Write}, Rest.Rest, Ended.Ended}}
+use Rattle.pawn_host.{specs.declared.{session.{IoFault.IoFault, SessionEnd.SessionEnd}, service.Service.Service}, proofs.CrashLemmas.{seen_from, goes_from}}
+use Rattle.pawn_host.{proofs.{CrashLemmas.goes-append, FindLemmas.not_by_writer}, specs.declared.session.SessionEnd.TheVariants.{End, Cut, Closed, Faulted}}
+use Rattle.pawn_host.{specs.declared.session.SessionEnd.TheVariants.{Limit, NoStamp, Memory}, proofs.SplitLemmas.{SplitsOn, splits_start, splits_more}}
+use Rattle.pawn_host.proofs.SplitLemmas.{splits_closed, splits_begun, splits_under_way, splits_goes_on, splits_ending, stops_end, stops_cut, stops_fault}
+use Rattle.{pawn_host.proofs.SplitLemmas.stops_limit, pawn_book.proofs.Reading.on_then}
 
 -- ---- one more item
 
@@ -19,7 +26,8 @@ answer_text-snoc start (x ∷ items) i =
     ap (λ (l : List ℕ). one ++ l) (answer_text-snoc next items i)
     ∙ sym (append_assoc one (answer_text next items) (said_text (mark_reply (host_by next items) start.operator i.stamp i.mark)))
 
-Yields-snoc : {S A : Type 0} (steps : S → Option A → S → Type 0) (s : S) (xs : List A) (t u : S) (x : A) → Yields steps s xs t → steps t (Some x) u → Yields steps s (xs ++ x ∷ []) u
+Yields-snoc : {S A : Type 0} (steps : S → Option A → S → Type 0) (s : S) (xs : List A) (t u : S) (x : A) → Yields steps s xs t → steps t (Some x) u
+    → Yields steps s (xs ++ x ∷ []) u
 Yields-snoc steps s [] t u x y step = (u, subst (λ (v : _). steps v (Some x) u) (sym y) step, refl)
 Yields-snoc steps s (a ∷ xs) t u x y step = (y.0, y.1, Yields-snoc steps y.0 xs t u x y.2 step)
 
@@ -32,7 +40,8 @@ pub record TakenSoFar {S : Type 0} (steps : S → Option Stamp → S → Type 0)
 pub taken_none : {S : Type 0} (steps : S → Option Stamp → S → Type 0) (from : S) → TakenSoFar steps from from 0
 taken_none steps from = record { stamps = []; count = refl; taken = refl }
 
-pub taken_more : {S : Type 0} {steps : S → Option Stamp → S → Type 0} {from to : S} {acted : ℕ} (to' : S) (x : Stamp) → TakenSoFar steps from to acted → steps to (Some x) to' → TakenSoFar steps from to' (acted + 1)
+pub taken_more : {S : Type 0} {steps : S → Option Stamp → S → Type 0} {from to : S} {acted : ℕ} (to' : S) (x : Stamp) → TakenSoFar steps from to acted
+    → steps to (Some x) to' → TakenSoFar steps from to' (acted + 1)
 taken_more {steps = steps} {from = from} {to = to} to' x so step = record {
   stamps = so.stamps ++ x ∷ [];
   count = length-append so.stamps (x ∷ []) ∙ ap (λ (n : ℕ). n + 1) so.count;
@@ -40,11 +49,13 @@ taken_more {steps = steps} {from = from} {to = to} to' x so step = record {
 }
 
 -- the stamps that were taken, and where that left the iterator
-pub are_taken : {S : Type 0} {steps : S → Option Stamp → S → Type 0} {from to : S} {acted : ℕ} (last : S) (result : Result Ended IoFault) → TakenSoFar steps from to acted → acted ≡ acted_count result → IsLeft steps result to last → AreTaken steps from last result
+pub are_taken : {S : Type 0} {steps : S → Option Stamp → S → Type 0} {from to : S} {acted : ℕ} (last : S) (result : Result Ended IoFault)
+    → TakenSoFar steps from to acted → acted ≡ acted_count result → IsLeft steps result to last → AreTaken steps from last result
 are_taken {to = to} last result so count left = record { stamps = so.stamps; to = to; count = so.count ∙ count; taken = so.taken; left = left }
 
 -- what a session that is over left, told by its answer
-pub record Leaves {S : Type 0} (steps : S → Option Stamp → S → Type 0) (to : S) (acted reads : ℕ) (read_failed failed : Bool) (result : Result Ended IoFault) : Type 0 where
+pub record Leaves {S : Type 0} (steps : S → Option Stamp → S → Type 0) (to : S) (acted reads : ℕ) (read_failed failed : Bool)
+    (result : Result Ended IoFault) : Type 0 where
   pub count : acted ≡ acted_count result
   pub left : IsLeft steps result to to
   pub room : IsWithinMost result
@@ -52,8 +63,8 @@ pub record Leaves {S : Type 0} (steps : S → Option Stamp → S → Type 0) (to
   pub cause : IfErr result (λ fault. IsCausedBy fault.cause read_failed reads failed)
 
 module _ {S : Type 0} (steps : S → Option Stamp → S → Type 0) (to : S) (acted sent reads : ℕ) (old new : Option (List ℕ)) (read_failed failed : Bool) where
-  finished_leaves : (how : SessionEnd) (text : List ℕ) (result : Result Ended IoFault) → IsLeftBy steps how to to → HasRoom how acted → acted < 1000 → read_failed ≡ false
-      → IsFinished how acted sent text old new failed result → Leaves steps to acted reads read_failed failed result
+  finished_leaves : (how : SessionEnd) (text : List ℕ) (result : Result Ended IoFault) → IsLeftBy steps how to to → HasRoom how acted → acted < 1000
+      → read_failed ≡ false → IsFinished how acted sent text old new failed result → Leaves steps to acted reads read_failed failed result
   finished_leaves how text (Ok ended) left room few readable is = record {
     count = sym is.1;
     left = subst (λ (h : SessionEnd). IsLeftBy steps h to to) (sym is.0) left;
@@ -69,24 +80,23 @@ module _ {S : Type 0} (steps : S → Option Stamp → S → Type 0) (to : S) (ac
     cause = subst (λ (c : Cause). IsCausedBy c read_failed reads failed) (sym is.2) is.6;
   }
 
-  pub over_leaves : (rest : Rest) (result : Result Ended IoFault) → acted < 1000 → StopsBy (Err rest) false read_failed reads → IsOver rest acted sent old new failed result → Leaves steps to acted reads read_failed failed result
+  pub over_leaves : (rest : Rest) (result : Result Ended IoFault) → acted < 1000 → StopsBy (Err rest) false read_failed reads
+      → IsOver rest acted sent old new failed result → Leaves steps to acted reads read_failed failed result
   over_leaves AtEnd result few readable is = finished_leaves End [] result refl few few readable is
   over_leaves CutOff result few readable is = finished_leaves Cut [] result refl few few readable is
   over_leaves (Faulty f) result few readable is = finished_leaves Faulted (fault_text (wire_fault f)) result refl few few readable is
   over_leaves NoMemory result few readable is = finished_leaves Memory memory_text result refl few few readable is
-  over_leaves (Stopped cause) result few by is =
-      subst (Leaves steps to acted reads read_failed failed) (sym is.0) record {
-        count = refl;
-        left = refl;
-        room = room cause (not_by_writer cause read_failed reads by);
-        whole = tt;
-        cause = subst (IsCausedBy cause read_failed reads) (sym is.2) by;
-      }
-    where
-      room : (cause : Cause) → cause ≢ Write → HadRoom cause acted
-      room Read by_reader = few
-      room Reads by_reader = few
-      room Write by_reader = absurd (by_reader refl)
+  over_leaves (Stopped cause) result few by is = subst (Leaves steps to acted reads read_failed failed) (sym is.0) record {
+    count = refl;
+    left = refl;
+    room = room cause (not_by_writer cause read_failed reads by);
+    whole = tt;
+    cause = subst (IsCausedBy cause read_failed reads) (sym is.2) by;
+  } where
+    room : (cause : Cause) → cause ≢ Write → HadRoom cause acted
+    room Read by_reader = few
+    room Reads by_reader = few
+    room Write by_reader = absurd (by_reader refl)
 
 pub map-snoc : {A B : Type 0} (f : A → B) (xs : List A) (x : A) → map f (xs ++ x ∷ []) ≡ map f xs ++ f x ∷ []
 map-snoc f [] x = refl
@@ -117,8 +127,8 @@ module _ {S : Type 0} (steps : S → Option Stamp → S → Type 0) (given : Giv
     pub splits : SplitsOn given.stream rest (requests_of items)
 
 -- no request was acted on yet
-pub starts : {S : Type 0} {steps : S → Option Stamp → S → Type 0} {given : Given S} {kept : Kept} (buffer : List ℕ) → GoesTo kept given.start.host given.start.leaves → buffer ≡ []
-    → SoFar steps given given.stamps kept (prepend_known buffer given.stream) given.written 0 0
+pub starts : {S : Type 0} {steps : S → Option Stamp → S → Type 0} {given : Given S} {kept : Kept} (buffer : List ℕ)
+    → GoesTo kept given.start.host given.start.leaves → buffer ≡ [] → SoFar steps given given.stamps kept (prepend_known buffer given.stream) given.written 0 0
 starts {given = given} buffer goes empty = record {
   items = [];
   served = record { marked = All-nil (IsMarked _); taken = refl; goes = goes };
@@ -150,8 +160,8 @@ marked_since Now Before bytes no_memory stays marked = marked
 marked_since Now Before bytes no_store stays marked = λ before. marked (stays before)
 
 -- the same item, by equal bytes, an equal text and the same operator, and seen from an earlier start
-pub acted_at : (now before : Start) (stamp : Stamp) (bytes bytes' reply text : List ℕ) (kept : Kept)
-    → IsActed now stamp bytes reply kept → (before.Steady → now.Steady) → now.operator ≡ before.operator → ((left : Host) → now.leaves left → before.leaves left) → bytes ≡ bytes' → text ≡ reply
+pub acted_at : (now before : Start) (stamp : Stamp) (bytes bytes' reply text : List ℕ) (kept : Kept) → IsActed now stamp bytes reply kept
+    → (before.Steady → now.Steady) → now.operator ≡ before.operator → ((left : Host) → now.leaves left → before.leaves left) → bytes ≡ bytes' → text ≡ reply
     → IsActed (seen_from before now) stamp bytes' text kept
 acted_at now before stamp bytes bytes' reply text kept acted stays same wider e f =
     let a = subst (λ (b : List ℕ). IsActed now stamp b reply kept) e acted in
@@ -167,7 +177,8 @@ pub open_then : {K : Type 0} {k : Keeping K} {a b c : Service K} → StaysOpen k
 open_then first then = record { on = on_then first.on then.on; operator = then.operator ∙ first.operator }
 
 -- what was written of the reply
-wrote_more : (old new new' : Option (List ℕ)) (before text after : List ℕ) (count : ℕ) → after ≡ before ++ text → Appends old new before → Appends new new' (take count text) → Appends old new' (take (length before + count) after)
+wrote_more : (old new new' : Option (List ℕ)) (before text after : List ℕ) (count : ℕ) → after ≡ before ++ text → Appends old new before
+    → Appends new new' (take count text) → Appends old new' (take (length before + count) after)
 wrote_more old new new' before text after count is wrote send =
     let front : take (length before + count) after ≡ before ++ take count text = ap (take (length before + count)) is ∙ take-append-add before text count in
     subst (λ (t : List ℕ). Appends old new' t) (sym front) (Appends-trans old new new' before (take count text) wrote send)
@@ -175,7 +186,8 @@ wrote_more old new new' before text after count is wrote send =
 module _ {S : Type 0} {steps : S → Option Stamp → S → Type 0} {given : Given S} where
   -- an end without a last text
   pub ended : {to : S} {kept : Kept} {rest new : Option (List ℕ)} {acted sent : ℕ} (how : SessionEnd) (so : SoFar steps given to kept rest new acted sent)
-      → (last : S) → IsLeftBy steps how to last → EndsAs how given.stream (requests_of so.items) [] → IsSession steps given last new (Ok (record { how = how; acted = acted })) kept
+      → (last : S) → IsLeftBy steps how to last → EndsAs how given.stream (requests_of so.items) []
+      → IsSession steps given last new (Ok (record { how = how; acted = acted })) kept
   ended {to} {kept} {rest} {new} {acted} {sent} how so last stamps ends = record {
     items = so.items;
     to = to;
@@ -190,11 +202,15 @@ module _ {S : Type 0} {steps : S → Option Stamp → S → Type 0} {given : Giv
   pub ended_limit : {to : S} {kept : Kept} {rest new : Option (List ℕ)} {acted sent : ℕ} (so : SoFar steps given to kept rest new acted sent)
       → acted ≡ 1000 → IsSession steps given to new (Ok (record { how = Limit; acted = 1000 })) kept
   ended_limit {to} {kept} {rest} {new} {acted} {sent} so many =
-      subst (λ (k : ℕ). IsSession steps given to new (Ok (record { how = Limit; acted = k })) kept) many
-      (ended Limit so to refl (refl, splits_ending given.stream rest (requests_of so.items) at_limit so.splits (stops_limit rest (length (requests_of so.items)) (omega (arith, so.count, length-map (λ (i : Item). i.bytes) so.items)))))
+      subst (λ (k : ℕ). IsSession steps given to new (Ok (record { how = Limit; acted = k })) kept) many (ended Limit so to refl (
+        refl,
+        splits_ending given.stream rest (requests_of so.items) at_limit so.splits
+            (stops_limit rest (length (requests_of so.items)) (omega (arith, so.count, length-map (λ (i : Item). i.bytes) so.items))),
+      ))
 
   pub ended_dry : {to u : S} {kept : Kept} {rest new : Option (List ℕ)} {acted sent : ℕ} (head : HeadFacts) (so : SoFar steps given to kept rest new acted sent)
-      → acted < 1000 → steps to None u → IfSome rest (λ r. FindsHead r (Ok head)) → IsSession steps given u new (Ok (record { how = NoStamp; acted = acted })) kept
+      → acted < 1000 → steps to None u → IfSome rest (λ r. FindsHead r (Ok head))
+      → IsSession steps given u new (Ok (record { how = NoStamp; acted = acted })) kept
   ended_dry {u = u} {rest = rest} {acted = acted} head so few dry first =
       ended NoStamp so u dry (refl, splits_goes_on given.stream rest (requests_of so.items) head so.splits first (few_requests so.items acted so.count few))
 
@@ -203,7 +219,8 @@ module _ {S : Type 0} {steps : S → Option Stamp → S → Type 0} {given : Giv
       → acted < 1000 → cause ≢ Write → IsSession steps given to new (Err (record { cause = cause; acted = acted; sent = sent })) kept
   broken_off {to} {kept} {rest} {new} {acted} {sent} cause so few by_reader =
       let all : length (answer_text given.start so.items ++ []) ≡ sent = ap length (append-nil (answer_text given.start so.items)) ∙ sym so.sent_is in
-      let whole_text : answer_text given.start so.items ≡ take sent (answer_text given.start so.items ++ []) = sym (append-nil (answer_text given.start so.items)) ∙ sym (take_all sent (answer_text given.start so.items ++ []) (omega arith)) in
+      let whole_text : answer_text given.start so.items ≡ take sent (answer_text given.start so.items ++ []) =
+      sym (append-nil (answer_text given.start so.items)) ∙ sym (take_all sent (answer_text given.start so.items ++ []) (omega arith)) in
       record {
         items = so.items;
         last = [];
@@ -213,19 +230,20 @@ module _ {S : Type 0} {steps : S → Option Stamp → S → Type 0} {given : Giv
         all_sent = λ _. sym all;
         wrote = subst (λ (t : List ℕ). Appends given.written new t) whole_text so.wrote;
         due = due cause by_reader;
-      }
-    where
-      under_way : IfSome given.stream (λ x. IsUnderWay x (requests_of so.items))
-      under_way = splits_under_way given.stream rest (requests_of so.items) so.splits (few_requests so.items acted so.count few)
+      } where
+        under_way : IfSome given.stream (λ x. IsUnderWay x (requests_of so.items))
+        under_way = splits_under_way given.stream rest (requests_of so.items) so.splits (few_requests so.items acted so.count few)
 
-      due : (cause : Cause) → cause ≢ Write → DueAfter cause given.stream (requests_of so.items) []
-      due Read by_reader = (refl, under_way)
-      due Reads by_reader = (refl, under_way)
-      due Write by_reader = absurd (by_reader refl)
+        due : (cause : Cause) → cause ≢ Write → DueAfter cause given.stream (requests_of so.items) []
+        due Read by_reader = (refl, under_way)
+        due Reads by_reader = (refl, under_way)
+        due Write by_reader = absurd (by_reader refl)
 
   -- a last text was written, or a part of it
-  finished : {to : S} {kept : Kept} {rest new : Option (List ℕ)} {acted sent : ℕ} (new' : Option (List ℕ)) (failed : Bool) (how : SessionEnd) (text : List ℕ) (result : Result Ended IoFault) (so : SoFar steps given to kept rest new acted sent)
-      → IsLeftBy steps how to to → EndsAs how given.stream (requests_of so.items) text → DueAfter Write given.stream (requests_of so.items) text → IsFinished how acted sent text new new' failed result → IsSession steps given to new' result kept
+  finished : {to : S} {kept : Kept} {rest new : Option (List ℕ)} {acted sent : ℕ} (new' : Option (List ℕ)) (failed : Bool) (how : SessionEnd) (text : List ℕ)
+      (result : Result Ended IoFault) (so : SoFar steps given to kept rest new acted sent)
+      → IsLeftBy steps how to to → EndsAs how given.stream (requests_of so.items) text → DueAfter Write given.stream (requests_of so.items) text
+      → IsFinished how acted sent text new new' failed result → IsSession steps given to new' result kept
   finished {to} {kept} {rest} {new} {acted} {sent} new' failed how text (Ok ended) so stamps ends due fin = record {
     items = so.items;
     to = to;
@@ -239,7 +257,8 @@ module _ {S : Type 0} {steps : S → Option Stamp → S → Type 0} {given : Giv
   finished {to} {kept} {rest} {new} {acted} {sent} new' failed how text (Err fault) so stamps ends due fin =
       let n : ℕ = fin.0 in
       let sum : fault.sent ≡ length (answer_text given.start so.items) + n = fin.4 ∙ ap (λ (k : ℕ). k + n) so.sent_is in
-      let front : take fault.sent (answer_text given.start so.items ++ text) ≡ answer_text given.start so.items ++ take n text = ap (λ (k : ℕ). take k (answer_text given.start so.items ++ text)) sum ∙ take-append-add (answer_text given.start so.items) text n in
+      let front : take fault.sent (answer_text given.start so.items ++ text) ≡ answer_text given.start so.items ++ take n text =
+      ap (λ (k : ℕ). take k (answer_text given.start so.items ++ text)) sum ∙ take-append-add (answer_text given.start so.items) text n in
       record {
         items = so.items;
         last = text;
@@ -247,51 +266,58 @@ module _ {S : Type 0} {steps : S → Option Stamp → S → Type 0} {given : Giv
         count = so.count ∙ sym fin.3;
         sent = omega (arith, length-append (answer_text given.start so.items) text, sum, fin.1);
         all_sent = λ other. absurd (other fin.2);
-        wrote = subst (λ (t : List ℕ). Appends given.written new' t) (sym front) (Appends-trans given.written new new' (answer_text given.start so.items) (take n text) so.wrote fin.5);
+        wrote = subst (λ (t : List ℕ). Appends given.written new' t) (sym front)
+            (Appends-trans given.written new new' (answer_text given.start so.items) (take n text) so.wrote fin.5);
         due = subst (λ (c : Cause). DueAfter c given.stream (requests_of so.items) text) (sym fin.2) due;
       }
 
   -- no further request came
-  pub over : {to : S} {kept : Kept} {rest new : Option (List ℕ)} {acted sent : ℕ} (new' : Option (List ℕ)) (was read_failed failed : Bool) (reads : ℕ) (last : Rest) (result : Result Ended IoFault) (so : SoFar steps given to kept rest new acted sent)
-      → acted < 1000 → IfSome rest (λ r. FindsRest r last) → StopsBy (Err last) was read_failed reads → IsOver last acted sent new new' failed result → IsSession steps given to new' result kept
-  over {to} {kept} {rest} {new} {acted} {sent} new' was read_failed failed reads last result so few first stops is = by last first stops is
-    where
-      requests : List (List ℕ)
-      requests = requests_of so.items
+  pub over : {to : S} {kept : Kept} {rest new : Option (List ℕ)} {acted sent : ℕ} (new' : Option (List ℕ)) (was read_failed failed : Bool) (reads : ℕ)
+      (last : Rest) (result : Result Ended IoFault) (so : SoFar steps given to kept rest new acted sent) → acted < 1000 → IfSome rest (λ r. FindsRest r last)
+      → StopsBy (Err last) was read_failed reads → IsOver last acted sent new new' failed result → IsSession steps given to new' result kept
+  over {to} {kept} {rest} {new} {acted} {sent} new' was read_failed failed reads last result so few first stops is = by last first stops is where
+    requests : List (List ℕ)
+    requests = requests_of so.items
 
-      fewer : length requests < 1000
-      fewer = few_requests so.items acted so.count few
+    fewer : length requests < 1000
+    fewer = few_requests so.items acted so.count few
 
-      under_way : IfSome given.stream (λ x. IsUnderWay x requests)
-      under_way = splits_under_way given.stream rest requests so.splits fewer
+    under_way : IfSome given.stream (λ x. IsUnderWay x requests)
+    under_way = splits_under_way given.stream rest requests so.splits fewer
 
-      begins : (s : Option (List ℕ)) → IfSome s (λ x. IsUnderWay x requests) → IfSome s (λ x. Begins x requests)
-      begins None x = tt
-      begins (Some s) x = inl (x.0, x.1, omega (arith, x.2))
+    begins : (s : Option (List ℕ)) → IfSome s (λ x. IsUnderWay x requests) → IfSome s (λ x. Begins x requests)
+    begins None x = tt
+    begins (Some s) x = inl (x.0, x.1, omega (arith, x.2))
 
-      ends : (e : Ending) → IfSome rest (λ r. StopsAt e (length requests) r) → IfSome given.stream (λ x. Splits x requests e)
-      ends e stops = splits_ending given.stream rest requests e so.splits stops
+    ends : (e : Ending) → IfSome rest (λ r. StopsAt e (length requests) r) → IfSome given.stream (λ x. Splits x requests e)
+    ends e stops = splits_ending given.stream rest requests e so.splits stops
 
-      by : (last : Rest) → IfSome rest (λ r. FindsRest r last) → StopsBy (Err last) was read_failed reads → IsOver last acted sent new new' failed result → IsSession steps given to new' result kept
-      by AtEnd first stops is = finished new' failed End [] result so refl (refl, ends at_end (stops_end rest (length requests) fewer first)) (inl (refl, begins given.stream under_way)) is
-      by CutOff first stops is = finished new' failed Cut [] result so refl (refl, ends cut (stops_cut rest (length requests) fewer first)) (inl (refl, begins given.stream under_way)) is
-      by (Faulty f) first stops is =
-          let split = ends (faulted f) (stops_fault rest (length requests) f fewer first) in
-          finished new' failed Faulted (fault_text (wire_fault f)) result so refl (f, refl, split) (inr (inr (f, refl, split))) is
-      by NoMemory first stops is = finished new' failed Memory memory_text result so refl (refl, under_way) (inr (inl (refl, under_way))) is
-      by (Stopped cause) first stops is =
-          subst (λ (r : Result Ended IoFault). IsSession steps given to new' r kept) (sym is.0)
-          (subst (λ (n : Option (List ℕ)). IsSession steps given to n (Err (record { cause = cause; acted = acted; sent = sent })) kept) (sym is.1) (broken_off cause so few (not_by_writer cause read_failed reads stops)))
+    by : (last : Rest) → IfSome rest (λ r. FindsRest r last) → StopsBy (Err last) was read_failed reads → IsOver last acted sent new new' failed result
+        → IsSession steps given to new' result kept
+    by AtEnd first stops is = finished new' failed End [] result so refl (refl, ends at_end (stops_end rest (length requests) fewer first))
+        (inl (refl, begins given.stream under_way)) is
+    by CutOff first stops is = finished new' failed Cut [] result so refl (refl, ends cut (stops_cut rest (length requests) fewer first))
+        (inl (refl, begins given.stream under_way)) is
+    by (Faulty f) first stops is =
+        let split = ends (faulted f) (stops_fault rest (length requests) f fewer first) in
+        finished new' failed Faulted (fault_text (wire_fault f)) result so refl (f, refl, split) (inr (inr (f, refl, split))) is
+    by NoMemory first stops is = finished new' failed Memory memory_text result so refl (refl, under_way) (inr (inl (refl, under_way))) is
+    by (Stopped cause) first stops is =
+        subst (λ (r : Result Ended IoFault). IsSession steps given to new' r kept) (sym is.0) (subst (λ (n : Option (List ℕ)). IsSession steps given to n
+        (Err (record { cause = cause; acted = acted; sent = sent })) kept) (sym is.1) (broken_off cause so few (not_by_writer cause read_failed reads stops)))
 
-  stepped : {to : S} {kept : Kept} {rest new : Option (List ℕ)} {acted sent : ℕ} (to' : S) (kept' : Kept) (stamp : Stamp) (text bytes : List ℕ) (so : SoFar steps given to kept rest new acted sent)
-      → steps to (Some stamp) to' → IsActed (start_after given.start so.items) stamp bytes text kept' → Stepped steps given to' kept' acted (answer_text given.start so.items) (requests_of so.items) text bytes
+  stepped : {to : S} {kept : Kept} {rest new : Option (List ℕ)} {acted sent : ℕ} (to' : S) (kept' : Kept) (stamp : Stamp) (text bytes : List ℕ)
+      (so : SoFar steps given to kept rest new acted sent) → steps to (Some stamp) to' → IsActed (start_after given.start so.items) stamp bytes text kept'
+      → Stepped steps given to' kept' acted (answer_text given.start so.items) (requests_of so.items) text bytes
   stepped {to} {kept} {rest} {new} {acted} {sent} to' kept' stamp text bytes so step a =
       let item : Item = record { stamp = stamp; bytes = bytes; mark = a.mark } in
       record {
         items = so.items ++ item ∷ [];
         served = record {
-          marked = All-append (IsMarked given.start.Steady) so.items (item ∷ []) so.served.marked (All-cons (IsMarked given.start.Steady) item [] a.marked (All-nil (IsMarked given.start.Steady)));
-          taken = subst (λ (xs : List Stamp). Yields steps given.stamps xs to') (sym (map-snoc (λ (i : Item). i.stamp) so.items item)) (Yields-snoc steps given.stamps (stamps_of so.items) to to' stamp so.served.taken step);
+          marked = All-append (IsMarked given.start.Steady) so.items (item ∷ []) so.served.marked
+              (All-cons (IsMarked given.start.Steady) item [] a.marked (All-nil (IsMarked given.start.Steady)));
+          taken = subst (λ (xs : List Stamp). Yields steps given.stamps xs to') (sym (map-snoc (λ (i : Item). i.stamp) so.items item))
+              (Yields-snoc steps given.stamps (stamps_of so.items) to to' stamp so.served.taken step);
           goes = goes-append given.start kept' so.items (item ∷ []) a.goes;
         };
         count = length-append so.items (item ∷ []) ∙ ap (λ (n : ℕ). n + 1) so.count;
@@ -300,17 +326,27 @@ module _ {S : Type 0} {steps : S → Option Stamp → S → Type 0} {given : Giv
       }
 
   -- the reply could not be written whole
-  pub broken_write : {to : S} {kept : Kept} {rest new : Option (List ℕ)} {acted sent : ℕ} (to' : S) (kept' : Kept) (new' left : Option (List ℕ)) (stamp : Stamp) (head : HeadFacts) (count : ℕ) (text buffer : List ℕ) (so : SoFar steps given to kept rest new acted sent)
+  pub broken_write : {to : S} {kept : Kept} {rest new : Option (List ℕ)} {acted sent : ℕ} (to' : S) (kept' : Kept) (new' left : Option (List ℕ)) (stamp : Stamp)
+      (head : HeadFacts) (count : ℕ) (text buffer : List ℕ) (so : SoFar steps given to kept rest new acted sent)
       → acted < 1000 → steps to (Some stamp) to' → IsActed (start_after given.start so.items) stamp (take (head.len + head.body) buffer) text kept'
-      → IfSome rest (λ r. FindsHead r (Ok head)) → Keeps rest (prepend_known buffer left) → head.len + head.body ≤ length buffer
-      → count < length text → Appends new new' (take count text)
-      → IsSession steps given to' new' (Err (record { cause = Write; acted = acted + 1; sent = sent + count })) kept'
-  broken_write {rest = rest} {new = new} {acted = acted} {sent = sent} to' kept' new' left stamp head count text buffer so few step a first kept fits short send =
+      → IfSome rest (λ r. FindsHead r (Ok head)) → Keeps rest (prepend_known buffer left) → head.len + head.body ≤ length buffer → count < length text
+      → Appends new new' (take count text) → IsSession steps given to' new' (Err (record { cause = Write; acted = acted + 1; sent = sent + count })) kept'
+  broken_write {rest = rest} {new = new} {acted = acted} {sent = sent} to' kept' new' left stamp head count text buffer so few step a first kept fits short
+      send =
       let st = stepped to' kept' stamp text (take (head.len + head.body) buffer) so step a in
       let begun = splits_begun given.stream rest left (requests_of so.items) buffer head so.splits first kept fits (few_requests so.items acted so.count few) in
-      let all : sent + count ≤ length (answer_text given.start st.items ++ []) = omega (arith, ap length (append-nil (answer_text given.start st.items)), ap length st.text_is, length-append (answer_text given.start so.items) text, so.sent_is, short) in
-      let front : take (length (answer_text given.start so.items) + count) (answer_text given.start st.items) ≡ take (sent + count) (answer_text given.start st.items ++ []) =
-      ap (λ (k : ℕ). take (k + count) (answer_text given.start st.items)) (sym so.sent_is) ∙ ap (take (sent + count)) (sym (append-nil (answer_text given.start st.items))) in
+      let all : sent + count ≤ length (answer_text given.start st.items ++ []) = omega (
+        arith,
+        ap length (append-nil (answer_text given.start st.items)),
+        ap length st.text_is,
+        length-append (answer_text given.start so.items) text,
+        so.sent_is,
+        short,
+      ) in
+      let front : take (length (answer_text given.start so.items) + count) (answer_text given.start st.items) ≡ take (sent + count)
+      (answer_text given.start st.items ++ []) =
+      ap (λ (k : ℕ). take (k + count) (answer_text given.start st.items)) (sym so.sent_is)
+      ∙ ap (take (sent + count)) (sym (append-nil (answer_text given.start st.items))) in
       record {
         items = st.items;
         last = [];
@@ -318,22 +354,27 @@ module _ {S : Type 0} {steps : S → Option Stamp → S → Type 0} {given : Giv
         count = st.count;
         sent = all;
         all_sent = λ other. absurd (other refl);
-        wrote = subst (λ (t : List ℕ). Appends given.written new' t) front (wrote_more given.written new new' (answer_text given.start so.items) text (answer_text given.start st.items) count st.text_is so.wrote send);
+        wrote = subst (λ (t : List ℕ). Appends given.written new' t) front
+            (wrote_more given.written new new' (answer_text given.start so.items) text (answer_text given.start st.items) count st.text_is so.wrote send);
         due = inl (refl, subst (λ (rs : List (List ℕ)). IfSome given.stream (λ x. Begins x rs)) (sym st.requests_is) begun);
       }
 
   -- the reply was written, and the stream is closed
-  pub ended_closed : {to : S} {kept : Kept} {rest new : Option (List ℕ)} {acted sent : ℕ} (to' : S) (kept' : Kept) (new' left : Option (List ℕ)) (stamp : Stamp) (head : HeadFacts) (count : ℕ) (text buffer : List ℕ) (so : SoFar steps given to kept rest new acted sent)
+  pub ended_closed : {to : S} {kept : Kept} {rest new : Option (List ℕ)} {acted sent : ℕ} (to' : S) (kept' : Kept) (new' left : Option (List ℕ)) (stamp : Stamp)
+      (head : HeadFacts) (count : ℕ) (text buffer : List ℕ) (so : SoFar steps given to kept rest new acted sent)
       → acted < 1000 → steps to (Some stamp) to' → IsActed (start_after given.start so.items) stamp (take (head.len + head.body) buffer) text kept'
-      → IfSome rest (λ r. FindsHead r (Ok head)) → Keeps rest (prepend_known buffer left) → head.len + head.body ≤ length buffer
-      → count ≡ length text → Appends new new' (take count text) → head.closes ≡ true
-      → IsSession steps given to' new' (Ok (record { how = Closed; acted = acted + 1 })) kept'
-  ended_closed {rest = rest} {new = new} {acted = acted} {sent = sent} to' kept' new' left stamp head count text buffer so few step a first kept fits full send closes =
+      → IfSome rest (λ r. FindsHead r (Ok head)) → Keeps rest (prepend_known buffer left) → head.len + head.body ≤ length buffer → count ≡ length text
+      → Appends new new' (take count text) → head.closes ≡ true → IsSession steps given to' new' (Ok (record { how = Closed; acted = acted + 1 })) kept'
+  ended_closed {rest = rest} {new = new} {acted = acted} {sent = sent} to' kept' new' left stamp head count text buffer so few step a first kept fits full send
+      closes =
       let st = stepped to' kept' stamp text (take (head.len + head.body) buffer) so step a in
-      let split = splits_closed given.stream rest left (requests_of so.items) buffer head so.splits first closes kept fits (few_requests so.items acted so.count few) in
-      let size : length (answer_text given.start st.items) ≡ length (answer_text given.start so.items) + count = omega (arith, ap length st.text_is, length-append (answer_text given.start so.items) text, full) in
+      let split =
+      splits_closed given.stream rest left (requests_of so.items) buffer head so.splits first closes kept fits (few_requests so.items acted so.count few) in
+      let size : length (answer_text given.start st.items) ≡ length (answer_text given.start so.items) + count =
+      omega (arith, ap length st.text_is, length-append (answer_text given.start so.items) text, full) in
       let front : take (length (answer_text given.start so.items) + count) (answer_text given.start st.items) ≡ answer_text given.start st.items ++ [] =
-      take_all (length (answer_text given.start so.items) + count) (answer_text given.start st.items) (omega arith) ∙ sym (append-nil (answer_text given.start st.items)) in
+      take_all (length (answer_text given.start so.items) + count) (answer_text given.start st.items) (omega arith)
+      ∙ sym (append-nil (answer_text given.start st.items)) in
       record {
         items = st.items;
         to = to';
@@ -341,20 +382,23 @@ module _ {S : Type 0} {steps : S → Option Stamp → S → Type 0} {given : Giv
         served = st.served;
         left = refl;
         count = st.count;
-        wrote = subst (λ (t : List ℕ). Appends given.written new' t) front (wrote_more given.written new new' (answer_text given.start so.items) text (answer_text given.start st.items) count st.text_is so.wrote send);
+        wrote = subst (λ (t : List ℕ). Appends given.written new' t) front
+            (wrote_more given.written new new' (answer_text given.start so.items) text (answer_text given.start st.items) count st.text_is so.wrote send);
         ends = (refl, subst (λ (rs : List (List ℕ)). IfSome given.stream (λ x. Splits x rs closed)) (sym st.requests_is) split);
       }
 
   -- the reply was written, and the session goes on
-  pub goes_on : {to : S} {kept : Kept} {rest new : Option (List ℕ)} {acted sent : ℕ} (to' : S) (kept' : Kept) (new' left : Option (List ℕ)) (stamp : Stamp) (head : HeadFacts) (count : ℕ) (text buffer buffer' : List ℕ) (so : SoFar steps given to kept rest new acted sent)
-      → acted < 1000 → steps to (Some stamp) to' → IsActed (start_after given.start so.items) stamp (take (head.len + head.body) buffer) text kept'
-      → IfSome rest (λ r. FindsHead r (Ok head)) → Keeps rest (prepend_known buffer left) → head.len + head.body ≤ length buffer
-      → count ≡ length text → Appends new new' (take count text) → head.closes ≡ false → buffer' ≡ drop (head.len + head.body) buffer
-      → SoFar steps given to' kept' (prepend_known buffer' left) new' (acted + 1) (sent + count)
-  goes_on {rest = rest} {new = new} {acted = acted} {sent = sent} to' kept' new' left stamp head count text buffer buffer' so few step a first kept fits full send closes dropped =
+  pub goes_on : {to : S} {kept : Kept} {rest new : Option (List ℕ)} {acted sent : ℕ} (to' : S) (kept' : Kept) (new' left : Option (List ℕ)) (stamp : Stamp)
+      (head : HeadFacts) (count : ℕ) (text buffer buffer' : List ℕ) (so : SoFar steps given to kept rest new acted sent) → acted < 1000 → steps to (Some stamp)
+      to' → IsActed (start_after given.start so.items) stamp (take (head.len + head.body) buffer) text kept' → IfSome rest (λ r. FindsHead r (Ok head))
+      → Keeps rest (prepend_known buffer left) → head.len + head.body ≤ length buffer → count ≡ length text → Appends new new' (take count text) → head.closes
+      ≡ false → buffer' ≡ drop (head.len + head.body) buffer → SoFar steps given to' kept' (prepend_known buffer' left) new' (acted + 1) (sent + count)
+  goes_on {rest = rest} {new = new} {acted = acted} {sent = sent} to' kept' new' left stamp head count text buffer buffer' so few step a first kept fits full
+      send closes dropped =
       let st = stepped to' kept' stamp text (take (head.len + head.body) buffer) so step a in
       let split = splits_more given.stream rest left (requests_of so.items) buffer head so.splits first closes kept fits in
-      let size : length (answer_text given.start st.items) ≡ length (answer_text given.start so.items) + count = omega (arith, ap length st.text_is, length-append (answer_text given.start so.items) text, full) in
+      let size : length (answer_text given.start st.items) ≡ length (answer_text given.start so.items) + count =
+      omega (arith, ap length st.text_is, length-append (answer_text given.start so.items) text, full) in
       let front : take (length (answer_text given.start so.items) + count) (answer_text given.start st.items) ≡ answer_text given.start st.items =
       take_all (length (answer_text given.start so.items) + count) (answer_text given.start st.items) (omega arith) in
       record {
@@ -362,19 +406,19 @@ module _ {S : Type 0} {steps : S → Option Stamp → S → Type 0} {given : Giv
         served = st.served;
         count = st.count;
         sent_is = ap (λ (k : ℕ). k + count) so.sent_is ∙ sym size;
-        wrote = subst (λ (t : List ℕ). Appends given.written new' t) front (wrote_more given.written new new' (answer_text given.start so.items) text (answer_text given.start st.items) count st.text_is so.wrote send);
-        splits = subst (λ (b : List ℕ). SplitsOn given.stream (prepend_known b left) (requests_of st.items)) (sym dropped) (subst (λ (rs : List (List ℕ)). SplitsOn given.stream (prepend_known (drop (head.len + head.body) buffer) left) rs) (sym st.requests_is) split);
+        wrote = subst (λ (t : List ℕ). Appends given.written new' t) front
+            (wrote_more given.written new new' (answer_text given.start so.items) text (answer_text given.start st.items) count st.text_is so.wrote send);
+        splits = subst (λ (b : List ℕ). SplitsOn given.stream (prepend_known b left) (requests_of st.items)) (sym dropped)
+            (subst (λ (rs : List (List ℕ)). SplitsOn given.stream (prepend_known (drop (head.len + head.body) buffer) left) rs) (sym st.requests_is) split);
       }
 
 -- no more requests than the limit were acted on
 pub within_most : (result : Result Ended IoFault) → IsWithinMost result → acted_count result ≤ most_requests
-within_most (Ok ended) room = by_how ended.how ended.acted room
-  where
-    by_how : (how : SessionEnd) (acted : ℕ) → HasRoom how acted → acted ≤ most_requests
-    by_how End acted room = omega arith
-    by_how how acted room = omega arith
-within_most (Err fault) room = by_cause fault.cause fault.acted room
-  where
-    by_cause : (cause : Cause) (acted : ℕ) → HadRoom cause acted → acted ≤ most_requests
-    by_cause Read acted room = omega arith
-    by_cause cause acted room = omega arith
+within_most (Ok ended) room = by_how ended.how ended.acted room where
+  by_how : (how : SessionEnd) (acted : ℕ) → HasRoom how acted → acted ≤ most_requests
+  by_how End acted room = omega arith
+  by_how how acted room = omega arith
+within_most (Err fault) room = by_cause fault.cause fault.acted room where
+  by_cause : (cause : Cause) (acted : ℕ) → HadRoom cause acted → acted ≤ most_requests
+  by_cause Read acted room = omega arith
+  by_cause cause acted room = omega arith

@@ -1,7 +1,8 @@
 -- Lemmas on a request for the sheet of a day.
-use Rattle.pawn_host.proofs.Basics.{◌≡◌, ◌∙◌, ℕ, List, ap, sym, Some, None, Ok, BookValue, Host, Listed, Out, Request, Says, SaysRequest, SheetOf, Stamp, book_sheet, host_step, option_map, reply_text, sheet_of, Answer, GoesTo, IsActed, IsKeyOf, Kept, Start, Tells, answer_bytes}
-use Rattle.pawn_book.specs.Sheet.{day_sheet}
-use Rattle.pawn_host.proofs.RunLemmas.{acted_text, broker_request, plain, some_same, step_past_gate}
+use Rattle.{std.proofs.Common.{◌≡◌, ◌∙◌, ℕ, List, ap, sym, Some, None, Ok, option_map}, pawn_host.specs.Common.{BookValue, Host, Listed, Out, Request, Says}}
+use Rattle.pawn_host.specs.{Common.{SaysRequest, SheetOf, Stamp, host_step, reply_text}, declared.service.Answer.Answer, Keeps.{GoesTo, IsActed, IsKeyOf, Kept}}
+use Rattle.pawn_host.{specs.Keeps.{Start, Tells, answer_bytes}, proofs.RunLemmas.{acted_text, broker_request, plain, some_same, step_past_gate}}
+use Rattle.{pawn_view.specs.Sheets.{book_sheet, sheet_of}, pawn_book.specs.Sheet.day_sheet}
 
 abbrev pub sheet_request : ℕ → ℕ → ℕ → Request
 sheet_request book key day = broker_request book key (SheetOf day)
@@ -26,10 +27,10 @@ no_sheet h book key day with_key none = (let some = sym (sheet_is h book key day
 -- the sheet was told
 pub acted_sheet : (start : Start) (stamp : Stamp) (bytes : List ℕ) (answer : Answer) (kept : Kept) (book key day shown : ℕ) (text out : List ℕ)
     → SaysRequest bytes (Ok (sheet_request book key day)) → IsKeyOf start.host book key → shown ≡ day → sheet_of start.host book shown ≡ Some text → text ≡ out
-    → Tells answer (reply_text 200 plain out) → GoesTo kept start.host start.leaves
-    → IsActed start stamp bytes (answer_bytes answer) kept
+    → Tells answer (reply_text 200 plain out) → GoesTo kept start.host start.leaves → IsActed start stamp bytes (answer_bytes answer) kept
 acted_sheet start stamp bytes answer kept book key day shown text out read with_key day_is is all tells goes =
     let step = step_sheet start.host start.operator stamp book key day with_key in
     let same : out ≡ book_sheet day with_key.0 =
     sym all ∙ sym (some_same (sym (sheet_is start.host book key shown with_key) ∙ is)) ∙ ap (λ (x : ℕ). book_sheet x with_key.0) day_is in
-    acted_text start stamp bytes answer kept (sheet_request book key day) (book_listed day with_key.0) plain out read step (ap (reply_text 200 plain) same) tells goes
+    acted_text start stamp bytes answer kept (sheet_request book key day) (book_listed day with_key.0) plain out read step
+    (ap (reply_text 200 plain) same) tells goes

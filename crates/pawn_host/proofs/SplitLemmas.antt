@@ -1,5 +1,9 @@
 -- How the split of a stream goes on from what was taken of it.
-use Rattle.pawn_host.proofs.Basics.{◌≡◌, ℕ, suc, ◌+◌, ◌<◌, ◌≤◌, Bool, true, false, List, [], ◌∷◌, ◌++◌, length, take, drop, inl, inr, refl, arith, Option, Some, None, sym, ◌∙◌, ap, subst, append_assoc, length-append, length-take, IfSome, Ok, take-append-drop, take-append-le, whole_front, HeadFacts, HeadFault, Keeps, ReadsHead, prepend_known, print_request, AtEnd, Begins, BeginsAndGoesOn, CutOff, Ending, Faulty, FindsHead, FindsRest, IsRequest, IsUnderWay, PassesOver, Splits, StopsAt, at_end, at_limit, closed, cut, faulted}
+use Rattle.std.proofs.Common.{◌≡◌, ℕ, suc, ◌+◌, ◌<◌, ◌≤◌, Bool, true, false, List, [], ◌∷◌, ◌++◌, length, take, drop, inl, inr, refl, arith, Option, Some, None}
+use Rattle.std.proofs.{Common.{sym, ◌∙◌, ap, subst, append_assoc, length-append, length-take, IfSome, Ok, take-append-drop}, lemmas.List.take-append-le}
+use Rattle.{pawn_wire.proofs.StreamLemmas.whole_front, pawn_host.specs.Common.{HeadFacts, HeadFault, Keeps, ReadsHead, prepend_known, print_request}}
+use Rattle.pawn_host.specs.{declared.session.Rest.TheVariants.{AtEnd, CutOff, Faulty}, Split.{Begins, BeginsAndGoesOn, Ending, IsRequest, IsUnderWay}}
+use Rattle.pawn_host.specs.{Split.{PassesOver, Splits, StopsAt, at_end, at_limit, closed, cut, faulted}, Finding.{FindsHead, FindsRest}}
 
 pub length_snoc : (requests : List (List ℕ)) (x : List ℕ) → length (requests ++ x ∷ []) ≡ suc (length requests)
 length_snoc requests x = length-append requests (x ∷ []) ∙ (omega arith)
@@ -10,7 +14,8 @@ SplitsOn None rest requests = Unit {0}
 SplitsOn (Some s) None requests = ⊥
 SplitsOn (Some s) (Some r) requests = PassesOver s requests r
 
-pub passes-snoc : (s : List ℕ) (requests : List (List ℕ)) (x rest : List ℕ) → PassesOver s requests (x ++ rest) → IsRequest x false → PassesOver s (requests ++ x ∷ []) rest
+pub passes-snoc : (s : List ℕ) (requests : List (List ℕ)) (x rest : List ℕ) → PassesOver s requests (x ++ rest) → IsRequest x false
+    → PassesOver s (requests ++ x ∷ []) rest
 passes-snoc s [] x rest p q = (rest, p, q, refl)
 passes-snoc s (r ∷ rs) x rest p q = (p.0, p.1, p.2, passes-snoc p.0 rs x rest p.3 q)
 
@@ -32,30 +37,44 @@ splits_start None = tt
 splits_start (Some s) = refl
 
 -- a request was taken, and the stream goes on
-pub splits_more : (s rest left : Option (List ℕ)) (requests : List (List ℕ)) (buffer : List ℕ) (f : HeadFacts) → SplitsOn s rest requests → IfSome rest (λ r. FindsHead r (Ok f)) → f.closes ≡ false
-    → Keeps rest (prepend_known buffer left) → f.len + f.body ≤ length buffer → SplitsOn s (prepend_known (drop (f.len + f.body) buffer) left) (requests ++ take (f.len + f.body) buffer ∷ [])
+pub splits_more : (s rest left : Option (List ℕ)) (requests : List (List ℕ)) (buffer : List ℕ) (f : HeadFacts) → SplitsOn s rest requests
+    → IfSome rest (λ r. FindsHead r (Ok f)) → f.closes ≡ false → Keeps rest (prepend_known buffer left) → f.len + f.body ≤ length buffer
+    → SplitsOn s (prepend_known (drop (f.len + f.body) buffer) left) (requests ++ take (f.len + f.body) buffer ∷ [])
 splits_more None rest left requests buffer f on first c k fits = tt
 splits_more (Some s) None left requests buffer f on first c k fits = absurd on
 splits_more (Some s) (Some r) None requests buffer f on first c k fits = absurd k
 splits_more (Some s) (Some r) (Some l) requests buffer f on first c k fits =
     let n : ℕ = f.len + f.body in
     let front : take n r ≡ take n buffer = ap (take n) (sym k) ∙ take-append-le n buffer l fits in
-    let parts : r ≡ take n buffer ++ (drop n buffer ++ l) = sym k ∙ ap (λ (b : List ℕ). b ++ l) (sym (take-append-drop n buffer)) ∙ append_assoc (take n buffer) (drop n buffer) l in
+    let parts : r ≡ take n buffer ++ (drop n buffer ++ l) = sym k ∙ ap (λ (b : List ℕ). b ++ l) (sym (take-append-drop n buffer))
+    ∙ append_assoc (take n buffer) (drop n buffer) l in
     passes-snoc s requests (take n buffer) (drop n buffer ++ l)
-    (subst (λ (x : List ℕ). PassesOver s requests x) parts on)
-    (subst (λ (x : List ℕ). IsRequest x false) front (front_request r f false c first))
+    (subst (λ (x : List ℕ). PassesOver s requests x) parts on) (subst (λ (x : List ℕ). IsRequest x false) front (front_request r f false c first))
 
 -- a request was taken, and the stream is closed
-pub splits_closed : (s rest left : Option (List ℕ)) (requests : List (List ℕ)) (buffer : List ℕ) (f : HeadFacts) → SplitsOn s rest requests → IfSome rest (λ r. FindsHead r (Ok f)) → f.closes ≡ true
-    → Keeps rest (prepend_known buffer left) → f.len + f.body ≤ length buffer → length requests < 1000 → IfSome s (λ x. Splits x (requests ++ take (f.len + f.body) buffer ∷ []) closed)
+pub splits_closed : (s rest left : Option (List ℕ)) (requests : List (List ℕ)) (buffer : List ℕ) (f : HeadFacts) → SplitsOn s rest requests
+    → IfSome rest (λ r. FindsHead r (Ok f)) → f.closes ≡ true → Keeps rest (prepend_known buffer left) → f.len + f.body ≤ length buffer → length requests < 1000
+    → IfSome s (λ x. Splits x (requests ++ take (f.len + f.body) buffer ∷ []) closed)
 splits_closed None rest left requests buffer f on first c k fits few = tt
 splits_closed (Some s) None left requests buffer f on first c k fits few = absurd on
 splits_closed (Some s) (Some r) None requests buffer f on first c k fits few = absurd k
 splits_closed (Some s) (Some r) (Some l) requests buffer f on first c k fits few =
     let n : ℕ = f.len + f.body in
     let front : take n r ≡ take n buffer = ap (take n) (sym k) ∙ take-append-le n buffer l fits in
-    let parts : r ≡ take n buffer ++ (drop n buffer ++ l) = sym k ∙ ap (λ (b : List ℕ). b ++ l) (sym (take-append-drop n buffer)) ∙ append_assoc (take n buffer) (drop n buffer) l in
-    inr ((requests, take n buffer, drop n buffer ++ l, subst (λ (x : List ℕ). PassesOver s requests x) parts on, subst (λ (x : List ℕ). IsRequest x true) front (front_request r f true c first), few, refl), refl)
+    let parts : r ≡ take n buffer ++ (drop n buffer ++ l) = sym k ∙ ap (λ (b : List ℕ). b ++ l) (sym (take-append-drop n buffer))
+    ∙ append_assoc (take n buffer) (drop n buffer) l in
+    inr (
+      (
+        requests,
+        take n buffer,
+        drop n buffer ++ l,
+        subst (λ (x : List ℕ). PassesOver s requests x) parts on,
+        subst (λ (x : List ℕ). IsRequest x true) front (front_request r f true c first),
+        few,
+        refl,
+      ),
+      refl,
+    )
 
 -- the split begins with the requests that were taken
 pub splits_begin : (s rest : Option (List ℕ)) (requests : List (List ℕ)) → SplitsOn s rest requests → length requests ≤ 1000 → IfSome s (λ x. Begins x requests)
@@ -69,22 +88,26 @@ closed_begins (Some s) requests (inl x) = absurd x.2
 closed_begins (Some s) requests (inr x) = inr x.0
 
 -- the request that was taken is one of the split's
-pub splits_begun : (s rest left : Option (List ℕ)) (requests : List (List ℕ)) (buffer : List ℕ) (f : HeadFacts) → SplitsOn s rest requests → IfSome rest (λ r. FindsHead r (Ok f))
-    → Keeps rest (prepend_known buffer left) → f.len + f.body ≤ length buffer → length requests < 1000 → IfSome s (λ x. Begins x (requests ++ take (f.len + f.body) buffer ∷ []))
+pub splits_begun : (s rest left : Option (List ℕ)) (requests : List (List ℕ)) (buffer : List ℕ) (f : HeadFacts) → SplitsOn s rest requests
+    → IfSome rest (λ r. FindsHead r (Ok f)) → Keeps rest (prepend_known buffer left) → f.len + f.body ≤ length buffer → length requests < 1000
+    → IfSome s (λ x. Begins x (requests ++ take (f.len + f.body) buffer ∷ []))
 splits_begun s rest left requests buffer f on first k fits few =
     elim f.closes as (λ v. f.closes ≡ v → IfSome s (λ x. Begins x (requests ++ take (f.len + f.body) buffer ∷ []))) [
       | true ↦ λ c. closed_begins s (requests ++ take (f.len + f.body) buffer ∷ []) (splits_closed s rest left requests buffer f on first c k fits few)
-      | false ↦ λ c. splits_begin s (prepend_known (drop (f.len + f.body) buffer) left) (requests ++ take (f.len + f.body) buffer ∷ []) (splits_more s rest left requests buffer f on first c k fits) (omega (arith, length_snoc requests (take (f.len + f.body) buffer)))
+      | false ↦ λ c. splits_begin s (prepend_known (drop (f.len + f.body) buffer) left) (requests ++ take (f.len + f.body) buffer ∷ [])
+          (splits_more s rest left requests buffer f on first c k fits) (omega (arith, length_snoc requests (take (f.len + f.body) buffer)))
     ] refl
 
-pub splits_goes_on : (s rest : Option (List ℕ)) (requests : List (List ℕ)) (f : HeadFacts) → SplitsOn s rest requests → IfSome rest (λ r. FindsHead r (Ok f)) → length requests < 1000 → IfSome s (λ x. BeginsAndGoesOn x requests)
+pub splits_goes_on : (s rest : Option (List ℕ)) (requests : List (List ℕ)) (f : HeadFacts) → SplitsOn s rest requests → IfSome rest (λ r. FindsHead r (Ok f))
+    → length requests < 1000 → IfSome s (λ x. BeginsAndGoesOn x requests)
 splits_goes_on None rest requests f on first few = tt
 splits_goes_on (Some s) None requests f on first few = absurd on
 splits_goes_on (Some s) (Some r) requests f on first few =
     let n : ℕ = f.len + f.body in
     (take n r, drop n r, f.closes, subst (λ (x : List ℕ). PassesOver s requests x) (sym (take-append-drop n r)) on, front_request r f f.closes refl first, few)
 
-pub splits_ending : (s rest : Option (List ℕ)) (requests : List (List ℕ)) (ending : Ending) → SplitsOn s rest requests → IfSome rest (λ r. StopsAt ending (length requests) r) → IfSome s (λ x. Splits x requests ending)
+pub splits_ending : (s rest : Option (List ℕ)) (requests : List (List ℕ)) (ending : Ending) → SplitsOn s rest requests
+    → IfSome rest (λ r. StopsAt ending (length requests) r) → IfSome s (λ x. Splits x requests ending)
 splits_ending None rest requests ending on first = tt
 splits_ending (Some s) None requests ending on first = absurd on
 splits_ending (Some s) (Some r) requests ending on first = inl (r, on, first)
@@ -98,7 +121,8 @@ pub stops_cut : (rest : Option (List ℕ)) (n : ℕ) → n < 1000 → IfSome res
 stops_cut None n few x = tt
 stops_cut (Some r) n few x = (few, x)
 
-pub stops_fault : (rest : Option (List ℕ)) (n : ℕ) (f : HeadFault) → n < 1000 → IfSome rest (λ r. FindsRest r (Faulty f)) → IfSome rest (λ r. StopsAt (faulted f) n r)
+pub stops_fault : (rest : Option (List ℕ)) (n : ℕ) (f : HeadFault) → n < 1000 → IfSome rest (λ r. FindsRest r (Faulty f))
+    → IfSome rest (λ r. StopsAt (faulted f) n r)
 stops_fault None n f few x = tt
 stops_fault (Some r) n f few x = (few, x)
 
@@ -107,7 +131,8 @@ stops_limit None n many = tt
 stops_limit (Some r) n many = many
 
 -- more may be taken behind the requests that were taken
-pub splits_under_way : (s rest : Option (List ℕ)) (requests : List (List ℕ)) → SplitsOn s rest requests → length requests < 1000 → IfSome s (λ x. IsUnderWay x requests)
+pub splits_under_way : (s rest : Option (List ℕ)) (requests : List (List ℕ)) → SplitsOn s rest requests → length requests < 1000
+    → IfSome s (λ x. IsUnderWay x requests)
 splits_under_way None rest requests on few = tt
 splits_under_way (Some s) None requests on few = absurd on
 splits_under_way (Some s) (Some r) requests on few = (r, on, few)

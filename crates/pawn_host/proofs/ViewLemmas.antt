@@ -1,13 +1,13 @@
 -- A view that was written into memory, and told.
-use Rattle.pawn_host.proofs.Basics.{◌≡◌, ℕ, List, Result, Ok, Err, inl, inr, refl, ap, Refusal, Refuses, Request, SaysRequest, Stamp, ViewFault, host_step, Answer, GoesTo, IsActed, Kept, Start, Tells, TellsView, answer_bytes}
-use Rattle.pawn_host.proofs.RunLemmas.{acted_memory, acted_refused}
+use Rattle.{std.proofs.Common.{◌≡◌, ℕ, List, Result, Ok, Err, inl, inr, refl, ap}, pawn_host.specs.Common.{Refusal, Refuses, Request, SaysRequest, Stamp}}
+use Rattle.pawn_host.specs.{Common.{ViewFault, host_step}, declared.service.Answer.Answer, Keeps.{GoesTo, IsActed, Kept, Start, Tells, answer_bytes}}
+use Rattle.pawn_host.{specs.Views.TellsView, proofs.RunLemmas.{acted_memory, acted_refused}}
 
 -- what is answered, if a text that was written whole is the step's, and one of which there is nothing to show is refused
-pub view_acted : (start : Start) (stamp : Stamp) (bytes : List ℕ) (answer : Answer) (kept : Kept) (request : Request) (unknown : Refusal) (told : List ℕ) (shown : Result (Unit {0}) ViewFault)
-    → SaysRequest bytes (Ok request) → TellsView answer shown told unknown → GoesTo kept start.host start.leaves → (unknown ≡ Refusal.Store → ⊥)
-    → ((u : Unit {0}) → shown ≡ Ok u → Tells answer told → IsActed start stamp bytes (answer_bytes answer) kept)
-    → (shown ≡ Err ViewFault.Unknown → host_step start.host start.operator stamp request ≡ Refuses unknown)
-    → (start.Steady → shown ≡ Err ViewFault.Store → ⊥)
+pub view_acted : (start : Start) (stamp : Stamp) (bytes : List ℕ) (answer : Answer) (kept : Kept) (request : Request) (unknown : Refusal) (told : List ℕ)
+    (shown : Result (Unit {0}) ViewFault) → SaysRequest bytes (Ok request) → TellsView answer shown told unknown → GoesTo kept start.host start.leaves
+    → (unknown ≡ Refusal.Store → ⊥) → ((u : Unit {0}) → shown ≡ Ok u → Tells answer told → IsActed start stamp bytes (answer_bytes answer) kept)
+    → (shown ≡ Err ViewFault.Unknown → host_step start.host start.operator stamp request ≡ Refuses unknown) → (start.Steady → shown ≡ Err ViewFault.Store → ⊥)
     → IsActed start stamp bytes (answer_bytes answer) kept
 view_acted start stamp bytes answer kept request unknown told (Ok u) read tells goes other whole none calm = whole u refl tells
 view_acted start stamp bytes answer kept request unknown told (Err ViewFault.Unknown) read tells goes other whole none calm =

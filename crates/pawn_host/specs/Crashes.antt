@@ -1,7 +1,7 @@
 -- What a crash may leave after a run.
 use Rattle.std.specs.Prelude.{◌≡◌, ◌⊎◌, ◌++◌, ℕ, List, [], ◌∷◌, slice_get, Some, Ok, Err}
-use Rattle.pawn_host.specs.Common.{Host, IsLeftByStep, Keeping, Mark, Request, SaysRequest, Stamp, WireFault, host_after_event, host_step, next_host, no_memory, no_store, read_as}
-use Rattle.pawn_host.specs.Run.{Item, event_of, host_after_run}
+use Rattle.pawn_host.specs.Common.{Host, Keeping, Mark, Request, SaysRequest, Stamp, WireFault, host_after_event, host_step, no_memory, no_store, read_as}
+use Rattle.{pawn_host.specs.Run.{Item, event_of, host_after_run}, pawn_book.specs.Plans.{IsLeftByStep, next_host}}
 
 -- the host once the request in these bytes is done
 abbrev pub IsDone : Host → ℕ → Stamp → List ℕ → Host → Type 0

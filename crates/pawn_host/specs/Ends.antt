@@ -1,6 +1,5 @@
 -- What contracts say of a `Reading`.
-use Rattle.std.specs.Prelude.{ℕ, Bool, List, Option}
-use Rattle.pawn_host.specs.Types.{Reading}
+use Rattle.{std.specs.Prelude.{ℕ, Bool, List, Option}, pawn_host.specs.declared.reading.Reading.Reading}
 
 -- the reader inside
 abbrev pub reading_inner : {R : Type 0} → Reading R → R

@@ -1,9 +1,8 @@
 -- What the functions below a session find.
-use Rattle.pawn_host.specs.Limits.{most_reads}
 use Rattle.std.specs.Prelude.{◌≡◌, ℕ, ◌+◌, ◌<◌, ◌≤◌, Bool, true, false, List, [], ◌∷◌, ◌++◌, length, Option, Result, Ok, Err, IfOk}
-use Rattle.pawn_host.specs.Common.{Consumes, HeadFacts, IsAtEnd, IsHead, Keeps, ReadsHead, RequestHead, concat}
-use Rattle.pawn_host.specs.Split.{IsCut, HasFault, HasNoWhole}
-use Rattle.pawn_host.specs.Types.{AtEnd, Cause, CutOff, Faulty, Filled, NoMemory, Read, Reads, Rest, Stopped, Write}
+use Rattle.pawn_host.specs.{Limits.most_reads, Common.{Consumes, HeadFacts, IsAtEnd, IsHead, Keeps, ReadsHead, RequestHead, concat}, Split.{IsCut, HasFault}}
+use Rattle.pawn_host.specs.{Split.HasNoWhole, declared.session.{Rest.TheVariants.{AtEnd, CutOff, Faulty, NoMemory, Stopped}, Cause.Cause, Filled.Filled}}
+use Rattle.pawn_host.specs.declared.session.{Cause.TheVariants.{Read, Reads, Write}, Rest.Rest}
 
 -- what a read did to the reader and the buffer
 abbrev pub IsFilled : Filled → Option (List ℕ) → Option (List ℕ) → List ℕ → List ℕ → Type 0

@@ -1,9 +1,8 @@
 -- The headline: each answer is what a plain machine gives that is fed one slot's trace alone.
 use Rattle.std.specs.Prelude.{◌≡◌, ◌≢◌, ℕ, List, true, Some, Ok, slice_get, take}
-use Rattle.pawn_host.specs.Common.{Answered, Bearer, BearerRequest, Denied, Host, Out, Receipt, Request, SaysRequest, Stamp, book_trace, get, is_slots, reply_alone, slot_trace, solo_reply}
+use Rattle.pawn_host.specs.Common.{Answered, Bearer, BearerRequest, Denied, Host, Out, Receipt, Request, SaysRequest, Stamp, book_trace, get, is_slots}
+use Rattle.pawn_host.specs.{Common.{reply_alone, slot_trace, solo_reply}, Run.{Item, events, said_text}, Keeps.{Start, Kept, IsRun}}
 use Rattle.pawn_book.specs.declared.refusal.Refusal.TheVariants.{Full, Memory, Store}
-use Rattle.pawn_host.specs.Run.{Item, events, said_text}
-use Rattle.pawn_host.specs.Keeps.{Start, Kept, IsRun}
 
 -- the bytes of a reply
 abbrev pub reply_bytes : Out → List ℕ
@@ -18,7 +17,8 @@ abbrev pub BookAnswersAlone : Host → ℕ → List Item → Item → List ℕ �
 BookAnswersAlone h operator before item answer =
     (request : Request)
     → SaysRequest item.bytes (Ok request) → IsSettled answer
-    → answer ≡ reply_bytes (reply_alone (get h.books request.book) operator request.book (book_trace request.book h operator (events before)) item.stamp request.caller)
+    → answer ≡ reply_bytes
+    (reply_alone (get h.books request.book) operator request.book (book_trace request.book h operator (events before)) item.stamp request.caller)
 
 -- a bearer's request on book b
 abbrev pub by_bearer : ℕ → BearerRequest → Request

@@ -1,9 +1,8 @@
 -- What contracts say of a service and its answers.
 use Rattle.std.specs.Prelude.{◌≡◌, ℕ, List, Some, Ok, map, All}
-use Rattle.pawn_host.specs.Common.{BookValue, GoesOn, Host, IsSound, Keeping, Mark, OfHost, Request, SaysRequest, Stamp, WireFault, get, host_after_mark, mark_reply, memory_text}
-use Rattle.pawn_host.specs.Types.{Answer, Service}
-use Rattle.pawn_host.specs.Run.{Item, IsMarkOf, IsMarked, input_of, said_text, host_after_run, replies}
-use Rattle.pawn_host.specs.Crashes.{IsLeftByMark, IsLeftByRun}
+use Rattle.pawn_host.specs.Common.{BookValue, GoesOn, Host, IsSound, Keeping, Mark, OfHost, Request, SaysRequest, Stamp, WireFault, get, host_after_mark}
+use Rattle.pawn_host.specs.{Common.{mark_reply, memory_text}, declared.service.{Answer.Answer, Service.Service}, Run.{Item, IsMarkOf, IsMarked, input_of}}
+use Rattle.pawn_host.specs.{Run.{said_text, host_after_run, replies}, Crashes.{IsLeftByMark, IsLeftByRun}}
 
 abbrev pub service_keep : {K : Type 0} → Service K → K
 service_keep s = s.keep

@@ -1,10 +1,10 @@
 -- Laws of the split, of runs, and of the slots in them.
 use Rattle.std.specs.Prelude.{◌≡◌, ℕ, ◌<◌, ◌≤◌, ◌⊎◌, All, Bool, true, List, [], ◌∷◌, ◌++◌, Some, Ok, length, map, slice_get, take}
-use Rattle.pawn_host.specs.Common.{BadHead, BearerRequest, EndsInTarget, HasNoRequest, HeadFault, Host, Mark, ReadsRequest, Receipt, Request, RequestHead, SaysRequest, WireFault, book_trace, concat, get, is_slots, max_fields, max_head, no_memory, no_store, read_as, slot_trace}
-use Rattle.httparse.specs.Spans.{RequestOverflows}
-use Rattle.pawn_host.specs.Split.{Ending, cut, faulted, most_requests, IsCutHead, IsRequest, HasFault, PassesOver, ClosesAfter, StopsAt, Splits, Begins, BeginsAndGoesOn, IsWanting}
-use Rattle.pawn_host.specs.Run.{Item, IsMarked, input_of, events, host_after_run, replies}
-use Rattle.pawn_host.specs.Headline.{AnswerAlone, IsSettled, by_bearer}
+use Rattle.{pawn_wire.specs.declared.fault.HeadFault.TheVariants.BadHead, pawn_host.specs.Common.{BearerRequest, EndsInTarget, HasNoRequest, HeadFault, Host}}
+use Rattle.pawn_host.specs.Common.{Mark, ReadsRequest, Receipt, Request, RequestHead, SaysRequest, WireFault, book_trace, concat, get, is_slots, max_fields}
+use Rattle.pawn_host.specs.{Common.{max_head, no_memory, no_store, read_as, slot_trace}, Split.{Ending, cut, faulted, most_requests, IsCutHead, IsRequest}}
+use Rattle.pawn_host.specs.{Split.{HasFault, PassesOver, ClosesAfter, StopsAt, Splits, Begins, BeginsAndGoesOn, IsWanting}, Run.{Item, IsMarked, input_of}}
+use Rattle.{pawn_host.specs.{Run.{events, host_after_run, replies}, Headline.{AnswerAlone, IsSettled, by_bearer}}, httparse.specs.Spans.RequestOverflows}
 
 -- the rest is the beginning of a head, but no head with so few fields as are allowed can come of it
 abbrev pub IsOpen : List ℕ → Type 0

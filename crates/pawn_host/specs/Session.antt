@@ -1,10 +1,9 @@
 -- What a session over a reader and a writer did.
 use Rattle.std.specs.Prelude.{◌≡◌, ◌≢◌, ℕ, ◌+◌, ◌<◌, ◌≤◌, ◌⊎◌, All, Bool, true, false, List, [], ◌++◌, length, take, map, Option, None, IfSome, Result, Ok, Err}
-use Rattle.pawn_host.specs.Common.{Appends, Consumes, HeadFault, Stamp, Yields, concat, fault_text, memory_text, wire_fault}
-use Rattle.pawn_host.specs.Split.{at_end, cut, closed, faulted, at_limit, Splits, Begins, BeginsAndGoesOn, IsUnderWay, AreWanted, most_requests}
-use Rattle.pawn_host.specs.Keeps.{Start, Kept, GoesBy, replies_by}
-use Rattle.pawn_host.specs.Types.{AtEnd, Cause, CutOff, Ended, Faulty, IoFault, NoMemory, Read, Reads, Rest, SessionEnd, Stopped, Write}
-use Rattle.pawn_host.specs.Run.{Item, IsMarked}
+use Rattle.pawn_host.specs.{Common.{Appends, Consumes, HeadFault, Stamp, Yields, concat, fault_text, memory_text, wire_fault}, Split.{at_end, cut, closed}}
+use Rattle.pawn_host.specs.{Split.{faulted, at_limit, Splits, Begins, BeginsAndGoesOn, IsUnderWay, AreWanted, most_requests}, Keeps.{Start, Kept, GoesBy}}
+use Rattle.pawn_host.specs.{Keeps.replies_by, declared.session.{Rest.TheVariants.{AtEnd, CutOff, Faulty, NoMemory, Stopped}, Cause.Cause, Ended.Ended}}
+use Rattle.pawn_host.specs.{declared.session.{IoFault.IoFault, Cause.TheVariants.{Read, Reads, Write}, Rest.Rest, SessionEnd.SessionEnd}, Run.{Item, IsMarked}}
 
 abbrev pub stamps_of : List Item → List Stamp
 stamps_of items = map (λ i. i.stamp) items

@@ -1,9 +1,7 @@
 -- Shards in bytes: each request of a stream is handed to the shard of its book, and answered there as by one host.
 use Rattle.std.specs.Prelude.{◌≡◌, ℕ, ◌⊎◌, All, List, [], ◌∷◌, map, Some, Ok, slice_get, take}
-use Rattle.pawn_host.specs.Common.{Host, Request, SaysRequest, Stamp, book_trace, concat, get}
-use Rattle.pawn_host.specs.Split.{PassesOver}
-use Rattle.pawn_host.specs.Run.{Item, IsMarked, input_of, events, replies}
-use Rattle.pawn_host.specs.Headline.{IsSettled}
+use Rattle.pawn_host.specs.{Common.{Host, Request, SaysRequest, Stamp, book_trace, concat, get}, Split.PassesOver, Run.{Item, IsMarked, input_of, events}}
+use Rattle.pawn_host.specs.{Run.replies, Headline.IsSettled}
 
 -- the bytes are a request on a book of shard k
 abbrev pub IsFor : (ℕ → ℕ) → ℕ → List ℕ → Type 0

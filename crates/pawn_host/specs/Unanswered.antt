@@ -1,6 +1,5 @@
 -- What contracts say of the bytes that were read of a stream.
-use Rattle.std.specs.Prelude.{ℕ, List, drop}
-use Rattle.pawn_host.specs.Types.{Buffer}
+use Rattle.{std.specs.Prelude.{ℕ, List, drop}, pawn_host.specs.declared.buffer.Buffer.Buffer}
 
 -- the bytes that were read and are not answered yet
 abbrev pub unanswered : Buffer → List ℕ

@@ -1,9 +1,9 @@
 -- What the holder of a book's key may ask to see, and how it is answered.
 use Rattle.std.specs.Prelude.{◌≡◌, ℕ, List, Result, Ok, Err}
-use Rattle.pawn_host.specs.Common.{Broker, BrokerRequest, Keeping, Refusal, Request, Stamp, ViewFault, out_text}
+use Rattle.pawn_host.specs.{Common.{Broker, BrokerRequest, Keeping, Refusal, Request, Stamp, ViewFault, out_text}, declared.service.Answer.Answer}
+use Rattle.pawn_host.specs.{declared.service.{View.{TheVariants.{Pledge, Rows, Sheet}, View}, Service.Service}, Keeps.{Answers, IsKeyOf, Serves, Tells}}
+use Rattle.pawn_host.specs.Keeps.{answer_bytes}
 use Rattle.pawn_wire.specs.declared.reply.Out.TheVariants as wire
-use Rattle.pawn_host.specs.Types.{Answer, Pledge, Rows, Service, Sheet, View}
-use Rattle.pawn_host.specs.Keeps.{Answers, IsKeyOf, Serves, Tells, answer_bytes}
 
 -- the request for a view
 abbrev pub view_asked : View → BrokerRequest
@@ -18,7 +18,8 @@ ServesRequest k old new stamp request answer = Serves k old new (λ start. Answe
 -- a call of the service answers what was asked of a book, if its key was given
 abbrev pub ServesHolder : {K : Type 0} → Keeping K → Service K → Service K → Stamp → ℕ → ℕ → BrokerRequest → Answer → Type 0
 ServesHolder k old new stamp book key asked answer =
-    Serves k old new (λ start kept. IsKeyOf start.host book key → Answers start stamp (record { book = book; caller = Broker key asked }) (answer_bytes answer) kept)
+    Serves k old new
+    (λ start kept. IsKeyOf start.host book key → Answers start stamp (record { book = book; caller = Broker key asked }) (answer_bytes answer) kept)
 
 -- The answer to a view. It is the text if that was written whole, this refusal if there is nothing to show, or that the
 -- store failed. In all other cases, and in place of any of these, it may be that memory was refused.

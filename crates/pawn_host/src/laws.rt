@@ -1,5 +1,7 @@
 //! Laws of the definitions.
-ghost use Rattle.pawn_host.specs.Sessions.{CrashLeavesWhole, CrashesJoin, EqualBookTracesReplyAlike, EqualTracesReplyAlike, FaultIsExact, HandedSplits, ItemsAreUnique, NothingIsWanted, OpenEnds, RequestsArePlaced, RunReadsEvents, RunsAnswerAlone, RunsJoin, ShardsReplyAsOne, SplitBegins, SplitEndsEarly, SplitIsFront, SplitIsUnique};
+ghost use Rattle.pawn_host.specs.{Crashes.{CrashLeavesWhole, CrashesJoin}, Laws.{EqualBookTracesReplyAlike, EqualTracesReplyAlike, FaultIsExact}};
+ghost use Rattle.pawn_host.specs.Laws.{ItemsAreUnique, NothingIsWanted, OpenEnds, RunReadsEvents, RunsAnswerAlone, RunsJoin, SplitBegins, SplitEndsEarly};
+ghost use Rattle.pawn_host.specs.{Laws.{SplitIsFront, SplitIsUnique}, Shards.{HandedSplits, RequestsArePlaced, ShardsReplyAsOne}};
 
 use pawn_book::Keep;
 

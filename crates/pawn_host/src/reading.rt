@@ -1,8 +1,6 @@
 //! A reader whose reads are counted.
-ghost use Rattle.std.specs.Prelude.{◌≡◌, ◌+◌, ◌<◌, ◌≤◌, true, false, is_err, ◌||◌};
-ghost use Rattle.std.specs.Io.{ReadsAtMost};
+ghost use Rattle.std.specs.{Prelude.{◌≡◌, ◌+◌, ◌<◌, ◌≤◌, true, false, is_err, ◌||◌}, Io.{ReadsAtMost, KnownBytes.ReadConsumes}};
 ghost use Rattle.pawn_host.specs.Limits.{most_reads};
-ghost use Rattle.std.specs.Io.KnownBytes.{ReadConsumes};
 
 use crate::limits::MOST_READS;
 use std::io;
@@ -58,8 +56,7 @@ impl<R: Read> Reading<R> {
     pub fn read(&mut self, buf: &mut [u8]) -> io::Result<usize>
         requires few { reads self.old < MOST_READS }
         ensures bound { ReadsAtMost result buf.new }
-        ensures bytes { ReadConsumes (left_of R.remaining self.old)
-            (left_of R.remaining self.new) result buf.new }
+        ensures bytes { ReadConsumes (left_of R.remaining self.old) (left_of R.remaining self.new) result buf.new }
         ensures counted { reads self.new ≡ reads self.old + 1 }
         ensures failed { read_failed self.new ≡ (read_failed self.old || is_err result) }
     {

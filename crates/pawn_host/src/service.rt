@@ -1,7 +1,8 @@
 //! The service over a keeper: one request, or a list of them.
 ghost use Rattle.std.specs.Prelude.{◌≡◌, IfOk, OnErr, map};
-ghost use Rattle.pawn_host.specs.Common.{Bearer, Broker, Export, IsWritten, Present, SheetOf, Show, out_text};
-ghost use Rattle.pawn_host.specs.Sessions.{IsActed, IsRun, IsRunOfSlots, Serves, ServesHolder, ServesRequest, StaysOpen, Tells, TellsView, answer_bytes, service_keep, service_operator, view_asked};
+ghost use Rattle.pawn_host.specs.{Common.{Bearer, Broker, Export, Present, SheetOf, Show, out_text}, Keeps.{IsActed, IsRun, Serves, StaysOpen, Tells}};
+ghost use Rattle.pawn_host.specs.{Keeps.{answer_bytes, service_keep, service_operator}, Headline.IsRunOfSlots, Views.{ServesHolder, ServesRequest, TellsView}};
+ghost use Rattle.{pawn_host.specs.Views.view_asked, pawn_book.specs.Plans.IsWritten};
 
 use pawn_book::{
     BearerRequest, BrokerRequest, Caller, Keep, Number, Receipts, Refusal, Request, RequestDay,
@@ -92,8 +93,7 @@ impl<K: Keep> Service<K> {
     // Shows a bearer the pledges of these receipts. The text goes into memory first, because its length is in the head.
     fn show_receipts(&mut self, stamp: &Stamp, book: Number, receipts: &Receipts) -> Answer
         ensures stays { StaysOpen K.keeping self.old self.new }
-        ensures acted { ServesRequest K.keeping self.old self.new stamp.now
-            (record { book = book; caller = Bearer (Present receipts.now) }) result }
+        ensures acted { ServesRequest K.keeping self.old self.new stamp.now (record { book = book; caller = Bearer (Present receipts.now) }) result }
     {
         let mut writer = Writing::new(Vec::new(self.alloc));
         let day = stamp.day.day();
@@ -105,8 +105,7 @@ impl<K: Keep> Service<K> {
     // Checks the key of a book, and shows its holder what was asked for.
     fn gate_and_show(&mut self, stamp: &Stamp, book: Number, key: Secret, view: View) -> Answer
         ensures stays { StaysOpen K.keeping self.old self.new }
-        ensures acted { ServesRequest K.keeping self.old self.new stamp.now
-            (record { book = book; caller = Broker key (view_asked view) }) result }
+        ensures acted { ServesRequest K.keeping self.old self.new stamp.now (record { book = book; caller = Broker key (view_asked view) }) result }
     {
         match gate(&mut self.keep, book, key) {
             Err(refusal) => return tell(self.alloc, &Out::Refused(refusal)),
@@ -221,8 +220,7 @@ impl<K: Keep> Service<K> {
     /// Answers bytes that should be one whole request. If they are not, the answer says which fault they have.
     pub fn answer_one(&mut self, stamp: &Stamp, bytes: &[u8]) -> Answer
         ensures stays { StaysOpen K.keeping self.old self.new }
-        ensures acted { Serves K.keeping self.old self.new
-            (λ start. IsActed start stamp.now bytes.now (answer_bytes result)) }
+        ensures acted { Serves K.keeping self.old self.new (λ start. IsActed start stamp.now bytes.now (answer_bytes result)) }
     {
         let request = match read_request(self.alloc, &self.router, bytes) {
             Ok(request) => request,
@@ -240,11 +238,9 @@ impl<K: Keep> Service<K> {
     pub fn run(&mut self, items: &[(Stamp, Vec<u8>)]) -> Result<Vec<Answer>, AllocError>
         ensures stays { StaysOpen K.keeping self.old self.new }
         ensures run { IfOk result (λ answers. Serves K.keeping self.old self.new
-            (λ start. IsRun start (map (λ p. (p.0, p.1.items)) items.now)
-            (map answer_bytes answers.items))) }
+            (λ start. IsRun start (map (λ p. (p.0, p.1.items)) items.now) (map answer_bytes answers.items))) }
         ensures headline { IfOk result (λ answers. Serves K.keeping self.old self.new
-            (λ start. IsRunOfSlots start (map (λ p. (p.0, p.1.items)) items.now)
-            (map answer_bytes answers.items))) }
+            (λ start. IsRunOfSlots start (map (λ p. (p.0, p.1.items)) items.now) (map answer_bytes answers.items))) }
         ensures err { OnErr result (self.new ≡ self.old) }
     {
         let mut answers = Vec::with_capacity(self.alloc, items.len())?;

@@ -1,8 +1,9 @@
 //! One connection: requests are read, answered and their replies written, one after the other.
 ghost use Rattle.std.specs.Prelude.{◌≡◌, ◌+◌, ◌≤◌, IfSome, IfOk, IfErr, OnOk, length, ◌*◌, ◌^◌, false};
-ghost use Rattle.pawn_host.specs.Common.{Keeps, prepend_known, write_failed, written_bytes};
-ghost use Rattle.pawn_host.specs.Limits.{most_request_bytes};
-ghost use Rattle.pawn_host.specs.Sessions.{AreTaken, FilledBy, FindsHead, FindsRest, HasHead, IsCausedBy, IsFetched, IsFilled, IsFinished, IsOver, IsReadWhileWanted, IsSession, IsWithinMost, Serves, StaysOpen, StopsBy, answer_bytes, left_of, read_failed, reads, unanswered};
+ghost use Rattle.pawn_host.specs.{Common.{Keeps, prepend_known, write_failed, written_bytes}, Limits.most_request_bytes, Session.{AreTaken, IsFinished}};
+ghost use Rattle.pawn_host.specs.{Session.{IsOver, IsReadWhileWanted, IsSession, IsWithinMost}, Finding.{FilledBy, FindsHead, FindsRest, HasHead, IsCausedBy}};
+ghost use Rattle.pawn_host.specs.{Finding.{IsFetched, IsFilled, StopsBy}, Keeps.{Serves, StaysOpen, answer_bytes}, Ends.{left_of, read_failed, reads}};
+ghost use Rattle.pawn_host.specs.Unanswered.{unanswered};
 
 use crate::buffer::Buffer;
 use crate::limits::{MOST_READS, MOST_REQUESTS};
@@ -84,10 +85,8 @@ enum Rest {
 // Makes one read, and adds what came to the buffer. After the last read that is allowed none is made to see whether
 // the stream has ended: only one more would show it.
 fn fill<R: Read>(reader: &mut Reading<R>, buffer: &mut Buffer) -> Filled
-    ensures filled { IsFilled result (left_of R.remaining reader.old)
-        (left_of R.remaining reader.new) (unanswered buffer.old) (unanswered buffer.new) }
-    ensures by { FilledBy result (read_failed reader.old) (read_failed reader.new)
-        (reads reader.old) (reads reader.new) }
+    ensures filled { IsFilled result (left_of R.remaining reader.old) (left_of R.remaining reader.new) (unanswered buffer.old) (unanswered buffer.new) }
+    ensures by { FilledBy result (read_failed reader.old) (read_failed reader.new) (reads reader.old) (reads reader.new) }
 {
     if reader.reads() >= MOST_READS {
         return Filled::OutOfReads;
@@ -109,16 +108,12 @@ fn fill<R: Read>(reader: &mut Reading<R>, buffer: &mut Buffer) -> Filled
 fn await_head<R: Read>(reader: &mut Reading<R>, buffer: &mut Buffer) -> Result<HeadFacts, Rest>
     ensures head { IfOk result (HasHead (unanswered buffer.new)) }
     ensures small { IfOk result (λ h. h.len + h.body ≤ most_request_bytes) }
-    ensures kept { IfOk result (λ _. Keeps
-        (prepend_known (unanswered buffer.old) (left_of R.remaining reader.old))
+    ensures kept { IfOk result (λ _. Keeps (prepend_known (unanswered buffer.old) (left_of R.remaining reader.old))
         (prepend_known (unanswered buffer.new) (left_of R.remaining reader.new))) }
-    ensures rest { IfSome (prepend_known (unanswered buffer.old) (left_of R.remaining reader.old))
-        (λ s. IfErr result (FindsRest s)) }
-    ensures stops { StopsBy result (read_failed reader.old) (read_failed reader.new)
-        (reads reader.new) }
+    ensures rest { IfSome (prepend_known (unanswered buffer.old) (left_of R.remaining reader.old)) (λ s. IfErr result (FindsRest s)) }
+    ensures stops { StopsBy result (read_failed reader.old) (read_failed reader.new) (reads reader.new) }
     ensures fetched { IsFetched result (unanswered buffer.old) (unanswered buffer.new)
-        (left_of R.remaining reader.old) (left_of R.remaining reader.new) (reads reader.old)
-        (reads reader.new) }
+        (left_of R.remaining reader.old) (left_of R.remaining reader.new) (reads reader.old) (reads reader.new) }
 {
     loop {
         match read_head(buffer.as_slice()) {
@@ -161,16 +156,12 @@ fn await_body<R: Read>(
     ensures head { IfOk result (HasHead (unanswered buffer.new)) }
     ensures small { IfOk result (λ h. h.len + h.body ≤ most_request_bytes) }
     ensures buffered { IfOk result (λ h. h.len + h.body ≤ length (unanswered buffer.new)) }
-    ensures kept { IfOk result (λ _. Keeps
-        (prepend_known (unanswered buffer.old) (left_of R.remaining reader.old))
+    ensures kept { IfOk result (λ _. Keeps (prepend_known (unanswered buffer.old) (left_of R.remaining reader.old))
         (prepend_known (unanswered buffer.new) (left_of R.remaining reader.new))) }
-    ensures found { IfSome (prepend_known (unanswered buffer.old) (left_of R.remaining reader.old))
-        (λ s. FindsHead s result) }
-    ensures stops { StopsBy result (read_failed reader.old) (read_failed reader.new)
-        (reads reader.new) }
+    ensures found { IfSome (prepend_known (unanswered buffer.old) (left_of R.remaining reader.old)) (λ s. FindsHead s result) }
+    ensures stops { StopsBy result (read_failed reader.old) (read_failed reader.new) (reads reader.new) }
     ensures fetched { IsFetched result (unanswered buffer.old) (unanswered buffer.new)
-        (left_of R.remaining reader.old) (left_of R.remaining reader.new) (reads reader.old)
-        (reads reader.new) }
+        (left_of R.remaining reader.old) (left_of R.remaining reader.new) (reads reader.old) (reads reader.new) }
 {
     let needed = request_len(&head);
     while buffer.as_slice().len() < needed {
@@ -190,16 +181,12 @@ fn next_request<R: Read>(reader: &mut Reading<R>, buffer: &mut Buffer) -> Result
     ensures head { IfOk result (HasHead (unanswered buffer.new)) }
     ensures small { IfOk result (λ h. h.len + h.body ≤ most_request_bytes) }
     ensures buffered { IfOk result (λ h. h.len + h.body ≤ length (unanswered buffer.new)) }
-    ensures kept { IfOk result (λ _. Keeps
-        (prepend_known (unanswered buffer.old) (left_of R.remaining reader.old))
+    ensures kept { IfOk result (λ _. Keeps (prepend_known (unanswered buffer.old) (left_of R.remaining reader.old))
         (prepend_known (unanswered buffer.new) (left_of R.remaining reader.new))) }
-    ensures found { IfSome (prepend_known (unanswered buffer.old) (left_of R.remaining reader.old))
-        (λ s. FindsHead s result) }
-    ensures stops { StopsBy result (read_failed reader.old) (read_failed reader.new)
-        (reads reader.new) }
+    ensures found { IfSome (prepend_known (unanswered buffer.old) (left_of R.remaining reader.old)) (λ s. FindsHead s result) }
+    ensures stops { StopsBy result (read_failed reader.old) (read_failed reader.new) (reads reader.new) }
     ensures fetched { IsFetched result (unanswered buffer.old) (unanswered buffer.new)
-        (left_of R.remaining reader.old) (left_of R.remaining reader.new) (reads reader.old)
-        (reads reader.new) }
+        (left_of R.remaining reader.old) (left_of R.remaining reader.new) (reads reader.old) (reads reader.new) }
 {
     match await_head(reader, buffer) {
         Ok(head) => await_body(reader, buffer, head),
@@ -250,8 +237,7 @@ fn finish<W: Write>(
 ) -> Result<Ended, IoFault>
     requires fine { write_failed writer.old ≡ false }
     requires room { sent ≤ acted * 2 ^ 64 }
-    ensures over { IsOver rest acted sent (written_bytes W.contents writer.old)
-        (written_bytes W.contents writer.new) (write_failed writer.new) result }
+    ensures over { IsOver rest acted sent (written_bytes W.contents writer.old) (written_bytes W.contents writer.new) (write_failed writer.new) result }
 {
     match rest {
         Rest::AtEnd => write_last(writer, &[], SessionEnd::End, acted, sent),
@@ -286,22 +272,18 @@ impl<K: Keep> Service<K> {
         requires fine { write_failed writer.old ≡ false }
         requires can { I.can_next stamps.old }
         ensures stays { StaysOpen K.keeping self.old self.new }
-        ensures session { Serves K.keeping self.old self.new (λ start. IsSession I.next_gives
-            (record {
-              start = start;
-              stamps = stamps.old;
-              stream = left_of R.remaining reader.old;
-              written = written_bytes W.contents writer.old;
-            })
-            stamps.new (written_bytes W.contents writer.new) result) }
+        ensures session { Serves K.keeping self.old self.new (λ start. IsSession I.next_gives (record {
+          start = start;
+          stamps = stamps.old;
+          stream =
+              left_of R.remaining reader.old;
+          written = written_bytes W.contents writer.old;
+        }) stamps.new (written_bytes W.contents writer.new) result) }
         ensures stamps { AreTaken I.next_gives stamps.old stamps.new result }
         ensures room { IsWithinMost result }
-        ensures whole { OnOk result ((read_failed reader.new ≡ false)
-            × (write_failed writer.new ≡ false)) }
-        ensures cause { IfErr result (λ fault. IsCausedBy fault.cause (read_failed reader.new)
-            (reads reader.new) (write_failed writer.new)) }
-        ensures reads { IsReadWhileWanted (reads reader.new) (left_of R.remaining reader.old)
-            (left_of R.remaining reader.new) }
+        ensures whole { OnOk result ((read_failed reader.new ≡ false) × (write_failed writer.new ≡ false)) }
+        ensures cause { IfErr result (λ fault. IsCausedBy fault.cause (read_failed reader.new) (reads reader.new) (write_failed writer.new)) }
+        ensures reads { IsReadWhileWanted (reads reader.new) (left_of R.remaining reader.old) (left_of R.remaining reader.new) }
     {
         let mut buffer = Buffer::new(self.alloc);
         let mut sent = 0u128;

@@ -1,5 +1,6 @@
 -- A list, handed over item by item.
-use Rattle.pawn_list_keeper.proofs.Basics.{◌≡◌, ◌∙◌, ℕ, List, [], ◌∷◌, ◌++◌, refl, sym, ap, subst, ◌<◌, ◌+◌, length, take, drop, get_or, append_assoc, take_more, Flow, Go, Handed, HandsOver, IsShare, Stop, Visits, Whole}
+use Rattle.std.proofs.Common.{◌≡◌, ◌∙◌, ℕ, List, [], ◌∷◌, ◌++◌, refl, sym, ap, subst, ◌<◌, ◌+◌, length, take, drop, get_or, append_assoc}
+use Rattle.{std.proofs.lemmas.List.take_more, pawn_list_keeper.specs.Common.{Flow, Go, Handed, HandsOver, IsShare, Stop, Visits, Whole}}
 use Rattle.pawn_book.proofs.VisitLemmas.{cut_at, handed-snoc}
 
 -- nothing is handed over

@@ -1,4 +1,3 @@
-pub mod Basics
 pub mod PledgePlaces
 pub mod HandLemmas
 pub mod PartLemmas

@@ -1,5 +1,6 @@
 -- What a list of books tells of its host.
-use Rattle.pawn_list_keeper.proofs.Basics.{◌≡◌, ◌∙◌, ℕ, ap, sym, subst, BookValue, Host, IsNextBook, None, Option, Reads, Some, get, Books, IsLeastAbove, book_at, host_of, list_keeping}
+use Rattle.{std.{proofs.Common.{◌≡◌, ◌∙◌, ℕ, ap, sym, subst, None, Option, Some}, specs.FinMap.get}, pawn_list_keeper.specs.Common.{BookValue, Host}}
+use Rattle.pawn_list_keeper.specs.{Common.{IsNextBook, Reads}, Books.Books, Listed.{IsLeastAbove, book_at, host_of, list_keeping}}
 use Rattle.pawn_list_keeper.proofs.ListReads.{get-book_at}
 
 -- a read tells what is so of the list's host
@@ -18,11 +19,10 @@ book_read k v b is = sym (get-book_at k.books b) ∙ ap (λ (o : Books). get (ho
 
 -- the least number above one, as the host has it
 pub next_read : (k v : Books) (after : ℕ) (next : Option ℕ) → k ≡ v → IsLeastAbove k.books after next → IsNextBook (host_of v) after next
-next_read k v after next is least = subst (λ (o : Books). IsNextBook (host_of o) after next) is (from next least)
-  where
-    listed : (b : ℕ) (book : BookValue) → get (host_of k).books b ≡ Some book → book_at k.books b ≡ Some book
-    listed b book stands = sym (get-book_at k.books b) ∙ stands
+next_read k v after next is least = subst (λ (o : Books). IsNextBook (host_of o) after next) is (from next least) where
+  listed : (b : ℕ) (book : BookValue) → get (host_of k).books b ≡ Some book → book_at k.books b ≡ Some book
+  listed b book stands = sym (get-book_at k.books b) ∙ stands
 
-    from : (o : Option ℕ) → IsLeastAbove k.books after o → IsNextBook (host_of k) after o
-    from None none = λ b book stands. none b book (listed b book stands)
-    from (Some n) least = (least.0, (least.1.0, get-book_at k.books n ∙ least.1.1), λ b book stands. least.2 b book (listed b book stands))
+  from : (o : Option ℕ) → IsLeastAbove k.books after o → IsNextBook (host_of k) after o
+  from None none = λ b book stands. none b book (listed b book stands)
+  from (Some n) least = (least.0, (least.1.0, get-book_at k.books n ∙ least.1.1), λ b book stands. least.2 b book (listed b book stands))

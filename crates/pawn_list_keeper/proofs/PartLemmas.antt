@@ -1,8 +1,9 @@
 -- The items of a day's sheet, part by part and window by window.
-use Rattle.pawn_list_keeper.proofs.Basics.{◌≡◌, ◌≢◌, ◌∙◌, ℕ, ◌+◌, ◌-◌, ◌<◌, ◌≤◌, suc, List, [], ◌∷◌, ◌++◌, Option, None, Some, refl, sym, ap, subst, length, take, drop, get_or, arith, append-nil, Flow, Go, HandsOver, PledgeValue, SheetItem, Stop, cond, cons_option, count_by, filter_map, flat_map, is_some, part_head, part_item, part_items, window_items, windows_below, with_head, take_more, take-append-drop, hands_one, hands_stop, hands_then, windows_begin, windows_more}
-use Rattle.std.proofs.lemmas.List.Recursion.{is_count_by}
-use Rattle.pawn_book.specs.declared.sheet.Part.{Part}
-use Rattle.std.proofs.lemmas.List.Elements.{filter_map-append}
+use Rattle.std.proofs.Common.{◌≡◌, ◌≢◌, ◌∙◌, ℕ, ◌+◌, ◌-◌, ◌<◌, ◌≤◌, suc, List, [], ◌∷◌, ◌++◌, Option, None, Some, refl, sym, ap, subst, length, take, drop}
+use Rattle.std.proofs.{Common.{get_or, arith, append-nil, cond, count_by, filter_map, is_some, take-append-drop}, lemmas.List.take_more}
+use Rattle.{std.proofs.lemmas.List.{Recursion.is_count_by, Elements.filter_map-append}, pawn_list_keeper.specs.Common.{Flow, Go, HandsOver, PledgeValue}}
+use Rattle.pawn_list_keeper.specs.Common.{SheetItem, Stop, cons_option, flat_map, part_head, part_item, part_items, window_items, windows_below, with_head}
+use Rattle.pawn_book.{proofs.SheetLemmas.{hands_one, hands_stop, hands_then, windows_begin, windows_more}, specs.declared.sheet.Part.Part}
 
 -- of one element more
 pub filter_map_more : {X Y : Type 0} (h : X → Option Y) (xs : List X) (i : ℕ) (d : X) (o : Option Y) → i < length xs → h (get_or xs i d) ≡ o
@@ -12,8 +13,8 @@ filter_map_more h xs i d o less is =
 
 module _ {V X Y : Type 0} (step : V → Y → Flow → V → Type 0) (h : X → Option Y) (xs : List X) (i : ℕ) (x : X) (v u : V) where
   -- it is handed what the element gives
-  next_item : (y : Y) (flow : Flow) (w : V) → i < length xs → x ≡ get_or xs i x → h x ≡ Some y → HandsOver step v (filter_map h (take i xs)) Go u → step u y flow w
-      → HandsOver step v (filter_map h (take (i + 1) xs)) flow w
+  next_item : (y : Y) (flow : Flow) (w : V) → i < length xs → x ≡ get_or xs i x → h x ≡ Some y → HandsOver step v (filter_map h (take i xs)) Go u
+      → step u y flow w → HandsOver step v (filter_map h (take (i + 1) xs)) flow w
   next_item y flow w less is gives before here =
       subst (λ ys. HandsOver step v ys flow w) (sym (filter_map_more h xs i x (Some y) less (sym (ap h is) ∙ gives)))
       (hands_then step v u w (filter_map h (take i xs)) (y ∷ []) flow before (hands_one step u w y flow here))
@@ -27,12 +28,12 @@ module _ {V X Y : Type 0} (step : V → Y → Flow → V → Type 0) (h : X → 
   pub item_stops : (y : Y) (w : V) → i < length xs → x ≡ get_or xs i x → h x ≡ Some y → HandsOver step v (filter_map h (take i xs)) Go u → step u y Stop w
       → HandsOver step v (filter_map h xs) Stop w
   item_stops y w less is gives before here =
-      subst (λ ys. HandsOver step v ys Stop w)
-      (sym (filter_map-append h (take (i + 1) xs) (drop (i + 1) xs)) ∙ ap (filter_map h) (take-append-drop (i + 1) xs))
+      subst (λ ys. HandsOver step v ys Stop w) (sym (filter_map-append h (take (i + 1) xs) (drop (i + 1) xs)) ∙ ap (filter_map h) (take-append-drop (i + 1) xs))
       (hands_stop step v w (filter_map h (take (i + 1) xs)) (filter_map h (drop (i + 1) xs)) (next_item y Stop w less is gives before here))
 
   -- the element gives nothing
-  pub item_skips : i < length xs → x ≡ get_or xs i x → h x ≡ None → HandsOver step v (filter_map h (take i xs)) Go u → HandsOver step v (filter_map h (take (i + 1) xs)) Go u
+  pub item_skips : i < length xs → x ≡ get_or xs i x → h x ≡ None → HandsOver step v (filter_map h (take i xs)) Go u
+      → HandsOver step v (filter_map h (take (i + 1) xs)) Go u
   item_skips less is gives before =
       subst (λ ys. HandsOver step v ys Go u) (sym (filter_map_more h xs i x None less (sym (ap h is) ∙ gives) ∙ append-nil (filter_map h (take i xs)))) before
 
@@ -44,7 +45,8 @@ length-cons_option (Some y) ys = omega arith
 pub length-filter_map : {X Y : Type 0} (h : X → Option Y) (xs : List X) → length (filter_map h xs) ≡ count_by (λ x. is_some (h x)) xs
 length-filter_map h xs = is_count_by (λ ys. length (filter_map h ys)) (λ x. is_some (h x)) refl (λ x ys. length-cons_option (h x) (filter_map h ys)) xs
 
-module _ {V : Type 0} (step : V → SheetItem → Flow → V → Type 0) (v u w : V) (part : Part) (day : ℕ) (pledges : List PledgeValue) (heading : SheetItem) (count : ℕ) where
+module _ {V : Type 0} (step : V → SheetItem → Flow → V → Type 0) (v u w : V) (part : Part) (day : ℕ) (pledges : List PledgeValue) (heading : SheetItem)
+    (count : ℕ) where
   headed : heading ≡ part_head part count → count ≡ count_by (λ p. is_some (part_item part day p)) pledges
       → heading ∷ part_items part day pledges ≡ with_head part (part_items part day pledges)
   headed is counted =

@@ -1,9 +1,9 @@
 -- The host of books in a list.
 use Rattle.std.specs.Prelude.{◌≡◌, ◌≢◌, ℕ, zero, suc, ◌+◌, ◌≤◌, ◌<◌, List, [], ◌∷◌, Option, Some, None, Result, Ok, Err, length, sum_by, ◌==◌, if◌then◌else◌, ⊤}
-use Rattle.pawn_list_keeper.specs.Common.{AddTerms, AreReplayable, BookValue, Change, Full, Host, ImportBook, IsSound, Keeping, MakeBook, Memory, PledgeValue, PutPledge, Store, book_number, changed_book, from_entries, most_rows, pledge_in, pledge_rows, rows, with_change}
-use Rattle.pawn_book.specs.declared.fault.SaveError.{SaveError}
-use Rattle.pawn_list_keeper.specs.declared.kept.Kept.{Kept}
-use Rattle.pawn_list_keeper.specs.Books.{Books}
+use Rattle.std.specs.FinMap.{from_entries}
+use Rattle.pawn_list_keeper.specs.Common.{AddTerms, AreReplayable, BookValue, Change, Full, Host, ImportBook, Keeping, MakeBook, Memory, PledgeValue, PutPledge}
+use Rattle.pawn_list_keeper.specs.{Common.{Store, book_number, changed_book, most_rows, pledge_in, pledge_rows, rows, with_change}, declared.kept.Kept.Kept}
+use Rattle.{pawn_list_keeper.specs.Books.Books, pawn_book.specs.{Sound.IsSound, declared.fault.SaveError.SaveError}}
 
 -- a book of the list, with its number
 abbrev pub listed_book : Kept → ℕ × BookValue
@@ -87,4 +87,5 @@ SavesListed old change (Err (Store fault)) new = ⊥
 
 -- a list is always honest, serves and is steady, and a crash would leave what it has; it is whole where that is sound
 abbrev pub list_keeping : Keeping Books
-list_keeping = record { stands = λ k h. h ≡ host_of k; honest = λ k. ⊤; serves = λ k. ⊤; steady = λ k. ⊤; leaves = λ k h. h ≡ host_of k; whole = λ k. IsSound (host_of k) }
+list_keeping =
+    record { stands = λ k h. h ≡ host_of k; honest = λ k. ⊤; serves = λ k. ⊤; steady = λ k. ⊤; leaves = λ k h. h ≡ host_of k; whole = λ k. IsSound (host_of k) }

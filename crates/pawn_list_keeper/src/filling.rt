@@ -1,7 +1,6 @@
 //! The rows of an import, put into a book of the list.
 ghost use Rattle.std.specs.Prelude.{◌≡◌, ◌+◌, IfOk, OnErr, OnOk, Some, length, map, sum_by};
-ghost use Rattle.pawn_list_keeper.specs.Common.{AreReplayable, BookValue, Each, IsChecked, IsStanding, pledge_rows};
-ghost use Rattle.pawn_list_keeper.specs.Listed.{HasChange, book_at, listed_book};
+ghost use Rattle.pawn_list_keeper.specs.{Common.{AreReplayable, BookValue, Each, IsChecked, IsStanding, pledge_rows}, Listed.{HasChange, book_at, listed_book}};
 
 use crate::kept::{Kept, place_of};
 use pawn_book::{BookRows, Change, Imported, Number, Parts, Pledge, Rates, Secret, Terms};
@@ -73,8 +72,7 @@ pub(crate) fn fill_book(
 ) -> Result<(), AllocError>
     requires stands { (at : BookValue) × (book_at (map listed_book books.old.items) book ≡ Some at) }
     requires replayable { AreReplayable rows.now.terms rows.now.pledges }
-    ensures ok { OnOk result (HasChange (map listed_book books.old.items)
-        (Change.ImportBook book key rows.now) (map listed_book books.new.items)) }
+    ensures ok { OnOk result (HasChange (map listed_book books.old.items) (Change.ImportBook book key rows.now) (map listed_book books.new.items)) }
     ensures err { OnErr result (map listed_book books.new.items ≡ map listed_book books.old.items) }
 {
     let terms = terms_of(alloc, rows.terms.as_slice())?;

@@ -1,7 +1,6 @@
 //! Books in a list, and how one of them or one of its pledges is found.
 ghost use Rattle.std.specs.Prelude.{◌≡◌, ◌<◌, IfNone, IfSome, MatchOption, None, Some, length, map};
-ghost use Rattle.pawn_book.specs.BookStep.{pledge_from, pledge_in};
-ghost use Rattle.pawn_list_keeper.specs.Listed.{IsPlace, book_at, listed_book};
+ghost use Rattle.{pawn_book.specs.BookStep.{pledge_from, pledge_in}, pawn_list_keeper.specs.Listed.{IsPlace, book_at, listed_book}};
 
 use pawn_book::{Imported, NewBook, Number, Pledge, Terms};
 
@@ -42,8 +41,7 @@ pub(crate) fn kept_at(books: &[Kept], book: Number) -> Option<&Kept>
 
 // The pledge with this number, if there is one. Pledges are numbered from 1 in order.
 fn pledge_at(pledges: &[Pledge], number: Number) -> Option<&Pledge>
-    ensures found { MatchOption result (pledge_from 1 pledges.now number ≡ None)
-        (λ pledge. pledge_from 1 pledges.now number ≡ Some pledge.now) }
+    ensures found { MatchOption result (pledge_from 1 pledges.now number ≡ None) (λ pledge. pledge_from 1 pledges.now number ≡ Some pledge.now) }
 {
     let place = number.get() as usize - 1;
     if place < pledges.len() {
@@ -55,8 +53,7 @@ fn pledge_at(pledges: &[Pledge], number: Number) -> Option<&Pledge>
 
 // The pledge with this number in a book, if there is one.
 pub(crate) fn standing_pledge(books: &[Kept], book: Number, number: Number) -> Option<&Pledge>
-    ensures found { MatchOption result
-        (pledge_in (book_at (map listed_book books.now) book) number ≡ None)
+    ensures found { MatchOption result (pledge_in (book_at (map listed_book books.now) book) number ≡ None)
         (λ pledge. pledge_in (book_at (map listed_book books.now) book) number ≡ Some pledge.now) }
 {
     match kept_at(books, book) {

@@ -1,6 +1,5 @@
 ghost use Rattle.std.specs.Prelude.{◌≡◌, ◌≤◌, [], map};
-ghost use Rattle.pawn_list_keeper.specs.Common.{CanSave, IsSound};
-ghost use Rattle.pawn_list_keeper.specs.Listed.{SavesListed, host_of};
+ghost use Rattle.{pawn_list_keeper.specs.{Common.CanSave, Listed.{SavesListed, host_of}}, pawn_book.specs.Sound.IsSound};
 
 use crate::kept::Kept;
 use crate::reading::{

@@ -1,7 +1,7 @@
 //! Reads of books in a list.
 ghost use Rattle.std.specs.Prelude.{◌≡◌, ◌+◌, ◌&&◌, if◌then◌else◌, IfOk, Some, map, nat_lt, option_map, unwrap_or};
-ghost use Rattle.pawn_list_keeper.specs.Common.{IsShare, Visits, Whole, book_head, brief_of, confirmed_count, entries_of, extensions_of, number_of, pledge_in, pledges_of, secrets_of, terms_at, terms_of, with_reference};
-ghost use Rattle.pawn_list_keeper.specs.Listed.{IsLeastAbove, book_at, listed_book};
+ghost use Rattle.pawn_list_keeper.specs.Common.{IsShare, Visits, Whole, book_head, brief_of, confirmed_count, entries_of, extensions_of, number_of, pledge_in};
+ghost use Rattle.pawn_list_keeper.specs.{Common.{pledges_of, secrets_of, terms_at, terms_of, with_reference}, Listed.{IsLeastAbove, book_at, listed_book}};
 
 use crate::kept::{Kept, kept_at, standing_pledge};
 use crate::sheet::is_confirmed_for;
@@ -12,8 +12,7 @@ use std::alloc::AllocError;
 
 // The head of a book, if there is such a book. The only error is that memory is refused.
 pub(crate) fn head_in(books: &[Kept], book: Number) -> Result<Option<BookHead>, AllocError>
-    ensures value { IfOk result (λ head. head ≡ option_map book_head
-        (book_at (map listed_book books.now) book)) }
+    ensures value { IfOk result (λ head. head ≡ option_map book_head (book_at (map listed_book books.now) book)) }
 {
     let Some(kept) = kept_at(books, book) else {
         return Ok(None);
@@ -51,8 +50,7 @@ pub(crate) fn terms_in(books: &[Kept], book: Number, version: u64) -> Option<Ter
 
 // The number of the first pledge with this reference, if there is one.
 fn number_with(pledges: &[Pledge], reference: &Reference) -> Option<Number>
-    ensures value { result ≡ option_map (λ p. p.agreement.number)
-        (with_reference pledges.now reference.now) }
+    ensures value { result ≡ option_map (λ p. p.agreement.number) (with_reference pledges.now reference.now) }
 {
     for pledge in pledges {
         if pledge.agreement().opening.reference.as_str() == reference.as_str() {
@@ -78,8 +76,7 @@ pub(crate) fn pledge_copy(
     book: Number,
     number: Number,
 ) -> Result<Option<Pledge>, AllocError>
-    ensures value { IfOk result (λ pledge. pledge ≡ pledge_in
-        (book_at (map listed_book books.now) book) number) }
+    ensures value { IfOk result (λ pledge. pledge ≡ pledge_in (book_at (map listed_book books.now) book) number) }
 {
     let Some(pledge) = standing_pledge(books, book, number) else {
         return Ok(None);
@@ -95,8 +92,7 @@ pub(crate) fn brief_in(
     book: Number,
     number: Number,
 ) -> Result<Option<Brief>, AllocError>
-    ensures value { IfOk result (λ brief. brief ≡ option_map brief_of
-        (pledge_in (book_at (map listed_book books.now) book) number)) }
+    ensures value { IfOk result (λ brief. brief ≡ option_map brief_of (pledge_in (book_at (map listed_book books.now) book) number)) }
 {
     let Some(pledge) = standing_pledge(books, book, number) else {
         return Ok(None);
@@ -117,8 +113,7 @@ pub(crate) fn pledges_in(books: &[Kept], book: Number) -> &[Pledge]
 
 // The entries of a pledge in a book.
 pub(crate) fn entries_in(books: &[Kept], book: Number, number: Number) -> &[Entry]
-    ensures value { result.now ≡ entries_of
-        (pledge_in (book_at (map listed_book books.now) book) number) }
+    ensures value { result.now ≡ entries_of (pledge_in (book_at (map listed_book books.now) book) number) }
 {
     match standing_pledge(books, book, number) {
         None => &[],
@@ -128,8 +123,7 @@ pub(crate) fn entries_in(books: &[Kept], book: Number, number: Number) -> &[Entr
 
 // The secrets of a pledge in a book.
 pub(crate) fn secrets_in(books: &[Kept], book: Number, number: Number) -> &[Issued]
-    ensures value { result.now ≡ secrets_of
-        (pledge_in (book_at (map listed_book books.now) book) number) }
+    ensures value { result.now ≡ secrets_of (pledge_in (book_at (map listed_book books.now) book) number) }
 {
     match standing_pledge(books, book, number) {
         None => &[],
@@ -139,8 +133,7 @@ pub(crate) fn secrets_in(books: &[Kept], book: Number, number: Number) -> &[Issu
 
 // The extensions of a pledge in a book.
 pub(crate) fn extensions_in(books: &[Kept], book: Number, number: Number) -> &[Extension]
-    ensures value { result.now ≡ extensions_of
-        (pledge_in (book_at (map listed_book books.now) book) number) }
+    ensures value { result.now ≡ extensions_of (pledge_in (book_at (map listed_book books.now) book) number) }
 {
     match standing_pledge(books, book, number) {
         None => &[],
@@ -181,8 +174,7 @@ pub(crate) fn next_number(books: &[Kept], after: u32) -> Option<Number>
 
 // `number`, if it is above `after`, and below `next` if there is one; otherwise `next`.
 fn nearer_number(number: Number, after: u32, next: Option<Number>) -> Option<Number>
-    ensures value { result ≡ (if nat_lt after number && nat_lt number
-        (unwrap_or next (number + 1)) then Some number else next) }
+    ensures value { result ≡ (if nat_lt after number && nat_lt number (unwrap_or next (number + 1)) then Some number else next) }
 {
     let is_less = match next {
         None => true,
@@ -196,8 +188,7 @@ fn nearer_number(number: Number, after: u32, next: Option<Number>) -> Option<Num
 
 // Hands the items to the visitor until it wants no more.
 pub(crate) fn hand<T, V: Visitor<T>>(items: &[T], visitor: &mut V)
-    ensures visits { Visits V.step visitor.old visitor.new
-        (λ given flow. IsShare given flow Whole items.now) }
+    ensures visits { Visits V.step visitor.old visitor.new (λ given flow. IsShare given flow Whole items.now) }
 {
     for item in items {
         match visitor.visit(item) {

@@ -1,7 +1,6 @@
 //! Changes of books in a list.
 ghost use Rattle.std.specs.Prelude.{◌≡◌, ◌≤◌, ◌+◌, None, OnErr, OnOk, Some, length, map};
-ghost use Rattle.pawn_list_keeper.specs.Common.{BookValue, pledge_rows, put_from};
-ghost use Rattle.pawn_list_keeper.specs.Listed.{Fits, HasChange, added_rows, book_at, listed_book, replaced_rows};
+ghost use Rattle.pawn_list_keeper.specs.{Common.{BookValue, pledge_rows, put_from}, Listed.{Fits, HasChange, added_rows, book_at, listed_book, replaced_rows}};
 
 use crate::filling::{count_rows, fill_book};
 use crate::kept::{Kept, place_of, standing_pledge};
@@ -21,11 +20,9 @@ fn rows_of(pledge: &Pledge) -> u64
 
 // How many rows there are once a change is made, if there are `rows` before it.
 pub(crate) fn rows_with(books: &[Kept], rows: u64, change: &Change) -> u128
-    requires counted { replaced_rows
-        (map listed_book books.now) change.now ≤ rows + added_rows change.now }
+    requires counted { replaced_rows (map listed_book books.now) change.now ≤ rows + added_rows change.now }
     requires fits { Fits (map listed_book books.now) change.now }
-    ensures rows { result + replaced_rows
-        (map listed_book books.now) change.now ≡ rows + added_rows change.now }
+    ensures rows { result + replaced_rows (map listed_book books.now) change.now ≡ rows + added_rows change.now }
 {
     match change {
         Change::MakeBook { .. } => u128::from(rows) + 1,
@@ -54,8 +51,7 @@ pub(crate) fn make_change(
     change: &Change,
 ) -> Result<(), AllocError>
     requires fits { Fits (map listed_book books.old.items) change.now }
-    ensures ok { OnOk result (HasChange (map listed_book books.old.items) change.now
-        (map listed_book books.new.items)) }
+    ensures ok { OnOk result (HasChange (map listed_book books.old.items) change.now (map listed_book books.new.items)) }
     ensures err { OnErr result (map listed_book books.new.items ≡ map listed_book books.old.items) }
 {
     match change {
@@ -82,8 +78,7 @@ fn push_book(
     new_book: &NewBook,
 ) -> Result<(), AllocError>
     requires none { book_at (map listed_book books.old.items) book ≡ None }
-    ensures ok { OnOk result (HasChange (map listed_book books.old.items)
-        (Change.MakeBook book new_book.now) (map listed_book books.new.items)) }
+    ensures ok { OnOk result (HasChange (map listed_book books.old.items) (Change.MakeBook book new_book.now) (map listed_book books.new.items)) }
     ensures err { OnErr result (books.new.items ≡ books.old.items) }
 {
     let made = new_book.copy()?;
@@ -106,8 +101,7 @@ fn push_terms(
     terms: Terms,
 ) -> Result<(), AllocError>
     requires stands { (at : BookValue) × (book_at (map listed_book books.old.items) book ≡ Some at) }
-    ensures ok { OnOk result (HasChange (map listed_book books.old.items)
-        (Change.AddTerms book version terms) (map listed_book books.new.items)) }
+    ensures ok { OnOk result (HasChange (map listed_book books.old.items) (Change.AddTerms book version terms) (map listed_book books.new.items)) }
     ensures err { OnErr result (map listed_book books.new.items ≡ map listed_book books.old.items) }
 {
     let Some(place) = place_of(books, book) else {
@@ -127,10 +121,8 @@ fn put_pledge(
     number: Number,
     pledge: &Pledge,
 ) -> Result<(), AllocError>
-    requires stands { (at : BookValue) × (book_at (map listed_book books.old.items) book ≡ Some at)
-        × (number ≤ 1 + length at.pledges) }
-    ensures ok { OnOk result (HasChange (map listed_book books.old.items)
-        (Change.PutPledge book number pledge.now) (map listed_book books.new.items)) }
+    requires stands { (at : BookValue) × (book_at (map listed_book books.old.items) book ≡ Some at) × (number ≤ 1 + length at.pledges) }
+    ensures ok { OnOk result (HasChange (map listed_book books.old.items) (Change.PutPledge book number pledge.now) (map listed_book books.new.items)) }
     ensures err { OnErr result (map listed_book books.new.items ≡ map listed_book books.old.items) }
 {
     let Some(place) = place_of(books, book) else {

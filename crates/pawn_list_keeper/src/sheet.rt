@@ -1,7 +1,7 @@
 //! A day's sheet of the pledges of a book.
 ghost use Rattle.std.specs.Prelude.{◌≡◌, count_by, is_some};
-ghost use Rattle.pawn_pledge.specs.Words.{is_open};
-ghost use Rattle.pawn_list_keeper.specs.Common.{HandsOver, asked_item, day_sheet, is_confirmed_for, part_item, part_items, window_sheet, windows_sheet, with_head};
+ghost use Rattle.{pawn_pledge.specs.Words.is_open, pawn_list_keeper.specs.Common.{HandsOver, asked_item, day_sheet, is_confirmed_for, part_item, part_items}};
+ghost use Rattle.pawn_list_keeper.specs.Common.{window_sheet, windows_sheet, with_head};
 
 use pawn_book::{
     Booking, BookingState, Closing, Day, Flow, Number, Part, Pledge, SheetItem, Visitor,
@@ -86,8 +86,7 @@ fn hand_part<V: Visitor<SheetItem>>(
     pledges: &[Pledge],
     visitor: &mut V,
 ) -> Flow
-    ensures hands { HandsOver V.step visitor.old
-        (part_items part day pledges.now) result visitor.new }
+    ensures hands { HandsOver V.step visitor.old (part_items part day pledges.now) result visitor.new }
 {
     for pledge in pledges {
         if let Some(item) = item_of(part, day, pledge) {
@@ -107,8 +106,7 @@ fn hand_headed<V: Visitor<SheetItem>>(
     pledges: &[Pledge],
     visitor: &mut V,
 ) -> Flow
-    ensures hands { HandsOver V.step visitor.old
-        (with_head part (part_items part day pledges.now)) result visitor.new }
+    ensures hands { HandsOver V.step visitor.old (with_head part (part_items part day pledges.now)) result visitor.new }
 {
     let heading = part.heading(count_of(part, day, pledges));
     match visitor.visit(&heading) {
@@ -124,8 +122,7 @@ fn hand_window<V: Visitor<SheetItem>>(
     pledges: &[Pledge],
     visitor: &mut V,
 ) -> Flow
-    ensures hands { HandsOver V.step visitor.old
-        (window_sheet pledges.now day window) result visitor.new }
+    ensures hands { HandsOver V.step visitor.old (window_sheet pledges.now day window) result visitor.new }
 {
     let part = Part::Confirmed { window };
     if count_of(part, day, pledges) == 0 {
@@ -136,8 +133,7 @@ fn hand_window<V: Visitor<SheetItem>>(
 
 // Hands the windows' items to the visitor until it wants no more.
 fn hand_windows<V: Visitor<SheetItem>>(day: Day, pledges: &[Pledge], visitor: &mut V) -> Flow
-    ensures hands { HandsOver V.step visitor.old
-        (windows_sheet pledges.now day) result visitor.new }
+    ensures hands { HandsOver V.step visitor.old (windows_sheet pledges.now day) result visitor.new }
 {
     for window in 0..LAST_WINDOW + 1 {
         match hand_window(window, day, pledges, visitor) {

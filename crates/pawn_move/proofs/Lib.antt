@@ -1,5 +1,4 @@
 pub mod AllFilled
-pub mod Answering
 pub mod Basics
 pub mod BooksUpTo
 pub mod Filled

@@ -1,17 +1,12 @@
 -- Tables that are added beside others, and the number of the schema that is noted anew.
-use Rattle.pawn_move.proofs.Basics.{◌≡◌, ℕ, pos, List, [], ◌∷◌, filter, codes, Bool, true, Ok, Err, Result, OnOk, IsTrue, refl, IsPermutation-refl, everything, Tables, understood, Row, column, value_cmp, Executes, HasCleanDisk, State, Host, rows, IsLent, meta_row, with_indexes, meta, meta_tree, SET_SCHEMA, AddsIndexes, GainsIndexes, row_set_by, with_tables, clean_before, gains_lists, IsMoving, NotesProgram, listed_with}
-use Rattle.std.specs.List.{list_all}
-use Rattle.sqlite.specs.declared.types.Value.TheVariants.{Int, Text}
-use Rattle.sqlite.specs.Ops.{binary, is_true}
-use Rattle.sqlite.specs.Collation.TheVariants.{Binary}
-use Rattle.sqlite.specs.Term.{Term, lit, col, op2}
-use Rattle.sqlite_sql.specs.declared.ops.BinaryOp.TheVariants.{Compare}
-use Rattle.sqlite_sql.specs.declared.ops.CompareOp.TheVariants.{Eq}
-use Rattle.one_table.proofs.OneTable.{over_table}
-use Rattle.one_table.proofs.Rowed.{cast_int, cast_whole}
-use Rattle.one_table.proofs.Texts.{Sets}
-use Rattle.pawn_saving.proofs.Places.{meta_place}
-use Rattle.sqlite_schema.specs.declared.schema.Index.{Index}
+use Rattle.std.proofs.Common.{◌≡◌, ℕ, pos, List, [], ◌∷◌, filter, codes, Bool, true, Ok, Err, Result, OnOk, IsTrue, refl}
+use Rattle.{std.{proofs.lemmas.List.Sorted.IsPermutation-refl, specs.List.list_all}, pawn_opening.specs.Common.{everything, understood, Row, column, value_cmp}}
+use Rattle.pawn_opening.specs.{Common.{Executes, HasCleanDisk, State, Host, rows, IsLent, meta_row, with_indexes}, Indexing.{AddsIndexes, GainsIndexes}}
+use Rattle.{pawn_opening.proofs.Gained.gains_lists, pawn_tables.specs.{Common.Tables, Schema.{meta, meta_tree}, declared.texts.TheConstants.SET_SCHEMA}}
+use Rattle.pawn_move.{proofs.Basics.{row_set_by, with_tables, clean_before}, specs.Moving.{IsMoving, NotesProgram, listed_with}}
+use Rattle.sqlite.specs.{declared.types.Value.TheVariants.{Int, Text}, Ops.{binary, is_true}, Collation.TheVariants.Binary, Term.{Term, lit, col, op2}}
+use Rattle.{sqlite_sql.specs.declared.ops.{BinaryOp.TheVariants.Compare, CompareOp.TheVariants.Eq}, one_table.proofs.{OneTable.over_table, Rowed.cast_int}}
+use Rattle.{one_table.proofs.{Rowed.cast_whole, Texts.Sets}, pawn_saving.proofs.Places.meta_place, sqlite_schema.specs.declared.schema.Index.Index}
 
 -- where a statement ran, what it wrote
 pub on_ran : {E : Type 0} (r : Result (Unit {0}) E) (P : ℕ → Type 0) (Q : Type 0) → OnOk r ((count : ℕ) × P count) → ((count : ℕ) → P count → Q) → OnOk r Q
@@ -33,18 +28,17 @@ note_is more = (refl, (refl, refl))
 abbrev is_schema : Row → Bool
 is_schema v = list_all (λ (x : Bool). x) (is_true (binary (Compare Eq Binary) (column v 0) (Text (codes "schema"))) ∷ [])
 
-alone : (n counted limit : ℕ) → (is_schema (meta_row (codes "schema") n) ≡ true) × (filter is_schema (meta_row (codes "rows") counted ∷ meta_row (codes "limit") limit ∷ []) ≡ [])
+alone : (n counted limit : ℕ)
+    → (is_schema (meta_row (codes "schema") n) ≡ true) × (filter is_schema (meta_row (codes "rows") counted ∷ meta_row (codes "limit") limit ∷ []) ≡ [])
 unfolding binary value_cmp lib.Ieee.is_nan lib.Ieee.lt
 alone n counted limit = (refl, refl)
 
-pub program_noted : (old new : State) (count n : ℕ) (owed : List Row) (h : Host) → IsMoving n owed old.now h → Executes SET_SCHEMA.now (Int (pos 3) ∷ []) old new (Ok count) → IsMoving 3 owed new.now h
-program_noted old new count n owed h m ran =
-    let rest : List Row = meta_row (codes "rows") (rows h) ∷ meta_row (codes "limit") h.limit ∷ [] in
-    let after : Row = meta_row (codes "schema") 3 in
-    let only = alone n (rows h) h.limit in
-    let l = row_set_by 6 (record meta { tree = meta_tree }) meta_place (λ _. refl) note_tests note_shows SET_SCHEMA.now note_is old new (Int (pos 3) ∷ []) count (listed_with n owed h) m.lists is_schema (meta_row (codes "schema") n) after rest (λ row. refl)
-    (IsPermutation-refl _) only.0 only.1
-    (λ id row at cols.
+pub program_noted : (old new : State) (count n : ℕ) (owed : List Row) (h : Host) → IsMoving n owed old.now h
+    → Executes SET_SCHEMA.now (Int (pos 3) ∷ []) old new (Ok count) → IsMoving 3 owed new.now h
+program_noted old new count n owed h m ran = let rest : List Row = meta_row (codes "rows") (rows h) ∷ meta_row (codes "limit") h.limit ∷ [] in
+    let after : Row = meta_row (codes "schema") 3 in let only = alone n (rows h) h.limit in
+    let l = row_set_by 6 (record meta { tree = meta_tree }) meta_place (λ _. refl) note_tests note_shows SET_SCHEMA.now note_is old new (Int (pos 3) ∷ []) count
+    (listed_with n owed h) m.lists is_schema (meta_row (codes "schema") n) after rest (λ row. refl) (IsPermutation-refl _) only.0 only.1 (λ id row at cols.
     let name : column row 1 ≡ Text (codes "schema") = (let e = cols in cc) in
     (Int id ∷ after, after, (λ i. at i ∷ at i ∷ name i ∷ Int (pos 3) ∷ []), (λ i. cast_whole id i ∷ Text (codes "schema") ∷ cast_int 3 i ∷ []), refl)) ran in
     record { lists = with_tables l l.lists.tables; ordered = m.ordered; storable = m.storable; unextended = m.unextended }
@@ -52,14 +46,13 @@ program_noted old new count n owed h m ran =
 -- ---- and the indexes are made
 
 gains_moving : (n : ℕ) (owed : List Row) (old new : Tables) (h : Host) → GainsIndexes old new → IsMoving n owed old h → IsMoving n owed new h
-gains_moving n owed old new h g m = record { lists = gains_lists old new (listed_with n owed h) g m.lists; ordered = m.ordered; storable = m.storable; unextended = m.unextended }
+gains_moving n owed old new h g m =
+    record { lists = gains_lists old new (listed_with n owed h) g m.lists; ordered = m.ordered; storable = m.storable; unextended = m.unextended }
 
-pub noted_then : {E : Type 0} (a b c : State) (r : Result (Unit {0}) E) (ok : Bool) → IsLent a b true → IsLent b c ok → NotesProgram a b (Ok tt) → AddsIndexes b c r
-    → HasCleanDisk c → IsTrue a.in_transaction → (n : ℕ) (owed : List Row) (h : Host) → IsMoving n owed a.now h → OnOk r (IsMoving 3 owed c.now h)
-noted_then {E} a b c r ok first second notes adds clean within n owed h m =
-    let was = clean_before b c ok second clean in
-    go r (notes was within n owed h m) (adds clean (first.inside was within refl))
-  where
-    go : (x : Result (Unit {0}) E) → IsMoving 3 owed b.now h → OnOk x (GainsIndexes b.now c.now) → OnOk x (IsMoving 3 owed c.now h)
-    go (Ok done) moving g = gains_moving 3 owed b.now c.now h g moving
-    go (Err e) moving g = tt
+pub noted_then : {E : Type 0} (a b c : State) (r : Result (Unit {0}) E) (ok : Bool) → IsLent a b true → IsLent b c ok → NotesProgram a b (Ok tt) → AddsIndexes b
+    c r → HasCleanDisk c → IsTrue a.in_transaction → (n : ℕ) (owed : List Row) (h : Host) → IsMoving n owed a.now h → OnOk r (IsMoving 3 owed c.now h)
+noted_then {E} a b c r ok first second notes adds clean within n owed h m = let was = clean_before b c ok second clean in
+    go r (notes was within n owed h m) (adds clean (first.inside was within refl)) where
+      go : (x : Result (Unit {0}) E) → IsMoving 3 owed b.now h → OnOk x (GainsIndexes b.now c.now) → OnOk x (IsMoving 3 owed c.now h)
+      go (Ok done) moving g = gains_moving 3 owed b.now c.now h g moving
+      go (Err e) moving g = tt

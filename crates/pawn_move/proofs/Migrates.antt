@@ -1,18 +1,22 @@
 -- A store tells its schema, and is moved where that is an older one.
-use Rattle.pawn_move.proofs.Basics.{◌≡◌, ◌==◌, ◌⊎◌, inl, inr, ℕ, Bool, true, false, Option, Some, None, Ok, Err, Result, IsTrue, refl, sym, subst, ◌∙◌, arith, nat_tests, get, Tables, HasCleanDisk, State, Survives, Trees, BookValue, Host, HasUnsoundBook, KeepError, Database, NoRecord, Finds, StandForOne, HoldHost, StandsFor, HoldGained, IndexesStore, IsAsBefore, OpensAs, NotesSchema, OpenFault, survives_then, survives_weaker, held, opens_as, gains_stands, MoveFault, NotOurs, NewerSchema, Damaged, Store, Memory, HoldMoved, HoldSameHost, IsFailure, IsMoved, IsNotOurs, IsUnmovable, IsUntellable, Migrates, MigratesOwed, MovesStore, MovesStoreOwed, TellsNumber, move_fault_of, IsSchema, StandsUnder}
+use Rattle.std.proofs.Common.{◌≡◌, ◌==◌, ◌⊎◌, inl, inr, ℕ, Bool, true, false, Option, Some, None, Ok, Err, Result, IsTrue, refl, sym, subst, ◌∙◌, arith}
+use Rattle.{std.proofs.lemmas.Bool.Decides.nat_tests, pawn_move.proofs.Basics.{MoveFault, NotOurs, NewerSchema, Damaged, Store, Memory}}
+use Rattle.pawn_move.specs.Migrating.{HoldMoved, HoldSameHost, IsFailure, IsMoved, IsNotOurs, IsUnmovable, IsUntellable, Migrates, MigratesOwed, MovesStore}
+use Rattle.pawn_move.{specs.{Migrating.{MovesStoreOwed, TellsNumber, move_fault_of}, StandsUnder.{IsSchema, StandsUnder}}, proofs.ToldSchema.third_is_ours}
+use Rattle.pawn_tables.specs.{Common.{get, Tables, BookValue, HasUnsoundBook, KeepError, Database, NoRecord}, Finding.Finds}
+use Rattle.pawn_opening.specs.{Common.{HasCleanDisk, State, Trees, Host, StandForOne, HoldHost, StandsFor}, Indexing.HoldGained, Opened.IndexesStore}
+use Rattle.pawn_opening.{specs.{Opened.{IsAsBefore, OpensAs}, Refusing.NotesSchema, declared.fault.OpenFault.OpenFault}, proofs.Begun.{held, opens_as}}
+use Rattle.{pawn_opening.proofs.Gained.gains_stands, sqlite.{specs.State.Survives, proofs.StateLemmas.{survives_then, survives_weaker}}}
 use Rattle.pawn_book.specs.declared.fault.KeepError.TheVariants as Keeper
-use Rattle.pawn_move.proofs.ToldSchema.{third_is_ours}
 
 -- an older schema is the first or the second
 pub older : (n : ℕ) → IsSchema n → (n ≡ 3 → ⊥) → (n ≡ 1) ⊎ (n ≡ 2)
-older n schema not = go (n == 1) refl
-  where
-    go : (first : Bool) → (n == 1) ≡ first → (n ≡ 1) ⊎ (n ≡ 2)
-    go true is = inl (grind (arith, nat_tests, is))
-    go false is =
-        let least = schema.0 in
-        let most = schema.1 in
-        inr (grind (arith, nat_tests, is, least, most, not))
+older n schema not = go (n == 1) refl where
+  go : (first : Bool) → (n == 1) ≡ first → (n ≡ 1) ⊎ (n ≡ 2)
+  go true is = inl (grind (arith, nat_tests, is))
+  go false is = let least = schema.0 in
+      let most = schema.1 in
+      inr (grind (arith, nat_tests, is, least, most, not))
 
 -- after one call that left the store as it was, another
 then_as_before : (a b c : State) → (IsTrue b.is_open → IsAsBefore a b) → IsAsBefore b c → IsAsBefore a c
@@ -23,8 +27,8 @@ then_as_before a b c first it = record {
 }
 
 -- what a crash leaves, where before the call it left the last commit
-crashed : (old new : State) → (IsTrue old.is_open → (trees : Trees) → old.may_leave trees → trees ≡ old.committed.trees) → Survives old new (HoldSameHost old.now)
-    → HasCleanDisk new → IsTrue old.is_open → (trees : Trees) → new.may_leave trees → (trees ≡ old.committed.trees) ⊎ HoldSameHost old.now trees
+crashed : (old new : State) → (IsTrue old.is_open → (trees : Trees) → old.may_leave trees → trees ≡ old.committed.trees) → Survives old new (HoldSameHost
+    old.now) → HasCleanDisk new → IsTrue old.is_open → (trees : Trees) → new.may_leave trees → (trees ≡ old.committed.trees) ⊎ HoldSameHost old.now trees
 crashed old new last s clean open' trees left = elim (s.crash clean trees left) [ inl before ↦ inl (last open' trees before) | inr made ↦ inr made ]
 
 failing : (s : State) (n : ℕ) (h : Host) (why : MoveFault) → IsFailure why → IsMoved n h s (Err why)
@@ -81,29 +85,27 @@ module _ (s0 s1 : State) (last : IsTrue s0.is_open → (trees : Trees) → s0.ma
 
     -- the tables stand for the host still
     ours : HasCleanDisk s1 → (n : ℕ) (h : Host) → IsSchema n → StandsUnder n s0.now h → (from ≡ n) × StandsFor s1.now h
-    ours clean n h schema st =
-        let told : from ≡ n = it.stands clean n h schema st in
+    ours clean n h schema st = let told : from ≡ n = it.stands clean n h schema st in
         let stands : StandsFor s0.now h = third_is_ours.third s0.now h (subst (λ k. StandsUnder k s0.now h) (sym told ∙ three) st) in
         (told, subst (λ d. StandsFor d h) (sym ((it.same clean).now (it.ok clean).1)) stands)
 
     indexed : Survives s0 s2 (HoldSameHost s0.now)
-    indexed =
-        survives_then s0 s1 s2 (λ _. ⊥) (HoldGained s1.now) (HoldSameHost s0.now) (λ clean trees none. absurd none)
-        (λ clean trees gained n h schema none st. subst (λ ts. HoldHost ts h) (sym gained.2) (held gained.0 h (gains_stands s1.now gained.0 h gained.1 (ours (before clean) n h schema st).1))) it.survives added.survives
+    indexed = survives_then s0 s1 s2 (λ _. ⊥) (HoldGained s1.now) (HoldSameHost s0.now) (λ clean trees none. absurd none)
+        (λ clean trees gained n h schema none st. subst (λ ts. HoldHost ts h) (sym gained.2)
+        (held gained.0 h (gains_stands s1.now gained.0 h gained.1 (ours (before clean) n h schema st).1))) it.survives added.survives
 
     -- it is none that is moved
     pub stays_owed : MigratesOwed s0 s2 (Ok (from, 3))
-    stays_owed clean n h schema less none st =
-        let told : from ≡ n = it.stands (before clean) n h schema st in
+    stays_owed clean n h schema less none st = let told : from ≡ n = it.stands (before clean) n h schema st in
         absurd (omega (arith, told, three, less))
 
-  pub stays : StandForOne → (s2 : State) → (IsTrue s2.is_open → (trees : Trees) → s2.may_leave trees → trees ≡ s2.committed.trees) → (from : ℕ) → from ≡ 3 → TellsNumber s0 s1 (Ok from) → IndexesStore s1 s2 (Ok tt) → Migrates s0 s2 (Ok (from, 3))
+  pub stays : StandForOne → (s2 : State) → (IsTrue s2.is_open → (trees : Trees) → s2.may_leave trees → trees ≡ s2.committed.trees) → (from : ℕ) → from ≡ 3
+      → TellsNumber s0 s1 (Ok from) → IndexesStore s1 s2 (Ok tt) → Migrates s0 s2 (Ok (from, 3))
   stays one s2 left from three it added = record {
     found = λ clean. ((it.ok (before s2 from three it (Ok tt) added clean)).0, it.known, refl);
     moved = λ clean n h schema none st.
         let was = before s2 from three it (Ok tt) added clean in
-        let stood = ours s2 from three it (Ok tt) added was n h schema st in
-        let done = added.ok clean (it.ok was).1 in
+        let stood = ours s2 from three it (Ok tt) added was n h schema st in let done = added.ok clean (it.ok was).1 in
         (λ i. (stood.0 i, 3), opens_as s2 h one done.0 added.ended done.2 (left done.0) (gains_stands s1.now s2.now h done.1 stood.1));
     refuses = λ clean. tt;
     empty = λ clean none. it.empty (before s2 from three it (Ok tt) added clean) none;
@@ -113,7 +115,8 @@ module _ (s0 s1 : State) (last : IsTrue s0.is_open → (trees : Trees) → s0.ma
     crash = crashed s0 s2 last (indexed s2 from three it (Ok tt) added);
   }
 
-  pub not_indexed : (s2 : State) (from : ℕ) → from ≡ 3 → TellsNumber s0 s1 (Ok from) → (cause : OpenFault) → IndexesStore s1 s2 (Err cause) → (why : MoveFault) → IsFailure why → Migrates s0 s2 (Err why)
+  pub not_indexed : (s2 : State) (from : ℕ) → from ≡ 3 → TellsNumber s0 s1 (Ok from) → (cause : OpenFault) → IndexesStore s1 s2 (Err cause) → (why : MoveFault)
+      → IsFailure why → Migrates s0 s2 (Err why)
   not_indexed s2 from three it cause added why failure = record {
     found = λ clean. tt;
     moved = λ clean n h schema none st. failing s2 n h why failure;
@@ -133,21 +136,22 @@ module _ (s0 s1 : State) (last : IsTrue s0.is_open → (trees : Trees) → s0.ma
 
     -- the tables stand under the schema that was told still
     on : HasCleanDisk s1 → (n : ℕ) (h : Host) → IsSchema n → StandsUnder n s0.now h → (from ≡ n) × StandsUnder from s1.now h
-    on clean n h schema st =
-        let told : from ≡ n = it.stands clean n h schema st in
+    on clean n h schema st = let told : from ≡ n = it.stands clean n h schema st in
         (told, subst (λ d. StandsUnder from d h) (sym ((it.same clean).now (it.ok clean).1)) (subst (λ k. StandsUnder k s0.now h) (sym told) st))
 
     survived : Survives s0 s2 (HoldSameHost s0.now)
     survived = survives_then s0 s1 s2 (λ _. ⊥) (HoldMoved from s1) (HoldSameHost s0.now) (λ clean trees none. absurd none)
         (λ clean trees held n h schema none st. held h none (on (early clean) n h schema st).1) it.survives mv.survives
 
-    moves : HasCleanDisk s2 → (n : ℕ) (h : Host) → IsSchema n → get h.books 0 ≡ None → StandsUnder n s0.now h → Finds r (λ done. OpensAs s2 h) (HasUnsoundBook h)
+    moves : HasCleanDisk s2 → (n : ℕ) (h : Host) → IsSchema n → get h.books 0 ≡ None → StandsUnder n s0.now h
+        → Finds r (λ done. OpensAs s2 h) (HasUnsoundBook h)
     moves clean n h schema none st = mv.moved clean h none (on (early clean) n h schema st).1
 
   pub went : (s2 : State) (from : ℕ) → TellsNumber s0 s1 (Ok from) → MovesStore from s1 s2 (Ok tt) → Migrates s0 s2 (Ok (from, 3))
   went s2 from it mv = record {
     found = λ clean. ((it.ok (early s2 from it (Ok tt) mv clean)).0, it.known, refl);
-    moved = λ clean n h schema none st. let told = (on s2 from it (Ok tt) mv (early s2 from it (Ok tt) mv clean) n h schema st).0 in (λ i. (told i, 3), moves s2 from it (Ok tt) mv clean n h schema none st);
+    moved = λ clean n h schema none st. let told = (on s2 from it (Ok tt) mv (early s2 from it (Ok tt) mv clean) n h schema st).0 in
+        (λ i. (told i, 3), moves s2 from it (Ok tt) mv clean n h schema none st);
     refuses = λ clean. tt;
     empty = λ clean none. it.empty (early s2 from it (Ok tt) mv clean) none;
     err = λ clean. tt;
@@ -156,7 +160,8 @@ module _ (s0 s1 : State) (last : IsTrue s0.is_open → (trees : Trees) → s0.ma
     crash = crashed s0 s2 last (survived s2 from it (Ok tt) mv);
   }
 
-  pub went_owed : (s2 : State) (from : ℕ) → TellsNumber s0 s1 (Ok from) → MovesStore from s1 s2 (Ok tt) → MovesStoreOwed from s1 s2 (Ok tt) → MigratesOwed s0 s2 (Ok (from, 3))
+  pub went_owed : (s2 : State) (from : ℕ) → TellsNumber s0 s1 (Ok from) → MovesStore from s1 s2 (Ok tt) → MovesStoreOwed from s1 s2 (Ok tt)
+      → MigratesOwed s0 s2 (Ok (from, 3))
   went_owed s2 from it mv owed clean n h schema less none st = owed clean h none (on s2 from it (Ok tt) mv (early s2 from it (Ok tt) mv clean) n h schema st).1
 
   pub failed : (s2 : State) (from : ℕ) (e : KeepError) → TellsNumber s0 s1 (Ok from) → MovesStore from s1 s2 (Err e) → Migrates s0 s2 (Err (move_fault_of e))
@@ -164,23 +169,25 @@ module _ (s0 s1 : State) (last : IsTrue s0.is_open → (trees : Trees) → s0.ma
     found = λ clean. tt;
     moved = λ clean n h schema none st. unmoved n h e (moves s2 from it (Err e) mv clean n h schema none st);
     empty = λ clean none. absurd (it.empty (early s2 from it (Err e) mv clean) none);
-    refuses = λ clean. refuses e (from, (it.ok (early s2 from it (Err e) mv clean)).0, it.known) (λ n h schema none st. moves s2 from it (Err e) mv clean n h schema none st);
+    refuses = λ clean. refuses e (from, (it.ok (early s2 from it (Err e) mv clean)).0, it.known)
+        (λ n h schema none st. moves s2 from it (Err e) mv clean n h schema none st);
     err = λ clean. then_as_before s0 s1 s2 (λ now. it.same (early s2 from it (Err e) mv clean)) (mv.err clean);
     ended = mv.ended;
     survives = survived s2 from it (Err e) mv;
     crash = crashed s0 s2 last (survived s2 from it (Err e) mv);
-  }
-    where
-      unmoved : (n : ℕ) (h : Host) (x : KeepError) → Finds {A = Unit {0}} (Err x) (λ done. OpensAs s2 h) (HasUnsoundBook h) → IsMoved n h s2 (Err (move_fault_of x))
-      unmoved n h Keeper.Memory it = tt
-      unmoved n h (Keeper.Store NoRecord) it = it
-      unmoved n h (Keeper.Store Database) it = tt
+  } where
+    unmoved : (n : ℕ) (h : Host) (x : KeepError) → Finds {A = Unit {0}} (Err x) (λ done. OpensAs s2 h) (HasUnsoundBook h)
+        → IsMoved n h s2 (Err (move_fault_of x))
+    unmoved n h Keeper.Memory it = tt
+    unmoved n h (Keeper.Store NoRecord) it = it
+    unmoved n h (Keeper.Store Database) it = tt
 
-      no_sound : (h : Host) (o : Option BookValue) → get h.books 0 ≡ o → (get h.books 0 ≡ None → HasUnsoundBook h) → HasUnsoundBook h
-      no_sound h None at found = found at
-      no_sound h (Some k) at found = (0, (k, at, λ sound. absurd (let least = sound.0.0 in omega (arith, least))))
+    no_sound : (h : Host) (o : Option BookValue) → get h.books 0 ≡ o → (get h.books 0 ≡ None → HasUnsoundBook h) → HasUnsoundBook h
+    no_sound h None at found = found at
+    no_sound h (Some k) at found = (0, (k, at, λ sound. absurd (let least = sound.0.0 in omega (arith, least))))
 
-      refuses : (x : KeepError) → ((n : ℕ) × NotesSchema s0.now n × IsSchema n) → ((n : ℕ) (h : Host) → IsSchema n → get h.books 0 ≡ None → StandsUnder n s0.now h → Finds {A = Unit {0}} (Err x) (λ done. OpensAs s2 h) (HasUnsoundBook h)) → IsUnmovable s0.now (move_fault_of x)
-      refuses Keeper.Memory noted it = tt
-      refuses (Keeper.Store NoRecord) noted it = (noted, λ n h schema st. no_sound h (get h.books 0) refl (λ none. it n h schema none st))
-      refuses (Keeper.Store Database) noted it = tt
+    refuses : (x : KeepError) → ((n : ℕ) × NotesSchema s0.now n × IsSchema n) → ((n : ℕ) (h : Host) → IsSchema n → get h.books 0 ≡ None → StandsUnder n s0.now h
+        → Finds {A = Unit {0}} (Err x) (λ done. OpensAs s2 h) (HasUnsoundBook h)) → IsUnmovable s0.now (move_fault_of x)
+    refuses Keeper.Memory noted it = tt
+    refuses (Keeper.Store NoRecord) noted it = (noted, λ n h schema st. no_sound h (get h.books 0) refl (λ none. it n h schema none st))
+    refuses (Keeper.Store Database) noted it = tt

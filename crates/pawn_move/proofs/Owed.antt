@@ -1,11 +1,14 @@
 -- What was owed on a pledge, by what was read of it.
-use Rattle.pawn_move.proofs.Basics.{◌≡◌, ℕ, [], ◌∷◌, List, Option, Some, None, Ok, IsTrue, refl, sym, ap, ◌∙◌, is_some, option_map, true, get, HasCleanDisk, State, totals_of, Totals, PledgeValue, debt_of, pledge_in, Host, entries_of, terms_of, IsUnsoundAt, IsLent, Rests, FindsOf, credit_told, totals_in, totals_cells, totals_listed, under, AreBooksOrdered, ListDebts, Rates, terms_at, clean_before, Credit, ListFirstDebts, rows_if_any}
+use Rattle.std.proofs.Common.{◌≡◌, ℕ, [], ◌∷◌, List, Option, Some, None, Ok, IsTrue, refl, sym, ap, ◌∙◌, is_some, option_map, true}
+use Rattle.pawn_tables.specs.{Common.{get, totals_of, Totals, PledgeValue, debt_of, pledge_in, entries_of, terms_of, IsUnsoundAt, Rests}, Finding.FindsOf}
+use Rattle.pawn_tables.specs.{PledgeRows.{credit_told, totals_in}, Rows.{totals_cells, totals_listed, under}, StandsFor.{AreBooksOrdered, ListDebts}}
+use Rattle.{pawn_tables.proofs.PledgeReads.{holds_in, number_in, under_in}, pawn_opening.specs.Common.{HasCleanDisk, State, Host, IsLent}}
+use Rattle.pawn_move.{proofs.{Basics.{Rates, terms_at, clean_before, Credit}, Reading.three_find}, specs.Moving.{ListFirstDebts, rows_if_any}}
 use Rattle.pawn_debt.specs.declared.entry.Entry.{Entry}
-use Rattle.pawn_tables.proofs.PledgeReads.{holds_in, number_in, under_in}
-use Rattle.pawn_move.proofs.Reading.{three_find}
 
 -- the row that was found is that of a pledge
-pub credit_is : (o : Option PledgeValue) (credit : Credit) → Some credit ≡ option_map credit_told o → (p : PledgeValue) × (o ≡ Some p) × (credit ≡ credit_told p)
+pub credit_is : (o : Option PledgeValue) (credit : Credit) → Some credit ≡ option_map credit_told o
+    → (p : PledgeValue) × (o ≡ Some p) × (credit ≡ credit_told p)
 credit_is None credit is = absurd (let e = is in cc)
 credit_is (Some p) credit is = (p, refl, (let e = is in cc))
 
@@ -13,10 +16,9 @@ some_is : {A : Type 0} (x y : A) → Some x ≡ Some y → x ≡ y
 some_is x y e = cc
 
 -- the terms that stand under the version
-pub terms_are : (h : Host) (b n v : ℕ) (p : PledgeValue) (credit : Credit) (o : Option Rates) → AreBooksOrdered h → pledge_in (get h.books b) n ≡ Some p → credit ≡ credit_told p → v ≡ credit.version
-    → o ≡ terms_at (terms_of (get h.books b)) v → o ≡ Some p.agreement.terms
-terms_are h b n v p credit o ordered at told version is =
-    let same : v ≡ p.agreement.version = version ∙ ap (λ (c : Credit). c.version) told in
+pub terms_are : (h : Host) (b n v : ℕ) (p : PledgeValue) (credit : Credit) (o : Option Rates) → AreBooksOrdered h → pledge_in (get h.books b) n ≡ Some p
+    → credit ≡ credit_told p → v ≡ credit.version → o ≡ terms_at (terms_of (get h.books b)) v → o ≡ Some p.agreement.terms
+terms_are h b n v p credit o ordered at told version is = let same : v ≡ p.agreement.version = version ∙ ap (λ (c : Credit). c.version) told in
     is ∙ ap (terms_at (terms_of (get h.books b))) same ∙ under_in h b n p ordered at
 
 -- the pledge that stands, of which this was read
@@ -29,9 +31,10 @@ pub record IsPledgeRead (h : Host) (b n : ℕ) (credit : Credit) (terms : Rates)
   pub unextended : pledge.extensions ≡ []
 
 -- what the three parts read is of one pledge
-pub pledge_read : (s0 s1 s2 s3 : State) (h : Host) (b n v : ℕ) (oc : Option Credit) (credit : Credit) (ot : Option Rates) (terms : Rates) (all es : List Entry) → IsLent s0 s1 true → IsLent s1 s2 true → IsLent s2 s3 true
-    → FindsOf ListDebts (IsUnsoundAt b) s0 s1 (Ok oc) (λ h x. x ≡ option_map credit_told (pledge_in (get h.books b) n)) → FindsOf ListDebts (IsUnsoundAt b) s1 s2 (Ok ot) (λ h x. x ≡ terms_at (terms_of (get h.books b)) v)
-    → FindsOf ListDebts (IsUnsoundAt b) s2 s3 (Ok all) (λ h x. x ≡ entries_of (pledge_in (get h.books b) n)) → oc ≡ Some credit → v ≡ credit.version → ot ≡ Some terms → es ≡ all
+pub pledge_read : (s0 s1 s2 s3 : State) (h : Host) (b n v : ℕ) (oc : Option Credit) (credit : Credit) (ot : Option Rates) (terms : Rates) (all es : List Entry)
+    → IsLent s0 s1 true → IsLent s1 s2 true → IsLent s2 s3 true → FindsOf ListDebts (IsUnsoundAt b) s0 s1 (Ok oc) (λ h x. x ≡ option_map credit_told
+    (pledge_in (get h.books b) n)) → FindsOf ListDebts (IsUnsoundAt b) s1 s2 (Ok ot) (λ h x. x ≡ terms_at (terms_of (get h.books b)) v) → FindsOf ListDebts
+    (IsUnsoundAt b) s2 s3 (Ok all) (λ h x. x ≡ entries_of (pledge_in (get h.books b) n)) → oc ≡ Some credit → v ≡ credit.version → ot ≡ Some terms → es ≡ all
     → HasCleanDisk s3 → IsTrue s0.in_transaction → (IsTrue s0.is_open → ListFirstDebts s0.now h) → IsPledgeRead h b n credit terms es × Rests s0 s3
 pledge_read s0 s1 s2 s3 h b n v oc credit ot terms all es l1 l2 l3 f1 f2 f3 some version some' same clean within tell =
     let P : Host → Option Credit → Type 0 = λ h x. x ≡ option_map credit_told (pledge_in (get h.books b) n) in
@@ -54,11 +57,10 @@ pledge_read s0 s1 s2 s3 h b n v oc credit ot terms all es l1 l2 l3 f1 f2 f3 some
 -- totals that were found are of a pledge
 pub totals_are : (h : Host) (b n : ℕ) (t : Totals) → AreBooksOrdered h → Some t ≡ totals_in (pledge_in (get h.books b) n)
     → (true ≡ is_some (pledge_in (get h.books b) n)) × (rows_if_any (pledge_in (get h.books b) n) (totals_listed b) ≡ under b n (totals_cells t) ∷ [])
-totals_are h b n t ordered is = go (pledge_in (get h.books b) n) refl is
-  where
-    go : (o : Option PledgeValue) → pledge_in (get h.books b) n ≡ o → Some t ≡ totals_in o → (true ≡ is_some o) × (rows_if_any o (totals_listed b) ≡ under b n (totals_cells t) ∷ [])
-    go None at is = absurd (let e = is in cc)
-    go (Some p) at is =
-        let same = some_is t (totals_of (debt_of p)) is in
-        let number = number_in h b n p ordered at in
-        (refl, λ i. under b (number i) (totals_cells (sym same i)) ∷ [])
+totals_are h b n t ordered is = go (pledge_in (get h.books b) n) refl is where
+  go : (o : Option PledgeValue) → pledge_in (get h.books b) n ≡ o → Some t ≡ totals_in o
+      → (true ≡ is_some o) × (rows_if_any o (totals_listed b) ≡ under b n (totals_cells t) ∷ [])
+  go None at is = absurd (let e = is in cc)
+  go (Some p) at is = let same = some_is t (totals_of (debt_of p)) is in
+      let number = number_in h b n p ordered at in
+      (refl, λ i. under b (number i) (totals_cells (sym same i)) ∷ [])

@@ -1,11 +1,13 @@
 -- Tables that stand for a host under a schema note its number, and it is told.
-use Rattle.pawn_move.proofs.Basics.{◌≡◌, ◌==◌, inl, inr, ℕ, Bool, true, false, Option, Some, None, Ok, Err, Result, IsTrue, refl, sym, ap, subst, ◌∙◌, arith, IfErr, IfOk, IfSome, everything, listing_schema, understood, State, Host, rows, Holds, notes, with_indexes, first_schema, meta, meta_tree, second_schema, READ_SCHEMA, TellsSchema, IsEmptyStore, IsNoted, NotesNoSchema, NotesSchema, OpenFault, as_lists, as_stands, with_tables, MoveFault, NotOurs, NewerSchema, Damaged, Store, Memory, IsFailure, IsNumberJudged, IsMoveTold, IsNotOurs, IsUntellable, TellsNumber, IsSchema, ListsBy, StandsUnder, ThirdIsOurs, listed_under}
-use Rattle.sqlite.specs.Effect.{Database}
-use Rattle.sqlite_resolve.specs.declared.compiled.Compiled.{Compiled}
-use Rattle.sqlite_resolve.specs.declared.error.CompileError.{CompileError}
-use Rattle.one_table.specs.Columns.{no_schema}
+use Rattle.std.proofs.Common.{◌≡◌, ◌==◌, inl, inr, ℕ, Bool, true, false, Option, Some, None, Ok, Err, Result, IsTrue, refl, sym, ap, subst, ◌∙◌, arith, IfErr}
+use Rattle.{std.proofs.Common.{IfOk, IfSome}, pawn_opening.specs.Common.{everything, understood, State, Host, rows, Holds, notes, with_indexes, READ_SCHEMA}}
+use Rattle.pawn_opening.specs.{Opened.TellsSchema, Refusing.{IsEmptyStore, IsNoted, NotesNoSchema, NotesSchema}, declared.fault.OpenFault.OpenFault}
+use Rattle.{sqlite.specs.{Listing.listing_schema, Effect.Database, Schema.Schema}, pawn_tables.specs.Schema.{first_schema, meta, meta_tree, second_schema}}
+use Rattle.pawn_move.{proofs.Basics.{as_lists, as_stands, with_tables, MoveFault, NotOurs, NewerSchema, Damaged, Store, Memory}, specs.Migrating.IsFailure}
+use Rattle.pawn_move.specs.{Migrating.{IsNumberJudged, IsMoveTold, IsNotOurs, IsUntellable, TellsNumber}, StandsUnder.{IsSchema, ListsBy, StandsUnder}}
+use Rattle.{pawn_move.specs.StandsUnder.{ThirdIsOurs, listed_under}, sqlite_resolve.specs.declared.compiled.Compiled.Compiled}
+use Rattle.{sqlite_resolve.specs.declared.error.CompileError.CompileError, one_table.specs.Columns.no_schema}
 use Rattle.pawn_opening.proofs.Ours as ours
-use Rattle.sqlite.specs.Schema.{Schema}
 
 -- ---- the third schema is the program's
 
@@ -65,7 +67,8 @@ notes_none db empty n it = subst Refuses (sym (ap (λ s. understood s READ_SCHEM
 -- ---- and told
 
 module _ (old new : State) where
-  accepted : (r : Result ℕ MoveFault) (o : Option ℕ) → IsNumberJudged o r → IsNoted old.now o → IfSome o (λ n. IsTrue new.is_open) → IfOk r (λ n. NotesSchema old.now n × IsTrue new.is_open)
+  accepted : (r : Result ℕ MoveFault) (o : Option ℕ) → IsNumberJudged o r → IsNoted old.now o → IfSome o (λ n. IsTrue new.is_open)
+      → IfOk r (λ n. NotesSchema old.now n × IsTrue new.is_open)
   accepted (Err why) o v is serves = tt
   accepted (Ok n) None v is serves = absurd (let e = v.0 in cc)
   accepted (Ok n) (Some m) v is serves = let same : m ≡ n = (let e = v.0 in cc) in (subst (NotesSchema old.now) same is, serves)
@@ -74,21 +77,18 @@ module _ (old new : State) where
   known (Ok n) o v = v.1
   known (Err why) o v = tt
 
-  standing : (n : ℕ) (h : Host) → IsSchema n → StandsUnder n old.now h → (r : Result ℕ MoveFault) (o : Option ℕ) → IsNumberJudged o r → IsNoted old.now o → IsMoveTold n r
+  standing : (n : ℕ) (h : Host) → IsSchema n → StandsUnder n old.now h → (r : Result ℕ MoveFault) (o : Option ℕ) → IsNumberJudged o r → IsNoted old.now o
+      → IsMoveTold n r
   standing n h schema st (Ok m) None v is = absurd (let e = v.0 in cc)
   standing n h schema st (Ok m) (Some k) v is = let same : k ≡ m = (let e = v.0 in cc) in sym same ∙ only_number n old.now h st k is
   standing n h schema st (Err NotOurs) None v is = notes_some n old.now h st is
   standing n h schema st (Err NotOurs) (Some k) (inl none) is = absurd (let e = none in cc)
-  standing n h schema st (Err NotOurs) (Some k) (inr zero') is =
-      let same : k ≡ 0 = (let e = zero' in cc) in
-      let only = only_number n old.now h st k is in
-      let least = schema.0 in
+  standing n h schema st (Err NotOurs) (Some k) (inr zero') is = let same : k ≡ 0 = (let e = zero' in cc) in
+      let only = only_number n old.now h st k is in let least = schema.0 in
       absurd (omega (arith, same, only, least))
   standing n h schema st (Err NewerSchema) None v is = absurd (let e = v.1 in cc)
-  standing n h schema st (Err NewerSchema) (Some k) v is =
-      let same : k ≡ v.0 = (let e = v.1 in cc) in
-      let far = v.2 in
-      let only = only_number n old.now h st k is in
+  standing n h schema st (Err NewerSchema) (Some k) v is = let same : k ≡ v.0 = (let e = v.1 in cc) in
+      let far = v.2 in let only = only_number n old.now h st k is in
       let most = schema.1 in
       absurd (omega (arith, same, far, only, most))
   standing n h schema st (Err Damaged) o v is = v

@@ -1,4 +1,3 @@
-pub mod Common
 pub mod Migrating
 pub mod Moving
 pub mod StandsUnder

@@ -1,12 +1,12 @@
 -- What is found of a store's schema, and how a store of an older one is moved to the program's.
 use Rattle.std.specs.Prelude.{◌≡◌, ◌⊎◌, ◌<◌, false, ℕ, Option, Some, None, IsTrue, Result, Ok, Err, IfErr, IfOk, OnErr, OnOk}
-use Rattle.pawn_move.specs.Common.{get, Tables, HasCleanDisk, State, Survives, Trees, Host, HasUnsoundBook, KeepError, Database, NoRecord, Finds, HoldHost, IsAsBefore, OpensAs, IsEmptyStore, NotesNoSchema, NotesSchema, OpenFault}
+use Rattle.{pawn_tables.specs.{Common.{get, Tables, HasUnsoundBook, KeepError, Database, NoRecord}, Finding.Finds}, pawn_opening.specs.Common.HasCleanDisk}
+use Rattle.pawn_opening.specs.{Common.{State, Trees, Host, HoldHost}, Opened.{IsAsBefore, OpensAs}, Refusing.{IsEmptyStore, NotesNoSchema, NotesSchema}}
+use Rattle.{pawn_opening.specs.declared.fault.OpenFault.OpenFault, sqlite.specs.State.Survives, pawn_move.specs.declared.fault.MoveFault.MoveFault}
+use Rattle.pawn_move.specs.{declared.fault.MoveFault.TheVariants.{NotOurs, NewerSchema, Damaged, Store, Memory}, Moving.AreAllOwed, StandsUnder.IsSchema}
+use Rattle.pawn_move.specs.StandsUnder.{StandsUnder}
 use Rattle.pawn_book.specs.declared.fault.KeepError.TheVariants as Keeper
 use Rattle.pawn_opening.specs.declared.fault.OpenFault.TheVariants as Opening
-use Rattle.pawn_move.specs.declared.fault.MoveFault.{MoveFault}
-use Rattle.pawn_move.specs.declared.fault.MoveFault.TheVariants.{NotOurs, NewerSchema, Damaged, Store, Memory}
-use Rattle.pawn_move.specs.Moving.{AreAllOwed}
-use Rattle.pawn_move.specs.StandsUnder.{IsSchema, StandsUnder}
 
 -- ---- why a store is not moved
 
@@ -22,8 +22,7 @@ IsUntellable db Damaged = ⊥
 IsUntellable db Store = Unit {0}
 IsUntellable db Memory = Unit {0}
 
--- what is so of a store that is not moved for this reason: it is damaged only if it notes one of our schemas, and
--- stands for no sound host
+-- what is so of a store that is not moved for this reason: it is damaged only if it notes one of our schemas, and stands for no sound host
 abbrev pub IsUnmovable : Tables → MoveFault → Type 0
 IsUnmovable db Damaged = ((n : ℕ) × NotesSchema db n × IsSchema n) × StandsForNoSound db
 IsUnmovable db why = IsUntellable db why
@@ -94,14 +93,12 @@ IsMoved n h new (Err Damaged) = HasUnsoundBook h
 IsMoved n h new (Err Store) = Unit {0}
 IsMoved n h new (Err Memory) = Unit {0}
 
--- the trees stand, under the program's schema, for each host without a book 0 that the old tables stood for, whatever
--- their schema was
+-- the trees stand, under the program's schema, for each host without a book 0 that the old tables stood for, whatever their schema was
 abbrev pub HoldSameHost : Tables → Trees → Type 0
 HoldSameHost old trees = (n : ℕ) (h : Host) → IsSchema n → get h.books 0 ≡ None → StandsUnder n old h → HoldHost trees h
 
--- A store of schema 1, 2 or 3 is moved to 3, in one transaction. Then it is open, with nothing pending, for the host
--- that its tables stood for, if no book of that has the number 0. Else it is as it was. A crash leaves the old tables
--- or the new ones.
+-- A store of schema 1, 2 or 3 is moved to 3, in one transaction. Then it is open, with nothing pending, for the host that its tables stood for, if no book of
+-- that has the number 0. Else it is as it was. A crash leaves the old tables or the new ones.
 pub record Migrates (old new : State) (result : Result (ℕ × ℕ) MoveFault) : Type 0 where
   pub found : HasCleanDisk new → IfOk result (λ told. NotesSchema old.now told.0 × IsSchema told.0 × (told.1 ≡ 3))
   pub moved : HasCleanDisk new → (n : ℕ) (h : Host) → IsSchema n → get h.books 0 ≡ None → StandsUnder n old.now h → IsMoved n h new result

@@ -1,16 +1,16 @@
 -- Tables on their way from an older schema.
 use Rattle.std.specs.Prelude.{◌≡◌, ◌++◌, ℕ, Bool, [], List, OnOk, Option, Some, None, IfSome, IsTrue, Result, flat_map, is_some}
-use Rattle.pawn_move.specs.Common.{get, Tables, Row, HasCleanDisk, State, Totals, PledgeValue, debt_of, Each, BookValue, pledge_in, Host, IsNextBook, pledges_of, HasUnsoundBook, KeepError, Listed, with_rows, Finds, ListsOurs, totals_in, totals_listed, extensions_tree, totals_tree, AreBooksOrdered, AreStorable, ListDebts, StandsFor, of_pledges}
-use Rattle.pawn_terms.specs.Terms.{IsChecked}
-use Rattle.pawn_debt.specs.Replay.{CanStand}
+use Rattle.pawn_tables.specs.Common.{get, Tables, Totals, PledgeValue, debt_of, Each, BookValue, pledge_in, IsNextBook, pledges_of, HasUnsoundBook, KeepError}
+use Rattle.pawn_tables.specs.{Finding.Finds, PledgeRows.totals_in, Rows.totals_listed, Schema.{extensions_tree, totals_tree}, StandsFor.AreBooksOrdered}
+use Rattle.{pawn_tables.specs.StandsFor.{AreStorable, ListDebts, of_pledges}, pawn_opening.specs.Common.{Row, HasCleanDisk, State, Host, Listed, with_rows}}
+use Rattle.{pawn_opening.specs.Common.{ListsOurs, StandsFor}, pawn_terms.specs.Terms.IsChecked, pawn_debt.specs.Replay.CanStand}
 use Rattle.pawn_move.specs.StandsUnder.{HasNoExtension, StandsUnder, listed_under}
 
 -- the rows of a host by their tree, with this number of a schema, these rows of totals, and no rows of extensions
 abbrev pub listed_with : ℕ → List Row → Host → Listed
 listed_with n owed h = with_rows (with_rows (listed_under n h) totals_tree owed) extensions_tree []
 
--- the program's tables list a host without extensions, except that they have these totals and note this number of a
--- schema
+-- the program's tables list a host without extensions, except that they have these totals and note this number of a schema
 pub record IsMoving (n : ℕ) (owed : List Row) (db : Tables) (h : Host) : Type 0 where
   pub lists : ListsOurs db (listed_with n owed h)
   pub ordered : AreBooksOrdered h
@@ -63,10 +63,10 @@ totals_of_book h b = flat_map (totals_listed b) (pledges_of (get h.books b))
 -- only if some book of the host is not sound.
 abbrev pub PutsTotals : {A : Type 0} → State → State → Result A KeepError → (Host → A → List Row) → (Host → A → Type 0) → Type 0
 PutsTotals old new result put P =
-    HasCleanDisk new → IsTrue old.in_transaction → (n : ℕ) (owed : List Row) (h : Host) → IsMoving n owed old.now h → Finds result (λ x. P h x × IsMoving n (put h x ++ owed) new.now h) (HasUnsoundBook h)
+    HasCleanDisk new → IsTrue old.in_transaction → (n : ℕ) (owed : List Row) (h : Host) → IsMoving n owed old.now h
+    → Finds result (λ x. P h x × IsMoving n (put h x ++ owed) new.now h) (HasUnsoundBook h)
 
--- a part of the transaction inserts the totals of each pledge of each book, if no book has the number 0; their debts
--- can have come about
+-- a part of the transaction inserts the totals of each pledge of each book, if no book has the number 0; their debts can have come about
 abbrev pub PutsAll : State → State → Result (Unit {0}) KeepError → Type 0
 PutsAll old new result =
     HasCleanDisk new → IsTrue old.in_transaction → (n : ℕ) (owed : List Row) (h : Host) → get h.books 0 ≡ None → IsMoving n owed old.now h
@@ -77,11 +77,11 @@ abbrev pub NotesProgram : State → State → Result (Unit {0}) KeepError → Ty
 NotesProgram old new result =
     HasCleanDisk new → IsTrue old.in_transaction → (n : ℕ) (owed : List Row) (h : Host) → IsMoving n owed old.now h → OnOk result (IsMoving 3 owed new.now h)
 
--- a part of the transaction moves tables of this schema to the program's; it reports a row that is no record only if
--- some book of the host is not sound
+-- a part of the transaction moves tables of this schema to the program's; it reports a row that is no record only if some book of the host is not sound
 abbrev pub Moves : ℕ → State → State → Result (Unit {0}) KeepError → Type 0
 Moves n old new result =
-    HasCleanDisk new → IsTrue old.in_transaction → (h : Host) → get h.books 0 ≡ None → StandsUnder n old.now h → Finds result (λ done. StandsFor new.now h) (HasUnsoundBook h)
+    HasCleanDisk new → IsTrue old.in_transaction → (h : Host) → get h.books 0 ≡ None → StandsUnder n old.now h
+    → Finds result (λ done. StandsFor new.now h) (HasUnsoundBook h)
 
 -- a part of the transaction moves tables of this schema only if each debt can have come about
 abbrev pub MovesOwed : ℕ → State → State → Result (Unit {0}) KeepError → Type 0

@@ -1,7 +1,7 @@
 -- When tables of an older schema, or of the program's, stand for a host.
 use Rattle.std.specs.Prelude.{◌≡◌, ◌≤◌, ◌<◌, ◌==◌, ℕ, Bool, true, false, [], Some}
-use Rattle.pawn_move.specs.Common.{get, Each, BookValue, Host, rows, Listed, Lists, with_rows, notes, ListsOurs, first_schema, meta_tree, second_schema, AreBooksOrdered, AreStorable, StandsFor}
-use Rattle.sqlite.specs.Effect.{Database}
+use Rattle.pawn_tables.specs.{Common.{get, Each, BookValue}, Schema.{first_schema, meta_tree, second_schema}, StandsFor.{AreBooksOrdered, AreStorable}}
+use Rattle.{pawn_opening.specs.Common.{Host, rows, Listed, Lists, with_rows, notes, ListsOurs, StandsFor}, sqlite.specs.Effect.Database}
 use Rattle.pawn_saving.specs.Counted.{listed_as}
 
 -- the number of a schema; the program's is the third

@@ -1,6 +1,6 @@
 ghost use Rattle.std.specs.Prelude.{◌≡◌, None, is_ok};
-ghost use Rattle.pawn_move.specs.Common.{get, state, HasUnsoundBook, IsUnsoundAt, Lends, FindsOf, Carries};
-ghost use Rattle.pawn_move.specs.Moving.{AreAllOwed, AreOwedIn, IsNextJudged, ListFirstDebts};
+ghost use Rattle.{pawn_tables.specs.{Common.{get, HasUnsoundBook, IsUnsoundAt}, Finding.FindsOf}, pawn_opening.specs.Common.{state, Lends}};
+ghost use Rattle.{pawn_saving.specs.Writing.Carries, pawn_move.specs.Moving.{AreAllOwed, AreOwedIn, IsNextJudged, ListFirstDebts}};
 
 use crate::debts::totals_for;
 use crate::filling::BEYOND;

@@ -1,7 +1,7 @@
 ghost use Rattle.std.specs.Prelude.{◌≢◌, Ok, Err, is_ok};
-ghost use Rattle.pawn_move.specs.Common.{state, NoRecord, Lends, extensions_tree, first_schema, keep_schema, second_schema, totals_tree, AddsIndexes, AddsTable};
+ghost use Rattle.{pawn_opening.specs.{Common.{state, Lends}, Indexing.AddsIndexes, Laying.AddsTable}, pawn_tables.specs.Common.NoRecord};
+ghost use Rattle.{pawn_tables.specs.Schema.{extensions_tree, first_schema, keep_schema, second_schema, totals_tree}, pawn_move.specs.Moving.NotesProgram};
 ghost use Rattle.pawn_book.specs.declared.fault.KeepError.TheVariants as Keeper;
-ghost use Rattle.pawn_move.specs.Moving.{NotesProgram};
 
 use pawn_book::KeepError;
 use pawn_opening::{Lacking, SCHEMA};
@@ -11,8 +11,7 @@ use sqlite::{Alter, Transaction, params};
 
 /// Adds the table of totals to those of the first schema. It has no rows.
 pub(crate) fn make_totals<S: Alter>(tx: &mut Transaction<'_, S>) -> Result<(), KeepError>
-    ensures made { AddsTable (state S.Store tx.old.conn.now)
-        (state S.Store tx.new.conn.now) result first_schema second_schema totals_tree }
+    ensures made { AddsTable (state S.Store tx.old.conn.now) (state S.Store tx.new.conn.now) result first_schema second_schema totals_tree }
     ensures no_row { result ≢ Err (Keeper.Store NoRecord) }
     ensures lent { Lends S.Store tx.old.conn tx.new.conn (is_ok result) }
 {
@@ -24,8 +23,7 @@ pub(crate) fn make_totals<S: Alter>(tx: &mut Transaction<'_, S>) -> Result<(), K
 
 /// Adds the table of extensions to those of the second schema. It has no rows.
 pub(crate) fn make_extensions<S: Alter>(tx: &mut Transaction<'_, S>) -> Result<(), KeepError>
-    ensures made { AddsTable (state S.Store tx.old.conn.now)
-        (state S.Store tx.new.conn.now) result second_schema keep_schema extensions_tree }
+    ensures made { AddsTable (state S.Store tx.old.conn.now) (state S.Store tx.new.conn.now) result second_schema keep_schema extensions_tree }
     ensures no_row { result ≢ Err (Keeper.Store NoRecord) }
     ensures lent { Lends S.Store tx.old.conn tx.new.conn (is_ok result) }
 {
@@ -37,8 +35,7 @@ pub(crate) fn make_extensions<S: Alter>(tx: &mut Transaction<'_, S>) -> Result<(
 
 /// Notes the number of the program's schema.
 fn note_schema<S: Alter>(tx: &mut Transaction<'_, S>) -> Result<(), KeepError>
-    ensures noted { NotesProgram (state S.Store tx.old.conn.now)
-        (state S.Store tx.new.conn.now) result }
+    ensures noted { NotesProgram (state S.Store tx.old.conn.now) (state S.Store tx.new.conn.now) result }
     ensures no_row { result ≢ Err (Keeper.Store NoRecord) }
     ensures lent { Lends S.Store tx.old.conn tx.new.conn (is_ok result) }
 {
@@ -47,8 +44,7 @@ fn note_schema<S: Alter>(tx: &mut Transaction<'_, S>) -> Result<(), KeepError>
 
 /// Makes the program's indexes, once its tables are there.
 fn make_indexes<S: Alter>(tx: &mut Transaction<'_, S>) -> Result<(), KeepError>
-    ensures adds { AddsIndexes (state S.Store tx.old.conn.now)
-        (state S.Store tx.new.conn.now) result }
+    ensures adds { AddsIndexes (state S.Store tx.old.conn.now) (state S.Store tx.new.conn.now) result }
     ensures no_row { result ≢ Err (Keeper.Store NoRecord) }
     ensures lent { Lends S.Store tx.old.conn tx.new.conn (is_ok result) }
 {
@@ -61,8 +57,7 @@ fn make_indexes<S: Alter>(tx: &mut Transaction<'_, S>) -> Result<(), KeepError>
 /// Notes the number of the program's schema, and makes its indexes.
 #[tactic(auto, using(crate::proofs::Basics::lent_then))]
 pub(crate) fn finish<S: Alter>(tx: &mut Transaction<'_, S>) -> Result<(), KeepError>
-    ensures noted { NotesProgram (state S.Store tx.old.conn.now)
-        (state S.Store tx.new.conn.now) result }
+    ensures noted { NotesProgram (state S.Store tx.old.conn.now) (state S.Store tx.new.conn.now) result }
     ensures no_row { result ≢ Err (Keeper.Store NoRecord) }
     ensures lent { Lends S.Store tx.old.conn tx.new.conn (is_ok result) }
 {

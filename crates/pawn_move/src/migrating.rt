@@ -1,7 +1,6 @@
 ghost use Rattle.std.specs.Prelude.{◌≡◌, ◌⊎◌, false, is_ok};
-ghost use Rattle.pawn_move.specs.Common.{state, Lends};
-ghost use Rattle.pawn_move.specs.Migrating.{Migrates, MigratesOwed, MovesStore, MovesStoreOwed};
-ghost use Rattle.pawn_move.specs.Moving.{Moves, MovesOwed};
+ghost use Rattle.{pawn_opening.specs.Common.{state, Lends}, pawn_move.specs.{Migrating.{Migrates, MigratesOwed, MovesStore, MovesStoreOwed}, Moving.Moves}};
+ghost use Rattle.pawn_move.specs.Moving.{MovesOwed};
 
 use crate::fault::{MoveFault, unmoved};
 use crate::filling::put_books;
@@ -24,10 +23,8 @@ fn move_tables<S: Alter>(
     from: u32,
 ) -> Result<(), KeepError>
     requires older { (from ≡ 1) ⊎ (from ≡ 2) }
-    ensures moves { Moves from (state S.Store tx.old.conn.now)
-        (state S.Store tx.new.conn.now) result }
-    ensures judges { MovesOwed from (state S.Store tx.old.conn.now)
-        (state S.Store tx.new.conn.now) result }
+    ensures moves { Moves from (state S.Store tx.old.conn.now) (state S.Store tx.new.conn.now) result }
+    ensures judges { MovesOwed from (state S.Store tx.old.conn.now) (state S.Store tx.new.conn.now) result }
     ensures lent { Lends S.Store tx.old.conn tx.new.conn (is_ok result) }
 {
     if from == 1 {
@@ -50,7 +47,6 @@ fn move_store<S: Alter>(conn: &mut Connection<S>, alloc: Global, from: u32) -> R
     ensures judges { MovesStoreOwed from (state S.Store conn.old) (state S.Store conn.new) result }
 {
     know_settled(conn);
-    let _ = conn.schema();
     let mut tx = conn.transaction();
     if let Err(error) = move_tables(&mut tx, alloc, from) {
         tx.rollback();

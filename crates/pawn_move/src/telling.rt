@@ -1,6 +1,5 @@
 ghost use Rattle.std.specs.Prelude.{◌≡◌, false};
-ghost use Rattle.sqlite.specs.Held.{state};
-ghost use Rattle.pawn_move.specs.Migrating.{IsNumberJudged, TellsNumber};
+ghost use Rattle.{sqlite.specs.Held.state, pawn_move.specs.Migrating.{IsNumberJudged, TellsNumber}};
 
 use crate::fault::MoveFault;
 use pawn_opening::{SCHEMA, schema_noted};

@@ -1,27 +1,24 @@
 -- An empty store, table by table, note by note, and then its indexes.
-use Rattle.pawn_opening.proofs.Basics.{ℕ, true, [], ◌∷◌, codes, Result, OnOk, Ok, Err, refl, is_ok, State, Error, no_schema, IsLent, with_rows, meta_row, keep_schema, StandsFor, clean_before, AddsIndexes, GainsIndexes, Makes, Notes, no_rows, Fills, empty_host}
-use Rattle.pawn_opening.proofs.EmptyHost.{stands_empty}
-use Rattle.pawn_opening.proofs.Gained.{gains_stands}
+use Rattle.{std.proofs.Common.{ℕ, true, [], ◌∷◌, codes, Result, OnOk, Ok, Err, refl, is_ok}, pawn_opening.specs.Common.{State, Error, no_schema, IsLent}}
+use Rattle.pawn_opening.{specs.{Common.{with_rows, meta_row, StandsFor}, Indexing.{AddsIndexes, GainsIndexes}, Laying.Makes}, proofs.Basics.clean_before}
+use Rattle.pawn_opening.{specs.{Laying.{Notes, no_rows}, Opened.{Fills, empty_host}}, proofs.{EmptyHost.stands_empty, Gained.gains_stands}}
+use Rattle.pawn_tables.specs.Schema.{keep_schema}
 
 module _ (a b c d e f : State) (limit : ℕ) (r : Result (Unit {0}) Error) where
-  pub filled : Makes {E = Error} a b (Ok tt) no_schema keep_schema → IsLent a b true → Notes {E = Error} b c (Ok tt) (meta_row (codes "limit") limit) → IsLent b c true
-      → Notes {E = Error} c d (Ok tt) (meta_row (codes "rows") 0) → IsLent c d true → Notes {E = Error} d e (Ok tt) (meta_row (codes "schema") 3) → IsLent d e true
-      → AddsIndexes e f r → IsLent e f (is_ok r) → Fills a f limit r
-  filled tables part one first two second three third adds fourth clean within st =
-      let clean-e = clean_before e f (is_ok r) fourth clean in
-      let clean-d = clean_before d e true third clean-e in
-      let clean-c = clean_before c d true second clean-d in
-      let clean-b = clean_before b c true first clean-c in
-      let made = tables clean-b within st in
-      let within-b = part.inside clean-b within refl in
-      let within-c = first.inside clean-c within-b refl in
-      let within-d = second.inside clean-d within-c refl in
-      let within-e = third.inside clean-e within-d refl in
+  pub filled : Makes {E = Error} a b (Ok tt) no_schema keep_schema → IsLent a b true → Notes {E = Error} b c (Ok tt) (meta_row (codes "limit") limit)
+      → IsLent b c true → Notes {E = Error} c d (Ok tt) (meta_row (codes "rows") 0) → IsLent c d true
+      → Notes {E = Error} d e (Ok tt) (meta_row (codes "schema") 3) → IsLent d e true → AddsIndexes e f r → IsLent e f (is_ok r) → Fills a f limit r
+  filled tables part one first two second three third adds fourth clean within st = let clean-e = clean_before e f (is_ok r) fourth clean in
+      let clean-d = clean_before d e true third clean-e in let clean-c = clean_before c d true second clean-d in
+      let clean-b = clean_before b c true first clean-c in let made = tables clean-b within st in
+      let within-b = part.inside clean-b within refl in let within-c = first.inside clean-c within-b refl in
+      let within-d = second.inside clean-d within-c refl in let within-e = third.inside clean-e within-d refl in
       let l1 = one clean-c within-b no_rows made in
       let l2 = two clean-d within-c (with_rows no_rows 13 (meta_row (codes "limit") limit ∷ [])) l1 in
-      let l3 = three clean-e within-d (with_rows (with_rows no_rows 13 (meta_row (codes "limit") limit ∷ [])) 13 (meta_row (codes "rows") 0 ∷ meta_row (codes "limit") limit ∷ [])) l2 in
-      last r (stands_empty e.now limit l3) (adds clean within-e)
-    where
-      last : (r' : Result (Unit {0}) Error) → StandsFor e.now (empty_host limit) → OnOk r' (GainsIndexes e.now f.now) → OnOk r' (StandsFor f.now (empty_host limit))
-      last (Ok done) st gains = gains_stands e.now f.now (empty_host limit) gains st
-      last (Err fault) st gains = tt
+      let l3 = three clean-e within-d
+      (with_rows (with_rows no_rows 13 (meta_row (codes "limit") limit ∷ [])) 13 (meta_row (codes "rows") 0 ∷ meta_row (codes "limit") limit ∷ [])) l2 in
+      last r (stands_empty e.now limit l3) (adds clean within-e) where
+        last : (r' : Result (Unit {0}) Error) → StandsFor e.now (empty_host limit) → OnOk r' (GainsIndexes e.now f.now)
+            → OnOk r' (StandsFor f.now (empty_host limit))
+        last (Ok done) st gains = gains_stands e.now f.now (empty_host limit) gains st
+        last (Err fault) st gains = tt

@@ -1,17 +1,17 @@
 -- What an open finds in files.
-use Rattle.pawn_opening.proofs.Basics.{◌≡◌, ◌⊎◌, ℕ, inl, inr, false, [], Err, refl, sym, ap, subst, ◌∙◌, arith, MoreFaults, Files, faults, is_shielded, recovers, view, FileStore, catalog_tree, IsClean, IsQuiet, doubt, StoreError, Image, Database, IsDatabase, ExcusesClose, FailsToClose, Finds, IsCleanLeft, IsClosed, file_state, image_of, Held, Schema, HasCleanDisk, IsLive, Opens, State, store_error, Trees, Error, SqliteFailure, Host, no_schema, HoldHost, StandsFor, no_doubt, AreClosedFor, HasCommitted, IsLeftUnclosed, StandsAlone, HoldsIn, IsBlank, IsRefusedStore, OpensFound, StandsIn, GainsIndexes, AreMadeOf, IsOpenable, Prepares, IsEmptyStore, IsRefusedFor, IsStoreFault, NotesSchema, OpenFault}
-use Rattle.pawn_opening.specs.Common.{Ghosts}
+use Rattle.std.proofs.{Common.{◌≡◌, ◌⊎◌, ℕ, inl, inr, false, [], Err, refl, sym, ap, subst, ◌∙◌, arith}, Math.Logic.∥∥₁_elim}
+use Rattle.pawn_opening.specs.Common.{MoreFaults, Files, faults, is_shielded, recovers, view, FileStore, catalog_tree, IsClean, IsQuiet, doubt, Image, Database}
+use Rattle.pawn_opening.specs.Common.{IsDatabase, Held, Schema, HasCleanDisk, State, Trees, Error, SqliteFailure, Host, no_schema, HoldHost, StandsFor, Ghosts}
+use Rattle.pawn_opening.specs.{Closed.{AreClosedFor, HasCommitted, IsLeftUnclosed, StandsAlone}, FilesStand.{HoldsIn, IsBlank, IsRefusedStore, OpensFound}}
+use Rattle.pawn_opening.specs.{FilesStand.StandsIn, Indexing.GainsIndexes, Opened.{AreMadeOf, IsOpenable, Prepares}, Refusing.{IsEmptyStore, IsRefusedFor}}
+use Rattle.pawn_opening.{specs.{Refusing.{IsStoreFault, NotesSchema}, declared.fault.OpenFault.OpenFault}, proofs.Begun.held}
+use Rattle.{sqlite_trees.{specs.{declared.error.StoreError.StoreError, Props.Trees-set}, proofs.Doubt.no_doubt}, sqlite.specs.Files.ExcusesClose}
+use Rattle.sqlite.specs.{Files.{FailsToClose, Finds, IsCleanLeft, IsClosed, file_state, image_of}, State.{IsLive, Opens, store_error}}
+use Rattle.{sqlite.{proofs.ListingLemmas.empty_is_sound, specs.{Start.FindsIn, Closing.{HoldsAlone, IsCopied}}}, sqlite_catalog.specs.Listing.IsSound}
+use Rattle.sqlite_catalog.proofs.ReadLemmas.{lists_once}
 use Rattle.sqlite_trees.specs.declared.error.StoreError.TheVariants as stored
 use Rattle.sqlite.specs.declared.file.Leftover.TheVariants as left
 use Rattle.sqlite.specs.declared.error.ErrorCode.TheVariants as code
-use Rattle.sqlite_catalog.specs.Listing.{IsSound}
-use Rattle.sqlite_catalog.proofs.ReadLemmas.{lists_once}
-use Rattle.sqlite.proofs.ListingLemmas.{empty_is_sound}
-use Rattle.std.proofs.Math.Logic.{∥∥₁_elim}
-use Rattle.sqlite_trees.specs.Props.{Trees-set}
-use Rattle.sqlite.specs.Start.{FindsIn}
-use Rattle.sqlite.specs.Closing.{HoldsAlone, IsCopied}
-use Rattle.pawn_opening.proofs.Begun.{held}
 use Rattle.pawn_opening.specs.declared.fault.OpenFault.TheVariants as Fault
 
 -- the trees list one schema
@@ -19,8 +19,7 @@ schema_once : (s t : Schema) (db : Trees) → IsSound s db → IsSound t db → 
 schema_once s t db p q = lists_once (db catalog_tree) s t p.lists q.lists
 
 found_again : (now : Database) (db : Trees) (h : Host) → now.trees ≡ db → IsDatabase now → HoldHost db h → StandsFor now h
-found_again now db h is sound left =
-    let same : now.schema ≡ left.0 = schema_once now.schema left.0 db (subst (IsSound now.schema) is sound) left.1.sound in
+found_again now db h is sound left = let same : now.schema ≡ left.0 = schema_once now.schema left.0 db (subst (IsSound now.schema) is sound) left.1.sound in
     subst (λ (d : Database). StandsFor d h) (λ i. record { schema = sym same i; trees = sym is i }) left.1
 
 database_again : (now db : Database) → now.trees ≡ db.trees → IsDatabase now → IsDatabase db → now ≡ db
@@ -43,8 +42,7 @@ module _ (image : Image) (s : State) (opened : Opens s × IsLive s) (found : Fin
   finds_database db it = database_again s.now db (trees_are ∙ ∥∥₁_elim it.0 (Trees-set _ _) (found.holds db.trees)) sound it.1
 
   pub finds_none : IsBlank image → IsEmptyStore s.now
-  finds_none blank =
-      let bare : s.now.trees catalog_tree ≡ [] = ap (λ (db : Trees). db catalog_tree) trees_are ∙ blank _ found.reads in
+  finds_none blank = let bare : s.now.trees catalog_tree ≡ [] = ap (λ (db : Trees). db catalog_tree) trees_are ∙ blank _ found.reads in
       schema_once s.now.schema no_schema s.now.trees sound (empty_is_sound s.now.trees bare)
 
   -- the database that was found is opened
@@ -61,12 +59,10 @@ module _ (image : Image) (s : State) (opened : Opens s × IsLive s) (found : Fin
   }
 
   -- the database that was found is refused
-  pub refused : {D : Type 0} {g : Ghosts D} (new : Held (FileStore D g)) (it : FileStore D g) (limit : ℕ) (why : OpenFault) → Prepares s (file_state new) limit (Err why) → IsQuiet view faults recovers is_shielded new.store it
-      → IsCleanLeft (left.Store it) → IsRefusedStore image limit why (left.Store it)
-  refused new it limit why p quiet clean =
-      let dirt : doubt (view it).is_clean ≡ 0 = no_doubt (view it).is_clean clean in
-      let up = quiet.clean in
-      let fair : HasCleanDisk (file_state new) = omega (arith, up, dirt) in
+  pub refused : {D : Type 0} {g : Ghosts D} (new : Held (FileStore D g)) (it : FileStore D g) (limit : ℕ) (why : OpenFault) → Prepares s (file_state new) limit
+      (Err why) → IsQuiet view faults recovers is_shielded new.store it → IsCleanLeft (left.Store it) → IsRefusedStore image limit why (left.Store it)
+  refused new it limit why p quiet clean = let dirt : doubt (view it).is_clean ≡ 0 = no_doubt (view it).is_clean clean in
+      let up = quiet.clean in let fair : HasCleanDisk (file_state new) = omega (arith, up, dirt) in
       let same : s.now ≡ s.committed = opened.0.clean in (
         it,
         refl,
@@ -76,7 +72,8 @@ module _ (image : Image) (s : State) (opened : Opens s × IsLive s) (found : Fin
           holds = found.holds;
           sound = (opened.1 opened.0.is_open).1;
           refused = subst (λ d. IsRefusedFor d why) same (p.refuses fair);
-          crash = λ trees may. elim (p.crash fair opened.0.is_open trees (quiet.outcomes trees may)) [ inl last ↦ inl last | inr made ↦ inr (subst (λ d. AreMadeOf d limit trees) same made) ];
+          crash = λ trees may. elim (p.crash fair opened.0.is_open trees (quiet.outcomes trees may))
+              [ inl last ↦ inl last | inr made ↦ inr (subst (λ d. AreMadeOf d limit trees) same made) ];
         },
       )
 
@@ -84,30 +81,31 @@ pub as_found : {D : Type 0} {g : Ghosts D} (files : Files D) (c : Held (FileStor
 as_found files c found = record { holds = found.holds; reads = found.reads }
 
 -- the files that a close hands back stand for what was committed
-pub closes : {D : Type 0} {g : Ghosts D} (c : Held (FileStore D g)) (files : Files D) (h : Host) → IsCopied c files → HasCommitted (file_state c) h → AreClosedFor g files h
+pub closes : {D : Type 0} {g : Ghosts D} (c : Held (FileStore D g)) (files : Files D) (h : Host) → IsCopied c files → HasCommitted (file_state c) h
+    → AreClosedFor g files h
 closes {D} {g} c files h copied committed = record { seen = alone (image_of g files) copied.seen; left = λ image may. alone image (copied.left image may) }
   where
     alone : (image : Image) → HoldsAlone image (file_state c).committed.trees → StandsAlone image h
-    alone image holds =
-        let stands = held (file_state c).committed h (committed copied.was_open) in
+    alone image holds = let stands = held (file_state c).committed h (committed copied.was_open) in
         record {
           both = record { trees = (file_state c).committed.trees; held = holds.both; stands = stands };
           alone = record { trees = (file_state c).committed.trees; held = holds.alone; stands = stands };
         }
 
 -- why a store is blamed that was not closed
-pub blamed : {D : Type 0} {g : Ghosts D} (c : Held (FileStore D g)) (it : FileStore D g) (error : Error) (why : OpenFault) → (error ≡ SqliteFailure code.OutOfMemory → why ≡ Fault.Memory) → FailsToClose c it error
+pub blamed : {D : Type 0} {g : Ghosts D} (c : Held (FileStore D g)) (it : FileStore D g) (error : Error) (why : OpenFault)
+    → (error ≡ SqliteFailure code.OutOfMemory → why ≡ Fault.Memory) → FailsToClose c it error
     → why ≡ Fault.Store → ((file_state c).is_open ≡ false) ⊎ MoreFaults (file_state c).faults (faults it)
-blamed {D} {g} c it error why told fails store = go fails.0 fails.1 fails.2
-  where
-    go : (cause : StoreError) → error ≡ store_error cause → ExcusesClose c it cause → ((file_state c).is_open ≡ false) ⊎ MoreFaults (file_state c).faults (faults it)
-    go stored.OutOfMemory is excuse = absurd (let e = sym (told is) ∙ store in cc)
-    go stored.Io is excuse = inr excuse
-    go stored.Corrupt is excuse = inr excuse
-    go stored.Full is excuse = inr excuse
-    go stored.Broken is excuse = excuse
-    go stored.Unstorable is excuse = absurd excuse
+blamed {D} {g} c it error why told fails store = go fails.0 fails.1 fails.2 where
+  go : (cause : StoreError) → error ≡ store_error cause → ExcusesClose c it cause
+      → ((file_state c).is_open ≡ false) ⊎ MoreFaults (file_state c).faults (faults it)
+  go stored.OutOfMemory is excuse = absurd (let e = sym (told is) ∙ store in cc)
+  go stored.Io is excuse = inr excuse
+  go stored.Corrupt is excuse = inr excuse
+  go stored.Full is excuse = inr excuse
+  go stored.Broken is excuse = excuse
+  go stored.Unstorable is excuse = absurd excuse
 
-pub unclosed : {D : Type 0} {g : Ghosts D} (c : Held (FileStore D g)) (it : FileStore D g) (error : Error) (why : OpenFault) → IsStoreFault why → (error ≡ SqliteFailure code.OutOfMemory → why ≡ Fault.Memory)
-    → IsClosed c it → (IsClean (view it) → FailsToClose c it error) → IsLeftUnclosed c why it
+pub unclosed : {D : Type 0} {g : Ghosts D} (c : Held (FileStore D g)) (it : FileStore D g) (error : Error) (why : OpenFault) → IsStoreFault why
+    → (error ≡ SqliteFailure code.OutOfMemory → why ≡ Fault.Memory) → IsClosed c it → (IsClean (view it) → FailsToClose c it error) → IsLeftUnclosed c why it
 unclosed c it error why fault told left fails = record { fault = fault; left = left; cause = λ clean. blamed c it error why told (fails clean) }

@@ -1,5 +1,7 @@
 -- What a database that has gained indexes stands for.
-use Rattle.pawn_opening.proofs.Basics.{◌≡◌, ◌++◌, List, [], ◌∷◌, refl, sym, ap, subst, ◌∙◌, append-nil, append_assoc, ℕ, AllByRecursion, KeepsRows, Index, Database, IsDatabase, Row, Schema, Table, Trees, Host, Holds, IsNumbered, Listed, columns_of, AreLoose, ListsOurs, with_indexes, keep_schema, StandsFor, GainsIndexes}
+use Rattle.std.proofs.Common.{◌≡◌, ◌++◌, List, [], ◌∷◌, refl, sym, ap, subst, ◌∙◌, append-nil, append_assoc, ℕ, map, IsPermutation}
+use Rattle.pawn_opening.specs.Common.{AllByRecursion, KeepsRows, Index, Database, IsDatabase, Row, Schema, Table, Trees, Host, Holds, IsNumbered, Listed}
+use Rattle.{pawn_opening.specs.{Common.{columns_of, AreLoose, ListsOurs, with_indexes, StandsFor}, Indexing.GainsIndexes}, pawn_tables.specs.Schema.keep_schema}
 
 loose_both : (xs ys : List Index) → AreLoose xs → AreLoose ys → AreLoose (xs ++ ys)
 loose_both [] ys p q = q
@@ -30,7 +32,8 @@ pub gains_then : (a b c : Database) → GainsIndexes a b → GainsIndexes b c �
 gains_then a b c f g = record {
   more = f.more ++ g.more;
   loose = loose_both f.more g.more f.loose g.loose;
-  is = g.is ∙ ap (λ (s : Schema). record s { indexes = s.indexes ++ g.more }) f.is ∙ ap (λ (xs : List Index). record a.schema { indexes = xs }) (append_assoc a.schema.indexes f.more g.more);
+  is = g.is ∙ ap (λ (s : Schema). record s { indexes = s.indexes ++ g.more }) f.is
+      ∙ ap (λ (xs : List Index). record a.schema { indexes = xs }) (append_assoc a.schema.indexes f.more g.more);
   rows = keeps_then a.schema.tables a.trees b.trees c.trees f.rows (subst (λ (s : Schema). KeepsRows s.tables b.trees c.trees) f.is g.rows);
   sound = g.sound;
 }
@@ -39,33 +42,36 @@ gains_then a b c f g = record {
 
 holds_still : (old new : Trees) (tree : ℕ) (t : Table) (rows : List Row) → new tree ≡ old tree → Holds old tree t rows → Holds new tree t rows
 holds_still old new tree t rows same holds = record {
-  same = subst (λ xs. Rattle.std.proofs.Common.IsPermutation rows (Rattle.std.proofs.Common.map (columns_of t) xs)) (sym same) holds.same;
+  same = subst (λ xs. IsPermutation rows (map (columns_of t) xs)) (sym same) holds.same;
   numbered = subst IsNumbered (sym same) holds.numbered;
 }
 
-kept_tables : (tables : List Table) (old new : Trees) (listed : Listed) → KeepsRows tables old new → AllByRecursion (λ (t : Table). Holds old t.tree t (listed t.tree)) tables → AllByRecursion (λ (t : Table). Holds new t.tree t (listed t.tree)) tables
+kept_tables : (tables : List Table) (old new : Trees) (listed : Listed) → KeepsRows tables old new
+    → AllByRecursion (λ (t : Table). Holds old t.tree t (listed t.tree)) tables → AllByRecursion (λ (t : Table). Holds new t.tree t (listed t.tree)) tables
 kept_tables [] old new listed kept holds = tt
 kept_tables (t ∷ ts) old new listed kept holds = (holds_still old new t.tree t (listed t.tree) kept.0 holds.0, kept_tables ts old new listed kept.1 holds.1)
 
 -- its schema has the indexes that were there, and those that it gained
 more_indexes : (old new : Database) (more : List Index) (g : GainsIndexes old new) → old.schema ≡ with_indexes more → new.schema ≡ with_indexes (more ++ g.more)
-more_indexes old new more g is =
-    g.is ∙ ap (λ (s : Schema). record s { indexes = s.indexes ++ g.more }) is ∙ ap (λ (xs : List Index). record keep_schema { indexes = xs }) (append_assoc keep_schema.indexes more g.more)
+more_indexes old new more g is = g.is ∙ ap (λ (s : Schema). record s { indexes = s.indexes ++ g.more }) is
+    ∙ ap (λ (xs : List Index). record keep_schema { indexes = xs }) (append_assoc keep_schema.indexes more g.more)
 
 -- the tables list the rows that they listed
 pub gains_lists : (old new : Database) (listed : Listed) → GainsIndexes old new → ListsOurs old listed → ListsOurs new listed
-gains_lists old new listed g st =
-    let kept = subst (λ (s : Schema). KeepsRows s.tables old.trees new.trees) st.lists.schema_is g.rows in
+gains_lists old new listed g st = let kept = subst (λ (s : Schema). KeepsRows s.tables old.trees new.trees) st.lists.schema_is g.rows in
     record {
       more = st.more ++ g.more;
       loose = loose_both st.more g.more st.loose g.loose;
-      lists = record { schema_is = more_indexes old new st.more g st.lists.schema_is; sound = g.sound; tables = kept_tables keep_schema.tables old.trees new.trees listed kept st.lists.tables };
+      lists = record {
+        schema_is = more_indexes old new st.more g st.lists.schema_is;
+        sound = g.sound;
+        tables = kept_tables keep_schema.tables old.trees new.trees listed kept st.lists.tables;
+      };
     }
 
 -- the tables stand for the host that they stood for
 pub gains_stands : (old new : Database) (h : Host) → GainsIndexes old new → StandsFor old h → StandsFor new h
-gains_stands old new h g st =
-    let more = st.schema.more in
+gains_stands old new h g st = let more = st.schema.more in
     let kept = subst (λ (s : Schema). KeepsRows s.tables old.trees new.trees) st.schema.is g.rows in
     let still = holds_still old.trees new.trees in
     record {

@@ -1,24 +1,25 @@
 -- What CREATE INDEX makes of tables, whatever their schema is.
-use Rattle.pawn_opening.proofs.Basics.{◌≡◌, ℕ, ◌+◌, List, [], ◌∷◌, Bool, true, false, Option, None, Some, Ok, Err, Result, OnOk, refl, sym, ap, subst, ◌∙◌, slice_get, slice_range, if◌then◌else◌, is_some, KeepsRows, command, compiled, create_index, creates, first, index_in, is_reserved, meaning, planned, returning, small, target, timed, with_command, Compiled, CompileError, Index, everything, index_defined_by, AtPlace, Does, Tally, Database, IsDatabase, if_select, is_select, listing_schema, reads_listing, understood, Schema, Executes, ExecutesIn, State, Writes, mode_of, text_of, Table, IsLent, IsPlain, command_of, runs_as, statement_of, went, same_value, clean_before, AddsIndexes, GainsIndexes, MAKE_BOOKINGS_BY_TIME, MAKE_PLEDGES_BY_END}
-use Rattle.std.specs.Option.{option_or}
-use Rattle.sqlite_ast.specs.declared.CreateIndex.{CreateIndex}
+use Rattle.std.proofs.Common.{◌≡◌, ℕ, ◌+◌, List, [], ◌∷◌, Bool, true, false, Option, None, Some, Ok, Err, Result, OnOk, refl, sym, ap, subst, ◌∙◌, slice_get}
+use Rattle.{std.{proofs.Common.{slice_range, if◌then◌else◌, is_some}, specs.Option.option_or}, pawn_opening.specs.Common.{KeepsRows, Compiled, CompileError}}
+use Rattle.pawn_opening.specs.Common.{Index, everything, Does, Tally, Database, IsDatabase, understood, Schema, Executes, State, Table, IsLent}
+use Rattle.pawn_opening.{proofs.{Basics.{went, same_value, clean_before}, Creating.Ran, Gained.gains_then}, specs.Indexing.{AddsIndexes, GainsIndexes}}
+use Rattle.sqlite_resolve.specs.Compile.{command, compiled, create_index, creates, first, index_in, is_reserved, meaning, planned, returning, small, target}
+use Rattle.sqlite_resolve.specs.{Compile.{timed, with_command}, Body.table_at, Lowering.and_then, declared.error.CompileError.TheVariants.{Exists, Misuse}}
+use Rattle.{sqlite_resolve.specs.declared.error.CompileError.TheVariants.NoSuchTable, sqlite.specs.{Compile.index_defined_by, Does.{AtPlace, Defines}}}
+use Rattle.sqlite.specs.{Does.MakesIndex, Listing.{if_select, is_select, listing_schema, reads_listing}, State.{ExecutesIn, Writes, mode_of, text_of}}
+use Rattle.{sqlite.proofs.Callers.{IsPlain, command_of, runs_as, statement_of}, pawn_tables.specs.declared.texts.TheConstants.MAKE_BOOKINGS_BY_TIME}
+use Rattle.{pawn_tables.specs.declared.texts.TheConstants.MAKE_PLEDGES_BY_END, sqlite_ast.specs.declared.CreateIndex.CreateIndex}
+use Rattle.sqlite_schema.specs.{declared.command.Command.{Command, TheVariants.{CreateIndex as MakeIndex, Nothing}}, Names.{index_named, table_named}}
+use Rattle.{sqlite_schema.specs.Names.view_named, sqlite_syntax.specs.declared.statement.Parsed.Parsed, sqlite_catalog.specs.Change.next_tree}
 use Rattle.sqlite_ast.specs.declared.Statement.TheVariants as written
-use Rattle.sqlite_resolve.specs.Body.{table_at}
 use Rattle.sqlite_resolve.specs.Define as define
-use Rattle.sqlite_resolve.specs.Lowering.{and_then}
-use Rattle.sqlite_resolve.specs.declared.error.CompileError.TheVariants.{Exists, Misuse, NoSuchTable}
-use Rattle.sqlite_schema.specs.declared.command.Command.{Command}
-use Rattle.sqlite_schema.specs.declared.command.Command.TheVariants.{CreateIndex as MakeIndex, Nothing}
-use Rattle.sqlite_schema.specs.Names.{index_named, table_named, view_named}
-use Rattle.sqlite_syntax.specs.declared.statement.Parsed.{Parsed}
-use Rattle.pawn_opening.proofs.Creating.{Ran}
-use Rattle.pawn_opening.proofs.Gained.{gains_then}
 
 -- ---- the text
 
 -- it is one statement that makes an index, and says neither that its name may be taken nor that rows differ
 abbrev pub IsMaking : List ℕ → Result Parsed CompileError → Type 0
-IsMaking sql (Ok p) = (def : CreateIndex) × (p.statement ≡ written.CreateIndex def) × (def.if_missing ≡ false) × (def.is_unique ≡ false) × (slice_range sql p.start p.end ≡ sql) × (p.formats ≡ [])
+IsMaking sql (Ok p) = (def : CreateIndex) × (p.statement ≡ written.CreateIndex def) × (def.if_missing ≡ false) × (def.is_unique ≡ false)
+    × (slice_range sql p.start p.end ≡ sql) × (p.formats ≡ [])
 IsMaking sql (Err e) = ⊥
 
 pub makes_by_end : IsMaking MAKE_PLEDGES_BY_END.now (first MAKE_PLEDGES_BY_END.now)
@@ -56,12 +57,15 @@ new_placed (Err e) f is h = tt
 creates_new : (missing : Bool) (name : List ℕ) (same other : Option ℕ) → missing ≡ false → IsNew (creates missing name same other)
 unfolding creates
 creates_new missing name same other not =
-    elim (is_reserved name) as (λ a. IsNew (if a then Err Misuse else (if is_some other then Err Exists else (if is_some same then (if missing then Ok false else Err Exists) else Ok true)))) [
+    elim (is_reserved name) as (λ a. IsNew
+    (if a then Err Misuse else (if is_some other then Err Exists else (if is_some same then (if missing then Ok false else Err Exists) else Ok true)))) [
       | true ↦ tt
-      | false ↦ elim (is_some other) as (λ b. IsNew (if b then Err Exists else (if is_some same then (if missing then Ok false else Err Exists) else Ok true))) [
-        | true ↦ tt
-        | false ↦ elim (is_some same) as (λ c. IsNew (if c then (if missing then Ok false else Err Exists) else Ok true)) [ true ↦ rw not tt | false ↦ refl ]
-      ]
+      | false ↦
+          elim (is_some other) as (λ b. IsNew (if b then Err Exists else (if is_some same then (if missing then Ok false else Err Exists) else Ok true))) [
+            | true ↦ tt
+            | false ↦
+                elim (is_some same) as (λ c. IsNew (if c then (if missing then Ok false else Err Exists) else Ok true)) [ true ↦ rw not tt | false ↦ refl ]
+          ]
     ]
 
 module _ (schema : Schema) (def : CreateIndex) (not : def.if_missing ≡ false) where
@@ -69,7 +73,8 @@ module _ (schema : Schema) (def : CreateIndex) (not : def.if_missing ≡ false) 
   made at table is_new = if is_new then and_then (define.index table def) (λ index. Ok (MakeIndex at)) else Ok Nothing
 
   abbrev in_table : ℕ → Table → Result Command CompileError
-  in_table at table = and_then (creates def.if_missing def.name (index_named schema def.name) (option_or (table_named schema def.name) (view_named schema def.name))) (made at table)
+  in_table at table = and_then
+      (creates def.if_missing def.name (index_named schema def.name) (option_or (table_named schema def.name) (view_named schema def.name))) (made at table)
 
   abbrev in_place : ℕ → Result Command CompileError
   in_place at = and_then (table_at schema at) (in_table at)
@@ -86,21 +91,21 @@ module _ (schema : Schema) (def : CreateIndex) (not : def.if_missing ≡ false) 
 
 means : (sql : List ℕ) (schema : Schema) (p : Parsed) → IsMaking sql (Ok p) → MakesAt sql (and_then (planned schema p) (λ plan. Ok (with_command p plan)))
 unfolding planned meaning returning command timed
-means sql schema p it =
-    subst (λ s. MakesAt sql (and_then (and_then (and_then (returning schema (small p.names + small (timed schema p.formats s)) s) (λ shown. and_then (command schema p.formats (small p.names + small (timed schema p.formats s)) s) (λ c. Ok (c, shown))))
+means sql schema p it = subst (λ s. MakesAt sql (and_then (and_then (and_then (returning schema (small p.names + small (timed schema p.formats s)) s)
+    (λ shown. and_then (command schema p.formats (small p.names + small (timed schema p.formats s)) s) (λ c. Ok (c, shown))))
     (λ found. Ok (timed schema p.formats s, found))) (λ plan. Ok (with_command p plan)))) (sym it.1) (go (create_index schema it.0) (placed schema it.0 it.2))
   where
-    go : (r : Result Command CompileError) → IsPlaced r → MakesAt sql (and_then (and_then (and_then (Ok None) (λ shown. and_then r (λ c. Ok (c, shown)))) (λ found. Ok (p.formats, found))) (λ plan. Ok (with_command p plan)))
+    go : (r : Result Command CompileError) → IsPlaced r → MakesAt sql (and_then
+        (and_then (and_then (Ok None) (λ shown. and_then r (λ c. Ok (c, shown)))) (λ found. Ok (p.formats, found))) (λ plan. Ok (with_command p plan)))
     go (Ok k) at = (at.0, at.1, refl, it.5, it.4)
     go (Err e) at = tt
 
 compiles : (sql : List ℕ) (schema : Schema) → IsMaking sql (first sql) → MakesAt sql (compiled schema sql)
 unfolding compiled
-compiles sql schema making = go (first sql) making
-  where
-    go : (r : Result Parsed CompileError) → IsMaking sql r → MakesAt sql (and_then r (λ p. and_then (planned schema p) (λ plan. Ok (with_command p plan))))
-    go (Ok p) making = means sql schema p making
-    go (Err e) making = absurd making
+compiles sql schema making = go (first sql) making where
+  go : (r : Result Parsed CompileError) → IsMaking sql r → MakesAt sql (and_then r (λ p. and_then (planned schema p) (λ plan. Ok (with_command p plan))))
+  go (Ok p) making = means sql schema p making
+  go (Err e) making = absurd making
 
 selected : (sql : List ℕ) (r : Result Compiled CompileError) → MakesAt sql r → MakesAt sql (if_select r)
 selected sql (Ok c) h = elim (is_select c.command) as (λ b. MakesAt sql (if b then Ok c else Err NoSuchTable)) [ true ↦ h | false ↦ tt ]
@@ -115,47 +120,44 @@ makes_at sql schema making =
 -- the index that it makes does not ask that rows differ
 is_loose : (sql : List ℕ) → IsMaking sql (first sql) → (table : Table) (index : Index) → index_defined_by table sql ≡ Ok index → index.is_unique ≡ false
 unfolding index_defined_by index_in define.index
-is_loose sql making table index is = go (first sql) making is
-  where
-    after : {A : Type 0} (r : Result A CompileError) (f : A → Index) → ((x : A) → (f x).is_unique ≡ false) → and_then r (λ x. Ok (f x)) ≡ Ok index → index.is_unique ≡ false
-    after (Ok x) f h e = subst (λ (i : Index). i.is_unique ≡ false) (same_value e) (h x)
-    after (Err why) f h e = absurd (let no = e in cc)
+is_loose sql making table index is = go (first sql) making is where
+  after : {A : Type 0} (r : Result A CompileError) (f : A → Index) → ((x : A) → (f x).is_unique ≡ false) → and_then r (λ x. Ok (f x)) ≡ Ok index
+      → index.is_unique ≡ false
+  after (Ok x) f h e = subst (λ (i : Index). i.is_unique ≡ false) (same_value e) (h x)
+  after (Err why) f h e = absurd (let no = e in cc)
 
-    named : (b : Bool) (r : Result Index CompileError) → (r ≡ Ok index → index.is_unique ≡ false) → (if b then Err Misuse else r) ≡ Ok index → index.is_unique ≡ false
-    named true r h e = absurd (let no = e in cc)
-    named false r h e = h e
+  named : (b : Bool) (r : Result Index CompileError) → (r ≡ Ok index → index.is_unique ≡ false) → (if b then Err Misuse else r) ≡ Ok index
+      → index.is_unique ≡ false
+  named true r h e = absurd (let no = e in cc)
+  named false r h e = h e
 
-    go : (r : Result Parsed CompileError) → IsMaking sql r → and_then r (λ p. index_in table p.statement) ≡ Ok index → index.is_unique ≡ false
-    go (Ok p) it e =
-        let defined = subst (λ s. index_in table s ≡ Ok index) it.1 e in
-        named _ _ (λ made. after (define.sorted table it.0.columns) (λ at. record { name = it.0.name; tree = 0; table = table.tree; columns = at.0; order = at.1; is_unique = it.0.is_unique }) (λ at. it.3) made) defined
-    go (Err why) it e = absurd it
+  go : (r : Result Parsed CompileError) → IsMaking sql r → and_then r (λ p. index_in table p.statement) ≡ Ok index → index.is_unique ≡ false
+  go (Ok p) it e = let defined = subst (λ s. index_in table s ≡ Ok index) it.1 e in
+      named _ _ (λ made. after (define.sorted table it.0.columns)
+      (λ at. record { name = it.0.name; tree = 0; table = table.tree; columns = at.0; order = at.1; is_unique = it.0.is_unique }) (λ at. it.3) made) defined
+  go (Err why) it e = absurd it
 
 -- ---- what it does
 
-gains_at : (old new : Database) (at : ℕ) (sql : List ℕ) → IsMaking sql (first sql) → IsDatabase new → (limit : Option ℕ) (mode : _) (tally : Tally) → Does limit mode [] old sql None (MakeIndex at) (Ok (tally, new)) → GainsIndexes old new
-gains_at old new at sql making sound limit mode tally does = go (slice_get old.schema.tables at) does
-  where
-    go : (o : Option Table) → AtPlace (λ table. Rattle.sqlite.specs.Does.Defines mode (Rattle.sqlite.specs.Does.MakesIndex sql old table)) o (Ok (tally, new)) → GainsIndexes old new
-    go None h = absurd (let e = h in cc)
-    go (Some table) h =
-        let all = went h in
-        let made = all.1 in
-        let now : new ≡ all.0 = ap (λ (p : Tally × Database). p.1) (same_value all.2) in
-        record {
-          more = record made.index { tree = Rattle.sqlite_catalog.specs.Change.next_tree old.schema; table = table.tree } ∷ [];
-          loose = (is_loose sql making table made.index made.defined, tt);
-          is = ap (λ (d : Database). d.schema) now ∙ made.is;
-          rows = subst (λ (d : Database). KeepsRows old.schema.tables old.trees d.trees) (sym now) made.rows;
-          sound = sound;
-        }
+gains_at : (old new : Database) (at : ℕ) (sql : List ℕ) → IsMaking sql (first sql) → IsDatabase new → (limit : Option ℕ) (mode : _) (tally : Tally)
+    → Does limit mode [] old sql None (MakeIndex at) (Ok (tally, new)) → GainsIndexes old new
+gains_at old new at sql making sound limit mode tally does = go (slice_get old.schema.tables at) does where
+  go : (o : Option Table) → AtPlace (λ table. Defines mode (MakesIndex sql old table)) o (Ok (tally, new)) → GainsIndexes old new
+  go None h = absurd (let e = h in cc)
+  go (Some table) h = let all = went h in
+      let made = all.1 in let now : new ≡ all.0 = ap (λ (p : Tally × Database). p.1) (same_value all.2) in
+      record {
+        more = record made.index { tree = next_tree old.schema; table = table.tree } ∷ [];
+        loose = (is_loose sql making table made.index made.defined, tt);
+        is = ap (λ (d : Database). d.schema) now ∙ made.is;
+        rows = subst (λ (d : Database). KeepsRows old.schema.tables old.trees d.trees) (sym now) made.rows;
+        sound = sound;
+      }
 
 gains : (sql : List ℕ) → IsMaking sql (first sql) → (old new : State) (count : ℕ) → Executes sql [] old new (Ok count) → GainsIndexes old.now new.now
 unfolding ExecutesIn
-gains sql making old new count h =
-    let compiled_as = h.1.is in
-    let it = subst (MakesAt sql) compiled_as (makes_at sql old.now.schema making) in
-    let at = it.0 in
+gains sql making old new count h = let compiled_as = h.1.is in
+    let it = subst (MakesAt sql) compiled_as (makes_at sql old.now.schema making) in let at = it.0 in
     let is : command_of (understood old.now.schema sql) ≡ MakeIndex at = ap command_of compiled_as ∙ it.1 in
     let plain : IsPlain (understood old.now.schema sql) = subst IsPlain (sym compiled_as) (it.2, it.3) in
     let whole : statement_of sql (understood old.now.schema sql) ≡ sql = ap (statement_of sql) compiled_as ∙ it.4 in
@@ -167,10 +169,11 @@ adds_one sql making old new (Ok done) ran clean within = let it = ran clean with
 adds_one sql making old new (Err e) ran clean within = tt
 
 -- one, and then the other
-pub adds_both : {E : Type 0} (a b c : State) (r : Result (Unit {0}) E) (ok : Bool) → IsLent a b true → IsLent b c ok → Ran {E = E} MAKE_PLEDGES_BY_END.now a b (Ok tt) → Ran MAKE_BOOKINGS_BY_TIME.now b c r → AddsIndexes a c r
-adds_both {E} a b c r ok first second f g clean within =
-    let was = clean_before b c ok second clean in
-    go r (adds_one {E = E} MAKE_PLEDGES_BY_END.now makes_by_end a b (Ok tt) f was within) (adds_one MAKE_BOOKINGS_BY_TIME.now makes_by_time b c r g clean (first.inside was within refl))
+pub adds_both : {E : Type 0} (a b c : State) (r : Result (Unit {0}) E) (ok : Bool) → IsLent a b true → IsLent b c ok
+    → Ran {E = E} MAKE_PLEDGES_BY_END.now a b (Ok tt) → Ran MAKE_BOOKINGS_BY_TIME.now b c r → AddsIndexes a c r
+adds_both {E} a b c r ok first second f g clean within = let was = clean_before b c ok second clean in
+    go r (adds_one {E = E} MAKE_PLEDGES_BY_END.now makes_by_end a b (Ok tt) f was within)
+    (adds_one MAKE_BOOKINGS_BY_TIME.now makes_by_time b c r g clean (first.inside was within refl))
   where
     go : (x : Result (Unit {0}) E) → GainsIndexes a.now b.now → OnOk x (GainsIndexes b.now c.now) → OnOk x (GainsIndexes a.now c.now)
     go (Ok done) one two = gains_then a.now b.now c.now one two

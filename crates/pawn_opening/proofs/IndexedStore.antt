@@ -1,7 +1,8 @@
 -- A store gets the indexes that it lacks: a transaction that makes them, and a commit.
-use Rattle.pawn_opening.proofs.Basics.{◌≡◌, inl, true, false, Ok, Err, IsTrue, refl, sym, subst, ◌∙◌, arith, HasCleanDisk, IsLive, IsRolledBack, Shows, State, Survives, FailsToCommit, Trees, Error, IsLent, survives_then, AddsIndexes, GainsIndexes, HoldGained, IndexesStore, IsStoreFault, OpenFault}
-use Rattle.pawn_opening.proofs.Begun.{IsBegun, rolled_back, uncommitted}
-use Rattle.pawn_opening.proofs.Gained.{gains_none}
+use Rattle.{std.proofs.Common.{◌≡◌, inl, true, false, Ok, Err, IsTrue, refl, sym, subst, ◌∙◌, arith}, pawn_opening.specs.Common.{HasCleanDisk, State, Trees}}
+use Rattle.pawn_opening.specs.{Common.{Error, IsLent}, Indexing.{AddsIndexes, GainsIndexes, HoldGained}, Opened.IndexesStore, Refusing.IsStoreFault}
+use Rattle.pawn_opening.{specs.declared.fault.OpenFault.OpenFault, proofs.{Begun.{IsBegun, rolled_back, uncommitted}, Gained.gains_none}}
+use Rattle.sqlite.{specs.{State.{IsLive, IsRolledBack, Shows, Survives}, Steps.FailsToCommit}, proofs.StateLemmas.survives_then}
 
 -- it lacks none
 pub not_lacking : (s : State) → s.in_transaction ≡ false → (IsTrue s.is_open → s.now ≡ s.committed) → IsLive s → IndexesStore s s (Ok tt)
@@ -10,7 +11,7 @@ not_lacking s ended settled live = record {
   err = λ clean. tt;
   why = tt;
   ended = ended;
-  survives = record { clean = omega arith; shield = λ h. h; counts = omega arith; limit = refl; closes = λ clean now. inl now; crash = λ clean db left. inl left };
+  survives = record { clean = omega arith; shield = λ h. h; counts = omega arith; limit = refl; closes = λ clean now. inl now; crash = λ clean db x. inl x };
 }
 
 module _ (old new begun lent : State) (was : IsBegun old begun) (ended : new.in_transaction ≡ false) where
@@ -18,7 +19,8 @@ module _ (old new begun lent : State) (was : IsBegun old begun) (ended : new.in_
   Gained = HoldGained old.now
 
   -- the transaction failed, and is rolled back
-  pub not_indexed : (why : OpenFault) → IsStoreFault why → IsLent begun lent false → (HasCleanDisk new → IsRolledBack lent new) → Survives lent new (λ _. ⊥) → IndexesStore old new (Err why)
+  pub not_indexed : (why : OpenFault) → IsStoreFault why → IsLent begun lent false → (HasCleanDisk new → IsRolledBack lent new) → Survives lent new (λ _. ⊥)
+      → IndexesStore old new (Err why)
   not_indexed why store part undone after = record {
     ok = λ clean open'. tt;
     err = λ clean. rolled_back old begun lent new false was part (let up = after.clean in omega (arith, clean, up)) (undone clean);
@@ -37,22 +39,25 @@ module _ (old new begun lent : State) (was : IsBegun old begun) (ended : new.in_
 
     survived : Survives old new Gained
     survived =
-        survives_then old begun new (λ _. ⊥) Gained Gained (λ clean db none. absurd none) (λ clean db held. held) was.survives
-        (survives_then begun lent new (λ _. ⊥) (λ db. db ≡ lent.now.trees) Gained (λ clean db none. absurd none) (λ clean db is. (lent.now, gained (clean_past clean), is)) part.survives after)
+        survives_then old begun new (λ _. ⊥) Gained Gained (λ clean db none. absurd none) (λ clean db held. held) was.survives (survives_then begun lent new (λ
+        _. ⊥) (λ db. db ≡ lent.now.trees) Gained (λ clean db none. absurd none) (λ clean db is. (lent.now, gained (clean_past clean), is)) part.survives after)
 
     pub indexed : (HasCleanDisk new → Shows lent new lent.now lent.now false) → IndexesStore old new (Ok tt)
     indexed shows = record {
-      ok = λ clean open'. let s = shows clean in (s.is_open, subst (GainsIndexes old.now) (sym s.now_is) (gained (clean_past clean)), s.now_is ∙ sym s.committed_is);
+      ok = λ clean open'. let s = shows clean in
+          (s.is_open, subst (GainsIndexes old.now) (sym s.now_is) (gained (clean_past clean)), s.now_is ∙ sym s.committed_is);
       err = λ clean. tt;
       why = tt;
       ended = ended;
       survives = survived;
     }
 
-    pub not_committed : (why : OpenFault) → IsStoreFault why → (error : Error) → (HasCleanDisk new → FailsToCommit lent new error) → IndexesStore old new (Err why)
+    pub not_committed : (why : OpenFault) → IsStoreFault why → (error : Error) → (HasCleanDisk new → FailsToCommit lent new error)
+        → IndexesStore old new (Err why)
     not_committed why store error failed = record {
       ok = λ clean open'. tt;
-      err = λ clean. rolled_back old begun lent new true was part (clean_past clean) (uncommitted old begun lent new was part error (clean_past clean) (failed clean));
+      err = λ clean. rolled_back old begun lent new true was part (clean_past clean)
+          (uncommitted old begun lent new was part error (clean_past clean) (failed clean));
       why = store;
       ended = ended;
       survives = survived;

@@ -1,4 +1,3 @@
-pub mod Answering
 pub mod Basics
 pub mod Begun
 pub mod Creating

@@ -1,8 +1,9 @@
 -- A row of what the store notes.
-use Rattle.pawn_opening.proofs.Basics.{◌≡◌, inl, inr, ℕ, pos, ◌==◌, List, [], ◌∷◌, length, false, Ok, Err, Result, OnOk, refl, arith, everything, understood, Row, Executes, State, Term, col, lit, Int, Null, Text, Listed, Lists, with_rows, meta_row, keep_schema, meta, meta_tree, PUT_NOTE, IsPlace, inserted, Puts}
-use Rattle.sqlite_schema.specs.declared.schema.Keys.TheVariants.{Enforced}
+use Rattle.std.proofs.Common.{◌≡◌, inl, inr, ℕ, pos, ◌==◌, List, [], ◌∷◌, length, false, Ok, Err, Result, OnOk, refl, arith}
+use Rattle.pawn_opening.specs.Common.{everything, understood, Row, Executes, State, Term, col, lit, Int, Null, Text, Listed, Lists, with_rows, meta_row}
+use Rattle.{pawn_opening.{specs.Common.PUT_NOTE, proofs.Basics.{IsPlace, inserted}}, pawn_tables.specs.Schema.{keep_schema, meta, meta_tree}}
+use Rattle.{one_table.proofs.{Texts.Puts, Rowed.{cast_null, cast_int}}, sqlite_schema.specs.declared.schema.Keys.TheVariants.Enforced}
 use Rattle.sqlite_rules.specs.Action.{works}
-use Rattle.one_table.proofs.Rowed.{cast_null, cast_int}
 
 abbrev pub note_values : List Term
 note_values = lit Null ∷ col 0 0 ∷ col 0 1 ∷ []
@@ -27,7 +28,10 @@ meta_place = record {
         inr (λ e. absurd (omega (arith, e))),
         (
           inr (λ e. absurd (omega (arith, e))),
-          (inr (λ e. absurd (omega (arith, e))), (inr (λ e. absurd (omega (arith, e))), (inl refl, (inr (λ e. absurd (omega (arith, e))), (inr (λ e. absurd (omega (arith, e))), tt))))),
+          (
+            inr (λ e. absurd (omega (arith, e))),
+            (inr (λ e. absurd (omega (arith, e))), (inl refl, (inr (λ e. absurd (omega (arith, e))), (inr (λ e. absurd (omega (arith, e))), tt)))),
+          ),
         ),
       ),
     ),
@@ -35,10 +39,11 @@ meta_place = record {
   idle = idle;
 }
 
-pub noted : (old new : State) (name : List ℕ) (value count : ℕ) (listed : Listed) → Lists keep_schema old.now listed → Executes PUT_NOTE.now (Text name ∷ Int (pos value) ∷ []) old new (Ok count)
-    → Lists keep_schema new.now (with_rows listed meta_tree (meta_row name value ∷ listed meta_tree))
+pub noted : (old new : State) (name : List ℕ) (value count : ℕ) (listed : Listed) → Lists keep_schema old.now listed → Executes PUT_NOTE.now
+    (Text name ∷ Int (pos value) ∷ []) old new (Ok count) → Lists keep_schema new.now (with_rows listed meta_tree (meta_row name value ∷ listed meta_tree))
 noted old new name value count listed st h =
-    inserted keep_schema 6 (record meta { tree = meta_tree }) note_values 3 PUT_NOTE.now meta_place note_is.0 note_is.1 old new (Text name ∷ Int (pos value) ∷ []) (Null ∷ meta_row name value) (Null ∷ meta_row name value) (meta_row name value) count listed st refl
+    inserted keep_schema 6 (record meta { tree = meta_tree }) note_values 3 PUT_NOTE.now meta_place note_is.0 note_is.1 old new
+    (Text name ∷ Int (pos value) ∷ []) (Null ∷ meta_row name value) (Null ∷ meta_row name value) (meta_row name value) count listed st refl
     (λ i. cast_null i ∷ Text name ∷ cast_int value i ∷ []) (λ rows. refl) h
 
 -- where a statement ran, what it wrote

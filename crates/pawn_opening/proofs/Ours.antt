@@ -1,16 +1,18 @@
 -- Tables that stand for a host note our schema.
-use Rattle.pawn_opening.proofs.Basics.{◌≡◌, inl, inr, ℕ, List, [], ◌∷◌, pos, map, filter, codes, Bool, refl, sym, ap, subst, ◌∙◌, arith, IsPermutation, list_all, Index, everything, Select, Database, Reads, IsSourceOf, reads_listing, understood, Row, column, value_cmp, Schema, Term, col, lit, op2, Int, Null, Text, Host, rows, Holds, columns_of, notes, with_indexes, keep_schema, meta, meta_tree, StandsFor, READ_SCHEMA, map-map, filter-map, IsPermutation-filter, IsPermutation-map, IsPlain, command_of, one_permutation, Asks, AnswersOpening, HasNoAnswer, IsEmptyStore, IsOneNumber, IsRefusedFor, IsStoreFault, NotesNoSchema, NotesSchema, OpenFault, Memory, NotOurs, OldSchema, Store}
-use Rattle.sqlite.specs.Ops.{binary, is_true}
-use Rattle.sqlite.specs.Collation.TheVariants.{Binary}
-use Rattle.sqlite.specs.Query.{IsAnswer}
-use Rattle.sqlite.specs.Program.{overlay}
-use Rattle.sqlite_sql.specs.declared.ops.BinaryOp.TheVariants.{Compare}
-use Rattle.sqlite_sql.specs.declared.ops.CompareOp.TheVariants.{Eq}
-use Rattle.one_table.proofs.OneTable.{over_table, passes, shows_of, found}
+use Rattle.std.proofs.Common.{◌≡◌, inl, inr, ℕ, List, [], ◌∷◌, pos, map, filter, codes, Bool, refl, sym, ap, subst, ◌∙◌, arith, IsPermutation}
+use Rattle.{std.proofs.lemmas.List.Sorted.IsPermutation-map, pawn_opening.specs.Common.{list_all, Index, everything, Select, Database, understood, Row, column}}
+use Rattle.pawn_opening.specs.Common.{value_cmp, Schema, Term, col, lit, op2, Int, Null, Text, Host, rows, Holds, columns_of, notes, with_indexes, StandsFor}
+use Rattle.pawn_opening.specs.{Common.READ_SCHEMA, Refusing.{AnswersOpening, HasNoAnswer, IsEmptyStore, IsOneNumber, IsRefusedFor, IsStoreFault, NotesNoSchema}}
+use Rattle.pawn_opening.specs.{Refusing.NotesSchema, declared.fault.OpenFault.{OpenFault, TheVariants.{Memory, NotOurs, OldSchema, Store}}}
+use Rattle.sqlite.{specs.{Effect.Reads, Listing.{IsSourceOf, reads_listing}, Ops.{binary, is_true}}, proofs.Callers.{IsPlain, command_of, one_permutation}}
+use Rattle.{sqlite.specs.{Collation.TheVariants.Binary, Query.IsAnswer, Program.overlay}, pawn_tables.specs.Schema.{keep_schema, meta, meta_tree}}
+use Rattle.{sqlite_trees.proofs.ListLemmas.{map-map, filter-map, IsPermutation-filter}, one_table.proofs.{Texts.Asks, OneTable.{over_table, passes, shows_of}}}
+use Rattle.{one_table.proofs.OneTable.found, sqlite_sql.specs.declared.ops.{BinaryOp.TheVariants.Compare, CompareOp.TheVariants.Eq}}
 
 -- the text asks meta of a schema, where it stands in its tree
 abbrev pub AsksMeta : Schema → Type 0
-AsksMeta s = Asks s READ_SCHEMA.now (over_table meta_tree (op2 (Compare Eq Binary) (col 1 1) (lit (Text (codes "schema"))) ∷ []) (col 1 2 ∷ []) []) (codes "value" ∷ [])
+AsksMeta s =
+    Asks s READ_SCHEMA.now (over_table meta_tree (op2 (Compare Eq Binary) (col 1 1) (lit (Text (codes "schema"))) ∷ []) (col 1 2 ∷ []) []) (codes "value" ∷ [])
 
 pub schema_is : (more : List Index) → AsksMeta (with_indexes more)
 unfolding understood everything
@@ -24,7 +26,8 @@ unfolding binary value_cmp lib.Ieee.is_nan lib.Ieee.lt
 alone n counted limit = refl
 
 -- tables of a schema, of which meta notes a number
-module _ (db : Database) (s : Schema) (asks : AsksMeta s) (n counted limit : ℕ) (schema : db.schema ≡ s) (noted : Holds db.trees meta_tree (record meta { tree = meta_tree }) (notes n counted limit)) where
+module _ (db : Database) (s : Schema) (asks : AsksMeta s) (n counted limit : ℕ) (schema : db.schema ≡ s)
+    (noted : Holds db.trees meta_tree (record meta { tree = meta_tree }) (notes n counted limit)) where
   known : understood db.schema READ_SCHEMA.now ≡ understood s READ_SCHEMA.now
   known = ap (λ s. understood s READ_SCHEMA.now) schema
 
@@ -32,18 +35,19 @@ module _ (db : Database) (s : Schema) (asks : AsksMeta s) (n counted limit : ℕ
   is_understood none = subst IsPlain (sym known ∙ none.1) asks.2
 
   answers_number : (rows : List Row) → AnswersOpening db rows → rows ≡ (Int (pos n) ∷ []) ∷ []
-  answers_number rows a =
-      let tests : List Term = op2 (Compare Eq Binary) (col 1 1) (lit (Text (codes "schema"))) ∷ [] in
+  answers_number rows a = let tests : List Term = op2 (Compare Eq Binary) (col 1 1) (lit (Text (codes "schema"))) ∷ [] in
       let shows : List Term = col 1 2 ∷ [] in
       let same : a.source ≡ db = subst (λ b. IsSourceOf b db a.source) (ap (λ s. reads_listing s READ_SCHEMA.now) schema ∙ asks.1) a.from in
       let command = sym (ap command_of (sym known ∙ a.is_understood)) ∙ asks.0 in
-      let read = subst (λ d. Reads (Select (record { lets = []; body = over_table meta_tree tests shows [] }) (codes "value" ∷ [])) d [] rows) same (subst (λ k. Reads k a.source [] rows) command a.reads) in
+      let read = subst (λ d. Reads (Select (record { lets = []; body = over_table meta_tree tests shows [] }) (codes "value" ∷ [])) d [] rows) same
+      (subst (λ k. Reads k a.source [] rows) command a.reads) in
       let answer : IsAnswer (over_table meta_tree tests shows []) (overlay db.trees []) [] rows = read.answer Null in
-      let by_rows = found 13 tests shows [] (overlay db.trees []) [] rows answer in
-      let cells = λ (v : Row). column v 1 ∷ [] in
-      let by_columns : map (shows_of shows []) (filter (passes tests []) (db.trees meta_tree)) ≡ map cells (filter is_schema (map (columns_of meta) (db.trees meta_tree))) =
+      let by_rows = found 13 tests shows [] (overlay db.trees []) [] rows answer in let cells = λ (v : Row). column v 1 ∷ [] in
+      let by_columns : map (shows_of shows []) (filter (passes tests []) (db.trees meta_tree)) ≡ map cells
+      (filter is_schema (map (columns_of meta) (db.trees meta_tree))) =
       sym (ap (map cells) (filter-map is_schema (columns_of meta) (db.trees meta_tree)) ∙ map-map cells (columns_of meta) _) in
-      let one = one_permutation _ _ (subst (λ xs. IsPermutation xs (map cells (filter is_schema (map (columns_of meta) (db.trees meta_tree))))) (alone n counted limit) (IsPermutation-map cells _ _ (IsPermutation-filter is_schema _ _ noted.same))) in
+      let one = one_permutation _ _ (subst (λ xs. IsPermutation xs (map cells (filter is_schema (map (columns_of meta) (db.trees meta_tree)))))
+      (alone n counted limit) (IsPermutation-map cells _ _ (IsPermutation-filter is_schema _ _ noted.same))) in
       one_permutation _ rows (subst (λ xs. IsPermutation xs rows) (by_columns ∙ one) by_rows)
 
   pub is_number : (rows : List Row) → AnswersOpening db rows → IsOneNumber rows n
@@ -51,10 +55,8 @@ module _ (db : Database) (s : Schema) (asks : AsksMeta s) (n counted limit : ℕ
 
   -- no other number is noted
   pub only_number : (m : ℕ) → NotesSchema db m → m ≡ n
-  only_number m it =
-      let first : (Int (pos n) ∷ []) ∷ [] ≡ it.2.0 ∷ [] = sym (answers_number it.0 it.1) ∙ it.2.1 in
-      let row : Int (pos n) ∷ [] ≡ it.2.0 = cc in
-      let value : Int (pos m) ≡ Int (pos n) = sym it.2.2 ∙ ap (λ r. column r 0) (sym row) in
+  only_number m it = let first : (Int (pos n) ∷ []) ∷ [] ≡ it.2.0 ∷ [] = sym (answers_number it.0 it.1) ∙ it.2.1 in
+      let row : Int (pos n) ∷ [] ≡ it.2.0 = cc in let value : Int (pos m) ≡ Int (pos n) = sym it.2.2 ∙ ap (λ r. column r 0) (sym row) in
       cc
 
   pub notes_some : NotesNoSchema db → ⊥
@@ -74,7 +76,8 @@ module _ (db : Database) (h : Host) (st : StandsFor db h) where
   -- so a store that stands for a host is refused for a fault alone
   pub only_faults : (why : OpenFault) → IsRefusedFor db why → IsStoreFault why
   only_faults NotOurs (other, inl none) = absurd (some none)
-  only_faults NotOurs (other, inr (n, noted, far)) = elim far [ inl zero' ↦ absurd (let is = only n noted in omega (arith, is, zero')) | inr above ↦ absurd (let is = only n noted in omega (arith, is, above)) ]
+  only_faults NotOurs (other, inr (n, noted, far)) = elim far
+      [ inl zero' ↦ absurd (let is = only n noted in omega (arith, is, zero')) | inr above ↦ absurd (let is = only n noted in omega (arith, is, above)) ]
   only_faults (OldSchema n) it = absurd (let is = only n it.0 in let below = it.2 in omega (arith, is, below))
   only_faults Store it = tt
   only_faults Memory it = tt

@@ -1,10 +1,13 @@
 -- An empty store is laid out, any other recognised.
-use Rattle.pawn_opening.proofs.Basics.{◌≡◌, ◌⊎◌, inl, inr, ℕ, Ok, Err, Result, OnOk, OnErr, IsTrue, sym, subst, ◌∙◌, arith, IfErr, HasCleanDisk, State, Survives, Trees, Host, StandForOne, StandsFor, survives_then, survives_weaker, GainsIndexes, HoldGained, AreMadeOf, IndexesStore, IsAsBefore, IsIndexed, IsOpenable, LaysOut, OpensAs, Prepares, Recognises, IsEmptyStore, IsRefusedFor, IsStoreFault, OpenFault, Memory, NotOurs, OldSchema, Store}
-use Rattle.pawn_opening.proofs.Begun.{opens_as}
-use Rattle.pawn_opening.proofs.Gained.{gains_stands}
-use Rattle.pawn_opening.proofs.Ours.{not_empty, only_faults}
+use Rattle.std.proofs.Common.{◌≡◌, ◌⊎◌, inl, inr, ℕ, Ok, Err, Result, OnOk, OnErr, IsTrue, sym, subst, ◌∙◌, arith, IfErr}
+use Rattle.pawn_opening.specs.{Common.{HasCleanDisk, State, Trees, Host, StandForOne, StandsFor}, Indexing.{GainsIndexes, HoldGained}, Opened.AreMadeOf}
+use Rattle.pawn_opening.specs.{Opened.{IndexesStore, IsAsBefore, IsIndexed, IsOpenable, LaysOut, OpensAs, Prepares, Recognises}, Refusing.IsEmptyStore}
+use Rattle.pawn_opening.specs.{Refusing.{IsRefusedFor, IsStoreFault}, declared.fault.OpenFault.{OpenFault, TheVariants.{Memory, NotOurs, OldSchema, Store}}}
+use Rattle.{pawn_opening.proofs.{Begun.opens_as, Gained.gains_stands, Ours.{not_empty, only_faults}}, sqlite.specs.State.Survives}
+use Rattle.sqlite.proofs.StateLemmas.{survives_then, survives_weaker}
 
-module _ (old new : State) (limit : ℕ) (r : Result (Unit {0}) OpenFault) (last : IsTrue old.is_open → (trees : Trees) → old.may_leave trees → trees ≡ old.committed.trees) where
+module _ (old new : State) (limit : ℕ) (r : Result (Unit {0}) OpenFault)
+    (last : IsTrue old.is_open → (trees : Trees) → old.may_leave trees → trees ≡ old.committed.trees) where
   fault_alone : (why : OpenFault) → IsStoreFault why → IsRefusedFor old.now why
   fault_alone NotOurs none = absurd none
   fault_alone (OldSchema n) none = absurd none
@@ -33,14 +36,13 @@ module _ (old new : State) (limit : ℕ) (r : Result (Unit {0}) OpenFault) (last
     ended = it.ended;
     survives = laid;
     crash = crashed laid;
-  }
-    where
-      openable : (r' : Result (Unit {0}) OpenFault) → OnOk r' (IsOpenable old new)
-      openable (Ok done) = inl empty
-      openable (Err why) = tt
+  } where
+    openable : (r' : Result (Unit {0}) OpenFault) → OnOk r' (IsOpenable old new)
+    openable (Ok done) = inl empty
+    openable (Err why) = tt
 
-      laid : Survives old new New
-      laid = survives_weaker old new _ New (λ clean trees holds. inl (empty, holds empty)) it.survives
+    laid : Survives old new New
+    laid = survives_weaker old new _ New (λ clean trees holds. inl (empty, holds empty)) it.survives
 
   alone : (h : Host) → StandsFor old.now h → (r' : Result (Unit {0}) OpenFault) → IfErr r' (IsRefusedFor old.now) → IfErr r' IsStoreFault
   alone h st (Ok done) it = tt
@@ -59,14 +61,13 @@ module _ (old new : State) (limit : ℕ) (r : Result (Unit {0}) OpenFault) (last
     ended = it.ended;
     survives = same_store;
     crash = crashed same_store;
-  }
-    where
-      alone : (h : Host) → StandsFor old.now h → (r' : Result (Unit {0}) OpenFault) → IfErr r' (IsRefusedFor old.now) → IfErr r' IsStoreFault
-      alone h st (Ok done) it = tt
-      alone h st (Err why) it = only_faults old.now h st why it
+  } where
+    alone : (h : Host) → StandsFor old.now h → (r' : Result (Unit {0}) OpenFault) → IfErr r' (IsRefusedFor old.now) → IfErr r' IsStoreFault
+    alone h st (Ok done) it = tt
+    alone h st (Err why) it = only_faults old.now h st why it
 
-      same_store : Survives old new New
-      same_store = survives_weaker old new (λ _. ⊥) New (λ clean trees none. absurd none) it.survives
+    same_store : Survives old new New
+    same_store = survives_weaker old new (λ _. ⊥) New (λ clean trees none. absurd none) it.survives
 
   -- it is ours, and gets the indexes that it lacks
   module _ (mid : State) (other : IsEmptyStore old.now → ⊥) (known : Recognises old mid (Ok tt)) (it : IndexesStore mid new r) where
@@ -84,8 +85,8 @@ module _ (old new : State) (limit : ℕ) (r : Result (Unit {0}) OpenFault) (last
 
     survived : Survives old new New
     survived =
-        survives_then old mid new (λ _. ⊥) (HoldGained mid.now) New (λ clean trees none. absurd none)
-        (λ clean trees held. let before = clean_mid clean in inr ((known.ok before).1, subst (λ d. HoldGained d trees) (same before) held)) known.survives it.survives
+        survives_then old mid new (λ _. ⊥) (HoldGained mid.now) New (λ clean trees none. absurd none) (λ clean trees held. let before = clean_mid clean in
+        inr ((known.ok before).1, subst (λ d. HoldGained d trees) (same before) held)) known.survives it.survives
 
     pub when_ours : StandForOne → (IsTrue new.is_open → (trees : Trees) → new.may_leave trees → trees ≡ new.committed.trees) → Prepares old new limit r
     when_ours one left = record {
@@ -99,24 +100,22 @@ module _ (old new : State) (limit : ℕ) (r : Result (Unit {0}) OpenFault) (last
       ended = it.ended;
       survives = survived;
       crash = crashed survived;
-    }
-      where
-        openable : HasCleanDisk new → (r' : Result (Unit {0}) OpenFault) → OnOk r' (IsIndexed mid new) → OnOk r' (IsOpenable old new)
-        openable clean (Ok done) ok = let before = clean_mid clean in inr ((known.ok before).1, from_old before ok)
-        openable clean (Err why) ok = tt
+    } where
+      openable : HasCleanDisk new → (r' : Result (Unit {0}) OpenFault) → OnOk r' (IsIndexed mid new) → OnOk r' (IsOpenable old new)
+      openable clean (Ok done) ok = let before = clean_mid clean in inr ((known.ok before).1, from_old before ok)
+      openable clean (Err why) ok = tt
 
-        accepted : HasCleanDisk new → (h : Host) → StandsFor old.now h → (r' : Result (Unit {0}) OpenFault) → OnOk r' (IsIndexed mid new) → OnOk r' (OpensAs new h)
-        accepted clean h st (Err why) ok = tt
-        accepted clean h st (Ok done) ok =
-            let after = from_old (clean_mid clean) ok in
-            opens_as new h one after.0 it.ended after.2 (left after.0) (gains_stands old.now new.now h after.1 st)
+      accepted : HasCleanDisk new → (h : Host) → StandsFor old.now h → (r' : Result (Unit {0}) OpenFault) → OnOk r' (IsIndexed mid new)
+          → OnOk r' (OpensAs new h)
+      accepted clean h st (Err why) ok = tt
+      accepted clean h st (Ok done) ok = let after = from_old (clean_mid clean) ok in
+          opens_as new h one after.0 it.ended after.2 (left after.0) (gains_stands old.now new.now h after.1 st)
 
-        kept : HasCleanDisk new → (r' : Result (Unit {0}) OpenFault) → OnErr r' (IsAsBefore mid new) → OnErr r' (IsAsBefore old new)
-        kept clean (Ok done) err = tt
-        kept clean (Err why) err =
-            let first = known.same (clean_mid clean) in
-            record {
-              was_open = λ now. first.was_open (err.was_open now);
-              now = λ now. err.now now ∙ first.now (err.was_open now);
-              committed = λ now. err.committed now ∙ first.committed (err.was_open now);
-            }
+      kept : HasCleanDisk new → (r' : Result (Unit {0}) OpenFault) → OnErr r' (IsAsBefore mid new) → OnErr r' (IsAsBefore old new)
+      kept clean (Ok done) err = tt
+      kept clean (Err why) err = let first = known.same (clean_mid clean) in
+          record {
+            was_open = λ now. first.was_open (err.was_open now);
+            now = λ now. err.now now ∙ first.now (err.was_open now);
+            committed = λ now. err.committed now ∙ first.committed (err.was_open now);
+          }

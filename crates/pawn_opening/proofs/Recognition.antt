@@ -1,10 +1,11 @@
 -- A store is asked for the number of its schema.
-use Rattle.pawn_opening.proofs.Basics.{◌≡◌, inl, inr, ℕ, List, [], Option, Some, None, Ok, IsSome, IsTrue, refl, sym, subst, ◌∙◌, first, Compiled, CompileError, everything, StoreError, Rows, Select, Database, Reads, RefusesToRead, understood, Row, CommitsShowing, Fails, FailsToQuery, FailsToShow, IsNoStatement, IsNotRun, IsRolledBack, IsUnchanged, Shown, ShowsRows, State, Survives, store_error, Trees, Error, SqlInputError, READ_SCHEMA, survives_weaker, IsAsBefore, AnswersOpening, HasNoAnswer}
-use Rattle.sqlite.specs.Clock.{timed}
-use Rattle.sqlite.specs.Command.{Command}
-use Rattle.sqlite_schema.specs.declared.command.Returning.{Returning}
-use Rattle.sqlite_trees.specs.declared.error.StoreError.TheVariants.{OutOfMemory, Io, Corrupt, Full, Broken, Unstorable}
-use Rattle.one_table.proofs.Queries.{IsQuery, OnlyReads, only_reads}
+use Rattle.{std.proofs.Common.{◌≡◌, inl, inr, ℕ, List, [], Option, Some, None, Ok, IsSome, IsTrue, refl, sym, subst, ◌∙◌}, sqlite_resolve.specs.Compile.first}
+use Rattle.pawn_opening.specs.Common.{Compiled, CompileError, everything, Rows, Select, Database, understood, Row, State, Trees, Error, SqlInputError}
+use Rattle.pawn_opening.specs.{Common.READ_SCHEMA, Opened.IsAsBefore, Refusing.{AnswersOpening, HasNoAnswer}}
+use Rattle.sqlite_trees.specs.declared.error.StoreError.{StoreError, TheVariants.{OutOfMemory, Io, Corrupt, Full, Broken, Unstorable}}
+use Rattle.sqlite.specs.{Effect.{Reads, RefusesToRead}, State.{CommitsShowing, Fails, FailsToQuery, FailsToShow, IsNoStatement, IsNotRun, IsRolledBack}}
+use Rattle.sqlite.{specs.{State.{IsUnchanged, Shown, ShowsRows, Survives, store_error}, Clock.timed, Command.Command}, proofs.StateLemmas.survives_weaker}
+use Rattle.{sqlite_schema.specs.declared.command.Returning.Returning, one_table.proofs.Queries.{IsQuery, OnlyReads, only_reads}}
 
 asks : IsQuery (first READ_SCHEMA.now)
 unfolding everything
@@ -31,10 +32,8 @@ pub record IsAnswered (old new : State) (rows : List Row) : Type 0 where
 
 pub answered : (old new : State) (rows : List Row) → Shown READ_SCHEMA.now [] old new rows → IsAnswered old new rows
 unfolding Shown
-answered old new rows h =
-    let c = h.0 in
-    let it = h.1 in
-    let only = reads_only old c it.is in
+answered old new rows h = let c = h.0 in
+    let it = h.1 in let only = reads_only old c it.is in
     let shows = subst (ShowsRows old new READ_SCHEMA.now c (timed [] c.formats it.now) rows) only.0 h.2 in
     let reads : Reads c.command shows.0 [] rows = subst (λ formats. Reads c.command shows.0 (timed [] formats it.now) rows) only.1 shows.2 in
     record {
@@ -43,27 +42,26 @@ answered old new rows h =
     }
 
 -- a refusal leaves the store as it was
-pub left_as_before : (old new : State) (e : Error) → (IsTrue old.is_open → old.now ≡ old.committed) → FailsToQuery READ_SCHEMA.now [] old new e → IsAsBefore old new
+pub left_as_before : (old new : State) (e : Error) → (IsTrue old.is_open → old.now ≡ old.committed) → FailsToQuery READ_SCHEMA.now [] old new e
+    → IsAsBefore old new
 unfolding FailsToQuery IsNotRun
 left_as_before old new e settled (inl (inl h)) = unchanged old new h.1
 left_as_before old new e settled (inl (inr h)) = rolled old new settled h.3
-left_as_before old new e settled (inr h) =
-    let only = reads_only old h.0 h.1.is in
+left_as_before old new e settled (inr h) = let only = reads_only old h.0 h.1.is in
     let fails = subst (FailsToShow old new READ_SCHEMA.now h.0 (timed [] h.0.formats h.1.now) e) only.0 h.2 in
     unchanged old new fails.3
 
 -- a text that is not understood has no answer
 module _ (f : CompileError) where
   no_fault : {X : Type 0} (old new : State) (P : Type 0) → Fails old new P (SqlInputError f) → X
-  no_fault {X} old new P h = go h.0 h.1
-    where
-      go : (cause : StoreError) → SqlInputError f ≡ store_error cause → X
-      go OutOfMemory is = absurd (let x = is in cc)
-      go Io is = absurd (let x = is in cc)
-      go Corrupt is = absurd (let x = is in cc)
-      go Full is = absurd (let x = is in cc)
-      go Broken is = absurd (let x = is in cc)
-      go Unstorable is = absurd (let x = is in cc)
+  no_fault {X} old new P h = go h.0 h.1 where
+    go : (cause : StoreError) → SqlInputError f ≡ store_error cause → X
+    go OutOfMemory is = absurd (let x = is in cc)
+    go Io is = absurd (let x = is in cc)
+    go Corrupt is = absurd (let x = is in cc)
+    go Full is = absurd (let x = is in cc)
+    go Broken is = absurd (let x = is in cc)
+    go Unstorable is = absurd (let x = is in cc)
 
   no_refusal : (limit : Option ℕ) (command : Command) (db : Database) (params : Row) → RefusesToRead limit command db params (SqlInputError f) → ⊥
   no_refusal limit (Select q names) db params (inl h) = absurd (let x = h.0 in cc)
@@ -74,16 +72,14 @@ module _ (f : CompileError) where
 
   pub unanswered : (old new : State) → FailsToQuery READ_SCHEMA.now [] old new (SqlInputError f) → HasNoAnswer old.now
   unfolding FailsToQuery IsNotRun
-  unanswered old new (inl (inl h)) = go h.0
-    where
-      go : IsNoStatement old READ_SCHEMA.now [] (SqlInputError f) → HasNoAnswer old.now
-      go (inl it) = (it.0, it.1)
-      go (inr (c, is, inl it)) = absurd (let x = it.1 in cc)
-      go (inr (c, is, inr (inl it))) = absurd (let x = it.1 in cc)
-      go (inr (c, is, inr (inr it))) = absurd (let x = it.1 in cc)
+  unanswered old new (inl (inl h)) = go h.0 where
+    go : IsNoStatement old READ_SCHEMA.now [] (SqlInputError f) → HasNoAnswer old.now
+    go (inl it) = (it.0, it.1)
+    go (inr (c, is, inl it)) = absurd (let x = it.1 in cc)
+    go (inr (c, is, inr (inl it))) = absurd (let x = it.1 in cc)
+    go (inr (c, is, inr (inr it))) = absurd (let x = it.1 in cc)
   unanswered old new (inl (inr h)) = no_fault old new _ h
-  unanswered old new (inr h) =
-      let only = reads_only old h.0 h.1.is in
+  unanswered old new (inr h) = let only = reads_only old h.0 h.1.is in
       let fails = subst (FailsToShow old new READ_SCHEMA.now h.0 (timed [] h.0.formats h.1.now) (SqlInputError f)) only.0 h.2 in
       absurd (no_refusal old.step_limit h.0.command fails.0 (timed [] h.0.formats h.1.now) fails.2)
 

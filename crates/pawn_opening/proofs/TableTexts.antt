@@ -1,11 +1,15 @@
 -- What the texts of the tables mean.
-use Rattle.pawn_opening.proofs.Basics.{◌≡◌, List, ℕ, [], ◌∷◌, Ok, refl, false, everything, created, CreateTable, table_defined_by, lacks_sequence, understood, Schema, Table, no_schema, first_schema, second_schema, bookings, books, entries, extensions, meta, pledges, secrets, terms, totals, IsPlain, command_of, statement_of, MAKE_BOOKINGS, MAKE_BOOKS, MAKE_ENTRIES, MAKE_EXTENSIONS, MAKE_META, MAKE_PLEDGES, MAKE_SECRETS, MAKE_TERMS, MAKE_TOTALS}
+use Rattle.{std.proofs.Common.{◌≡◌, List, ℕ, [], ◌∷◌, Ok, refl, false}, pawn_opening.specs.Common.{everything, CreateTable, understood, Schema, Table}}
+use Rattle.{pawn_opening.specs.Common.no_schema, sqlite.{specs.{Change.created, Compile.table_defined_by, Does.lacks_sequence}, proofs.Callers.IsPlain}}
+use Rattle.{sqlite.proofs.Callers.{command_of, statement_of}, pawn_tables.specs.Schema.{first_schema, second_schema, bookings, books, entries, extensions}}
+use Rattle.pawn_tables.specs.{Schema.{meta, pledges, secrets, terms, totals}, declared.texts.TheConstants.{MAKE_BOOKINGS, MAKE_BOOKS, MAKE_ENTRIES}}
+use Rattle.pawn_tables.specs.declared.texts.TheConstants.{MAKE_EXTENSIONS, MAKE_META, MAKE_PLEDGES, MAKE_SECRETS, MAKE_TERMS, MAKE_TOTALS}
 
 -- under this schema, the text makes this table and nothing else
 abbrev pub IsCreation : Schema → List ℕ → Table → Type 0
 IsCreation schema text table =
-    (table_defined_by text ≡ Ok table) × (command_of (understood schema text) ≡ CreateTable) × (statement_of text (understood schema text) ≡ text) × IsPlain (understood schema text)
-    × (lacks_sequence (created schema table) ≡ false)
+    (table_defined_by text ≡ Ok table) × (command_of (understood schema text) ≡ CreateTable) × (statement_of text (understood schema text) ≡ text)
+    × IsPlain (understood schema text) × (lacks_sequence (created schema table) ≡ false)
 
 -- each text makes its table, under the schema that the texts before it made of this one
 abbrev pub AreCreations : Schema → List (List ℕ × Table) → Type 0
@@ -14,8 +18,7 @@ AreCreations schema ((text, table) ∷ more) = IsCreation schema text table × A
 
 -- the texts of the program's tables after that of books, in the order in which they are made
 abbrev pub later_texts : List (List ℕ × Table)
-later_texts =
-    (MAKE_TERMS.now, terms) ∷ (MAKE_PLEDGES.now, pledges) ∷ (MAKE_ENTRIES.now, entries) ∷ (MAKE_SECRETS.now, secrets) ∷ (MAKE_BOOKINGS.now, bookings)
+later_texts = (MAKE_TERMS.now, terms) ∷ (MAKE_PLEDGES.now, pledges) ∷ (MAKE_ENTRIES.now, entries) ∷ (MAKE_SECRETS.now, secrets) ∷ (MAKE_BOOKINGS.now, bookings)
     ∷ (MAKE_META.now, meta) ∷ (MAKE_TOTALS.now, totals) ∷ (MAKE_EXTENSIONS.now, extensions) ∷ []
 
 and : {A B : Type 0} → A → B → A × B
@@ -23,8 +26,7 @@ and a b = (a, b)
 
 pub are_creations : AreCreations no_schema ((MAKE_BOOKS.now, books) ∷ later_texts)
 unfolding understood everything
-are_creations =
-    and (refl, refl, refl, (refl, refl), refl) (and (refl, refl, refl, (refl, refl), refl) (and (refl, refl, refl, (refl, refl), refl)
+are_creations = and (refl, refl, refl, (refl, refl), refl) (and (refl, refl, refl, (refl, refl), refl) (and (refl, refl, refl, (refl, refl), refl)
     (and (refl, refl, refl, (refl, refl), refl) (and (refl, refl, refl, (refl, refl), refl) (and (refl, refl, refl, (refl, refl), refl)
     (and (refl, refl, refl, (refl, refl), refl) (and (refl, refl, refl, (refl, refl), refl) (and (refl, refl, refl, (refl, refl), refl) tt))))))))
 

@@ -1,13 +1,11 @@
 -- What a close leaves of a store.
 use Rattle.std.specs.Prelude.{◌≡◌, ◌⊎◌, false, [], IsTrue}
-use Rattle.pawn_opening.specs.Common.{MoreFaults, Ghosts, Files, faults, view, FileStore, IsClean, outcomes, Image, IsClosed, file_state, image_of, Held, State, Host, StandsFor}
-use Rattle.pawn_opening.specs.FilesStand.{StandsIn}
-use Rattle.pawn_opening.specs.Refusing.{IsStoreFault}
-use Rattle.pawn_opening.specs.declared.fault.OpenFault.{OpenFault}
+use Rattle.pawn_opening.specs.Common.{MoreFaults, Ghosts, Files, faults, view, FileStore, IsClean, outcomes, Image, Held, State, Host, StandsFor}
+use Rattle.{pawn_opening.specs.{FilesStand.StandsIn, Refusing.IsStoreFault, declared.fault.OpenFault.OpenFault}, sqlite.specs.Files.{IsClosed, file_state}}
+use Rattle.sqlite.specs.Files.{image_of}
 use Rattle.pawn_opening.specs.declared.fault.OpenFault.TheVariants as Fault
 
--- what is committed stands for the host, whatever transaction is under way; of a store that a fault has shut nothing is
--- said
+-- what is committed stands for the host, whatever transaction is under way; of a store that a fault has shut nothing is said
 abbrev pub HasCommitted : State → Host → Type 0
 HasCommitted s h = IsTrue s.is_open → StandsFor s.committed h
 
@@ -21,9 +19,8 @@ pub record AreClosedFor {D : Type 0} (g : Ghosts D) (files : Files D) (h : Host)
   pub seen : StandsAlone (image_of g files) h
   pub left : (image : Image) → outcomes g files.log files.db image → StandsAlone image h
 
--- What is left of a store that was not closed. A crash leaves only what it could have left of the connection, and
--- always a database. On a clean disk `Store` is reported only if a fault had shut the store, or a file failed
--- meanwhile.
+-- What is left of a store that was not closed. A crash leaves only what it could have left of the connection, and always a database. On a clean disk `Store` is
+-- reported only if a fault had shut the store, or a file failed meanwhile.
 pub record IsLeftUnclosed {D : Type 0} {g : Ghosts D} (c : Held (FileStore D g)) (why : OpenFault) (it : FileStore D g) : Type 0 where
   pub fault : IsStoreFault why
   pub left : IsClosed c it

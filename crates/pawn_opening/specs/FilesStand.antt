@@ -1,12 +1,9 @@
 -- What files hold before an open, and what a refusal leaves of them.
 use Rattle.std.specs.Prelude.{◌≡◌, ◌⊎◌, ℕ, [], IsTrue}
-use Rattle.pawn_opening.specs.Common.{Ghosts, Files, recovers, FileStore, catalog_tree, Image, Database, IsDatabase, AreFoundIn, HoldsDatabase, LeavesFiles, image_of, State, Trees, Host, HoldHost}
-use Rattle.sqlite.specs.declared.file.Leftover.{Leftover}
+use Rattle.pawn_opening.specs.Common.{Ghosts, Files, recovers, FileStore, catalog_tree, Image, Database, IsDatabase, State, Trees, Host, HoldHost}
+use Rattle.pawn_opening.specs.{declared.fault.OpenFault.OpenFault, Indexing.GainsIndexes, Opened.AreMadeOf, Refusing.{IsEmptyStore, IsRefusedFor, IsStoreFault}}
+use Rattle.{pawn_opening.specs.Refusing.NotesSchema, sqlite.specs.{Files.{AreFoundIn, HoldsDatabase, LeavesFiles, image_of}, declared.file.Leftover.Leftover}}
 use Rattle.sqlite.specs.declared.file.Leftover.TheVariants as left
-use Rattle.pawn_opening.specs.declared.fault.OpenFault.{OpenFault}
-use Rattle.pawn_opening.specs.Indexing.{GainsIndexes}
-use Rattle.pawn_opening.specs.Opened.{AreMadeOf}
-use Rattle.pawn_opening.specs.Refusing.{IsEmptyStore, IsRefusedFor, IsStoreFault, NotesSchema}
 
 -- the bytes of the files hold a database that stands for the host
 pub record StandsIn (image : Image) (h : Host) : Type 0 where
@@ -31,8 +28,7 @@ pub record RefusesFound {D : Type 0} {g : Ghosts D} (image : Image) (limit : ℕ
   pub refused : IsRefusedFor found why
   pub crash : (trees : Trees) → recovers it trees → (trees ≡ found.trees) ⊎ AreMadeOf found limit trees
 
--- The bytes held a database that is opened: an empty one, or one that notes the program's schema, which the store holds with the indexes
--- that it lacked.
+-- The bytes held a database that is opened: an empty one, or one that notes the program's schema, which the store holds with the indexes that it lacked.
 pub record OpensFound (image : Image) (s : State) : Type 0 where
   pub found : Database
   pub reads : AreFoundIn image found.trees
@@ -44,8 +40,7 @@ pub record OpensFound (image : Image) (s : State) : Type 0 where
 abbrev pub IsRefusedStore : {D : Type 0} {g : Ghosts D} → Image → ℕ → OpenFault → Leftover D g → Type 0
 IsRefusedStore {D} {g} image limit why rest = (it : FileStore D g) × (rest ≡ left.Store it) × RefusesFound image limit why it
 
--- either the database failed to open the files, and leaves them as a failed open does, or it opened them and what they
--- held is refused
+-- either the database failed to open the files, and leaves them as a failed open does, or it opened them and what they held is refused
 abbrev pub RefusesHeld : {D : Type 0} {g : Ghosts D} → Image → Files D → ℕ → OpenFault → Leftover D g → Type 0
 RefusesHeld image files limit why rest = (IsStoreFault why × LeavesFiles files rest) ⊎ IsRefusedStore image limit why rest
 

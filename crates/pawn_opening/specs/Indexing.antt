@@ -2,8 +2,7 @@
 use Rattle.std.specs.Prelude.{◌≡◌, ◌++◌, List, OnOk, IsTrue, Result}
 use Rattle.pawn_opening.specs.Common.{KeepsRows, Index, Database, IsDatabase, HasCleanDisk, State, Trees, AreLoose}
 
--- The database has gained some indexes, none of them unique. Its tables and views are as they were, and each table
--- holds the rows that it held.
+-- The database has gained some indexes, none of them unique. Its tables and views are as they were, and each table holds the rows that it held.
 pub record GainsIndexes (old new : Database) : Type 0 where
   pub more : List Index
   pub loose : AreLoose more

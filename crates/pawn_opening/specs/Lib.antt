@@ -5,4 +5,3 @@ pub mod Indexing
 pub mod Laying
 pub mod Opened
 pub mod Refusing
-pub mod Stores

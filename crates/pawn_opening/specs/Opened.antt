@@ -1,12 +1,8 @@
 -- What opening a store does with an empty one, with one of ours, and with any other.
-use Rattle.std.specs.Prelude.{◌≡◌, ◌⊎◌, false, ℕ, IsTrue, Option, IfSome, Result, IfErr, IfOk, OnErr, OnOk}
-use Rattle.std.specs.FinMap.{empty}
-use Rattle.pawn_opening.specs.Common.{Database, HasCleanDisk, State, Survives, Trees, Host, no_schema, HoldHost, StandsFor}
-use Rattle.pawn_tables.specs.Keeps.{Keeps, Leaves}
-use Rattle.pawn_opening.specs.declared.fault.OpenFault.{OpenFault}
-use Rattle.pawn_opening.specs.Indexing.{GainsIndexes, HoldGained}
-use Rattle.pawn_opening.specs.Laying.{AreEmpty}
-use Rattle.pawn_opening.specs.Refusing.{IsEmptyStore, IsNoted, IsRefusedFor, IsStoreFault, NotesSchema}
+use Rattle.std.specs.{Prelude.{◌≡◌, ◌⊎◌, false, ℕ, IsTrue, Option, IfSome, Result, IfErr, IfOk, OnErr, OnOk}, FinMap.empty}
+use Rattle.pawn_opening.specs.{Common.{Database, HasCleanDisk, State, Trees, Host, no_schema, HoldHost, StandsFor}, declared.fault.OpenFault.OpenFault}
+use Rattle.pawn_opening.specs.{Indexing.{GainsIndexes, HoldGained}, Laying.AreEmpty, Refusing.{IsEmptyStore, IsNoted, IsRefusedFor, IsStoreFault, NotesSchema}}
+use Rattle.{sqlite.specs.State.Survives, pawn_tables.specs.Keeps.{Keeps, Leaves}}
 
 -- the host without books
 abbrev pub empty_host : ℕ → Host
@@ -71,8 +67,7 @@ pub record IndexesStore (old new : State) (result : Result (Unit {0}) OpenFault)
 abbrev pub IsOpenable : State → State → Type 0
 IsOpenable old new = IsEmptyStore old.now ⊎ (NotesSchema old.now 3 × IsIndexed old new)
 
--- what an opening makes of the trees: the tables of the empty host if the store was empty, or further indexes if it
--- notes the program's schema
+-- what an opening makes of the trees: the tables of the empty host if the store was empty, or further indexes if it notes the program's schema
 abbrev pub AreMadeOf : Database → ℕ → Trees → Type 0
 AreMadeOf db limit trees = (IsEmptyStore db × HoldHost trees (empty_host limit)) ⊎ (NotesSchema db 3 × HoldGained db trees)
 

@@ -1,8 +1,8 @@
 -- Why a store is not opened.
 use Rattle.std.specs.Prelude.{◌≡◌, ◌⊎◌, ◌<◌, ℕ, pos, List, [], ◌∷◌, Option, Some, None, Result, Ok, Err}
-use Rattle.pawn_opening.specs.Common.{Compiled, CompileError, Database, Reads, IsSourceOf, reads_listing, understood, Row, column, Int, no_schema, READ_SCHEMA}
-use Rattle.pawn_opening.specs.declared.fault.OpenFault.{OpenFault}
-use Rattle.pawn_opening.specs.declared.fault.OpenFault.TheVariants.{NotOurs, OldSchema, Store, Memory}
+use Rattle.pawn_opening.specs.Common.{Compiled, CompileError, Database, understood, Row, column, Int, no_schema, READ_SCHEMA}
+use Rattle.{pawn_opening.specs.declared.fault.OpenFault.{OpenFault, TheVariants.{NotOurs, OldSchema, Store, Memory}}, sqlite.specs.Effect.Reads}
+use Rattle.sqlite.specs.Listing.{IsSourceOf, reads_listing}
 
 -- the question for the schema's number has these rows as an answer
 pub record AnswersOpening (db : Database) (rows : List Row) : Type 0 where

@@ -1,6 +1,5 @@
 ghost use Rattle.std.specs.Prelude.{◌≡◌, false, IfErr, IfOk, IsTrue};
-ghost use Rattle.pawn_opening.specs.Common.{image_at, Database, file_state, HasCleanDisk};
-ghost use Rattle.pawn_opening.specs.Stores.{HoldsIn, IsStoreFault};
+ghost use Rattle.{pawn_opening.specs.{Common.{image_at, Database, HasCleanDisk}, FilesStand.HoldsIn, Refusing.IsStoreFault}, sqlite.specs.Files.file_state};
 
 use crate::fault::{OpenFault, refused};
 use crate::finding::{files_at, options};
@@ -14,10 +13,8 @@ pub fn connect_path<S: Start>(
     path: &str,
     start: S,
 ) -> Result<Connection<FileStore<FileFrom<S>>>, OpenFault>
-    ensures holds { IfOk result (λ conn. HasCleanDisk (file_state conn) → (db : Database) → HoldsIn
-        (image_at S.Start) db → (file_state conn).now ≡ db) }
-    ensures serves { IfOk result (λ conn. HasCleanDisk (file_state conn) → IsTrue
-        (file_state conn).is_open) }
+    ensures holds { IfOk result (λ conn. HasCleanDisk (file_state conn) → (db : Database) → HoldsIn (image_at S.Start) db → (file_state conn).now ≡ db) }
+    ensures serves { IfOk result (λ conn. HasCleanDisk (file_state conn) → IsTrue (file_state conn).is_open) }
     ensures mode { IfOk result (λ conn. conn.in_transaction ≡ false) }
     ensures refuses { IfErr result IsStoreFault }
 {

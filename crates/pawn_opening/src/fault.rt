@@ -1,8 +1,7 @@
 ghost use Rattle.std.specs.Prelude.{◌≡◌};
+ghost use Rattle.{sqlite.specs.declared.error.ErrorCode.TheVariants.OutOfMemory, pawn_opening.specs.Refusing.IsStoreFault};
 ghost use Rattle.sqlite.specs.declared.error.Error.TheVariants as SqlError;
-ghost use Rattle.sqlite.specs.declared.error.ErrorCode.TheVariants.{OutOfMemory};
 ghost use Rattle.pawn_opening.specs.declared.fault.OpenFault.TheVariants as Fault;
-ghost use Rattle.pawn_opening.specs.Refusing.{IsStoreFault};
 
 use sqlite::{Error, ErrorCode};
 use std::fmt;

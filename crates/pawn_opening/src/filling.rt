@@ -1,6 +1,4 @@
-ghost use Rattle.std.specs.Prelude.{is_ok};
-ghost use Rattle.pawn_opening.specs.Common.{state, Lends};
-ghost use Rattle.pawn_opening.specs.Stores.{Fills};
+ghost use Rattle.{std.specs.Prelude.is_ok, pawn_opening.specs.{Common.{state, Lends}, Opened.Fills}};
 
 use crate::indexing::{Lacking, make_indexes};
 use crate::laying::make_tables;
@@ -12,8 +10,7 @@ use sqlite::{Alter, Error, Transaction};
 /// the limit.
 #[tactic(auto, using(crate::proofs::Basics::lent_then))]
 pub(crate) fn fill<S: Alter>(tx: &mut Transaction<'_, S>, limit: u32) -> Result<(), Error>
-    ensures filled { Fills (state S.Store tx.old.conn.now)
-        (state S.Store tx.new.conn.now) limit result }
+    ensures filled { Fills (state S.Store tx.old.conn.now) (state S.Store tx.new.conn.now) limit result }
     ensures lent { Lends S.Store tx.old.conn tx.new.conn (is_ok result) }
 {
     make_tables(tx)?;

@@ -1,6 +1,5 @@
 //! The files at a path, and how much of them is kept in memory.
-ghost use Rattle.std.specs.Prelude.{true, false, IsTrue, IfErr, IfOk};
-ghost use Rattle.sqlite_std_file.specs.File.{IsFresh, file_is_usable};
+ghost use Rattle.{std.specs.Prelude.{true, false, IsTrue, IfErr, IfOk}, sqlite_std_file.specs.File.{IsFresh, file_is_usable}};
 ghost use Rattle.pawn_opening.specs.Refusing.{IsStoreFault};
 
 use crate::fault::OpenFault;
@@ -20,8 +19,7 @@ pub(crate) fn files_at<S: Start>(
     path: &str,
     start: S,
 ) -> Result<Files<FileFrom<S>>, OpenFault>
-    ensures usable { IfOk result (λ files. IsTrue (file_is_usable S.Start files.log) × IsTrue
-        (file_is_usable S.Start files.db)) }
+    ensures usable { IfOk result (λ files. IsTrue (file_is_usable S.Start files.log) × IsTrue (file_is_usable S.Start files.db)) }
     ensures fresh { IfOk result (λ files. IsFresh true files.log × IsFresh false files.db) }
     ensures refuses { IfErr result IsStoreFault }
 {

@@ -1,6 +1,5 @@
 ghost use Rattle.std.specs.Prelude.{◌≡◌, false, is_ok};
-ghost use Rattle.pawn_opening.specs.Common.{state, Lends};
-ghost use Rattle.pawn_opening.specs.Stores.{AddsIndexes, IndexesStore};
+ghost use Rattle.pawn_opening.specs.{Common.{state, Lends}, Indexing.AddsIndexes, Opened.IndexesStore};
 
 use crate::fault::{OpenFault, refused};
 use one_table::{know_settled, run};
@@ -25,8 +24,7 @@ pub enum Lacking {
 /// was refused.
 #[tactic(auto, using(crate::proofs::Basics::lent_then))]
 pub fn make_indexes<S: Alter>(tx: &mut Transaction<'_, S>, lacking: Lacking) -> Result<(), Error>
-    ensures adds { AddsIndexes (state S.Store tx.old.conn.now)
-        (state S.Store tx.new.conn.now) result }
+    ensures adds { AddsIndexes (state S.Store tx.old.conn.now) (state S.Store tx.new.conn.now) result }
     ensures lent { Lends S.Store tx.old.conn tx.new.conn (is_ok result) }
 {
     match lacking {
@@ -68,7 +66,6 @@ pub fn add_indexes<S: Alter>(conn: &mut Connection<S>) -> Result<(), OpenFault>
     ensures indexed { IndexesStore (state S.Store conn.old) (state S.Store conn.new) result }
 {
     know_settled(conn);
-    let _ = conn.schema();
     let Some(lacking) = indexes_lacking(conn) else {
         return Ok(());
     };

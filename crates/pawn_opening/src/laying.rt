@@ -1,6 +1,5 @@
-ghost use Rattle.std.specs.Prelude.{is_ok};
-ghost use Rattle.pawn_opening.specs.Common.{state, no_schema, Lends, extensions_tree, first_schema, keep_schema, second_schema, totals_tree};
-ghost use Rattle.pawn_opening.specs.Laying.{AddsTable, Makes};
+ghost use Rattle.{std.specs.Prelude.is_ok, pawn_opening.specs.{Common.{state, no_schema, Lends}, Laying.{AddsTable, Makes}}};
+ghost use Rattle.pawn_tables.specs.Schema.{extensions_tree, first_schema, keep_schema, second_schema, totals_tree};
 
 use one_table::run;
 use pawn_tables::texts::{
@@ -12,8 +11,7 @@ use sqlite::{Alter, Error, Transaction};
 /// Makes all tables of the program's schema, without rows.
 #[tactic(auto, using(crate::proofs::Basics::lent_then))]
 pub(crate) fn make_tables<S: Alter>(tx: &mut Transaction<'_, S>) -> Result<(), Error>
-    ensures made { Makes (state S.Store tx.old.conn.now)
-        (state S.Store tx.new.conn.now) result no_schema keep_schema }
+    ensures made { Makes (state S.Store tx.old.conn.now) (state S.Store tx.new.conn.now) result no_schema keep_schema }
     ensures lent { Lends S.Store tx.old.conn tx.new.conn (is_ok result) }
 {
     run(tx, MAKE_BOOKS, &[])?;
@@ -29,8 +27,7 @@ pub(crate) fn make_tables<S: Alter>(tx: &mut Transaction<'_, S>) -> Result<(), E
 
 /// Adds the table of totals to those of the first schema, within a transaction. It has no rows.
 pub fn make_totals<S: Alter>(tx: &mut Transaction<'_, S>) -> Result<(), Error>
-    ensures made { AddsTable (state S.Store tx.old.conn.now)
-        (state S.Store tx.new.conn.now) result first_schema second_schema totals_tree }
+    ensures made { AddsTable (state S.Store tx.old.conn.now) (state S.Store tx.new.conn.now) result first_schema second_schema totals_tree }
     ensures lent { Lends S.Store tx.old.conn tx.new.conn (is_ok result) }
 {
     run(tx, MAKE_TOTALS, &[])
@@ -38,8 +35,7 @@ pub fn make_totals<S: Alter>(tx: &mut Transaction<'_, S>) -> Result<(), Error>
 
 /// Adds the table of extensions to those of the second schema, within a transaction. It has no rows.
 pub fn make_extensions<S: Alter>(tx: &mut Transaction<'_, S>) -> Result<(), Error>
-    ensures made { AddsTable (state S.Store tx.old.conn.now)
-        (state S.Store tx.new.conn.now) result second_schema keep_schema extensions_tree }
+    ensures made { AddsTable (state S.Store tx.old.conn.now) (state S.Store tx.new.conn.now) result second_schema keep_schema extensions_tree }
     ensures lent { Lends S.Store tx.old.conn tx.new.conn (is_ok result) }
 {
     run(tx, MAKE_EXTENSIONS, &[])

@@ -1,6 +1,4 @@
-ghost use Rattle.std.specs.Prelude.{is_ok};
-ghost use Rattle.pawn_opening.specs.Common.{state, Lends, meta_row};
-ghost use Rattle.pawn_opening.specs.Laying.{Notes};
+ghost use Rattle.{std.specs.Prelude.is_ok, pawn_opening.specs.{Common.{state, Lends, meta_row}, Laying.Notes}};
 
 use one_table::run;
 use pawn_tables::texts::PUT_NOTE;
@@ -12,8 +10,7 @@ pub(crate) fn note<S: Alter>(
     name: &str,
     value: u32,
 ) -> Result<(), Error>
-    ensures noted { Notes (state S.Store tx.old.conn.now) (state S.Store tx.new.conn.now) result
-        (meta_row name.now value) }
+    ensures noted { Notes (state S.Store tx.old.conn.now) (state S.Store tx.new.conn.now) result (meta_row name.now value) }
     ensures lent { Lends S.Store tx.old.conn tx.new.conn (is_ok result) }
 {
     run(tx, PUT_NOTE, params![name, value])

@@ -1,8 +1,8 @@
 ghost use Rattle.std.specs.Prelude.{◌≡◌, ◌≤◌, None, false, true, IfErr, IfOk, IfSome, IsTrue};
-ghost use Rattle.pawn_opening.specs.Common.{image_at, IsCleanLeft, file_state, image_of, state, HasCleanDisk, over_memory, Host, most_rows};
-ghost use Rattle.sqlite_std_file.specs.File.{IsFresh};
-ghost use Rattle.sqlite_wal.specs.Reads.{AreClean};
-ghost use Rattle.pawn_opening.specs.Stores.{AreClosedFor, HasCommitted, IsLeftUnclosed, IsBlank, OpensFound, RefusesFiles, RefusesHeld, StandsIn, OpensAs, empty_host, IsStoreFault};
+ghost use Rattle.pawn_opening.specs.{Common.{image_at, state, HasCleanDisk, Host, most_rows}, Closed.{AreClosedFor, HasCommitted, IsLeftUnclosed}};
+ghost use Rattle.pawn_opening.specs.{FilesStand.{IsBlank, OpensFound, RefusesFiles, RefusesHeld, StandsIn}, Opened.{OpensAs, empty_host}};
+ghost use Rattle.{pawn_opening.specs.Refusing.IsStoreFault, sqlite.specs.{Files.{IsCleanLeft, file_state, image_of}, Steps.over_memory}};
+ghost use Rattle.{sqlite_std_file.specs.File.IsFresh, sqlite_wal.specs.Reads.AreClean};
 
 use crate::fault::{OpenFault, refused};
 use crate::finding::{files_at, options};
@@ -42,12 +42,9 @@ pub fn open_files<D: Disk + Drop>(
     requires db { IsTrue (D.Disk.is_usable files.db) }
     requires least { 1 ≤ limit }
     requires most { limit ≤ most_rows }
-    ensures blank { IfOk result (λ conn. HasCleanDisk (file_state conn) → IsBlank
-        (image_of D.Disk files) → OpensAs (file_state conn) (empty_host limit)) }
-    ensures stands { IfOk result (λ conn. HasCleanDisk (file_state conn) → (h : Host) → StandsIn
-        (image_of D.Disk files) h → OpensAs (file_state conn) h) }
-    ensures found { IfOk result (λ conn. HasCleanDisk (file_state conn) → OpensFound
-        (image_of D.Disk files) (file_state conn)) }
+    ensures blank { IfOk result (λ conn. HasCleanDisk (file_state conn) → IsBlank (image_of D.Disk files) → OpensAs (file_state conn) (empty_host limit)) }
+    ensures stands { IfOk result (λ conn. HasCleanDisk (file_state conn) → (h : Host) → StandsIn (image_of D.Disk files) h → OpensAs (file_state conn) h) }
+    ensures found { IfOk result (λ conn. HasCleanDisk (file_state conn) → OpensFound (image_of D.Disk files) (file_state conn)) }
     ensures mode { IfOk result (λ conn. conn.in_transaction ≡ false) }
     ensures refuses { IfErr result (λ e. IsCleanLeft e.1 → RefusesFiles files limit e.0 e.1) }
 {
@@ -73,18 +70,13 @@ pub fn open_path<S: Start>(
 ) -> Result<Connection<FileStore<FileFrom<S>>>, (OpenFault, Option<Leftover<FileFrom<S>>>)>
     requires least { 1 ≤ limit }
     requires most { limit ≤ most_rows }
-    ensures blank { IfOk result (λ conn. HasCleanDisk (file_state conn) → IsBlank (image_at S.Start)
-        → OpensAs (file_state conn) (empty_host limit)) }
-    ensures stands { IfOk result (λ conn. HasCleanDisk (file_state conn) → (h : Host) → StandsIn
-        (image_at S.Start) h → OpensAs (file_state conn) h) }
-    ensures found { IfOk result (λ conn. HasCleanDisk (file_state conn) → OpensFound
-        (image_at S.Start) (file_state conn)) }
+    ensures blank { IfOk result (λ conn. HasCleanDisk (file_state conn) → IsBlank (image_at S.Start) → OpensAs (file_state conn) (empty_host limit)) }
+    ensures stands { IfOk result (λ conn. HasCleanDisk (file_state conn) → (h : Host) → StandsIn (image_at S.Start) h → OpensAs (file_state conn) h) }
+    ensures found { IfOk result (λ conn. HasCleanDisk (file_state conn) → OpensFound (image_at S.Start) (file_state conn)) }
     ensures mode { IfOk result (λ conn. conn.in_transaction ≡ false) }
     ensures unopened { IfErr result (λ e. e.1 ≡ None → IsStoreFault e.0) }
-    ensures refuses { IfErr result
-        (λ e. IfSome e.1
-        (λ rest. (files : _) × IsFresh true files.log × IsFresh false files.db
-        × (IsCleanLeft rest → RefusesHeld (image_at S.Start) files limit e.0 rest))) }
+    ensures refuses { IfErr result (λ e. IfSome e.1
+        (λ rest. (files : _) × IsFresh true files.log × IsFresh false files.db × (IsCleanLeft rest → RefusesHeld (image_at S.Start) files limit e.0 rest))) }
 {
     let files = match files_at(rt, path, start) {
         Ok(files) => files,
@@ -105,10 +97,8 @@ pub fn open_path<S: Start>(
 pub fn close_files<D: Disk + Drop>(
     conn: Connection<FileStore<D>>,
 ) -> Result<Files<D>, (OpenFault, FileStore<D>)>
-    ensures usable { IfOk result (λ files. IsTrue (D.Disk.is_usable files.log) × IsTrue
-        (D.Disk.is_usable files.db)) }
-    ensures kept { IfOk result (λ files. AreClean D.Disk files.log files.db → (h : Host)
-        → HasCommitted (file_state conn) h → AreClosedFor D.Disk files h) }
+    ensures usable { IfOk result (λ files. IsTrue (D.Disk.is_usable files.log) × IsTrue (D.Disk.is_usable files.db)) }
+    ensures kept { IfOk result (λ files. AreClean D.Disk files.log files.db → (h : Host) → HasCommitted (file_state conn) h → AreClosedFor D.Disk files h) }
     ensures refuses { IfErr result (λ e. IsLeftUnclosed conn e.0 e.1) }
 {
     match conn.close_files() {

@@ -1,6 +1,5 @@
 ghost use Rattle.std.specs.Prelude.{◌≡◌, ◌↔◌, ◌≤◌, false, IsTrue};
-ghost use Rattle.pawn_opening.specs.Common.{state, most_rows};
-ghost use Rattle.pawn_opening.specs.Stores.{LaysOut, Prepares, IsEmptyStore};
+ghost use Rattle.pawn_opening.specs.{Common.{state, most_rows}, Opened.{LaysOut, Prepares}, Refusing.IsEmptyStore};
 
 use crate::fault::{OpenFault, refused};
 use crate::filling::fill;
@@ -15,7 +14,6 @@ fn lay_out<S: Alter>(conn: &mut Connection<S>, limit: u32) -> Result<(), OpenFau
     ensures laid_out { LaysOut (state S.Store conn.old) (state S.Store conn.new) limit result }
 {
     know_settled(conn);
-    let _ = conn.schema();
     let mut tx = conn.transaction();
     if let Err(error) = fill(&mut tx, limit) {
         tx.rollback();

@@ -1,6 +1,5 @@
 ghost use Rattle.std.specs.Prelude.{◌≡◌, false};
-ghost use Rattle.sqlite.specs.Held.{state};
-ghost use Rattle.pawn_opening.specs.Stores.{Recognises, TellsSchema, IsJudged, IsNumberRead};
+ghost use Rattle.{sqlite.specs.Held.state, pawn_opening.specs.{Opened.{Recognises, TellsSchema}, Refusing.{IsJudged, IsNumberRead}}};
 
 use crate::fault::{OpenFault, refused};
 use one_table::know_settled;

@@ -1,7 +1,7 @@
 -- A brief of a pledge that can stand is within its limits.
-use Rattle.pawn_pledge.proofs.Basics.{◌≤◌, Option, Some, None, arith, IfSome, last_stamp_day, Booking, BriefIsWithin, Closing, IsBooked, IsClosed, PledgeValue, debt_of}
-use Rattle.pawn_debt.proofs.Bounds.{accepted-bounded}
-use Rattle.pawn_pledge.specs.Brief.{IsBookingWithin, IsClosingWithin}
+use Rattle.{std.proofs.Common.{◌≤◌, Option, Some, None, arith, IfSome}, pawn_pledge.specs.{Common.last_stamp_day, declared.record.Booking.Booking}}
+use Rattle.pawn_pledge.specs.{Laws.BriefIsWithin, declared.record.Closing.Closing, Replayable.{IsBooked, IsClosed}, Pledge.{PledgeValue, debt_of}}
+use Rattle.{pawn_pledge.specs.Brief.{IsBookingWithin, IsClosingWithin}, pawn_debt.proofs.Bounds.accepted-bounded}
 
 booked-within : (p : PledgeValue) (o : Option Booking) → IsBooked p o → IfSome o (λ (b : Booking). b.day ≤ last_stamp_day) → IfSome o IsBookingWithin
 booked-within p None booked named = tt

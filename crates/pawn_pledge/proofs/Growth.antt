@@ -1,6 +1,9 @@
 -- The lists of a pledge grow at their ends.
-use Rattle.pawn_pledge.proofs.Basics.{◌≡◌, ℕ, ◌+◌, ◌<◌, ◌==◌, false, List, [], ◌∷◌, ◌++◌, length, refl, sym, ap, ◌∙◌, inl, inr, append_assoc, Entry, list_any, append-nil, Answered, Changed, Command, Extension, Grows, Issued, Judged, ListsGrow, PledgeValue, Refused, Stamp, StaysOrGrows, end_of, issue_of, new_entry, pledge_after, pledge_step}
-use Rattle.pawn_pledge.proofs.Moves.{Move, pledge_moves, Entering, Declaring, Extending, Settling}
+use Rattle.std.proofs.Common.{◌≡◌, ℕ, ◌+◌, ◌<◌, ◌==◌, false, List, [], ◌∷◌, ◌++◌, length, refl, sym, ap, ◌∙◌, inl, inr, append_assoc, append-nil}
+use Rattle.{std.specs.List.list_any, pawn_pledge.specs.{Common.Entry, Step.{Answered, Changed, Judged, Refused, pledge_after, pledge_step}}}
+use Rattle.pawn_pledge.specs.{declared.command.Command.Command, declared.record.{Extension.Extension, Issued.Issued}, Growth.{Grows, StaysOrGrows}}
+use Rattle.pawn_pledge.{specs.{Laws.ListsGrow, Pledge.{PledgeValue, end_of}, declared.command.Stamp.Stamp, Words.{issue_of, new_entry}}, proofs.Moves.Move}
+use Rattle.pawn_pledge.proofs.Moves.{pledge_moves, Entering, Declaring, Extending, Settling}
 
 -- each list stays, or grows at its end by one
 pub record ListsMoved (p q : PledgeValue) (w x : ℕ) : Type 0 where

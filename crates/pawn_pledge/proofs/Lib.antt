@@ -1,4 +1,3 @@
-pub mod Basics
 pub mod Settled
 pub mod Moves
 pub mod Pushes

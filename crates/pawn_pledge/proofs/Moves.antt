@@ -1,22 +1,34 @@
 -- Each step that changes a pledge is one of a few moves.
-use Rattle.pawn_pledge.proofs.Basics.{◌≡◌, ℕ, ◌<◌, ◌≤◌, ◌==◌, nat_lt, Bool, true, false, not, if◌then◌else◌, List, [], ◌∷◌, ◌++◌, length, Option, Some, None, Result, Ok, Err, refl, sym, ap, subst, ◌∙◌, arith, first_of-ok, nat_tests, not_below, not_most, sort_answer-ok, true≢false, DebtFault, DebtValue, Draw, Entry, NoneApplies, Repay, Sort, draw_answer, first_of, last_of, last_stamp_day, most_entries, most_pence, repay_answer, sort_answer, with_entry, Answered, Booking, BookingState, Changed, Closing, Command, Done, IsCommand, IsDrawnBy, IsNotPassed, Judged, Paper, PledgeValue, Refusal, Stamp, Standing, ask_bars, ask_once, ask_step, bars, cancel_in, cancel_step, confirm_in, debt_of, decide_step, declare_bars, declare_step, decline_in, end_of, entry_step, extend_bars, extend_step, hold_step, in_state, is_ahead, is_open, is_realisable, is_repeat, is_standing, issue_of, last_window, makes_booking, most_extensions, new_entry, numbered_step, open_status, past, period_bars, pledge_step, redeem_bars, redeem_step, same_flag, sell_bars, sell_step, stands_for, total_on, under_debt, unless, with_booking, with_extension, with_last, with_secret, with_standing}
-use Rattle.pawn_pledge.specs.declared.record.Status.{Status}
-use Rattle.pawn_pledge.specs.declared.command.Decision.{Decision}
-use Rattle.pawn_pledge.specs.declared.command.Decision.TheVariants.{Confirm, Refuse}
-use Rattle.pawn_pledge.proofs.Settled.{IsGated, IsSettled, hold-settles, ask-settles, mark-settles, close-settles}
+use Rattle.std.proofs.Common.{◌≡◌, ℕ, ◌<◌, ◌≤◌, ◌==◌, nat_lt, Bool, true, false, not, if◌then◌else◌, List, [], ◌∷◌, ◌++◌, length, Option, Some, None, Result}
+use Rattle.std.proofs.{Common.{Ok, Err, refl, sym, ap, subst, ◌∙◌, arith, true≢false}, lemmas.Bool.Decides.nat_tests}
+use Rattle.{pawn_base.proofs.{RefusalLemmas.first_of-ok, TestLemmas.{not_below, not_most}}, pawn_debt.proofs.ReplayLemmas.sort_answer-ok}
+use Rattle.pawn_pledge.specs.Common.{DebtFault, DebtValue, Draw, Entry, NoneApplies, Repay, Sort, draw_answer, first_of, last_of, last_stamp_day, most_entries}
+use Rattle.pawn_pledge.specs.{Common.{most_pence, repay_answer, sort_answer, with_entry}, Step.{Answered, Changed, Judged, ask_bars, ask_once, ask_step, bars}}
+use Rattle.pawn_pledge.specs.Step.{cancel_in, cancel_step, confirm_in, decide_step, declare_bars, declare_step, decline_in, entry_step, extend_bars}
+use Rattle.pawn_pledge.specs.Step.{extend_step, hold_step, makes_booking, numbered_step, past, period_bars, pledge_step, redeem_bars, redeem_step, sell_bars}
+use Rattle.pawn_pledge.specs.{Step.{sell_step, under_debt, unless}, declared.record.{Booking.Booking, BookingState.BookingState, Closing.Closing}}
+use Rattle.pawn_pledge.specs.{declared.command.{Command.Command, Done.Done, Paper.Paper}, Commands.IsCommand, Replayable.{IsDrawnBy, IsNotPassed}}
+use Rattle.pawn_pledge.specs.{Pledge.{PledgeValue, debt_of, end_of, is_realisable, open_status, total_on}, declared.refusal.Refusal.Refusal}
+use Rattle.pawn_pledge.specs.{declared.command.Stamp.Stamp, declared.record.Standing.Standing, Words.{in_state, is_ahead, is_open, is_repeat, is_standing}}
+use Rattle.pawn_pledge.specs.Words.{issue_of, new_entry, same_flag, stands_for, with_booking, with_extension, with_last, with_secret, with_standing}
+use Rattle.pawn_pledge.specs.{Limits.{last_window, most_extensions}, declared.record.Status.Status, declared.command.Decision.{Decision, TheVariants.Confirm}}
+use Rattle.pawn_pledge.{specs.declared.command.Decision.TheVariants.Refuse, proofs.Settled.{IsGated, IsSettled, hold-settles, ask-settles, mark-settles}}
+use Rattle.pawn_pledge.proofs.Settled.{close-settles}
 
 -- a step that changes was not refused on the way
 past-changed : (g : Result (Unit {0}) Refusal) (own : Judged) (q : PledgeValue) (d : Done) → past g own ≡ Changed q d → (g ≡ Ok tt) × (own ≡ Changed q d)
 past-changed (Ok u) own q d h = (refl, h)
 past-changed (Err e) own q d h = cc
 
-pub unless-changed : (rows : List (Bool × Refusal)) (own : Judged) (q : PledgeValue) (d : Done) → unless rows own ≡ Changed q d → NoneApplies rows × (own ≡ Changed q d)
+pub unless-changed : (rows : List (Bool × Refusal)) (own : Judged) (q : PledgeValue) (d : Done) → unless rows own ≡ Changed q d
+    → NoneApplies rows × (own ≡ Changed q d)
 unless-changed rows own q d h =
     let a = past-changed (first_of rows (Ok tt)) own q d h in
     ((first_of-ok rows (Ok tt) tt a.0).0, a.1)
 
 -- nor answered
-pub if-unanswered : (b : Bool) (a : Done) (own : Judged) (q : PledgeValue) (d : Done) → (if b then Answered a else own) ≡ Changed q d → (b ≡ false) × (own ≡ Changed q d)
+pub if-unanswered : (b : Bool) (a : Done) (own : Judged) (q : PledgeValue) (d : Done) → (if b then Answered a else own) ≡ Changed q d
+    → (b ≡ false) × (own ≡ Changed q d)
 if-unanswered true a own q d h = cc
 if-unanswered false a own q d h = (refl, h)
 
@@ -24,11 +36,10 @@ pub changed-is : (p q : PledgeValue) (d e : Done) → Changed p d ≡ Changed q 
 changed-is p q d e h = cc
 
 not_other : (a b : ℕ) → not (a == b) ≡ false → a ≡ b
-not_other a b h = by (a == b) refl h
-  where
-    by : (t : Bool) → (a == b) ≡ t → not t ≡ false → a ≡ b
-    by true e k = grind (arith, nat_tests, e)
-    by false e k = absurd (true≢false k)
+not_other a b h = by (a == b) refl h where
+  by : (t : Bool) → (a == b) ≡ t → not t ≡ false → a ≡ b
+  by true e k = grind (arith, nat_tests, e)
+  by false e k = absurd (true≢false k)
 
 not_same : (a b : ℕ) → (a == b) ≡ false → a ≡ b → ⊥
 not_same a b h e = grind (arith, nat_tests, h, e)
@@ -56,7 +67,8 @@ under_debt-moves : (p q : PledgeValue) (c : Command) (w x : ℕ) (sort : Sort) (
     → sort_answer sort (debt_of p) x pence ≡ r → IsDrawnBy (end_of p) sort x → under_debt p x sort pence r ≡ Changed q d → Move p x w c q
 under_debt-moves p q c w x sort pence (Ok v) d is drawn h =
     let a = sort_answer-ok sort (debt_of p) v x pence is in
-    let moved : q ≡ record p { entries = v.entries; standing = with_last p.standing x } = changed-is (record p { entries = v.entries; standing = with_last p.standing x }) q _ d h in
+    let moved : q ≡ record p { entries = v.entries; standing = with_last p.standing x } =
+    changed-is (record p { entries = v.entries; standing = with_last p.standing x }) q _ d h in
     Entering sort pence (is ∙ ap (λ (w : DebtValue). Ok w) a.2) a.0 a.1 drawn
     (moved ∙ ap (λ (w : DebtValue). record p { entries = w.entries; standing = with_last p.standing x }) a.2)
 under_debt-moves p q c w x sort pence (Err fault) d is drawn h = cc
@@ -71,13 +83,15 @@ entry-moves p q c w x Repay pence d h = under_debt-moves p q c w x Repay pence (
 abbrev pub Goes : PledgeValue → ℕ → ℕ → Command → PledgeValue → Type 0
 Goes p x w c q = IsGated p x × Move p x w c q
 
-gated : (p q : PledgeValue) (c : Command) (w x : ℕ) (own : Judged) (d : Done) → (IsGated p x → own ≡ Changed q d → Move p x w c q) → unless (bars p x) own ≡ Changed q d → Goes p x w c q
+gated : (p q : PledgeValue) (c : Command) (w x : ℕ) (own : Judged) (d : Done) → (IsGated p x → own ≡ Changed q d → Move p x w c q)
+    → unless (bars p x) own ≡ Changed q d → Goes p x w c q
 gated p q c w x own d moves h =
     let a = unless-changed (bars p x) own q d h in
     let g = gate-is p x a.0 in
     (g, moves g a.1)
 
-numbered-moves : (p q : PledgeValue) (c : Command) (w x seq : ℕ) (sort : Sort) (pence : ℕ) (o : Option Entry) (d : Done) → numbered_step p x seq sort pence o ≡ Changed q d → Goes p x w c q
+numbered-moves : (p q : PledgeValue) (c : Command) (w x seq : ℕ) (sort : Sort) (pence : ℕ) (o : Option Entry) (d : Done)
+    → numbered_step p x seq sort pence o ≡ Changed q d → Goes p x w c q
 numbered-moves p q c w x seq sort pence (Some e) d h =
     let a = unless-changed ((not (is_repeat e sort pence), Refusal.SeqTaken) ∷ []) (Answered (Done.Entered e)) q d h in
     let never : Answered (Done.Entered e) ≡ Changed q d = a.1 in
@@ -87,7 +101,8 @@ numbered-moves p q c w x seq sort pence None d h =
     gated p q c w x (entry_step p x sort pence) d (λ g k. entry-moves p q c w x sort pence d k) a.1
 
 -- how the pledge stands alone
-settled : (p q : PledgeValue) (c : Command) (w x : ℕ) (s : Standing) (e d : Done) → IsSettled p x c s → Changed (with_standing p s) e ≡ Changed q d → Move p x w c q
+settled : (p q : PledgeValue) (c : Command) (w x : ℕ) (s : Standing) (e d : Done) → IsSettled p x c s → Changed (with_standing p s) e ≡ Changed q d
+    → Move p x w c q
 settled p q c w x s e d to h = Settling s to (changed-is (with_standing p s) q e d h)
 
 -- the flag
@@ -97,7 +112,8 @@ hold-moves p q c w x flag d g h =
     settled p q c w x _ _ d (hold-settles p x c flag g a.0) a.1
 
 -- declarations
-declare-moves : (p q : PledgeValue) (c : Command) (stamp : Stamp) (paper : Paper) (d : Done) → declare_step p stamp paper ≡ Changed q d → Move p stamp.day stamp.word c q
+declare-moves : (p q : PledgeValue) (c : Command) (stamp : Stamp) (paper : Paper) (d : Done) → declare_step p stamp paper ≡ Changed q d
+    → Move p stamp.day stamp.word c q
 declare-moves p q c stamp paper d h =
     let next : PledgeValue = with_secret p (record { day = stamp.day; sort = issue_of paper; secret = stamp.word }) in
     let a = unless-changed (declare_bars p paper stamp.word) (Changed next (Done.Declared stamp.word)) q d h in
@@ -108,47 +124,54 @@ stands-asked : (b : Booking) → b.state ≡ BookingState.Asked → stands_for b
 stands-asked b e = let s : is_standing b.state ≡ true = rw e refl in grind (arith, nat_tests, s)
 
 ask_once-moves : (p q : PledgeValue) (c : Command) (w x day window : ℕ) (o : Option Booking) (d : Done) → p.standing.booking ≡ o
-    → ((b : Booking) → b.day ≡ day → b.window ≡ window → (p.standing.booking ≡ Some b → ⊥) → IsSettled p x c (with_booking p.standing b x)) → ask_once p x day window o ≡ Changed q d → Move p x w c q
+    → ((b : Booking) → b.day ≡ day → b.window ≡ window → (p.standing.booking ≡ Some b → ⊥) → IsSettled p x c (with_booking p.standing b x))
+    → ask_once p x day window o ≡ Changed q d → Move p x w c q
 ask_once-moves p q c w x day window None d is settles h =
     let b : Booking = record { day = day; window = window; state = BookingState.Asked } in
     settled p q c w x _ _ d (settles b refl refl (λ e. let f : None ≡ Some b = sym is ∙ e in cc)) h
 ask_once-moves p q c w x day window (Some o) d is settles h =
     let b : Booking = record { day = day; window = window; state = BookingState.Asked } in
     let a = if-unanswered (stands_for o day window) _ _ q d h in
-    settled p q c w x _ _ d
-    (settles b refl refl (λ e.
+    settled p q c w x _ _ d (settles b refl refl (λ e.
     let f : Some o ≡ Some b = sym is ∙ e in
     let g : o ≡ b = cc in
     let t : stands_for o day window ≡ true = ap (λ (k : Booking). stands_for k day window) g ∙ stands-asked b refl in
     true≢false (sym t ∙ a.0)))
     a.1
 
-ask-moves : (p q : PledgeValue) (c : Command) (w x day window : ℕ) (d : Done) → (IsCommand c → day ≤ last_stamp_day) → IsGated p x → ask_step p x day window ≡ Changed q d → Move p x w c q
+ask-moves : (p q : PledgeValue) (c : Command) (w x day window : ℕ) (d : Done) → (IsCommand c → day ≤ last_stamp_day) → IsGated p x
+    → ask_step p x day window ≡ Changed q d → Move p x w c q
 ask-moves p q c w x day window d named g h =
     let a = unless-changed (ask_bars p x day window) (ask_once p x day window p.standing.booking) q d h in
     let later = not_below day x a.0.1.0 in
     let small = not_below last_window window a.0.0 in
-    ask_once-moves p q c w x day window p.standing.booking d refl
-    (λ b at same new. ask-settles p x c b g (omega (arith, later, at)) (subst (IsNotPassed p) (sym at) a.0.1.1.0) (omega (arith, small, same)) (λ n. omega (arith, named n, at)) new) a.1
+    ask_once-moves p q c w x day window p.standing.booking d refl (λ b at same new. ask-settles p x c b g (omega (arith, later, at))
+    (subst (IsNotPassed p) (sym at) a.0.1.1.0) (omega (arith, small, same)) (λ n. omega (arith, named n, at)) new) a.1
 
-marked : (p q : PledgeValue) (c : Command) (w x : ℕ) (b : Booking) (state : BookingState) (d : Done) → IsGated p x → p.standing.booking ≡ Some b → (b.state ≡ state → ⊥) → makes_booking p x (in_state b state) ≡ Changed q d → Move p x w c q
+marked : (p q : PledgeValue) (c : Command) (w x : ℕ) (b : Booking) (state : BookingState) (d : Done) → IsGated p x → p.standing.booking ≡ Some b
+    → (b.state ≡ state → ⊥) → makes_booking p x (in_state b state) ≡ Changed q d → Move p x w c q
 marked p q c w x b state d g is other h = settled p q c w x _ _ d (mark-settles p x c b state g is other) h
 
 -- two states that differ
 other : (s t u : BookingState) → s ≡ t → (t ≡ u → ⊥) → s ≡ u → ⊥
 other s t u e n f = n (sym e ∙ f)
 
-cancel_in-moves : (p q : PledgeValue) (c : Command) (w x : ℕ) (b : Booking) (s : BookingState) (d : Done) → IsGated p x → p.standing.booking ≡ Some b → b.state ≡ s → cancel_in p x b s ≡ Changed q d → Move p x w c q
-cancel_in-moves p q c w x b BookingState.Asked d g is at h = marked p q c w x b BookingState.Cancelled d g is (other b.state BookingState.Asked BookingState.Cancelled at (λ e. cc)) h
-cancel_in-moves p q c w x b BookingState.Confirmed d g is at h = marked p q c w x b BookingState.Cancelled d g is (other b.state BookingState.Confirmed BookingState.Cancelled at (λ e. cc)) h
+cancel_in-moves : (p q : PledgeValue) (c : Command) (w x : ℕ) (b : Booking) (s : BookingState) (d : Done) → IsGated p x → p.standing.booking ≡ Some b
+    → b.state ≡ s → cancel_in p x b s ≡ Changed q d → Move p x w c q
+cancel_in-moves p q c w x b BookingState.Asked d g is at h =
+    marked p q c w x b BookingState.Cancelled d g is (other b.state BookingState.Asked BookingState.Cancelled at (λ e. cc)) h
+cancel_in-moves p q c w x b BookingState.Confirmed d g is at h =
+    marked p q c w x b BookingState.Cancelled d g is (other b.state BookingState.Confirmed BookingState.Cancelled at (λ e. cc)) h
 cancel_in-moves p q c w x b BookingState.Refused d g is at h = cc
 cancel_in-moves p q c w x b BookingState.Cancelled d g is at h = cc
 
-cancel-moves : (p q : PledgeValue) (c : Command) (w x : ℕ) (o : Option Booking) (d : Done) → IsGated p x → p.standing.booking ≡ o → cancel_step p x o ≡ Changed q d → Move p x w c q
+cancel-moves : (p q : PledgeValue) (c : Command) (w x : ℕ) (o : Option Booking) (d : Done) → IsGated p x → p.standing.booking ≡ o
+    → cancel_step p x o ≡ Changed q d → Move p x w c q
 cancel-moves p q c w x None d g is h = cc
 cancel-moves p q c w x (Some b) d g is h = cancel_in-moves p q c w x b b.state d g is refl h
 
-confirm_in-moves : (p q : PledgeValue) (c : Command) (w x : ℕ) (b : Booking) (s : BookingState) (d : Done) → IsGated p x → p.standing.booking ≡ Some b → b.state ≡ s → confirm_in p x b s ≡ Changed q d → Move p x w c q
+confirm_in-moves : (p q : PledgeValue) (c : Command) (w x : ℕ) (b : Booking) (s : BookingState) (d : Done) → IsGated p x → p.standing.booking ≡ Some b
+    → b.state ≡ s → confirm_in p x b s ≡ Changed q d → Move p x w c q
 confirm_in-moves p q c w x b BookingState.Asked d g is at h =
     let a = unless-changed ((nat_lt b.day x, Refusal.BookingDay) ∷ []) (makes_booking p x (in_state b BookingState.Confirmed)) q d h in
     marked p q c w x b BookingState.Confirmed d g is (other b.state BookingState.Asked BookingState.Confirmed at (λ e. cc)) a.1
@@ -156,13 +179,17 @@ confirm_in-moves p q c w x b BookingState.Confirmed d g is at h = cc
 confirm_in-moves p q c w x b BookingState.Refused d g is at h = cc
 confirm_in-moves p q c w x b BookingState.Cancelled d g is at h = cc
 
-decline_in-moves : (p q : PledgeValue) (c : Command) (w x : ℕ) (b : Booking) (s : BookingState) (d : Done) → IsGated p x → p.standing.booking ≡ Some b → b.state ≡ s → decline_in p x b s ≡ Changed q d → Move p x w c q
-decline_in-moves p q c w x b BookingState.Asked d g is at h = marked p q c w x b BookingState.Refused d g is (other b.state BookingState.Asked BookingState.Refused at (λ e. cc)) h
-decline_in-moves p q c w x b BookingState.Confirmed d g is at h = marked p q c w x b BookingState.Refused d g is (other b.state BookingState.Confirmed BookingState.Refused at (λ e. cc)) h
+decline_in-moves : (p q : PledgeValue) (c : Command) (w x : ℕ) (b : Booking) (s : BookingState) (d : Done) → IsGated p x → p.standing.booking ≡ Some b
+    → b.state ≡ s → decline_in p x b s ≡ Changed q d → Move p x w c q
+decline_in-moves p q c w x b BookingState.Asked d g is at h =
+    marked p q c w x b BookingState.Refused d g is (other b.state BookingState.Asked BookingState.Refused at (λ e. cc)) h
+decline_in-moves p q c w x b BookingState.Confirmed d g is at h =
+    marked p q c w x b BookingState.Refused d g is (other b.state BookingState.Confirmed BookingState.Refused at (λ e. cc)) h
 decline_in-moves p q c w x b BookingState.Refused d g is at h = cc
 decline_in-moves p q c w x b BookingState.Cancelled d g is at h = cc
 
-decide-moves : (p q : PledgeValue) (c : Command) (w x : ℕ) (decision : Decision) (o : Option Booking) (d : Done) → IsGated p x → p.standing.booking ≡ o → decide_step p x decision o ≡ Changed q d → Move p x w c q
+decide-moves : (p q : PledgeValue) (c : Command) (w x : ℕ) (decision : Decision) (o : Option Booking) (d : Done) → IsGated p x → p.standing.booking ≡ o
+    → decide_step p x decision o ≡ Changed q d → Move p x w c q
 decide-moves p q c w x Confirm None d g is h = cc
 decide-moves p q c w x Refuse None d g is h = cc
 decide-moves p q c w x Confirm (Some b) d g is h = confirm_in-moves p q c w x b b.state d g is refl h
@@ -181,13 +208,15 @@ realisable-is other h = absurd (true≢false h)
 sell-moves : (p q : PledgeValue) (c : Command) (w x net : ℕ) (d : Done) → IsGated p x → sell_step p x net ≡ Changed q d → Move p x w c q
 sell-moves p q c w x net d g h =
     let a = unless-changed (sell_bars p x net) _ q d h in
-    settled p q c w x _ _ d (close-settles p x c (Closing.Sold x net) g (refl, realisable-is (open_status p x) a.0.0, not_below most_pence net a.0.1.0) (λ e. cc)) a.1
+    settled p q c w x _ _ d
+    (close-settles p x c (Closing.Sold x net) g (refl, realisable-is (open_status p x) a.0.0, not_below most_pence net a.0.1.0) (λ e. cc)) a.1
 
 -- longer periods
 above : (m n : ℕ) → n ≤ m → (m ≡ n → ⊥) → n < m
 above m n low apart = grind (arith, low, apart)
 
-extend-moves : (p q : PledgeValue) (c : Command) (w x until : ℕ) (d : Done) → (IsCommand c → until ≤ last_stamp_day) → extend_step p x until ≡ Changed q d → Move p x w c q
+extend-moves : (p q : PledgeValue) (c : Command) (w x until : ℕ) (d : Done) → (IsCommand c → until ≤ last_stamp_day) → extend_step p x until ≡ Changed q d
+    → Move p x w c q
 extend-moves p q c w x until d named h =
     let next : PledgeValue = with_extension p (record { day = x; until = until }) in
     let own : Judged = unless (extend_bars p until) (Changed next (Done.Extended until)) in
@@ -203,9 +232,12 @@ pledge_moves p q stamp (Command.Repay seq pence) d h = numbered-moves p q _ stam
 pledge_moves p q stamp Command.Hold d h = gated p q _ stamp.word stamp.day _ d (λ g k. hold-moves p q _ stamp.word stamp.day true d g k) h
 pledge_moves p q stamp Command.Release d h = gated p q _ stamp.word stamp.day _ d (λ g k. hold-moves p q _ stamp.word stamp.day false d g k) h
 pledge_moves p q stamp (Command.Declare paper) d h = gated p q _ stamp.word stamp.day _ d (λ g k. declare-moves p q _ stamp paper d k) h
-pledge_moves p q stamp (Command.AskBooking day window) d h = gated p q _ stamp.word stamp.day _ d (λ g k. ask-moves p q _ stamp.word stamp.day day window d (λ n. n.1) g k) h
-pledge_moves p q stamp Command.CancelBooking d h = gated p q _ stamp.word stamp.day _ d (λ g k. cancel-moves p q _ stamp.word stamp.day p.standing.booking d g refl k) h
-pledge_moves p q stamp (Command.DecideBooking decision) d h = gated p q _ stamp.word stamp.day _ d (λ g k. decide-moves p q _ stamp.word stamp.day decision p.standing.booking d g refl k) h
+pledge_moves p q stamp (Command.AskBooking day window) d h =
+    gated p q _ stamp.word stamp.day _ d (λ g k. ask-moves p q _ stamp.word stamp.day day window d (λ n. n.1) g k) h
+pledge_moves p q stamp Command.CancelBooking d h =
+    gated p q _ stamp.word stamp.day _ d (λ g k. cancel-moves p q _ stamp.word stamp.day p.standing.booking d g refl k) h
+pledge_moves p q stamp (Command.DecideBooking decision) d h =
+    gated p q _ stamp.word stamp.day _ d (λ g k. decide-moves p q _ stamp.word stamp.day decision p.standing.booking d g refl k) h
 pledge_moves p q stamp (Command.Redeem paid) d h = gated p q _ stamp.word stamp.day _ d (λ g k. redeem-moves p q _ stamp.word stamp.day paid d g k) h
 pledge_moves p q stamp (Command.Sell net) d h = gated p q _ stamp.word stamp.day _ d (λ g k. sell-moves p q _ stamp.word stamp.day net d g k) h
 pledge_moves p q stamp (Command.Extend until) d h = gated p q _ stamp.word stamp.day _ d (λ g k. extend-moves p q _ stamp.word stamp.day until d (λ n. n.1) k) h

@@ -1,5 +1,9 @@
 -- One more element at the end of a list of a record.
-use Rattle.pawn_pledge.proofs.Basics.{◌≡◌, ℕ, ◌+◌, ◌<◌, ◌≤◌, ◌==◌, false, List, [], ◌∷◌, ◌++◌, drop, take, get_or, ◌-◌, length, Option, Some, None, suc, refl, sym, ap, subst, ◌∙◌, arith, slice_get, length-append, Entry, last_by, later_of, list_any, Each-push, drop_more, list_any-append, nat_tests, or_from, or_parts, take_rest, AreDistinctSecrets, AreExtended, AreIssued, AreNumbered, Extension, IsLaterIssue, Issued, last_element, last_until}
+use Rattle.std.proofs.Common.{◌≡◌, ℕ, ◌+◌, ◌<◌, ◌≤◌, ◌==◌, false, List, [], ◌∷◌, ◌++◌, drop, take, get_or, ◌-◌, length, Option, Some, None, suc, refl, sym, ap}
+use Rattle.std.{proofs.{Common.{subst, ◌∙◌, arith, slice_get, length-append}, lemmas.List.{drop_more, take_rest, Folds.list_any-append}}, specs.List.list_any}
+use Rattle.{std.proofs.lemmas.Bool.{Decides.nat_tests, or_from, or_parts}, pawn_pledge.specs.{Common.{Entry, last_by, later_of}, Replayable.AreDistinctSecrets}}
+use Rattle.pawn_pledge.specs.{Replayable.{AreExtended, AreIssued, AreNumbered, IsLaterIssue}, declared.record.{Extension.Extension, Issued.Issued}}
+use Rattle.{pawn_pledge.specs.Pledge.{last_element, last_until}, pawn_base.proofs.ListLemmas.Each-push}
 
 last-push : {A : Type 0} (xs : List A) (x : A) → slice_get (xs ++ x ∷ []) (length xs) ≡ Some x
 last-push [] x = refl
@@ -10,14 +14,16 @@ pub last_element-push : {A : Type 0} (xs : List A) (x : A) → last_element (xs 
 last_element-push xs x = let n : length (xs ++ x ∷ []) - 1 ≡ length xs = omega (arith, length-append xs (x ∷ [])) in rw n (last-push xs x)
 
 -- secrets
-pub AreIssued-push : (taken credit : ℕ) (is : List Issued) (j : Issued) → AreIssued taken credit is → IsLaterIssue credit j.sort → AreIssued taken credit (is ++ j ∷ [])
+pub AreIssued-push : (taken credit : ℕ) (is : List Issued) (j : Issued) → AreIssued taken credit is → IsLaterIssue credit j.sort
+    → AreIssued taken credit (is ++ j ∷ [])
 AreIssued-push taken credit [] j h last = absurd h
 AreIssued-push taken credit (i ∷ is) j h last = (h.0, h.1, Each-push (λ (k : Issued). IsLaterIssue credit k.sort) is j h.2 last)
 
 equal_back : (a b : ℕ) → (a == b) ≡ false → (b == a) ≡ false
 equal_back a b h = grind (arith, nat_tests, h)
 
-pub AreDistinct-push : (is : List Issued) (j : Issued) → AreDistinctSecrets is → list_any (λ i. i.secret == j.secret) is ≡ false → AreDistinctSecrets (is ++ j ∷ [])
+pub AreDistinct-push : (is : List Issued) (j : Issued) → AreDistinctSecrets is → list_any (λ i. i.secret == j.secret) is ≡ false
+    → AreDistinctSecrets (is ++ j ∷ [])
 AreDistinct-push [] j h new = (refl, tt)
 AreDistinct-push (i ∷ is) j h new =
     let parts = or_parts (i.secret == j.secret) (list_any (λ k. k.secret == j.secret) is) new in (
@@ -53,21 +59,25 @@ later_of-until : (day ends : ℕ) (xs : List Extension) → AreExtended day ends
 later_of-until day ends [] h = refl
 later_of-until day ends (x ∷ xs) h = rw (last_until-is x xs) (omega (arith, h.2, until_after-le x.day x.until xs h.3))
 
-AreExtended-after : (day ends : ℕ) (xs : List Extension) (x : Extension) → AreExtended day ends xs → last_by (λ e. e.day) day xs ≤ x.day → x.day ≤ until_after ends xs → until_after ends xs < x.until → AreExtended day ends (xs ++ x ∷ [])
+AreExtended-after : (day ends : ℕ) (xs : List Extension) (x : Extension) → AreExtended day ends xs → last_by (λ e. e.day) day xs ≤ x.day
+    → x.day ≤ until_after ends xs → until_after ends xs < x.until → AreExtended day ends (xs ++ x ∷ [])
 AreExtended-after day ends [] x h late inside longer = (late, inside, longer, tt)
 AreExtended-after day ends (y ∷ ys) x h late inside longer = (h.0, h.1, h.2, AreExtended-after y.day y.until ys x h.3 late inside longer)
 
-pub AreExtended-push : (day ends : ℕ) (xs : List Extension) (x : Extension) → AreExtended day ends xs → last_by (λ e. e.day) day xs ≤ x.day → x.day ≤ later_of ends (last_until xs) → later_of ends (last_until xs) < x.until → AreExtended day ends (xs ++ x ∷ [])
+pub AreExtended-push : (day ends : ℕ) (xs : List Extension) (x : Extension) → AreExtended day ends xs → last_by (λ e. e.day) day xs ≤ x.day
+    → x.day ≤ later_of ends (last_until xs) → later_of ends (last_until xs) < x.until → AreExtended day ends (xs ++ x ∷ [])
 AreExtended-push day ends xs x h late inside longer =
     let e = later_of-until day ends xs h in
     AreExtended-after day ends xs x h late (omega (arith, inside, e)) (omega (arith, longer, e))
 
 -- one more extension to a later end puts the end there
-pub later_of-push : (ends : ℕ) (xs : List Extension) (x : Extension) → later_of ends (last_until xs) < x.until → later_of ends (last_until (xs ++ x ∷ [])) ≡ x.until
+pub later_of-push : (ends : ℕ) (xs : List Extension) (x : Extension) → later_of ends (last_until xs) < x.until
+    → later_of ends (last_until (xs ++ x ∷ [])) ≡ x.until
 later_of-push ends xs x longer = rw (last_element-push xs x) (omega (arith, longer, later_of-le ends (last_until xs)))
 
 -- one secret on, by a test of the slice after it
-pub AreDistinct-step : (is : List Issued) (k : ℕ) (i : Issued) → k < length is → i ≡ get_or is k i → list_any (λ j. j.secret == i.secret) (take (length is - (k + 1)) (drop (k + 1) is)) ≡ false
+pub AreDistinct-step : (is : List Issued) (k : ℕ) (i : Issued) → k < length is → i ≡ get_or is k i
+    → list_any (λ j. j.secret == i.secret) (take (length is - (k + 1)) (drop (k + 1) is)) ≡ false
     → (AreDistinctSecrets (drop k is) → AreDistinctSecrets (drop (k + 1) is)) × (AreDistinctSecrets (drop (k + 1) is) → AreDistinctSecrets (drop k is))
 AreDistinct-step is k i lt at new =
     let e : drop k is ≡ i ∷ drop (k + 1) is = drop_more is k i lt ∙ ap (λ (x : Issued). x ∷ drop (k + 1) is) (sym at) in

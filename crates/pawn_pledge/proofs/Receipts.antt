@@ -1,8 +1,11 @@
 -- Which secret of a pledge is live.
-use Rattle.pawn_pledge.proofs.Basics.{◌≡◌, None, ℕ, ◌==◌, ◌||◌, Bool, true, false, List, [], ◌∷◌, ◌++◌, Option, Some, option_map, refl, sym, ap, subst, ◌∙◌, list_any, list_any-append, true≢false, Answered, Changed, Closing, Command, Done, EarlierAreSpent, IsSpent, Issued, Judged, NeverLiveAgain, Paper, PledgeValue, Refused, Stamp, bars, close, declare_bars, declare_step, is_open, issue_of, last_secret, live_of, live_under, pledge_after, pledge_step, redeem_bars, redeem_step, unless, with_secret}
-use Rattle.pawn_pledge.proofs.Moves.{Move, changed-is, gate-is, unless-changed, pledge_moves, Entering, Declaring, Extending, Settling}
-use Rattle.pawn_pledge.proofs.Settled.{IsGated}
-use Rattle.pawn_pledge.proofs.Pushes.{last_element-push}
+use Rattle.std.proofs.Common.{◌≡◌, None, ℕ, ◌==◌, ◌||◌, Bool, true, false, List, [], ◌∷◌, ◌++◌, Option, Some, option_map, refl, sym, ap, subst, ◌∙◌, true≢false}
+use Rattle.{std.{specs.List.list_any, proofs.lemmas.List.Folds.list_any-append}, pawn_pledge.specs.Step.{Answered, Changed, Judged, Refused, bars}}
+use Rattle.pawn_pledge.specs.{Step.{declare_bars, declare_step, pledge_after, pledge_step, redeem_bars, redeem_step, unless}, declared.record.Closing.Closing}
+use Rattle.pawn_pledge.specs.{declared.command.{Command.Command, Done.Done}, Laws.{EarlierAreSpent, IsSpent, NeverLiveAgain}, declared.record.Issued.Issued}
+use Rattle.pawn_pledge.specs.{declared.command.{Paper.Paper, Stamp.Stamp}, Pledge.{PledgeValue, last_secret, live_of, live_under}, Words.{close, is_open}}
+use Rattle.pawn_pledge.{specs.Words.{issue_of, with_secret}, proofs.Moves.{Move, changed-is, gate-is, unless-changed, pledge_moves, Entering, Declaring}}
+use Rattle.pawn_pledge.proofs.{Moves.{Extending, Settling}, Settled.IsGated, Pushes.last_element-push}
 
 -- no command gets past a closing
 pub closed-moved : (c : Closing) → is_open c ≡ false → c ≡ Closing.Open → ⊥
@@ -13,7 +16,8 @@ spent-same : (p q : PledgeValue) (secret : ℕ) → IsSpent p secret → q.secre
 spent-same p q secret h secrets closing =
     record {
       issued = ap (λ (l : List Issued). list_any (λ (i : Issued). i.secret == secret) l) secrets ∙ h.issued;
-      not_live = λ k. h.not_live (sym (ap (λ (c : Closing). live_under c (last_secret p.secrets)) closing) ∙ sym (ap (λ (l : List Issued). live_under q.standing.closing (last_secret l)) secrets) ∙ k);
+      not_live = λ k. h.not_live (sym (ap (λ (c : Closing). live_under c (last_secret p.secrets)) closing)
+          ∙ sym (ap (λ (l : List Issued). live_under q.standing.closing (last_secret l)) secrets) ∙ k);
     }
 
 -- the same, of a move that changes neither
@@ -21,11 +25,13 @@ spent-kept : (p q r : PledgeValue) (secret : ℕ) → IsSpent p secret → q ≡
 spent-kept p q r secret h is secrets closing =
     spent-same p q secret h (ap (λ (v : PledgeValue). v.secrets) is ∙ secrets) (ap (λ (v : PledgeValue). v.standing.closing) is ∙ closing)
 
-list_any-first : (secret : ℕ) (xs ys : List Issued) → list_any (λ (i : Issued). i.secret == secret) xs ≡ true → list_any (λ (i : Issued). i.secret == secret) (xs ++ ys) ≡ true
+list_any-first : (secret : ℕ) (xs ys : List Issued) → list_any (λ (i : Issued). i.secret == secret) xs ≡ true
+    → list_any (λ (i : Issued). i.secret == secret) (xs ++ ys) ≡ true
 list_any-first secret xs ys h =
     list_any-append (λ (i : Issued). i.secret == secret) xs ys ∙ ap (λ (b : Bool). b || list_any (λ (i : Issued). i.secret == secret) ys) h
 
-spent-declared : (p q : PledgeValue) (x : ℕ) (new : Issued) (secret : ℕ) → list_any (λ (i : Issued). i.secret == secret) p.secrets ≡ true → IsGated p x → q.secrets ≡ p.secrets ++ new ∷ [] → q.standing.closing ≡ p.standing.closing
+spent-declared : (p q : PledgeValue) (x : ℕ) (new : Issued) (secret : ℕ) → list_any (λ (i : Issued). i.secret == secret) p.secrets ≡ true → IsGated p x
+    → q.secrets ≡ p.secrets ++ new ∷ [] → q.standing.closing ≡ p.standing.closing
     → list_any (λ (i : Issued). i.secret == new.secret) p.secrets ≡ false → IsSpent q secret
 spent-declared p q x new secret old g secrets closing fresh =
     record {
@@ -49,20 +55,24 @@ live_under-some (Closing.Sold day net) o secret h = h
 spent-moved : (p q : PledgeValue) (c : Command) (w x secret : ℕ) → IsSpent p secret → IsGated p x → Move p x w c q → IsSpent q secret
 spent-moved p q c w x secret h g (Entering sort pence ok late few drawn is) = spent-kept p q _ secret h is refl refl
 spent-moved p q c w x secret h g (Declaring paper ok is) =
-    spent-declared p q x (record { day = x; sort = issue_of paper; secret = w }) secret h.issued g (ap (λ (v : PledgeValue). v.secrets) is) (ap (λ (v : PledgeValue). v.standing.closing) is) ok.1.1.0
+    spent-declared p q x (record { day = x; sort = issue_of paper; secret = w }) secret h.issued g (ap (λ (v : PledgeValue). v.secrets) is)
+    (ap (λ (v : PledgeValue). v.standing.closing) is) ok.1.1.0
 spent-moved p q c w x secret h g (Settling s to is) =
     record {
       issued = ap (λ (v : PledgeValue). list_any (λ (i : Issued). i.secret == secret) v.secrets) is ∙ h.issued;
-      not_live = λ k. h.not_live (ap (λ (o : Closing). live_under o (last_secret p.secrets)) g.standing ∙ live_under-some s.closing (last_secret p.secrets) secret (sym (ap live_of is) ∙ k));
+      not_live = λ k. h.not_live (ap (λ (o : Closing). live_under o (last_secret p.secrets)) g.standing
+          ∙ live_under-some s.closing (last_secret p.secrets) secret (sym (ap live_of is) ∙ k));
     }
 spent-moved p q c w x secret h g (Extending until inside longer few named is) = spent-kept p q _ secret h is refl refl
 
-pub spent-changed : (p q : PledgeValue) (stamp : Stamp) (c : Command) (d : Done) (secret : ℕ) → IsSpent p secret → pledge_step p stamp c ≡ Changed q d → IsSpent q secret
+pub spent-changed : (p q : PledgeValue) (stamp : Stamp) (c : Command) (d : Done) (secret : ℕ) → IsSpent p secret → pledge_step p stamp c ≡ Changed q d
+    → IsSpent q secret
 spent-changed p q stamp c d secret h is =
     let g = pledge_moves p q stamp c d is in
     spent-moved p q c stamp.word stamp.day secret h g.0 g.1
 
-spent-step : (p : PledgeValue) (stamp : Stamp) (c : Command) (secret : ℕ) → IsSpent p secret → (j : Judged) → pledge_step p stamp c ≡ j → IsSpent (pledge_after p j) secret
+spent-step : (p : PledgeValue) (stamp : Stamp) (c : Command) (secret : ℕ) → IsSpent p secret → (j : Judged) → pledge_step p stamp c ≡ j
+    → IsSpent (pledge_after p j) secret
 spent-step p stamp c secret h (Refused why) is = h
 spent-step p stamp c secret h (Answered done) is = h
 spent-step p stamp c secret h (Changed q d) is = spent-changed p q stamp c d secret h is
@@ -73,8 +83,8 @@ never_live_again p (c ∷ cs) secret spent =
     never_live_again (pledge_after p (pledge_step p c.0 c.1)) cs secret (spent-step p c.0 c.1 secret spent (pledge_step p c.0 c.1) refl)
 
 -- a declaration puts a new secret behind those that were issued
-spent-by-declaration : (p q : PledgeValue) (stamp : Stamp) (paper : Paper) (d : Done) (secret : ℕ) → list_any (λ (i : Issued). i.secret == secret) p.secrets ≡ true
-    → unless (bars p stamp.day) (declare_step p stamp paper) ≡ Changed q d → IsSpent q secret
+spent-by-declaration : (p q : PledgeValue) (stamp : Stamp) (paper : Paper) (d : Done) (secret : ℕ)
+    → list_any (λ (i : Issued). i.secret == secret) p.secrets ≡ true → unless (bars p stamp.day) (declare_step p stamp paper) ≡ Changed q d → IsSpent q secret
 spent-by-declaration p q stamp paper d secret issued h =
     let new : Issued = record { day = stamp.day; sort = issue_of paper; secret = stamp.word } in
     let a = unless-changed (bars p stamp.day) (declare_step p stamp paper) q d h in

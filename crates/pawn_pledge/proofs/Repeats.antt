@@ -1,7 +1,13 @@
 -- What stands is answered again.
-use Rattle.pawn_pledge.proofs.Basics.{◌≡◌, ◌≢◌, ℕ, ◌+◌, ◌≤◌, List, [], ◌∷◌, ◌++◌, length, Some, None, Ok, Err, refl, ◌∙◌, ap, sym, arith, ◌==◌, nat_lt, not, true, false, Bool, Option, Result, if◌then◌else◌, ◌&&◌, DebtFault, DebtValue, Draw, Entry, NoneApplies, Repay, Sort, draw_answer, find, repay_answer, sort_answer, first_of-past, nat_tests, sort_answer-ok, Answered, AreNumbered, Changed, Command, Done, EntriesActOnce, ExtensionsActOnce, Grows, Judged, PledgeValue, Refusal, Stamp, StandingEndIsAnswered, bars, debt_of, end_of, entry_command, entry_of, entry_step, extend_bars, is_ahead, is_repeat, new_entry, numbered_step, past, period_bars, pledge_after_all, pledge_step, same_sort, under_debt, unless, with_extension, with_last}
-use Rattle.pawn_pledge.proofs.Moves.{unless-changed, if-unanswered}
-use Rattle.pawn_pledge.proofs.Growth.{lists_grow}
+use Rattle.std.proofs.Common.{◌≡◌, ◌≢◌, ℕ, ◌+◌, ◌≤◌, List, [], ◌∷◌, ◌++◌, length, Some, None, Ok, Err, refl, ◌∙◌, ap, sym, arith, ◌==◌, nat_lt, not, true}
+use Rattle.{std.proofs.{Common.{false, Bool, Option, Result, if◌then◌else◌, ◌&&◌, find}, lemmas.Bool.Decides.nat_tests}, pawn_pledge.specs.Common.DebtFault}
+use Rattle.pawn_pledge.specs.{Common.{DebtValue, Draw, Entry, NoneApplies, Repay, Sort, draw_answer, repay_answer, sort_answer}, Step.{Answered, Changed}}
+use Rattle.pawn_pledge.specs.Step.{Judged, bars, entry_of, entry_step, extend_bars, numbered_step, past, period_bars, pledge_step, under_debt, unless}
+use Rattle.pawn_pledge.specs.{Replayable.AreNumbered, declared.command.{Command.Command, Done.Done}, Laws.{EntriesActOnce, ExtensionsActOnce}}
+use Rattle.pawn_pledge.specs.{Laws.{StandingEndIsAnswered, entry_command, pledge_after_all}, Growth.Grows, Pledge.{PledgeValue, debt_of, end_of}}
+use Rattle.pawn_pledge.specs.{declared.{refusal.Refusal.Refusal, command.Stamp.Stamp}, Words.{is_ahead, is_repeat, new_entry, same_sort, with_extension}}
+use Rattle.pawn_pledge.{specs.Words.with_last, proofs.{Moves.{unless-changed, if-unanswered}, Growth.lists_grow}}
+use Rattle.{pawn_base.proofs.RefusalLemmas.first_of-past, pawn_debt.proofs.ReplayLemmas.sort_answer-ok}
 
 -- what is not refused comes to what follows
 pub unless-past : (rows : List (Bool × Refusal)) (own : Judged) → NoneApplies rows → unless rows own ≡ own
@@ -14,8 +20,8 @@ IsMade p x sort pence q d = (q.entries ≡ p.entries ++ new_entry p x sort pence
 changed-both : (p q : PledgeValue) (d e : Done) → Changed p d ≡ Changed q e → (q ≡ p) × (e ≡ d)
 changed-both p q d e h = (cc, cc)
 
-under_debt-made : (p q : PledgeValue) (x : ℕ) (sort : Sort) (pence : ℕ) (r : Result DebtValue DebtFault) (d : Done) → sort_answer sort (debt_of p) x pence ≡ r → under_debt p x sort pence r ≡ Changed q d
-    → IsMade p x sort pence q d
+under_debt-made : (p q : PledgeValue) (x : ℕ) (sort : Sort) (pence : ℕ) (r : Result DebtValue DebtFault) (d : Done) → sort_answer sort (debt_of p) x pence ≡ r
+    → under_debt p x sort pence r ≡ Changed q d → IsMade p x sort pence q d
 under_debt-made p q x sort pence (Ok v) d is h =
     let a = sort_answer-ok sort (debt_of p) v x pence is in
     let made = changed-both (record p { entries = v.entries; standing = with_last p.standing x }) q (Done.Entered (new_entry p x sort pence)) d h in
@@ -84,15 +90,15 @@ numbered-again p next q x y seq sort pence None d numbered at h grows =
     let found : entry_of q seq ≡ Some e = ap (find (λ (e : Entry). e.seq == seq)) entries ∙ found_behind p.entries e more seq at named in
     let pence_same : (pence == pence) ≡ true = grind (arith, nat_tests) in
     let same : is_repeat e sort pence ≡ true = ap (λ v. v && (pence == pence)) (same_sort-same sort) ∙ pence_same in
-    ap (numbered_step q y seq sort pence) found
-    ∙ ap (λ v. unless ((not v, Refusal.SeqTaken) ∷ []) (Answered (Done.Entered e))) same
-    ∙ ap Answered (sym made.1)
+    ap (numbered_step q y seq sort pence) found ∙ ap (λ v. unless ((not v, Refusal.SeqTaken) ∷ []) (Answered (Done.Entered e))) same ∙ ap Answered (sym made.1)
 
 -- the same, of any pledge whose lists have grown since
 pub entered_again : (p next q : PledgeValue) (stamp again : Stamp) (sort : Sort) (seq pence : ℕ) (done : Done) → AreNumbered 1 p.entries
     → pledge_step p stamp (entry_command sort seq pence) ≡ Changed next done → Grows next q → pledge_step q again (entry_command sort seq pence) ≡ Answered done
-entered_again p next q stamp again Draw seq pence done numbered step grows = numbered-again p next q stamp.day again.day seq Draw pence (entry_of p seq) done numbered refl step grows
-entered_again p next q stamp again Repay seq pence done numbered step grows = numbered-again p next q stamp.day again.day seq Repay pence (entry_of p seq) done numbered refl step grows
+entered_again p next q stamp again Draw seq pence done numbered step grows =
+    numbered-again p next q stamp.day again.day seq Draw pence (entry_of p seq) done numbered refl step grows
+entered_again p next q stamp again Repay seq pence done numbered step grows =
+    numbered-again p next q stamp.day again.day seq Repay pence (entry_of p seq) done numbered refl step grows
 
 pub entries_act_once : EntriesActOnce
 entries_act_once p next stamp again sort seq pence done later h step =
@@ -104,11 +110,10 @@ standing_end_is_answered p stamp h =
     let x = stamp.day in
     let inside : nat_lt (end_of p) x ≡ false = grind (arith, nat_tests, h.1) in
     let here : (end_of p == end_of p) ≡ true = grind (arith, nat_tests) in
-    unless-past (bars p x) _ h.0
-    ∙ unless-past (period_bars p x) _ (inside, tt)
-    ∙ rw here refl
+    unless-past (bars p x) _ h.0 ∙ unless-past (period_bars p x) _ (inside, tt) ∙ rw here refl
 
-pub extended-made : (p q : PledgeValue) (stamp : Stamp) (until : ℕ) (d : Done) → pledge_step p stamp (Command.Extend until) ≡ Changed q d → d ≡ Done.Extended until
+pub extended-made : (p q : PledgeValue) (stamp : Stamp) (until : ℕ) (d : Done) → pledge_step p stamp (Command.Extend until) ≡ Changed q d
+    → d ≡ Done.Extended until
 extended-made p q stamp until d h =
     let x = stamp.day in
     let next : PledgeValue = with_extension p (record { day = x; until = until }) in
@@ -122,7 +127,5 @@ extended-made p q stamp until d h =
 pub extensions_act_once : ExtensionsActOnce
 extensions_act_once p next stamp again until done later step stands may =
     let q = pledge_after_all next later in
-    ap (λ n. pledge_step q again (Command.Extend n)) (sym stands)
-    ∙ standing_end_is_answered q again may
-    ∙ ap (λ n. Answered (Done.Extended n)) stands
+    ap (λ n. pledge_step q again (Command.Extend n)) (sym stands) ∙ standing_end_is_answered q again may ∙ ap (λ n. Answered (Done.Extended n)) stands
     ∙ ap Answered (sym (extended-made p next stamp until done step))

@@ -1,9 +1,18 @@
 -- A step keeps a pledge one that can have come about.
-use Rattle.pawn_pledge.proofs.Basics.{◌≡◌, ℕ, ◌+◌, ◌<◌, ◌≤◌, ◌==◌, nat_le, Bool, true, false, not, ◌&&◌, if◌then◌else◌, [], ◌∷◌, ◌++◌, length, Option, Some, None, Ok, refl, sym, ap, subst, ◌∙◌, arith, length-append, AreAccepted-ended, AreAccepted-push, AreInside-ordered, DoNotFall-each, DoNotFall-push, Each-all, Each-map, Each-push, grown, last_by-push, nat_tests, not_most, true≢false, unequal, Draw, Entry, IsEntryAccepted, NoneApplies, Repay, Sort, credit_of, last_of, last_stamp_day, later_of, period_end, six_months, sort_answer, with_entry, Booking, Closing, Command, Extension, IsBooked, IsClosed, IsCommand, IsDrawnBy, IsLaterIssue, IsNotPassed, IsOverUnder, IsReplayable, IsWithinLimits, Issued, Paper, PledgeValue, Standing, debt_of, declare_bars, end_of, end_with, grace_days, is_passed, is_small, is_written, issue_of, last_until, most_secrets, new_entry, small_credit, with_extension, with_last, with_secret, with_standing}
+use Rattle.std.proofs.Common.{◌≡◌, ℕ, ◌+◌, ◌<◌, ◌≤◌, ◌==◌, nat_le, Bool, true, false, not, ◌&&◌, if◌then◌else◌, [], ◌∷◌, ◌++◌, length, Option, Some, None, Ok}
+use Rattle.std.proofs.{Common.{refl, sym, ap, subst, ◌∙◌, arith, length-append, true≢false}, lemmas.Bool.Decides.nat_tests}
+use Rattle.{pawn_debt.proofs.ReplayLemmas.{AreAccepted-ended, AreAccepted-push, AreInside-ordered}, pawn_base.proofs.ListLemmas.DoNotFall-each}
+use Rattle.pawn_base.proofs.{ListLemmas.{DoNotFall-push, Each-all, Each-map, Each-push, grown, last_by-push}, TestLemmas.{not_most, unequal}}
+use Rattle.pawn_pledge.specs.Common.{Draw, Entry, IsEntryAccepted, NoneApplies, Repay, Sort, credit_of, last_of, last_stamp_day, later_of, period_end}
+use Rattle.pawn_pledge.specs.{Common.{six_months, sort_answer, with_entry}, declared.record.{Booking.Booking, Closing.Closing}}
+use Rattle.pawn_pledge.specs.{declared.command.Command.Command, declared.record.Extension.Extension, Replayable.{IsBooked, IsClosed, IsDrawnBy, IsLaterIssue}}
+use Rattle.pawn_pledge.specs.{Replayable.{IsNotPassed, IsOverUnder, IsReplayable, IsWithinLimits}, Commands.IsCommand, declared.record.Issued.Issued}
+use Rattle.pawn_pledge.specs.{declared.command.Paper.Paper, Pledge.{PledgeValue, debt_of, end_of, end_with, is_passed, is_small, last_until}}
+use Rattle.pawn_pledge.specs.{declared.record.Standing.Standing, Step.declare_bars, Limits.{grace_days, most_secrets, small_credit}, Words.is_written}
+use Rattle.pawn_pledge.{specs.Words.{issue_of, new_entry, with_extension, with_last, with_secret, with_standing}, proofs.Moves.{Move, Entering, Declaring}}
+use Rattle.pawn_pledge.proofs.{Moves.{Extending, Settling}, Settled.{IsGated, still-open}, Pushes.{AreIssued-push, AreDistinct-push, AreNumbered-push}}
+use Rattle.pawn_pledge.proofs.Pushes.{later_of-le, later_of-push, AreExtended-push}
 use Rattle.pawn_pledge.specs.declared.record.Status.TheVariants as Status
-use Rattle.pawn_pledge.proofs.Moves.{Move, Entering, Declaring, Extending, Settling}
-use Rattle.pawn_pledge.proofs.Settled.{IsGated, still-open}
-use Rattle.pawn_pledge.proofs.Pushes.{AreIssued-push, AreDistinct-push, AreNumbered-push, later_of-le, later_of-push, AreExtended-push}
 
 -- not passed, where the last case is not
 unpassed : (a b : Bool) → is_passed (if a then Status.Inside else if b then Status.Grace else Status.Realisable) ≡ false
@@ -21,8 +30,21 @@ pub stays-with_standing : (p : PledgeValue) (s : Standing) → IsReplayable p �
 stays-with_standing p s h later live closed booked =
     record {
       credit = h.credit;
-      issued = record { sorts = h.issued.sorts; distinct = h.issued.distinct; ordered = h.issued.ordered; before = omega (arith, h.issued.before, later); not_passed = h.issued.not_passed };
-      entered = record { numbered = h.entered.numbered; ordered = h.entered.ordered; before = omega (arith, h.entered.before, later); accepted = h.entered.accepted; not_passed = h.entered.not_passed; drawn = h.entered.drawn };
+      issued = record {
+        sorts = h.issued.sorts;
+        distinct = h.issued.distinct;
+        ordered = h.issued.ordered;
+        before = omega (arith, h.issued.before, later);
+        not_passed = h.issued.not_passed;
+      };
+      entered = record {
+        numbered = h.entered.numbered;
+        ordered = h.entered.ordered;
+        before = omega (arith, h.entered.before, later);
+        accepted = h.entered.accepted;
+        not_passed = h.entered.not_passed;
+        drawn = h.entered.drawn;
+      };
       last_in = omega (arith, h.last_in, later);
       last_open = live;
       closed = closed;
@@ -31,15 +53,22 @@ stays-with_standing p s h later live closed booked =
     }
 
 -- one more entry
-pub stays-entered : (p : PledgeValue) (x pence : ℕ) (sort : Sort) → IsReplayable p → IsGated p x → sort_answer sort (debt_of p) x pence ≡ Ok (with_entry (debt_of p) x sort pence) → last_of p.agreement.taken p.entries ≤ x → IsDrawnBy (end_of p) sort x
-    → IsReplayable (record p { entries = p.entries ++ record { seq = length p.entries + 1; day = x; sort = sort; pence = pence } ∷ []; standing = with_last p.standing x })
+pub stays-entered : (p : PledgeValue) (x pence : ℕ) (sort : Sort) → IsReplayable p → IsGated p x → sort_answer sort (debt_of p) x pence ≡ Ok
+    (with_entry (debt_of p) x sort pence) → last_of p.agreement.taken p.entries ≤ x → IsDrawnBy (end_of p) sort x → IsReplayable
+    (record p { entries = p.entries ++ record { seq = length p.entries + 1; day = x; sort = sort; pence = pence } ∷ []; standing = with_last p.standing x })
 stays-entered p x pence sort h g ok late drawn =
     let e : Entry = record { seq = length p.entries + 1; day = x; sort = sort; pence = pence } in
     let q : PledgeValue = record p { entries = p.entries ++ e ∷ []; standing = with_last p.standing x } in
     let accepted : IsEntryAccepted (debt_of p) e = (refl, rw ok refl) in
     record {
       credit = h.credit;
-      issued = record { sorts = h.issued.sorts; distinct = h.issued.distinct; ordered = h.issued.ordered; before = omega (arith, h.issued.before, g.later); not_passed = h.issued.not_passed };
+      issued = record {
+        sorts = h.issued.sorts;
+        distinct = h.issued.distinct;
+        ordered = h.issued.ordered;
+        before = omega (arith, h.issued.before, g.later);
+        not_passed = h.issued.not_passed;
+      };
       entered = record {
         numbered = AreNumbered-push 1 p.entries e h.entered.numbered (omega arith);
         ordered = DoNotFall-push (λ (e : Entry). e.day) p.agreement.taken p.entries e h.entered.ordered late;
@@ -57,13 +86,13 @@ stays-entered p x pence sort h g ok late drawn =
 
 -- one more secret
 small_enough : (n : ℕ) → not (nat_le n small_credit) ≡ false → n ≤ small_credit
-small_enough n k = by (nat_le n small_credit) refl k
-  where
-    by : (b : Bool) → nat_le n small_credit ≡ b → not b ≡ false → n ≤ small_credit
-    by true e k = grind (arith, nat_tests, e)
-    by false e k = absurd (true≢false k)
+small_enough n k = by (nat_le n small_credit) refl k where
+  by : (b : Bool) → nat_le n small_credit ≡ b → not b ≡ false → n ≤ small_credit
+  by true e k = grind (arith, nat_tests, e)
+  by false e k = absurd (true≢false k)
 
-later-issue : (p : PledgeValue) (paper : Paper) → (is_written paper && not (is_small (credit_of p.agreement.opening.kind))) ≡ false → IsLaterIssue (credit_of p.agreement.opening.kind) (issue_of paper)
+later-issue : (p : PledgeValue) (paper : Paper) → (is_written paper && not (is_small (credit_of p.agreement.opening.kind))) ≡ false
+    → IsLaterIssue (credit_of p.agreement.opening.kind) (issue_of paper)
 later-issue p Paper.Written h = small_enough (credit_of p.agreement.opening.kind) h
 later-issue p Paper.Sworn h = tt
 
@@ -81,7 +110,14 @@ stays-declared p x word paper h g ok =
         before = omega (arith, last_by-push (λ (j : Issued). j.day) p.agreement.taken p.secrets i);
         not_passed = Each-push (λ (j : Issued). IsNotPassed p j.day) p.secrets i h.issued.not_passed g.not_passed;
       };
-      entered = record { numbered = h.entered.numbered; ordered = h.entered.ordered; before = omega (arith, h.entered.before, g.later); accepted = h.entered.accepted; not_passed = h.entered.not_passed; drawn = h.entered.drawn };
+      entered = record {
+        numbered = h.entered.numbered;
+        ordered = h.entered.ordered;
+        before = omega (arith, h.entered.before, g.later);
+        accepted = h.entered.accepted;
+        not_passed = h.entered.not_passed;
+        drawn = h.entered.drawn;
+      };
       last_in = omega (arith, h.last_in, g.later);
       last_open = g.not_passed;
       closed = still-open q p.standing.closing g.standing;
@@ -93,7 +129,8 @@ stays-declared p x word paper h g ok =
 pub period_end-late : (taken : ℕ) (agreed extended : Option ℕ) → six_months taken ≤ period_end taken agreed extended
 period_end-late taken agreed extended = omega (arith, later_of-le (six_months taken) agreed, later_of-le (later_of (six_months taken) agreed) extended)
 
-booked-longer : (p q : PledgeValue) (o : Option Booking) → q.agreement.taken ≡ p.agreement.taken → q.standing.closing ≡ p.standing.closing → ((x : ℕ) → IsNotPassed q x) → IsBooked p o → IsBooked q o
+booked-longer : (p q : PledgeValue) (o : Option Booking) → q.agreement.taken ≡ p.agreement.taken → q.standing.closing ≡ p.standing.closing
+    → ((x : ℕ) → IsNotPassed q x) → IsBooked p o → IsBooked q o
 booked-longer p q None taken closing any h = tt
 booked-longer p q (Some b) taken closing any h =
     let C : Closing → Type 0 = λ c. IsOverUnder c b.state in
@@ -103,7 +140,8 @@ drawn-inside : (p : PledgeValue) (ends : ℕ) (s : Sort) (day : ℕ) → day ≤
 drawn-inside p ends Draw day h = h
 drawn-inside p ends Repay day h = tt
 
-pub stays-extended : (p : PledgeValue) (x until : ℕ) → IsReplayable p → IsGated p x → x ≤ end_of p → end_of p < until → IsReplayable (with_extension p (record { day = x; until = until }))
+pub stays-extended : (p : PledgeValue) (x until : ℕ) → IsReplayable p → IsGated p x → x ≤ end_of p → end_of p < until
+    → IsReplayable (with_extension p (record { day = x; until = until }))
 stays-extended p x until h g inside longer =
     let e : Extension = record { day = x; until = until } in
     let q : PledgeValue = with_extension p e in
@@ -112,24 +150,34 @@ stays-extended p x until h g inside longer =
     let six : six_months p.agreement.taken ≤ end_of p = period_end-late p.agreement.taken p.agreement.opening.agreed (last_until p.extensions) in
     let past : six_months p.agreement.taken < end_of q = omega (arith, ends, longer, six) in
     let any : (y : ℕ) → IsNotPassed q y = λ y. longer-not_passed q y (unequal (end_of q) (six_months p.agreement.taken) past) in
-    let days = DoNotFall-each (λ (f : Entry). f.day) p.agreement.taken p.agreement.taken (end_of p) p.entries (omega arith) h.entered.ordered (omega (arith, h.entered.before, g.later, inside)) in
+    let days = DoNotFall-each (λ (f : Entry). f.day) p.agreement.taken p.agreement.taken (end_of p) p.entries (omega arith) h.entered.ordered
+    (omega (arith, h.entered.before, g.later, inside)) in
     record {
       credit = h.credit;
-      issued = record { sorts = h.issued.sorts; distinct = h.issued.distinct; ordered = h.issued.ordered; before = omega (arith, h.issued.before, g.later); not_passed = Each-all (λ (j : Issued). IsNotPassed q j.day) p.secrets (λ j. any j.day) };
+      issued = record {
+        sorts = h.issued.sorts;
+        distinct = h.issued.distinct;
+        ordered = h.issued.ordered;
+        before = omega (arith, h.issued.before, g.later);
+        not_passed = Each-all (λ (j : Issued). IsNotPassed q j.day) p.secrets (λ j. any j.day);
+      };
       entered = record {
         numbered = h.entered.numbered;
         ordered = h.entered.ordered;
         before = omega (arith, h.entered.before, g.later);
-        accepted = AreAccepted-ended (debt_of p) (end_of q) [] p.entries later (AreInside-ordered (debt_of p) p.agreement.taken p.entries (omega arith) h.entered.ordered (omega (arith, h.entered.before, g.later, inside))) h.entered.accepted;
+        accepted = AreAccepted-ended (debt_of p) (end_of q) [] p.entries later (AreInside-ordered (debt_of p) p.agreement.taken p.entries
+            (omega arith) h.entered.ordered (omega (arith, h.entered.before, g.later, inside))) h.entered.accepted;
         not_passed = Each-all (λ (f : Entry). IsNotPassed q f.day) p.entries (λ f. any f.day);
-        drawn = Each-map _ (λ (f : Entry). IsDrawnBy (end_of q) f.sort f.day) p.entries (λ f k. drawn-inside p (end_of q) f.sort f.day (omega (arith, k.1, later))) days;
+        drawn = Each-map _ (λ (f : Entry). IsDrawnBy (end_of q) f.sort f.day) p.entries
+            (λ f k. drawn-inside p (end_of q) f.sort f.day (omega (arith, k.1, later))) days;
       };
       last_in = omega (arith, h.last_in, g.later);
       last_open = any x;
       closed = still-open q p.standing.closing g.standing;
       booked = booked-longer p q p.standing.booking refl refl any h.booked;
       extended = record {
-        each = AreExtended-push p.agreement.taken (end_with p.agreement None) p.extensions e h.extended.each (omega (arith, h.extended.before, g.later)) inside longer;
+        each = AreExtended-push p.agreement.taken (end_with p.agreement None) p.extensions e h.extended.each
+            (omega (arith, h.extended.before, g.later)) inside longer;
         before = omega (arith, last_by-push (λ (k : Extension). k.day) p.agreement.taken p.extensions e);
       };
     }
@@ -139,7 +187,8 @@ pub stays-moved : (p q : PledgeValue) (c : Command) (w x : ℕ) → IsReplayable
 stays-moved p q c w x h g (Entering sort pence ok late few drawn is) = subst IsReplayable (sym is) (stays-entered p x pence sort h g ok late drawn)
 stays-moved p q c w x h g (Declaring paper ok is) = subst IsReplayable (sym is) (stays-declared p x w paper h g ok)
 stays-moved p q c w x h g (Settling s to is) =
-    subst IsReplayable (sym is) (stays-with_standing p s h (omega (arith, to.last, g.later)) (subst (IsNotPassed p) (sym to.last) g.not_passed) to.closed (to.booked (omega (arith, h.last_in, g.later)) h.booked))
+    subst IsReplayable (sym is) (stays-with_standing p s h (omega (arith, to.last, g.later)) (subst (IsNotPassed p) (sym to.last) g.not_passed) to.closed
+    (to.booked (omega (arith, h.last_in, g.later)) h.booked))
 stays-moved p q c w x h g (Extending until inside longer few named is) = subst IsReplayable (sym is) (stays-extended p x until h g inside longer)
 
 -- and a move keeps the limits
@@ -198,4 +247,5 @@ differs-moved p q c w x g (Entering sort pence ok late few drawn is) same =
 differs-moved p q c w x g (Declaring paper ok is) same =
     grown p.secrets (record { day = x; sort = issue_of paper; secret = w }) (ap (λ (v : PledgeValue). v.secrets) (sym is ∙ same))
 differs-moved p q c w x g (Settling s to is) same = to.differs (ap (λ (v : PledgeValue). v.standing) (sym is ∙ same))
-differs-moved p q c w x g (Extending until inside longer few named is) same = grown p.extensions (record { day = x; until = until }) (ap (λ (v : PledgeValue). v.extensions) (sym is ∙ same))
+differs-moved p q c w x g (Extending until inside longer few named is) same =
+    grown p.extensions (record { day = x; until = until }) (ap (λ (v : PledgeValue). v.extensions) (sym is ∙ same))

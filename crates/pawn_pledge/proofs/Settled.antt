@@ -1,5 +1,9 @@
 -- How a pledge stands changes alone: what of it every such change keeps.
-use Rattle.pawn_pledge.proofs.Basics.{◌≡◌, ℕ, ◌≤◌, Bool, true, false, Option, Some, None, refl, sym, ap, subst, ◌∙◌, arith, IfSome, true≢false, false≢true, last_stamp_day, Booking, BookingState, Closing, Command, IsBooked, IsBookingOver, IsClosed, IsCommand, IsNotPassed, IsOverUnder, PledgeValue, Standing, after_closing, booking_after, close, in_state, last_window, same_flag, with_booking, with_closing, with_hold, with_standing}
+use Rattle.std.proofs.Common.{◌≡◌, ℕ, ◌≤◌, Bool, true, false, Option, Some, None, refl, sym, ap, subst, ◌∙◌, arith, IfSome, true≢false}
+use Rattle.{std.proofs.lemmas.Bool.false≢true, pawn_pledge.specs.{Common.last_stamp_day, declared.record.{Booking.Booking, BookingState.BookingState}}}
+use Rattle.pawn_pledge.specs.{declared.record.Closing.Closing, declared.command.Command.Command, Replayable.{IsBooked, IsBookingOver, IsClosed, IsNotPassed}}
+use Rattle.pawn_pledge.specs.{Replayable.IsOverUnder, Commands.IsCommand, Pledge.PledgeValue, declared.record.Standing.Standing, Words.after_closing}
+use Rattle.pawn_pledge.specs.{Words.{booking_after, close, in_state, same_flag, with_booking, with_closing, with_hold, with_standing}, Limits.last_window}
 
 -- nothing bars a command
 pub record IsGated (p : PledgeValue) (x : ℕ) : Type 0 where
@@ -36,7 +40,8 @@ another_flag true false h e = false≢true e
 another_flag false true h e = true≢false e
 another_flag false false h e = true≢false h
 
-pub hold-settles : (p : PledgeValue) (x : ℕ) (c : Command) (flag : Bool) → IsGated p x → same_flag p.standing.held flag ≡ false → IsSettled p x c (with_hold p.standing flag x)
+pub hold-settles : (p : PledgeValue) (x : ℕ) (c : Command) (flag : Bool) → IsGated p x → same_flag p.standing.held flag ≡ false
+    → IsSettled p x c (with_hold p.standing flag x)
 hold-settles p x c flag g new = record {
   last = refl;
   closed = still-open (with_standing p (with_hold p.standing flag x)) p.standing.closing g.standing;
@@ -57,8 +62,8 @@ ask-settles p x c b g later live small named new = record {
 }
 
 -- the same booking in another state
-pub mark-settles : (p : PledgeValue) (x : ℕ) (c : Command) (b : Booking) (state : BookingState) → IsGated p x → p.standing.booking ≡ Some b → (b.state ≡ state → ⊥)
-    → IsSettled p x c (with_booking p.standing (in_state b state) x)
+pub mark-settles : (p : PledgeValue) (x : ℕ) (c : Command) (b : Booking) (state : BookingState) → IsGated p x → p.standing.booking ≡ Some b
+    → (b.state ≡ state → ⊥) → IsSettled p x c (with_booking p.standing (in_state b state) x)
 mark-settles p x c b state g at new = record {
   last = refl;
   closed = still-open (with_standing p (with_booking p.standing (in_state b state) x)) p.standing.closing g.standing;
@@ -89,8 +94,8 @@ closed-named : (o : Option Booking) → IsNamed o → IsNamed (booking_after o)
 closed-named None h = h
 closed-named (Some b) h = h
 
-pub close-settles : (p : PledgeValue) (x : ℕ) (c : Command) (closing : Closing) → IsGated p x → IsClosed (close p x closing) closing → (closing ≡ Closing.Open → ⊥)
-    → IsSettled p x c (with_closing p.standing closing x)
+pub close-settles : (p : PledgeValue) (x : ℕ) (c : Command) (closing : Closing) → IsGated p x → IsClosed (close p x closing) closing
+    → (closing ≡ Closing.Open → ⊥) → IsSettled p x c (with_closing p.standing closing x)
 close-settles p x c closing g closed shut = record {
   last = refl;
   closed = closed;

@@ -1,5 +1,10 @@
 -- What the tests on parts find makes a record that can stand.
-use Rattle.pawn_pledge.proofs.Basics.{◌≡◌, ℕ, ◌+◌, ◌≤◌, ◌==◌, nat_le, Bool, true, false, ◌&&◌, if◌then◌else◌, List, [], ◌∷◌, ◌++◌, length, None, refl, sym, ◌∙◌, arith, length-append, DoNotFall-each, Each-map, false≢true, nat_tests, AreExtended, AreIssuedIn, AreNumbered, IsBooked, IsClosed, IsDrawnBy, IsLimited, IsNotPassed, IsStanding, IsTyped, Issued, PledgeValue, debt_of, end_of, end_with, grace_days, is_passed, is_small, AreEntriesAccepted, DebtValue, Each, Entry, IsChecked, IsDebtKept, Totals, credit_of, last_by, last_of, six_months}
+use Rattle.std.proofs.Common.{◌≡◌, ℕ, ◌+◌, ◌≤◌, ◌==◌, nat_le, Bool, true, false, ◌&&◌, if◌then◌else◌, List, [], ◌∷◌, ◌++◌, length, None, refl, sym, ◌∙◌, arith}
+use Rattle.{std.proofs.{Common.length-append, lemmas.Bool.{false≢true, Decides.nat_tests}}, pawn_base.proofs.ListLemmas.{DoNotFall-each, Each-map}}
+use Rattle.pawn_pledge.specs.{Replayable.{AreExtended, AreNumbered, IsBooked, IsClosed, IsDrawnBy, IsNotPassed, IsStanding}, Parts.{AreIssuedIn, IsLimited}}
+use Rattle.pawn_pledge.specs.{Parts.IsTyped, declared.record.Issued.Issued, Pledge.{PledgeValue, debt_of, end_of, end_with, is_passed, is_small}}
+use Rattle.pawn_pledge.specs.{Limits.grace_days, Common.{AreEntriesAccepted, DebtValue, Each, Entry, IsChecked, IsDebtKept, Totals, credit_of, last_by}}
+use Rattle.pawn_pledge.specs.Common.{last_of, six_months}
 use Rattle.pawn_pledge.specs.declared.record.Status.TheVariants as Status
 
 -- what is not passed on a day was not passed before
@@ -22,7 +27,8 @@ grace_earlier false d x e before h = h
 
 pub not_passed-earlier : (p : PledgeValue) (d x : ℕ) → d ≤ x → IsNotPassed p x → IsNotPassed p d
 not_passed-earlier p d x before h =
-    early (nat_le x (end_of p)) (p.agreement.opening.five_days && nat_le x (end_of p + grace_days)) (nat_le d (end_of p)) (p.agreement.opening.five_days && nat_le d (end_of p + grace_days)) ((end_of p == six_months p.agreement.taken) && is_small (credit_of p.agreement.opening.kind))
+    early (nat_le x (end_of p)) (p.agreement.opening.five_days && nat_le x (end_of p + grace_days)) (nat_le d (end_of p)) (p.agreement.opening.five_days
+    && nat_le d (end_of p + grace_days)) ((end_of p == six_months p.agreement.taken) && is_small (credit_of p.agreement.opening.kind))
     (le_earlier d x (end_of p) before) (grace_earlier p.agreement.opening.five_days d x (end_of p + grace_days) before) h
 
 -- accepted entries are numbered
@@ -39,7 +45,8 @@ pub record IsFound (v : PledgeValue) (t : Totals) : Type 0 where
   pub typed : IsTyped v
   pub limited : IsLimited v
   pub taken : v.agreement.taken ≤ v.standing.last
-  pub extended : AreExtended v.agreement.taken (end_with v.agreement None) v.extensions × (last_by (λ e. e.day) v.agreement.taken v.extensions ≤ v.standing.last)
+  pub extended : AreExtended v.agreement.taken (end_with v.agreement None) v.extensions
+      × (last_by (λ e. e.day) v.agreement.taken v.extensions ≤ v.standing.last)
   pub kept : IsDebtKept (debt_of v) t
   pub accepted : AreEntriesAccepted (debt_of v) [] v.entries
   pub entered : t.day ≤ v.standing.last
@@ -53,12 +60,19 @@ pub stands : (v : PledgeValue) (t : Totals) → IsFound v t → IsStanding v
 stands v t f =
     let before : last_of v.agreement.taken v.entries ≤ v.standing.last = omega (arith, f.kept.day, f.entered) in
     let days = DoNotFall-each (λ (e : Entry). e.day) v.agreement.taken v.agreement.taken v.standing.last v.entries (omega arith) f.kept.ordered before in
-    let issues = DoNotFall-each (λ (i : Issued). i.day) v.agreement.taken v.agreement.taken v.standing.last v.secrets (omega arith) f.issued.ordered f.issued.before in
+    let issues =
+    DoNotFall-each (λ (i : Issued). i.day) v.agreement.taken v.agreement.taken v.standing.last v.secrets (omega arith) f.issued.ordered f.issued.before in
     record {
       terms = f.terms;
       replayable = record {
         credit = (f.limited.some, f.limited.credit);
-        issued = record { sorts = f.issued.sorts; distinct = f.issued.distinct; ordered = f.issued.ordered; before = f.issued.before; not_passed = Each-map _ (λ (i : Issued). IsNotPassed v i.day) v.secrets (λ i k. not_passed-earlier v i.day v.standing.last k.1 f.live) issues };
+        issued = record {
+          sorts = f.issued.sorts;
+          distinct = f.issued.distinct;
+          ordered = f.issued.ordered;
+          before = f.issued.before;
+          not_passed = Each-map _ (λ (i : Issued). IsNotPassed v i.day) v.secrets (λ i k. not_passed-earlier v i.day v.standing.last k.1 f.live) issues;
+        };
         entered = record {
           numbered = accepted-numbered (debt_of v) [] v.entries 1 (omega arith) f.accepted;
           ordered = f.kept.ordered;

@@ -1,9 +1,11 @@
 -- A pledge as it is taken is one that can have come about.
-use Rattle.pawn_pledge.proofs.Basics.{◌≡◌, ℕ, ◌≤◌, ◌==◌, nat_lt, nat_le, true, false, [], ◌∷◌, None, Result, Ok, Err, refl, subst, arith, BadAmount, IfOk, credit_of, is_bad_amount, most_pence, first_of-ok, nat_tests, not_below, or_parts, IsNotPassed, IsStanding, IsStarted, PledgeValue, Refusal, StartsStanding, end_of}
+use Rattle.std.proofs.Common.{◌≡◌, ℕ, ◌≤◌, ◌==◌, nat_lt, nat_le, true, false, [], ◌∷◌, None, Result, Ok, Err, refl, subst, arith, IfOk}
+use Rattle.{std.proofs.lemmas.Bool.{Decides.nat_tests, or_parts}, pawn_pledge.specs.Common.{BadAmount, credit_of, is_bad_amount, most_pence}}
+use Rattle.pawn_pledge.specs.{Replayable.{IsNotPassed, IsStanding}, Step.IsStarted, Pledge.{PledgeValue, end_of}, declared.refusal.Refusal.Refusal}
+use Rattle.{pawn_pledge.{specs.Laws.StartsStanding, proofs.Replays.period_end-late}, pawn_base.proofs.{RefusalLemmas.first_of-ok, TestLemmas.not_below}}
 use Rattle.pawn_terms.proofs.SixMonths.{six_months-later}
 use Rattle.pawn_pledge.specs.declared.record.Issue.TheVariants as Issue
 use Rattle.pawn_pledge.specs.declared.record.Closing.TheVariants as Closing
-use Rattle.pawn_pledge.proofs.Replays.{period_end-late}
 
 inside-not_passed : (p : PledgeValue) (x : ℕ) → x ≤ end_of p → IsNotPassed p x
 inside-not_passed p x h = let t : nat_le x (end_of p) ≡ true = grind (arith, nat_tests, h) in rw t refl
@@ -24,7 +26,8 @@ starts_standing number opening version terms stamp p known within checked day h 
     } in
     let a = first_of-ok ((is_bad_amount (credit_of opening.kind), Refusal.Debt BadAmount) ∷ []) (Ok first) p h in
     let is : first ≡ p = cc in
-    let live : IsNotPassed first stamp.day = inside-not_passed first stamp.day (omega (arith, six_months-later stamp.day day, period_end-late stamp.day opening.agreed None)) in
+    let live : IsNotPassed first stamp.day =
+    inside-not_passed first stamp.day (omega (arith, six_months-later stamp.day day, period_end-late stamp.day opening.agreed None)) in
     subst IsStanding is (record {
       terms = checked;
       replayable = record {
@@ -50,6 +53,7 @@ starts_standing number opening version terms stamp p known within checked day h 
     })
 
 -- what was started stands
-pub started_stands : (answer result : Result PledgeValue Refusal) → IsStarted answer result → ((p : PledgeValue) → answer ≡ Ok p → IsStanding p) → IfOk result IsStanding
+pub started_stands : (answer result : Result PledgeValue Refusal) → IsStarted answer result → ((p : PledgeValue) → answer ≡ Ok p → IsStanding p)
+    → IfOk result IsStanding
 started_stands answer (Ok p) is stands = stands p is
 started_stands answer (Err fault) is stands = tt

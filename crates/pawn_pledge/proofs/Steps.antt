@@ -1,18 +1,16 @@
 -- What each step that changes a pledge keeps, by its move.
-use Rattle.pawn_pledge.proofs.Basics.{◌≡◌, ap, sym, subst, IsChecked, AgreementStays, Changed, ChangesDiffer, Command, Done, PledgeValue, Stamp, StaysReplayable, StaysStanding, StaysWithin, pledge_step}
-use Rattle.pawn_pledge.specs.declared.record.Agreement.{Agreement}
-use Rattle.pawn_pledge.proofs.Moves.{Move, pledge_moves, Entering, Declaring, Extending, Settling}
-use Rattle.pawn_pledge.proofs.Replays.{stays-moved, within-moved, differs-moved}
-use Rattle.pawn_pledge.proofs.Growth.{ListsMoved, lists-moved}
+use Rattle.{std.proofs.Common.{◌≡◌, ap, sym, subst}, pawn_pledge.specs.{Common.IsChecked, Laws.{AgreementStays, ChangesDiffer, StaysReplayable, StaysStanding}}}
+use Rattle.pawn_pledge.specs.{Laws.StaysWithin, Step.{Changed, pledge_step}, declared.command.{Command.Command, Done.Done, Stamp.Stamp}, Pledge.PledgeValue}
+use Rattle.pawn_pledge.{specs.declared.record.Agreement.Agreement, proofs.Moves.{Move, pledge_moves, Entering, Declaring, Extending, Settling}}
+use Rattle.pawn_pledge.proofs.{Replays.{stays-moved, within-moved, differs-moved}, Growth.{ListsMoved, lists-moved}}
 
 pub agreement_stays : AgreementStays
-agreement_stays p next stamp command done step = of (pledge_moves p next stamp command done step).1
-  where
-    of : Move p stamp.day stamp.word command next → next.agreement ≡ p.agreement
-    of (Entering sort pence ok late few drawn is) = ap (λ (v : PledgeValue). v.agreement) is
-    of (Declaring paper ok is) = ap (λ (v : PledgeValue). v.agreement) is
-    of (Settling s to is) = ap (λ (v : PledgeValue). v.agreement) is
-    of (Extending until inside longer few named is) = ap (λ (v : PledgeValue). v.agreement) is
+agreement_stays p next stamp command done step = of (pledge_moves p next stamp command done step).1 where
+  of : Move p stamp.day stamp.word command next → next.agreement ≡ p.agreement
+  of (Entering sort pence ok late few drawn is) = ap (λ (v : PledgeValue). v.agreement) is
+  of (Declaring paper ok is) = ap (λ (v : PledgeValue). v.agreement) is
+  of (Settling s to is) = ap (λ (v : PledgeValue). v.agreement) is
+  of (Extending until inside longer few named is) = ap (λ (v : PledgeValue). v.agreement) is
 
 pub stays_replayable : StaysReplayable
 stays_replayable p next stamp command done h step =
@@ -36,6 +34,7 @@ changes_differ p next stamp command done step =
     differs-moved p next command stamp.word stamp.day g.0 g.1
 
 -- how its lists move
-pub lists_of_step : (p next : PledgeValue) (stamp : Stamp) (command : Command) (done : Done) → pledge_step p stamp command ≡ Changed next done → ListsMoved p next stamp.word stamp.day
+pub lists_of_step : (p next : PledgeValue) (stamp : Stamp) (command : Command) (done : Done) → pledge_step p stamp command ≡ Changed next done
+    → ListsMoved p next stamp.word stamp.day
 lists_of_step p next stamp command done step =
     lists-moved p next command stamp.word stamp.day (pledge_moves p next stamp command done step).1

@@ -1,11 +1,11 @@
 -- The texts of secrets and receipts are read back.
-use Rattle.pawn_pledge.proofs.Basics.{◌≡◌, ℕ, ◌+◌, ◌^◌, ◌<◌, ◌==◌, ◌%◌, true, false, List, [], ◌∷◌, ◌++◌, length, get_or, take, drop, Option, Some, None, option_map, zero, suc, nat_lt, inl, refl, sym, ap, ◌∙◌, arith, length-append, decimal, byte_at, bytes_high_first, from_be_bytes, hyphenated_text, lower, parsed, position, position_or_len, to_be_bytes, w128, append_assoc, decimal_by_steps, decimal_is_IsNumeral, drop_at, drop_more, nat_tests, take-append-drop, take_at, secret_text, secret_of_text}
-use Rattle.std.proofs.lemmas.List.Quantifiers.{position-Some}
-use Rattle.std.specs.Str.Parse.{digits_value}
-use Rattle.uuid.proofs.RoundTrips.{parses_hyphenated}
-use Rattle.pawn_pledge.specs.declared.receipt.Receipt.{Receipt}
-use Rattle.uuid.proofs.OrderLemmas.{from_be_bytes-to_be_bytes_16}
-use Rattle.pawn_pledge.specs.Laws.{SecretTextsReadBack, ReceiptTextsReadBack, ReceiptTextsAreOne}
+use Rattle.std.proofs.Common.{◌≡◌, ℕ, ◌+◌, ◌^◌, ◌<◌, ◌==◌, ◌%◌, true, false, List, [], ◌∷◌, ◌++◌, length, get_or, take, drop, Option, Some, None, option_map}
+use Rattle.std.proofs.Common.{zero, suc, nat_lt, inl, refl, sym, ap, ◌∙◌, arith, length-append, decimal, append_assoc, drop_at, take-append-drop, take_at}
+use Rattle.std.{specs.{Int.{byte_at, bytes_high_first, from_be_bytes, to_be_bytes, w128}, List.{position, position_or_len}}, proofs.lemmas.Fmt.decimal_by_steps}
+use Rattle.std.{proofs.lemmas.{Fmt.decimal_is_IsNumeral, List.{drop_more, Quantifiers.position-Some}, Bool.Decides.nat_tests}, specs.Str.Parse.digits_value}
+use Rattle.uuid.{specs.Text.{hyphenated_text, lower, parsed}, proofs.{RoundTrips.parses_hyphenated, OrderLemmas.from_be_bytes-to_be_bytes_16}}
+use Rattle.pawn_pledge.specs.{Secret.{secret_text, secret_of_text}, declared.receipt.Receipt.Receipt, Laws.{SecretTextsReadBack, ReceiptTextsReadBack}}
+use Rattle.pawn_pledge.specs.Laws.{ReceiptTextsAreOne}
 
 -- no hyphen is in a text
 abbrev pub HasNoHyphen : List ℕ → Type 0
@@ -21,15 +21,15 @@ HasNoHyphen-push (c ∷ bs) b h e = (h.0, HasNoHyphen-push bs b h.1 e)
 
 decimal-no_hyphen : (n : ℕ) → n < 2 ^ 64 → HasNoHyphen (decimal n)
 decimal-no_hyphen =
-    decimal_by_steps (λ n ds. HasNoHyphen ds) (λ n h. (digit_is_none n, tt))
-    (λ n ds h k. HasNoHyphen-push ds (48 + n % 10) k (digit_is_none (n % 10)))
+    decimal_by_steps (λ n ds. HasNoHyphen ds) (λ n h. (digit_is_none n, tt)) (λ n ds h k. HasNoHyphen-push ds (48 + n % 10) k (digit_is_none (n % 10)))
 
 -- the first hyphen stands after such a text
 hyphen_after : (bs rest : List ℕ) → HasNoHyphen bs → position_or_len (λ b. b == 45) (bs ++ 45 ∷ rest) ≡ length bs
 hyphen_after [] rest h = refl
 hyphen_after (b ∷ bs) rest h = rw h.0 (omega (arith, hyphen_after bs rest h.1))
 
-pub hyphen_found : (text : List ℕ) (n : ℕ) (rest : List ℕ) → n < 2 ^ 64 → text ≡ decimal n ++ 45 ∷ rest → position (λ b. b == 45) text ≡ Some (length (decimal n))
+pub hyphen_found : (text : List ℕ) (n : ℕ) (rest : List ℕ) → n < 2 ^ 64 → text ≡ decimal n ++ 45 ∷ rest
+    → position (λ b. b == 45) text ≡ Some (length (decimal n))
 hyphen_found text n rest small is =
     let place : position_or_len (λ b. b == 45) text ≡ length (decimal n) =
     ap (λ (t : List ℕ). position_or_len (λ b. b == 45) t) is ∙ hyphen_after (decimal n) rest (decimal-no_hyphen n small) in

@@ -1,13 +1,9 @@
 -- A pledge without its lists, and the limits of its fields.
 use Rattle.std.specs.Prelude.{ℕ, ◌-◌, ◌≤◌, length, IfSome}
-use Rattle.pawn_pledge.specs.Common.{IsChecked, Totals, after_days, credit_of, last_stamp_day, most_entries, most_millionths, most_pence, owing_of, sums_of, totals_of}
+use Rattle.pawn_pledge.specs.Common.{IsChecked, Totals, after_days, credit_of, last_stamp_day, most_entries, most_millionths, most_pence, owing_of, sums_of}
+use Rattle.pawn_pledge.specs.{Common.totals_of, declared.record.{Booking.Booking, Closing.Closing, Status.Status}, declared.brief.BriefFields.BriefFields}
+use Rattle.pawn_pledge.specs.{Pledge.{PledgeValue, end_of, debt_of, live_of, status_by, status_under}, Limits.{most_secrets, most_extensions, last_window}}
 use Rattle.pawn_debt.specs.declared.owing.Owing.{Owing}
-use Rattle.pawn_pledge.specs.declared.record.Booking.{Booking}
-use Rattle.pawn_pledge.specs.declared.record.Closing.{Closing}
-use Rattle.pawn_pledge.specs.declared.record.Status.{Status}
-use Rattle.pawn_pledge.specs.declared.brief.BriefFields.{BriefFields}
-use Rattle.pawn_pledge.specs.Pledge.{PledgeValue, end_of, debt_of, live_of, status_by, status_under}
-use Rattle.pawn_pledge.specs.Limits.{most_secrets, most_extensions, last_window}
 
 abbrev pub brief_of : PledgeValue → BriefFields
 brief_of p = record {

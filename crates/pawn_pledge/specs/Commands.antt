@@ -1,6 +1,5 @@
 -- Which commands a request can give, and who may send them.
-use Rattle.pawn_pledge.specs.Common.{Bool, IsStampDay, false, true}
-use Rattle.pawn_pledge.specs.declared.command.Command.{Command}
+use Rattle.{std.specs.Prelude.{Bool, false, true}, pawn_pledge.specs.{Common.IsStampDay, declared.command.Command.Command}}
 
 -- a command that a request can give
 abbrev pub IsCommand : Command → Type 0

@@ -1,9 +1,6 @@
 -- How the lists of a pledge grow.
 use Rattle.std.specs.Prelude.{◌≡◌, List, [], ◌∷◌, ◌++◌, ◌⊎◌}
-use Rattle.pawn_debt.specs.declared.entry.Entry.{Entry}
-use Rattle.pawn_pledge.specs.declared.record.Issued.{Issued}
-use Rattle.pawn_pledge.specs.declared.record.Extension.{Extension}
-use Rattle.pawn_pledge.specs.Pledge.{PledgeValue}
+use Rattle.{pawn_debt.specs.declared.entry.Entry.Entry, pawn_pledge.specs.{declared.record.{Issued.Issued, Extension.Extension}, Pledge.PledgeValue}}
 
 -- a list stays, or grows at its end by one of which P holds
 abbrev pub StaysOrGrows : {A : Type 0} → (A → Type 0) → List A → List A → Type 0

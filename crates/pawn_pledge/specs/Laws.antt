@@ -1,20 +1,10 @@
 -- What holds of every pledge, whatever is sent.
-use Rattle.std.specs.Prelude.{◌≡◌, ◌≤◌, ◌<◌, ◌+◌, ◌^◌, ◌==◌, ℕ, length, true, false, List, [], ◌∷◌, Some, Ok}
-use Rattle.pawn_pledge.specs.Common.{Draw, IsChecked, IsStampDay, NoneApplies, Rates, Repay, Sort, due, last_of, list_any, owing_of}
-use Rattle.pawn_pledge.specs.declared.record.Opening.{Opening}
-use Rattle.pawn_pledge.specs.declared.command.Stamp.{Stamp}
-use Rattle.pawn_pledge.specs.declared.command.Command.{Command}
-use Rattle.pawn_pledge.specs.declared.command.Done.{Done}
-use Rattle.pawn_pledge.specs.declared.receipt.Receipt.{Receipt}
-use Rattle.pawn_pledge.specs.Number.{IsNumber}
-use Rattle.pawn_pledge.specs.Pledge.{PledgeValue, end_of, debt_of, status_of, live_of}
-use Rattle.pawn_pledge.specs.Words.{is_open}
-use Rattle.pawn_pledge.specs.Step.{Answered, Changed, bars, pledge_step, pledge_after, pledge_start}
-use Rattle.pawn_pledge.specs.Replayable.{IsOpening, IsReplayable, IsWithinLimits, IsStanding}
-use Rattle.pawn_pledge.specs.Commands.{IsCommand}
-use Rattle.pawn_pledge.specs.Growth.{Grows, StaysOrGrows}
-use Rattle.pawn_pledge.specs.Brief.{brief_of, brief_status, brief_owing, IsBriefWithin}
-use Rattle.pawn_pledge.specs.Secret.{secret_text, secret_of_text}
+use Rattle.std.specs.{Prelude.{◌≡◌, ◌≤◌, ◌<◌, ◌+◌, ◌^◌, ◌==◌, ℕ, length, true, false, List, [], ◌∷◌, Some, Ok}, List.list_any}
+use Rattle.pawn_pledge.specs.{Common.{Draw, IsChecked, IsStampDay, NoneApplies, Rates, Repay, Sort, due, last_of, owing_of}, declared.record.Opening.Opening}
+use Rattle.pawn_pledge.specs.{declared.{command.{Stamp.Stamp, Command.Command, Done.Done}, receipt.Receipt.Receipt}, Number.IsNumber, Pledge.PledgeValue}
+use Rattle.pawn_pledge.specs.{Pledge.{end_of, debt_of, status_of, live_of}, Words.is_open, Step.{Answered, Changed, bars, pledge_step, pledge_after}}
+use Rattle.pawn_pledge.specs.{Step.pledge_start, Replayable.{IsOpening, IsReplayable, IsWithinLimits, IsStanding}, Commands.IsCommand, Growth.Grows}
+use Rattle.pawn_pledge.specs.{Growth.StaysOrGrows, Brief.{brief_of, brief_status, brief_owing, IsBriefWithin}, Secret.{secret_text, secret_of_text}}
 use Rattle.pawn_pledge.specs.Receipt.{receipt_text, IsReceiptText}
 
 -- a pledge begins as one that can have come about, within the limits

@@ -16,4 +16,3 @@ pub mod Laws
 pub mod Worked
 pub mod WorkedTexts
 pub mod Common
-pub mod Pledges

@@ -1,10 +1,7 @@
 -- What is checked of a record before a pledge is made of it.
 use Rattle.std.specs.Prelude.{◌≤◌, length, IfSome}
-use Rattle.pawn_pledge.specs.Common.{DoNotFall, Each, credit_of, last_by, last_stamp_day, most_pence}
-use Rattle.pawn_pledge.specs.Number.{IsNumber}
-use Rattle.pawn_pledge.specs.Pledge.{PledgeValue}
-use Rattle.pawn_pledge.specs.Replayable.{IsOpening, AreIssued, AreDistinctSecrets}
-use Rattle.pawn_pledge.specs.Limits.{most_secrets, most_extensions}
+use Rattle.pawn_pledge.specs.{Common.{DoNotFall, Each, credit_of, last_by, last_stamp_day, most_pence}, Number.IsNumber, Pledge.PledgeValue}
+use Rattle.pawn_pledge.specs.{Replayable.{IsOpening, AreIssued, AreDistinctSecrets}, Limits.{most_secrets, most_extensions}}
 
 -- the limits that the types of the fields keep
 pub record IsTyped (p : PledgeValue) : Type 0 where

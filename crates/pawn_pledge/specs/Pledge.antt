@@ -1,12 +1,7 @@
 -- A pledge as its record, and what follows from the record.
 use Rattle.std.specs.Prelude.{ℕ, ◌+◌, ◌-◌, nat_le, ◌&&◌, ◌==◌, Bool, true, false, if◌then◌else◌, List, length, slice_get, Option, None, option_map}
-use Rattle.pawn_pledge.specs.Common.{DebtValue, credit_of, due, period_end, six_months, total_of}
-use Rattle.pawn_pledge.specs.Limits.{grace_days, small_credit}
-use Rattle.pawn_pledge.specs.declared.record.Issued.{Issued}
-use Rattle.pawn_pledge.specs.declared.record.Extension.{Extension}
-use Rattle.pawn_pledge.specs.declared.record.Agreement.{Agreement}
-use Rattle.pawn_pledge.specs.declared.record.Closing.{Closing}
-use Rattle.pawn_pledge.specs.declared.record.Status.{Status}
+use Rattle.pawn_pledge.specs.{Common.{DebtValue, credit_of, due, period_end, six_months, total_of}, Limits.{grace_days, small_credit}}
+use Rattle.pawn_pledge.specs.declared.record.{Issued.Issued, Extension.Extension, Agreement.Agreement, Closing.Closing, Status.Status}
 use Rattle.pawn_pledge.specs.declared.parts.Parts.{Parts}
 
 -- the last of a list

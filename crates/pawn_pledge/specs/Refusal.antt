@@ -1,8 +1,9 @@
 -- Why a command on a pledge is refused.
-use Rattle.pawn_pledge.specs.Common.{DebtFault, List, None, Option, Some, codes, ℕ}
+use Rattle.pawn_pledge.specs.{Common.DebtFault, declared.refusal.Refusal.{Refusal, TheVariants.{Debt, SeqTaken, SeqAhead, Held, Passed, Closed, NotRealisable}}}
+use Rattle.pawn_pledge.specs.declared.refusal.Refusal.TheVariants.{NotSmall, SecretUsed, DeclarationsFull, WrongAmount, NoBooking, BookingDay, BadWindow}
+use Rattle.{pawn_pledge.specs.declared.refusal.Refusal.TheVariants.{PeriodOver, NotLater, ExtensionsFull}, std.specs.Prelude.{List, None, Option, Some, codes}}
+use Rattle.std.specs.Prelude.{ℕ}
 use Rattle.pawn_debt.specs.DebtFault as debt
-use Rattle.pawn_pledge.specs.declared.refusal.Refusal.{Refusal}
-use Rattle.pawn_pledge.specs.declared.refusal.Refusal.TheVariants.{Debt, SeqTaken, SeqAhead, Held, Passed, Closed, NotRealisable, NotSmall, SecretUsed, DeclarationsFull, WrongAmount, NoBooking, BookingDay, BadWindow, PeriodOver, NotLater, ExtensionsFull}
 
 -- the refusal's number
 abbrev pub pledge_refusal_code : Refusal → ℕ

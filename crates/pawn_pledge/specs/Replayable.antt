@@ -1,18 +1,11 @@
 -- Which records can have come about by commands.
-use Rattle.std.specs.Prelude.{◌≡◌, ℕ, ◌+◌, ◌≤◌, ◌<◌, ◌==◌, false, List, [], ◌∷◌, length, Option, Some, None, IfSome}
-use Rattle.pawn_pledge.specs.Common.{AreEntriesAccepted, AreOrdered, DoNotFall, Draw, Each, Entry, IsChecked, IsStampDay, Repay, Sort, credit_of, last_by, last_of, last_stamp_day, list_any, most_entries, most_pence}
-use Rattle.pawn_pledge.specs.declared.record.Issued.{Issued}
-use Rattle.pawn_pledge.specs.declared.record.Issue.{Issue}
-use Rattle.pawn_pledge.specs.declared.record.Extension.{Extension}
-use Rattle.pawn_pledge.specs.declared.record.Booking.{Booking}
-use Rattle.pawn_pledge.specs.declared.record.BookingState.{BookingState}
-use Rattle.pawn_pledge.specs.declared.record.Closing.{Closing}
+use Rattle.std.specs.{Prelude.{◌≡◌, ℕ, ◌+◌, ◌≤◌, ◌<◌, ◌==◌, false, List, [], ◌∷◌, length, Option, Some, None, IfSome}, List.list_any}
+use Rattle.pawn_pledge.specs.Common.{AreEntriesAccepted, AreOrdered, DoNotFall, Draw, Each, Entry, IsChecked, IsStampDay, Repay, Sort, credit_of, last_by}
+use Rattle.pawn_pledge.specs.{Common.{last_of, last_stamp_day, most_entries, most_pence}, declared.record.{Issued.Issued, Issue.Issue, Extension.Extension}}
+use Rattle.pawn_pledge.specs.{declared.record.{Booking.Booking, BookingState.BookingState, Closing.Closing, Opening.Opening}, Number.IsNumber}
+use Rattle.pawn_pledge.specs.{Pledge.{PledgeValue, end_with, end_of, total_on, debt_of, open_status, is_passed}, Limits.{small_credit, most_secrets}}
+use Rattle.{pawn_pledge.specs.Limits.{most_extensions, last_window, most_article_bytes, most_reference_bytes}, pawn_base.specs.Text.IsText}
 use Rattle.pawn_pledge.specs.declared.record.Status.TheVariants as Status
-use Rattle.pawn_pledge.specs.declared.record.Opening.{Opening}
-use Rattle.pawn_pledge.specs.Number.{IsNumber}
-use Rattle.pawn_base.specs.Text.{IsText}
-use Rattle.pawn_pledge.specs.Pledge.{PledgeValue, end_with, end_of, total_on, debt_of, open_status, is_passed}
-use Rattle.pawn_pledge.specs.Limits.{small_credit, most_secrets, most_extensions, last_window, most_article_bytes, most_reference_bytes}
 
 -- the property has not passed on a day, the closing aside
 abbrev pub IsNotPassed : PledgeValue → ℕ → Type 0

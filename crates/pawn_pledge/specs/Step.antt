@@ -1,23 +1,13 @@
 -- What a command comes to: the first refusal that applies, or an answer and the pledge after it.
-use Rattle.std.specs.Prelude.{◌≡◌, ℕ, ◌-◌, nat_lt, nat_le, ◌==◌, ◌&&◌, not, Bool, true, false, if◌then◌else◌, List, [], ◌∷◌, length, find, Option, Some, None, Result, Ok, Err, ◌⊎◌}
-use Rattle.pawn_pledge.specs.Common.{BadAmount, DebtFault, DebtValue, Draw, EarlierDay, Entry, IsSaid, IsWant, Rates, Repay, Sort, credit_of, draw_answer, first_of, is_bad_amount, list_any, most_pence, repay_answer}
-use Rattle.pawn_pledge.specs.declared.record.Opening.{Opening}
-use Rattle.pawn_pledge.specs.declared.record.Issue.{Issue}
-use Rattle.pawn_pledge.specs.declared.record.Booking.{Booking}
-use Rattle.pawn_pledge.specs.declared.record.BookingState.{BookingState}
-use Rattle.pawn_pledge.specs.declared.record.Closing.{Closing}
-use Rattle.pawn_pledge.specs.declared.command.Stamp.{Stamp}
-use Rattle.pawn_pledge.specs.declared.command.Paper.{Paper}
-use Rattle.pawn_pledge.specs.declared.command.Decision.{Decision}
-use Rattle.pawn_pledge.specs.declared.command.Decision.TheVariants.{Confirm, Refuse}
-use Rattle.pawn_pledge.specs.declared.command.Command.{Command}
-use Rattle.pawn_pledge.specs.declared.command.Done.{Done}
-use Rattle.pawn_pledge.specs.declared.command.Applied.{Applied}
-use Rattle.pawn_pledge.specs.declared.refusal.Refusal.{Refusal}
-use Rattle.pawn_pledge.specs.Limits.{most_secrets, most_extensions, last_window}
-use Rattle.pawn_pledge.specs.Refusal.{refusal_of}
-use Rattle.pawn_pledge.specs.Words.{with_last, with_hold, with_booking, with_standing, is_open, is_repeat, is_ahead, new_entry, same_flag, is_written, issue_of, with_secret, in_state, stands_for, close, with_extension}
-use Rattle.pawn_pledge.specs.Pledge.{PledgeValue, end_of, is_small, debt_of, total_on, open_status, is_passed, is_realisable}
+use Rattle.std.specs.Prelude.{◌≡◌, ℕ, ◌-◌, nat_lt, nat_le, ◌==◌, ◌&&◌, not, Bool, true, false, if◌then◌else◌, List, [], ◌∷◌, length, find, Option, Some, None}
+use Rattle.std.specs.{Prelude.{Result, Ok, Err, ◌⊎◌}, List.list_any}
+use Rattle.pawn_pledge.specs.Common.{BadAmount, DebtFault, DebtValue, Draw, EarlierDay, Entry, IsSaid, IsWant, Rates, Repay, Sort, credit_of, draw_answer}
+use Rattle.pawn_pledge.specs.{Common.{first_of, is_bad_amount, most_pence, repay_answer}, declared.record.{Opening.Opening, Issue.Issue, Booking.Booking}}
+use Rattle.pawn_pledge.specs.{declared.record.{BookingState.BookingState, Closing.Closing}, declared.command.{Stamp.Stamp, Paper.Paper, Decision.Decision}}
+use Rattle.pawn_pledge.specs.declared.{command.{Decision.TheVariants.{Confirm, Refuse}, Command.Command, Done.Done, Applied.Applied}, refusal.Refusal.Refusal}
+use Rattle.pawn_pledge.specs.{Limits.{most_secrets, most_extensions, last_window}, Refusal.refusal_of, Words.{with_last, with_hold, with_booking}}
+use Rattle.pawn_pledge.specs.Words.{with_standing, is_open, is_repeat, is_ahead, new_entry, same_flag, is_written, issue_of, with_secret, in_state, stands_for}
+use Rattle.pawn_pledge.specs.{Words.{close, with_extension}, Pledge.{PledgeValue, end_of, is_small, debt_of, total_on, open_status, is_passed, is_realisable}}
 
 -- a pledge as it is taken: its one secret is the stamp's word
 abbrev pub pledge_start : ℕ → Opening → ℕ → Rates → Stamp → Result PledgeValue Refusal

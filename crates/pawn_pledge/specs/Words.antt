@@ -1,15 +1,7 @@
 -- The words of the rules for commands: questions about a pledge, and a pledge with one thing changed.
 use Rattle.std.specs.Prelude.{ℕ, ◌+◌, nat_lt, ◌==◌, ◌&&◌, ◌||◌, not, Bool, true, false, [], ◌∷◌, ◌++◌, length, Option, Some, None, List, codes}
-use Rattle.pawn_pledge.specs.Common.{Draw, Entry, Repay, Sort}
-use Rattle.pawn_pledge.specs.declared.record.Issued.{Issued}
-use Rattle.pawn_pledge.specs.declared.record.Issue.{Issue}
-use Rattle.pawn_pledge.specs.declared.record.Extension.{Extension}
-use Rattle.pawn_pledge.specs.declared.record.Booking.{Booking}
-use Rattle.pawn_pledge.specs.declared.record.BookingState.{BookingState}
-use Rattle.pawn_pledge.specs.declared.record.Closing.{Closing}
-use Rattle.pawn_pledge.specs.declared.record.Standing.{Standing}
-use Rattle.pawn_pledge.specs.declared.command.Paper.{Paper}
-use Rattle.pawn_pledge.specs.Pledge.{PledgeValue}
+use Rattle.pawn_pledge.specs.{Common.{Draw, Entry, Repay, Sort}, declared.record.{Issued.Issued, Issue.Issue, Extension.Extension, Booking.Booking}}
+use Rattle.pawn_pledge.specs.{declared.record.{BookingState.BookingState, Closing.Closing, Standing.Standing}, declared.command.Paper.Paper, Pledge.PledgeValue}
 
 -- the standing of a pledge after a change on the day x, otherwise as it was
 abbrev pub with_last : Standing → ℕ → Standing

@@ -1,24 +1,11 @@
 -- Pledges, worked out.
-use Rattle.std.specs.Prelude.{◌≡◌, ℕ, true, false, Bool, [], ◌∷◌, Option, Some, None, Result, Ok, Err, codes}
-use Rattle.pawn_pledge.specs.Common.{BadAmount, Draw, EarlierDay, FixedSum, OverLimit, OverOwing, Rates, Repay, Sort, rates_of, repeat}
-use Rattle.pawn_terms.specs.Worked.{date}
-use Rattle.pawn_debt.specs.declared.entry.Kind.{Kind}
-use Rattle.pawn_debt.specs.declared.entry.Kind.TheVariants.{Fixed, Running}
-use Rattle.pawn_debt.specs.Worked.{free}
-use Rattle.pawn_pledge.specs.declared.record.Opening.{Opening}
-use Rattle.pawn_pledge.specs.declared.record.Issue.{Issue}
-use Rattle.pawn_pledge.specs.declared.record.BookingState.TheVariants.{Asked, Confirmed, Refused, Cancelled}
-use Rattle.pawn_pledge.specs.declared.record.BookingState.{BookingState}
-use Rattle.pawn_pledge.specs.declared.record.Closing.{Closing}
-use Rattle.pawn_pledge.specs.declared.record.Status.{Status}
-use Rattle.pawn_pledge.specs.declared.command.Stamp.{Stamp}
-use Rattle.pawn_pledge.specs.declared.command.Paper.{Paper}
-use Rattle.pawn_pledge.specs.declared.command.Decision.TheVariants.{Confirm, Refuse}
-use Rattle.pawn_pledge.specs.declared.command.Command.{Command}
-use Rattle.pawn_pledge.specs.declared.command.Done.{Done}
-use Rattle.pawn_pledge.specs.declared.refusal.Refusal.{Refusal}
-use Rattle.pawn_pledge.specs.Pledge.{PledgeValue, end_of, status_of, live_of}
-use Rattle.pawn_pledge.specs.Step.{Answered, pledge_start, pledge_step, pledge_after, reply_of}
+use Rattle.std.specs.{Prelude.{◌≡◌, ℕ, true, false, Bool, [], ◌∷◌, Option, Some, None, Result, Ok, Err, codes}, List.repeat}
+use Rattle.pawn_pledge.specs.Common.{BadAmount, Draw, EarlierDay, FixedSum, OverLimit, OverOwing, Rates, Repay, Sort, rates_of}
+use Rattle.pawn_pledge.specs.declared.record.{Opening.Opening, Issue.Issue, BookingState.{TheVariants.{Asked, Confirmed, Refused, Cancelled}, BookingState}}
+use Rattle.pawn_pledge.specs.{declared.record.{Closing.Closing, Status.Status}, declared.command.{Stamp.Stamp, Paper.Paper, Decision.TheVariants.Confirm}}
+use Rattle.pawn_pledge.specs.{declared.{command.{Decision.TheVariants.Refuse, Command.Command, Done.Done}, refusal.Refusal.Refusal}, Pledge.PledgeValue}
+use Rattle.pawn_pledge.specs.{Pledge.{end_of, status_of, live_of}, Step.{Answered, pledge_start, pledge_step, pledge_after, reply_of}}
+use Rattle.{pawn_terms.specs.Worked.date, pawn_debt.specs.{declared.entry.Kind.{Kind, TheVariants.{Fixed, Running}}, Worked.free}}
 
 -- what is agreed on a ring
 abbrev pub ring_opening : Kind → Bool → Option ℕ → Opening
@@ -141,7 +128,8 @@ WorkedDeclarations =
     × (told (after_telling (ring 7500) (date 2024 3 2) (Command.Declare Paper.Sworn)) (date 2024 3 2) (Command.Declare Paper.Sworn) ≡ Err Refusal.SecretUsed)
     × (reply_of (pledge_step (ring 7500) (record { day = date 2024 3 2; word = 1 }) (Command.Declare Paper.Sworn)) ≡ Err Refusal.SecretUsed)
     × (told many (date 2024 3 2) (Command.Declare Paper.Sworn) ≡ Err Refusal.DeclarationsFull)
-    × (told (after_telling (after_telling (ring 7500) (date 2024 2 1) Command.Hold) (date 2024 2 1) (Command.Declare Paper.Sworn)) (date 2024 2 1) (Command.Redeem 7500) ≡ Err Refusal.Held)
+    × (told (after_telling (after_telling (ring 7500) (date 2024 2 1) Command.Hold) (date 2024 2 1) (Command.Declare Paper.Sworn)) (date 2024 2 1)
+    (Command.Redeem 7500) ≡ Err Refusal.Held)
 
 -- the answer to a command on a booking
 abbrev pub booking_answer : ℕ → ℕ → BookingState → Done

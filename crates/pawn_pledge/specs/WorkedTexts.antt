@@ -1,8 +1,6 @@
 -- Texts of secrets and receipts, worked out.
 use Rattle.std.specs.Prelude.{◌≡◌, ℕ, Some, None, codes}
-use Rattle.pawn_pledge.specs.declared.receipt.Receipt.{Receipt}
-use Rattle.pawn_pledge.specs.Secret.{secret_text, secret_of_text}
-use Rattle.pawn_pledge.specs.Receipt.{receipt_text, IsReceiptText}
+use Rattle.pawn_pledge.specs.{declared.receipt.Receipt.Receipt, Secret.{secret_text, secret_of_text}, Receipt.{receipt_text, IsReceiptText}}
 
 -- a secret whose sixteen bytes differ
 abbrev pub some_secret : ℕ

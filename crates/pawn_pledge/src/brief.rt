@@ -1,7 +1,6 @@
 ghost use Rattle.std.specs.Prelude.{◌≡◌, ◌≤◌, ◌↔◌, IsTrue, OnErr, IfOk, IfErr, IfSome, IfNone};
-ghost use Rattle.pawn_pledge.specs.Common.{credit_of, last_stamp_day, most_entries, most_millionths, most_pence};
-ghost use Rattle.pawn_pledge.specs.Brief.{brief_status, brief_owing, IsBookingWithin, IsClosingWithin, AreTotalsWithin, IsBriefWithin};
-ghost use Rattle.pawn_pledge.specs.Limits.{most_secrets, most_extensions};
+ghost use Rattle.pawn_pledge.specs.{Common.{credit_of, last_stamp_day, most_entries, most_millionths, most_pence}, Brief.{brief_status, brief_owing}};
+ghost use Rattle.pawn_pledge.specs.{Brief.{IsBookingWithin, IsClosingWithin, AreTotalsWithin, IsBriefWithin}, Limits.{most_secrets, most_extensions}};
 
 use crate::limits::{LAST_WINDOW, MOST_EXTENSIONS, MOST_SECRETS};
 use crate::record::{Agreement, Booking, Closing, Standing, Status};
@@ -154,9 +153,7 @@ fn are_days_within(taken: Day, last: Day) -> bool
 
 // Whether there are no more entries, secrets and extensions than a pledge may have.
 fn are_counts_within(counts: Counts) -> bool
-    ensures answer { IsTrue result ↔
-        ((counts.entries ≤ most_entries) × (counts.secrets ≤ most_secrets)
-        × (counts.extensions ≤ most_extensions)) }
+    ensures answer { IsTrue result ↔ ((counts.entries ≤ most_entries) × (counts.secrets ≤ most_secrets) × (counts.extensions ≤ most_extensions)) }
 {
     counts.entries <= MOST_ENTRIES
         && counts.secrets <= MOST_SECRETS

@@ -1,4 +1,7 @@
-ghost use Rattle.pawn_pledge.specs.Laws.{StartsStanding, StaysReplayable, StaysWithin, StaysStanding, AgreementStays, ChangesDiffer, ClosedStays, SecretsGrow, EntriesGrow, ExtensionsGrow, ListsGrow, EntriesActOnce, StandingEndIsAnswered, ExtensionsActOnce, OneIsLive, NeverLiveAgain, EarlierAreSpent, BriefOwes, BriefHasStatus, BriefIsWithin, SecretTextsReadBack, ReceiptTextsReadBack, ReceiptTextsAreOne};
+ghost use Rattle.pawn_pledge.specs.Laws.{StartsStanding, StaysReplayable, StaysWithin, StaysStanding, AgreementStays, ChangesDiffer, ClosedStays, SecretsGrow};
+ghost use Rattle.pawn_pledge.specs.Laws.{EntriesGrow, ExtensionsGrow, ListsGrow, EntriesActOnce, StandingEndIsAnswered, ExtensionsActOnce, OneIsLive};
+ghost use Rattle.pawn_pledge.specs.Laws.{NeverLiveAgain, EarlierAreSpent, BriefOwes, BriefHasStatus, BriefIsWithin, SecretTextsReadBack, ReceiptTextsReadBack};
+ghost use Rattle.pawn_pledge.specs.Laws.{ReceiptTextsAreOne};
 
 /// Whatever is sent, a pledge stays one that can have come about, and what was agreed when it was taken stays. A change
 /// always changes something, and a pledge that is redeemed or sold changes no more.

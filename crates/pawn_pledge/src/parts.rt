@@ -1,6 +1,7 @@
 ghost use Rattle.std.specs.Prelude.{◌≡◌, ◌≤◌, ◌↔◌, IsTrue, IfSome, IfNone, IfOk};
-ghost use Rattle.pawn_pledge.specs.Common.{DoNotFall, Each, IsOwed, last_by, last_stamp_day};
-ghost use Rattle.pawn_pledge.specs.Pledges.{AreDistinctSecrets, AreExtended, AreIssued, AreIssuedIn, IsBooked, IsClosed, IsDrawnBy, IsLaterIssue, IsLimited, IsOverUnder, IsStanding, IsTyped, debt_of, end_of, is_passed, last_until, open_status};
+ghost use Rattle.pawn_pledge.specs.{Common.{DoNotFall, Each, IsOwed, last_by, last_stamp_day}, Replayable.{AreDistinctSecrets, AreExtended, AreIssued}};
+ghost use Rattle.pawn_pledge.specs.{Replayable.{IsBooked, IsClosed, IsDrawnBy, IsLaterIssue, IsOverUnder, IsStanding}, Parts.{AreIssuedIn, IsLimited, IsTyped}};
+ghost use Rattle.pawn_pledge.specs.Pledge.{debt_of, end_of, is_passed, last_until, open_status};
 
 use crate::limits::{LAST_WINDOW, MOST_EXTENSIONS, MOST_SECRETS};
 use crate::record::{
@@ -51,9 +52,7 @@ impl Parts {
 
 // Whether each extension was agreed in the period as it then was, for a later end, and none after the last change.
 fn are_extended(taken: Day, first_end: Day, last: Day, extensions: &[Extension]) -> bool
-    ensures answer { IsTrue result ↔
-        (AreExtended taken first_end extensions.now
-        × (last_by (λ e. e.day) taken extensions.now ≤ last)) }
+    ensures answer { IsTrue result ↔ (AreExtended taken first_end extensions.now × (last_by (λ e. e.day) taken extensions.now ≤ last)) }
 {
     let mut day = taken;
     let mut ends = first_end;
@@ -124,8 +123,7 @@ fn are_distinct(issued: &[Issued]) -> bool
 
 // Whether the days of the secrets never fall, from the day taken on, and none is past the day of the last change.
 fn do_not_fall(taken: Day, last: Day, issued: &[Issued]) -> bool
-    ensures answer { IsTrue result ↔
-        (DoNotFall (λ i. i.day) taken issued.now × (last_by (λ i. i.day) taken issued.now ≤ last)) }
+    ensures answer { IsTrue result ↔ (DoNotFall (λ i. i.day) taken issued.now × (last_by (λ i. i.day) taken issued.now ≤ last)) }
 {
     let mut day = taken;
     for i in issued {
@@ -244,8 +242,7 @@ fn are_issued(taken: Day, credit: u64, issued: &[Issued]) -> bool
 // Whether each drawing of the record is in the period.
 fn are_drawn_in(parts: &Parts, ends: Day) -> bool
     requires ends { ends ≡ end_of parts.now }
-    ensures answer { IsTrue result ↔ Each
-        (λ e. IsDrawnBy (end_of parts.now) e.sort e.day) parts.now.entries }
+    ensures answer { IsTrue result ↔ Each (λ e. IsDrawnBy (end_of parts.now) e.sort e.day) parts.now.entries }
 {
     are_drawn(ends, parts.entries.as_slice())
 }

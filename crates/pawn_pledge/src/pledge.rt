@@ -1,9 +1,6 @@
 ghost use Rattle.std.specs.Prelude.{◌≡◌, ◌≤◌, ◌↔◌, IsTrue, Some, OnErr, IfOk, IfErr, length};
-ghost use Rattle.pawn_pledge.specs.Common.{IsOwed, due, last_of, most_millionths, most_pence, owing_of, totals_of};
-ghost use Rattle.pawn_pledge.specs.Pledge.{status_of, open_status, last_secret, live_of, end_of, debt_of};
-ghost use Rattle.pawn_pledge.specs.Step.{pledge_start, IsStarted};
-ghost use Rattle.pawn_pledge.specs.Replayable.{IsStanding};
-ghost use Rattle.pawn_pledge.specs.Brief.{brief_of};
+ghost use Rattle.pawn_pledge.specs.{Common.{IsOwed, due, last_of, most_millionths, most_pence, owing_of, totals_of}, Pledge.{status_of, open_status}};
+ghost use Rattle.pawn_pledge.specs.{Pledge.{last_secret, live_of, end_of, debt_of}, Step.{pledge_start, IsStarted}, Replayable.IsStanding, Brief.brief_of};
 
 mod steps;
 

@@ -1,6 +1,5 @@
 ghost use Rattle.std.specs.Prelude.{◌≡◌, ◌≤◌};
-ghost use Rattle.pawn_terms.specs.Limits.{last_stamp_day};
-ghost use Rattle.pawn_pledge.specs.Pledge.{is_small, status_by, status_under};
+ghost use Rattle.{pawn_terms.specs.Limits.last_stamp_day, pawn_pledge.specs.Pledge.{is_small, status_by, status_under}};
 
 use crate::limits::{GRACE_DAYS, SMALL_CREDIT};
 use crate::record::{Agreement, Closing, Status};

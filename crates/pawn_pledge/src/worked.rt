@@ -1,4 +1,5 @@
-ghost use Rattle.pawn_pledge.specs.Worked.{WorkedPledgeStarts, WorkedStatuses, WorkedPledgeDrawings, WorkedPledgeRepayments, WorkedHolds, WorkedDeclarations, WorkedAskings, WorkedCancellings, WorkedDecisions, WorkedRedemptions, WorkedSales, WorkedExtensions};
+ghost use Rattle.pawn_pledge.specs.Worked.{WorkedPledgeStarts, WorkedStatuses, WorkedPledgeDrawings, WorkedPledgeRepayments, WorkedHolds, WorkedDeclarations};
+ghost use Rattle.pawn_pledge.specs.Worked.{WorkedAskings, WorkedCancellings, WorkedDecisions, WorkedRedemptions, WorkedSales, WorkedExtensions};
 ghost use Rattle.pawn_pledge.specs.WorkedTexts.{WorkedSecrets, WorkedReceiptTexts};
 
 /// Pledges as they are taken, and their statuses.

@@ -1,4 +1,3 @@
-pub mod Basics
 mod HexLemmas
 pub mod ServingLemmas
 mod StampLemmas

@@ -1,9 +1,7 @@
 -- The stamps that are taken one after the other.
-use Rattle.pawn_program.proofs.Basics.{◌≡◌, ℕ, ◌+◌, List, [], ◌∷◌, length, refl, ap, ◌∙◌, arith, Yields, Stamp}
-use Rattle.rand_chacha.specs.ChaCha.{ChaCha}
-use Rattle.pawn_program.specs.Word.{generator, word_of, after_word}
-use Rattle.pawn_program.specs.Stamps.{IsTaken, GivesStamp, stamps_drawn}
-use Rattle.pawn_program.specs.declared.stamps.Stamps.{Stamps}
+use Rattle.std.{proofs.Common.{◌≡◌, ℕ, ◌+◌, List, [], ◌∷◌, length, refl, ap, ◌∙◌, arith}, specs.Iterator.Yields}
+use Rattle.{pawn_pledge.specs.declared.command.Stamp.Stamp, rand_chacha.specs.ChaCha.ChaCha, pawn_program.specs.Word.{generator, word_of, after_word}}
+use Rattle.pawn_program.specs.{Stamps.{IsTaken, GivesStamp, stamps_drawn}, declared.stamps.Stamps.Stamps}
 
 pub taken_in_order : (day : ℕ) (g : ChaCha) (xs : List Stamp) (from to : Stamps) → from.day ≡ day → generator from.words.now ≡ g
     → Yields GivesStamp from xs to → xs ≡ stamps_drawn (length xs) day g

@@ -1,8 +1,6 @@
 -- Stamps by a clock.
 use Rattle.std.specs.Prelude.{◌≡◌, Option, MatchOption}
-use Rattle.pawn_pledge.specs.declared.command.Stamp.{Stamp}
-use Rattle.pawn_program.specs.Word.{generator, word_of, after_word}
-use Rattle.pawn_program.specs.declared.clock.ClockStamps.{ClockStamps}
+use Rattle.{pawn_pledge.specs.declared.command.Stamp.Stamp, pawn_program.specs.{Word.{generator, word_of, after_word}, declared.clock.ClockStamps.ClockStamps}}
 
 -- a call gave a stamp with the next word, and nothing is said of its day; or it gave none, and took no word
 abbrev pub GivesDated : {C : Type 0} → ClockStamps C → Option Stamp → ClockStamps C → Type 0

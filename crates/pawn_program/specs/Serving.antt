@@ -1,10 +1,6 @@
 -- Connections that are served one after the other.
-use Rattle.std.specs.Prelude.{◌≡◌, ℕ, ◌≤◌, All, List, [], ◌∷◌, length, Option}
-use Rattle.std.specs.List.{filter_map, flat_map}
-use Rattle.pawn_pledge.specs.declared.command.Stamp.{Stamp}
-use Rattle.pawn_host.specs.Keeps.{Start, Kept, GoesBy}
-use Rattle.pawn_host.specs.Run.{Item, IsMarked}
-use Rattle.pawn_host.specs.Session.{stamps_of}
+use Rattle.std.specs.{Prelude.{◌≡◌, ℕ, ◌≤◌, All, List, [], ◌∷◌, length, Option}, List.{filter_map, flat_map}}
+use Rattle.{pawn_pledge.specs.declared.command.Stamp.Stamp, pawn_host.specs.{Keeps.{Start, Kept, GoesBy}, Run.{Item, IsMarked}, Session.stamps_of}}
 use Rattle.pawn_host.specs.Split.{most_requests}
 
 -- calls of an iterator gave these answers, in order

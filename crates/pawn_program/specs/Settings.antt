@@ -1,12 +1,8 @@
 -- How the words of the command line are read.
-use Rattle.std.specs.Prelude.{◌≡◌, ℕ, ◌⊎◌, ◌+◌, ◌-◌, ◌*◌, ◌≤◌, ◌==◌, nat_eq, Bool, List, [], ◌∷◌, length, take, codes, if◌then◌else◌, Option, Some, None, option_and_then, option_map, IfSome, IsSome, Result, MatchResult, decimal}
-use Rattle.std.specs.List.{ends_with}
-use Rattle.std.specs.Char.{is_digit, digit_value}
-use Rattle.pawn_terms.specs.Calendar.{IsStampDay, day_text}
-use Rattle.pawn_pledge.specs.Secret.{secret_of_text}
-use Rattle.pawn_program.specs.declared.fault.SettingsFault.{SettingsFault}
-use Rattle.pawn_program.specs.declared.fault.SettingsFault.TheVariants.{BadDay, Memory, BadSeed, BadPort, BadKey}
-use Rattle.pawn_program.specs.declared.settings.Settings.{Settings}
+use Rattle.std.specs.Prelude.{◌≡◌, ℕ, ◌⊎◌, ◌+◌, ◌-◌, ◌*◌, ◌≤◌, ◌==◌, nat_eq, Bool, List, [], ◌∷◌, length, take, codes, if◌then◌else◌, Option, Some, None}
+use Rattle.std.specs.{Prelude.{option_and_then, option_map, IfSome, IsSome, Result, MatchResult, decimal}, List.ends_with, Char.{is_digit, digit_value}}
+use Rattle.{pawn_terms.specs.Calendar.{IsStampDay, day_text}, pawn_pledge.specs.Secret.secret_of_text}
+use Rattle.pawn_program.specs.declared.{fault.SettingsFault.{SettingsFault, TheVariants.{BadDay, Memory, BadSeed, BadPort, BadKey}}, settings.Settings.Settings}
 use Rattle.pawn_program.specs.declared.settings.ServeSettings.{ServeSettings}
 
 -- the value of a hexadecimal digit of either case

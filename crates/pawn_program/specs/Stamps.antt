@@ -1,9 +1,6 @@
 -- The stamps of one stream of requests.
-use Rattle.std.specs.Prelude.{◌≡◌, ℕ, zero, suc, ◌+◌, ◌≤◌, List, [], ◌∷◌, length, Option, None, MatchOption}
-use Rattle.std.specs.Iterator.{Yields}
-use Rattle.rand_chacha.specs.ChaCha.{ChaCha}
-use Rattle.pawn_pledge.specs.declared.command.Stamp.{Stamp}
-use Rattle.pawn_program.specs.Word.{generator, word_of, after_word}
+use Rattle.std.specs.{Prelude.{◌≡◌, ℕ, zero, suc, ◌+◌, ◌≤◌, List, [], ◌∷◌, length, Option, None, MatchOption}, Iterator.Yields}
+use Rattle.{rand_chacha.specs.ChaCha.ChaCha, pawn_pledge.specs.declared.command.Stamp.Stamp, pawn_program.specs.Word.{generator, word_of, after_word}}
 use Rattle.pawn_program.specs.declared.stamps.Stamps.{Stamps}
 
 -- a stamp was taken: it has the stamps' day, and the next word of their generator; one fewer is left

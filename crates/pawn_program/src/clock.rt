@@ -1,7 +1,6 @@
 //! Stamps by the machine's clock.
 ghost use Rattle.std.specs.Prelude.{◌≡◌, ◌↔◌, ◌/◌, IfSome, IsSome};
-ghost use Rattle.pawn_terms.specs.Calendar.{IsStampDay};
-ghost use Rattle.pawn_program.specs.Clock.{GivesDated};
+ghost use Rattle.{pawn_terms.specs.Calendar.IsStampDay, pawn_program.specs.Clock.GivesDated};
 
 use crate::words::Words;
 use pawn_host::{Day, RequestDay, Stamp};

@@ -1,11 +1,7 @@
 //! Connections, answered one after the other.
 ghost use Rattle.std.specs.Prelude.{◌≡◌, ◌+◌, false};
-ghost use Rattle.pawn_host.specs.Ends.{reads, left_of};
-ghost use Rattle.pawn_host.specs.Keeps.{StaysOpen, Serves};
-ghost use Rattle.pawn_host.specs.Session.{IsSession, IsWithinMost};
-ghost use Rattle.pawn_writing.specs.Ends.{write_failed, written_bytes};
-ghost use Rattle.pawn_program.specs.Clock.{GivesDated};
-ghost use Rattle.pawn_program.specs.Serving.{AreServed};
+ghost use Rattle.{pawn_host.specs.{Ends.{reads, left_of}, Keeps.{StaysOpen, Serves}, Session.{IsSession, IsWithinMost}}, pawn_writing.specs.Ends.write_failed};
+ghost use Rattle.{pawn_writing.specs.Ends.written_bytes, pawn_program.specs.{Clock.GivesDated, Serving.AreServed}};
 
 use crate::clock::ClockStamps;
 use pawn_host::{Ended, IoFault, Keep, Reading, Service, Stamp, Writing};
@@ -35,8 +31,7 @@ pub fn serve_on<K: Keep, C: Clock>(
 ) -> Served
     ensures counted { result.answered + result.failed ≡ connections }
     ensures stays { StaysOpen K.keeping service.old service.new }
-    ensures served { Serves K.keeping service.old service.new
-        (λ start. AreServed GivesDated stamps.old stamps.new start result.answered) }
+    ensures served { Serves K.keeping service.old service.new (λ start. AreServed GivesDated stamps.old stamps.new start result.answered) }
 {
     let mut served = Served {
         answered: 0,
@@ -77,14 +72,12 @@ fn converse<K: Keep, R: Read, W: Write, I: Iterator<Item = Stamp>>(
     requires fine { write_failed writer.old ≡ false }
     requires can { I.can_next stamps.old }
     ensures stays { StaysOpen K.keeping service.old service.new }
-    ensures session { Serves K.keeping service.old service.new (λ start. IsSession I.next_gives
-        (record {
-          start = start;
-          stamps = stamps.old;
-          stream = left_of R.remaining reader.old;
-          written = written_bytes W.contents writer.old;
-        })
-        stamps.new (written_bytes W.contents writer.new) result) }
+    ensures session { Serves K.keeping service.old service.new (λ start. IsSession I.next_gives (record {
+      start = start;
+      stamps = stamps.old;
+      stream = left_of R.remaining reader.old;
+      written = written_bytes W.contents writer.old;
+    }) stamps.new (written_bytes W.contents writer.new) result) }
     ensures room { IsWithinMost result }
 {
     service.answer_all(reader, writer, stamps)

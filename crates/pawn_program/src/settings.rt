@@ -1,9 +1,7 @@
-ghost use Rattle.std.specs.Prelude.{◌≡◌, ◌≢◌, ◌<◌, IfSome, IfNone, IfOk, IfErr, None};
-ghost use Rattle.std.specs.IoError.{error_kind};
-ghost use Rattle.pawn_pledge.specs.Secret.{secret_of_text};
-ghost use Rattle.std.specs.declared.io.ErrorKind.TheVariants.{OutOfMemory};
-ghost use Rattle.pawn_program.specs.declared.fault.SettingsFault.TheVariants.{Memory, BadKey};
-ghost use Rattle.pawn_program.specs.Settings.{hex_digit, hex_byte, seed_of, without_line_end, key_of_bytes, SaysDay, SaysNoDay, SaysPort, SaysNoPort, IsOfKey, AreSettings, IsServeRead};
+ghost use Rattle.std.specs.{Prelude.{◌≡◌, ◌≢◌, ◌<◌, IfSome, IfNone, IfOk, IfErr, None}, IoError.error_kind, declared.io.ErrorKind.TheVariants.OutOfMemory};
+ghost use Rattle.{pawn_pledge.specs.Secret.secret_of_text, pawn_program.specs.{declared.fault.SettingsFault.TheVariants.{Memory, BadKey}, Settings.hex_digit}};
+ghost use Rattle.pawn_program.specs.Settings.{hex_byte, seed_of, without_line_end, key_of_bytes, SaysDay, SaysNoDay, SaysPort, SaysNoPort, IsOfKey};
+ghost use Rattle.pawn_program.specs.Settings.{AreSettings, IsServeRead};
 
 use crate::fault::SettingsFault;
 use pawn_host::{Number, RequestDay, Secret};

@@ -1,7 +1,5 @@
-ghost use Rattle.std.specs.Prelude.{◌≡◌};
-ghost use Rattle.std.specs.Iterator.{at_most};
-ghost use Rattle.pawn_program.specs.Stamps.{GivesStamp, AreStamps};
-ghost use Rattle.pawn_program.specs.Word.{generator};
+ghost use Rattle.std.specs.{Prelude.◌≡◌, Iterator.at_most};
+ghost use Rattle.pawn_program.specs.{Stamps.{GivesStamp, AreStamps}, Word.generator};
 
 use crate::words::Words;
 use pawn_host::{RequestDay, Stamp};

@@ -1,7 +1,6 @@
 //! Random words of 128 bits.
 ghost use Rattle.std.specs.Prelude.{◌≡◌, ◌++◌, length};
-ghost use Rattle.rand_chacha.specs.ChaCha.{of_seed};
-ghost use Rattle.pawn_program.specs.Word.{generator, word_of, after_word};
+ghost use Rattle.{rand_chacha.specs.ChaCha.of_seed, pawn_program.specs.Word.{generator, word_of, after_word}};
 
 use rand_chacha::ChaCha20Rng;
 use rand_core::SeedableRng;

@@ -1,9 +1,14 @@
 -- What becomes of the rows of a host where a book is made, and where it gets terms.
-use Rattle.pawn_saving.proofs.Basics.{◌≡◌, ◌≢◌, ◌++◌, ◌==◌, ℕ, suc, ◌+◌, List, [], ◌∷◌, map, filter, flat_map, length, length-append, true, false, ◌&&◌, Some, None, refl, sym, ap, subst, ◌∙◌, arith, IsPermutation, if◌then◌else◌, entries, get, Database, Row, Rates, BookValue, changed_book, made_book, with_change, Host, book_rows, rows, with_book, AddTerms, MakeBook, NewBook, with_rows, at_book, ListsOurs, book_row, booking_listed, entries_listed, extensions_listed, number, pledge_listed, secrets_listed, terms_cells, terms_listed, totals_listed, of_books, and_left, cond-false, cond-true, get-with_book, nat_tests, nil_from_length, IsPermutation-map, IsPermutation-refl, IsPermutation-sym, IsPermutation-trans, length_permutation, IsPermutation-filter, IsPermutation-flat_map, part, rows-with_book, equals, of_one_book, rows_at, IsWrittenPart, ListsHost, listed_as, IsOnly}
-use Rattle.std.proofs.lemmas.List.Concat.{flat_map_single}
-use Rattle.pawn_saving.proofs.Hosting.{AreSame, relisted}
-use Rattle.pawn_saving.proofs.Changing.{joined, more_joined, replaced}
-use Rattle.pawn_saving.proofs.RowsInOrder.{placed_parts}
+use Rattle.std.proofs.Common.{◌≡◌, ◌≢◌, ◌++◌, ◌==◌, ℕ, suc, ◌+◌, List, [], ◌∷◌, map, filter, flat_map, length, length-append, true, false, ◌&&◌, Some, None}
+use Rattle.std.proofs.{Common.{refl, sym, ap, subst, ◌∙◌, arith, IsPermutation, if◌then◌else◌}, lemmas.Bool.{and_left, cond-false, cond-true}}
+use Rattle.{std.proofs.lemmas.List.Concat.flat_map_single, pawn_tables.specs.{Common.{entries, get, Row, Rates, BookValue, Host, rows}, At.at_book}}
+use Rattle.pawn_tables.specs.Rows.{book_row, booking_listed, entries_listed, extensions_listed, number, pledge_listed, secrets_listed, terms_cells}
+use Rattle.pawn_tables.{specs.{Rows.{terms_listed, totals_listed}, StandsFor.of_books}, proofs.Basics.{nat_tests, IsPermutation-map, IsPermutation-sym}}
+use Rattle.{pawn_tables.proofs.Basics.{IsPermutation-trans, length_permutation, IsPermutation-filter}, pawn_saving.specs.Common.{Database, changed_book}}
+use Rattle.pawn_saving.specs.Common.{made_book, with_change, book_rows, with_book, AddTerms, MakeBook, NewBook, with_rows, ListsOurs}
+use Rattle.pawn_saving.proofs.Basics.{get-with_book, nil_from_length, IsPermutation-refl, IsPermutation-flat_map, part, rows-with_book, equals, of_one_book}
+use Rattle.pawn_saving.{proofs.{Basics.rows_at, Hosting.{AreSame, relisted}}, specs.{Counted.{IsWrittenPart, ListsHost, listed_as}, Writing.IsOnly}}
+use Rattle.pawn_saving.proofs.{Changing.{joined, more_joined, replaced}, RowsInOrder.placed_parts}
 
 -- ---- a new book
 
@@ -30,7 +35,8 @@ module _ (h : Host) (b : ℕ) (new : NewBook) (none : get h.books b ≡ None) (c
     extensions = beside (λ c k. flat_map (extensions_listed c) k.pledges);
   }
 
-  pub made_written : (db : Database) → counted ≡ rows h → ListsOurs db (with_rows (listed_as h counted) 0 (book_row b made ∷ listed_as h counted 0)) → IsWrittenPart h grown db 1
+  pub made_written : (db : Database) → counted ≡ rows h → ListsOurs db (with_rows (listed_as h counted) 0 (book_row b made ∷ listed_as h counted 0))
+      → IsWrittenPart h grown db 1
   made_written db is l = record {
     lists = subst (ListsHost db grown) is (relisted db _ _ made_same l);
     grown = let sums = rows-with_book h b made in let before : part book_rows (get h.books b) ≡ 0 = ap (part book_rows) none in omega (arith, sums, before);
@@ -47,15 +53,15 @@ own_passes b k = let x : (b == b) ≡ true = grind (arith, nat_tests) in (λ i. 
 -- of the rows of the books only one is of this book
 pub books_only : (h : Host) (b : ℕ) (k : BookValue) (others : List (ℕ × BookValue)) → get h.books b ≡ Some k → IsPermutation (entries h.books) ((b, k) ∷ others)
     → IsOnly (at_book b) (map (λ (e : ℕ × BookValue). book_row e.0 e.1) (entries h.books)) (book_row b k) (map (λ (e : ℕ × BookValue). book_row e.0 e.1) others)
-books_only h b k others is split =
-    let row_of = λ (e : ℕ × BookValue). book_row e.0 e.1 in
+books_only h b k others is split = let row_of = λ (e : ℕ × BookValue). book_row e.0 e.1 in
     let same = IsPermutation-map row_of _ _ split in
     let one : filter (at_book b) (map row_of (entries h.books)) ≡ book_row b k ∷ [] =
     ap (filter (at_book b)) (sym (flat_map_single row_of (entries h.books))) ∙ of_one_book h b (at_book b) (λ m x. book_row m x ∷ []) (other_book b)
     ∙ ap (λ o. rows_at o (λ x. filter (at_book b) (book_row b x ∷ []))) is ∙ cond-true _ _ _ (own_passes b k) in
     let len = length_permutation _ _ (IsPermutation-filter (at_book b) _ _ same) in
     let left : length (filter (at_book b) (map row_of (entries h.books))) ≡ 1 = ap length one in
-    let right : length (filter (at_book b) (book_row b k ∷ map row_of others)) ≡ suc (length (filter (at_book b) (map row_of others))) = ap length (cond-true _ _ _ (own_passes b k)) in
+    let right : length (filter (at_book b) (book_row b k ∷ map row_of others)) ≡ suc (length (filter (at_book b) (map row_of others))) =
+    ap length (cond-true _ _ _ (own_passes b k)) in
     record { split = same; none = nil_from_length _ (omega (arith, len, left, right)) }
 
 -- ---- a book that takes the place of another
@@ -83,9 +89,11 @@ module _ (h : Host) (b : ℕ) (k : BookValue) (is : get h.books b ≡ Some k) wh
 
     -- rows that the book has as before, and rows that it has beside them
     pub rows_stay : (f : ℕ → BookValue → List Row) → f b next ≡ f b k → IsPermutation (of_books (with_book h b (Some next)) f) (of_books h f)
-    rows_stay f same = IsPermutation-trans _ _ _ (rows_after f) (subst (λ l. IsPermutation (l ++ rows_beside f) (of_books h f)) (sym same) (IsPermutation-sym _ _ (rows_before f)))
+    rows_stay f same = IsPermutation-trans _ _ _ (rows_after f)
+        (subst (λ l. IsPermutation (l ++ rows_beside f) (of_books h f)) (sym same) (IsPermutation-sym _ _ (rows_before f)))
 
-    pub rows_more : (f : ℕ → BookValue → List Row) (more : List Row) → f b next ≡ f b k ++ more → IsPermutation (of_books (with_book h b (Some next)) f) (more ++ of_books h f)
+    pub rows_more : (f : ℕ → BookValue → List Row) (more : List Row) → f b next ≡ f b k ++ more
+        → IsPermutation (of_books (with_book h b (Some next)) f) (more ++ of_books h f)
     rows_more f more is_more = more_joined (f b k) (f b next) more (rows_beside f) _ _ (rows_before f) (rows_after f) is_more
 
     pub found_after : get (with_book h b (Some next)).books b ≡ Some next
@@ -109,7 +117,8 @@ module _ (h : Host) (b version : ℕ) (t : Rates) (k : BookValue) (is : get h.bo
   listed : terms_listed b next ≡ terms_listed b k ++ row ∷ []
   listed = placed_parts (λ v r. number b ∷ number v ∷ terms_cells r) 1 version k.terms (t ∷ []) (omega (arith, at))
 
-  longer_same : AreSame (listed_as longer counted) (with_rows (with_rows (listed_as h counted) 1 (row ∷ listed_as h counted 1)) 0 (book_row b next ∷ other_books h b k is))
+  longer_same : AreSame (listed_as longer counted)
+      (with_rows (with_rows (listed_as h counted) 1 (row ∷ listed_as h counted 1)) 0 (book_row b next ∷ other_books h b k is))
   longer_same = record {
     books = books_after h b k is next;
     terms = rows_more h b k is next terms_listed (row ∷ []) listed;
@@ -122,12 +131,11 @@ module _ (h : Host) (b version : ℕ) (t : Rates) (k : BookValue) (is : get h.bo
     extensions = rows_stay h b k is next (λ c x. flat_map (extensions_listed c) x.pledges) refl;
   }
 
-  pub longer_written : (db : Database) → counted ≡ rows h → ListsOurs db (with_rows (with_rows (listed_as h counted) 1 (row ∷ listed_as h counted 1)) 0 (book_row b next ∷ other_books h b k is)) → IsWrittenPart h (with_change h (AddTerms b version t)) db 1
+  pub longer_written : (db : Database) → counted ≡ rows h → ListsOurs db (with_rows (with_rows (listed_as h counted) 1 (row ∷ listed_as h counted 1)) 0
+      (book_row b next ∷ other_books h b k is)) → IsWrittenPart h (with_change h (AddTerms b version t)) db 1
   longer_written db same l = subst (λ g. IsWrittenPart h g db 1) (sym is_longer) (record {
     lists = subst (ListsHost db longer) same (relisted db _ _ longer_same l);
-    grown =
-        let sums = rows-with_book h b next in
-        let before : part book_rows (get h.books b) ≡ book_rows k = ap (part book_rows) is in
-        let more = length-append k.terms (t ∷ []) in
+    grown = let sums = rows-with_book h b next in
+        let before : part book_rows (get h.books b) ≡ book_rows k = ap (part book_rows) is in let more = length-append k.terms (t ∷ []) in
         omega (arith, sums, before, more);
   })

@@ -1,9 +1,13 @@
 -- UPDATE of one row, where a value of it is to differ: a row that has the values stays unwritten.
-use Rattle.pawn_saving.proofs.Basics.{◌≡◌, ℕ, ℤ, pos, List, [], ◌∷◌, map, filter, Bool, true, false, cond, not, ◌&&◌, ◌||◌, Option, Some, None, Ok, refl, sym, ap, subst, ◌∙◌, arith, IsPermutation, int_cmp, AllByRecursion, is_eq, Enforced, Is, Or, Not, cast_row, Binary, Update, Does, Tally, Applies, edit_of, Database, understood, binary, from_truth, is_true, unary, Row, value_cmp, overlay, Given, Executes, State, mode_of, Table, Term, Trees, rowid, Value, Int, Holds, IsNumbered, Listed, Lists, columns_of, with_rows, number, or_null, and_right, cond-false, nat_tests, nil_from_length, truth_of, IsPermutation-sym, IsPermutation-trans, length_permutation, IsPermutation-filter, filter-map, IsPlain, command_of, runs_as, statement_of, set_one, updated_part, IsPlace, same_value, went, over_table, passes, shows_of, at_place, carried, plainly}
-use Rattle.std.proofs.lemmas.List.Elements.{filter_agree}
-use Rattle.sqlite.specs.Schema.{Schema}
-use Rattle.sqlite_rules.specs.Calls.{ids_of}
-use Rattle.sqlite_value.proofs.OrderLemmas.{value_cmp-Int}
+use Rattle.std.proofs.Common.{◌≡◌, ℕ, ℤ, pos, List, [], ◌∷◌, map, filter, Bool, true, false, cond, not, ◌&&◌, ◌||◌, Option, Some, None, Ok, refl, sym, ap}
+use Rattle.std.proofs.{Common.{subst, ◌∙◌, arith, IsPermutation, int_cmp}, lemmas.{Bool.{and_right, cond-false}, List.Elements.filter_agree}}
+use Rattle.pawn_tables.specs.Common.{AllByRecursion, is_eq, Binary, understood, binary, from_truth, is_true, Row, value_cmp, Executes, State, Table, Term}
+use Rattle.pawn_tables.{specs.{Common.{Trees, Value, Int, Holds, Listed, Lists, columns_of}, Rows.{number, or_null}}, proofs.Basics.nat_tests}
+use Rattle.pawn_tables.proofs.Basics.{IsPermutation-sym, IsPermutation-trans, length_permutation, IsPermutation-filter, filter-map, over_table, passes}
+use Rattle.pawn_saving.specs.Common.{Enforced, Is, Or, Not, cast_row, Update, Does, Tally, Applies, edit_of, Database, overlay, Given, rowid, IsNumbered}
+use Rattle.pawn_saving.{specs.Common.with_rows, proofs.Basics.{nil_from_length, truth_of, set_one, updated_part, IsPlace, same_value, went, shows_of, at_place}}
+use Rattle.{pawn_saving.proofs.Basics.{carried, plainly}, sqlite.{specs.{Ops.unary, State.mode_of}, proofs.Callers.{IsPlain, command_of, runs_as}}}
+use Rattle.{sqlite.{proofs.Callers.statement_of, specs.Schema.Schema}, sqlite_rules.specs.Calls.ids_of, sqlite_value.proofs.OrderLemmas.value_cmp-Int}
 
 -- ---- SQL's IS NOT, and OR of some
 
@@ -54,8 +58,7 @@ none_other a (p ∷ more) h =
 
 -- where none differs, each is the other
 pub all_equal : (p : Value × Value) (more : List (Value × Value)) → differ p more ≡ false → AllByRecursion AreEqual (p ∷ more)
-all_equal p more h =
-    let rest = none_other (not (is_eq (value_cmp p.0 p.1))) more (sym (ap (λ v. is_true (or_others v more)) (is_not_said p.0 p.1)) ∙ h) in
+all_equal p more h = let rest = none_other (not (is_eq (value_cmp p.0 p.1))) more (sym (ap (λ v. is_true (or_others v more)) (is_not_said p.0 p.1)) ∙ h) in
     ((neither false (is_eq (value_cmp p.0 p.1)) rest.0).1, rest.1)
 
 pub same_number : (m n : ℕ) → AreEqual (number m, number n) → m ≡ n
@@ -80,33 +83,33 @@ nothing_shown f (x ∷ xs) h = absurd (let e = h in cc)
 -- of rows of which none passes one test, none passes that and another
 none_of_both : (a b : Row → Bool) (rows : List Row) → filter a rows ≡ [] → filter (λ r. a r && b r) rows ≡ []
 none_of_both a b [] h = refl
-none_of_both a b (r ∷ rows) h = go (a r) h (none_of_both a b rows)
-  where
-    go : (c : Bool) → cond c (r ∷ filter a rows) (filter a rows) ≡ [] → (filter a rows ≡ [] → filter (λ x. a x && b x) rows ≡ [])
-        → cond (c && b r) (r ∷ filter (λ x. a x && b x) rows) (filter (λ x. a x && b x) rows) ≡ []
-    go true h more = absurd (let e = h in cc)
-    go false h more = more h
+none_of_both a b (r ∷ rows) h = go (a r) h (none_of_both a b rows) where
+  go : (c : Bool) → cond c (r ∷ filter a rows) (filter a rows) ≡ [] → (filter a rows ≡ [] → filter (λ x. a x && b x) rows ≡ [])
+      → cond (c && b r) (r ∷ filter (λ x. a x && b x) rows) (filter (λ x. a x && b x) rows) ≡ []
+  go true h more = absurd (let e = h in cc)
+  go false h more = more h
 
-module _ (schema : Schema) (at : ℕ) (t : Table) (there : IsPlace schema at t) (is_tree : (db : Trees) → overlay db [] t.tree ≡ db t.tree) (tests shows : List Term) (text : List ℕ)
-    (command : command_of (understood schema text) ≡ Update at (record { lets = []; body = over_table t.tree tests shows [] })) (plain : IsPlain (understood schema text))
+module _ (schema : Schema) (at : ℕ) (t : Table) (there : IsPlace schema at t) (is_tree : (db : Trees) → overlay db [] t.tree ≡ db t.tree)
+    (tests shows : List Term) (text : List ℕ) (command : command_of (understood schema text) ≡ Update at
+    (record { lets = []; body = over_table t.tree tests shows [] })) (plain : IsPlain (understood schema text))
     (old new : State) (params : Row) (count : ℕ) (listed : Listed) (st : Lists schema old.now listed) where
   abbrev table : Table
   table = plainly t
 
   -- where no row passes, each table keeps its rows
-  none_set : (rows : List Row) → IsPermutation rows (listed t.tree) → filter (passes tests params) (old.now.trees t.tree) ≡ [] → Executes text params old new (Ok count) → Lists schema new.now (with_rows listed t.tree rows)
-  none_set rows same none h =
-      let db = old.now.trees in
-      let w = runs_as text params old new schema st.schema_is _ command plain count h in
-      let whole = statement_of text (understood schema text) in
-      let does = subst (λ s. Does old.step_limit (mode_of old) params (record old.now { schema = s }) whole None (Update at (record { lets = []; body = over_table t.tree tests shows [] })) (Ok (w.tally, new.now))) st.schema_is w.changed in
-      let done = went (rw there.listed at does) in
-      let now = ap (λ (p : Tally × Database). p.1) (same_value (went (went done.2).2).2) in
+  none_set : (rows : List Row) → IsPermutation rows (listed t.tree) → filter (passes tests params) (old.now.trees t.tree) ≡ []
+      → Executes text params old new (Ok count) → Lists schema new.now (with_rows listed t.tree rows)
+  none_set rows same none h = let db = old.now.trees in
+      let w = runs_as text params old new schema st.schema_is _ command plain count h in let whole = statement_of text (understood schema text) in
+      let does = subst (λ s. Does old.step_limit (mode_of old) params (record old.now { schema = s }) whole None
+      (Update at (record { lets = []; body = over_table t.tree tests shows [] })) (Ok (w.tally, new.now))) st.schema_is w.changed in
+      let done = went (rw there.listed at does) in let now = ap (λ (p : Tally × Database). p.1) (same_value (went (went done.2).2).2) in
       let wrote = updated_part schema at t there is_tree tests shows old.step_limit params params db done.0 done.1 in
       let empty : wrote.rows ≡ [] = no_rows wrote.rows (subst (λ xs. IsPermutation (map (shows_of shows params) xs) wrote.rows) none wrote.same) in
       let applies = subst (λ rs. Applies schema Enforced db (edit_of db table (ids_of rs) Given 1 rs) done.0.trees) empty wrote.applies in
       let kept : done.0.trees t.tree ≡ db t.tree = applies.rows in
-      let holds : Holds db t.tree table (listed t.tree) = at_place (λ (u : Table). Holds db u.tree u (listed u.tree)) schema.tables at table there.listed st.tables in
+      let holds : Holds db t.tree table (listed t.tree) =
+      at_place (λ (u : Table). Holds db u.tree u (listed u.tree)) schema.tables at table there.listed st.tables in
       let stays : Holds done.0.trees t.tree table rows = record {
         same = subst (λ rs. IsPermutation rows (map (columns_of table) rs)) (sym kept) (IsPermutation-trans _ _ _ same holds.same);
         numbered = subst IsNumbered (sym kept) holds.numbered;
@@ -119,28 +122,26 @@ module _ (schema : Schema) (at : ℕ) (t : Table) (there : IsPlace schema at t) 
       }
 
   -- the one row that passes a test takes these columns, where it passes another too, or has them before
-  module _ (test differs : Row → Bool) (passes_is : (r : Row) → passes tests params r ≡ (test (columns_of table r) && differs (columns_of table r))) (before after : Row) (rest : List Row)
+  module _ (test differs : Row → Bool) (passes_is : (r : Row) → passes tests params r ≡ (test (columns_of table r) && differs (columns_of table r)))
+      (before after : Row) (rest : List Row)
       (split : IsPermutation (listed t.tree) (before ∷ rest)) (here : test before ≡ true) (none : filter test rest ≡ []) where
     abbrev both : Row → Bool
     both r = test r && differs r
 
     unfound : differs before ≡ false → filter (passes tests params) (old.now.trees t.tree) ≡ []
-    unfound same =
-        let rows = old.now.trees t.tree in
-        let holds : Holds old.now.trees t.tree table (listed t.tree) = at_place (λ (u : Table). Holds old.now.trees u.tree u (listed u.tree)) schema.tables at table there.listed st.tables in
+    unfound same = let rows = old.now.trees t.tree in
+        let holds : Holds old.now.trees t.tree table (listed t.tree) =
+        at_place (λ (u : Table). Holds old.now.trees u.tree u (listed u.tree)) schema.tables at table there.listed st.tables in
         let listed_so : IsPermutation (before ∷ rest) (map (columns_of table) rows) = IsPermutation-trans _ _ _ (IsPermutation-sym _ _ split) holds.same in
         let only : filter both (before ∷ rest) ≡ [] = cond-false _ _ _ (and_right (test before) (differs before) same) ∙ none_of_both test differs rest none in
         let empty = no_rows _ (subst (λ xs. IsPermutation xs (filter both (map (columns_of table) rows))) only (IsPermutation-filter both _ _ listed_so)) in
         filter_agree _ _ passes_is rows ∙ nothing_shown (columns_of table) _ (sym (filter-map both (columns_of table) rows) ∙ empty)
 
-    pub set_where : (differs before ≡ false → before ≡ after)
-        → ((id : ℤ) (r : Row) → rowid r ≡ Int id → columns_of table r ≡ before
-        → (source : Row) × (tail : Row) × (shows_of shows params r ≡ Int id ∷ source) × (cast_row table source ≡ Int id ∷ tail) × (columns_of table (Int id ∷ tail) ≡ after))
+    pub set_where : (differs before ≡ false → before ≡ after) → ((id : ℤ) (r : Row) → rowid r ≡ Int id → columns_of table r ≡ before → (source : Row)
+        × (tail : Row) × (shows_of shows params r ≡ Int id ∷ source) × (cast_row table source ≡ Int id ∷ tail) × (columns_of table (Int id ∷ tail) ≡ after))
         → Executes text params old new (Ok count) → Lists schema new.now (with_rows listed t.tree (after ∷ rest))
-    set_where has makes h = go (differs before) refl
-      where
-        go : (b : Bool) → differs before ≡ b → Lists schema new.now (with_rows listed t.tree (after ∷ rest))
-        go true is =
-            set_one schema at t there is_tree tests shows both text command plain old new params count listed before after rest st passes_is split
-            ((λ i. here i && is i)) (none_of_both test differs rest none) makes h
-        go false is = none_set (after ∷ rest) (subst (λ r. IsPermutation (r ∷ rest) (listed t.tree)) (has is) (IsPermutation-sym _ _ split)) (unfound is) h
+    set_where has makes h = go (differs before) refl where
+      go : (b : Bool) → differs before ≡ b → Lists schema new.now (with_rows listed t.tree (after ∷ rest))
+      go true is = set_one schema at t there is_tree tests shows both text command plain old new params count listed before after rest st passes_is split
+          ((λ i. here i && is i)) (none_of_both test differs rest none) makes h
+      go false is = none_set (after ∷ rest) (subst (λ r. IsPermutation (r ∷ rest) (listed t.tree)) (has is) (IsPermutation-sym _ _ split)) (unfound is) h

@@ -1,9 +1,11 @@
 -- Tables that stand for a host, and tables that list its rows.
-use Rattle.pawn_saving.proofs.Basics.{◌≡◌, ◌≤◌, ℕ, List, [], ◌∷◌, codes, IsPermutation, subst, arith, IsPermutation-refl, IsPermutation-trans, swapped, numbered_rise, Database, Row, Table, Trees, IsStanding, Host, rows, AreSound, HasTextsAndWords, Holds, Listed, with_rows, RiseFrom, meta_row, other_rows, ListsOurs, bookings_tree, books_tree, entries_tree, extensions_tree, meta_tree, pledges_tree, secrets_tree, terms_tree, totals_tree, AreBooksOrdered, AreStorable, HoldHost, StandsFor, listed_as, ListsHost}
-use Rattle.pawn_terms.specs.Limits.{first_day}
-use Rattle.pawn_book.specs.Written.{AreWords}
-use Rattle.pawn_tables.proofs.SoundReads.{each_weaker}
-use Rattle.pawn_saving.proofs.OurTables.{with_tables}
+use Rattle.{std.proofs.Common.{◌≡◌, ◌≤◌, ℕ, List, [], ◌∷◌, codes, IsPermutation, subst, arith}, pawn_saving.proofs.Basics.{IsPermutation-refl, swapped}}
+use Rattle.pawn_saving.specs.{Common.{Database, AreSound, HasTextsAndWords, with_rows, ListsOurs}, Counted.{listed_as, ListsHost}}
+use Rattle.{pawn_saving.proofs.OurTables.with_tables, pawn_tables.{proofs.{Basics.IsPermutation-trans, NextEntries.numbered_rise}, specs.Common.{Row, Table}}}
+use Rattle.pawn_tables.specs.{Common.{Trees, IsStanding, Host, rows, Holds, Listed}, Entries.RiseFrom, Meta.{meta_row, other_rows}, Schema.bookings_tree}
+use Rattle.pawn_tables.specs.Schema.{books_tree, entries_tree, extensions_tree, meta_tree, pledges_tree, secrets_tree, terms_tree, totals_tree}
+use Rattle.{pawn_tables.{specs.StandsFor.{AreBooksOrdered, AreStorable, HoldHost, StandsFor}, proofs.SoundReads.each_weaker}, pawn_terms.specs.Limits.first_day}
+use Rattle.{pawn_book.specs.Written.AreWords, pawn_base.proofs.ListLemmas.◌&◌}
 
 -- the tables that stand for a host list its rows, and count them
 pub as_lists : (db : Database) (h : Host) → StandsFor db h → ListsHost db h (rows h)
@@ -47,13 +49,12 @@ pub record AreSame (a b : Listed) : Type 0 where
   pub extensions : IsPermutation (a extensions_tree) (b extensions_tree)
 
 pub relisted : (db : Database) (a b : Listed) → AreSame a b → ListsOurs db b → ListsOurs db a
-relisted db a b s l =
-    let t = l.lists.tables in
-    with_tables l (other s.books t.0, (other s.terms t.1.0, (other s.pledges t.1.1.0, (other s.entries t.1.1.1.0, (other s.secrets t.1.1.1.1.0, (other s.bookings t.1.1.1.1.1.0, (other s.meta t.1.1.1.1.1.1.0, (other s.totals t.1.1.1.1.1.1.1.0, (other s.extensions t.1.1.1.1.1.1.1.1.0, tt)))))))))
-  where
-    -- the same rows in another order
-    other : {trees : Trees} {tree : ℕ} {t : Table} {xs ys : List Row} → IsPermutation xs ys → Holds trees tree t ys → Holds trees tree t xs
-    other same holds = record { same = IsPermutation-trans _ _ _ same holds.same; numbered = holds.numbered }
+relisted db a b s l = let t = l.lists.tables in
+    with_tables l (other s.books t.0 & other s.terms t.1.0 & other s.pledges t.1.1.0 & other s.entries t.1.1.1.0 & other s.secrets t.1.1.1.1.0
+    & other s.bookings t.1.1.1.1.1.0 & other s.meta t.1.1.1.1.1.1.0 & other s.totals t.1.1.1.1.1.1.1.0 & other s.extensions t.1.1.1.1.1.1.1.1.0 & tt) where
+      -- the same rows in another order
+      other : {trees : Trees} {tree : ℕ} {t : Table} {xs ys : List Row} → IsPermutation xs ys → Holds trees tree t ys → Holds trees tree t xs
+      other same holds = record { same = IsPermutation-trans _ _ _ same holds.same; numbered = holds.numbered }
 
 pub relisted_by : (db : Database) (a b : Listed) → ((t : ℕ) → IsPermutation (a t) (b t)) → ListsOurs db b → ListsOurs db a
 relisted_by db a b same l = relisted db a b (record {
@@ -77,7 +78,8 @@ held db h st = (db.schema, st)
 pub are_ordered : (h : Host) → AreSound h → AreBooksOrdered h
 are_ordered h sound b k is = let s = (sound b k is).1 in record {
   pledges = s.rows.numbered;
-  entries = each_weaker IsStanding (λ p. RiseFrom 0 p.entries) (λ p standing. numbered_rise 1 0 p.entries (omega arith) standing.replayable.entered.numbered) k.pledges s.rows.standing;
+  entries = each_weaker IsStanding (λ p. RiseFrom 0 p.entries)
+      (λ p standing. numbered_rise 1 0 p.entries (omega arith) standing.replayable.entered.numbered) k.pledges s.rows.standing;
   under = s.rows.under;
 }
 
@@ -91,7 +93,8 @@ are_storable h sound b k is = let s = (sound b k is).1 in record {
 }
 
 -- the same rows with another count of them
-pub recounted : (db : Database) (h : Host) (counted more told : ℕ) → told ≡ more → ListsOurs db (with_rows (listed_as h counted) 13 (meta_row (codes "rows") told ∷ other_rows h.limit)) → ListsHost db h more
+pub recounted : (db : Database) (h : Host) (counted more told : ℕ) → told ≡ more
+    → ListsOurs db (with_rows (listed_as h counted) 13 (meta_row (codes "rows") told ∷ other_rows h.limit)) → ListsHost db h more
 recounted db h counted more told is l = subst (ListsHost db h) is (relisted db _ _ (record {
   books = IsPermutation-refl _;
   terms = IsPermutation-refl _;

@@ -1,7 +1,13 @@
 -- What becomes of the rows of a host where a pledge is put.
-use Rattle.pawn_saving.proofs.Basics.{◌≡◌, ◌++◌, ◌==◌, ℕ, ◌+◌, ◌≤◌, List, [], ◌∷◌, map, filter, flat_map, length, length-append, append_assoc, Bool, true, false, Option, Some, None, refl, ap, subst, ◌∙◌, arith, IsPermutation, if◌then◌else◌, sum_by, entries, get, Row, Text, PledgeValue, BookValue, changed_book, pledge_from, pledge_in, put_from, with_change, Host, book_rows, pledge_rows, rows, with_book, AreNumberedFrom, AreSound, PutPledge, at_pledge, book_row, import_count, import_key, number, or_null, word, AreBooksOrdered, of_pledges, nat_tests, nil_from_length, IsPermutation-append, IsPermutation-cons, IsPermutation-refl, IsPermutation-sym, IsPermutation-trans, length_permutation, sum_by-cons, IsPermutation-filter, IsPermutation-flat_map, IsPermutation-same, part, rows-with_book, swapped, number_in, AreUnder, all_under, filter-append, of_one_pledge, rows_at}
-use Rattle.pawn_saving.proofs.BookChanges.{books_after, found_after, only_book, other_books, rows_after, rows_before, rows_beside}
-use Rattle.pawn_saving.proofs.Changing.{more_joined}
+use Rattle.std.proofs.Common.{◌≡◌, ◌++◌, ◌==◌, ℕ, ◌+◌, ◌≤◌, List, [], ◌∷◌, map, filter, flat_map, length, length-append, append_assoc, Bool, true, false}
+use Rattle.std.proofs.{Common.{Option, Some, None, refl, ap, subst, ◌∙◌, arith, IsPermutation, if◌then◌else◌, sum_by}, lemmas.List.Sums.sum_by-cons}
+use Rattle.pawn_tables.specs.{Common.{entries, get, Row, Text, PledgeValue, BookValue, pledge_from, pledge_in, Host, rows, AreNumberedFrom}, At.at_pledge}
+use Rattle.pawn_tables.specs.{Rows.{book_row, import_count, import_key, number, or_null, word}, StandsFor.{AreBooksOrdered, of_pledges}}
+use Rattle.pawn_tables.proofs.Basics.{nat_tests, IsPermutation-sym, IsPermutation-trans, length_permutation, IsPermutation-filter, filter-append}
+use Rattle.pawn_saving.specs.Common.{changed_book, put_from, with_change, book_rows, pledge_rows, with_book, AreSound, PutPledge}
+use Rattle.pawn_saving.proofs.Basics.{nil_from_length, IsPermutation-append, IsPermutation-cons, IsPermutation-refl, IsPermutation-flat_map, IsPermutation-same}
+use Rattle.pawn_saving.proofs.{Basics.{part, rows-with_book, swapped, number_in, AreUnder, all_under, of_one_pledge, rows_at}, BookChanges.books_after}
+use Rattle.pawn_saving.proofs.{BookChanges.{found_after, only_book, other_books, rows_after, rows_before, rows_beside}, Changing.more_joined}
 
 -- ---- the pledges of a book
 
@@ -25,20 +31,22 @@ module _ (n : ℕ) (p : PledgeValue) where
   -- the pledges are the one that stands at a number, if one does, and others, which stay where one is put there
   pub put_split : (k : ℕ) (ps : List PledgeValue) → Splits ps (pledge_from k ps n) (put_from k ps n p)
   put_split k [] = ([], IsPermutation-refl [], IsPermutation-refl (p ∷ []))
-  put_split k (q ∷ ps) = go (n == k) (put_split (k + 1) ps)
-    where
-      go : (c : Bool) → Splits ps (pledge_from (k + 1) ps n) (put_from (k + 1) ps n p) → Splits (q ∷ ps) (if c then Some q else pledge_from (k + 1) ps n) (if c then p ∷ ps else q ∷ put_from (k + 1) ps n p)
-      go true more = (ps, IsPermutation-refl _, IsPermutation-refl _)
-      go false more = (
-        q ∷ more.0,
-        IsPermutation-trans _ _ _ (IsPermutation-cons q _ _ more.1) (moved q (pledge_from (k + 1) ps n) more.0),
-        IsPermutation-trans _ _ _ (IsPermutation-cons q _ _ more.2) (swapped q p more.0),
-      )
+  put_split k (q ∷ ps) = go (n == k) (put_split (k + 1) ps) where
+    go : (c : Bool) → Splits ps (pledge_from (k + 1) ps n) (put_from (k + 1) ps n p)
+        → Splits (q ∷ ps) (if c then Some q else pledge_from (k + 1) ps n) (if c then p ∷ ps else q ∷ put_from (k + 1) ps n p)
+    go true more = (ps, IsPermutation-refl _, IsPermutation-refl _)
+    go false more = (
+      q ∷ more.0,
+      IsPermutation-trans _ _ _ (IsPermutation-cons q _ _ more.1) (moved q (pledge_from (k + 1) ps n) more.0),
+      IsPermutation-trans _ _ _ (IsPermutation-cons q _ _ more.2) (swapped q p more.0),
+    )
 
-  put_sums : (k : ℕ) (ps : List PledgeValue) → sum_by pledge_rows (put_from k ps n p) + part pledge_rows (pledge_from k ps n) ≡ sum_by pledge_rows ps + pledge_rows p
+  put_sums : (k : ℕ) (ps : List PledgeValue)
+      → sum_by pledge_rows (put_from k ps n p) + part pledge_rows (pledge_from k ps n) ≡ sum_by pledge_rows ps + pledge_rows p
   put_sums k [] = omega (arith, sum_by-cons pledge_rows p [])
   put_sums k (q ∷ ps) =
-      elim (n == k) as (λ v. sum_by pledge_rows (if v then p ∷ ps else q ∷ put_from (k + 1) ps n p) + part pledge_rows (if v then Some q else pledge_from (k + 1) ps n) ≡ sum_by pledge_rows (q ∷ ps) + pledge_rows p) [
+      elim (n == k) as (λ v. sum_by pledge_rows (if v then p ∷ ps else q ∷ put_from (k + 1) ps n p)
+      + part pledge_rows (if v then Some q else pledge_from (k + 1) ps n) ≡ sum_by pledge_rows (q ∷ ps) + pledge_rows p) [
         | true ↦ omega (arith, sum_by-cons pledge_rows p ps, sum_by-cons pledge_rows q ps)
         | false ↦ omega (arith, put_sums (k + 1) ps, sum_by-cons pledge_rows q (put_from (k + 1) ps n p), sum_by-cons pledge_rows q ps)
       ]
@@ -46,7 +54,8 @@ module _ (n : ℕ) (p : PledgeValue) where
   pub put_length : (k : ℕ) (ps : List PledgeValue) → length (put_from k ps n p) + part (λ (q : PledgeValue). 1) (pledge_from k ps n) ≡ length ps + 1
   put_length k [] = refl
   put_length k (q ∷ ps) =
-      elim (n == k) as (λ v. length (if v then p ∷ ps else q ∷ put_from (k + 1) ps n p) + part (λ (q : PledgeValue). 1) (if v then Some q else pledge_from (k + 1) ps n) ≡ length (q ∷ ps) + 1)
+      elim (n == k) as (λ v. length (if v then p ∷ ps else q ∷ put_from (k + 1) ps n p)
+      + part (λ (q : PledgeValue). 1) (if v then Some q else pledge_from (k + 1) ps n) ≡ length (q ∷ ps) + 1)
       [ true ↦ omega arith | false ↦ let rest = put_length (k + 1) ps in omega (arith, rest) ]
 
   -- a pledge that is put has its number, where the pledges are then numbered
@@ -81,56 +90,62 @@ module _ (h : Host) (b n : ℕ) (k : BookValue) (p : PledgeValue) (is : get h.bo
   rest f = flat_map (f b) (put_split n p 1 k.pledges).0 ++ rows_beside h b k is (λ c x. flat_map (f c) x.pledges)
 
   pub before_put : (f : ℕ → PledgeValue → List Row) → IsPermutation (of_pledges h f) (rows_at stood (f b) ++ rest f)
-  before_put f =
-      let inner = put_split n p 1 k.pledges in
+  before_put f = let inner = put_split n p 1 k.pledges in
       let more = rows_beside h b k is (λ c x. flat_map (f c) x.pledges) in
-      IsPermutation-trans _ _ _ (rows_before h b k is (λ c x. flat_map (f c) x.pledges))
-      (IsPermutation-trans _ _ _ (append_same _ _ more (IsPermutation-trans _ _ _ (IsPermutation-flat_map (f b) _ _ inner.1) (IsPermutation-same _ _ (flat_those (f b) stood inner.0))))
+      IsPermutation-trans _ _ _ (rows_before h b k is (λ c x. flat_map (f c) x.pledges)) (IsPermutation-trans _ _ _
+      (append_same _ _ more (IsPermutation-trans _ _ _ (IsPermutation-flat_map (f b) _ _ inner.1) (IsPermutation-same _ _ (flat_those (f b) stood inner.0))))
       (IsPermutation-same _ _ (append_assoc (rows_at stood (f b)) (flat_map (f b) inner.0) more)))
 
   pub after_put : (f : ℕ → PledgeValue → List Row) → IsPermutation (of_pledges changed f) (f b p ++ rest f)
-  after_put f =
-      let inner = put_split n p 1 k.pledges in
+  after_put f = let inner = put_split n p 1 k.pledges in
       let more = rows_beside h b k is (λ c x. flat_map (f c) x.pledges) in
-      IsPermutation-trans _ _ _ (rows_after h b k is next (λ c x. flat_map (f c) x.pledges))
-      (IsPermutation-trans _ _ _ (append_same _ _ more (IsPermutation-flat_map (f b) _ _ inner.2)) (IsPermutation-same _ _ (append_assoc (f b p) (flat_map (f b) inner.0) more)))
+      IsPermutation-trans _ _ _ (rows_after h b k is next (λ c x. flat_map (f c) x.pledges)) (IsPermutation-trans _ _ _
+      (append_same _ _ more (IsPermutation-flat_map (f b) _ _ inner.2)) (IsPermutation-same _ _ (append_assoc (f b p) (flat_map (f b) inner.0) more)))
 
-  own_rows : (f : ℕ → PledgeValue → List Row) → AreBooksOrdered h → ((m : ℕ) (q : PledgeValue) → AreUnder m q.agreement.number (f m q)) → (o : Option PledgeValue) → stood ≡ o → filter (at_pledge b n) (rows_at o (f b)) ≡ rows_at o (f b)
+  own_rows : (f : ℕ → PledgeValue → List Row) → AreBooksOrdered h → ((m : ℕ) (q : PledgeValue) → AreUnder m q.agreement.number (f m q))
+      → (o : Option PledgeValue) → stood ≡ o → filter (at_pledge b n) (rows_at o (f b)) ≡ rows_at o (f b)
   own_rows f ordered under' None e = refl
-  own_rows f ordered under' (Some q) e = all_under b n (f b q) (subst (λ m. AreUnder b m (f b q)) (number_in h b n q ordered (ap (λ x. pledge_in x n) is ∙ e)) (under' b q))
+  own_rows f ordered under' (Some q) e =
+      all_under b n (f b q) (subst (λ m. AreUnder b m (f b q)) (number_in h b n q ordered (ap (λ x. pledge_in x n) is ∙ e)) (under' b q))
 
   -- none of them is of the pledge
-  pub none_rest : (f : ℕ → PledgeValue → List Row) → AreBooksOrdered h → ((m : ℕ) (q : PledgeValue) → AreUnder m q.agreement.number (f m q)) → filter (at_pledge b n) (rest f) ≡ []
+  pub none_rest : (f : ℕ → PledgeValue → List Row) → AreBooksOrdered h → ((m : ℕ) (q : PledgeValue) → AreUnder m q.agreement.number (f m q))
+      → filter (at_pledge b n) (rest f) ≡ []
   none_rest f ordered under' =
-      let mine : filter (at_pledge b n) (of_pledges h f) ≡ rows_at stood (f b) = of_one_pledge h b n f ordered under' ∙ ap (λ o. rows_at (pledge_in o n) (f b)) is in
-      let own = own_rows f ordered under' stood refl in
-      let len = length_permutation _ _ (IsPermutation-filter (at_pledge b n) _ _ (before_put f)) in
+      let mine : filter (at_pledge b n) (of_pledges h f) ≡ rows_at stood (f b) = of_one_pledge h b n f ordered under'
+      ∙ ap (λ o. rows_at (pledge_in o n) (f b)) is in
+      let own = own_rows f ordered under' stood refl in let len = length_permutation _ _ (IsPermutation-filter (at_pledge b n) _ _ (before_put f)) in
       let left : length (filter (at_pledge b n) (of_pledges h f)) ≡ length (rows_at stood (f b)) = ap length mine in
       let right : length (filter (at_pledge b n) (rows_at stood (f b) ++ rest f)) ≡ length (rows_at stood (f b)) + length (filter (at_pledge b n) (rest f)) =
-      ap length (filter-append (at_pledge b n) (rows_at stood (f b)) (rest f) ∙ ap (λ l. l ++ filter (at_pledge b n) (rest f)) own) ∙ length-append (rows_at stood (f b)) (filter (at_pledge b n) (rest f)) in
+      ap length (filter-append (at_pledge b n) (rows_at stood (f b)) (rest f) ∙ ap (λ l. l ++ filter (at_pledge b n) (rest f)) own)
+      ∙ length-append (rows_at stood (f b)) (filter (at_pledge b n) (rest f)) in
       nil_from_length (filter (at_pledge b n) (rest f)) (omega (arith, len, left, right))
 
   -- the rows of a pledge that joins the book
   pub rows_joined : (f : ℕ → PledgeValue → List Row) → stood ≡ None → IsPermutation (of_pledges changed f) (f b p ++ of_pledges h f)
-  rows_joined f none = more_joined [] (f b p) (f b p) (rest f) _ _ (subst (λ o. IsPermutation (of_pledges h f) (rows_at o (f b) ++ rest f)) none (before_put f)) (after_put f) refl
+  rows_joined f none = more_joined [] (f b p) (f b p) (rest f) _ _ (subst (λ o. IsPermutation (of_pledges h f) (rows_at o (f b) ++ rest f)) none (before_put f))
+      (after_put f) refl
 
   -- the rows of one that stands, where rows joined its own
-  pub rows_grown : (f : ℕ → PledgeValue → List Row) (old : PledgeValue) (more : List Row) → stood ≡ Some old → f b p ≡ f b old ++ more → IsPermutation (of_pledges changed f) (more ++ of_pledges h f)
-  rows_grown f old more some is_grown = more_joined (f b old) (f b p) more (rest f) _ _ (subst (λ o. IsPermutation (of_pledges h f) (rows_at o (f b) ++ rest f)) some (before_put f)) (after_put f) is_grown
+  pub rows_grown : (f : ℕ → PledgeValue → List Row) (old : PledgeValue) (more : List Row) → stood ≡ Some old → f b p ≡ f b old ++ more
+      → IsPermutation (of_pledges changed f) (more ++ of_pledges h f)
+  rows_grown f old more some is_grown = more_joined (f b old) (f b p) more (rest f) _ _
+      (subst (λ o. IsPermutation (of_pledges h f) (rows_at o (f b) ++ rest f)) some (before_put f)) (after_put f) is_grown
 
   -- as many pledges stand as before
-  pub books_stay : length next.pledges ≡ length k.pledges → IsPermutation (map (λ (e : ℕ × BookValue). book_row e.0 e.1) (entries changed.books)) (map (λ (e : ℕ × BookValue). book_row e.0 e.1) (entries h.books))
+  pub books_stay : length next.pledges ≡ length k.pledges
+      → IsPermutation (map (λ (e : ℕ × BookValue). book_row e.0 e.1) (entries changed.books)) (map (λ (e : ℕ × BookValue). book_row e.0 e.1) (entries h.books))
   books_stay as_many =
-      let same : book_row b next ≡ book_row b k = ap (λ m. number b ∷ word k.key ∷ Text k.name ∷ number k.capacity ∷ number (length k.terms) ∷ number m ∷ or_null word (import_key k.imported) ∷ or_null number (import_count k.imported) ∷ []) as_many in
-      IsPermutation-trans _ _ _ (subst (λ r. IsPermutation (map (λ (e : ℕ × BookValue). book_row e.0 e.1) (entries changed.books)) (r ∷ other_books h b k is)) same (books_after h b k is next)) (IsPermutation-sym _ _ (only_book h b k is 0).split)
+      let same : book_row b next ≡ book_row b k = ap (λ m. number b ∷ word k.key ∷ Text k.name ∷ number k.capacity ∷ number (length k.terms) ∷ number m
+      ∷ or_null word (import_key k.imported) ∷ or_null number (import_count k.imported) ∷ []) as_many in
+      IsPermutation-trans _ _ _ (subst (λ r. IsPermutation (map (λ (e : ℕ × BookValue). book_row e.0 e.1) (entries changed.books)) (r ∷ other_books h b k is))
+      same (books_after h b k is next)) (IsPermutation-sym _ _ (only_book h b k is 0).split)
 
   -- ---- how many rows are counted
 
   pub rows_put : rows changed + part pledge_rows stood ≡ rows h + pledge_rows p
-  rows_put =
-      let sums = rows-with_book h b next in
-      let before : part book_rows (get h.books b) ≡ book_rows k = ap (part book_rows) is in
-      let pledges = put_sums n p 1 k.pledges in
+  rows_put = let sums = rows-with_book h b next in
+      let before : part book_rows (get h.books b) ≡ book_rows k = ap (part book_rows) is in let pledges = put_sums n p 1 k.pledges in
       omega (arith, sums, before, pledges)
 
   -- a sound host has numbered pledges

@@ -1,14 +1,16 @@
 -- Rows that are put one after another.
-use Rattle.pawn_saving.proofs.Basics.{◌≡◌, ◌++◌, ◌==◌, false, ℕ, ◌+◌, ◌<◌, List, [], ◌∷◌, map, take, length, get_or, Bool, true, IsTrue, refl, sym, ap, subst, ◌∙◌, arith, IsPermutation, if◌then◌else◌, Database, Row, HasCleanDisk, State, IsLent, Listed, with_rows, ListsOurs, placed_from, nat_tests, length-take-le, map-append, take_more, IsPermutation-append, IsPermutation-append_comm, IsPermutation-refl, clean_before, kept_then, same_tree, IsCarried}
-use Rattle.sqlite.proofs.StateLemmas.{survives_then}
-use Rattle.pawn_saving.proofs.Hosting.{relisted_by}
+use Rattle.std.proofs.Common.{◌≡◌, ◌++◌, ◌==◌, false, ℕ, ◌+◌, ◌<◌, List, [], ◌∷◌, map, take, length, get_or, Bool, true, IsTrue, refl, sym, ap, subst, ◌∙◌}
+use Rattle.{std.proofs.Common.{arith, IsPermutation, if◌then◌else◌, length-take-le, inl}, pawn_saving.specs.Common.{Database, with_rows, ListsOurs}}
+use Rattle.pawn_saving.proofs.Basics.{map-append, take_more, IsPermutation-append, IsPermutation-append_comm, IsPermutation-refl, clean_before, same_tree}
+use Rattle.{pawn_saving.{proofs.Hosting.relisted_by, specs.Writing.IsCarried}, one_table.proofs.Parts.kept_then, pawn_tables.specs.Common.{Row, HasCleanDisk}}
+use Rattle.{pawn_tables.{specs.{Common.{State, IsLent, Listed}, Rows.placed_from}, proofs.Basics.nat_tests}, sqlite.proofs.StateLemmas.survives_then}
 
 -- nothing was done
 pub carried_none : (s : State) → IsCarried s s true
 carried_none s = record {
   kept = λ clean within. record { was_open = λ now. now; committed = λ now. refl };
   inside = λ clean within ok. within;
-  survives = record { clean = omega arith; shield = λ h. h; counts = omega arith; limit = refl; closes = λ clean now. Rattle.std.proofs.Common.inl now; crash = λ clean db left. Rattle.std.proofs.Common.inl left };
+  survives = record { clean = omega arith; shield = λ h. h; counts = omega arith; limit = refl; closes = λ clean now. inl now; crash = λ clean db x. inl x };
 }
 
 pub past : (a b : State) (ok : Bool) → IsCarried a b ok → HasCleanDisk b → HasCleanDisk a
@@ -29,34 +31,34 @@ pub carried_then : (a b c : State) (ok : Bool) → IsCarried a b true → IsLent
 carried_then a b c ok f s = both_carried a b c ok f (is_carried b c ok s)
 
 pub lent_carried : (a b c : State) (ok : Bool) → IsLent a b true → IsCarried b c ok → IsLent a c ok
-lent_carried a b c ok f s =
-    let both = both_carried a b c ok (is_carried a b true f) s in
+lent_carried a b c ok f s = let both = both_carried a b c ok (is_carried a b true f) s in
     record { kept = both.kept; opened = λ clean within is_ok. f.opened (past b c ok s clean) within refl; inside = both.inside; survives = both.survives }
 
 -- the disk was clean, and the transaction went on, where the second and the third of three parts began
-pub of_three : {old one two new : State} {ok : Bool} → IsCarried old one true → IsCarried one two true → IsCarried two new ok → HasCleanDisk new → IsTrue old.in_transaction
-    → HasCleanDisk one × IsTrue one.in_transaction × HasCleanDisk two × IsTrue two.in_transaction
-of_three {old = old} {one = one} {two = two} {new = new} {ok = ok} f s t clean within =
-    let clean2 = past two new ok t clean in
-    let clean1 = past one two true s clean2 in
-    let within1 = f.inside clean1 within refl in
+pub of_three : {old one two new : State} {ok : Bool} → IsCarried old one true → IsCarried one two true → IsCarried two new ok → HasCleanDisk new
+    → IsTrue old.in_transaction → HasCleanDisk one × IsTrue one.in_transaction × HasCleanDisk two × IsTrue two.in_transaction
+of_three {old = old} {one = one} {two = two} {new = new} {ok = ok} f s t clean within = let clean2 = past two new ok t clean in
+    let clean1 = past one two true s clean2 in let within1 = f.inside clean1 within refl in
     (clean1, within1, clean2, s.inside clean2 within1 refl)
 
 -- what was lent and went well, whatever comes of it then
 pub lent_anyway : (a b : State) → IsLent a b true → (ok : Bool) → IsLent a b ok
-lent_anyway a b f ok = record { kept = f.kept; opened = λ clean within is_ok. f.opened clean within refl; inside = λ clean within is_ok. f.inside clean within refl; survives = f.survives }
+lent_anyway a b f ok =
+    record { kept = f.kept; opened = λ clean begun o. f.opened clean begun refl; inside = λ clean begun o. f.inside clean begun refl; survives = f.survives }
 
 -- the rows that were put so far have joined the others of their table
 pub record ArePut (tree : ℕ) (old new : State) (rows : List Row) : Type 0 where
   pub carried : IsCarried old new true
-  pub lists : HasCleanDisk new → IsTrue old.in_transaction → (listed : Listed) → ListsOurs old.now listed → ListsOurs new.now (with_rows listed tree (rows ++ listed tree))
+  pub lists : HasCleanDisk new → IsTrue old.in_transaction → (listed : Listed) → ListsOurs old.now listed
+      → ListsOurs new.now (with_rows listed tree (rows ++ listed tree))
 
 -- the rows of one table, put again or in another order
 again : (b : Bool) (xs ys rest : List Row) → IsPermutation xs ys → IsPermutation (if b then xs else rest) (if b then ys else rest)
 again true xs ys rest same = same
 again false xs ys rest same = IsPermutation-refl rest
 
-pub reordered : (db : Database) (listed : Listed) (tree : ℕ) (xs ys : List Row) → IsPermutation xs ys → ListsOurs db (with_rows listed tree ys) → ListsOurs db (with_rows listed tree xs)
+pub reordered : (db : Database) (listed : Listed) (tree : ℕ) (xs ys : List Row) → IsPermutation xs ys → ListsOurs db (with_rows listed tree ys)
+    → ListsOurs db (with_rows listed tree xs)
 reordered db listed tree xs ys same l = relisted_by db _ _ (λ t. again (t == tree) xs ys (listed t) same) l
 
 -- the rows of a table are put in place of others that were put before
@@ -64,7 +66,8 @@ over : (b : Bool) (xs ys rest : List Row) → IsPermutation (if b then xs else r
 over true xs ys rest = IsPermutation-refl xs
 over false xs ys rest = IsPermutation-refl rest
 
-pub put_over : (db : Database) (listed : Listed) (tree : ℕ) (xs ys : List Row) → ListsOurs db (with_rows (with_rows listed tree ys) tree xs) → ListsOurs db (with_rows listed tree xs)
+pub put_over : (db : Database) (listed : Listed) (tree : ℕ) (xs ys : List Row) → ListsOurs db (with_rows (with_rows listed tree ys) tree xs)
+    → ListsOurs db (with_rows listed tree xs)
 put_over db listed tree xs ys l = relisted_by db _ _ (λ t. over (t == tree) xs ys (listed t)) l
 
 -- a table as it is
@@ -83,12 +86,12 @@ here_put : (tree : ℕ) (listed : Listed) (rows : List Row) → with_rows listed
 here_put tree listed rows = ap (λ b. if b then rows else listed tree) (same_tree tree)
 
 pub one_put : (tree : ℕ) (old mid new : State) (rows next : List Row) (row : Row) → next ≡ rows ++ row ∷ [] → ArePut tree old mid rows → IsLent mid new true
-    → (HasCleanDisk new → IsTrue mid.in_transaction → (listed : Listed) → ListsOurs mid.now listed → ListsOurs new.now (with_rows listed tree (row ∷ listed tree))) → ArePut tree old new next
+    → (HasCleanDisk new → IsTrue mid.in_transaction → (listed : Listed) → ListsOurs mid.now listed
+    → ListsOurs new.now (with_rows listed tree (row ∷ listed tree))) → ArePut tree old new next
 one_put tree old mid new rows next row is put lent wrote = subst (ArePut tree old new) (sym is) (record {
   carried = carried_then old mid new true put.carried lent;
   lists = λ clean within listed l.
-      let was = clean_before mid new true lent clean in
-      let so_far = with_rows listed tree (rows ++ listed tree) in
+      let was = clean_before mid new true lent clean in let so_far = with_rows listed tree (rows ++ listed tree) in
       let one = wrote clean (put.carried.inside was within refl) so_far (put.lists was within listed l) in
       let shown = subst (λ rs. ListsOurs new.now (with_rows so_far tree (row ∷ rs))) (here_put tree listed (rows ++ listed tree)) one in
       reordered new.now listed tree _ _ (at_end rows (listed tree) row) (put_over new.now listed tree _ _ shown);
@@ -99,16 +102,18 @@ one_put tree old mid new rows next row is put lent wrote = subst (ArePut tree ol
 pub until : {A : Type 0} (xs : List A) (i : ℕ) (x : A) → i < length xs → x ≡ get_or xs i x → take (i + 1) xs ≡ take i xs ++ x ∷ []
 until xs i x lt is = take_more xs i x lt ∙ ap (λ y. take i xs ++ y ∷ []) (sym is)
 
-pub take_map : {A : Type 0} (f : A → Row) (xs : List A) (i : ℕ) (x : A) → i < length xs → x ≡ get_or xs i x → map f (take (i + 1) xs) ≡ map f (take i xs) ++ f x ∷ []
+pub take_map : {A : Type 0} (f : A → Row) (xs : List A) (i : ℕ) (x : A) → i < length xs → x ≡ get_or xs i x
+    → map f (take (i + 1) xs) ≡ map f (take i xs) ++ f x ∷ []
 take_map f xs i x lt is = ap (map f) (until xs i x lt is) ∙ map-append f (take i xs) (x ∷ [])
 
 -- ---- the elements so far, with their places
 
-pub placed_parts : {A : Type 0} (f : ℕ → A → Row) (at next : ℕ) (xs ys : List A) → next ≡ at + length xs → placed_from f at (xs ++ ys) ≡ placed_from f at xs ++ placed_from f next ys
+pub placed_parts : {A : Type 0} (f : ℕ → A → Row) (at next : ℕ) (xs ys : List A) → next ≡ at + length xs
+    → placed_from f at (xs ++ ys) ≡ placed_from f at xs ++ placed_from f next ys
 placed_parts f at next [] ys is = let same : at ≡ next = omega (arith, is) in ap (λ n. placed_from f n ys) same
 placed_parts f at next (x ∷ xs) ys is = ap (λ l. f at x ∷ l) (placed_parts f (at + 1) next xs ys (omega (arith, is)))
 
-pub take_placed : {A : Type 0} (f : ℕ → A → Row) (from at : ℕ) (xs : List A) (i : ℕ) (x : A) → i < length xs → x ≡ get_or xs i x → at ≡ from + i → placed_from f from (take (i + 1) xs) ≡ placed_from f from (take i xs) ++ f at x ∷ []
-take_placed f from at xs i x lt is place =
-    let len = length-take-le i xs (omega (arith, lt)) in
+pub take_placed : {A : Type 0} (f : ℕ → A → Row) (from at : ℕ) (xs : List A) (i : ℕ) (x : A) → i < length xs → x ≡ get_or xs i x → at ≡ from + i
+    → placed_from f from (take (i + 1) xs) ≡ placed_from f from (take i xs) ++ f at x ∷ []
+take_placed f from at xs i x lt is place = let len = length-take-le i xs (omega (arith, lt)) in
     ap (placed_from f from) (until xs i x lt is) ∙ placed_parts f from at (take i xs) (x ∷ []) (omega (arith, len, place))

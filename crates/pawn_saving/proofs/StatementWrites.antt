@@ -1,13 +1,18 @@
 -- What the statements of a change write.
-use Rattle.pawn_saving.proofs.Basics.{◌≡◌, ◌/◌, inl, inr, ℕ, ℤ, pos, List, [], ◌∷◌, ◌++◌, length, Bool, true, false, ◌&&◌, ◌||◌, ◌==◌, Option, Some, None, Result, Ok, Err, refl, subst, arith, ◌∙◌, IsPermutation, filter, credit_of, OnOk, option_map, list_all, conflicts, cast, cast_row, Chosen, Index, Integer, Row, Term, column, Executes, State, Table, Value, Blob, Int, Null, Text, Rates, Entry, Totals, Booking, Extension, Issued, Listed, PledgeValue, columns_of, end_of, value_rows, with_rowid, with_rows, at_pledge, is_at, AreLoose, ListsOurs, with_indexes, at_most_one, booking_cells, closed_amount, closed_day, closed_number, entry_cells, extension_cells, flag_number, issue_number, kind_number, number, or_null, pledge_cells, secret_cells, sort_number, state_number, terms_cells, totals_cells, under, word, IsPlace, Puts, nat_tests, cast_int, cast_null, cast_whole, plainly, equals, terms, pledges, secrets, bookings, totals, extensions, bookings_tree, entries_tree, extensions_tree, pledges_tree, secrets_tree, terms_tree, totals_tree, IsOnly}
-use Rattle.pawn_tables.proofs.PlacedRows.{regroup}
-use Rattle.sqlite_value.specs.Keys.{first_key}
-use Rattle.one_table.proofs.Upsertion.{upserted, Splits}
-use Rattle.pawn_tables.specs.Schema.{entries}
-use Rattle.pawn_saving.proofs.Differing.{differ, all_equal, same_number}
-use Rattle.pawn_saving.proofs.OurTables.{meets_same, row_joins, row_set_where, under_same}
+use Rattle.std.proofs.Common.{◌≡◌, ◌/◌, inl, inr, ℕ, ℤ, pos, List, [], ◌∷◌, ◌++◌, length, Bool, true, false, ◌&&◌, ◌||◌, ◌==◌, Option, Some, None, Result, Ok}
+use Rattle.{std.proofs.Common.{Err, refl, subst, arith, ◌∙◌, IsPermutation, filter, OnOk, option_map}, pawn_debt.specs.Due.credit_of}
+use Rattle.pawn_saving.{proofs.Basics.{IsPlace, Puts, cast_int, cast_null, cast_whole, plainly, equals}, specs.Common.{cast, cast_row, Chosen, Integer}}
+use Rattle.pawn_saving.{specs.{Common.{value_rows, with_rowid, with_rows, AreLoose, ListsOurs}, Writing.IsOnly}, proofs.Differing.{differ, all_equal}}
+use Rattle.pawn_saving.proofs.{Differing.same_number, OurTables.{meets_same, row_joins, row_set_where, under_same}, Places.{terms_place, entries_place}}
+use Rattle.{pawn_saving.proofs.Places.{pledges_place, secrets_place, bookings_place, totals_place, extensions_place}, pawn_tables.specs.Common.list_all}
+use Rattle.pawn_tables.specs.Common.{Index, Row, Term, column, Executes, State, Table, Value, Blob, Int, Null, Text, Rates, Entry, Totals, Booking, Extension}
+use Rattle.pawn_tables.specs.{Common.{Issued, Listed, PledgeValue, columns_of, end_of}, At.{at_pledge, is_at}, Ours.with_indexes, Rows.at_most_one}
+use Rattle.pawn_tables.specs.Rows.{booking_cells, closed_amount, closed_day, closed_number, entry_cells, extension_cells, flag_number, issue_number}
+use Rattle.pawn_tables.specs.Rows.{kind_number, number, or_null, pledge_cells, secret_cells, sort_number, state_number, terms_cells, totals_cells, under, word}
+use Rattle.pawn_tables.{proofs.Basics.nat_tests, specs.Schema.{terms, pledges, secrets, bookings, totals, extensions, bookings_tree, entries_tree}}
+use Rattle.pawn_tables.{specs.Schema.{extensions_tree, pledges_tree, secrets_tree, terms_tree, totals_tree, entries}, proofs.PlacedRows.regroup}
+use Rattle.{sqlite_rules.specs.Keys.conflicts, sqlite_value.specs.Keys.first_key, one_table.proofs.Upsertion.{upserted, Splits}}
 use Rattle.pawn_saving.proofs.WriteTexts as text
-use Rattle.pawn_saving.proofs.Places.{terms_place, entries_place, pledges_place, secrets_place, bookings_place, totals_place, extensions_place}
 
 -- where a statement ran, what it wrote
 pub on_ran : {E : Type 0} (r : Result (Unit {0}) E) (P : ℕ → Type 0) (Q : Type 0) → OnOk r ((count : ℕ) × P count) → ((count : ℕ) → P count → Q) → OnOk r Q
@@ -16,12 +21,12 @@ on_ran (Err e) P Q ran f = tt
 
 -- a row of the pledge passes the test
 pub own_row : (b n : ℕ) (cells : Row) → at_pledge b n (under b n cells) ≡ true
-own_row b n cells =
-    let x : (b == b) ≡ true = grind (arith, nat_tests) in let y : (n == n) ≡ true = grind (arith, nat_tests) in
+own_row b n cells = let x : (b == b) ≡ true = grind (arith, nat_tests) in let y : (n == n) ≡ true = grind (arith, nat_tests) in
     (λ i. equals b b i && (equals n n i && true)) ∙ rw (x, y) refl
 
 -- a row of the pledge, of which more is asked
-pub own_where : (b n : ℕ) (v : Row) (more : Bool) → list_all (λ (x : Bool). x) (is_at (column v 0) (number b) ∷ is_at (column v 1) (number n) ∷ more ∷ []) ≡ (at_pledge b n v && more)
+pub own_where : (b n : ℕ) (v : Row) (more : Bool)
+    → list_all (λ (x : Bool). x) (is_at (column v 0) (number b) ∷ is_at (column v 1) (number n) ∷ more ∷ []) ≡ (at_pledge b n v && more)
 own_where b n v more = regroup (is_at (column v 0) (number b)) (is_at (column v 1) (number n)) more
 
 -- the totals of a row, beside what is to stand there, after the day
@@ -43,96 +48,102 @@ module _ (old new : State) (listed : Listed) (st : ListsOurs old.now listed) (co
   abbrev pub Joined : List ℕ → ℕ → Row → Type 0
   Joined text tree row = Executes text row old new (Ok count) → ListsOurs new.now (with_rows listed tree (row ∷ listed tree))
 
-  put : (at : ℕ) (t : Table) (terms : List Term) (width : ℕ) (sql : List ℕ) → ((more : List Index) → IsPlace (with_indexes more) at t) → ((more : List Index) → Puts (with_indexes more) sql at terms width)
-      → (row : Row) → value_rows row width (length terms / width) terms ≡ (Null ∷ row) ∷ [] → cast_row (plainly t) (Null ∷ row) ≡ Null ∷ row → ((rows : List Row) → columns_of (plainly t) (with_rowid Chosen rows (Null ∷ row)) ≡ row) → Joined sql t.tree row
+  put : (at : ℕ) (t : Table) (terms : List Term) (width : ℕ) (sql : List ℕ) → ((more : List Index) → IsPlace (with_indexes more) at t) → ((more : List Index)
+      → Puts (with_indexes more) sql at terms width) → (row : Row) → value_rows row width (length terms / width) terms ≡ (Null ∷ row) ∷ [] → cast_row
+      (plainly t) (Null ∷ row) ≡ Null ∷ row → ((rows : List Row) → columns_of (plainly t) (with_rowid Chosen rows (Null ∷ row)) ≡ row) → Joined sql t.tree row
   put at t terms width sql there puts row = row_joins at t terms width sql there puts old new row (Null ∷ row) (Null ∷ row) row count listed st
 
   pub entry_wrote : (b n : ℕ) (e : Entry) → Joined text.PUT_ENTRY.now entries_tree (under b n (entry_cells e))
-  entry_wrote b n e =
-      put 3 (record entries { tree = entries_tree }) text.six_values 7 text.PUT_ENTRY.now entries_place (λ more. (text.texts more).entry_is) (under b n (entry_cells e)) refl
-      (λ i. cast_null i ∷ cast_int b i ∷ cast_int n i ∷ cast_int e.seq i ∷ cast_int e.day i ∷ cast_int (sort_number e.sort) i ∷ cast_int e.pence i ∷ []) (λ rows. refl)
+  entry_wrote b n e = put 3 (record entries { tree = entries_tree }) text.six_values 7 text.PUT_ENTRY.now entries_place (λ more. (text.texts more).entry_is)
+      (under b n (entry_cells e)) refl (λ i. cast_null i ∷ cast_int b i ∷ cast_int n i ∷ cast_int e.seq i ∷ cast_int e.day i ∷ cast_int (sort_number e.sort) i
+      ∷ cast_int e.pence i ∷ []) (λ rows. refl)
 
-  pub secret_wrote : (b n s : ℕ) (w : List ℕ) (e : Issued) → Blob w ≡ word e.secret → Executes text.PUT_SECRET.now (number b ∷ number n ∷ number s ∷ number e.day ∷ number (issue_number e.sort) ∷ Blob w ∷ []) old new (Ok count)
+  pub secret_wrote : (b n s : ℕ) (w : List ℕ) (e : Issued) → Blob w ≡ word e.secret
+      → Executes text.PUT_SECRET.now (number b ∷ number n ∷ number s ∷ number e.day ∷ number (issue_number e.sort) ∷ Blob w ∷ []) old new (Ok count)
       → ListsOurs new.now (with_rows listed secrets_tree (under b n (secret_cells s e) ∷ listed secrets_tree))
   secret_wrote b n s w e secret h =
-      put 4 (record secrets { tree = secrets_tree }) text.six_values 7 text.PUT_SECRET.now secrets_place (λ more. (text.texts more).secret_is) (under b n (secret_cells s e)) refl
-      (λ i. cast_null i ∷ cast_int b i ∷ cast_int n i ∷ cast_int s i ∷ cast_int e.day i ∷ cast_int (issue_number e.sort) i ∷ word e.secret ∷ []) (λ rows. refl) (rw secret at h)
+      put 4 (record secrets { tree = secrets_tree }) text.six_values 7 text.PUT_SECRET.now secrets_place (λ more. (text.texts more).secret_is)
+      (under b n (secret_cells s e)) refl (λ i. cast_null i ∷ cast_int b i ∷ cast_int n i ∷ cast_int s i ∷ cast_int e.day i ∷ cast_int (issue_number e.sort) i
+      ∷ word e.secret ∷ []) (λ rows. refl) (rw secret at h)
 
   pub extension_wrote : (b n s : ℕ) (e : Extension) → Joined text.PUT_EXTENSION.now extensions_tree (under b n (extension_cells s e))
   extension_wrote b n s e =
-      put 8 (record extensions { tree = extensions_tree }) text.five_values 6 text.PUT_EXTENSION.now extensions_place (λ more. (text.texts more).extension_is) (under b n (extension_cells s e)) refl
+      put 8 (record extensions { tree = extensions_tree }) text.five_values 6 text.PUT_EXTENSION.now extensions_place (λ more. (text.texts more).extension_is)
+      (under b n (extension_cells s e)) refl
       (λ i. cast_null i ∷ cast_int b i ∷ cast_int n i ∷ cast_int s i ∷ cast_int e.day i ∷ cast_int e.until i ∷ []) (λ rows. refl)
 
   pub terms_wrote : (b v : ℕ) (t : Rates) → Joined text.PUT_TERMS.now terms_tree (number b ∷ number v ∷ terms_cells t)
-  terms_wrote b v t =
-      put 1 (record terms { tree = terms_tree }) text.five_values 6 text.PUT_TERMS.now terms_place (λ more. (text.texts more).terms_is) (number b ∷ number v ∷ terms_cells t) refl
+  terms_wrote b v t = put 1 (record terms { tree = terms_tree }) text.five_values 6 text.PUT_TERMS.now terms_place (λ more. (text.texts more).terms_is)
+      (number b ∷ number v ∷ terms_cells t) refl
       (λ i. cast_null i ∷ cast_int b i ∷ cast_int v i ∷ cast_int t.rate i ∷ cast_int t.keep_before i ∷ cast_int t.keep_after i ∷ []) (λ rows. refl)
 
-  pub new_totals_wrote : (b n : ℕ) (c : ℤ) (t : Totals) → c ≡ pos t.millionths → Executes text.PUT_TOTALS.now (number b ∷ number n ∷ number t.day ∷ number t.principal ∷ Int c ∷ []) old new (Ok count)
-      → ListsOurs new.now (with_rows listed totals_tree (under b n (totals_cells t) ∷ listed totals_tree))
+  pub new_totals_wrote : (b n : ℕ) (c : ℤ) (t : Totals) → c ≡ pos t.millionths → Executes text.PUT_TOTALS.now (number b ∷ number n ∷ number t.day
+      ∷ number t.principal ∷ Int c ∷ []) old new (Ok count) → ListsOurs new.now (with_rows listed totals_tree (under b n (totals_cells t) ∷ listed totals_tree))
   new_totals_wrote b n c t charges h =
-      put 7 (record totals { tree = totals_tree }) text.five_values 6 text.PUT_TOTALS.now totals_place (λ more. (text.texts more).new_totals_is) (under b n (totals_cells t)) refl
-      (λ i. cast_null i ∷ cast_int b i ∷ cast_int n i ∷ cast_int t.day i ∷ cast_int t.principal i ∷ cast_int t.millionths i ∷ []) (λ rows. refl) (rw charges at h)
+      put 7 (record totals { tree = totals_tree }) text.five_values 6 text.PUT_TOTALS.now totals_place (λ more. (text.texts more).new_totals_is)
+      (under b n (totals_cells t)) refl (λ i. cast_null i ∷ cast_int b i ∷ cast_int n i ∷ cast_int t.day i ∷ cast_int t.principal i ∷ cast_int t.millionths i
+      ∷ []) (λ rows. refl) (rw charges at h)
 
-  pub row_wrote : (b n : ℕ) (r a : List ℕ) (k c t : ℕ) (g : Value) (f v e h l x : ℕ) (y z : Value) (p : PledgeValue) → r ≡ p.agreement.opening.reference → a ≡ p.agreement.opening.article → k ≡ kind_number p.agreement.opening.kind
-      → c ≡ credit_of p.agreement.opening.kind → t ≡ p.agreement.taken → g ≡ or_null number p.agreement.opening.agreed → f ≡ flag_number p.agreement.opening.five_days → v ≡ p.agreement.version → e ≡ end_of p → h ≡ flag_number p.standing.held
-      → l ≡ p.standing.last → x ≡ closed_number p.standing.closing → y ≡ or_null number (closed_day p.standing.closing) → z ≡ or_null number (closed_amount p.standing.closing)
-      → Executes text.PUT_PLEDGE.now (number b ∷ number n ∷ Text r ∷ Text a ∷ number k ∷ number c ∷ number t ∷ g ∷ number f ∷ number v ∷ number e ∷ number h ∷ number l ∷ number x ∷ y ∷ z ∷ []) old new (Ok count)
-      → ListsOurs new.now (with_rows listed pledges_tree (under b n (pledge_cells p) ∷ listed pledges_tree))
-  row_wrote b n r a k c t g f v e h l x y z p rs as' ks cs ts gs fs vs es hs ls xs ys zs ran =
+  pub row_wrote : (b n : ℕ) (reference article : List ℕ) (kind credit taken : ℕ) (agreed : Value) (five_days version ends held last closed : ℕ)
+      (closed_on amount : Value) (p : PledgeValue) → reference ≡ p.agreement.opening.reference → article ≡ p.agreement.opening.article → kind ≡ kind_number
+      p.agreement.opening.kind → credit ≡ credit_of p.agreement.opening.kind → taken ≡ p.agreement.taken → agreed ≡ or_null number p.agreement.opening.agreed
+      → five_days ≡ flag_number p.agreement.opening.five_days → version ≡ p.agreement.version → ends ≡ end_of p → held ≡ flag_number p.standing.held
+      → last ≡ p.standing.last → closed ≡ closed_number p.standing.closing → closed_on ≡ or_null number (closed_day p.standing.closing)
+      → amount ≡ or_null number (closed_amount p.standing.closing) → Executes text.PUT_PLEDGE.now (number b ∷ number n ∷ Text reference ∷ Text article
+      ∷ number kind ∷ number credit ∷ number taken ∷ agreed ∷ number five_days ∷ number version ∷ number ends ∷ number held ∷ number last ∷ number closed
+      ∷ closed_on ∷ amount ∷ []) old new (Ok count) → ListsOurs new.now (with_rows listed pledges_tree (under b n (pledge_cells p) ∷ listed pledges_tree))
+  row_wrote b n _ _ _ _ _ _ _ _ _ _ _ _ _ _ p reference article kind credit taken agreed five_days version ends held last closed closed_on amount ran =
       let o = p.agreement.opening in
-      put 2 (record pledges { tree = pledges_tree }) text.sixteen_values 17 text.PUT_PLEDGE.now pledges_place (λ more. (text.texts more).pledge_is) (under b n (pledge_cells p)) refl
-      (λ i. cast_null i ∷ cast_int b i ∷ cast_int n i ∷ Text o.reference ∷ Text o.article ∷ cast_int (kind_number o.kind) i ∷ cast_int (credit_of o.kind) i ∷ cast_int p.agreement.taken i ∷ cast_optional o.agreed i
-      ∷ cast_int (flag_number o.five_days) i ∷ cast_int p.agreement.version i ∷ cast_int (end_of p) i ∷ cast_int (flag_number p.standing.held) i ∷ cast_int p.standing.last i
-      ∷ cast_int (closed_number p.standing.closing) i ∷ cast_optional (closed_day p.standing.closing) i ∷ cast_optional (closed_amount p.standing.closing) i ∷ []) (λ rows. refl)
-      (rw (rs, as', ks, cs, ts, gs, fs, vs, es, hs, ls, xs, ys, zs) at ran)
+      put 2 (record pledges { tree = pledges_tree }) text.sixteen_values 17 text.PUT_PLEDGE.now pledges_place (λ more. (text.texts more).pledge_is)
+      (under b n (pledge_cells p)) refl (λ i. cast_null i ∷ cast_int b i ∷ cast_int n i ∷ Text o.reference ∷ Text o.article ∷ cast_int (kind_number o.kind) i
+      ∷ cast_int (credit_of o.kind) i ∷ cast_int p.agreement.taken i ∷ cast_optional o.agreed i ∷ cast_int (flag_number o.five_days) i
+      ∷ cast_int p.agreement.version i ∷ cast_int (end_of p) i ∷ cast_int (flag_number p.standing.held) i ∷ cast_int p.standing.last i ∷ cast_int
+      (closed_number p.standing.closing) i ∷ cast_optional (closed_day p.standing.closing) i ∷ cast_optional (closed_amount p.standing.closing) i ∷ [])
+      (λ rows. refl) (rw (reference, article, kind, credit, taken, agreed, five_days, version, ends, held, last, closed, closed_on, amount) at ran)
 
   -- ---- rows that take the place of others
 
-  pub totals_wrote : (b n : ℕ) (c : ℤ) (t before : Totals) (rest : List Row) → c ≡ pos t.millionths → IsOnly (at_pledge b n) (listed totals_tree) (under b n (totals_cells before)) rest
-      → Executes text.SET_TOTALS.now (number b ∷ number n ∷ number t.day ∷ number t.principal ∷ Int c ∷ []) old new (Ok count) → ListsOurs new.now (with_rows listed totals_tree (under b n (totals_cells t) ∷ rest))
-  totals_wrote b n c t before rest charged only h =
-      let after : Row = under b n (totals_cells t) in
-      row_set_where 7 (record totals { tree = totals_tree }) totals_place (λ _. refl) text.totals_tests text.totals_shows text.SET_TOTALS.now (λ more. (text.texts more).totals_is)
-      old new after count listed st (at_pledge b n) (others_in t) (λ r. let v = columns_of (plainly (record totals { tree = totals_tree })) r in own_where b n v (others_in t v)) (under b n (totals_cells before)) after rest
-      only.split (own_row b n (totals_cells before)) only.none
-      (λ none.
+  pub totals_wrote : (b n : ℕ) (c : ℤ) (t before : Totals) (rest : List Row) → c ≡ pos t.millionths → IsOnly (at_pledge b n) (listed totals_tree)
+      (under b n (totals_cells before)) rest → Executes text.SET_TOTALS.now (number b ∷ number n ∷ number t.day ∷ number t.principal ∷ Int c ∷ []) old new
+      (Ok count) → ListsOurs new.now (with_rows listed totals_tree (under b n (totals_cells t) ∷ rest))
+  totals_wrote b n c t before rest charged only h = let after : Row = under b n (totals_cells t) in
+      row_set_where 7 (record totals { tree = totals_tree }) totals_place (λ _. refl) text.totals_tests text.totals_shows text.SET_TOTALS.now
+      (λ more. (text.texts more).totals_is)
+      old new after count listed st (at_pledge b n) (others_in t) (λ r. let v = columns_of (plainly (record totals { tree = totals_tree })) r in
+      own_where b n v (others_in t v)) (under b n (totals_cells before)) after rest
+      only.split (own_row b n (totals_cells before)) only.none (λ none.
       let same = all_equal (number before.day, number t.day) (beside t (under b n (totals_cells before))) none in
-      let day = same_number before.day t.day same.0 in
-      let principal = same_number before.principal t.principal same.1.0 in
+      let day = same_number before.day t.day same.0 in let principal = same_number before.principal t.principal same.1.0 in
       let charges = same_number before.millionths t.millionths same.1.1.0 in
-      (λ i. number b ∷ number n ∷ number (day i) ∷ number (principal i) ∷ number (charges i) ∷ []))
-      (λ id r at cols. (
+      (λ i. number b ∷ number n ∷ number (day i) ∷ number (principal i) ∷ number (charges i) ∷ [])) (λ id r at cols. (
         Int id ∷ after,
         after,
         (λ i. at i ∷ at i ∷ column (cols i) 0 ∷ column (cols i) 1 ∷ totals_cells t),
         (λ i. cast_whole id i ∷ cast_int b i ∷ cast_int n i ∷ cast_int t.day i ∷ cast_int t.principal i ∷ cast_int t.millionths i ∷ []),
         refl,
-      ))
-      (rw charged at h)
+      )) (rw charged at h)
 
 or_no : (x : Bool) → (x || false) ≡ x
 or_no true = refl
 or_no false = refl
 
 -- the rows that a booking meets are those of its pledge
-meets : (more : List Index) → AreLoose more → (b n d w s : ℕ) (id : ℤ) (r : Row) → conflicts (Some (1 ∷ 2 ∷ [])) (with_indexes more).indexes (plainly (record bookings { tree = bookings_tree })) (Int id ∷ number b ∷ number n ∷ number d ∷ number w ∷ number s ∷ []) r
-    ≡ at_pledge b n (columns_of (plainly (record bookings { tree = bookings_tree })) r)
+meets : (more : List Index) → AreLoose more → (b n d w s : ℕ) (id : ℤ) (r : Row)
+    → conflicts (Some (1 ∷ 2 ∷ [])) (with_indexes more).indexes (plainly (record bookings { tree = bookings_tree }))
+    (Int id ∷ number b ∷ number n ∷ number d ∷ number w ∷ number s ∷ []) r ≡ at_pledge b n (columns_of (plainly (record bookings { tree = bookings_tree })) r)
 unfolding first_key
-meets more loose b n d w s id r =
-    let t : Table = plainly (record bookings { tree = bookings_tree }) in
+meets more loose b n d w s id r = let t : Table = plainly (record bookings { tree = bookings_tree }) in
     meets_same more loose (Some (1 ∷ 2 ∷ [])) t (Int id ∷ number b ∷ number n ∷ number d ∷ number w ∷ number s ∷ []) r ∙ or_no (at_pledge b n (columns_of t r))
 
 booking_put : (b n d w s : ℕ) (before : Option Booking) (old new : State) (count : ℕ) (listed : Listed) (rest : List Row) → ListsOurs old.now listed
-    → IsPermutation (listed bookings_tree) (at_most_one (λ r. r) (option_map (λ k. under b n (booking_cells k)) before) ++ rest) → filter (at_pledge b n) rest ≡ []
-    → Executes text.PUT_BOOKING.now (number b ∷ number n ∷ number d ∷ number w ∷ number s ∷ []) old new (Ok count)
+    → IsPermutation (listed bookings_tree) (at_most_one (λ r. r) (option_map (λ k. under b n (booking_cells k)) before) ++ rest)
+    → filter (at_pledge b n) rest ≡ [] → Executes text.PUT_BOOKING.now (number b ∷ number n ∷ number d ∷ number w ∷ number s ∷ []) old new (Ok count)
     → ListsOurs new.now (with_rows listed bookings_tree ((number b ∷ number n ∷ number d ∷ number w ∷ number s ∷ []) ∷ rest))
-booking_put b n d w s before old new count listed rest st splits none h =
-    let vals : Row = number b ∷ number n ∷ number d ∷ number w ∷ number s ∷ [] in
+booking_put b n d w s before old new count listed rest st splits none h = let vals : Row = number b ∷ number n ∷ number d ∷ number w ∷ number s ∷ [] in
     let more = st.more in
-    under_same st (upserted (with_indexes more) 5 (record bookings { tree = bookings_tree }) (bookings_place more) (λ _. refl) text.five_values 6 (1 ∷ 2 ∷ []) text.booking_tests text.booking_shows (at_pledge b n)
-    text.PUT_BOOKING.now (text.texts more).booking_is.0 (text.texts more).booking_is.1 old new vals vals vals count listed rest st.lists
-    (record {
+    under_same st (upserted (with_indexes more) 5 (record bookings { tree = bookings_tree }) (bookings_place more) (λ _. refl) text.five_values 6
+    (1 ∷ 2 ∷ []) text.booking_tests text.booking_shows (at_pledge b n)
+    text.PUT_BOOKING.now (text.texts more).booking_is.0 (text.texts more).booking_is.1 old new vals vals vals count listed rest st.lists (record {
       source = refl;
       unnumbered = λ i. cast_null i ∷ cast_int b i ∷ cast_int n i ∷ cast_int d i ∷ cast_int w i ∷ cast_int s i ∷ [];
       stored = λ id. (λ i. cast_whole id i ∷ cast_int b i ∷ cast_int n i ∷ cast_int d i ∷ cast_int w i ∷ cast_int s i ∷ []);
@@ -140,34 +151,35 @@ booking_put b n d w s before old new count listed rest st splits none h =
       meets = meets more st.loose b n d w s;
       passes_is = λ id k r. one _;
     })
-    none (split more before splits) h)
-  where
-    one : (x : Bool) → (x && true) ≡ x
-    one true = refl
-    one false = refl
+    none (split more before splits) h) where
+      one : (x : Bool) → (x && true) ≡ x
+      one true = refl
+      one false = refl
 
-    split : (more : List Index) (before : Option Booking) → IsPermutation (listed bookings_tree) (at_most_one (λ r. r) (option_map (λ k. under b n (booking_cells k)) before) ++ rest)
-        → Splits (with_indexes more) 5 (record bookings { tree = bookings_tree }) (bookings_place more) (λ _. refl) text.five_values 6 (1 ∷ 2 ∷ []) text.booking_tests text.booking_shows (at_pledge b n)
-        (number b ∷ number n ∷ number d ∷ number w ∷ number s ∷ []) (number b ∷ number n ∷ number d ∷ number w ∷ number s ∷ []) (number b ∷ number n ∷ number d ∷ number w ∷ number s ∷ []) (listed bookings_tree) rest
-    split more None same = inl same
-    split more (Some k) same = inr (
-      under b n (booking_cells k),
-      same,
-      own_row b n (booking_cells k),
-      λ id j r at cols.
-          let first : column r 1 ≡ number b = (let e = cols in cc) in
-          let second : column r 2 ≡ number n = (let e = cols in cc) in (
-            Int id ∷ number b ∷ number n ∷ number d ∷ number w ∷ number s ∷ [],
-            number b ∷ number n ∷ number d ∷ number w ∷ number s ∷ [],
-            (λ i. at i ∷ at i ∷ first i ∷ second i ∷ number d ∷ number w ∷ number s ∷ []),
-            (λ i. cast_whole id i ∷ cast_int b i ∷ cast_int n i ∷ cast_int d i ∷ cast_int w i ∷ cast_int s i ∷ []),
-            refl,
-          ),
-    )
+      split : (more : List Index) (before : Option Booking) → IsPermutation (listed bookings_tree) (at_most_one (λ r. r) (option_map (λ k. under b n
+          (booking_cells k)) before) ++ rest) → Splits (with_indexes more) 5 (record bookings { tree = bookings_tree }) (bookings_place more) (λ _. refl)
+          text.five_values 6 (1 ∷ 2 ∷ []) text.booking_tests text.booking_shows (at_pledge b n) (number b ∷ number n ∷ number d ∷ number w ∷ number s ∷ [])
+          (number b ∷ number n ∷ number d ∷ number w ∷ number s ∷ []) (number b ∷ number n ∷ number d ∷ number w ∷ number s ∷ []) (listed bookings_tree) rest
+      split more None same = inl same
+      split more (Some k) same = inr (
+        under b n (booking_cells k),
+        same,
+        own_row b n (booking_cells k),
+        λ id j r at cols.
+            let first : column r 1 ≡ number b = (let e = cols in cc) in
+            let second : column r 2 ≡ number n = (let e = cols in cc) in (
+              Int id ∷ number b ∷ number n ∷ number d ∷ number w ∷ number s ∷ [],
+              number b ∷ number n ∷ number d ∷ number w ∷ number s ∷ [],
+              (λ i. at i ∷ at i ∷ first i ∷ second i ∷ number d ∷ number w ∷ number s ∷ []),
+              (λ i. cast_whole id i ∷ cast_int b i ∷ cast_int n i ∷ cast_int d i ∷ cast_int w i ∷ cast_int s i ∷ []),
+              refl,
+            ),
+      )
 
-pub booking_wrote : (b n d w s : ℕ) (k : Booking) (before : Option Booking) (old new : State) (listed : Listed) (rest : List Row) → d ≡ k.day → w ≡ k.window → s ≡ state_number k.state → ListsOurs old.now listed
-    → IsPermutation (listed bookings_tree) (at_most_one (λ r. r) (option_map (λ k. under b n (booking_cells k)) before) ++ rest) → filter (at_pledge b n) rest ≡ [] → (count : ℕ)
-    → Executes text.PUT_BOOKING.now (number b ∷ number n ∷ number d ∷ number w ∷ number s ∷ []) old new (Ok count)
-    → ListsOurs new.now (with_rows listed bookings_tree (under b n (booking_cells k) ∷ rest))
+pub booking_wrote : (b n d w s : ℕ) (k : Booking) (before : Option Booking) (old new : State) (listed : Listed) (rest : List Row) → d ≡ k.day → w ≡ k.window
+    → s ≡ state_number k.state → ListsOurs old.now listed → IsPermutation (listed bookings_tree) (at_most_one (λ r. r) (option_map
+    (λ k. under b n (booking_cells k)) before) ++ rest) → filter (at_pledge b n) rest ≡ [] → (count : ℕ) → Executes text.PUT_BOOKING.now (number b ∷ number n
+    ∷ number d ∷ number w ∷ number s ∷ []) old new (Ok count) → ListsOurs new.now (with_rows listed bookings_tree (under b n (booking_cells k) ∷ rest))
 booking_wrote b n d w s k before old new listed rest day window state st splits none count h =
-    subst (λ cells. ListsOurs new.now (with_rows listed bookings_tree (under b n cells ∷ rest))) (λ i. number (day i) ∷ number (window i) ∷ number (state i) ∷ []) (booking_put b n d w s before old new count listed rest st splits none h)
+    subst (λ cells. ListsOurs new.now (with_rows listed bookings_tree (under b n cells ∷ rest)))
+    (λ i. number (day i) ∷ number (window i) ∷ number (state i) ∷ []) (booking_put b n d w s before old new count listed rest st splits none h)

@@ -1,9 +1,10 @@
 -- How much of a pledge stands, as it is looked up.
-use Rattle.pawn_saving.proofs.Basics.{◌≡◌, Bool, length_in, ◌⊎◌, inl, inr, ◌↔◌, ℕ, zero, suc, ◌+◌, ◌≤◌, List, [], ◌∷◌, Option, Some, None, true, false, length, IsTrue, refl, sym, subst, arith, is_some, slice_get, ◌++◌, get, HasCleanDisk, State, Grows, PledgeValue, AreIssued, Booking, Issued, BookValue, pledge_from, pledge_in, CanSave, Continues, Host, entries_of, IsSound, PutPledge, Rests, with_seq, StandsFor, standing_at, at_seq, AreLengths, IsLengthWithin, IsStored, IsCarried, Lengths}
-use Rattle.pawn_tables.specs.Places.{at_place}
-use Rattle.pawn_saving.specs.declared.stored.PledgeList.{PledgeList}
-use Rattle.pawn_saving.specs.declared.stored.Stored.{Stored}
-use Rattle.pawn_saving.proofs.PledgeWrites.{continues_it}
+use Rattle.std.proofs.Common.{◌≡◌, Bool, ◌⊎◌, inl, inr, ◌↔◌, ℕ, zero, suc, ◌+◌, ◌≤◌, List, [], ◌∷◌, Option, Some, None, true, false, length, IsTrue, refl, sym}
+use Rattle.{std.proofs.Common.{subst, arith, is_some, slice_get, ◌++◌}, pawn_saving.specs.Stored.{length_in, AreLengths, IsLengthWithin, IsStored}}
+use Rattle.pawn_saving.{specs.{Common.{Grows, CanSave, Continues, PutPledge}, Writing.IsCarried, declared.lengths.Lengths.Lengths}, proofs.Basics.standing_at}
+use Rattle.{pawn_saving.{specs.declared.stored.{PledgeList.PledgeList, Stored.Stored}, proofs.PledgeWrites.continues_it}, pawn_tables.specs.Common.get}
+use Rattle.pawn_tables.specs.Common.{HasCleanDisk, State, PledgeValue, AreIssued, Booking, Issued, BookValue, pledge_from, pledge_in, Host, entries_of, IsSound}
+use Rattle.pawn_tables.{specs.{Common.Rests, Entries.with_seq, StandsFor.StandsFor, Places.at_place}, proofs.NextEntries.at_seq}
 
 -- ---- an element stands at each place up to the length of a list
 
@@ -24,12 +25,12 @@ tells_within list named p xs place x there is long same at low =
     subst (λ (l : PledgeList). IsTrue there ↔ (place ≤ length_in l p)) (sym is) (subst (λ n. IsTrue there ↔ (place ≤ n)) (sym long) told)
 
 -- the entry of a number stands at that place, in a sound host
-pub entry_placed : (h : Host) (b n s : ℕ) → IsSound h → with_seq (entries_of (pledge_in (get h.books b) n)) s ≡ at_place (entries_of (pledge_in (get h.books b) n)) s
-entry_placed h b n s sound = go (pledge_in (get h.books b) n) refl
-  where
-    go : (o : Option PledgeValue) → pledge_in (get h.books b) n ≡ o → with_seq (entries_of o) s ≡ at_place (entries_of o) s
-    go None is = at_seq [] s tt
-    go (Some p) is = at_seq p.entries s (standing_at h b n p sound is).0.replayable.entered.numbered
+pub entry_placed : (h : Host) (b n s : ℕ) → IsSound h
+    → with_seq (entries_of (pledge_in (get h.books b) n)) s ≡ at_place (entries_of (pledge_in (get h.books b) n)) s
+entry_placed h b n s sound = go (pledge_in (get h.books b) n) refl where
+  go : (o : Option PledgeValue) → pledge_in (get h.books b) n ≡ o → with_seq (entries_of o) s ≡ at_place (entries_of o) s
+  go None is = at_seq [] s tt
+  go (Some p) is = at_seq p.entries s (standing_at h b n p sound is).0.replayable.entered.numbered
 
 -- ---- the places of a list, from above
 
@@ -58,12 +59,12 @@ module _ (l : Lengths) (next : PledgeValue) (are : AreLengths l (Some next)) whe
     extensions = let le = longer old.extensions lists.extensions.0 next.extensions lists.extensions.1 in let e = are.extensions in omega (arith, le, e);
   }
 
-  follows_within : (k : BookValue) (n : ℕ) → (n ≡ length k.pledges + 1) ⊎ ((old : PledgeValue) × (pledge_from 1 k.pledges n ≡ Some old) × Continues old next) → IsLengthWithin (pledge_from 1 k.pledges n) l
-  follows_within k n follows = go (stands_or_not (pledge_from 1 k.pledges n))
-    where
-      go : (pledge_from 1 k.pledges n ≡ None) ⊎ ((old : PledgeValue) × (pledge_from 1 k.pledges n ≡ Some old)) → IsLengthWithin (pledge_from 1 k.pledges n) l
-      go (inl none) = subst (λ o. IsLengthWithin o l) (sym none) (record { entries = omega arith; secrets = omega arith; extensions = omega arith })
-      go (inr some) = subst (λ o. IsLengthWithin o l) (sym some.1) (grown_within some.0 (continues_it k n some.0 next some.1 follows).lists)
+  follows_within : (k : BookValue) (n : ℕ) → (n ≡ length k.pledges + 1) ⊎ ((old : PledgeValue) × (pledge_from 1 k.pledges n ≡ Some old) × Continues old next)
+      → IsLengthWithin (pledge_from 1 k.pledges n) l
+  follows_within k n follows = go (stands_or_not (pledge_from 1 k.pledges n)) where
+    go : (pledge_from 1 k.pledges n ≡ None) ⊎ ((old : PledgeValue) × (pledge_from 1 k.pledges n ≡ Some old)) → IsLengthWithin (pledge_from 1 k.pledges n) l
+    go (inl none) = subst (λ o. IsLengthWithin o l) (sym none) (record { entries = omega arith; secrets = omega arith; extensions = omega arith })
+    go (inr some) = subst (λ o. IsLengthWithin o l) (sym some.1) (grown_within some.0 (continues_it k n some.0 next some.1 follows).lists)
 
   pub can_within : (h : Host) (b n : ℕ) → CanSave h (PutPledge b n next) → IsLengthWithin (pledge_in (get h.books b) n) l
   can_within h b n can = subst (λ o. IsLengthWithin (pledge_in o n) l) (sym can.follows.1) (follows_within can.follows.0 n can.follows.2)
@@ -85,20 +86,20 @@ not_booked (Some b) is = absurd (let e = is in cc)
 -- ---- whether a pledge stands
 
 -- none does where none of its secrets is there
-pub none_stored : (h : Host) (b n : ℕ) (s : Stored) → IsSound h → IsStored s (pledge_in (get h.books b) n) → s.lengths.secrets ≡ 0 → pledge_in (get h.books b) n ≡ None
-none_stored h b n s sound stored none = go (stands_or_not (pledge_in (get h.books b) n))
-  where
-    go : (pledge_in (get h.books b) n ≡ None) ⊎ ((p : PledgeValue) × (pledge_in (get h.books b) n ≡ Some p)) → pledge_in (get h.books b) n ≡ None
-    go (inl is) = is
-    go (inr is) =
-        let as_many = (subst (IsStored s) is.1 stored).lengths.secrets in
-        let low = has_secret h b n is.0 sound is.1 in
-        absurd (omega (arith, as_many, low, none))
+pub none_stored : (h : Host) (b n : ℕ) (s : Stored) → IsSound h → IsStored s (pledge_in (get h.books b) n) → s.lengths.secrets ≡ 0
+    → pledge_in (get h.books b) n ≡ None
+none_stored h b n s sound stored none = go (stands_or_not (pledge_in (get h.books b) n)) where
+  go : (pledge_in (get h.books b) n ≡ None) ⊎ ((p : PledgeValue) × (pledge_in (get h.books b) n ≡ Some p)) → pledge_in (get h.books b) n ≡ None
+  go (inl is) = is
+  go (inr is) = let as_many = (subst (IsStored s) is.1 stored).lengths.secrets in
+      let low = has_secret h b n is.0 sound is.1 in
+      absurd (omega (arith, as_many, low, none))
 
 -- one does where one is
-pub some_stored : (h : Host) (b n : ℕ) (s : Stored) → IsStored s (pledge_in (get h.books b) n) → (s.lengths.secrets ≡ 0 → ⊥) → (p : PledgeValue) × (pledge_in (get h.books b) n ≡ Some p) × IsStored s (Some p)
-some_stored h b n s stored some = go (stands_or_not (pledge_in (get h.books b) n))
-  where
-    go : (pledge_in (get h.books b) n ≡ None) ⊎ ((p : PledgeValue) × (pledge_in (get h.books b) n ≡ Some p)) → (p : PledgeValue) × (pledge_in (get h.books b) n ≡ Some p) × IsStored s (Some p)
-    go (inl is) = absurd (some (subst (IsStored s) is stored).lengths.secrets)
-    go (inr is) = (is.0, is.1, subst (IsStored s) is.1 stored)
+pub some_stored : (h : Host) (b n : ℕ) (s : Stored) → IsStored s (pledge_in (get h.books b) n) → (s.lengths.secrets ≡ 0 → ⊥)
+    → (p : PledgeValue) × (pledge_in (get h.books b) n ≡ Some p) × IsStored s (Some p)
+some_stored h b n s stored some = go (stands_or_not (pledge_in (get h.books b) n)) where
+  go : (pledge_in (get h.books b) n ≡ None) ⊎ ((p : PledgeValue) × (pledge_in (get h.books b) n ≡ Some p))
+      → (p : PledgeValue) × (pledge_in (get h.books b) n ≡ Some p) × IsStored s (Some p)
+  go (inl is) = absurd (some (subst (IsStored s) is stored).lengths.secrets)
+  go (inr is) = (is.0, is.1, subst (IsStored s) is.1 stored)

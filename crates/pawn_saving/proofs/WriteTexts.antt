@@ -1,11 +1,11 @@
 -- What the texts of the changes mean.
-use Rattle.pawn_saving.proofs.Basics.{◌≡◌, List, [], ◌∷◌, ℕ, pos, codes, Some, refl, Returning, Index, Add, Arith, Compare, Is, Or, Eq, Not, Binary, InsertOr, understood, Term, col, lit, op1, op2, Int, Null, Text, with_indexes, bookings_tree, books_tree, meta_tree, pledges_tree, totals_tree, IsPlain, command_of, over_table, Asks, Puts, Returns, Sets, is_param}
-use Rattle.sqlite_tied.specs.Compute.{everything}
-use Rattle.sqlite.specs.Source.TheVariants.{Values}
-use Rattle.sqlite_schema.specs.declared.command.Conflict.TheVariants.{Abort}
-use Rattle.sqlite_schema.specs.declared.command.Upsert.{Upsert}
-use Rattle.pawn_tables.proofs.ReadTexts.{of_book}
-pub use Rattle.pawn_tables.specs.declared.texts.TheConstants.{ADD_ROWS, PUT_BOOK, PUT_BOOKING, PUT_ENTRY, PUT_EXTENSION, PUT_PLEDGE, PUT_SECRET, PUT_TERMS, PUT_TOTALS, READ_LIMIT, SET_IMPORT, SET_PLEDGE, SET_PLEDGES_COUNT, SET_TERMS_COUNT, SET_TOTALS}
+use Rattle.{std.proofs.Common.{◌≡◌, List, [], ◌∷◌, ℕ, pos, codes, Some, refl}, pawn_saving.specs.Common.{Returning, Add, Arith, Is, Or, Not, InsertOr}}
+use Rattle.{pawn_saving.proofs.Basics.{Puts, Returns, Sets}, sqlite.{specs.{Term.op1, Source.TheVariants.Values}, proofs.Callers.{IsPlain, command_of}}}
+use Rattle.pawn_tables.specs.{Common.{Index, Compare, Eq, Binary, understood, Term, col, lit, op2, Int, Null, Text}, Ours.with_indexes, Schema.bookings_tree}
+use Rattle.pawn_tables.{specs.Schema.{books_tree, meta_tree, pledges_tree, totals_tree}, proofs.{Basics.{over_table, Asks, is_param}, ReadTexts.of_book}}
+use Rattle.{sqlite_tied.specs.Compute.everything, sqlite_schema.specs.declared.command.{Conflict.TheVariants.Abort, Upsert.Upsert}}
+pub use Rattle.pawn_tables.specs.declared.texts.TheConstants.{ADD_ROWS, PUT_BOOK, PUT_BOOKING, PUT_ENTRY, PUT_EXTENSION, PUT_PLEDGE, PUT_SECRET, PUT_TERMS}
+pub use Rattle.pawn_tables.specs.declared.texts.TheConstants.{PUT_TOTALS, READ_LIMIT, SET_IMPORT, SET_PLEDGE, SET_PLEDGES_COUNT, SET_TERMS_COUNT, SET_TOTALS}
 
 abbrev pub book_values : List Term
 book_values = col 0 0 ∷ lit Null ∷ col 0 1 ∷ col 0 2 ∷ col 0 3 ∷ lit (Int (pos 0)) ∷ lit (Int (pos 0)) ∷ lit Null ∷ lit Null ∷ []
@@ -25,13 +25,13 @@ abbrev or_terms : Term → List Term → Term
 or_terms t [] = t
 or_terms t (u ∷ more) = or_terms (op2 Or t u) more
 
--- held, last_day, ends and the closing are all that changes of a row of a pledge
--- the row is written where one of them is another
+-- held, last_day, ends and the closing are all that changes of a row of a pledge the row is written where one of them is another
 abbrev pub change_tests : List Term
 change_tests = is_param 1 0 ∷ is_param 2 1 ∷ or_terms (is_other 11 2) (is_other 12 3 ∷ is_other 13 4 ∷ is_other 14 5 ∷ is_other 15 6 ∷ is_other 16 7 ∷ []) ∷ []
 
 abbrev pub change_shows : List Term
-change_shows = col 1 0 ∷ col 1 0 ∷ col 1 1 ∷ col 1 2 ∷ col 1 3 ∷ col 1 4 ∷ col 1 5 ∷ col 1 6 ∷ col 1 7 ∷ col 1 8 ∷ col 1 9 ∷ col 1 10 ∷ col 0 2 ∷ col 0 3 ∷ col 0 4 ∷ col 0 5 ∷ col 0 6 ∷ col 0 7 ∷ []
+change_shows = col 1 0 ∷ col 1 0 ∷ col 1 1 ∷ col 1 2 ∷ col 1 3 ∷ col 1 4 ∷ col 1 5 ∷ col 1 6 ∷ col 1 7 ∷ col 1 8 ∷ col 1 9 ∷ col 1 10 ∷ col 0 2 ∷ col 0 3
+    ∷ col 0 4 ∷ col 0 5 ∷ col 0 6 ∷ col 0 7 ∷ []
 
 abbrev pub totals_tests : List Term
 totals_tests = is_param 1 0 ∷ is_param 2 1 ∷ or_terms (is_other 3 2) (is_other 4 3 ∷ is_other 5 4 ∷ []) ∷ []
@@ -66,7 +66,8 @@ limit_shows = col 1 2 ∷ []
 
 abbrev pub sixteen_values : List Term
 sixteen_values =
-    lit Null ∷ col 0 0 ∷ col 0 1 ∷ col 0 2 ∷ col 0 3 ∷ col 0 4 ∷ col 0 5 ∷ col 0 6 ∷ col 0 7 ∷ col 0 8 ∷ col 0 9 ∷ col 0 10 ∷ col 0 11 ∷ col 0 12 ∷ col 0 13 ∷ col 0 14 ∷ col 0 15 ∷ []
+    lit Null ∷ col 0 0 ∷ col 0 1 ∷ col 0 2 ∷ col 0 3 ∷ col 0 4 ∷ col 0 5 ∷ col 0 6 ∷ col 0 7 ∷ col 0 8 ∷ col 0 9 ∷ col 0 10 ∷ col 0 11 ∷ col 0 12 ∷ col 0 13
+    ∷ col 0 14 ∷ col 0 15 ∷ []
 
 abbrev pub terms_count_shows : List Term
 terms_count_shows = col 1 0 ∷ col 1 0 ∷ lit Null ∷ col 1 2 ∷ col 1 3 ∷ col 1 4 ∷ col 0 1 ∷ col 1 6 ∷ col 1 7 ∷ col 1 8 ∷ []
@@ -85,7 +86,8 @@ pub record Texts (more : List Index) : Type 0 where
   pub extension_is : Puts (with_indexes more) PUT_EXTENSION.now 8 five_values 6
   pub change_is : Sets (with_indexes more) SET_PLEDGE.now 2 (over_table pledges_tree change_tests change_shows [])
   pub totals_is : Sets (with_indexes more) SET_TOTALS.now 7 (over_table totals_tree totals_tests totals_shows [])
-  pub booking_is : (command_of (understood (with_indexes more) PUT_BOOKING.now) ≡ InsertOr 5 Abort (Values five_values 6) (booking_clause ∷ [])) × IsPlain (understood (with_indexes more) PUT_BOOKING.now)
+  pub booking_is : (command_of (understood (with_indexes more) PUT_BOOKING.now) ≡ InsertOr 5 Abort (Values five_values 6) (booking_clause ∷ []))
+      × IsPlain (understood (with_indexes more) PUT_BOOKING.now)
   pub count_is : Returns (with_indexes more) ADD_ROWS.now 6 (over_table meta_tree count_tests count_shows []) count_returns
   pub limit_is : Asks (with_indexes more) READ_LIMIT.now (over_table meta_tree limit_tests limit_shows []) (codes "value" ∷ [])
   pub terms_is : Puts (with_indexes more) PUT_TERMS.now 1 five_values 6

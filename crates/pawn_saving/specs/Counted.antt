@@ -1,6 +1,10 @@
 -- The tables in the middle of a change: its rows are written, but not yet counted.
 use Rattle.std.specs.Prelude.{◌≡◌, ◌==◌, ◌↔◌, ℕ, ◌+◌, ◌≤◌, ◌<◌, if◌then◌else◌, [], map, Bool, IsTrue, Result, Ok, Err, IfOk}
-use Rattle.pawn_saving.specs.Common.{entries, Database, HasCleanDisk, State, BookValue, CanSave, with_change, Host, rows, IsSound, Change, SaveError, Listed, meta_rows, ListsOurs, book_row, booking_listed, entries_listed, extensions_listed, pledge_listed, secrets_listed, terms_listed, totals_listed, bookings_tree, books_tree, entries_tree, extensions_tree, meta_tree, pledges_tree, secrets_tree, terms_tree, totals_tree, StandsFor, of_books, of_pledges}
+use Rattle.pawn_tables.specs.{Common.{entries, HasCleanDisk, State, BookValue, Host, rows, IsSound, Listed}, Meta.meta_rows, Rows.{book_row, booking_listed}}
+use Rattle.pawn_tables.specs.{Rows.{entries_listed, extensions_listed, pledge_listed, secrets_listed, terms_listed, totals_listed}, Schema.bookings_tree}
+use Rattle.pawn_tables.specs.Schema.{books_tree, entries_tree, extensions_tree, meta_tree, pledges_tree, secrets_tree, terms_tree, totals_tree}
+use Rattle.{pawn_tables.specs.StandsFor.{StandsFor, of_books, of_pledges}, pawn_saving.specs.Common.{Database, CanSave, with_change, Change, SaveError}}
+use Rattle.pawn_saving.specs.Common.{ListsOurs}
 use Rattle.pawn_book.specs.declared.fault.SaveError.TheVariants as Save
 
 -- the rows of a host by their tree, where meta notes the given count
@@ -26,16 +30,17 @@ pub record IsWrittenPart (h g : Host) (db : Database) (added : ℕ) : Type 0 whe
   pub lists : ListsHost db g (rows h)
   pub grown : rows g ≡ rows h + added
 
--- for each sound host that the tables stood for within the transaction, and that allows the change: the changed host is
--- written
+-- for each sound host that the tables stood for within the transaction, and that allows the change: the changed host is written
 abbrev pub WritesRows : {E : Type 0} → State → State → Change → Result ℕ E → Type 0
 WritesRows old new change result =
-    HasCleanDisk new → IsTrue old.in_transaction → (h : Host) → IsSound h → CanSave h change → StandsFor old.now h → IfOk result (IsWrittenPart h (with_change h change) new.now)
+    HasCleanDisk new → IsTrue old.in_transaction → (h : Host) → IsSound h → CanSave h change → StandsFor old.now h
+    → IfOk result (IsWrittenPart h (with_change h change) new.now)
 
 -- for each such host of which P holds: the changed host is written
 abbrev pub WritesWhere : {E : Type 0} → State → State → (Host → Type 0) → Change → Result ℕ E → Type 0
 WritesWhere old new P change result =
-    HasCleanDisk new → IsTrue old.in_transaction → (h : Host) → IsSound h → CanSave h change → StandsFor old.now h → P h → IfOk result (IsWrittenPart h (with_change h change) new.now)
+    HasCleanDisk new → IsTrue old.in_transaction → (h : Host) → IsSound h → CanSave h change → StandsFor old.now h → P h
+    → IfOk result (IsWrittenPart h (with_change h change) new.now)
 
 -- the noted count grows by this many, and the answer is whether it is still within the limit
 abbrev pub Counts : {E : Type 0} → State → State → ℕ → Result Bool E → Type 0
@@ -50,8 +55,7 @@ CountJudged (Err Save.Full) P Q = Q
 CountJudged (Err Save.Memory) P Q = Unit {0}
 CountJudged (Err (Save.Store fault)) P Q = Unit {0}
 
--- for each sound host that an open store stood for within the transaction, and that allows the change: the tables stand
--- for the changed host
+-- for each sound host that an open store stood for within the transaction, and that allows the change: the tables stand for the changed host
 abbrev pub WritesChange : {T : Type 0} → State → State → Change → Result T SaveError → Type 0
 WritesChange old new change result =
     HasCleanDisk new → IsTrue old.in_transaction → (h : Host) → IsSound h → (IsTrue old.is_open → CanSave h change × StandsFor old.now h)

@@ -2,6 +2,5 @@ pub mod Common
 pub mod Counted
 pub mod Importing
 pub mod Putting
-pub mod Saving
 pub mod Stored
 pub mod Writing

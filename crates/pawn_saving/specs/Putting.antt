@@ -1,9 +1,9 @@
 -- What is written when a pledge is saved.
 use Rattle.std.specs.Prelude.{◌≡◌, ◌==◌, if◌then◌else◌, ℕ, ◌+◌, List, [], ◌∷◌, ◌++◌, map, drop, filter, Bool, IsPermutation, IsTrue, Result, OnOk, IfOk}
-use Rattle.pawn_saving.specs.Common.{Row, HasCleanDisk, State, PledgeValue, debt_of, pledge_rows, Listed, with_rows, at_pledge, ListsOurs, at_most_one, booking_cells, entry_cells, extension_cells, placed_from, pledge_cells, secret_cells, totals_cells, under, bookings_tree, entries_tree, extensions_tree, pledges_tree, secrets_tree, totals_tree}
-use Rattle.pawn_debt.specs.Kept.{totals_of}
-use Rattle.pawn_saving.specs.declared.lengths.Lengths.{Lengths}
-use Rattle.pawn_saving.specs.Writing.{IsOnly}
+use Rattle.pawn_tables.specs.{Common.{Row, HasCleanDisk, State, PledgeValue, debt_of, Listed}, At.at_pledge, Rows.{at_most_one, booking_cells, entry_cells}}
+use Rattle.pawn_tables.specs.{Rows.{extension_cells, placed_from, pledge_cells, secret_cells, totals_cells, under}, Schema.{bookings_tree, entries_tree}}
+use Rattle.{pawn_tables.specs.Schema.{extensions_tree, pledges_tree, secrets_tree, totals_tree}, pawn_saving.specs.Common.{pledge_rows, with_rows, ListsOurs}}
+use Rattle.{pawn_saving.specs.{declared.lengths.Lengths.Lengths, Writing.IsOnly}, pawn_debt.specs.Kept.totals_of}
 
 -- ---- the rows of pledge n of book b
 
@@ -91,8 +91,7 @@ RenewSides old new result b n before p =
     HasCleanDisk new → IsTrue old.in_transaction → (listed others : Listed) → AreSidesPut b n before listed others → ListsOurs old.now listed
     → OnOk result (ListsOurs new.now (with_sides b n p others listed))
 
--- all rows of the pledge are added to their tables, if no booking of it is stored; the answer is how many of them are
--- counted
+-- all rows of the pledge are added to their tables, if no booking of it is stored; the answer is how many of them are counted
 abbrev pub AddsPledge : {E : Type 0} → State → State → Result ℕ E → ℕ → ℕ → PledgeValue → Type 0
 AddsPledge old new result b n p =
     HasCleanDisk new → IsTrue old.in_transaction → (listed : Listed) → filter (at_pledge b n) (listed bookings_tree) ≡ [] → ListsOurs old.now listed
@@ -101,5 +100,6 @@ AddsPledge old new result b n p =
 -- in one table, these rows replace those that pass the test
 abbrev pub PutsFor : {T E : Type 0} → State → State → Result T E → ℕ → (Row → Bool) → List Row → List Row → Type 0
 PutsFor old new result tree test before after =
-    HasCleanDisk new → IsTrue old.in_transaction → (listed : Listed) (others : List Row) → IsPermutation (listed tree) (before ++ others) → filter test others ≡ [] → ListsOurs old.now listed
+    HasCleanDisk new → IsTrue old.in_transaction → (listed : Listed) (others : List Row) → IsPermutation (listed tree) (before ++ others)
+    → filter test others ≡ [] → ListsOurs old.now listed
     → OnOk result (ListsOurs new.now (with_rows listed tree (after ++ others)))

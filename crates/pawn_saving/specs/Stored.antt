@@ -1,11 +1,8 @@
 -- How much of a pledge the tables hold.
 use Rattle.std.specs.Prelude.{◌≡◌, ℕ, ◌≤◌, length, Option, is_some, IsTrue, Result, IfOk}
-use Rattle.pawn_saving.specs.Common.{HasCleanDisk, State, PledgeValue, Host, entries_of, extensions_of, secrets_of, IsSound, Rests, StandsFor}
-use Rattle.pawn_tables.specs.PledgeRows.{booking_of}
-use Rattle.pawn_saving.specs.declared.lengths.Lengths.{Lengths}
-use Rattle.pawn_saving.specs.declared.stored.PledgeList.{PledgeList}
-use Rattle.pawn_saving.specs.declared.stored.PledgeList.TheVariants.{Entries, Secrets, Extensions}
-use Rattle.pawn_saving.specs.declared.stored.Stored.{Stored}
+use Rattle.pawn_tables.specs.{Common.{HasCleanDisk, State, PledgeValue, Host, entries_of, extensions_of, secrets_of, IsSound, Rests}, StandsFor.StandsFor}
+use Rattle.{pawn_tables.specs.PledgeRows.booking_of, pawn_saving.specs.declared.{lengths.Lengths.Lengths, stored.PledgeList.{PledgeList, TheVariants.Entries}}}
+use Rattle.pawn_saving.specs.declared.stored.{PledgeList.TheVariants.{Secrets, Extensions}, Stored.Stored}
 
 -- how long a list of a pledge is: 0 if there is no pledge
 abbrev pub length_in : PledgeList → Option PledgeValue → ℕ
@@ -30,8 +27,7 @@ pub record IsStored (s : Stored) (p : Option PledgeValue) : Type 0 where
   pub lengths : AreLengths s.lengths p
   pub booked : s.is_booked ≡ is_some (booking_of p)
 
--- for each sound host that the tables stood for within the transaction: P holds of what was read, and the tables are
--- unchanged
+-- for each sound host that the tables stood for within the transaction: P holds of what was read, and the tables are unchanged
 abbrev pub ReadsIn : {A E : Type 0} → State → State → Result A E → (Host → A → Type 0) → Type 0
 ReadsIn old new result P =
     HasCleanDisk new → IsTrue old.in_transaction → (h : Host) → IsSound h → StandsFor old.now h → IfOk result (λ x. P h x × Rests old new)

@@ -1,6 +1,6 @@
 ghost use Rattle.std.specs.Prelude.{◌≡◌, ◌∷◌, List, is_ok, length};
-ghost use Rattle.pawn_saving.specs.Common.{state, Rates, PledgeValue, BookValue, filled_book, made_book, BookRows, Lends, at_book, book_row, number, terms_cells, books_tree, terms_tree};
-ghost use Rattle.pawn_saving.specs.Writing.{Joins, Replaces};
+ghost use Rattle.pawn_tables.specs.{Common.{state, Rates, PledgeValue, BookValue, Lends}, At.at_book, Rows.{book_row, number, terms_cells}, Schema.books_tree};
+ghost use Rattle.{pawn_tables.specs.Schema.terms_tree, pawn_saving.specs.{Common.{filled_book, made_book, BookRows}, Writing.{Joins, Replaces}}};
 
 use pawn_book::{KeepError, NewBook, Rates, Secret};
 use pawn_tables::texts::{PUT_BOOK, PUT_TERMS, SET_IMPORT, SET_PLEDGES_COUNT, SET_TERMS_COUNT};
@@ -13,8 +13,7 @@ pub(crate) fn put_book<S: Alter>(
     book: u32,
     new_book: &NewBook,
 ) -> Result<(), KeepError>
-    ensures wrote { Joins (state S.Store tx.old.conn.now)
-        (state S.Store tx.new.conn.now) result books_tree (book_row book (made_book new_book.now)) }
+    ensures wrote { Joins (state S.Store tx.old.conn.now) (state S.Store tx.new.conn.now) result books_tree (book_row book (made_book new_book.now)) }
     ensures lent { Lends S.Store tx.old.conn tx.new.conn (is_ok result) }
 {
     let key = new_book.key.word().to_be_bytes();
@@ -29,9 +28,8 @@ pub(crate) fn set_terms_count<S: Alter>(
     book: u32,
     count: u32,
 ) -> Result<(), KeepError>
-    ensures wrote { (k : BookValue) (terms : List Rates) → length terms ≡ count
-        → Replaces (state S.Store tx.old.conn.now) (state S.Store tx.new.conn.now) result books_tree
-        (at_book book) (book_row book k) (book_row book (record k { terms = terms })) }
+    ensures wrote { (k : BookValue) (terms : List Rates) → length terms ≡ count → Replaces (state S.Store tx.old.conn.now)
+        (state S.Store tx.new.conn.now) result books_tree (at_book book) (book_row book k) (book_row book (record k { terms = terms })) }
     ensures lent { Lends S.Store tx.old.conn tx.new.conn (is_ok result) }
 {
     write(tx, SET_TERMS_COUNT, params![book, count])
@@ -43,9 +41,8 @@ pub(crate) fn set_pledges_count<S: Alter>(
     book: u32,
     count: u32,
 ) -> Result<(), KeepError>
-    ensures wrote { (k : BookValue) (pledges : List PledgeValue) → length pledges ≡ count
-        → Replaces (state S.Store tx.old.conn.now) (state S.Store tx.new.conn.now) result books_tree
-        (at_book book) (book_row book k) (book_row book (record k { pledges = pledges })) }
+    ensures wrote { (k : BookValue) (pledges : List PledgeValue) → length pledges ≡ count → Replaces (state S.Store tx.old.conn.now)
+        (state S.Store tx.new.conn.now) result books_tree (at_book book) (book_row book k) (book_row book (record k { pledges = pledges })) }
     ensures lent { Lends S.Store tx.old.conn tx.new.conn (is_ok result) }
 {
     write(tx, SET_PLEDGES_COUNT, params![book, count])
@@ -59,10 +56,8 @@ pub(crate) fn set_import<S: Alter>(
     terms: u32,
     pledges: u32,
 ) -> Result<(), KeepError>
-    ensures wrote { (k : BookValue) (rows : BookRows) → length rows.terms ≡ terms
-        → length rows.pledges ≡ pledges
-        → Replaces (state S.Store tx.old.conn.now) (state S.Store tx.new.conn.now) result books_tree
-        (at_book book) (book_row book k) (book_row book (filled_book k key rows)) }
+    ensures wrote { (k : BookValue) (rows : BookRows) → length rows.terms ≡ terms → length rows.pledges ≡ pledges → Replaces (state S.Store tx.old.conn.now)
+        (state S.Store tx.new.conn.now) result books_tree (at_book book) (book_row book k) (book_row book (filled_book k key rows)) }
     ensures lent { Lends S.Store tx.old.conn tx.new.conn (is_ok result) }
 {
     let word = key.word().to_be_bytes();
@@ -80,9 +75,7 @@ pub(crate) fn put_terms<S: Alter>(
     version: u32,
     rates: Rates,
 ) -> Result<(), KeepError>
-    ensures wrote { Joins (state S.Store tx.old.conn.now)
-        (state S.Store tx.new.conn.now) result terms_tree
-        (number book ∷ number version ∷ terms_cells rates) }
+    ensures wrote { Joins (state S.Store tx.old.conn.now) (state S.Store tx.new.conn.now) result terms_tree (number book ∷ number version ∷ terms_cells rates) }
     ensures lent { Lends S.Store tx.old.conn tx.new.conn (is_ok result) }
 {
     let rate = in_32_bits(rates.rate)?;

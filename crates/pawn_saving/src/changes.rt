@@ -1,5 +1,4 @@
-ghost use Rattle.std.specs.Prelude.{is_ok};
-ghost use Rattle.pawn_saving.specs.Common.{state, AddTerms, MakeBook, PutPledge, Lends};
+ghost use Rattle.{std.specs.Prelude.is_ok, pawn_tables.specs.Common.{state, Lends}, pawn_saving.specs.Common.{AddTerms, MakeBook, PutPledge}};
 ghost use Rattle.pawn_saving.specs.Counted.{WritesRows};
 
 use crate::books::{put_book, put_terms, set_terms_count};
@@ -17,8 +16,7 @@ pub(crate) fn make_book<S: Alter>(
     book: Number,
     new_book: &NewBook,
 ) -> Result<u32, KeepError>
-    ensures wrote { WritesRows (state S.Store tx.old.conn.now) (state S.Store tx.new.conn.now)
-        (MakeBook book new_book.now) result }
+    ensures wrote { WritesRows (state S.Store tx.old.conn.now) (state S.Store tx.new.conn.now) (MakeBook book new_book.now) result }
     ensures lent { Lends S.Store tx.old.conn tx.new.conn (is_ok result) }
 {
     put_book(tx, book.get(), new_book)?;
@@ -33,8 +31,7 @@ pub(crate) fn add_terms<S: Alter>(
     version: u64,
     terms: Terms,
 ) -> Result<u32, KeepError>
-    ensures wrote { WritesRows (state S.Store tx.old.conn.now) (state S.Store tx.new.conn.now)
-        (AddTerms book version terms) result }
+    ensures wrote { WritesRows (state S.Store tx.old.conn.now) (state S.Store tx.new.conn.now) (AddTerms book version terms) result }
     ensures lent { Lends S.Store tx.old.conn tx.new.conn (is_ok result) }
 {
     let version = in_32_bits(version)?;
@@ -51,8 +48,7 @@ pub(crate) fn put_pledge<S: Alter>(
     number: Number,
     pledge: &Pledge,
 ) -> Result<u32, KeepError>
-    ensures wrote { WritesRows (state S.Store tx.old.conn.now) (state S.Store tx.new.conn.now)
-        (PutPledge book number pledge.now) result }
+    ensures wrote { WritesRows (state S.Store tx.old.conn.now) (state S.Store tx.new.conn.now) (PutPledge book number pledge.now) result }
     ensures lent { Lends S.Store tx.old.conn tx.new.conn (is_ok result) }
 {
     let lengths = lengths_of(pledge)?;

@@ -1,6 +1,6 @@
 ghost use Rattle.std.specs.Prelude.{◌≡◌, ◌∷◌, ◌+◌, ◌<◌, ◌^◌, ℕ, IfOk, IsTrue, codes, is_ok};
-ghost use Rattle.pawn_saving.specs.Common.{state, HasCleanDisk, Lends, Rests, Listed, with_rows, meta_row, meta_rows, other_rows, ListsOurs, meta_tree};
-ghost use Rattle.pawn_saving.specs.Counted.{Counts};
+ghost use Rattle.pawn_tables.specs.{Common.{state, HasCleanDisk, Lends, Rests, Listed}, Meta.{meta_row, meta_rows, other_rows}, Schema.meta_tree};
+ghost use Rattle.pawn_saving.specs.{Common.{with_rows, ListsOurs}, Counted.Counts};
 
 use one_table::ask;
 use pawn_book::KeepError;
@@ -10,12 +10,9 @@ use sqlite::{Alter, Transaction, params};
 
 /// The stored limit on counted rows. One of 2^32 or more is a fault of the store.
 fn limit_in<S: Alter>(tx: &mut Transaction<'_, S>) -> Result<u32, KeepError>
-    ensures found { HasCleanDisk (state S.Store tx.new.conn.now) → IsTrue
-        (state S.Store tx.old.conn.now).in_transaction
-        → (listed : Listed) (counted limit : ℕ) → listed meta_tree ≡ meta_rows counted limit
-        → ListsOurs (state S.Store tx.old.conn.now).now listed
-        → IfOk result
-        (λ n. (n ≡ limit) × Rests (state S.Store tx.old.conn.now) (state S.Store tx.new.conn.now)) }
+    ensures found { HasCleanDisk (state S.Store tx.new.conn.now) → IsTrue (state S.Store tx.old.conn.now).in_transaction
+        → (listed : Listed) (counted limit : ℕ) → listed meta_tree ≡ meta_rows counted limit → ListsOurs (state S.Store tx.old.conn.now).now listed
+        → IfOk result (λ n. (n ≡ limit) × Rests (state S.Store tx.old.conn.now) (state S.Store tx.new.conn.now)) }
     ensures in_range { IfOk result (λ n. n < 2 ^ 32) }
     ensures lent { Lends S.Store tx.old.conn tx.new.conn (is_ok result) }
 {
@@ -59,8 +56,7 @@ pub(crate) fn count_within<S: Alter>(
     tx: &mut Transaction<'_, S>,
     by: u32,
 ) -> Result<bool, KeepError>
-    ensures counts { Counts (state S.Store tx.old.conn.now)
-        (state S.Store tx.new.conn.now) by result }
+    ensures counts { Counts (state S.Store tx.old.conn.now) (state S.Store tx.new.conn.now) by result }
     ensures lent { Lends S.Store tx.old.conn tx.new.conn (is_ok result) }
 {
     let limit = limit_in(tx)?;

@@ -1,6 +1,5 @@
-ghost use Rattle.std.specs.Prelude.{is_ok};
-ghost use Rattle.pawn_saving.specs.Common.{state, Lends, entry_cells, extension_cells, secret_cells, under, entries_tree, extensions_tree, secrets_tree};
-ghost use Rattle.pawn_saving.specs.Writing.{Joins};
+ghost use Rattle.{std.specs.Prelude.is_ok, pawn_tables.specs.{Common.{state, Lends}, Rows.{entry_cells, extension_cells, secret_cells, under}}};
+ghost use Rattle.{pawn_tables.specs.Schema.{entries_tree, extensions_tree, secrets_tree}, pawn_saving.specs.Writing.Joins};
 
 use pawn_book::{Entry, Extension, Issued, KeepError};
 use pawn_tables::texts::{PUT_ENTRY, PUT_EXTENSION, PUT_SECRET};
@@ -14,9 +13,7 @@ pub(crate) fn put_entry<S: Alter>(
     number: u32,
     entry: &Entry,
 ) -> Result<(), KeepError>
-    ensures wrote { Joins (state S.Store tx.old.conn.now)
-        (state S.Store tx.new.conn.now) result entries_tree
-        (under book number (entry_cells entry.now)) }
+    ensures wrote { Joins (state S.Store tx.old.conn.now) (state S.Store tx.new.conn.now) result entries_tree (under book number (entry_cells entry.now)) }
     ensures lent { Lends S.Store tx.old.conn tx.new.conn (is_ok result) }
 {
     let seq = in_32_bits(entry.seq)?;
@@ -34,8 +31,7 @@ pub(crate) fn put_secret<S: Alter>(
     place: u32,
     issued: &Issued,
 ) -> Result<(), KeepError>
-    ensures wrote { Joins (state S.Store tx.old.conn.now)
-        (state S.Store tx.new.conn.now) result secrets_tree
+    ensures wrote { Joins (state S.Store tx.old.conn.now) (state S.Store tx.new.conn.now) result secrets_tree
         (under book number (secret_cells place issued.now)) }
     ensures lent { Lends S.Store tx.old.conn tx.new.conn (is_ok result) }
 {
@@ -57,8 +53,7 @@ pub(crate) fn put_extension<S: Alter>(
     place: u32,
     extension: &Extension,
 ) -> Result<(), KeepError>
-    ensures wrote { Joins (state S.Store tx.old.conn.now)
-        (state S.Store tx.new.conn.now) result extensions_tree
+    ensures wrote { Joins (state S.Store tx.old.conn.now) (state S.Store tx.new.conn.now) result extensions_tree
         (under book number (extension_cells place extension.now)) }
     ensures lent { Lends S.Store tx.old.conn tx.new.conn (is_ok result) }
 {

@@ -1,6 +1,6 @@
 ghost use Rattle.std.specs.Prelude.{◌≡◌, ◌+◌, IfOk, is_ok};
-ghost use Rattle.pawn_saving.specs.Common.{state, ImportBook, Lends, number_in_book};
-ghost use Rattle.pawn_saving.specs.Saving.{WritesRows, AddsPledges, AddsPledge, Carries};
+ghost use Rattle.{pawn_tables.specs.{Common.{state, Lends}, Rows.number_in_book}, pawn_saving.specs.{Common.ImportBook, Counted.WritesRows}};
+ghost use Rattle.pawn_saving.specs.{Importing.AddsPledges, Putting.AddsPledge, Writing.Carries};
 
 use crate::books::set_import;
 use crate::lengths::length_in_32_bits;
@@ -41,8 +41,7 @@ fn put_parts<S: Alter>(
     book: u32,
     parts: &Parts,
 ) -> Result<u32, KeepError>
-    ensures wrote { AddsPledge (state S.Store tx.old.conn.now)
-        (state S.Store tx.new.conn.now) result book (number_in_book parts.now) parts.now }
+    ensures wrote { AddsPledge (state S.Store tx.old.conn.now) (state S.Store tx.new.conn.now) result book (number_in_book parts.now) parts.now }
     ensures lent { Lends S.Store tx.old.conn tx.new.conn (is_ok result) }
 {
     let pledge = as_pledge(parts)?;
@@ -55,8 +54,7 @@ fn put_pledges<S: Alter>(
     book: u32,
     pledges: &[Parts],
 ) -> Result<u32, KeepError>
-    ensures wrote { AddsPledges (state S.Store tx.old.conn.now)
-        (state S.Store tx.new.conn.now) result book pledges.now }
+    ensures wrote { AddsPledges (state S.Store tx.old.conn.now) (state S.Store tx.new.conn.now) result book pledges.now }
     ensures carried { Carries S.Store tx.old.conn tx.new.conn (is_ok result) }
 {
     let mut counted = 0;
@@ -76,8 +74,7 @@ pub(crate) fn import_book<S: Alter>(
     key: Secret,
     rows: &BookRows,
 ) -> Result<u32, KeepError>
-    ensures wrote { WritesRows (state S.Store tx.old.conn.now) (state S.Store tx.new.conn.now)
-        (ImportBook book key rows.now) result }
+    ensures wrote { WritesRows (state S.Store tx.old.conn.now) (state S.Store tx.new.conn.now) (ImportBook book key rows.now) result }
     ensures lent { Lends S.Store tx.old.conn tx.new.conn (is_ok result) }
 {
     let terms = rows.terms.as_slice();

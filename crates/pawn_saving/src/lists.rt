@@ -1,6 +1,6 @@
 ghost use Rattle.std.specs.Prelude.{◌≡◌, ◌+◌, ◌∷◌, IfOk, is_ok, map};
-ghost use Rattle.pawn_saving.specs.Common.{state, entry_cells, extension_cells, number, placed_from, secret_cells, terms_cells, under, entries_tree, extensions_tree, secrets_tree, terms_tree};
-ghost use Rattle.pawn_saving.specs.Writing.{AllJoin, Carries};
+ghost use Rattle.pawn_tables.specs.{Common.state, Rows.{entry_cells, extension_cells, number, placed_from, secret_cells, terms_cells, under}};
+ghost use Rattle.{pawn_tables.specs.Schema.{entries_tree, extensions_tree, secrets_tree, terms_tree}, pawn_saving.specs.Writing.{AllJoin, Carries}};
 
 use crate::books::put_terms;
 use crate::entries::{put_entry, put_extension, put_secret};
@@ -15,8 +15,7 @@ pub(crate) fn put_entries<S: Alter>(
     number: u32,
     entries: &[Entry],
 ) -> Result<(), KeepError>
-    ensures wrote { AllJoin (state S.Store tx.old.conn.now)
-        (state S.Store tx.new.conn.now) result entries_tree
+    ensures wrote { AllJoin (state S.Store tx.old.conn.now) (state S.Store tx.new.conn.now) result entries_tree
         (map (λ e. under book number (entry_cells e)) entries.now) }
     ensures carried { Carries S.Store tx.old.conn tx.new.conn (is_ok result) }
 {
@@ -44,8 +43,7 @@ pub(crate) fn put_secrets<S: Alter>(
     from: u32,
     secrets: &[Issued],
 ) -> Result<(), KeepError>
-    ensures wrote { AllJoin (state S.Store tx.old.conn.now)
-        (state S.Store tx.new.conn.now) result secrets_tree
+    ensures wrote { AllJoin (state S.Store tx.old.conn.now) (state S.Store tx.new.conn.now) result secrets_tree
         (placed_from (λ place i. under book number (secret_cells place i)) from secrets.now) }
     ensures carried { Carries S.Store tx.old.conn tx.new.conn (is_ok result) }
 {
@@ -65,8 +63,7 @@ pub(crate) fn put_extensions<S: Alter>(
     from: u32,
     extensions: &[Extension],
 ) -> Result<(), KeepError>
-    ensures wrote { AllJoin (state S.Store tx.old.conn.now)
-        (state S.Store tx.new.conn.now) result extensions_tree
+    ensures wrote { AllJoin (state S.Store tx.old.conn.now) (state S.Store tx.new.conn.now) result extensions_tree
         (placed_from (λ place e. under book number (extension_cells place e)) from extensions.now) }
     ensures carried { Carries S.Store tx.old.conn tx.new.conn (is_ok result) }
 {
@@ -84,8 +81,7 @@ pub(crate) fn put_versions<S: Alter>(
     book: u32,
     terms: &[Rates],
 ) -> Result<(), KeepError>
-    ensures wrote { AllJoin (state S.Store tx.old.conn.now)
-        (state S.Store tx.new.conn.now) result terms_tree
+    ensures wrote { AllJoin (state S.Store tx.old.conn.now) (state S.Store tx.new.conn.now) result terms_tree
         (placed_from (λ version t. number book ∷ number version ∷ terms_cells t) 1 terms.now) }
     ensures carried { Carries S.Store tx.old.conn tx.new.conn (is_ok result) }
 {

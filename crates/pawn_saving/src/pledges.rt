@@ -1,6 +1,6 @@
 ghost use Rattle.std.specs.Prelude.{◌≡◌, IfOk, Option, is_ok, option_map, pos};
-ghost use Rattle.pawn_saving.specs.Common.{state, Totals, PledgeValue, Booking, Lends, at_pledge, booking_cells, pledge_cells, totals_cells, under, bookings_tree, pledges_tree, totals_tree};
-ghost use Rattle.pawn_saving.specs.Writing.{Joins, PutsOver, Replaces};
+ghost use Rattle.pawn_tables.specs.{Common.{state, Totals, PledgeValue, Booking, Lends}, At.at_pledge, Rows.{booking_cells, pledge_cells, totals_cells, under}};
+ghost use Rattle.{pawn_tables.specs.Schema.{bookings_tree, pledges_tree, totals_tree}, pawn_saving.specs.Writing.{Joins, PutsOver, Replaces}};
 
 use pawn_book::{Booking, KeepError, Pledge};
 use pawn_debt::Totals;
@@ -18,9 +18,7 @@ pub(crate) fn put_row<S: Alter>(
     number: u32,
     pledge: &Pledge,
 ) -> Result<(), KeepError>
-    ensures wrote { Joins (state S.Store tx.old.conn.now)
-        (state S.Store tx.new.conn.now) result pledges_tree
-        (under book number (pledge_cells pledge.now)) }
+    ensures wrote { Joins (state S.Store tx.old.conn.now) (state S.Store tx.new.conn.now) result pledges_tree (under book number (pledge_cells pledge.now)) }
     ensures lent { Lends S.Store tx.old.conn tx.new.conn (is_ok result) }
 {
     let agreement = pledge.agreement();
@@ -57,10 +55,8 @@ pub(crate) fn set_row<S: Alter>(
     number: u32,
     pledge: &Pledge,
 ) -> Result<(), KeepError>
-    ensures wrote { (before : PledgeValue) → before.agreement ≡ pledge.now.agreement
-        → Replaces (state S.Store tx.old.conn.now) (state S.Store tx.new.conn.now) result pledges_tree
-        (at_pledge book number) (under book number (pledge_cells before))
-        (under book number (pledge_cells pledge.now)) }
+    ensures wrote { (before : PledgeValue) → before.agreement ≡ pledge.now.agreement → Replaces (state S.Store tx.old.conn.now) (state S.Store tx.new.conn.now)
+        result pledges_tree (at_pledge book number) (under book number (pledge_cells before)) (under book number (pledge_cells pledge.now)) }
     ensures lent { Lends S.Store tx.old.conn tx.new.conn (is_ok result) }
 {
     let standing = pledge.standing();
@@ -84,10 +80,8 @@ pub(crate) fn put_booking<S: Alter>(
     number: u32,
     booking: Booking,
 ) -> Result<(), KeepError>
-    ensures wrote { (before : Option Booking)
-        → PutsOver (state S.Store tx.old.conn.now) (state S.Store tx.new.conn.now) result bookings_tree
-        (at_pledge book number) (option_map (λ k. under book number (booking_cells k)) before)
-        (under book number (booking_cells booking)) }
+    ensures wrote { (before : Option Booking) → PutsOver (state S.Store tx.old.conn.now) (state S.Store tx.new.conn.now) result bookings_tree
+        (at_pledge book number) (option_map (λ k. under book number (booking_cells k)) before) (under book number (booking_cells booking)) }
     ensures lent { Lends S.Store tx.old.conn tx.new.conn (is_ok result) }
 {
     let day = booking.day.count();
@@ -114,9 +108,7 @@ pub fn put_totals<S: Alter>(
     number: u32,
     totals: &Totals,
 ) -> Result<(), KeepError>
-    ensures wrote { Joins (state S.Store tx.old.conn.now)
-        (state S.Store tx.new.conn.now) result totals_tree
-        (under book number (totals_cells totals.now)) }
+    ensures wrote { Joins (state S.Store tx.old.conn.now) (state S.Store tx.new.conn.now) result totals_tree (under book number (totals_cells totals.now)) }
     ensures lent { Lends S.Store tx.old.conn tx.new.conn (is_ok result) }
 {
     let day = totals.day.count();
@@ -136,10 +128,8 @@ pub(crate) fn set_totals<S: Alter>(
     number: u32,
     totals: &Totals,
 ) -> Result<(), KeepError>
-    ensures wrote { (before : Totals)
-        → Replaces (state S.Store tx.old.conn.now) (state S.Store tx.new.conn.now) result totals_tree
-        (at_pledge book number) (under book number (totals_cells before))
-        (under book number (totals_cells totals.now)) }
+    ensures wrote { (before : Totals) → Replaces (state S.Store tx.old.conn.now) (state S.Store tx.new.conn.now) result totals_tree
+        (at_pledge book number) (under book number (totals_cells before)) (under book number (totals_cells totals.now)) }
     ensures lent { Lends S.Store tx.old.conn tx.new.conn (is_ok result) }
 {
     let day = totals.day.count();

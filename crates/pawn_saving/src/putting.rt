@@ -1,6 +1,6 @@
 ghost use Rattle.std.specs.Prelude.{◌≡◌, ◌+◌, if◌then◌else◌, None, Option, IfOk, drop, is_ok};
-ghost use Rattle.pawn_saving.specs.Common.{state, Booking, pledge_rows, Lends, at_pledge, at_most_one, booking_cells, under, bookings_tree};
-ghost use Rattle.pawn_saving.specs.Saving.{AddRows, AddSides, AddsPledge, PutsFor, lists_past, Carries};
+ghost use Rattle.pawn_tables.specs.{Common.{state, Booking, Lends}, At.at_pledge, Rows.{at_most_one, booking_cells, under}, Schema.bookings_tree};
+ghost use Rattle.pawn_saving.specs.{Common.pledge_rows, Putting.{AddRows, AddSides, AddsPledge, PutsFor, lists_past}, Writing.Carries};
 
 use crate::lengths::{Lengths, lengths_of};
 use crate::lists::{next_place, put_entries, put_extensions, put_secrets};
@@ -22,8 +22,7 @@ fn behind<T>(items: &[T], so_many: u32) -> &[T]
 /// How many counted rows a pledge has: its own, its entries, its secrets and its booking. Extensions and totals are not
 /// counted.
 pub(crate) fn rows_within(lengths: Lengths, is_booked: bool) -> Result<u32, KeepError>
-    ensures value { IfOk result (λ n. n ≡ 1 + lengths.entries + lengths.secrets
-        + (if is_booked then 1 else 0)) }
+    ensures value { IfOk result (λ n. n ≡ 1 + lengths.entries + lengths.secrets + (if is_booked then 1 else 0)) }
 {
     let bookings = if is_booked { 1 } else { 0 };
     in_32_bits(1 + lengths.entries as u64 + lengths.secrets as u64 + bookings)
@@ -46,8 +45,7 @@ pub(crate) fn put_lists<S: Alter>(
     pledge: &Pledge,
     lengths: Lengths,
 ) -> Result<(), KeepError>
-    ensures wrote { AddRows (state S.Store tx.old.conn.now) (state S.Store tx.new.conn.now) result
-        (lists_past lengths book number pledge.now) }
+    ensures wrote { AddRows (state S.Store tx.old.conn.now) (state S.Store tx.new.conn.now) result (lists_past lengths book number pledge.now) }
     ensures carried { Carries S.Store tx.old.conn tx.new.conn (is_ok result) }
 {
     let secrets = next_place(lengths.secrets)?;
@@ -77,10 +75,8 @@ pub(crate) fn put_any_booking<S: Alter>(
     booking: Option<Booking>,
 ) -> Result<(), KeepError>
     ensures wrote { (before : Option Booking) → (booking ≡ None → before ≡ None)
-        → PutsFor (state S.Store tx.old.conn.now)
-        (state S.Store tx.new.conn.now) result bookings_tree (at_pledge book number)
-        (at_most_one (λ k. under book number (booking_cells k)) before)
-        (at_most_one (λ k. under book number (booking_cells k)) booking) }
+        → PutsFor (state S.Store tx.old.conn.now) (state S.Store tx.new.conn.now) result bookings_tree (at_pledge book number)
+        (at_most_one (λ k. under book number (booking_cells k)) before) (at_most_one (λ k. under book number (booking_cells k)) booking) }
     ensures carried { Carries S.Store tx.old.conn tx.new.conn (is_ok result) }
 {
     match booking {
@@ -97,8 +93,7 @@ pub(crate) fn put_sides<S: Alter>(
     number: u32,
     pledge: &Pledge,
 ) -> Result<(), KeepError>
-    ensures wrote { AddSides (state S.Store tx.old.conn.now)
-        (state S.Store tx.new.conn.now) result book number pledge.now }
+    ensures wrote { AddSides (state S.Store tx.old.conn.now) (state S.Store tx.new.conn.now) result book number pledge.now }
     ensures lent { Lends S.Store tx.old.conn tx.new.conn (is_ok result) }
 {
     put_row(tx, book, number, pledge)?;
@@ -114,8 +109,7 @@ pub(crate) fn put_whole<S: Alter>(
     number: u32,
     pledge: &Pledge,
 ) -> Result<u32, KeepError>
-    ensures wrote { AddsPledge (state S.Store tx.old.conn.now)
-        (state S.Store tx.new.conn.now) result book number pledge.now }
+    ensures wrote { AddsPledge (state S.Store tx.old.conn.now) (state S.Store tx.new.conn.now) result book number pledge.now }
     ensures lent { Lends S.Store tx.old.conn tx.new.conn (is_ok result) }
 {
     let added = rows_of(pledge)?;

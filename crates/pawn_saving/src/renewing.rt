@@ -1,6 +1,6 @@
 ghost use Rattle.std.specs.Prelude.{◌≡◌, ◌+◌, None, Some, IfOk, is_ok};
-ghost use Rattle.pawn_saving.specs.Common.{get, state, PledgeValue, pledge_in, pledge_rows, PutPledge, Lends};
-ghost use Rattle.pawn_saving.specs.Saving.{WritesWhere, RenewSides, IsStored};
+ghost use Rattle.{pawn_tables.specs.Common.{get, state, PledgeValue, pledge_in, Lends}, pawn_saving.specs.Common.{pledge_rows, PutPledge}};
+ghost use Rattle.pawn_saving.specs.{Counted.WritesWhere, Putting.RenewSides, Stored.IsStored};
 
 use crate::books::set_pledges_count;
 use crate::pledges::{set_row, set_totals};
@@ -18,8 +18,7 @@ pub(crate) fn add_pledge<S: Alter>(
     number: Number,
     pledge: &Pledge,
 ) -> Result<u32, KeepError>
-    ensures wrote { WritesWhere (state S.Store tx.old.conn.now) (state S.Store tx.new.conn.now)
-        (λ h. pledge_in (get h.books book) number ≡ None)
+    ensures wrote { WritesWhere (state S.Store tx.old.conn.now) (state S.Store tx.new.conn.now) (λ h. pledge_in (get h.books book) number ≡ None)
         (PutPledge book number pledge.now) result }
     ensures lent { Lends S.Store tx.old.conn tx.new.conn (is_ok result) }
 {
@@ -36,10 +35,8 @@ fn set_sides<S: Alter>(
     number: u32,
     pledge: &Pledge,
 ) -> Result<(), KeepError>
-    ensures wrote { (before : PledgeValue) → before.agreement ≡ pledge.now.agreement
-        → (pledge.now.standing.booking ≡ None → before.standing.booking ≡ None)
-        → RenewSides (state S.Store tx.old.conn.now)
-        (state S.Store tx.new.conn.now) result book number before pledge.now }
+    ensures wrote { (before : PledgeValue) → before.agreement ≡ pledge.now.agreement → (pledge.now.standing.booking ≡ None → before.standing.booking ≡ None)
+        → RenewSides (state S.Store tx.old.conn.now) (state S.Store tx.new.conn.now) result book number before pledge.now }
     ensures lent { Lends S.Store tx.old.conn tx.new.conn (is_ok result) }
 {
     set_row(tx, book, number, pledge)?;
@@ -50,8 +47,7 @@ fn set_sides<S: Alter>(
 /// How many more counted rows a pledge has than are stored of it. It is an error if it has fewer, or if its booking is
 /// gone: no command takes one away.
 fn rows_added(stored: Stored, pledge: &Pledge) -> Result<u32, KeepError>
-    ensures value { IfOk result (λ added. (before : PledgeValue) → IsStored stored (Some before)
-        → pledge_rows pledge.now ≡ pledge_rows before + added) }
+    ensures value { IfOk result (λ added. (before : PledgeValue) → IsStored stored (Some before) → pledge_rows pledge.now ≡ pledge_rows before + added) }
     ensures booked { IfOk result (λ added. (before : PledgeValue) → IsStored stored (Some before)
         → pledge.now.standing.booking ≡ None → before.standing.booking ≡ None) }
 {
@@ -74,10 +70,8 @@ pub(crate) fn renew_pledge<S: Alter>(
     stored: Stored,
     pledge: &Pledge,
 ) -> Result<u32, KeepError>
-    ensures wrote { (before : PledgeValue) → IsStored stored (Some before)
-        → WritesWhere (state S.Store tx.old.conn.now) (state S.Store tx.new.conn.now)
-        (λ h. pledge_in (get h.books book) number ≡ Some before)
-        (PutPledge book number pledge.now) result }
+    ensures wrote { (before : PledgeValue) → IsStored stored (Some before) → WritesWhere (state S.Store tx.old.conn.now) (state S.Store tx.new.conn.now)
+        (λ h. pledge_in (get h.books book) number ≡ Some before) (PutPledge book number pledge.now) result }
     ensures lent { Lends S.Store tx.old.conn tx.new.conn (is_ok result) }
 {
     let added = rows_added(stored, pledge)?;

@@ -1,7 +1,7 @@
 ghost use Rattle.std.specs.Prelude.{◌≡◌, ◌≢◌, false, is_ok};
-ghost use Rattle.pawn_saving.specs.Common.{state, CanSave, OfHost, Saves, Lends, keeping_by};
+ghost use Rattle.{pawn_tables.specs.{Common.{state, Lends}, Keeps.keeping_by}, pawn_saving.specs.{Common.CanSave, Counted.{WritesChange, WritesRows}}};
+ghost use Rattle.pawn_book.specs.Keeping.{OfHost, Saves};
 ghost use Rattle.pawn_book.specs.declared.fault.SaveError.TheVariants as Save;
-ghost use Rattle.pawn_saving.specs.Counted.{WritesChange, WritesRows};
 
 use crate::changes::{add_terms, make_book, put_pledge};
 use crate::counting::count_within;
@@ -22,8 +22,7 @@ fn unsaved(error: KeepError) -> SaveError
 
 // Writes a change. Returns how many counted rows that adds.
 fn write_rows<S: Alter>(tx: &mut Transaction<'_, S>, change: &Change) -> Result<u32, KeepError>
-    ensures wrote { WritesRows (state S.Store tx.old.conn.now)
-        (state S.Store tx.new.conn.now) change.now result }
+    ensures wrote { WritesRows (state S.Store tx.old.conn.now) (state S.Store tx.new.conn.now) change.now result }
     ensures lent { Lends S.Store tx.old.conn tx.new.conn (is_ok result) }
 {
     match change {
@@ -49,8 +48,7 @@ pub(crate) fn write_change<S: Alter>(
     tx: &mut Transaction<'_, S>,
     change: &Change,
 ) -> Result<(), SaveError>
-    ensures wrote { WritesChange (state S.Store tx.old.conn.now)
-        (state S.Store tx.new.conn.now) change.now result }
+    ensures wrote { WritesChange (state S.Store tx.old.conn.now) (state S.Store tx.new.conn.now) change.now result }
     ensures lent { Lends S.Store tx.old.conn tx.new.conn (is_ok result) }
 {
     let added = match write_rows(tx, change) {

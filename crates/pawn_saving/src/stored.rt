@@ -1,7 +1,7 @@
 //! How much of a pledge is stored before it is written.
 ghost use Rattle.std.specs.Prelude.{◌≡◌, ◌≤◌, ◌↔◌, IsTrue, is_ok};
-ghost use Rattle.pawn_saving.specs.Common.{get, state, pledge_in, Lends};
-ghost use Rattle.pawn_saving.specs.Saving.{AreLengths, IsLengthWithin, IsStored, ReadsIn, length_in, Carries};
+ghost use Rattle.{pawn_tables.specs.Common.{get, state, pledge_in, Lends}, pawn_saving.specs.Stored.{AreLengths, IsLengthWithin, IsStored, ReadsIn, length_in}};
+ghost use Rattle.pawn_saving.specs.Writing.{Carries};
 
 use crate::lengths::Lengths;
 use pawn_book::KeepError;
@@ -33,8 +33,7 @@ fn stands_at<S: Alter>(
     place: u32,
 ) -> Result<bool, KeepError>
     ensures reads { ReadsIn (state S.Store tx.old.conn.now) (state S.Store tx.new.conn.now) result
-        (λ h stands. 1 ≤ place
-        → (IsTrue stands ↔ place ≤ length_in list (pledge_in (get h.books book) number))) }
+        (λ h stands. 1 ≤ place → (IsTrue stands ↔ place ≤ length_in list (pledge_in (get h.books book) number))) }
     ensures lent { Lends S.Store tx.old.conn tx.new.conn (is_ok result) }
 {
     match list {
@@ -53,8 +52,7 @@ fn length_within<S: Alter>(
     most: u32,
 ) -> Result<u32, KeepError>
     ensures reads { ReadsIn (state S.Store tx.old.conn.now) (state S.Store tx.new.conn.now) result
-        (λ h length. length_in list (pledge_in (get h.books book) number) ≤ most
-        → length ≡ length_in list (pledge_in (get h.books book) number)) }
+        (λ h length. length_in list (pledge_in (get h.books book) number) ≤ most → length ≡ length_in list (pledge_in (get h.books book) number)) }
     ensures carried { Carries S.Store tx.old.conn tx.new.conn (is_ok result) }
 {
     let mut length = most;
@@ -76,8 +74,7 @@ fn lengths_within<S: Alter>(
     most: Lengths,
 ) -> Result<Lengths, KeepError>
     ensures reads { ReadsIn (state S.Store tx.old.conn.now) (state S.Store tx.new.conn.now) result
-        (λ h lengths. IsLengthWithin (pledge_in (get h.books book) number) most → AreLengths lengths
-        (pledge_in (get h.books book) number)) }
+        (λ h lengths. IsLengthWithin (pledge_in (get h.books book) number) most → AreLengths lengths (pledge_in (get h.books book) number)) }
     ensures carried { Carries S.Store tx.old.conn tx.new.conn (is_ok result) }
 {
     let entries = length_within(tx, PledgeList::Entries, book, number, most.entries)?;
@@ -99,8 +96,7 @@ pub(crate) fn stored_within<S: Alter>(
     most: Lengths,
 ) -> Result<Stored, KeepError>
     ensures reads { ReadsIn (state S.Store tx.old.conn.now) (state S.Store tx.new.conn.now) result
-        (λ h stored. IsLengthWithin (pledge_in (get h.books book) number) most → IsStored stored
-        (pledge_in (get h.books book) number)) }
+        (λ h stored. IsLengthWithin (pledge_in (get h.books book) number) most → IsStored stored (pledge_in (get h.books book) number)) }
     ensures lent { Lends S.Store tx.old.conn tx.new.conn (is_ok result) }
 {
     let is_booked = booking_in(tx, book, number)?.is_some();

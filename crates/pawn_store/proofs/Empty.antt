@@ -1,12 +1,12 @@
 -- The empty host is sound.
-use Rattle.pawn_store.proofs.Basics.{◌≡◌, ◌∙◌, ℕ, [], ◌∷◌, map, sym, ap, arith, sum_by, BookValue, book_rows, empty, empty_host, entries, get-empty, len-empty, len-entries, rows, EmptyHostIsSound}
-use Rattle.std.specs.Ordering.{nat_cmp}
-use Rattle.pawn_base.proofs.ListLemmas.{no_elements}
-use Rattle.pawn_book.proofs.Sounds.{absurd_none}
+use Rattle.std.{proofs.Common.{◌≡◌, ◌∙◌, ℕ, [], ◌∷◌, map, sym, ap, arith, sum_by}, specs.FinMap.{empty, entries, get-empty, len-empty, len-entries}}
+use Rattle.{std.specs.Ordering.nat_cmp, pawn_book.{specs.{BookStep.BookValue, HostStep.{book_rows, rows}}, proofs.Sounds.absurd_none}}
+use Rattle.{pawn_opening.specs.Opened.empty_host, pawn_store.specs.Running.EmptyHostIsSound, pawn_base.proofs.ListLemmas.no_elements}
 
 no_rows : (limit : ℕ) → rows (empty_host limit) ≡ 0
 no_rows limit =
-    let none : entries (empty {X = BookValue} {R = nat_cmp}) ≡ [] = no_elements _ (sym (len-entries (empty {X = BookValue} {R = nat_cmp})) ∙ len-empty nat_cmp BookValue) in
+    let none : entries (empty {X = BookValue} {R = nat_cmp}) ≡ [] =
+    no_elements _ (sym (len-entries (empty {X = BookValue} {R = nat_cmp})) ∙ len-empty nat_cmp BookValue) in
     ap (λ es. sum_by book_rows (map (λ e. e.1) es)) none
 
 pub empty_sound : EmptyHostIsSound

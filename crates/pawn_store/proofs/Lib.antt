@@ -1,4 +1,3 @@
-pub mod Basics
 mod Empty
 mod OtherRowLemmas
 mod Runs

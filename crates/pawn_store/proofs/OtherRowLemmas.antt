@@ -1,15 +1,15 @@
 -- The rows of one book are those of its own content.
-use Rattle.pawn_store.proofs.Basics.{◌≡◌, ◌≢◌, ◌++◌, ◌==◌, ℕ, ◌+◌, List, [], ◌∷◌, map, filter, flat_map, true, false, cond, ◌&&◌, Ok, Err, refl, sym, ap, subst, ◌∙◌, arith, IsPermutation, AllByRecursion, BookValue, Database, Event, Holds, Host, Mark, Row, Stamp, StandsFor, Table, Trees, at_book, column, entries, get, host_after_event, is_at, no_memory, no_store, of_books, of_pledges, read_as, request_in, run_host}
-use Rattle.std.proofs.lemmas.Bool.Decides.{nat_tests}
-use Rattle.std.proofs.lemmas.List.Sorted.{IsPermutation-trans, IsPermutation-sym}
-use Rattle.sqlite_trees.proofs.ListLemmas.{IsPermutation-filter}
-use Rattle.pawn_pledge.specs.Pledge.{PledgeValue}
-use Rattle.pawn_terms.specs.declared.terms.Rates.{Rates}
-use Rattle.pawn_book.proofs.SlotRuns.{other_books_stay}
-use Rattle.pawn_tables.specs.Rows.{number, book_row, terms_listed, placed_from, terms_cells, pledge_listed, entries_listed, secrets_listed, booking_listed, totals_listed, extensions_listed, entry_cells, secret_cells, extension_cells, number_in_book}
-use Rattle.pawn_tables.proofs.RowsUnderKey.{AreUnder, equals, rows_at, of_one_book}
-use Rattle.pawn_tables.proofs.PledgeReads.{under_map, under_placed, under_booked}
-use Rattle.pawn_store.specs.OtherRows.{AreElsewhere, HaveSameRows, IsElsewhere, OtherRowsStay, OtherRowsStayInRuns, rows_under_book}
+use Rattle.std.proofs.Common.{◌≡◌, ◌≢◌, ◌++◌, ◌==◌, ℕ, ◌+◌, List, [], ◌∷◌, map, filter, flat_map, true, false, cond, ◌&&◌, Ok, Err, refl, sym, ap, subst, ◌∙◌}
+use Rattle.std.{proofs.{Common.{arith, IsPermutation}, lemmas.Bool.Decides.nat_tests}, specs.{List.AllByRecursion, FinMap.{entries, get}}}
+use Rattle.{std.proofs.lemmas.List.Sorted.{IsPermutation-trans, IsPermutation-sym}, pawn_book.specs.{BookStep.BookValue, Runs.{Event, Mark, host_after_event}}}
+use Rattle.pawn_book.{specs.{Runs.{no_memory, no_store, read_as, request_in, run_host}, HostStep.Host}, proofs.SlotRuns.other_books_stay}
+use Rattle.{sqlite.specs.{Effect.Database, Order.{Row, column}, Table.Table, Tree.Trees}, one_table.specs.Listing.Holds}
+use Rattle.{pawn_pledge.specs.{declared.command.Stamp.Stamp, Pledge.PledgeValue}, pawn_tables.specs.{StandsFor.{StandsFor, of_books, of_pledges}, At.at_book}}
+use Rattle.pawn_tables.specs.{At.is_at, Rows.{number, book_row, terms_listed, placed_from, terms_cells, pledge_listed, entries_listed, secrets_listed}}
+use Rattle.pawn_tables.specs.Rows.{booking_listed, totals_listed, extensions_listed, entry_cells, secret_cells, extension_cells, number_in_book}
+use Rattle.pawn_tables.proofs.{RowsUnderKey.{AreUnder, equals, rows_at, of_one_book}, PledgeReads.{under_map, under_placed, under_booked}}
+use Rattle.{sqlite_trees.proofs.ListLemmas.IsPermutation-filter, pawn_terms.specs.declared.terms.Rates.Rates, pawn_store.specs.OtherRows.AreElsewhere}
+use Rattle.pawn_store.specs.OtherRows.{HaveSameRows, IsElsewhere, OtherRowsStay, OtherRowsStayInRuns, rows_under_book}
 
 -- rows of one book
 abbrev pub AreOf : ℕ → List Row → Type 0
@@ -23,7 +23,8 @@ not_here b m apart = let e : (m == b) ≡ false = grind (arith, nat_tests, apart
 
 none_of : (b m : ℕ) → m ≢ b → (rows : List Row) → AreOf m rows → filter (at_book b) rows ≡ []
 none_of b m apart [] h = refl
-none_of b m apart (r ∷ rows) h = ap (λ c. cond c (r ∷ filter (at_book b) rows) (filter (at_book b) rows)) (is_of b m r h.0 ∙ not_here b m apart) ∙ none_of b m apart rows h.1
+none_of b m apart (r ∷ rows) h = ap (λ c. cond c (r ∷ filter (at_book b) rows) (filter (at_book b) rows)) (is_of b m r h.0 ∙ not_here b m apart)
+    ∙ none_of b m apart rows h.1
 
 -- the rows of a book hang on its content alone
 one_book : (h g : Host) (b : ℕ) (rows_of : ℕ → BookValue → List Row) → ((m : ℕ) (k : BookValue) → AreOf m (rows_of m k))
@@ -58,11 +59,11 @@ singles f (x ∷ xs) = ap (λ l. f x ∷ l) (singles f xs)
 
 held : (old new : Trees) (b : ℕ) (table : Table) (xs ys : List Row) → Holds old table.tree table xs → Holds new table.tree table ys
     → filter (at_book b) xs ≡ filter (at_book b) ys → IsPermutation (rows_under_book b old table) (rows_under_book b new table)
-held old new b table xs ys a c same =
-    IsPermutation-trans _ _ _ (IsPermutation-sym _ _ (IsPermutation-filter (at_book b) _ _ a.same))
+held old new b table xs ys a c same = IsPermutation-trans _ _ _ (IsPermutation-sym _ _ (IsPermutation-filter (at_book b) _ _ a.same))
     (subst (λ l. IsPermutation l (rows_under_book b new table)) (sym same) (IsPermutation-filter (at_book b) _ _ c.same))
 
-pub same_rows : (old new : Database) (h g : Host) (b : ℕ) → StandsFor old h → StandsFor new g → get h.books b ≡ get g.books b → HaveSameRows b old.trees new.trees
+pub same_rows : (old new : Database) (h g : Host) (b : ℕ) → StandsFor old h → StandsFor new g → get h.books b ≡ get g.books b
+    → HaveSameRows b old.trees new.trees
 same_rows old new h g b a c same = (
   held old.trees new.trees b _ _ _ a.books c.books heads,
   (
@@ -78,7 +79,8 @@ same_rows old new h g b a c same = (
             (
               held old.trees new.trees b _ _ _ a.totals c.totals (of_each totals_listed (λ m p. ((refl, refl), tt))),
               (
-                held old.trees new.trees b _ _ _ a.extensions c.extensions (of_each extensions_listed (λ m p. under_placed m (number_in_book p) extension_cells 1 p.extensions)),
+                held old.trees new.trees b _ _ _ a.extensions c.extensions
+                    (of_each extensions_listed (λ m p. under_placed m (number_in_book p) extension_cells 1 p.extensions)),
                 tt,
               ),
             ),
@@ -87,17 +89,15 @@ same_rows old new h g b a c same = (
       ),
     ),
   ),
-)
-  where
-    of_each : (f : ℕ → PledgeValue → List Row) → ((m : ℕ) (p : PledgeValue) → AreUnder m (number_in_book p) (f m p))
-        → filter (at_book b) (of_pledges h f) ≡ filter (at_book b) (of_pledges g f)
-    of_each f are = one_book h g b (λ m k. flat_map (f m) k.pledges) (λ m k. of_all m (f m) (are m) k.pledges) same
+) where
+  of_each : (f : ℕ → PledgeValue → List Row) → ((m : ℕ) (p : PledgeValue) → AreUnder m (number_in_book p) (f m p))
+      → filter (at_book b) (of_pledges h f) ≡ filter (at_book b) (of_pledges g f)
+  of_each f are = one_book h g b (λ m k. flat_map (f m) k.pledges) (λ m k. of_all m (f m) (are m) k.pledges) same
 
-    heads : filter (at_book b) (map (λ (e : ℕ × BookValue). book_row e.0 e.1) (entries h.books)) ≡ filter (at_book b) (map (λ (e : ℕ × BookValue). book_row e.0 e.1) (entries g.books))
-    heads =
-        ap (filter (at_book b)) (sym (singles (λ (e : ℕ × BookValue). book_row e.0 e.1) (entries h.books)))
-        ∙ one_book h g b (λ m k. book_row m k ∷ []) (λ m k. (refl, tt)) same
-        ∙ ap (filter (at_book b)) (singles (λ (e : ℕ × BookValue). book_row e.0 e.1) (entries g.books))
+  heads : filter (at_book b) (map (λ (e : ℕ × BookValue). book_row e.0 e.1) (entries h.books)) ≡ filter (at_book b)
+      (map (λ (e : ℕ × BookValue). book_row e.0 e.1) (entries g.books))
+  heads = ap (filter (at_book b)) (sym (singles (λ (e : ℕ × BookValue). book_row e.0 e.1) (entries h.books))) ∙ one_book h g b (λ m k. book_row m k ∷ [])
+      (λ m k. (refl, tt)) same ∙ ap (filter (at_book b)) (singles (λ (e : ℕ × BookValue). book_row e.0 e.1) (entries g.books))
 
 pub other_rows_stay : OtherRowsStay
 other_rows_stay old new h operator b stamp request a c other = same_rows old new h _ b a c (sym (other_books_stay h operator b stamp request other))
@@ -111,7 +111,8 @@ after_event h operator b stamp (read_as (Err fault)) other = refl
 after_event h operator b stamp no_memory other = refl
 after_event h operator b stamp no_store other = refl
 
-after_run : {F : Type 0} (h : Host) (operator b : ℕ) (events : List (Event F)) → AreElsewhere b events → get (run_host h operator events).books b ≡ get h.books b
+after_run : {F : Type 0} (h : Host) (operator b : ℕ) (events : List (Event F)) → AreElsewhere b events
+    → get (run_host h operator events).books b ≡ get h.books b
 after_run h operator b [] others = refl
 after_run h operator b (event ∷ events) others =
     after_run (host_after_event h operator event) operator b events others.1 ∙ after_event h operator b event.stamp event.mark others.0

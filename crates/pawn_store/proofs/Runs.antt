@@ -1,8 +1,11 @@
 -- A call over tables, from what the service says of it.
-use Rattle.pawn_store.proofs.Basics.{◌≡◌, ◌∙◌, ◌++◌, ℕ, List, [], refl, sym, subst, Result, Ok, Err, inl, All, Option, Ended, Given, GoesBy, Host, Image, IoFault, IsLeftByRun, IsMarked, IsSession, IsSound, IsWhole, Item, Keeps, Kept, Leaves, OpensAs, Stamp, StandsIn, Start, State, host_after_run, crash_leaves_whole, host_after-append, left_by-append, run_wider, ActsOverTables, HasAnswered, HoldsSession, Reopens, acted_items, kept_in, start_at}
-use Rattle.std.proofs.lemmas.List.Elements.{All-append, All-nil}
-use Rattle.pawn_tables.proofs.OneHost.{tables_stand_for_one_host}
-use Rattle.pawn_host.proofs.HeadlineLemmas.{runs_answer_alone}
+use Rattle.std.proofs.{Common.{◌≡◌, ◌∙◌, ◌++◌, ℕ, List, [], refl, sym, subst, Result, Ok, Err, inl, All, Option}, lemmas.List.Elements.{All-append, All-nil}}
+use Rattle.pawn_host.specs.{declared.session.{Ended.Ended, IoFault.IoFault}, Session.{Given, IsSession}, Keeps.{GoesBy, Kept, Start}, Crashes.IsLeftByRun}
+use Rattle.pawn_host.{specs.Run.{IsMarked, Item, host_after_run}, proofs.CrashLemmas.{crash_leaves_whole, host_after-append, left_by-append, run_wider}}
+use Rattle.{pawn_host.proofs.HeadlineLemmas.runs_answer_alone, pawn_book.specs.{HostStep.Host, Sound.IsSound}, sqlite_wal.specs.Recovery.Image}
+use Rattle.{pawn_tables.{specs.Keeps.{IsWhole, Keeps, Leaves}, proofs.OneHost.tables_stand_for_one_host}, pawn_opening.specs.Opened.OpensAs}
+use Rattle.{pawn_opening.specs.FilesStand.StandsIn, pawn_pledge.specs.declared.command.Stamp.Stamp, sqlite.specs.State.State}
+use Rattle.pawn_store.specs.Running.{ActsOverTables, HasAnswered, HoldsSession, Reopens, acted_items, kept_in, start_at}
 
 -- over a store that was opened nothing was answered yet
 pub nothing_answered : (store : State) (h : Host) (operator : ℕ) → IsSound h → OpensAs store h → HasAnswered store h operator []
@@ -23,7 +26,8 @@ answered_whole store h operator items was = record {
 }
 
 -- and a crash leaves no other hosts than those
-exact_before : (store : State) (h : Host) (operator : ℕ) (items : List Item) → HasAnswered store h operator items → (g : Host) → Leaves store g → IsLeftByRun h operator items (λ x. x ≡ h) g
+exact_before : (store : State) (h : Host) (operator : ℕ) (items : List Item) → HasAnswered store h operator items → (g : Host) → Leaves store g
+    → IsLeftByRun h operator items (λ x. x ≡ h) g
 exact_before store h operator items was g l =
     let one = was.crash l.trees l.left in
     subst (IsLeftByRun h operator items (λ x. x ≡ h)) (tables_stand_for_one_host _ one.host g one.held l.stands) one.exact
@@ -44,32 +48,40 @@ acts_over_tables old new h operator before Did items was whole marked goes did =
     crash = λ trees left.
         let one = (whole (answered_whole old h operator before was)).crash trees left in
         let by = goes.crash one.0 (record { trees = trees; left = left; stands = one.2 }) in
-        let wide = run_wider (host_after_run h operator before) operator items (Leaves old) (IsLeftByRun h operator before (λ x. x ≡ h)) (exact_before old h operator before was) one.0 by in
+        let wide = run_wider (host_after_run h operator before) operator items (Leaves old) (IsLeftByRun h operator before (λ x. x ≡ h))
+        (exact_before old h operator before was) one.0 by in
         let exact = left_by-append h operator before items (λ x. x ≡ h) one.0 wide in
-        record { host = one.0; sound = one.1; held = one.2; exact = exact; whole = crash_leaves_whole h operator (before ++ items) (λ x. x ≡ h) (λ g same. same) one.0 exact };
+        record {
+          host = one.0;
+          sound = one.1;
+          held = one.2;
+          exact = exact;
+          whole = crash_leaves_whole h operator (before ++ items) (λ x. x ≡ h) (λ g same. same) one.0 exact;
+        };
   };
 }
 
 -- the items of a session
 module _ {S : Type 0} (steps : S → Option Stamp → S → Type 0) where
-  session_marked : (given : Given S) (stamps : S) (written : Option (List ℕ)) (result : Result Ended IoFault) (kept : Kept) (session : IsSession steps given stamps written result kept)
-      → All (IsMarked given.start.Steady) (acted_items steps given stamps written result kept session)
+  session_marked : (given : Given S) (stamps : S) (written : Option (List ℕ)) (result : Result Ended IoFault) (kept : Kept) (session : IsSession steps given
+      stamps written result kept) → All (IsMarked given.start.Steady) (acted_items steps given stamps written result kept session)
   session_marked given stamps written (Ok ended) kept session = session.served.marked
   session_marked given stamps written (Err fault) kept session = session.served.marked
 
-  session_goes : (given : Given S) (stamps : S) (written : Option (List ℕ)) (result : Result Ended IoFault) (kept : Kept) (session : IsSession steps given stamps written result kept)
-      → GoesBy given.start (acted_items steps given stamps written result kept session) kept
+  session_goes : (given : Given S) (stamps : S) (written : Option (List ℕ)) (result : Result Ended IoFault) (kept : Kept)
+      (session : IsSession steps given stamps written result kept) → GoesBy given.start (acted_items steps given stamps written result kept session) kept
   session_goes given stamps written (Ok ended) kept session = session.served.goes
   session_goes given stamps written (Err fault) kept session = session.served.goes
 
   -- a session over tables
-  pub session_over_tables : (old new : State) (h : Host) (operator : ℕ) (before : List Item) (from : S) (stream wrote : Option (List ℕ)) (stamps : S) (written : Option (List ℕ)) (result : Result Ended IoFault)
-      → HasAnswered old h operator before → (IsWhole old → IsWhole new)
-      → IsSession steps (record { start = start_at old (host_after_run h operator before) operator; stamps = from; stream = stream; written = wrote }) stamps written result (kept_in new)
-      → ActsOverTables old new h operator before (HoldsSession steps from stream wrote stamps written result)
+  pub session_over_tables : (old new : State) (h : Host) (operator : ℕ) (before : List Item) (from : S) (stream wrote : Option (List ℕ)) (stamps : S)
+      (written : Option (List ℕ)) (result : Result Ended IoFault) → HasAnswered old h operator before → (IsWhole old → IsWhole new)
+      → IsSession steps (record { start = start_at old (host_after_run h operator before) operator; stamps = from; stream = stream; written = wrote }) stamps
+      written result (kept_in new) → ActsOverTables old new h operator before (HoldsSession steps from stream wrote stamps written result)
   session_over_tables old new h operator before from stream wrote stamps written result was whole session =
       let given : Given S = record { start = start_at old (host_after_run h operator before) operator; stamps = from; stream = stream; written = wrote } in
-      acts_over_tables old new h operator before (HoldsSession steps from stream wrote stamps written result) (acted_items steps given stamps written result (kept_in new) session) was whole
+      acts_over_tables old new h operator before (HoldsSession steps from stream wrote stamps written result)
+      (acted_items steps given stamps written result (kept_in new) session) was whole
       (session_marked given stamps written result (kept_in new) session) (session_goes given stamps written result (kept_in new) session) (session, refl)
 
 -- files that are opened again after a crash

@@ -1,3 +1,2 @@
 pub mod OtherRows
 pub mod Running
-pub mod Common

@@ -1,13 +1,16 @@
 -- The rows of one book: no request on another book changes them.
-use Rattle.std.specs.Prelude.{ℕ, ◌≡◌, ◌≢◌, List, [], ◌∷◌, filter, map, Option, None, Some, IsPermutation}
-use Rattle.pawn_store.specs.Common.{AllByRecursion, Database, Event, Host, Request, Row, Stamp, StandsFor, Table, Trees, at_book, columns_of, request_in, run_host}
-use Rattle.pawn_book.specs.Plans.{next_host}
-use Rattle.pawn_tables.specs.Schema.{books, terms, pledges, entries, secrets, bookings, totals, extensions, bookings_tree, books_tree, entries_tree, extensions_tree, pledges_tree, secrets_tree, terms_tree, totals_tree}
+use Rattle.std.specs.{Prelude.{ℕ, ◌≡◌, ◌≢◌, List, [], ◌∷◌, filter, map, Option, None, Some, IsPermutation}, List.AllByRecursion}
+use Rattle.{sqlite.specs.{Effect.Database, Order.Row, Table.Table, Tree.Trees}, pawn_book.specs.{Runs.{Event, request_in, run_host}, HostStep.Host}}
+use Rattle.{pawn_book.specs.{declared.request.Request.Request, Plans.next_host}, pawn_pledge.specs.declared.command.Stamp.Stamp}
+use Rattle.pawn_tables.specs.{StandsFor.StandsFor, At.at_book, Schema.{books, terms, pledges, entries, secrets, bookings, totals, extensions, bookings_tree}}
+use Rattle.pawn_tables.specs.Schema.{books_tree, entries_tree, extensions_tree, pledges_tree, secrets_tree, terms_tree, totals_tree}
+use Rattle.one_table.specs.Listing.{columns_of}
 
 -- the tables with rows of books: all but meta
 abbrev pub book_tables : List Table
 book_tables =
-    record books { tree = books_tree } ∷ record terms { tree = terms_tree } ∷ record pledges { tree = pledges_tree } ∷ record entries { tree = entries_tree } ∷ record secrets { tree = secrets_tree }
+    record books { tree = books_tree } ∷ record terms { tree = terms_tree } ∷ record pledges { tree = pledges_tree } ∷ record entries { tree = entries_tree }
+    ∷ record secrets { tree = secrets_tree }
     ∷ record bookings { tree = bookings_tree } ∷ record totals { tree = totals_tree } ∷ record extensions { tree = extensions_tree } ∷ []
 
 -- the rows of a table under a book's number, as SELECT * shows them

@@ -1,9 +1,12 @@
 -- What it means that requests were answered over the tables of a store.
 use Rattle.std.specs.Prelude.{◌≡◌, ◌++◌, ℕ, All, List, [], Option, Result, Ok, Err}
-use Rattle.pawn_store.specs.Common.{AreServed, Ended, Given, HasCleanDisk, HoldHost, HoldsDatabase, Host, Image, IoFault, IsLeftByRun, IsLeftWhole, IsMarked, IsRun, IsSession, IsSound, Item, Keeps, Kept, Leaves, OpensAs, Service, Stamp, Start, State, Trees, empty_host, host_after_run, items_of, replies, service_keep, state}
-use Rattle.sqlite_trees.specs.declared.store.Store.{Ghosts}
+use Rattle.{pawn_program.specs.Serving.{AreServed, items_of}, pawn_host.specs.{declared.session.{Ended.Ended, IoFault.IoFault}, Session.{Given, IsSession}}}
+use Rattle.pawn_host.specs.{Crashes.{IsLeftByRun, IsLeftWhole}, Run.{IsMarked, Item, host_after_run, replies}, Keeps.{IsRun, Kept, Start, service_keep}}
+use Rattle.{pawn_host.specs.{declared.service.Service.Service, Headline.AnswerAlone}, sqlite.specs.{State.{HasCleanDisk, State}, Files.HoldsDatabase}}
+use Rattle.{sqlite.specs.{Tree.Trees, Held.state}, pawn_tables.specs.{StandsFor.HoldHost, Keeps.{Keeps, Leaves}}, pawn_book.specs.HostStep.Host}
+use Rattle.{pawn_book.specs.Sound.IsSound, sqlite_wal.specs.Recovery.Image, pawn_opening.specs.Opened.{OpensAs, empty_host}}
+use Rattle.{pawn_pledge.specs.declared.command.Stamp.Stamp, sqlite_trees.specs.declared.store.Store.Ghosts}
 use Rattle.pawn_table_keeper.specs.declared.keeper.TableKeep.{TableKeep}
-use Rattle.pawn_host.specs.Headline.{AnswerAlone}
 
 -- the store under a service
 abbrev pub store_of : {S : Type 0} (ghosts : Ghosts S) → Service (TableKeep S ghosts) → State
@@ -75,7 +78,8 @@ EmptyHostIsSound = (limit : ℕ) → IsSound (empty_host limit)
 -- a store that was just opened for a sound host has answered nothing yet
 abbrev pub OpenedHasAnsweredNothing : {S : Type 0} → Ghosts S → Type 0
 OpenedHasAnsweredNothing {S} ghosts =
-    (service : Service (TableKeep S ghosts)) (h : Host) (operator : ℕ) → IsSound h → OpensAs (store_of ghosts service) h → HasAnswered (store_of ghosts service) h operator []
+    (service : Service (TableKeep S ghosts)) (h : Host) (operator : ℕ) → IsSound h → OpensAs (store_of ghosts service) h
+    → HasAnswered (store_of ghosts service) h operator []
 
 -- If files hold trees that a crash may leave after these items, then the store that is opened over them starts anew. It
 -- has answered nothing yet, from the host after all items, or from that host with one request more.

@@ -1,6 +1,5 @@
 //! Laws of the definitions.
-ghost use Rattle.pawn_store.specs.OtherRows.{OtherRowsStay, OtherRowsStayInRuns};
-ghost use Rattle.pawn_store.specs.Running.{EmptyHostIsSound, OpenedHasAnsweredNothing};
+ghost use Rattle.pawn_store.specs.{OtherRows.{OtherRowsStay, OtherRowsStayInRuns}, Running.{EmptyHostIsSound, OpenedHasAnsweredNothing}};
 
 use sqlite::Alter;
 

@@ -1,8 +1,7 @@
 //! How long a service over tables answers connections.
 ghost use Rattle.std.specs.Prelude.{◌≡◌, ◌+◌, false, IfErr, IfOk};
-ghost use Rattle.pawn_host.specs.Keeps.{service_operator};
-ghost use Rattle.pawn_program.specs.Clock.{GivesDated};
-ghost use Rattle.pawn_store.specs.Running.{OverTables, ServesConnections, store_of};
+ghost use Rattle.{pawn_host.specs.Keeps.service_operator, pawn_program.specs.Clock.GivesDated, pawn_store.specs.Running.{OverTables, ServesConnections}};
+ghost use Rattle.pawn_store.specs.Running.{store_of};
 
 use crate::running::serve_over_tables;
 use pawn_host::Service;
@@ -39,11 +38,9 @@ pub fn serve_to_the_end<S: Alter, C: Clock>(
     service: &mut Service<TableKeep<S>>,
     stamps: &mut ClockStamps<'_, C>,
 ) -> Result<Served, StoreShut>
-    ensures served { IfOk result (λ served. OverTables (store_of S.Store service.old)
-        (store_of S.Store service.new) (service_operator service.old)
+    ensures served { IfOk result (λ served. OverTables (store_of S.Store service.old) (store_of S.Store service.new) (service_operator service.old)
         (ServesConnections GivesDated stamps.old stamps.new served.answered)) }
-    ensures cut_short { IfErr result (λ e. OverTables (store_of S.Store service.old)
-        (store_of S.Store service.new) (service_operator service.old)
+    ensures cut_short { IfErr result (λ e. OverTables (store_of S.Store service.old) (store_of S.Store service.new) (service_operator service.old)
         (ServesConnections GivesDated stamps.old stamps.new e.served.answered)) }
     ensures counted { IfOk result (λ served. served.answered + served.failed ≡ CONNECTIONS) }
     ensures shut { IfErr result (λ _. (store_of S.Store service.new).is_open ≡ false) }

@@ -1,11 +1,9 @@
 //! Opening stores as keepers, and closing them.
 ghost use Rattle.std.specs.Prelude.{◌≡◌, ◌≤◌, None, false, true, IfErr, IfOk, IfSome, IsTrue};
-ghost use Rattle.pawn_store.specs.Common.{AreClean, AreClosedFor, HasCleanDisk, Host, IsBlank, IsCleanLeft, IsLeftUnclosed, Keeps, OpensAs, OpensFound, RefusesHeld, StandsIn, empty_host, file_state, image_at, state};
-ghost use Rattle.sqlite.specs.Steps.{over_memory};
-ghost use Rattle.sqlite_std_file.specs.File.{IsFresh};
-ghost use Rattle.pawn_book.specs.Limits.{most_rows};
-ghost use Rattle.pawn_opening.specs.Refusing.{IsStoreFault};
-ghost use Rattle.pawn_store.specs.Running.{Reopens};
+ghost use Rattle.{sqlite_wal.specs.{Reads.AreClean, Files.image_at}, pawn_opening.specs.{Closed.{AreClosedFor, IsLeftUnclosed}, FilesStand.IsBlank}};
+ghost use Rattle.pawn_opening.specs.{FilesStand.{OpensFound, RefusesHeld, StandsIn}, Opened.{OpensAs, empty_host}, Refusing.IsStoreFault};
+ghost use Rattle.{sqlite.specs.{State.HasCleanDisk, Files.{IsCleanLeft, file_state}, Held.state, Steps.over_memory}, pawn_book.specs.HostStep.Host};
+ghost use Rattle.{pawn_book.specs.Limits.most_rows, pawn_tables.specs.Keeps.Keeps, sqlite_std_file.specs.File.IsFresh, pawn_store.specs.Running.Reopens};
 
 use pawn_opening::{OpenFault, close_files, open_memory, open_path};
 use pawn_table_keeper::TableKeep;
@@ -21,10 +19,7 @@ pub fn keep_in_memory(alloc: Global, limit: u32) -> Result<TableKeep<MemStore>, 
     ensures opens { IfOk result (λ keep. OpensAs (state over_memory keep.conn) (empty_host limit)) }
     ensures refuses { IfErr result IsStoreFault }
 {
-    let conn = match open_memory(alloc, limit) {
-        Ok(conn) => conn,
-        Err(why) => return Err(why),
-    };
+    let conn = open_memory(alloc, limit)?;
     match TableKeep::over(alloc, conn) {
         Ok(keep) => Ok(keep),
         Err(_) => Err(OpenFault::Store),
@@ -45,24 +40,15 @@ pub fn keep_at_path<S: Start>(
 ) -> Result<TableKeep<FileStore<FileFrom<S>>>, (OpenFault, Option<Leftover<FileFrom<S>>>)>
     requires least { 1 ≤ limit }
     requires most { limit ≤ most_rows }
-    ensures blank { IfOk result (λ keep. HasCleanDisk (file_state keep.conn) → IsBlank
-        (image_at S.Start) → OpensAs (file_state keep.conn) (empty_host limit)) }
-    ensures stands { IfOk result (λ keep. HasCleanDisk (file_state keep.conn) → (h : Host)
-        → StandsIn (image_at S.Start) h → OpensAs (file_state keep.conn) h) }
-    ensures found { IfOk result (λ keep. HasCleanDisk (file_state keep.conn) → OpensFound
-        (image_at S.Start) (file_state keep.conn)) }
-    ensures reopens { IfOk result (λ keep. HasCleanDisk (file_state keep.conn) → Reopens
-        (image_at S.Start) (file_state keep.conn)) }
+    ensures blank { IfOk result (λ keep. HasCleanDisk (file_state keep.conn) → IsBlank (image_at S.Start) → OpensAs (file_state keep.conn) (empty_host limit)) }
+    ensures stands { IfOk result (λ keep. HasCleanDisk (file_state keep.conn) → (h : Host) → StandsIn (image_at S.Start) h → OpensAs (file_state keep.conn) h) }
+    ensures found { IfOk result (λ keep. HasCleanDisk (file_state keep.conn) → OpensFound (image_at S.Start) (file_state keep.conn)) }
+    ensures reopens { IfOk result (λ keep. HasCleanDisk (file_state keep.conn) → Reopens (image_at S.Start) (file_state keep.conn)) }
     ensures unopened { IfErr result (λ e. e.1 ≡ None → IsStoreFault e.0) }
-    ensures refuses { IfErr result
-        (λ e. IfSome e.1
-        (λ rest. (files : _) × IsFresh true files.log × IsFresh false files.db
-        × (IsCleanLeft rest → RefusesHeld (image_at S.Start) files limit e.0 rest))) }
+    ensures refuses { IfErr result (λ e. IfSome e.1
+        (λ rest. (files : _) × IsFresh true files.log × IsFresh false files.db × (IsCleanLeft rest → RefusesHeld (image_at S.Start) files limit e.0 rest))) }
 {
-    let conn = match open_path(rt, path, start, limit) {
-        Ok(conn) => conn,
-        Err(refused) => return Err(refused),
-    };
+    let conn = open_path(rt, path, start, limit)?;
     match TableKeep::over(rt.alloc(), conn) {
         Ok(keep) => Ok(keep),
         Err(_) => Err((OpenFault::Store, None)),
@@ -74,10 +60,8 @@ pub fn keep_at_path<S: Start>(
 pub fn close_keep<D: Disk + Drop>(
     keep: TableKeep<FileStore<D>>,
 ) -> Result<Files<D>, (OpenFault, FileStore<D>)>
-    ensures usable { IfOk result (λ files. IsTrue (D.Disk.is_usable files.log) × IsTrue
-        (D.Disk.is_usable files.db)) }
-    ensures kept { IfOk result (λ files. AreClean D.Disk files.log files.db → (h : Host) → Keeps
-        (file_state keep.conn) h → AreClosedFor D.Disk files h) }
+    ensures usable { IfOk result (λ files. IsTrue (D.Disk.is_usable files.log) × IsTrue (D.Disk.is_usable files.db)) }
+    ensures kept { IfOk result (λ files. AreClean D.Disk files.log files.db → (h : Host) → Keeps (file_state keep.conn) h → AreClosedFor D.Disk files h) }
     ensures refuses { IfErr result (λ e. IsLeftUnclosed keep.conn e.0 e.1) }
 {
     match close_files(keep.into_connection()) {

@@ -1,7 +1,8 @@
 //! Answering requests over the tables of a store: a list of them, a stream, or connections.
 ghost use Rattle.std.specs.Prelude.{◌≡◌, ◌+◌, ◌≤◌, false, IfOk, IsTrue, OnErr, map};
-ghost use Rattle.pawn_store.specs.Common.{GivesDated, answer_bytes, left_of, reads, service_operator, write_failed, written_bytes};
-ghost use Rattle.pawn_store.specs.Running.{HoldsSession, OverTables, RunsItems, ServesConnections, store_of};
+ghost use Rattle.{pawn_program.specs.Clock.GivesDated, pawn_host.specs.{Keeps.{answer_bytes, service_operator}, Ends.{left_of, reads}}};
+ghost use Rattle.{pawn_writing.specs.Ends.{write_failed, written_bytes}, pawn_store.specs.Running.{HoldsSession, OverTables, RunsItems, ServesConnections}};
+ghost use Rattle.pawn_store.specs.Running.{store_of};
 
 use pawn_host::{Answer, Ended, IoFault, Reading, Service, Stamp, Writing};
 use pawn_program::{ClockStamps, Served, serve_on};
@@ -22,8 +23,7 @@ pub fn run_over_tables<S: Alter>(
     service: &mut Service<TableKeep<S>>,
     items: &[(Stamp, Vec<u8>)],
 ) -> Result<Vec<Answer>, AllocError>
-    ensures headline { IfOk result (λ answers. OverTables (store_of S.Store service.old)
-        (store_of S.Store service.new) (service_operator service.old)
+    ensures headline { IfOk result (λ answers. OverTables (store_of S.Store service.old) (store_of S.Store service.new) (service_operator service.old)
         (RunsItems (map (λ p. (p.0, p.1.items)) items.now) (map answer_bytes answers.items))) }
     ensures operator { service_operator service.new ≡ service_operator service.old }
     ensures err { OnErr result (service.new ≡ service.old) }
@@ -42,11 +42,8 @@ pub fn answer_over_tables<S: Alter, R: Read, W: Write, I: Iterator<Item = Stamp>
     requires fresh { reads reader.old ≡ 0 }
     requires fine { write_failed writer.old ≡ false }
     requires can { I.can_next stamps.old }
-    ensures session { OverTables (store_of S.Store service.old) (store_of S.Store service.new)
-        (service_operator service.old)
-        (HoldsSession I.next_gives stamps.old (left_of R.remaining reader.old)
-        (written_bytes W.contents writer.old) stamps.new
-        (written_bytes W.contents writer.new) result) }
+    ensures session { OverTables (store_of S.Store service.old) (store_of S.Store service.new) (service_operator service.old) (HoldsSession I.next_gives
+        stamps.old (left_of R.remaining reader.old) (written_bytes W.contents writer.old) stamps.new (written_bytes W.contents writer.new) result) }
     ensures operator { service_operator service.new ≡ service_operator service.old }
 {
     service.answer_all(reader, writer, stamps)
@@ -69,12 +66,10 @@ pub fn serve_over_tables<S: Alter, C: Clock>(
     stamps: &mut ClockStamps<'_, C>,
     connections: u32,
 ) -> ServedTables
-    ensures served { OverTables (store_of S.Store service.old) (store_of S.Store service.new)
-        (service_operator service.old)
+    ensures served { OverTables (store_of S.Store service.old) (store_of S.Store service.new) (service_operator service.old)
         (ServesConnections GivesDated stamps.old stamps.new result.served.answered) }
     ensures most { result.served.answered + result.served.failed ≤ connections }
-    ensures counted { result.is_shut ≡ false
-        → result.served.answered + result.served.failed ≡ connections }
+    ensures counted { result.is_shut ≡ false → result.served.answered + result.served.failed ≡ connections }
     ensures shut { IsTrue result.is_shut → (store_of S.Store service.new).is_open ≡ false }
     ensures operator { service_operator service.new ≡ service_operator service.old }
 {

@@ -12,15 +12,27 @@ use std::test::Fail;
 
 // Makes an empty store of the program's schema into one of the first, with a book whose one pledge has an entry.
 const FIRST: &str =
-    "INSERT INTO books VALUES (7, X'00000000000000000000000000000001', 'High Street', 2, 1, 1, NULL, NULL); INSERT INTO terms VALUES (7, 1, 2667, 0, 0); INSERT INTO pledges VALUES (7, 1, 'A1', 'Gold ring', 0, 10000, 19723, NULL, 0, 1, 19905, 0, 19753, 0, NULL, NULL); INSERT INTO entries VALUES (7, 1, 1, 19753, 1, 1000); INSERT INTO secrets VALUES (7, 1, 1, 19723, 0, X'00000000000000000000000000000003'); UPDATE meta SET value = 5 WHERE name = 'rows'; DROP INDEX bookings_by_time; DROP INDEX pledges_by_end; DROP TABLE extensions; DROP TABLE totals; UPDATE meta SET value = 1 WHERE name = 'schema'";
+    "INSERT INTO books VALUES (7, X'00000000000000000000000000000001', 'High Street', 2, 1, 1, NULL, NULL); INSERT INTO terms VALUES (7, 1, 2667, 0, 0); \
+        INSERT INTO pledges VALUES (7, 1, 'A1', 'Gold ring', 0, 10000, 19723, NULL, 0, 1, 19905, 0, 19753, 0, NULL, NULL); \
+        INSERT INTO entries VALUES (7, 1, 1, 19753, 1, 1000); INSERT INTO secrets VALUES (7, 1, 1, 19723, 0, X'00000000000000000000000000000003'); \
+        UPDATE meta SET value = 5 WHERE name = 'rows'; DROP INDEX bookings_by_time; DROP INDEX pledges_by_end; DROP TABLE extensions; DROP TABLE totals; \
+        UPDATE meta SET value = 1 WHERE name = 'schema'";
 
 // Makes it into one of the second schema, which has the totals of the pledge on the day of its entry.
 const SECOND: &str =
-    "INSERT INTO books VALUES (7, X'00000000000000000000000000000001', 'High Street', 2, 1, 1, NULL, NULL); INSERT INTO terms VALUES (7, 1, 2667, 0, 0); INSERT INTO pledges VALUES (7, 1, 'A1', 'Gold ring', 0, 10000, 19723, NULL, 0, 1, 19905, 0, 19753, 0, NULL, NULL); INSERT INTO entries VALUES (7, 1, 1, 19753, 1, 1000); INSERT INTO secrets VALUES (7, 1, 1, 19723, 0, X'00000000000000000000000000000003'); INSERT INTO totals VALUES (7, 1, 19753, 9800, 100000); UPDATE meta SET value = 5 WHERE name = 'rows'; DROP INDEX bookings_by_time; DROP INDEX pledges_by_end; DROP TABLE extensions; UPDATE meta SET value = 2 WHERE name = 'schema'";
+    "INSERT INTO books VALUES (7, X'00000000000000000000000000000001', 'High Street', 2, 1, 1, NULL, NULL); INSERT INTO terms VALUES (7, 1, 2667, 0, 0); \
+        INSERT INTO pledges VALUES (7, 1, 'A1', 'Gold ring', 0, 10000, 19723, NULL, 0, 1, 19905, 0, 19753, 0, NULL, NULL); \
+        INSERT INTO entries VALUES (7, 1, 1, 19753, 1, 1000); INSERT INTO secrets VALUES (7, 1, 1, 19723, 0, X'00000000000000000000000000000003'); \
+        INSERT INTO totals VALUES (7, 1, 19753, 9800, 100000); UPDATE meta SET value = 5 WHERE name = 'rows'; DROP INDEX bookings_by_time; \
+        DROP INDEX pledges_by_end; DROP TABLE extensions; UPDATE meta SET value = 2 WHERE name = 'schema'";
 
 // Makes it into one of the program's schema without its indexes, as earlier releases made it.
 pub const BARE: &str =
-    "INSERT INTO books VALUES (7, X'00000000000000000000000000000001', 'High Street', 2, 1, 1, NULL, NULL); INSERT INTO terms VALUES (7, 1, 2667, 0, 0); INSERT INTO pledges VALUES (7, 1, 'A1', 'Gold ring', 0, 10000, 19723, NULL, 0, 1, 19905, 0, 19753, 0, NULL, NULL); INSERT INTO entries VALUES (7, 1, 1, 19753, 1, 1000); INSERT INTO secrets VALUES (7, 1, 1, 19723, 0, X'00000000000000000000000000000003'); INSERT INTO totals VALUES (7, 1, 19753, 9800, 100000); UPDATE meta SET value = 5 WHERE name = 'rows'; DROP INDEX bookings_by_time; DROP INDEX pledges_by_end";
+    "INSERT INTO books VALUES (7, X'00000000000000000000000000000001', 'High Street', 2, 1, 1, NULL, NULL); INSERT INTO terms VALUES (7, 1, 2667, 0, 0); \
+        INSERT INTO pledges VALUES (7, 1, 'A1', 'Gold ring', 0, 10000, 19723, NULL, 0, 1, 19905, 0, 19753, 0, NULL, NULL); \
+        INSERT INTO entries VALUES (7, 1, 1, 19753, 1, 1000); INSERT INTO secrets VALUES (7, 1, 1, 19723, 0, X'00000000000000000000000000000003'); \
+        INSERT INTO totals VALUES (7, 1, 19753, 9800, 100000); UPDATE meta SET value = 5 WHERE name = 'rows'; DROP INDEX bookings_by_time; \
+        DROP INDEX pledges_by_end";
 
 // A store that is moved: the number of its schema, and what makes such a store.
 #[derive(Clone, Copy)]

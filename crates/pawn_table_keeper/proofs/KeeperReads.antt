@@ -1,13 +1,11 @@
 -- A read of a keeper: a transaction that is lent, and rolled back.
-use Rattle.pawn_table_keeper.proofs.Basics.{◌≡◌, ◌⊎◌, inl, inr, true, false, Result, Ok, Err, IsTrue, refl, sym, subst, ◌∙◌, arith, IfOk, is_ok, Held, state, HasCleanDisk, IsRolledBack, KeepsCommit, State, Survives, Host, Errs, Reads, KeepError, NoRecord, IsWhole, Keeps, keeping_by, keeping_of, StandsFor, ReadsOfBook, IsUnsoundAt, ℕ}
-use Rattle.std.specs.Borrow.{MutBor}
-use Rattle.sqlite_trees.specs.declared.store.Store.{Ghosts}
-use Rattle.pawn_table_keeper.specs.declared.keeper.TableKeep.{TableKeep}
+use Rattle.std.{proofs.Common.{◌≡◌, ◌⊎◌, inl, inr, true, false, Result, Ok, Err, IsTrue, refl, sym, subst, ◌∙◌, arith, IfOk, is_ok, ℕ}, specs.Borrow.MutBor}
+use Rattle.pawn_table_keeper.specs.Common.{Held, state, HasCleanDisk, State, Host, Errs, Reads, KeepError, NoRecord, StandsFor, IsUnsoundAt}
+use Rattle.{pawn_table_keeper.specs.{Handing.{keeping_of, ReadsOfBook}, declared.keeper.TableKeep.TableKeep}, pawn_tables.specs.Keeps.{IsWhole, Keeps}}
+use Rattle.{pawn_tables.specs.{Keeps.keeping_by, Finding.{Finds, FindsBy, FindsIn}}, sqlite.specs.State.{IsRolledBack, KeepsCommit, Survives}}
+use Rattle.{sqlite_trees.specs.declared.store.Store.Ghosts, one_table.{specs.Lending.{IsLent, Lends, Rests}, proofs.{Lent.clean_before, Parts.rests_open}}}
+use Rattle.one_table.proofs.Parts.{committed_rests}
 use Rattle.pawn_book.specs.declared.fault.KeepError.TheVariants as Keeper
-use Rattle.one_table.specs.Lending.{IsLent, Lends, Rests}
-use Rattle.one_table.proofs.Lent.{clean_before}
-use Rattle.one_table.proofs.Parts.{rests_open, committed_rests}
-use Rattle.pawn_tables.specs.Finding.{Finds, FindsBy, FindsIn}
 
 -- what was found, alone
 found : {A : Type 0} (r : Result A KeepError) (Q : A → Type 0) (R U : Type 0) → Finds r (λ x. Q x × R) U → IfOk r Q
@@ -31,10 +29,13 @@ pub record IsRead {A : Type 0} (IsUnsound : Host → Type 0) (a lent new : State
   pub after : Survives lent new (λ _. ⊥)
   pub finds : FindsIn IsUnsound (begun_of a) lent r P
 
-pub was_read : {A : Type 0} {IsUnsound : Host → Type 0} {lent new : State} {P : Host → A → Type 0} (a : State) (r : Result A KeepError) → a.in_transaction ≡ false → (a.in_transaction ≡ false → IsTrue a.is_open → a.now ≡ a.committed) → IsLent (begun_of a) lent (is_ok r) → (HasCleanDisk new → IsRolledBack lent new) → Survives lent new (λ _. ⊥) → FindsIn IsUnsound (begun_of a) lent r P → IsRead IsUnsound a lent new r P
+pub was_read : {A : Type 0} {IsUnsound : Host → Type 0} {lent new : State} {P : Host → A → Type 0} (a : State) (r : Result A KeepError)
+    → a.in_transaction ≡ false → (a.in_transaction ≡ false → IsTrue a.is_open → a.now ≡ a.committed) → IsLent (begun_of a) lent (is_ok r)
+    → (HasCleanDisk new → IsRolledBack lent new) → Survives lent new (λ _. ⊥) → FindsIn IsUnsound (begun_of a) lent r P → IsRead IsUnsound a lent new r P
 was_read a r ended settled part undone after finds = record { ended = ended; settled = settled; part = part; undone = undone; after = after; finds = finds }
 
-module _ {K : Type 0} (state_of : K → State) (old new : K) {A : Type 0} {IsUnsound : Host → Type 0} {lent : State} {r : Result A KeepError} {P : Host → A → Type 0} (was : IsRead IsUnsound (state_of old) lent (state_of new) r P) where
+module _ {K : Type 0} (state_of : K → State) (old new : K) {A : Type 0} {IsUnsound : Host → Type 0} {lent : State} {r : Result A KeepError}
+    {P : Host → A → Type 0} (was : IsRead IsUnsound (state_of old) lent (state_of new) r P) where
   clean_lent : HasCleanDisk (state_of new) → HasCleanDisk lent
   clean_lent clean = let up = was.after.clean in omega (arith, clean, up)
 
@@ -48,10 +49,9 @@ module _ {K : Type 0} (state_of : K → State) (old new : K) {A : Type 0} {IsUns
   opened clean now = rests_open (state_of old) (begun_of (state_of old)) lent (state_of new) (λ now'. now') refl (commit_kept clean) (was.undone clean) now
 
   as_it_was : HasCleanDisk (state_of new) → IsTrue (state_of new).is_open → (state_of new).now ≡ (state_of old).now
-  as_it_was clean now =
-      let undone = was.undone clean in
-      (undone.undone now).0 ∙ sym (undone.undone now).1 ∙ committed_rests (state_of old) (begun_of (state_of old)) lent (state_of new) (λ now'. now') refl (commit_kept clean) undone now
-      ∙ sym (was.settled was.ended (opened clean now))
+  as_it_was clean now = let undone = was.undone clean in
+      (undone.undone now).0 ∙ sym (undone.undone now).1 ∙ committed_rests (state_of old) (begun_of (state_of old)) lent (state_of new) (λ now'. now') refl
+      (commit_kept clean) undone now ∙ sym (was.settled was.ended (opened clean now))
 
   no_more : {P : Type 0} → P ⊎ ⊥ → P
   no_more (inl p) = p
@@ -68,7 +68,8 @@ module _ {K : Type 0} (state_of : K → State) (old new : K) {A : Type 0} {IsUns
   left_before clean trees left = no_more (was.part.survives.crash (clean_lent clean) trees (no_more (was.after.crash clean trees left)))
 
   whole : HasCleanDisk (state_of new) → IsWhole (state_of old) → IsWhole (state_of new)
-  whole clean w = record { host = w.host; sound = w.sound; keeps = kept clean w.host w.keeps; crash = λ trees left. w.crash trees (left_before clean trees left) }
+  whole clean w =
+      record { host = w.host; sound = w.sound; keeps = kept clean w.host w.keeps; crash = λ trees left. w.crash trees (left_before clean trees left) }
 
   pub read_by : Reads (keeping_by state_of) old new (λ h. IfOk r (P h))
   read_by = record {
@@ -90,17 +91,19 @@ module _ {K : Type 0} (state_of : K → State) (old new : K) {A : Type 0} {IsUns
   }
 
 -- a keeper's read, by what a read answers in a transaction that it is lent, and that is rolled back then
-pub read_in : {S K A : Type 0} (g : Ghosts S) (conn : K → Held S) (old new : K) {tx lent : MutBor (Held S)} {IsUnsound : Host → Type 0} (P : Host → A → Type 0) (r : Result A KeepError)
-    → (conn old).in_transaction ≡ false → ((conn old).in_transaction ≡ false → IsTrue (state g (conn old)).is_open → (state g (conn old)).now ≡ (state g (conn old)).committed)
-    → tx.now ≡ record (conn old) { in_transaction = true } → Lends g tx lent (is_ok r) → FindsBy g tx lent IsUnsound r P
-    → (HasCleanDisk (state g (conn new)) → IsRolledBack (state g lent.now) (state g (conn new))) → Survives (state g lent.now) (state g (conn new)) (λ _. ⊥)
-    → record { reads : Reads (keeping_by (λ k. state g (conn k))) old new (λ h. IfOk r (P h)); errs : Errs (keeping_by (λ k. state g (conn k))) old new IsUnsound r }
+pub read_in : {S K A : Type 0} (g : Ghosts S) (conn : K → Held S) (old new : K) {tx lent : MutBor (Held S)} {IsUnsound : Host → Type 0} (P : Host → A → Type 0)
+    (r : Result A KeepError) → (conn old).in_transaction ≡ false
+    → ((conn old).in_transaction ≡ false → IsTrue (state g (conn old)).is_open → (state g (conn old)).now ≡ (state g (conn old)).committed)
+    → tx.now ≡ record (conn old) { in_transaction = true } → Lends g tx lent (is_ok r) → FindsBy g tx lent IsUnsound r P → (HasCleanDisk (state g (conn new))
+    → IsRolledBack (state g lent.now) (state g (conn new))) → Survives (state g lent.now) (state g (conn new)) (λ _. ⊥) → record
+    { reads : Reads (keeping_by (λ k. state g (conn k))) old new (λ h. IfOk r (P h)); errs : Errs (keeping_by (λ k. state g (conn k))) old new IsUnsound r }
 read_in {S} g conn old new {tx} {lent} {IsUnsound} P r ended settled begun lends finds undone after =
-    let was = was_read (state g (conn old)) r ended settled (subst (λ (h : Held S). IsLent (state g h) (state g lent.now) (is_ok r)) begun lends.leaves) undone after
-    (subst (λ (h : Held S). FindsIn IsUnsound (state g h) (state g lent.now) r P) begun finds) in
+    let was = was_read (state g (conn old)) r ended settled (subst (λ (h : Held S). IsLent (state g h) (state g lent.now) (is_ok r)) begun lends.leaves) undone
+    after (subst (λ (h : Held S). FindsIn IsUnsound (state g h) (state g lent.now) r P) begun finds) in
     record { reads = read_by (λ k. state g (conn k)) old new was; errs = errs_by (λ k. state g (conn k)) old new was }
 
 -- .. of one book
 pub told : {S A : Type 0} {g : Ghosts S} {old new : TableKeep S g} {book : ℕ} {r : Result A KeepError} {P : Host → A → Type 0}
-    → record { reads : Reads (keeping_of g) old new (λ h. IfOk r (P h)); errs : Errs (keeping_of g) old new (IsUnsoundAt book) r } → record { tells : ReadsOfBook g old new book r P }
+    → record { reads : Reads (keeping_of g) old new (λ h. IfOk r (P h)); errs : Errs (keeping_of g) old new (IsUnsoundAt book) r }
+    → record { tells : ReadsOfBook g old new book r P }
 told it = record { tells = record { reads = it.reads; errs = it.errs } }

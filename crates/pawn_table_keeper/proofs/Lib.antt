@@ -1,5 +1,3 @@
-pub mod Basics
-pub mod Calls
 pub mod Handings
 pub mod KeeperReads
 pub mod PageHandings

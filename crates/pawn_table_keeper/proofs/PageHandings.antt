@@ -1,7 +1,8 @@
 -- Pages that are handed over.
-use Rattle.pawn_table_keeper.proofs.Basics.{◌≤◌, ◌≡◌, ◌++◌, ℕ, zero, suc, ◌+◌, ◌*◌, ◌<◌, List, [], ◌∷◌, length, map, take, drop, get_or, Ok, refl, sym, ap, subst, ◌∙◌, append-nil, arith, drop-drop, take_all, take-append-drop, Host, Keeping, Reads, Handed, HandsOver, Flow, Go, Stop, most_page_rows, page_behind, reads_as, handed-snoc, HandsRows}
-use Rattle.std.proofs.lemmas.List.{map-append, take_more}
-use Rattle.pawn_table_keeper.proofs.Handings.{HandedTo, ends_by, goes_by, stops_by}
+use Rattle.std.proofs.Common.{◌≤◌, ◌≡◌, ◌++◌, ℕ, zero, suc, ◌+◌, ◌*◌, ◌<◌, List, [], ◌∷◌, length, map, take, drop, get_or, Ok, refl, sym, ap, subst, ◌∙◌}
+use Rattle.std.proofs.{Common.{append-nil, arith, drop-drop, take_all, take-append-drop}, lemmas.List.{map-append, take_more}}
+use Rattle.pawn_table_keeper.specs.{Common.{Host, Keeping, Reads, Handed, HandsOver, Flow, Go, Stop, most_page_rows, page_behind}, Handing.HandsRows}
+use Rattle.{pawn_table_keeper.proofs.Handings.{HandedTo, ends_by, goes_by, stops_by}, pawn_book.proofs.{Reading.reads_as, VisitLemmas.handed-snoc}}
 
 module _ {V A T : Type 0} (step : V → T → Flow → V → Type 0) (shows : A → T) (xs : List A) where
   -- all were handed over
@@ -12,7 +13,8 @@ module _ {V A T : Type 0} (step : V → T → Flow → V → Type 0) (shows : A 
 
   module _ (v u w : V) (i : ℕ) (x : A) (lt : i < length xs) (is : x ≡ get_or xs i x) (before : Handed step v (map shows (take i xs)) Go u) where
     one_more : map shows (take i xs) ++ shows x ∷ [] ≡ map shows (take (i + 1) xs)
-    one_more = ap (λ y. map shows (take i xs) ++ shows y ∷ []) is ∙ sym (map-append shows (take i xs) (get_or xs i x ∷ [])) ∙ ap (map shows) (sym (take_more xs i x lt))
+    one_more = ap (λ y. map shows (take i xs) ++ shows y ∷ []) is ∙ sym (map-append shows (take i xs) (get_or xs i x ∷ []))
+        ∙ ap (map shows) (sym (take_more xs i x lt))
 
     -- one more is handed over
     pub page_goes : step u (shows x) Go w → Handed step v (map shows (take (i + 1) xs)) Go w
@@ -47,24 +49,27 @@ module _ {K V T : Type 0} (k : Keeping K) (step : V → T → Flow → V → Typ
   abbrev pub HandedPages : K → K → V → V → ℕ → Type 0
   HandedPages old now v u turn = HandedTo k step listed (λ n h. drop n (listed h)) old now v u (turn * most_page_rows) turn
 
-  module _ (old now new : K) (v u w : V) (turn : ℕ) (before : HandedPages old now v u turn) (page : List T) (read : Reads k now new (λ h. page ≡ page_behind (turn * most_page_rows) (listed h))) where
+  module _ (old now new : K) (v u w : V) (turn : ℕ) (before : HandedPages old now v u turn) (page : List T)
+      (read : Reads k now new (λ h. page ≡ page_behind (turn * most_page_rows) (listed h))) where
     abbrev start : ℕ
     start = turn * most_page_rows
 
     abbrev left : ℕ → Host → List T
     left n h = drop n (listed h)
 
-    told : Reads k now new (λ h. (left start h ≡ page ++ left (start + most_page_rows) h) × (length page < most_page_rows → left (start + most_page_rows) h ≡ []))
+    told : Reads k now new
+        (λ h. (left start h ≡ page ++ left (start + most_page_rows) h) × (length page < most_page_rows → left (start + most_page_rows) h ≡ []))
     told = reads_as read (λ h is. (page_next start (listed h) page is, page_ends start (listed h) page is))
 
     -- one more is handed over, and more is left
     pub pages_go : 1 ≤ length page → HandsOver step u page Go w → HandedPages old new v w (turn + 1)
-    pages_go some here =
-        let next : start + most_page_rows ≡ (turn + 1) * most_page_rows = omega arith in
-        subst (λ n. HandedTo k step listed left old new v w n (turn + 1)) next (goes_by k step listed left old now new v u w start (start + most_page_rows) turn before page told some here)
+    pages_go some here = let next : start + most_page_rows ≡ (turn + 1) * most_page_rows = omega arith in
+        subst (λ n. HandedTo k step listed left old new v w n (turn + 1)) next
+        (goes_by k step listed left old now new v u w start (start + most_page_rows) turn before page told some here)
 
     -- .. and it is the last
-    pub pages_end : {IsUnsound : Host → Type 0} → length page < most_page_rows → HandsOver step u page Go w → HandsRows k IsUnsound step old new v w (Ok Go) listed
+    pub pages_end : {IsUnsound : Host → Type 0} → length page < most_page_rows → HandsOver step u page Go w
+        → HandsRows k IsUnsound step old new v w (Ok Go) listed
     pages_end short here = ends_by k step listed left old now new v u w start (start + most_page_rows) turn before page told short here
 
     -- .. and the visitor stops in it

@@ -1,5 +1,8 @@
 -- The first page of a part's lines.
-use Rattle.pawn_table_keeper.proofs.Basics.{◌≡◌, ◌≢◌, ◌==◌, ◌∙◌, ◌++◌, ◌<◌, ◌≤◌, ℕ, zero, suc, Bool, true, false, cond, List, [], ◌∷◌, length, map, refl, sym, ap, append-nil, arith, flat_map, list_any, PledgeValue, part_items, window_items, window_sheet, windows_below, windows_sheet, with_head, Part, SheetItem, IsLinesPage, NamesWindows, item_of, items_past, most_page_rows, page_end, windows_more, Line, named_sheet, named_sheets}
+use Rattle.std.proofs.Common.{◌≡◌, ◌≢◌, ◌==◌, ◌∙◌, ◌++◌, ◌<◌, ◌≤◌, ℕ, zero, suc, Bool, true, false, cond, List, [], ◌∷◌, length, map, refl, sym, ap, append-nil}
+use Rattle.{std.proofs.Common.arith, pawn_table_keeper.specs.Common.{flat_map, list_any, PledgeValue, part_items, window_items, window_sheet, windows_below}}
+use Rattle.pawn_table_keeper.specs.Common.{windows_sheet, with_head, Part, SheetItem, IsLinesPage, NamesWindows, item_of, items_past, most_page_rows, page_end}
+use Rattle.{pawn_table_keeper.specs.Windows.{named_sheet, named_sheets}, pawn_book.proofs.SheetLemmas.windows_more, pawn_tables.specs.declared.line.Line.Line}
 use Rattle.pawn_book.specs.declared.sheet.Part.TheVariants as part_of
 
 abbrev items_of : Part → List Line → List SheetItem
@@ -11,7 +14,8 @@ module _ (part : Part) (day : ℕ) (ps : List PledgeValue) (page : List Line) (t
   whole_page short = told.goes_on ∙ ap (λ xs. items_of part page ++ xs) (told.is_last short) ∙ append-nil (items_of part page)
 
 -- a window for which somebody comes is named
-some_head : (part : Part) (page : List Line) (more : List SheetItem) → page ≢ [] → window_items part (items_of part page ++ more) ≡ with_head part (items_of part page ++ more)
+some_head : (part : Part) (page : List Line) (more : List SheetItem) → page ≢ []
+    → window_items part (items_of part page ++ more) ≡ with_head part (items_of part page ++ more)
 some_head part [] more some = absurd (some refl)
 some_head part (l ∷ ls) more some = refl
 
@@ -19,7 +23,8 @@ pub some_page : (part : Part) (page : List Line) → page ≢ [] → window_item
 some_page part [] some = absurd (some refl)
 some_page part (l ∷ ls) some = refl
 
-pub some_items : (part : Part) (day : ℕ) (ps : List PledgeValue) (page : List Line) → page ≢ [] → IsLinesPage part day 0 ps page → window_items part (part_items part day ps) ≡ with_head part (part_items part day ps)
+pub some_items : (part : Part) (day : ℕ) (ps : List PledgeValue) (page : List Line) → page ≢ [] → IsLinesPage part day 0 ps page
+    → window_items part (part_items part day ps) ≡ with_head part (part_items part day ps)
 some_items part day ps page some told =
     let is : part_items part day ps ≡ items_of part page ++ items_past part day (page_end (λ (l : Line). l.number) 0 page) ps = told.goes_on in
     ap (window_items part) is ∙ some_head part page _ some ∙ sym (ap (with_head part) is)
@@ -35,15 +40,12 @@ module _ (named : List ℕ) (ps : List PledgeValue) (day w : ℕ) where
 
 -- they are all in which somebody comes
 pub named_all : (day : ℕ) (ps : List PledgeValue) (named : List ℕ) → NamesWindows day ps named → named_sheets named ps day ≡ windows_sheet ps day
-named_all day ps named names = upto 16 (omega arith)
-  where
-    one : (w : ℕ) → w ≤ 15 → (c : Bool) → list_any (λ n. n == w) named ≡ c → cond c (window_sheet ps day w) [] ≡ window_sheet ps day w
-    one w few true is = refl
-    one w few false is = sym (ap (window_items (part_of.Confirmed w)) (names.whole w few is))
+named_all day ps named names = upto 16 (omega arith) where
+  one : (w : ℕ) → w ≤ 15 → (c : Bool) → list_any (λ n. n == w) named ≡ c → cond c (window_sheet ps day w) [] ≡ window_sheet ps day w
+  one w few true is = refl
+  one w few false is = sym (ap (window_items (part_of.Confirmed w)) (names.whole w few is))
 
-    upto : (n : ℕ) → n ≤ 16 → flat_map (named_sheet named ps day) (windows_below n) ≡ flat_map (window_sheet ps day) (windows_below n)
-    upto zero few = refl
-    upto (suc n) few =
-        windows_more (named_sheet named ps day) n
-        ∙ (λ i. upto n (omega (arith, few)) i ++ one n (omega (arith, few)) (list_any (λ m. m == n) named) refl i)
-        ∙ sym (windows_more (window_sheet ps day) n)
+  upto : (n : ℕ) → n ≤ 16 → flat_map (named_sheet named ps day) (windows_below n) ≡ flat_map (window_sheet ps day) (windows_below n)
+  upto zero few = refl
+  upto (suc n) few = windows_more (named_sheet named ps day) n
+      ∙ (λ i. upto n (omega (arith, few)) i ++ one n (omega (arith, few)) (list_any (λ m. m == n) named) refl i) ∙ sym (windows_more (window_sheet ps day) n)

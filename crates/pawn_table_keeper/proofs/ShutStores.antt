@@ -1,10 +1,9 @@
 -- A store that is asked whether it is shut.
-use Rattle.pawn_table_keeper.proofs.Basics.{◌≡◌, ◌⊎◌, inl, inr, ℕ, Bool, true, false, IsTrue, List, [], Result, Ok, Err, IfOk, IfErr, refl, sym, subst, ◌∙◌, arith, HasCause, HasCleanDisk, IsNoStatement, IsNotRun, IsRolledBack, IsUnchanged, State, Survives, store_error, Host, Reads, Keeps, keeping_by, StandsFor, SqliteFailure, Closed}
-use Rattle.std.proofs.lemmas.Bool.{true_from_ne_false}
-use Rattle.sqlite.specs.declared.error.Error.{Error}
-use Rattle.sqlite_trees.specs.declared.error.StoreError.{StoreError}
-use Rattle.sqlite_trees.specs.declared.error.StoreError.TheVariants.{OutOfMemory, Io, Corrupt, Full, Broken, Unstorable}
-use Rattle.sqlite_trees.proofs.Doubt.{no_doubt}
+use Rattle.std.proofs.Common.{◌≡◌, ◌⊎◌, inl, inr, ℕ, Bool, true, false, IsTrue, List, [], Result, Ok, Err, IfOk, IfErr, refl, sym, subst, ◌∙◌, arith}
+use Rattle.{std.proofs.lemmas.Bool.true_from_ne_false, sqlite.specs.State.{HasCause, IsNoStatement, IsNotRun, IsRolledBack, IsUnchanged, Survives, store_error}}
+use Rattle.{sqlite.specs.declared.error.{Error.{TheVariants.SqliteFailure, Error}, ErrorCode.TheVariants.Closed}, pawn_table_keeper.specs.Common.HasCleanDisk}
+use Rattle.{pawn_table_keeper.specs.Common.{State, Host, Reads, StandsFor}, pawn_tables.specs.Keeps.{Keeps, keeping_by}}
+use Rattle.sqlite_trees.{specs.declared.error.StoreError.{StoreError, TheVariants.{OutOfMemory, Io, Corrupt, Full, Broken, Unstorable}}, proofs.Doubt.no_doubt}
 use Rattle.sqlite_value.specs.Order.{Row}
 
 -- ---- it keeps what it kept
@@ -19,26 +18,30 @@ left_unrun old new sql params e (inl unread) = inl unread.1
 left_unrun old new sql params e (inr failed) = inr failed.3
 
 -- of whatever is answered
-pub left_by : {T : Type 0} (old new : State) (sql : List ℕ) (result : Result T Error) (U : T → Type 0)
-    → (HasCleanDisk new → IfOk result (λ s. U s × IsUnchanged old new)) → (HasCleanDisk new → IfErr result (λ e. (params : Row) → IsNotRun old new sql params e))
-    → HasCleanDisk new → IsLeft old new
+pub left_by : {T : Type 0} (old new : State) (sql : List ℕ) (result : Result T Error) (U : T → Type 0) → (HasCleanDisk new → IfOk result (λ s. U s
+    × IsUnchanged old new)) → (HasCleanDisk new → IfErr result (λ e. (params : Row) → IsNotRun old new sql params e)) → HasCleanDisk new → IsLeft old new
 left_by old new sql (Ok s) U ok err clean = inl (ok clean).1
 left_by old new sql (Err e) U ok err clean = left_unrun old new sql [] e (err clean [])
 
-still : (old new : State) → (IsTrue old.is_open → old.now ≡ old.committed) → IsLeft old new → IsTrue new.is_open → IsTrue old.is_open × (new.now ≡ old.now) × (new.now ≡ new.committed)
+still : (old new : State) → (IsTrue old.is_open → old.now ≡ old.committed) → IsLeft old new → IsTrue new.is_open
+    → IsTrue old.is_open × (new.now ≡ old.now) × (new.now ≡ new.committed)
 still old new settled (inl same) serves = (same.0.was_open, same.0.now_is, same.0.now_is ∙ settled same.0.was_open ∙ sym same.0.committed_is)
-still old new settled (inr undone) serves = (undone.was_open serves, (undone.undone serves).0 ∙ sym (settled (undone.was_open serves)), (undone.undone serves).0 ∙ sym (undone.undone serves).1)
+still old new settled (inr undone) serves =
+    (undone.was_open serves, (undone.undone serves).0 ∙ sym (settled (undone.was_open serves)), (undone.undone serves).0 ∙ sym (undone.undone serves).1)
 
 no_more : {P : Type 0} → P ⊎ ⊥ → P
 no_more (inl p) = p
 no_more (inr none) = absurd none
 
-module _ {K : Type 0} (state : K → State) (old new : K) (rested : (state old).in_transaction ≡ false) (settled : IsTrue (state old).is_open → (state old).now ≡ (state old).committed)
-    (rests : (state new).in_transaction ≡ false) (left : HasCleanDisk (state new) → IsLeft (state old) (state new)) (after : Survives (state old) (state new) (λ _. ⊥)) where
+module _ {K : Type 0} (state : K → State) (old new : K) (rested : (state old).in_transaction ≡ false)
+    (settled : IsTrue (state old).is_open → (state old).now ≡ (state old).committed)
+    (rests : (state new).in_transaction ≡ false) (left : HasCleanDisk (state new) → IsLeft (state old) (state new))
+    (after : Survives (state old) (state new) (λ _. ⊥)) where
   was_clean : HasCleanDisk (state new) → HasCleanDisk (state old)
   was_clean clean = let up = after.clean in omega (arith, clean, up)
 
-  as_it_was : HasCleanDisk (state new) → IsTrue (state new).is_open → IsTrue (state old).is_open × ((state new).now ≡ (state old).now) × ((state new).now ≡ (state new).committed)
+  as_it_was : HasCleanDisk (state new) → IsTrue (state new).is_open
+      → IsTrue (state old).is_open × ((state new).now ≡ (state old).now) × ((state new).now ≡ (state new).committed)
   as_it_was clean serves = still (state old) (state new) settled (left clean) serves
 
   kept : HasCleanDisk (state new) → (h : Host) → Keeps (state old) h → Keeps (state new) h
@@ -57,7 +60,8 @@ module _ {K : Type 0} (state : K → State) (old new : K) (rested : (state old).
       past = was_clean;
       served = λ clean serves. (as_it_was clean serves).0;
       stays = λ steady. steady;
-      whole = λ clean w. record { host = w.host; sound = w.sound; keeps = kept clean w.host w.keeps; crash = λ trees l. w.crash trees (left_before clean trees l) };
+      whole =
+          λ clean w. record { host = w.host; sound = w.sound; keeps = kept clean w.host w.keeps; crash = λ trees l. w.crash trees (left_before clean trees l) };
     };
     same = kept;
     back = λ clean serves h k. record {
@@ -88,18 +92,16 @@ no_statement old sql params (inr (c, is, inr (inr clock))) = let e = clock.1 in 
 unserved : (old new : State) (sql : _) (params : Row) → IsNotRun old new sql params (SqliteFailure Closed) → IsTrue new.is_open → ⊥
 unfolding IsNotRun
 unserved old new sql params (inl unread) serves = no_statement old sql params unread.0
-unserved old new sql params (inr failed) serves =
-    let shut : HasCause old new ⊥ Broken = subst (HasCause old new ⊥) (no_fault failed.0 failed.1) failed.2 in
+unserved old new sql params (inr failed) serves = let shut : HasCause old new ⊥ Broken = subst (HasCause old new ⊥) (no_fault failed.0 failed.1) failed.2 in
     let was = failed.3.was_open serves in
     cc
 
-pub told_shut : {T : Type 0} (old new : State) (sql : List ℕ) (result : Result T Error) → (new.is_clean ≡ false → new.is_open ≡ false) → result ≡ Err (SqliteFailure Closed)
-    → (HasCleanDisk new → IfErr result (λ e. (params : Row) → IsNotRun old new sql params e)) → new.is_open ≡ false
-told_shut {T} old new sql result dirty is err = at new.is_open refl
-  where
-    unrun : HasCleanDisk new → (params : Row) → IsNotRun old new sql params (SqliteFailure Closed)
-    unrun clean = subst (λ (r : Result T Error). IfErr r (λ e. (params : Row) → IsNotRun old new sql params e)) is (err clean)
+pub told_shut : {T : Type 0} (old new : State) (sql : List ℕ) (result : Result T Error) → (new.is_clean ≡ false → new.is_open ≡ false)
+    → result ≡ Err (SqliteFailure Closed) → (HasCleanDisk new → IfErr result (λ e. (params : Row) → IsNotRun old new sql params e)) → new.is_open ≡ false
+told_shut {T} old new sql result dirty is err = at new.is_open refl where
+  unrun : HasCleanDisk new → (params : Row) → IsNotRun old new sql params (SqliteFailure Closed)
+  unrun clean = subst (λ (r : Result T Error). IfErr r (λ e. (params : Row) → IsNotRun old new sql params e)) is (err clean)
 
-    at : (b : Bool) → new.is_open ≡ b → new.is_open ≡ false
-    at false is = is
-    at true is = absurd (unserved old new sql [] (unrun (no_doubt new.is_clean (true_from_ne_false new.is_clean (λ spoilt. let e = dirty spoilt in cc))) []) is)
+  at : (b : Bool) → new.is_open ≡ b → new.is_open ≡ false
+  at false is = is
+  at true is = absurd (unserved old new sql [] (unrun (no_doubt new.is_clean (true_from_ne_false new.is_clean (λ spoilt. let e = dirty spoilt in cc))) []) is)

@@ -1,6 +1,5 @@
-ghost use Rattle.std.specs.Prelude.{◌≡◌, IfErr, IfOk, IsTrue, false, unwrap_or};
-ghost use Rattle.std.proofs.Props.{props};
-ghost use Rattle.pawn_table_keeper.specs.Common.{state, Reads, keeping_by};
+ghost use Rattle.std.{specs.Prelude.{◌≡◌, IfErr, IfOk, IsTrue, false, unwrap_or}, proofs.Props.props};
+ghost use Rattle.{pawn_table_keeper.specs.Common.{state, Reads}, pawn_tables.specs.Keeps.keeping_by};
 
 mod handing;
 mod lists;
@@ -56,8 +55,7 @@ impl<S: Alter> TableKeep<S> {
     /// Whether a fault has shut the store, so that it answers nothing more until it is opened anew. To find out, an
     /// empty statement is prepared, which only a shut store refuses as closed. Nothing stored changes.
     pub fn is_shut(&mut self) -> bool
-        ensures reads { Reads (keeping_by (λ k. state S.Store k.conn)) self.old self.new
-            (λ h. Unit {0}) }
+        ensures reads { Reads (keeping_by (λ k. state S.Store k.conn)) self.old self.new (λ h. Unit {0}) }
         ensures shut { IsTrue result → (state S.Store self.new.conn).is_open ≡ false }
     {
         know_settled(&self.conn);

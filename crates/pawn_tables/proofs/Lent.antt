@@ -1,16 +1,17 @@
 -- One part of a transaction after another, and what they find together.
-use Rattle.pawn_tables.proofs.Basics.{◌≡◌, Bool, true, false, Result, Ok, Err, IsTrue, refl, sym, subst, Tables, HasCleanDisk, State, Host, KeepError, Database, NoRecord, IsLent, lent_then, Rests, Finds, FindsIn, Stood, ListDebts, StandsFor}
+use Rattle.{std.proofs.Common.{◌≡◌, Bool, true, false, Result, Ok, Err, IsTrue, refl, sym, subst}, pawn_tables.specs.Common.{Tables, HasCleanDisk, State, Host}}
+use Rattle.pawn_tables.{specs.{Common.{KeepError, Database, NoRecord, IsLent, Rests}, Finding.{Finds, FindsIn, Stood}}, proofs.Basics.lent_then}
+use Rattle.{pawn_tables.specs.StandsFor.{ListDebts, StandsFor}, one_table.proofs.Lent.{clean_before, rests_then}}
 use Rattle.pawn_book.specs.declared.fault.KeepError.TheVariants as Keeper
-pub use Rattle.one_table.proofs.Lent.{clean_before, rests_then}
 
 -- an error that is handed on
-pub unfound : {A B : Type 0} (e : KeepError) (s : Result B KeepError) (P : A → Type 0) (Q : B → Type 0) (U : Type 0) → s ≡ Err e → Finds (Err e) P U → Finds s Q U
-unfound e s P Q U same f = subst (λ x. Finds x Q U) (sym same) (go e f)
-  where
-    go : (x : KeepError) → Finds (Err x) P U → Finds (Err x) Q U
-    go Keeper.Memory f = tt
-    go (Keeper.Store NoRecord) f = f
-    go (Keeper.Store Database) f = tt
+pub unfound : {A B : Type 0} (e : KeepError) (s : Result B KeepError) (P : A → Type 0) (Q : B → Type 0) (U : Type 0) → s ≡ Err e → Finds (Err e) P U
+    → Finds s Q U
+unfound e s P Q U same f = subst (λ x. Finds x Q U) (sym same) (go e f) where
+  go : (x : KeepError) → Finds (Err x) P U → Finds (Err x) Q U
+  go Keeper.Memory f = tt
+  go (Keeper.Store NoRecord) f = f
+  go (Keeper.Store Database) f = tt
 
 -- ---- what parts find one after another
 
@@ -27,14 +28,14 @@ pub one_found : {A : Type 0} {s0 s1 : State} {p : Result A KeepError} {x : A} (U
     → p ≡ Ok x → IsLent s0 s1 true → FindsIn U s0 s1 p P → Found s0 s1 (λ h. P h x)
 one_found {s0 = s0} {s1 = s1} {p = p} {x = x} U P went l f = record {
   lent = l;
-  is = λ clean within h stood. let one = told p x (λ y. P h y × Rests s0 s1) (U h) went (f clean within h stood) in (stood (l.opened clean within refl), one.0, one.1);
+  is = λ clean within h stood. let one = told p x (λ y. P h y × Rests s0 s1) (U h) went (f clean within h stood) in
+      (stood (l.opened clean within refl), one.0, one.1);
 }
 
 -- where the next part begins
-begun : (s0 s1 s2 : State) (F : Host → Type 0) (ok : Bool) → Found s0 s1 F → IsLent s1 s2 ok → HasCleanDisk s2 → IsTrue s0.in_transaction → (h : Host) → Stood s0 h
-    → (StandsFor s0.now h × F h × Rests s0 s1) × StandsFor s1.now h
-begun s0 s1 s2 F ok found l clean within h stood =
-    let one = found.is (clean_before s1 s2 ok l clean) within h stood in
+begun : (s0 s1 s2 : State) (F : Host → Type 0) (ok : Bool) → Found s0 s1 F → IsLent s1 s2 ok → HasCleanDisk s2 → IsTrue s0.in_transaction → (h : Host)
+    → Stood s0 h → (StandsFor s0.now h × F h × Rests s0 s1) × StandsFor s1.now h
+begun s0 s1 s2 F ok found l clean within h stood = let one = found.is (clean_before s1 s2 ok l clean) within h stood in
     (one, subst (λ d. StandsFor d h) (sym one.2.now_is) one.0)
 
 pub next_found : {B : Type 0} {s0 s1 s2 : State} {F : Host → Type 0} {q : Result B KeepError} {y : B} (U : Host → Type 0) (Q : Host → B → Type 0)
@@ -48,34 +49,32 @@ next_found {s0 = s0} {s1 = s1} {s2 = s2} {F = F} {q = q} {y = y} U Q found went 
 }
 
 -- two parts that went well
-pub both_found : {s0 s1 s2 : State} (F G : Host → Type 0)
-    → IsLent s0 s1 true → (HasCleanDisk s1 → IsTrue s0.in_transaction → (h : Host) → Stood s0 h → F h × Rests s0 s1)
-    → IsLent s1 s2 true → (HasCleanDisk s2 → IsTrue s1.in_transaction → (h : Host) → Stood s1 h → G h × Rests s1 s2) → Found s0 s2 (λ h. F h × G h)
+pub both_found : {s0 s1 s2 : State} (F G : Host → Type 0) → IsLent s0 s1 true → (HasCleanDisk s1 → IsTrue s0.in_transaction → (h : Host) → Stood s0 h → F h ×
+    Rests s0 s1) → IsLent s1 s2 true → (HasCleanDisk s2 → IsTrue s1.in_transaction → (h : Host) → Stood s1 h → G h × Rests s1 s2) → Found s0 s2 (λ h. F h × G h)
 both_found {s0 = s0} {s1 = s1} {s2 = s2} F G l f after g = record {
   lent = lent_then s0 s1 s2 true l after;
   is = λ clean within h stood.
-      let was = clean_before s1 s2 true after clean in
-      let st = stood (l.opened was within refl) in
-      let one = f was within h stood in
-      let two = g clean one.1.inside h (λ _. subst (λ d. StandsFor d h) (sym one.1.now_is) st) in
+      let was = clean_before s1 s2 true after clean in let st = stood (l.opened was within refl) in
+      let one = f was within h stood in let two = g clean one.1.inside h (λ _. subst (λ d. StandsFor d h) (sym one.1.now_is) st) in
       (st, (one.0, two.0), rests_then s0 s1 s2 one.1 two.1);
 }
 
 -- a part that fails ends the others
 
-pub first_unfound : {A D : Type 0} {p : Result A KeepError} {e : KeepError} (U : Host → Type 0) (s0 s1 : State) (P : Host → A → Type 0) (r : Result D KeepError) (W : Host → D → Type 0)
-    → p ≡ Err e → r ≡ Err e → FindsIn U s0 s1 p P → FindsIn U s0 s1 r W
-first_unfound {p = p} {e = e} U s0 s1 P r W failed same f clean within h stood =
-    unfound e r (λ x. P h x × Rests s0 s1) (λ x. W h x × Rests s0 s1) (U h) same (subst (λ s. Finds s (λ x. P h x × Rests s0 s1) (U h)) failed (f clean within h stood))
+pub first_unfound : {A D : Type 0} {p : Result A KeepError} {e : KeepError} (U : Host → Type 0) (s0 s1 : State) (P : Host → A → Type 0) (r : Result D KeepError)
+    (W : Host → D → Type 0) → p ≡ Err e → r ≡ Err e → FindsIn U s0 s1 p P → FindsIn U s0 s1 r W
+first_unfound {p = p} {e = e} U s0 s1 P r W failed same f clean within h stood = unfound e r (λ x. P h x × Rests s0 s1) (λ x. W h x × Rests s0 s1) (U h) same
+    (subst (λ s. Finds s (λ x. P h x × Rests s0 s1) (U h)) failed (f clean within h stood))
 
-pub next_unfound : {B D : Type 0} {s0 s1 s2 : State} {F : Host → Type 0} {q : Result B KeepError} {e : KeepError}
-    (U : Host → Type 0) (Q : Host → B → Type 0) (r : Result D KeepError) (W : Host → D → Type 0)
-    → Found s0 s1 F → q ≡ Err e → r ≡ Err e → IsLent s1 s2 false → FindsIn U s1 s2 q Q → FindsIn U s0 s2 r W
+pub next_unfound : {B D : Type 0} {s0 s1 s2 : State} {F : Host → Type 0} {q : Result B KeepError} {e : KeepError} (U : Host → Type 0) (Q : Host → B → Type 0)
+    (r : Result D KeepError) (W : Host → D → Type 0) → Found s0 s1 F → q ≡ Err e → r ≡ Err e → IsLent s1 s2 false → FindsIn U s1 s2 q Q → FindsIn U s0 s2 r W
 next_unfound {s0 = s0} {s1 = s1} {s2 = s2} {F = F} {q = q} {e = e} U Q r W found failed same l f clean within h stood =
     let one = begun s0 s1 s2 F false found l clean within h stood in
-    unfound e r (λ y. Q h y × Rests s1 s2) (λ y. W h y × Rests s0 s2) (U h) same (subst (λ s. Finds s (λ y. Q h y × Rests s1 s2) (U h)) failed (f clean one.0.2.inside h (λ _. one.1)))
+    unfound e r (λ y. Q h y × Rests s1 s2) (λ y. W h y × Rests s0 s2) (U h) same
+    (subst (λ s. Finds s (λ y. Q h y × Rests s1 s2) (U h)) failed (f clean one.0.2.inside h (λ _. one.1)))
 
 -- ---- tables that stand for a host list its debts
 
 pub debts_of : (db : Tables) (h : Host) → StandsFor db h → ListDebts db h
-debts_of db h st = record { schema = st.schema; books = st.books; terms = st.terms; pledges = st.pledges; entries = st.entries; ordered = st.ordered; storable = st.storable }
+debts_of db h st =
+    record { schema = st.schema; books = st.books; terms = st.terms; pledges = st.pledges; entries = st.entries; ordered = st.ordered; storable = st.storable }

@@ -2,7 +2,6 @@ pub mod Basics
 pub mod BookReads
 pub mod Counts
 pub mod Joins
-pub mod Lemmas
 pub mod Lent
 pub mod LineReads
 pub mod ListElementReads

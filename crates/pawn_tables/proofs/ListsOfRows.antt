@@ -1,14 +1,15 @@
 -- Lists that are read of rows, one row for each element.
-use Rattle.pawn_tables.proofs.Basics.{◌≡◌, ◌++◌, ℕ, zero, suc, ◌+◌, ◌<◌, List, [], ◌∷◌, length, take, map, get_or, slice_get, Option, Some, None, Ok, Err, refl, sym, ap, subst, ◌∙◌, arith, IfSome, Row, Each, KeepError, Database, NoRecord, IsRead, at_most_one, placed_from}
+use Rattle.std.proofs.Common.{◌≡◌, ◌++◌, ℕ, zero, suc, ◌+◌, ◌<◌, List, [], ◌∷◌, length, take, map, get_or, slice_get, Option, Some, None, Ok, Err, refl, sym}
+use Rattle.{std.proofs.Common.{ap, subst, ◌∙◌, arith, IfSome}, pawn_tables.specs.{Common.{Row, Each, KeepError, Database, NoRecord}, Finding.IsRead}}
+use Rattle.pawn_tables.specs.Rows.{at_most_one, placed_from}
 use Rattle.pawn_book.specs.declared.fault.KeepError.TheVariants as Keeper
 
 -- the element of a row, with its place
-pub element_at : {A : Type 0} (f : ℕ → A → Row) (k : ℕ) (xs : List A) (rows : List Row) (i : ℕ) (r : Row) → rows ≡ placed_from f k xs → i < length rows → r ≡ get_or rows i r
-    → (place : ℕ) × (x : A) × (r ≡ f place x) × (slice_get xs i ≡ Some x)
+pub element_at : {A : Type 0} (f : ℕ → A → Row) (k : ℕ) (xs : List A) (rows : List Row) (i : ℕ) (r : Row) → rows ≡ placed_from f k xs → i < length rows
+    → r ≡ get_or rows i r → (place : ℕ) × (x : A) × (r ≡ f place x) × (slice_get xs i ≡ Some x)
 element_at f k [] rows i r are lt is = absurd (let e = subst (λ rs. i < length rs) are lt in omega (arith, e))
 element_at f k (x ∷ xs) rows zero r are lt is = (k, x, is ∙ ap (λ rs. get_or rs 0 r) are, refl)
-element_at f k (x ∷ xs) rows (suc i) r are lt is =
-    let short : suc i < suc (length (placed_from f (k + 1) xs)) = subst (λ rs. suc i < length rs) are lt in
+element_at f k (x ∷ xs) rows (suc i) r are lt is = let short : suc i < suc (length (placed_from f (k + 1) xs)) = subst (λ rs. suc i < length rs) are lt in
     element_at f (k + 1) xs (placed_from f (k + 1) xs) i r refl (omega (arith, short)) (is ∙ ap (λ rs. get_or rs (suc i) r) are)
 
 take_next : {A : Type 0} (xs : List A) (i : ℕ) (x : A) → slice_get xs i ≡ Some x → take (suc i) xs ≡ take i xs ++ x ∷ []
@@ -30,17 +31,17 @@ abbrev pub AreReadTo : {A : Type 0} → (ℕ → A → Row) → (A → Type 0) �
 AreReadTo {A = A} f W rows i got = (from : ℕ) (xs : List A) → Each W xs → rows ≡ placed_from f from xs → got ≡ take i xs
 
 -- one more is read
-pub placed_more : {A : Type 0} (f : ℕ → A → Row) (W P : A → Type 0) (rows : List Row) (i : ℕ) (got more : List A) (r : Row) (y : A) → i < length rows → r ≡ get_or rows i r → more ≡ got ++ y ∷ []
-    → ((place : ℕ) (x : A) → W x → r ≡ f place x → IsRead (Ok y) x (P x)) → AreReadTo f W rows i got → AreReadTo f W rows (i + 1) more
-placed_more f W P rows i got more r y lt is grown read so from xs words are =
-    let at = element_at f from xs rows i r are lt is in
-    let same = read at.0 at.1 (each_at W xs i at.1 at.3 words) at.2 in
-    let next : i + 1 ≡ suc i = omega arith in
+pub placed_more : {A : Type 0} (f : ℕ → A → Row) (W P : A → Type 0) (rows : List Row) (i : ℕ) (got more : List A) (r : Row) (y : A) → i < length rows
+    → r ≡ get_or rows i r → more ≡ got ++ y ∷ [] → ((place : ℕ) (x : A) → W x → r ≡ f place x → IsRead (Ok y) x (P x)) → AreReadTo f W rows i got
+    → AreReadTo f W rows (i + 1) more
+placed_more f W P rows i got more r y lt is grown read so from xs words are = let at = element_at f from xs rows i r are lt is in
+    let same = read at.0 at.1 (each_at W xs i at.1 at.3 words) at.2 in let next : i + 1 ≡ suc i = omega arith in
     grown ∙ ap (λ z. got ++ z ∷ []) same ∙ ap (λ l. l ++ at.1 ∷ []) (so from xs words are) ∙ sym (take_next xs i at.1 at.3) ∙ ap (λ n. take n xs) (sym next)
 
 -- an element that can't be kept is the reason why a row is no record
 pub placed_err : {A : Type 0} (f : ℕ → A → Row) (W P : A → Type 0) (rows : List Row) (i : ℕ) (r : Row) (e : KeepError) → i < length rows → r ≡ get_or rows i r
-    → ((place : ℕ) (x : A) → W x → r ≡ f place x → IsRead (Err e) x (P x)) → (from : ℕ) (xs : List A) → Each W xs → rows ≡ placed_from f from xs → IsRead (Err e) xs (Each P xs)
+    → ((place : ℕ) (x : A) → W x → r ≡ f place x → IsRead (Err e) x (P x)) → (from : ℕ) (xs : List A) → Each W xs → rows ≡ placed_from f from xs
+    → IsRead (Err e) xs (Each P xs)
 placed_err f W P rows i r Keeper.Memory lt is read from xs words are = tt
 placed_err f W P rows i r (Keeper.Store Database) lt is read from xs words are = tt
 placed_err f W P rows i r (Keeper.Store NoRecord) lt is read from xs words are = λ all.
@@ -48,7 +49,8 @@ placed_err f W P rows i r (Keeper.Store NoRecord) lt is read from xs words are =
     read at.0 at.1 (each_at W xs i at.1 at.3 words) at.2 (each_at P xs i at.1 at.3 all)
 
 -- all are read
-pub placed_whole : {A : Type 0} (f : ℕ → A → Row) (W : A → Type 0) (rows : List Row) (i : ℕ) (got : List A) → i ≡ length rows → AreReadTo f W rows i got → (from : ℕ) (xs : List A) → Each W xs → rows ≡ placed_from f from xs → got ≡ xs
+pub placed_whole : {A : Type 0} (f : ℕ → A → Row) (W : A → Type 0) (rows : List Row) (i : ℕ) (got : List A) → i ≡ length rows → AreReadTo f W rows i got
+    → (from : ℕ) (xs : List A) → Each W xs → rows ≡ placed_from f from xs → got ≡ xs
 placed_whole f W rows i got end so from xs words are = so from xs words are ∙ ap (λ n. take n xs) (end ∙ ap length are) ∙ take_whole f from xs
 
 -- elements without their places

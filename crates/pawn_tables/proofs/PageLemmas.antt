@@ -1,10 +1,10 @@
 -- The first elements of a list of which one knows what is left behind each.
-use Rattle.pawn_tables.proofs.Basics.{◌≡◌, ◌++◌, ℕ, zero, suc, ◌-◌, ◌<◌, List, [], ◌∷◌, length, map, take, slice_get, Bool, filter, Some, refl, sym, ap, subst, ◌∙◌, arith, option_map, unwrap_or, last_element, Each, cond_both, length-take, map-append, map-id, most_page_rows}
-use Rattle.pawn_tables.specs.Pages.{IsPage, page_end}
+use Rattle.std.proofs.Common.{◌≡◌, ◌++◌, ℕ, zero, suc, ◌-◌, ◌<◌, List, [], ◌∷◌, length, map, take, slice_get, Bool, filter, Some, refl, sym, ap, subst, ◌∙◌}
+use Rattle.{std.proofs.Common.{arith, option_map, unwrap_or, length-take, map-id}, pawn_tables.{specs.Common.{last_element, Each}, proofs.Basics.cond_both}}
+use Rattle.pawn_tables.{proofs.Basics.map-append, specs.Pages.{most_page_rows, IsPage, page_end}}
 
 pub last_later : {A : Type 0} (x y : A) (ys : List A) → last_element (x ∷ y ∷ ys) ≡ last_element (y ∷ ys)
-last_later x y ys =
-    let up : length (x ∷ y ∷ ys) - 1 ≡ suc (length ys) = omega arith in
+last_later x y ys = let up : length (x ∷ y ∷ ys) - 1 ≡ suc (length ys) = omega arith in
     let low : length (y ∷ ys) - 1 ≡ length ys = omega arith in
     ap (slice_get (x ∷ y ∷ ys)) up ∙ ap (slice_get (y ∷ ys)) (sym low)
 
@@ -15,32 +15,31 @@ last_some x (y ∷ ys) = let last = last_some y ys in (last.0, last_later x y ys
 -- a page ends where it does, wherever it began
 end_after : {A : Type 0} (behind : A → ℕ) (n : ℕ) (x : A) (ys : List A) → page_end behind n (x ∷ ys) ≡ page_end behind (behind x) ys
 end_after behind n x [] = refl
-end_after behind n x (y ∷ ys) =
-    let last = last_some y ys in
+end_after behind n x (y ∷ ys) = let last = last_some y ys in
     ap (λ o. unwrap_or (option_map behind o) n) (last_later x y ys ∙ last.1) ∙ sym (ap (λ o. unwrap_or (option_map behind o) (behind x)) last.1)
 
 module _ {A : Type 0} (left : ℕ → List A) (behind : A → ℕ) (step : (n : ℕ) (x : A) (more : List A) → left n ≡ x ∷ more → left (behind x) ≡ more) where
   -- what is left behind the first elements
   pub page_left : (k n : ℕ) → left n ≡ take k (left n) ++ left (page_end behind n (take k (left n)))
   page_left zero n = refl
-  page_left (suc k) n = go (λ m. page_left k m) (left n) refl
-    where
-      go : ((m : ℕ) → left m ≡ take k (left m) ++ left (page_end behind m (take k (left m)))) → (xs : List A) → left n ≡ xs → left n ≡ take (suc k) xs ++ left (page_end behind n (take (suc k) xs))
-      go rest [] is = refl
-      go rest (x ∷ more) is =
-          let then = step n x more is in
-          is ∙ ap (λ l. x ∷ l) (subst (λ l. l ≡ take k l ++ left (page_end behind (behind x) (take k l))) then (rest (behind x)) ∙ ap (λ m. take k more ++ left m) (sym (end_after behind n x (take k more))))
+  page_left (suc k) n = go (λ m. page_left k m) (left n) refl where
+    go : ((m : ℕ) → left m ≡ take k (left m) ++ left (page_end behind m (take k (left m)))) → (xs : List A) → left n ≡ xs
+        → left n ≡ take (suc k) xs ++ left (page_end behind n (take (suc k) xs))
+    go rest [] is = refl
+    go rest (x ∷ more) is = let then = step n x more is in
+        is ∙ ap (λ l. x ∷ l) (subst (λ l. l ≡ take k l ++ left (page_end behind (behind x) (take k l))) then (rest (behind x))
+        ∙ ap (λ m. take k more ++ left m) (sym (end_after behind n x (take k more))))
 
   -- nothing is, where they are fewer
   pub page_last : (k n : ℕ) → length (take k (left n)) < k → left (page_end behind n (take k (left n))) ≡ []
   page_last zero n short = absurd (omega (arith, short))
-  page_last (suc k) n short = go (λ m. page_last k m) (left n) refl short
-    where
-      go : ((m : ℕ) → length (take k (left m)) < k → left (page_end behind m (take k (left m))) ≡ []) → (xs : List A) → left n ≡ xs → length (take (suc k) xs) < suc k → left (page_end behind n (take (suc k) xs)) ≡ []
-      go rest [] is short = is
-      go rest (x ∷ more) is short =
-          let then = step n x more is in
-          ap left (end_after behind n x (take k more)) ∙ subst (λ l. length (take k l) < k → left (page_end behind (behind x) (take k l)) ≡ []) then (rest (behind x)) (omega (arith, short))
+  page_last (suc k) n short = go (λ m. page_last k m) (left n) refl short where
+    go : ((m : ℕ) → length (take k (left m)) < k → left (page_end behind m (take k (left m))) ≡ []) → (xs : List A) → left n ≡ xs
+        → length (take (suc k) xs) < suc k → left (page_end behind n (take (suc k) xs)) ≡ []
+    go rest [] is short = is
+    go rest (x ∷ more) is short = let then = step n x more is in
+        ap left (end_after behind n x (take k more))
+        ∙ subst (λ l. length (take k l) < k → left (page_end behind (behind x) (take k l)) ≡ []) then (rest (behind x)) (omega (arith, short))
 
   pub is_page : (n : ℕ) → IsPage left (λ (x : A). x) behind n (take most_page_rows (left n))
   is_page n = record {
@@ -50,10 +49,12 @@ module _ {A : Type 0} (left : ℕ → List A) (behind : A → ℕ) (step : (n : 
   }
 
 -- the same, of what is shown of the elements
-pub page_as : {A B : Type 0} (left : ℕ → List A) (shown : ℕ → List B) (shows : A → B) (behind : A → ℕ) (n : ℕ) (page : List A) → ((m : ℕ) → shown m ≡ map shows (left m)) → IsPage left (λ (x : A). x) behind n page → IsPage shown shows behind n page
+pub page_as : {A B : Type 0} (left : ℕ → List A) (shown : ℕ → List B) (shows : A → B) (behind : A → ℕ) (n : ℕ) (page : List A)
+    → ((m : ℕ) → shown m ≡ map shows (left m)) → IsPage left (λ (x : A). x) behind n page → IsPage shown shows behind n page
 page_as left shown shows behind n page is at = record {
   few = at.few;
-  goes_on = is n ∙ ap (map shows) (at.goes_on ∙ ap (λ l. l ++ left (page_end behind n page)) (map-id page)) ∙ map-append shows page (left (page_end behind n page)) ∙ ap (λ l. map shows page ++ l) (sym (is (page_end behind n page)));
+  goes_on = is n ∙ ap (map shows) (at.goes_on ∙ ap (λ l. l ++ left (page_end behind n page)) (map-id page))
+      ∙ map-append shows page (left (page_end behind n page)) ∙ ap (λ l. map shows page ++ l) (sym (is (page_end behind n page)));
   is_last = λ short. is (page_end behind n page) ∙ ap (map shows) (at.is_last short);
 }
 

@@ -1,6 +1,7 @@
 -- Rows that count their places in a column.
-use Rattle.pawn_tables.proofs.Basics.{◌≡◌, ◌==◌, ℕ, zero, suc, ◌+◌, ◌<◌, List, [], ◌∷◌, map, filter, Bool, true, false, cond, ◌&&◌, refl, ap, ◌∙◌, arith, slice_get, AllByRecursion, Row, column, is_at, at_place, at_most_one, number, placed_from}
-use Rattle.pawn_tables.proofs.Lemmas.{nat_tests, cond-false, cond-true, equals}
+use Rattle.std.proofs.Common.{◌≡◌, ◌==◌, ℕ, zero, suc, ◌+◌, ◌<◌, List, [], ◌∷◌, map, filter, Bool, true, false, cond, ◌&&◌, refl, ap, ◌∙◌, arith, slice_get}
+use Rattle.pawn_tables.specs.{Common.{AllByRecursion, Row, column}, At.is_at, Places.at_place, Rows.{at_most_one, number, placed_from}}
+use Rattle.pawn_tables.proofs.{Basics.{nat_tests, cond-false, cond-true}, RowsUnderKey.equals}
 
 pub regroup : (a b c : Bool) → (a && (b && (c && true))) ≡ ((a && (b && true)) && c)
 regroup true true true = refl
@@ -14,7 +15,8 @@ filter_both p q (x ∷ xs) =
     elim (p x) as (λ b. filter q (cond b (x ∷ filter p xs) (filter p xs)) ≡ cond (b && q x) (x ∷ filter (λ y. p y && q y) xs) (filter (λ y. p y && q y) xs))
     [ true ↦ ap (λ l. cond (q x) (x ∷ l) l) (filter_both p q xs) | false ↦ filter_both p q xs ]
 
-pub placed_all : {A : Type 0} (P : Row → Type 0) (f : ℕ → A → Row) → ((at : ℕ) (x : A) → P (f at x)) → (at : ℕ) (xs : List A) → AllByRecursion P (placed_from f at xs)
+pub placed_all : {A : Type 0} (P : Row → Type 0) (f : ℕ → A → Row) → ((at : ℕ) (x : A) → P (f at x)) → (at : ℕ) (xs : List A)
+    → AllByRecursion P (placed_from f at xs)
 placed_all P f all at [] = tt
 placed_all P f all at (x ∷ xs) = (all at x, placed_all P f all (at + 1) xs)
 
@@ -31,29 +33,28 @@ module _ (c : ℕ) where
 
   past : (s k : ℕ) (rs : List Row) → CountFrom k rs → s < k → filter (has_place s) rs ≡ []
   past s k [] counts lt = refl
-  past s k (r ∷ rs) counts lt =
-      let other : (k == s) ≡ false = grind (arith, nat_tests, lt) in
+  past s k (r ∷ rs) counts lt = let other : (k == s) ≡ false = grind (arith, nat_tests, lt) in
       cond-false _ _ _ (test_is s k r counts.0 ∙ other) ∙ past s (k + 1) rs counts.1 (omega (arith, lt))
 
   at_count : (s k n : ℕ) (rs : List Row) → CountFrom k rs → s ≡ k + n → filter (has_place s) rs ≡ at_most_one (λ r. r) (slice_get rs n)
   at_count s k n [] counts is = refl
-  at_count s k zero (r ∷ rs) counts is =
-      let here : (k == s) ≡ true = grind (arith, nat_tests, is) in
+  at_count s k zero (r ∷ rs) counts is = let here : (k == s) ≡ true = grind (arith, nat_tests, is) in
       cond-true _ _ _ (test_is s k r counts.0 ∙ here) ∙ ap (λ l. r ∷ l) (past s (k + 1) rs counts.1 (omega (arith, is)))
-  at_count s k (suc n) (r ∷ rs) counts is =
-      let other : (k == s) ≡ false = grind (arith, nat_tests, is) in
+  at_count s k (suc n) (r ∷ rs) counts is = let other : (k == s) ≡ false = grind (arith, nat_tests, is) in
       cond-false _ _ _ (test_is s k r counts.0 ∙ other) ∙ at_count s (k + 1) n rs counts.1 (omega (arith, is))
 
   placed_alone : (s : ℕ) (rs : List Row) → CountFrom 1 rs → filter (has_place s) rs ≡ at_most_one (λ r. r) (at_place rs s)
   placed_alone zero rs counts = past 0 1 rs counts (omega arith)
   placed_alone (suc n) rs counts = at_count (suc n) 1 n rs counts (omega arith)
 
-  module _ {A : Type 0} (g : ℕ → A → Row) (count : (at : ℕ) (x : A) → column (g at x) c ≡ number at) (told : ℕ → A → Row) (cells : Row → Row) (is : (at : ℕ) (x : A) → cells (g at x) ≡ told at x) where
+  module _ {A : Type 0} (g : ℕ → A → Row) (count : (at : ℕ) (x : A) → column (g at x) c ≡ number at) (told : ℕ → A → Row) (cells : Row → Row)
+      (is : (at : ℕ) (x : A) → cells (g at x) ≡ told at x) where
     counts_placed : (k : ℕ) (xs : List A) → CountFrom k (placed_from g k xs)
     counts_placed k [] = tt
     counts_placed k (x ∷ xs) = (count k x, counts_placed (k + 1) xs)
 
-    one_placed : (k n s : ℕ) (xs : List A) → s ≡ k + n → map cells (at_most_one (λ r. r) (slice_get (placed_from g k xs) n)) ≡ at_most_one (told s) (slice_get xs n)
+    one_placed : (k n s : ℕ) (xs : List A) → s ≡ k + n
+        → map cells (at_most_one (λ r. r) (slice_get (placed_from g k xs) n)) ≡ at_most_one (told s) (slice_get xs n)
     one_placed k n s [] at = refl
     one_placed k zero s (x ∷ xs) at = let same : k ≡ s = omega (arith, at) in ap (λ r. r ∷ []) (is k x ∙ ap (λ m. told m x) same)
     one_placed k (suc n) s (x ∷ xs) at = one_placed (k + 1) n s xs (omega (arith, at))

@@ -1,8 +1,14 @@
 -- What the texts of the queries mean.
-use Rattle.pawn_tables.proofs.Basics.{List, [], ◌∷◌, ℕ, pos, codes, refl, Index, Compare, Eq, Ge, Gt, Lt, Binary, understood, Term, col, lit, op2, Int, Text, once_of_table, few_of_table, first_of_table, over_table, Asks, by_column, by_column_down, is_param, with_indexes, most_page_rows, bookings_tree, books_tree, entries_tree, extensions_tree, meta_tree, pledges_tree, secrets_tree, terms_tree, totals_tree}
+use Rattle.{std.proofs.Common.{List, [], ◌∷◌, ℕ, pos, codes, refl}, pawn_tables.specs.Common.{Index, Compare, Eq, Ge, Gt, Lt, Binary, understood, Term, col}}
+use Rattle.pawn_tables.{specs.Common.{lit, op2, Int, Text}, proofs.Basics.{few_of_table, first_of_table, over_table, Asks, by_column, by_column_down, is_param}}
+use Rattle.pawn_tables.specs.{Ours.with_indexes, Pages.most_page_rows, Schema.{bookings_tree, books_tree, entries_tree, extensions_tree, meta_tree}}
+use Rattle.{pawn_tables.{specs.Schema.{pledges_tree, secrets_tree, terms_tree, totals_tree}, proofs.Counts.how_many}, one_table.proofs.Distinct.once_of_table}
 use Rattle.sqlite_tied.specs.Compute.{everything}
-use Rattle.pawn_tables.proofs.Counts.{how_many}
-pub use Rattle.pawn_tables.specs.declared.texts.TheConstants.{COUNT_ASKED, COUNT_CONFIRMED, COUNT_ENDS, COUNT_ENTRIES, FIND_NEXT_BOOK, FIND_REFERENCE, READ_ASKED_PAGE, READ_BOOKING, READ_CONFIRMED_PAGE, READ_CREDIT, READ_ENDS_PAGE, READ_ENTRIES, READ_ENTRIES_PAGE, READ_ENTRY, READ_EXTENSION, READ_EXTENSIONS, READ_EXTENSIONS_PAGE, READ_HEAD, READ_LAST_PLACE, READ_LAST_SECRET, READ_PLEDGE, READ_ROWS, READ_SECRET, READ_SECRETS, READ_SECRETS_PAGE, READ_TERMS, READ_TOTALS, READ_WINDOWS}
+pub use Rattle.pawn_tables.specs.declared.texts.TheConstants.{COUNT_ASKED, COUNT_CONFIRMED, COUNT_ENDS, COUNT_ENTRIES, FIND_NEXT_BOOK, FIND_REFERENCE}
+pub use Rattle.pawn_tables.specs.declared.texts.TheConstants.{READ_ASKED_PAGE, READ_BOOKING, READ_CONFIRMED_PAGE, READ_CREDIT, READ_ENDS_PAGE, READ_ENTRIES}
+pub use Rattle.pawn_tables.specs.declared.texts.TheConstants.{READ_ENTRIES_PAGE, READ_ENTRY, READ_EXTENSION, READ_EXTENSIONS, READ_EXTENSIONS_PAGE, READ_HEAD}
+pub use Rattle.pawn_tables.specs.declared.texts.TheConstants.{READ_LAST_PLACE, READ_LAST_SECRET, READ_PLEDGE, READ_ROWS, READ_SECRET, READ_SECRETS}
+pub use Rattle.pawn_tables.specs.declared.texts.TheConstants.{READ_SECRETS_PAGE, READ_TERMS, READ_TOTALS, READ_WINDOWS}
 
 -- a row of a book
 abbrev pub of_book : List Term
@@ -26,7 +32,8 @@ abbrev pub head_shows : List Term
 head_shows = col 1 2 ∷ col 1 3 ∷ col 1 4 ∷ col 1 5 ∷ col 1 6 ∷ col 1 7 ∷ col 1 8 ∷ []
 
 abbrev pub pledge_shows : List Term
-pledge_shows = col 1 3 ∷ col 1 4 ∷ col 1 5 ∷ col 1 6 ∷ col 1 7 ∷ col 1 8 ∷ col 1 9 ∷ col 1 10 ∷ col 1 11 ∷ col 1 12 ∷ col 1 13 ∷ col 1 14 ∷ col 1 15 ∷ col 1 16 ∷ []
+pledge_shows =
+    col 1 3 ∷ col 1 4 ∷ col 1 5 ∷ col 1 6 ∷ col 1 7 ∷ col 1 8 ∷ col 1 9 ∷ col 1 10 ∷ col 1 11 ∷ col 1 12 ∷ col 1 13 ∷ col 1 14 ∷ col 1 15 ∷ col 1 16 ∷ []
 
 abbrev pub credit_shows : List Term
 credit_shows = col 1 5 ∷ col 1 6 ∷ col 1 7 ∷ col 1 8 ∷ col 1 10 ∷ []
@@ -101,34 +108,55 @@ ends_page_tests = is_param 1 0 ∷ is_over 2 1 ∷ is_number 14 0 ∷ is_param 1
 
 -- what each text asks, whatever indexes the tables have
 pub record Texts (more : List Index) : Type 0 where
-  pub head_is : Asks (with_indexes more) READ_HEAD.now (over_table books_tree of_book head_shows []) (codes "book_key" ∷ codes "title" ∷ codes "capacity" ∷ codes "terms" ∷ codes "pledges" ∷ codes "import_key" ∷ codes "imported" ∷ [])
-  pub entries_is : Asks (with_indexes more) READ_ENTRIES.now (over_table entries_tree of_pledge four_shown (by_column 3)) (codes "seq" ∷ codes "day" ∷ codes "sort" ∷ codes "pence" ∷ [])
-  pub terms_is : Asks (with_indexes more) READ_TERMS.now (over_table terms_tree of_pledge three_shown []) (codes "rate" ∷ codes "keep_before" ∷ codes "keep_after" ∷ [])
-  pub pledge_is : Asks (with_indexes more) READ_PLEDGE.now (over_table pledges_tree of_pledge pledge_shows []) (codes "ref" ∷ codes "article" ∷ codes "kind" ∷ codes "credit" ∷ codes "taken" ∷ codes "agreed" ∷ codes "five" ∷ codes "version" ∷ codes "ends" ∷ codes "held" ∷ codes "last_day" ∷ codes "closed" ∷ codes "closed_day" ∷ codes "amount" ∷ [])
-  pub credit_is : Asks (with_indexes more) READ_CREDIT.now (over_table pledges_tree of_pledge credit_shows []) (codes "kind" ∷ codes "credit" ∷ codes "taken" ∷ codes "agreed" ∷ codes "version" ∷ [])
-  pub secrets_is : Asks (with_indexes more) READ_SECRETS.now (over_table secrets_tree of_pledge four_shown (by_column 3)) (codes "place" ∷ codes "day" ∷ codes "sort" ∷ codes "secret" ∷ [])
-  pub booking_is : Asks (with_indexes more) READ_BOOKING.now (over_table bookings_tree of_pledge three_shown []) (codes "day" ∷ codes "slot" ∷ codes "state" ∷ [])
-  pub totals_is : Asks (with_indexes more) READ_TOTALS.now (over_table totals_tree of_pledge three_shown []) (codes "day" ∷ codes "principal" ∷ codes "charges" ∷ [])
-  pub extensions_is : Asks (with_indexes more) READ_EXTENSIONS.now (over_table extensions_tree of_pledge three_shown (by_column 3)) (codes "place" ∷ codes "day" ∷ codes "until_day" ∷ [])
+  pub head_is : Asks (with_indexes more) READ_HEAD.now (over_table books_tree of_book head_shows [])
+      (codes "book_key" ∷ codes "title" ∷ codes "capacity" ∷ codes "terms" ∷ codes "pledges" ∷ codes "import_key" ∷ codes "imported" ∷ [])
+  pub entries_is : Asks (with_indexes more) READ_ENTRIES.now (over_table entries_tree of_pledge four_shown (by_column 3))
+      (codes "seq" ∷ codes "day" ∷ codes "sort" ∷ codes "pence" ∷ [])
+  pub terms_is : Asks (with_indexes more) READ_TERMS.now (over_table terms_tree of_pledge three_shown [])
+      (codes "rate" ∷ codes "keep_before" ∷ codes "keep_after" ∷ [])
+  pub pledge_is : Asks (with_indexes more) READ_PLEDGE.now (over_table pledges_tree of_pledge pledge_shows [])
+      (codes "ref" ∷ codes "article" ∷ codes "kind" ∷ codes "credit" ∷ codes "taken" ∷ codes "agreed" ∷ codes "five" ∷ codes "version" ∷ codes "ends"
+      ∷ codes "held" ∷ codes "last_day" ∷ codes "closed" ∷ codes "closed_day" ∷ codes "amount" ∷ [])
+  pub credit_is : Asks (with_indexes more) READ_CREDIT.now (over_table pledges_tree of_pledge credit_shows [])
+      (codes "kind" ∷ codes "credit" ∷ codes "taken" ∷ codes "agreed" ∷ codes "version" ∷ [])
+  pub secrets_is : Asks (with_indexes more) READ_SECRETS.now (over_table secrets_tree of_pledge four_shown (by_column 3))
+      (codes "place" ∷ codes "day" ∷ codes "sort" ∷ codes "secret" ∷ [])
+  pub booking_is : Asks (with_indexes more) READ_BOOKING.now (over_table bookings_tree of_pledge three_shown [])
+      (codes "day" ∷ codes "slot" ∷ codes "state" ∷ [])
+  pub totals_is : Asks (with_indexes more) READ_TOTALS.now (over_table totals_tree of_pledge three_shown [])
+      (codes "day" ∷ codes "principal" ∷ codes "charges" ∷ [])
+  pub extensions_is : Asks (with_indexes more) READ_EXTENSIONS.now (over_table extensions_tree of_pledge three_shown (by_column 3))
+      (codes "place" ∷ codes "day" ∷ codes "until_day" ∷ [])
   pub ref_is : Asks (with_indexes more) FIND_REFERENCE.now (first_of_table pledges_tree ref_tests one_shown (by_column 2)) (codes "number" ∷ [])
   pub confirmed_is : Asks (with_indexes more) COUNT_CONFIRMED.now (how_many bookings_tree confirmed_tests) (codes "count(*)" ∷ [])
   pub next_is : Asks (with_indexes more) FIND_NEXT_BOOK.now (first_of_table books_tree next_tests next_shows (by_column 0)) (codes "book" ∷ [])
-  pub from_is : Asks (with_indexes more) READ_ENTRIES_PAGE.now (few_of_table most_page_rows entries_tree from_tests four_shown (by_column 3)) (codes "seq" ∷ codes "day" ∷ codes "sort" ∷ codes "pence" ∷ [])
+  pub from_is : Asks (with_indexes more) READ_ENTRIES_PAGE.now (few_of_table most_page_rows entries_tree from_tests four_shown (by_column 3))
+      (codes "seq" ∷ codes "day" ∷ codes "sort" ∷ codes "pence" ∷ [])
   pub rows_is : Asks (with_indexes more) READ_ROWS.now (over_table meta_tree rows_tests one_shown []) (codes "value" ∷ [])
-  pub entry_is : Asks (with_indexes more) READ_ENTRY.now (over_table entries_tree of_place four_shown []) (codes "seq" ∷ codes "day" ∷ codes "sort" ∷ codes "pence" ∷ [])
-  pub secret_is : Asks (with_indexes more) READ_SECRET.now (over_table secrets_tree of_place four_shown []) (codes "place" ∷ codes "day" ∷ codes "sort" ∷ codes "secret" ∷ [])
-  pub extension_is : Asks (with_indexes more) READ_EXTENSION.now (over_table extensions_tree of_place three_shown []) (codes "place" ∷ codes "day" ∷ codes "until_day" ∷ [])
+  pub entry_is : Asks (with_indexes more) READ_ENTRY.now (over_table entries_tree of_place four_shown [])
+      (codes "seq" ∷ codes "day" ∷ codes "sort" ∷ codes "pence" ∷ [])
+  pub secret_is : Asks (with_indexes more) READ_SECRET.now (over_table secrets_tree of_place four_shown [])
+      (codes "place" ∷ codes "day" ∷ codes "sort" ∷ codes "secret" ∷ [])
+  pub extension_is : Asks (with_indexes more) READ_EXTENSION.now (over_table extensions_tree of_place three_shown [])
+      (codes "place" ∷ codes "day" ∷ codes "until_day" ∷ [])
   pub entry_count_is : Asks (with_indexes more) COUNT_ENTRIES.now (how_many entries_tree of_pledge) (codes "count(*)" ∷ [])
-  pub last_secret_is : Asks (with_indexes more) READ_LAST_SECRET.now (first_of_table secrets_tree of_pledge four_shown (by_column_down 3)) (codes "place" ∷ codes "day" ∷ codes "sort" ∷ codes "secret" ∷ [])
-  pub last_place_is : Asks (with_indexes more) READ_LAST_PLACE.now (first_of_table extensions_tree of_pledge last_place_shows (by_column_down 3)) (codes "place" ∷ [])
-  pub secrets_page_is : Asks (with_indexes more) READ_SECRETS_PAGE.now (few_of_table most_page_rows secrets_tree behind_tests four_shown (by_column 3)) (codes "place" ∷ codes "day" ∷ codes "sort" ∷ codes "secret" ∷ [])
-  pub extensions_page_is : Asks (with_indexes more) READ_EXTENSIONS_PAGE.now (few_of_table most_page_rows extensions_tree behind_tests three_shown (by_column 3)) (codes "place" ∷ codes "day" ∷ codes "until_day" ∷ [])
+  pub last_secret_is : Asks (with_indexes more) READ_LAST_SECRET.now (first_of_table secrets_tree of_pledge four_shown (by_column_down 3))
+      (codes "place" ∷ codes "day" ∷ codes "sort" ∷ codes "secret" ∷ [])
+  pub last_place_is : Asks (with_indexes more) READ_LAST_PLACE.now (first_of_table extensions_tree of_pledge last_place_shows (by_column_down 3))
+      (codes "place" ∷ [])
+  pub secrets_page_is : Asks (with_indexes more) READ_SECRETS_PAGE.now (few_of_table most_page_rows secrets_tree behind_tests four_shown (by_column 3))
+      (codes "place" ∷ codes "day" ∷ codes "sort" ∷ codes "secret" ∷ [])
+  pub extensions_page_is : Asks (with_indexes more) READ_EXTENSIONS_PAGE.now
+      (few_of_table most_page_rows extensions_tree behind_tests three_shown (by_column 3)) (codes "place" ∷ codes "day" ∷ codes "until_day" ∷ [])
   pub asked_is : Asks (with_indexes more) COUNT_ASKED.now (how_many bookings_tree asked_tests) (codes "count(*)" ∷ [])
   pub ends_is : Asks (with_indexes more) COUNT_ENDS.now (how_many pledges_tree ends_tests) (codes "count(*)" ∷ [])
   pub windows_is : Asks (with_indexes more) READ_WINDOWS.now (once_of_table bookings_tree windows_tests windows_shows (Binary ∷ [])) (codes "slot" ∷ [])
-  pub confirmed_page_is : Asks (with_indexes more) READ_CONFIRMED_PAGE.now (few_of_table most_page_rows bookings_tree confirmed_page_tests one_shown (by_column 2)) (codes "number" ∷ [])
-  pub asked_page_is : Asks (with_indexes more) READ_ASKED_PAGE.now (few_of_table most_page_rows bookings_tree asked_page_tests asked_page_shows (by_column 2)) (codes "number" ∷ codes "slot" ∷ [])
-  pub ends_page_is : Asks (with_indexes more) READ_ENDS_PAGE.now (few_of_table most_page_rows pledges_tree ends_page_tests one_shown (by_column 2)) (codes "number" ∷ [])
+  pub confirmed_page_is : Asks (with_indexes more) READ_CONFIRMED_PAGE.now
+      (few_of_table most_page_rows bookings_tree confirmed_page_tests one_shown (by_column 2)) (codes "number" ∷ [])
+  pub asked_page_is : Asks (with_indexes more) READ_ASKED_PAGE.now (few_of_table most_page_rows bookings_tree asked_page_tests asked_page_shows (by_column 2))
+      (codes "number" ∷ codes "slot" ∷ [])
+  pub ends_page_is : Asks (with_indexes more) READ_ENDS_PAGE.now (few_of_table most_page_rows pledges_tree ends_page_tests one_shown (by_column 2))
+      (codes "number" ∷ [])
 
 pub texts : (more : List Index) → Texts more
 unfolding understood everything

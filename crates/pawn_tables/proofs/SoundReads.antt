@@ -1,47 +1,47 @@
 -- What is kept of a sound host can be read of its rows.
-use Rattle.pawn_tables.proofs.Basics.{◌≡◌, ℕ, zero, suc, ◌-◌, ◌≤◌, List, [], ◌∷◌, slice_get, Option, Some, None, Result, Ok, Err, refl, sym, subst, arith, length, option_map, ◌++◌, IsOk, false, IfSome, IsTrue, is_some, get, IsDayNumber, IsStampDay, later_of, six_months, first_day, last_stamp_day, IsChecked, Rates, DebtValue, Entry, Sort, Draw, Repay, PledgeValue, debt_of, end_of, last_element, last_until, AreExtended, AreIssued, Each, IsBooked, IsClosed, IsStanding, Booking, Closing, Open, Redeemed, Sold, Extension, Issued, BookValue, pledge_from, pledge_in, Host, entries_of, extensions_of, secrets_of, terms_of, terms_at, IsSoundBook, IsUnsoundAt, AreWords, HasTextsAndWords, KeepError, Database, NoRecord, each_at, IsAmount, IsEntryTold, Finds, IsRead, IsBriefTold, IsCreditTold, IsRowTold, booking_of, totals_in, closed_day, AreStorable}
-use Rattle.pawn_tables.specs.Common.{last_of}
-use Rattle.pawn_tables.proofs.Lemmas.{nat_tests, last_some}
-use Rattle.pawn_base.specs.Lists.{DoNotFall, last_by}
-use Rattle.pawn_debt.specs.Answers.{draw_rows, is_bad_amount, repay_rows, with_entry}
-use Rattle.pawn_debt.specs.Replay.{AreEntriesAccepted, sort_answer}
-use Rattle.pawn_terms.proofs.CalendarLemmas.{page_date}
-use Rattle.pawn_base.proofs.ListLemmas.{last_by-le, DoNotFall-each}
-use Rattle.pawn_base.proofs.RefusalLemmas.{first_of-is_ok}
-use Rattle.pawn_terms.proofs.SixMonths.{six_months_is}
-use Rattle.pawn_pledge.proofs.Briefs.{brief_is_within}
+use Rattle.std.proofs.Common.{◌≡◌, ℕ, zero, suc, ◌-◌, ◌≤◌, List, [], ◌∷◌, slice_get, Option, Some, None, Result, Ok, Err, refl, sym, subst, arith, length}
+use Rattle.{std.proofs.Common.{option_map, ◌++◌, IsOk, false, IfSome, IsTrue, is_some}, pawn_tables.specs.Common.{get, IsDayNumber, IsStampDay, later_of}}
+use Rattle.pawn_tables.specs.Common.{six_months, IsChecked, Rates, DebtValue, Entry, Sort, Draw, Repay, PledgeValue, debt_of, end_of, last_element, last_until}
+use Rattle.pawn_tables.specs.Common.{AreExtended, AreIssued, Each, IsBooked, IsClosed, IsStanding, Booking, Closing, Open, Redeemed, Sold, Extension, Issued}
+use Rattle.pawn_tables.specs.Common.{BookValue, pledge_from, pledge_in, Host, entries_of, extensions_of, secrets_of, terms_of, terms_at, IsSoundBook}
+use Rattle.pawn_tables.{specs.Common.{IsUnsoundAt, AreWords, HasTextsAndWords, KeepError, Database, NoRecord, last_of}, proofs.Basics.{each_at, nat_tests}}
+use Rattle.pawn_tables.specs.{Entries.{IsAmount, IsEntryTold}, Finding.{Finds, IsRead}, PledgeRows.{IsBriefTold, IsCreditTold, IsRowTold, booking_of}}
+use Rattle.{pawn_tables.{specs.{PledgeRows.totals_in, Rows.closed_day, StandsFor.AreStorable}, proofs.PageLemmas.last_some}, pawn_terms.specs.Limits.first_day}
+use Rattle.{pawn_terms.{specs.Limits.last_stamp_day, proofs.{CalendarLemmas.page_date, SixMonths.six_months_is}}, pawn_base.specs.Lists.{DoNotFall, last_by}}
+use Rattle.{pawn_base.proofs.{ListLemmas.{last_by-le, DoNotFall-each}, RefusalLemmas.first_of-is_ok}, pawn_debt.specs.Answers.{draw_rows, is_bad_amount}}
+use Rattle.{pawn_debt.specs.{Answers.{repay_rows, with_entry}, Replay.{AreEntriesAccepted, sort_answer}}, pawn_pledge.proofs.Briefs.brief_is_within}
 use Rattle.pawn_book.specs.declared.fault.KeepError.TheVariants as Keeper
 
 -- ---- answers
 
 -- an error that is told of what was joined
-pub unjoined : {A B : Type 0} (e : KeepError) (x : A) (s : Result B KeepError) (P : B → Type 0) (V U : Type 0) → s ≡ Err e → IsRead (Err e) x V → ((V → ⊥) → U) → Finds s P U
-unjoined e x s P V U same read bad = subst (λ r. Finds r P U) (sym same) (go e read)
-  where
-    go : (k : KeepError) → IsRead (Err k) x V → Finds (Err k) P U
-    go Keeper.Memory f = tt
-    go (Keeper.Store NoRecord) f = bad f
-    go (Keeper.Store Database) f = tt
+pub unjoined : {A B : Type 0} (e : KeepError) (x : A) (s : Result B KeepError) (P : B → Type 0) (V U : Type 0) → s ≡ Err e → IsRead (Err e) x V → ((V → ⊥) → U)
+    → Finds s P U
+unjoined e x s P V U same read bad = subst (λ r. Finds r P U) (sym same) (go e read) where
+  go : (k : KeepError) → IsRead (Err k) x V → Finds (Err k) P U
+  go Keeper.Memory f = tt
+  go (Keeper.Store NoRecord) f = bad f
+  go (Keeper.Store Database) f = tt
 
 -- ---- a pledge of a sound book
 
 -- where a fact that sound books have of their pledges fails of this one, its book is not sound
-pub unsound_pledge : (h : Host) (b n : ℕ) (Q : Option PledgeValue → Type 0) → Q None
-    → ((k : BookValue) (p : PledgeValue) → get h.books b ≡ Some k → IsSoundBook k → pledge_from 1 k.pledges n ≡ Some p → Q (Some p)) → (Q (pledge_in (get h.books b) n) → ⊥) → IsUnsoundAt b h
-unsound_pledge h b n Q none some bad = inside (get h.books b) refl bad
-  where
-    in_book : (k : BookValue) → get h.books b ≡ Some k → IsSoundBook k → (o : Option PledgeValue) → pledge_from 1 k.pledges n ≡ o → Q o
-    in_book k is sound None at = none
-    in_book k is sound (Some p) at = some k p is sound at
+pub unsound_pledge : (h : Host) (b n : ℕ) (Q : Option PledgeValue → Type 0) → Q None → ((k : BookValue) (p : PledgeValue) → get h.books b ≡ Some k
+    → IsSoundBook k → pledge_from 1 k.pledges n ≡ Some p → Q (Some p)) → (Q (pledge_in (get h.books b) n) → ⊥) → IsUnsoundAt b h
+unsound_pledge h b n Q none some bad = inside (get h.books b) refl bad where
+  in_book : (k : BookValue) → get h.books b ≡ Some k → IsSoundBook k → (o : Option PledgeValue) → pledge_from 1 k.pledges n ≡ o → Q o
+  in_book k is sound None at = none
+  in_book k is sound (Some p) at = some k p is sound at
 
-    inside : (o : Option BookValue) → get h.books b ≡ o → (Q (pledge_in o n) → ⊥) → IsUnsoundAt b h
-    inside None is bad = absurd (bad none)
-    inside (Some k) is bad = (k, is, λ sound. bad (in_book k is sound.1 (pledge_from 1 k.pledges n) refl))
+  inside : (o : Option BookValue) → get h.books b ≡ o → (Q (pledge_in o n) → ⊥) → IsUnsoundAt b h
+  inside None is bad = absurd (bad none)
+  inside (Some k) is bad = (k, is, λ sound. bad (in_book k is sound.1 (pledge_from 1 k.pledges n) refl))
 
 standing_of : (k : BookValue) (n : ℕ) (p : PledgeValue) → IsSoundBook k → pledge_from 1 k.pledges n ≡ Some p → IsStanding p
 standing_of k n p sound at = each_at IsStanding 1 k.pledges n p sound.rows.standing at
 
-taken_of : (h : Host) → AreStorable h → (b n : ℕ) (k : BookValue) (p : PledgeValue) → get h.books b ≡ Some k → pledge_from 1 k.pledges n ≡ Some p → first_day ≤ p.agreement.taken
+taken_of : (h : Host) → AreStorable h → (b n : ℕ) (k : BookValue) (p : PledgeValue) → get h.books b ≡ Some k → pledge_from 1 k.pledges n ≡ Some p
+    → first_day ≤ p.agreement.taken
 taken_of h storable b n k p is at = each_at (λ q. first_day ≤ q.agreement.taken) 1 k.pledges n p (storable b k is).taken at
 
 -- days from the day taken to the last change
@@ -52,17 +52,17 @@ pub each_weaker : {A : Type 0} (P Q : A → Type 0) → ((x : A) → P x → Q x
 each_weaker P Q f [] all = tt
 each_weaker P Q f (x ∷ xs) all = (f x all.0, each_weaker P Q f xs all.1)
 
-days_in : {A : Type 0} (f : A → ℕ) (taken last : ℕ) (xs : List A) → first_day ≤ taken → DoNotFall f taken xs → last_by f taken xs ≤ last → last ≤ last_stamp_day → Each (λ x. IsDayNumber (f x)) xs
+days_in : {A : Type 0} (f : A → ℕ) (taken last : ℕ) (xs : List A) → first_day ≤ taken → DoNotFall f taken xs → last_by f taken xs ≤ last → last ≤ last_stamp_day
+    → Each (λ x. IsDayNumber (f x)) xs
 days_in f taken last xs first ordered before end =
     each_weaker (λ x. (taken ≤ f x) × (f x ≤ last)) (λ x. IsDayNumber (f x)) (λ x both. day_of_pledge taken (f x) last first both.0 both.1 end) xs
     (DoNotFall-each f taken taken last xs (omega arith) ordered before)
 
-days_extended : (day ends : ℕ) (es : List Extension) → first_day ≤ day → AreExtended day ends es → Each (λ e. e.until ≤ last_stamp_day) es → Each (λ e. IsDayNumber e.day × IsDayNumber e.until) es
+days_extended : (day ends : ℕ) (es : List Extension) → first_day ≤ day → AreExtended day ends es → Each (λ e. e.until ≤ last_stamp_day) es
+    → Each (λ e. IsDayNumber e.day × IsDayNumber e.until) es
 days_extended day ends [] first extended named = tt
-days_extended day ends (e ∷ es) first extended named =
-    let a = extended.0 in
-    let b = extended.1 in
-    let d = extended.2 in
+days_extended day ends (e ∷ es) first extended named = let a = extended.0 in
+    let b = extended.1 in let d = extended.2 in
     let u = named.0 in (
       ((omega (arith, first, a), omega (arith, b, d, u)), (omega (arith, first, a, b, d), omega (arith, u))),
       days_extended e.day e.until es (omega (arith, first, a)) extended.3 named.1,
@@ -91,46 +91,45 @@ module _ (h : Host) (storable : AreStorable h) (b n : ℕ) where
   found = pledge_in (get h.books b) n
 
   pub entries_unsound : (Each IsEntryTold (entries_of found) → ⊥) → IsUnsoundAt b h
-  entries_unsound bad = unsound_pledge h b n (λ o. Each IsEntryTold (entries_of o)) tt
-      (λ k p is sound at. let s = standing_of k n p sound at in
-      both_told p.entries (all_amounts (debt_of p) [] p.entries s.replayable.entered.accepted) (days_in (λ e. e.day) p.agreement.taken p.standing.last p.entries (taken_of h storable b n k p is at) s.replayable.entered.ordered s.replayable.entered.before s.within.last)) bad
+  entries_unsound bad = unsound_pledge h b n (λ o. Each IsEntryTold (entries_of o)) tt (λ k p is sound at. let s = standing_of k n p sound at in
+      both_told p.entries (all_amounts (debt_of p) [] p.entries s.replayable.entered.accepted) (days_in (λ e. e.day) p.agreement.taken p.standing.last p.entries
+      (taken_of h storable b n k p is at) s.replayable.entered.ordered s.replayable.entered.before s.within.last)) bad
 
   pub secrets_unsound : (Each (λ i. IsDayNumber i.day) (secrets_of found) → ⊥) → IsUnsoundAt b h
-  secrets_unsound bad = unsound_pledge h b n (λ o. Each (λ i. IsDayNumber i.day) (secrets_of o)) tt
-      (λ k p is sound at. let s = standing_of k n p sound at in
-      days_in (λ i. i.day) p.agreement.taken p.standing.last p.secrets (taken_of h storable b n k p is at) s.replayable.issued.ordered s.replayable.issued.before s.within.last) bad
+  secrets_unsound bad = unsound_pledge h b n (λ o. Each (λ i. IsDayNumber i.day) (secrets_of o)) tt (λ k p is sound at. let s = standing_of k n p sound at in
+      days_in (λ i. i.day) p.agreement.taken p.standing.last p.secrets
+      (taken_of h storable b n k p is at) s.replayable.issued.ordered s.replayable.issued.before s.within.last) bad
 
   pub extensions_unsound : (Each (λ e. IsDayNumber e.day × IsDayNumber e.until) (extensions_of found) → ⊥) → IsUnsoundAt b h
   extensions_unsound bad = unsound_pledge h b n (λ o. Each (λ e. IsDayNumber e.day × IsDayNumber e.until) (extensions_of o)) tt
       (λ k p is sound at. let s = standing_of k n p sound at in
       days_extended p.agreement.taken _ p.extensions (taken_of h storable b n k p is at) s.replayable.extended.each s.within.untils) bad
 
-  booked_day : (p : PledgeValue) (o : Option Booking) → first_day ≤ p.agreement.taken → IsBooked p o → IfSome o (λ k. k.day ≤ last_stamp_day) → IfSome o (λ k. IsDayNumber k.day)
+  booked_day : (p : PledgeValue) (o : Option Booking) → first_day ≤ p.agreement.taken → IsBooked p o → IfSome o (λ k. k.day ≤ last_stamp_day)
+      → IfSome o (λ k. IsDayNumber k.day)
   booked_day p None first booked named = tt
   booked_day p (Some k) first booked named = let a = booked.0 in (omega (arith, first, a), omega (arith, named))
 
   pub booking_unsound : (IfSome (booking_of found) (λ k. IsDayNumber k.day) → ⊥) → IsUnsoundAt b h
-  booking_unsound bad = unsound_pledge h b n (λ o. IfSome (booking_of o) (λ k. IsDayNumber k.day)) tt
-      (λ k p is sound at. let s = standing_of k n p sound at in booked_day p p.standing.booking (taken_of h storable b n k p is at) s.replayable.booked s.within.booking) bad
+  booking_unsound bad = unsound_pledge h b n (λ o. IfSome (booking_of o) (λ k. IsDayNumber k.day)) tt (λ k p is sound at. let s = standing_of k n p sound at in
+      booked_day p p.standing.booking (taken_of h storable b n k p is at) s.replayable.booked s.within.booking) bad
 
   pub totals_unsound : (IfSome (totals_in found) (λ t. IsDayNumber t.day) → ⊥) → IsUnsoundAt b h
-  totals_unsound bad = unsound_pledge h b n (λ o. IfSome (totals_in o) (λ t. IsDayNumber t.day)) tt
-      (λ k p is sound at.
-      let s = standing_of k n p sound at in
-      let low = last_by-le (λ e. e.day) p.agreement.taken p.entries s.replayable.entered.ordered in
-      day_of_pledge p.agreement.taken (last_of p.agreement.taken p.entries) p.standing.last (taken_of h storable b n k p is at) low s.replayable.entered.before s.within.last) bad
+  totals_unsound bad = unsound_pledge h b n (λ o. IfSome (totals_in o) (λ t. IsDayNumber t.day)) tt (λ k p is sound at.
+      let s = standing_of k n p sound at in let low = last_by-le (λ e. e.day) p.agreement.taken p.entries s.replayable.entered.ordered in
+      day_of_pledge p.agreement.taken (last_of p.agreement.taken p.entries) p.standing.last
+      (taken_of h storable b n k p is at) low s.replayable.entered.before s.within.last) bad
 
-  closed_in : (p : PledgeValue) (c : Closing) → first_day ≤ p.agreement.taken → p.agreement.taken ≤ p.standing.last → p.standing.last ≤ last_stamp_day → IsClosed p c → IfSome (closed_day c) IsDayNumber
+  closed_in : (p : PledgeValue) (c : Closing) → first_day ≤ p.agreement.taken → p.agreement.taken ≤ p.standing.last → p.standing.last ≤ last_stamp_day
+      → IsClosed p c → IfSome (closed_day c) IsDayNumber
   closed_in p Open first low high closed = tt
   closed_in p (Redeemed day paid) first low high closed = let e = closed.0 in (omega (arith, first, low, e), omega (arith, high, e))
   closed_in p (Sold day net) first low high closed = let e = closed.0 in (omega (arith, first, low, e), omega (arith, high, e))
 
   row_told : (k : BookValue) (p : PledgeValue) → get h.books b ≡ Some k → IsSoundBook k → pledge_from 1 k.pledges n ≡ Some p → IsRowTold p
-  row_told k p is sound at =
-      let s = standing_of k n p sound at in
+  row_told k p is sound at = let s = standing_of k n p sound at in
       let w : HasTextsAndWords p = each_at HasTextsAndWords 1 k.pledges n p sound.written at in
-      let first = taken_of h storable b n k p is at in
-      let low = s.replayable.last_in in
+      let first = taken_of h storable b n k p is at in let low = s.replayable.last_in in
       let high = s.within.last in
       record {
         opening = record {
@@ -148,51 +147,47 @@ module _ (h : Host) (storable : AreStorable h) (b n : ℕ) where
 
 -- what the row of a pledge holds that its debt depends on
 pub credit_unsound : (h : Host) → AreStorable h → (b n : ℕ) → (IfSome (pledge_in (get h.books b) n) IsCreditTold → ⊥) → IsUnsoundAt b h
-credit_unsound h storable b n bad = unsound_pledge h b n (λ o. IfSome o IsCreditTold) tt
-    (λ k p is sound at.
-    let s = standing_of k n p sound at in
-    let low = s.replayable.last_in in
+credit_unsound h storable b n bad = unsound_pledge h b n (λ o. IfSome o IsCreditTold) tt (λ k p is sound at.
+    let s = standing_of k n p sound at in let low = s.replayable.last_in in
     let high = s.within.last in
     record { taken = (taken_of h storable b n k p is at, omega (arith, low, high)); agreed = s.within.opening.agreed }) bad
 
 -- a pledge that can't stand is of a book that is not sound
 pub standing_unsound : (h : Host) (b n : ℕ) (p : PledgeValue) → pledge_in (get h.books b) n ≡ Some p → (IsStanding p → ⊥) → IsUnsoundAt b h
-standing_unsound h b n p at bad = unsound_pledge h b n (λ o. IfSome o IsStanding) tt (λ k q is sound here. standing_of k n q sound here) (λ all. bad (subst (λ o. IfSome o IsStanding) at all))
+standing_unsound h b n p at bad = unsound_pledge h b n (λ o. IfSome o IsStanding) tt (λ k q is sound here. standing_of k n q sound here)
+    (λ all. bad (subst (λ o. IfSome o IsStanding) at all))
 
 -- the secrets of a pledge are words
 pub words_in : (h : Host) → AreStorable h → (b n : ℕ) → AreWords (secrets_of (pledge_in (get h.books b) n))
-words_in h storable b n = inside (get h.books b) refl
-  where
-    at : (k : BookValue) → get h.books b ≡ Some k → (o : Option PledgeValue) → pledge_from 1 k.pledges n ≡ o → AreWords (secrets_of o)
-    at k is None e = tt
-    at k is (Some p) e = each_at (λ q. AreWords q.secrets) 1 k.pledges n p (storable b k is).secrets e
+words_in h storable b n = inside (get h.books b) refl where
+  at : (k : BookValue) → get h.books b ≡ Some k → (o : Option PledgeValue) → pledge_from 1 k.pledges n ≡ o → AreWords (secrets_of o)
+  at k is None e = tt
+  at k is (Some p) e = each_at (λ q. AreWords q.secrets) 1 k.pledges n p (storable b k is).secrets e
 
-    inside : (o : Option BookValue) → get h.books b ≡ o → AreWords (secrets_of (pledge_in o n))
-    inside None is = tt
-    inside (Some k) is = at k is (pledge_from 1 k.pledges n) refl
+  inside : (o : Option BookValue) → get h.books b ≡ o → AreWords (secrets_of (pledge_in o n))
+  inside None is = tt
+  inside (Some k) is = at k is (pledge_from 1 k.pledges n) refl
 
 -- the terms of a version
 pub terms_unsound : (h : Host) (b v : ℕ) → (IfSome (terms_at (terms_of (get h.books b)) v) IsChecked → ⊥) → IsUnsoundAt b h
-terms_unsound h b v bad = inside (get h.books b) refl bad
-  where
-    at : (ts : List Rates) (n : ℕ) → Each IsChecked ts → IfSome (slice_get ts n) IsChecked
-    at [] n all = tt
-    at (t ∷ ts) zero all = all.0
-    at (t ∷ ts) (suc n) all = at ts n all.1
+terms_unsound h b v bad = inside (get h.books b) refl bad where
+  at : (ts : List Rates) (n : ℕ) → Each IsChecked ts → IfSome (slice_get ts n) IsChecked
+  at [] n all = tt
+  at (t ∷ ts) zero all = all.0
+  at (t ∷ ts) (suc n) all = at ts n all.1
 
-    under : (ts : List Rates) (w : ℕ) → Each IsChecked ts → IfSome (terms_at ts w) IsChecked
-    under ts zero all = tt
-    under ts (suc n) all = at ts n all
+  under : (ts : List Rates) (w : ℕ) → Each IsChecked ts → IfSome (terms_at ts w) IsChecked
+  under ts zero all = tt
+  under ts (suc n) all = at ts n all
 
-    inside : (o : Option BookValue) → get h.books b ≡ o → (IfSome (terms_at (terms_of o) v) IsChecked → ⊥) → IsUnsoundAt b h
-    inside None is bad = absurd (bad (under [] v tt))
-    inside (Some k) is bad = (k, is, λ sound. bad (under k.terms v sound.1.rows.checked))
+  inside : (o : Option BookValue) → get h.books b ≡ o → (IfSome (terms_at (terms_of o) v) IsChecked → ⊥) → IsUnsoundAt b h
+  inside None is bad = absurd (bad (under [] v tt))
+  inside (Some k) is bad = (k, is, λ sound. bad (under k.terms v sound.1.rows.checked))
 
 -- ---- the end of a period is a day
 
 six_months_day : (taken : ℕ) → first_day ≤ taken → taken ≤ last_stamp_day → IsDayNumber (six_months taken)
-six_months_day taken low high =
-    let page = page_date taken (low, omega (arith, high)) in
+six_months_day taken low high = let page = page_date taken (low, omega (arith, high)) in
     (six_months_is page.0 taken (low, high) page.4).2
 
 later_day : (day : ℕ) (other : Option ℕ) → IsDayNumber day → IfSome other (λ d. d ≤ last_stamp_day) → IsDayNumber (later_of day other)
@@ -200,25 +195,24 @@ later_day day None is named = is
 later_day day (Some d) is named = grind arith
 
 named_last : (es : List Extension) → Each (λ e. e.until ≤ last_stamp_day) es → IfSome (last_until es) (λ d. d ≤ last_stamp_day)
-named_last es all = go (last_element es) (at es (length es - 1) all)
-  where
-    at : (xs : List Extension) (i : ℕ) → Each (λ e. e.until ≤ last_stamp_day) xs → IfSome (slice_get xs i) (λ e. e.until ≤ last_stamp_day)
-    at [] i all = tt
-    at (x ∷ xs) zero all = all.0
-    at (x ∷ xs) (suc i) all = at xs i all.1
+named_last es all = go (last_element es) (at es (length es - 1) all) where
+  at : (xs : List Extension) (i : ℕ) → Each (λ e. e.until ≤ last_stamp_day) xs → IfSome (slice_get xs i) (λ e. e.until ≤ last_stamp_day)
+  at [] i all = tt
+  at (x ∷ xs) zero all = all.0
+  at (x ∷ xs) (suc i) all = at xs i all.1
 
-    go : (o : Option Extension) → IfSome o (λ e. e.until ≤ last_stamp_day) → IfSome (option_map (λ (e : Extension). e.until) o) (λ d. d ≤ last_stamp_day)
-    go None named = tt
-    go (Some e) named = named
+  go : (o : Option Extension) → IfSome o (λ e. e.until ≤ last_stamp_day) → IfSome (option_map (λ (e : Extension). e.until) o) (λ d. d ≤ last_stamp_day)
+  go None named = tt
+  go (Some e) named = named
 
 named_agreed : (o : Option ℕ) → IfSome o IsStampDay → IfSome o (λ d. d ≤ last_stamp_day)
 named_agreed None is = tt
 named_agreed (Some d) is = is.1
 
 end_day : (p : PledgeValue) → IsStanding p → first_day ≤ p.agreement.taken → IsDayNumber (end_of p)
-end_day p s first =
-    let six = six_months_day p.agreement.taken first (let low = s.replayable.last_in in let high = s.within.last in omega (arith, low, high)) in
-    later_day _ (last_until p.extensions) (later_day _ p.agreement.opening.agreed six (named_agreed p.agreement.opening.agreed s.within.opening.agreed)) (named_last p.extensions s.within.untils)
+end_day p s first = let six = six_months_day p.agreement.taken first (let low = s.replayable.last_in in let high = s.within.last in omega (arith, low, high)) in
+    later_day _ (last_until p.extensions) (later_day _ p.agreement.opening.agreed six (named_agreed p.agreement.opening.agreed s.within.opening.agreed))
+    (named_last p.extensions s.within.untils)
 
 -- a pledge has a secret
 has_secret : (taken credit : ℕ) (is : List Issued) → AreIssued taken credit is → IsTrue (is_some (last_element is))
@@ -227,7 +221,10 @@ has_secret taken credit (i ∷ is) issued = subst (λ o. IsTrue (is_some o)) (sy
 
 -- a pledge that has no brief is of a book that is not sound
 pub brief_unsound : (h : Host) → AreStorable h → (b n : ℕ) (p : PledgeValue) → pledge_in (get h.books b) n ≡ Some p → (IsBriefTold p → ⊥) → IsUnsoundAt b h
-brief_unsound h storable b n p at bad = unsound_pledge h b n (λ o. IfSome o IsBriefTold) tt
-    (λ k q is sound here.
+brief_unsound h storable b n p at bad = unsound_pledge h b n (λ o. IfSome o IsBriefTold) tt (λ k q is sound here.
     let s = standing_of k n q sound here in
-    record { secret = has_secret q.agreement.taken _ q.secrets s.replayable.issued.sorts; ends = end_day q s (taken_of h storable b n k q is here); within = brief_is_within q s }) (λ all. bad (subst (λ o. IfSome o IsBriefTold) at all))
+    record {
+      secret = has_secret q.agreement.taken _ q.secrets s.replayable.issued.sorts;
+      ends = end_day q s (taken_of h storable b n k q is here);
+      within = brief_is_within q s;
+    }) (λ all. bad (subst (λ o. IfSome o IsBriefTold) at all))

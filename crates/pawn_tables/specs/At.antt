@@ -1,7 +1,6 @@
 -- Which rows a query finds.
 use Rattle.std.specs.Prelude.{ℕ, Bool, [], ◌∷◌}
-use Rattle.pawn_tables.specs.Common.{list_all, Compare, Eq, Ge, Gt, Lt, Binary, binary, is_true, Row, column, Value}
-use Rattle.pawn_tables.specs.Rows.{number}
+use Rattle.pawn_tables.specs.{Common.{list_all, Compare, Eq, Ge, Gt, Lt, Binary, binary, is_true, Row, column, Value}, Rows.number}
 
 -- SQL's =
 abbrev pub is_at : Value → Value → Bool

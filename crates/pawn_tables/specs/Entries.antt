@@ -1,8 +1,6 @@
 -- The entries of a pledge, by their numbers.
 use Rattle.std.specs.Prelude.{ℕ, ◌+◌, ◌≤◌, ◌==◌, nat_le, List, [], ◌∷◌, filter, find, Option}
-use Rattle.pawn_tables.specs.Common.{IsDayNumber, Entry}
-use Rattle.pawn_debt.specs.Limits.{most_pence}
-use Rattle.pawn_tables.specs.Pages.{IsPage}
+use Rattle.{pawn_tables.specs.{Common.{IsDayNumber, Entry}, Pages.IsPage}, pawn_debt.specs.Limits.most_pence}
 
 -- their numbers rise, and none is below this one; whether a number is left out is not asked
 abbrev pub RiseFrom : ℕ → List Entry → Type 0

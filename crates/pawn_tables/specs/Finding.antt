@@ -1,10 +1,8 @@
 -- What is read of the tables, and when a row is no record.
-use Rattle.std.specs.Prelude.{◌≡◌, IsTrue, Result, Ok, Err}
-use Rattle.std.specs.Borrow.{MutBor}
-use Rattle.pawn_tables.specs.Common.{Tables, Held, state, HasCleanDisk, State, Host, KeepError, Database, NoRecord, Rests}
+use Rattle.std.specs.{Prelude.{◌≡◌, IsTrue, Result, Ok, Err}, Borrow.MutBor}
+use Rattle.pawn_tables.specs.{Common.{Tables, Held, state, HasCleanDisk, State, Host, KeepError, Database, NoRecord, Rests}, StandsFor.StandsFor}
 use Rattle.sqlite_trees.specs.declared.store.Store.{Ghosts}
 use Rattle.pawn_book.specs.declared.fault.KeepError.TheVariants as Keeper
-use Rattle.pawn_tables.specs.StandsFor.{StandsFor}
 
 -- P holds of what was read; if the error is `NoRecord`, Q holds; of other errors nothing is said
 abbrev pub Finds : {A : Type 0} → Result A KeepError → (A → Type 0) → Type 0 → Type 0

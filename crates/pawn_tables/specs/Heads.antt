@@ -1,7 +1,6 @@
 -- What the row of a book holds.
-use Rattle.std.specs.Prelude.{ℕ, [], ◌∷◌, IfSome}
-use Rattle.pawn_tables.specs.Common.{IsUtf8, Row, IsText, BookValue, IsCapacity, most_name_bytes, IsWord}
-use Rattle.pawn_tables.specs.Rows.{number}
+use Rattle.std.specs.{Prelude.{ℕ, [], ◌∷◌, IfSome}, Str.IsUtf8}
+use Rattle.pawn_tables.specs.{Common.{Row, IsText, BookValue, IsCapacity, most_name_bytes, IsWord}, Rows.number}
 
 -- its keys are words
 pub record HasKeys (k : BookValue) : Type 0 where

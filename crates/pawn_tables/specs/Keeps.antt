@@ -1,7 +1,6 @@
 -- What a keeper over a connection keeps.
 use Rattle.std.specs.Prelude.{◌≡◌, false, IsTrue}
-use Rattle.pawn_tables.specs.Common.{HasCleanDisk, State, Trees, Host, Keeping, IsSound}
-use Rattle.pawn_tables.specs.StandsFor.{StandsFor, HoldHost}
+use Rattle.pawn_tables.specs.{Common.{HasCleanDisk, State, Trees, Host, Keeping, IsSound}, StandsFor.{StandsFor, HoldHost}}
 
 -- no transaction is under way, and what is committed stands for the host; a store that a fault has shut stands for any
 pub record Keeps (s : State) (h : Host) : Type 0 where

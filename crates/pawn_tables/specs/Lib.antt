@@ -15,5 +15,4 @@ pub mod PledgeRows
 pub mod Rows
 pub mod Schema
 pub mod StandsFor
-pub mod Tables
 pub mod WorkedTables

@@ -1,12 +1,9 @@
 -- The lines of a day's sheet, page by page.
 use Rattle.std.specs.Prelude.{ℕ, ◌≡◌, ◌≢◌, ◌≤◌, ◌==◌, false, List, [], ◌∷◌, drop}
-use Rattle.pawn_tables.specs.Common.{AllByRecursion, IsDistinct, list_any, Row, last_window, PledgeValue, part_items, Part, SheetItem}
-use Rattle.pawn_book.specs.declared.sheet.Part.TheVariants as part
+use Rattle.pawn_tables.specs.{Common.{AllByRecursion, IsDistinct, list_any, Row, PledgeValue, part_items, Part, SheetItem}, Heads.number_cells, Pages.IsPage}
+use Rattle.{pawn_tables.specs.{Rows.number, declared.line.Line.Line}, pawn_pledge.specs.Limits.last_window}
 use Rattle.pawn_book.specs.declared.sheet.SheetItem.TheVariants.{Confirmed, Asked, Ends}
-use Rattle.pawn_tables.specs.Heads.{number_cells}
-use Rattle.pawn_tables.specs.Pages.{IsPage}
-use Rattle.pawn_tables.specs.Rows.{number}
-use Rattle.pawn_tables.specs.declared.line.Line.{Line}
+use Rattle.pawn_book.specs.declared.sheet.Part.TheVariants as part
 
 -- what a part says of the pledges past the first so many: they are numbered 1, 2, .., so those above a number
 abbrev pub items_past : Part → ℕ → ℕ → List PledgeValue → List SheetItem

@@ -1,9 +1,6 @@
 -- What the ends of a pledge's lists show: how long the lists are, and the last secret.
 use Rattle.std.specs.Prelude.{◌≡◌, List, length, Option, option_map}
-use Rattle.pawn_tables.specs.Common.{Row, PledgeValue, last_element, Issued}
-use Rattle.pawn_tables.specs.Rows.{secret_cells}
-use Rattle.pawn_tables.specs.declared.joining.LastSecret.{LastSecret}
-use Rattle.pawn_tables.specs.declared.joining.ListEnds.{ListEnds}
+use Rattle.pawn_tables.specs.{Common.{Row, PledgeValue, last_element, Issued}, Rows.secret_cells, declared.joining.{LastSecret.LastSecret, ListEnds.ListEnds}}
 
 -- the last of the secrets; its place is how many there are
 abbrev pub last_issued : List Issued → Option LastSecret

@@ -1,7 +1,6 @@
 -- Tables stand for one host at most.
 use Rattle.std.specs.Prelude.{◌≡◌}
-use Rattle.pawn_tables.specs.Common.{Trees, Host}
-use Rattle.pawn_tables.specs.StandsFor.{HoldHost}
+use Rattle.pawn_tables.specs.{Common.{Trees, Host}, StandsFor.HoldHost}
 
 -- trees hold one host at most
 abbrev pub StandForOne : Type 0

@@ -1,8 +1,6 @@
 -- A database of the program's tables, whatever indexes it has beside those of their keys.
 use Rattle.std.specs.Prelude.{◌≡◌, ◌++◌, false, List}
-use Rattle.pawn_tables.specs.Common.{AllByRecursion, Index, Schema, Listed, Lists}
-use Rattle.sqlite.specs.Effect.{Database}
-use Rattle.pawn_tables.specs.Schema.{keep_schema}
+use Rattle.{pawn_tables.specs.{Common.{AllByRecursion, Index, Schema, Listed, Lists}, Schema.keep_schema}, sqlite.specs.Effect.Database}
 
 -- the program's tables, with these indexes beside those of their keys
 abbrev pub with_indexes : List Index → Schema

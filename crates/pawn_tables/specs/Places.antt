@@ -1,6 +1,5 @@
 -- What is at a place of a list, where the first place is 1.
-use Rattle.std.specs.Prelude.{ℕ, zero, suc, List, Option, None, drop, slice_get, take}
-use Rattle.pawn_tables.specs.Pages.{most_page_rows}
+use Rattle.{std.specs.Prelude.{ℕ, zero, suc, List, Option, None, drop, slice_get, take}, pawn_tables.specs.Pages.most_page_rows}
 
 abbrev pub at_place : {A : Type 0} → List A → ℕ → Option A
 at_place xs zero = None

@@ -1,13 +1,9 @@
 -- What the row of a pledge holds, and what the tables beside it hold.
-use Rattle.std.specs.Prelude.{◌≡◌, Option, Some, None, IfSome, IsTrue, is_some}
-use Rattle.pawn_tables.specs.Common.{IsUtf8, IsDayNumber, IsStampDay, totals_of, Totals, IsBriefWithin, brief_of, most_article_bytes, most_reference_bytes, PledgeValue, debt_of, end_of, last_element, IsText, Booking}
-use Rattle.pawn_pledge.specs.declared.record.Opening.{Opening}
-use Rattle.pawn_tables.specs.Rows.{closed_day}
-use Rattle.pawn_tables.specs.declared.credits.Credit.{Credit}
-use Rattle.pawn_tables.specs.declared.joining.Lists.{Lists}
-use Rattle.pawn_tables.specs.declared.joining.RowsBeside.{RowsBeside}
-use Rattle.pawn_tables.specs.declared.joining.StoredPledge.{StoredPledge}
-use Rattle.pawn_tables.specs.declared.records.PledgeRow.{PledgeRow}
+use Rattle.std.specs.{Prelude.{◌≡◌, Option, Some, None, IfSome, IsTrue, is_some}, Str.IsUtf8}
+use Rattle.pawn_tables.specs.Common.{IsDayNumber, IsStampDay, totals_of, Totals, IsBriefWithin, brief_of, PledgeValue, debt_of, end_of, last_element, IsText}
+use Rattle.pawn_tables.specs.{Common.Booking, Rows.closed_day, declared.{credits.Credit.Credit, joining.{Lists.Lists, RowsBeside.RowsBeside}}}
+use Rattle.{pawn_tables.specs.declared.{joining.StoredPledge.StoredPledge, records.PledgeRow.PledgeRow}, pawn_pledge.specs.Limits.most_article_bytes}
+use Rattle.pawn_pledge.specs.{Limits.most_reference_bytes, declared.record.Opening.Opening}
 
 -- the texts of an opening keep their limits, and its day is one that a request may name
 pub record IsTold (o : Opening) : Type 0 where

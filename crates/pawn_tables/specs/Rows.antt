@@ -1,6 +1,7 @@
 -- The rows that hold books and pledges.
 use Rattle.std.specs.Prelude.{ℕ, ◌+◌, Bool, if◌then◌else◌, List, [], ◌∷◌, length, map, pos, Option, Some, None, option_map}
-use Rattle.pawn_tables.specs.Common.{to_be_bytes, w128, Row, Value, Blob, Int, Null, Text, Rates, credit_of, totals_of, Entry, Kind, Fixed, Running, Sort, Draw, Repay, Totals, PledgeValue, debt_of, end_of, Booking, BookingState, Closing, Extension, Issue, Issued, BookValue, Imported}
+use Rattle.pawn_tables.specs.Common.{to_be_bytes, w128, Row, Value, Blob, Int, Null, Text, Rates, credit_of, totals_of, Entry, Kind, Fixed, Running, Sort, Draw}
+use Rattle.pawn_tables.specs.Common.{Repay, Totals, PledgeValue, debt_of, end_of, Booking, BookingState, Closing, Extension, Issue, Issued, BookValue, Imported}
 
 -- ---- values
 

@@ -1,12 +1,9 @@
 -- The tables: of the books, of their pledges, and of what the store notes of itself.
 use Rattle.std.specs.Prelude.{ℕ, [], ◌∷◌, Some, codes}
-use Rattle.pawn_tables.specs.Common.{plain, Schema, Table}
-use Rattle.sqlite.specs.Change.{created}
-use Rattle.sqlite.specs.Kind.TheVariants.{Integer, Text, Blob}
+use Rattle.{sqlite_value.specs.Keys.plain, pawn_tables.specs.Common.{Schema, Table}, sqlite.specs.{Change.created, Kind.TheVariants.{Integer, Text, Blob}}}
 use Rattle.one_table.specs.Columns.{filled, blank, refers, keyed, no_schema}
 
--- a book, by its number; the counts of its terms and pledges; the key of the import that filled it, and how many
--- pledges came with it
+-- a book, by its number; the counts of its terms and pledges; the key of the import that filled it, and how many pledges came with it
 abbrev pub books : Table
 books = record (keyed (codes "books")
     (blank (codes "book") Integer ∷ filled (codes "book_key") Blob ∷ filled (codes "title") Text ∷ filled (codes "capacity") Integer
@@ -16,7 +13,8 @@ books = record (keyed (codes "books")
 -- the terms of a book under each version
 abbrev pub terms : Table
 terms = record (keyed (codes "terms")
-    (filled (codes "book") Integer ∷ filled (codes "version") Integer ∷ filled (codes "rate") Integer ∷ filled (codes "keep_before") Integer ∷ filled (codes "keep_after") Integer ∷ [])
+    (filled (codes "book") Integer ∷ filled (codes "version") Integer ∷ filled (codes "rate") Integer ∷ filled (codes "keep_before") Integer
+    ∷ filled (codes "keep_after") Integer ∷ [])
     (1 ∷ 2 ∷ []) ((1 ∷ 2 ∷ []) ∷ []) (refers (1 ∷ []) (codes "books") ∷ [])) { orders = plain ∷ [] }
 
 -- what was agreed on a pledge, the end of its period, and its standing
@@ -31,19 +29,22 @@ pledges = record (keyed (codes "pledges")
 -- drawings and repayments
 abbrev pub entries : Table
 entries = record (keyed (codes "entries")
-    (filled (codes "book") Integer ∷ filled (codes "number") Integer ∷ filled (codes "seq") Integer ∷ filled (codes "day") Integer ∷ filled (codes "sort") Integer ∷ filled (codes "pence") Integer ∷ [])
+    (filled (codes "book") Integer ∷ filled (codes "number") Integer ∷ filled (codes "seq") Integer ∷ filled (codes "day") Integer
+    ∷ filled (codes "sort") Integer ∷ filled (codes "pence") Integer ∷ [])
     (1 ∷ 2 ∷ 3 ∷ []) ((1 ∷ 2 ∷ 3 ∷ []) ∷ []) (refers (1 ∷ 2 ∷ []) (codes "pledges") ∷ [])) { orders = plain ∷ [] }
 
 -- the secrets of a pledge, in the order of their places
 abbrev pub secrets : Table
 secrets = record (keyed (codes "secrets")
-    (filled (codes "book") Integer ∷ filled (codes "number") Integer ∷ filled (codes "place") Integer ∷ filled (codes "day") Integer ∷ filled (codes "sort") Integer ∷ filled (codes "secret") Blob ∷ [])
+    (filled (codes "book") Integer ∷ filled (codes "number") Integer ∷ filled (codes "place") Integer ∷ filled (codes "day") Integer
+    ∷ filled (codes "sort") Integer ∷ filled (codes "secret") Blob ∷ [])
     (1 ∷ 2 ∷ 3 ∷ []) ((1 ∷ 2 ∷ 3 ∷ []) ∷ (1 ∷ 2 ∷ 6 ∷ []) ∷ []) (refers (1 ∷ 2 ∷ []) (codes "pledges") ∷ [])) { orders = plain ∷ plain ∷ [] }
 
 -- the booking of a pledge
 abbrev pub bookings : Table
 bookings = record (keyed (codes "bookings")
-    (filled (codes "book") Integer ∷ filled (codes "number") Integer ∷ filled (codes "day") Integer ∷ filled (codes "slot") Integer ∷ filled (codes "state") Integer ∷ [])
+    (filled (codes "book") Integer ∷ filled (codes "number") Integer ∷ filled (codes "day") Integer ∷ filled (codes "slot") Integer
+    ∷ filled (codes "state") Integer ∷ [])
     (1 ∷ 2 ∷ []) ((1 ∷ 2 ∷ []) ∷ []) (refers (1 ∷ 2 ∷ []) (codes "pledges") ∷ [])) { orders = plain ∷ [] }
 
 -- the number of the schema, the count of rows, and the limit on them
@@ -53,13 +54,15 @@ meta = record (keyed (codes "meta") (filled (codes "name") Text ∷ filled (code
 -- what was owed on the day of the last entry
 abbrev pub totals : Table
 totals = record (keyed (codes "totals")
-    (filled (codes "book") Integer ∷ filled (codes "number") Integer ∷ filled (codes "day") Integer ∷ filled (codes "principal") Integer ∷ filled (codes "charges") Integer ∷ [])
+    (filled (codes "book") Integer ∷ filled (codes "number") Integer ∷ filled (codes "day") Integer ∷ filled (codes "principal") Integer
+    ∷ filled (codes "charges") Integer ∷ [])
     (1 ∷ 2 ∷ []) ((1 ∷ 2 ∷ []) ∷ []) (refers (1 ∷ 2 ∷ []) (codes "pledges") ∷ [])) { orders = plain ∷ [] }
 
 -- longer periods, in the order of their places
 abbrev pub extensions : Table
 extensions = record (keyed (codes "extensions")
-    (filled (codes "book") Integer ∷ filled (codes "number") Integer ∷ filled (codes "place") Integer ∷ filled (codes "day") Integer ∷ filled (codes "until_day") Integer ∷ [])
+    (filled (codes "book") Integer ∷ filled (codes "number") Integer ∷ filled (codes "place") Integer ∷ filled (codes "day") Integer
+    ∷ filled (codes "until_day") Integer ∷ [])
     (1 ∷ 2 ∷ 3 ∷ []) ((1 ∷ 2 ∷ 3 ∷ []) ∷ []) (refers (1 ∷ 2 ∷ []) (codes "pledges") ∷ [])) { orders = plain ∷ [] }
 
 -- the trees of the tables, made in this order; the trees between are their indexes

@@ -1,12 +1,11 @@
 -- When tables stand for a host.
 use Rattle.std.specs.Prelude.{ℕ, ◌≡◌, ◌≤◌, ◌<◌, ◌^◌, List, length, map, flat_map, Some, IfSome}
-use Rattle.pawn_tables.specs.Common.{entries, get, Row, Schema, Trees, first_day, PledgeValue, Each, BookValue, Host, rows, AreNumberedFrom, IsUnder, AreWords, IsWord, Holds}
-use Rattle.sqlite.specs.Effect.{Database, IsDatabase}
-use Rattle.pawn_tables.specs.Schema.{books, terms, pledges, entries as entries_table, secrets, bookings, meta, totals, extensions, bookings_tree, books_tree, entries_tree, extensions_tree, meta_tree, pledges_tree, secrets_tree, terms_tree, totals_tree}
-use Rattle.pawn_tables.specs.Entries.{RiseFrom}
-use Rattle.pawn_tables.specs.Ours.{HasOurTables}
-use Rattle.pawn_tables.specs.Meta.{meta_rows}
-use Rattle.pawn_tables.specs.Rows.{book_row, terms_listed, pledge_listed, entries_listed, secrets_listed, booking_listed, totals_listed, extensions_listed}
+use Rattle.pawn_tables.specs.Common.{entries, get, Row, Schema, Trees, PledgeValue, Each, BookValue, Host, rows, AreNumberedFrom, IsUnder, AreWords, IsWord}
+use Rattle.pawn_tables.specs.{Common.Holds, Schema.{books, terms, pledges, entries as entries_table, secrets, bookings, meta, totals, extensions}}
+use Rattle.pawn_tables.specs.Schema.{bookings_tree, books_tree, entries_tree, extensions_tree, meta_tree, pledges_tree, secrets_tree, terms_tree, totals_tree}
+use Rattle.pawn_tables.specs.{Entries.RiseFrom, Ours.HasOurTables, Meta.meta_rows, Rows.{book_row, terms_listed, pledge_listed, entries_listed, secrets_listed}}
+use Rattle.{pawn_tables.specs.Rows.{booking_listed, totals_listed, extensions_listed}, pawn_terms.specs.Limits.first_day, sqlite.specs.Effect.Database}
+use Rattle.sqlite.specs.Effect.{IsDatabase}
 
 -- the rows of each book
 abbrev pub of_books : Host → (ℕ → BookValue → List Row) → List Row
@@ -23,8 +22,7 @@ pub record IsOrdered (k : BookValue) : Type 0 where
   pub entries : Each (λ p. RiseFrom 0 p.entries) k.pledges
   pub under : Each (IsUnder k.terms) k.pledges
 
--- What rows can hold: keys and secrets of 128 bits, no pledge taken before the first day that there is, and versions of
--- 32 bits.
+-- What rows can hold: keys and secrets of 128 bits, no pledge taken before the first day that there is, and versions of 32 bits.
 pub record IsStorable (k : BookValue) : Type 0 where
   pub key : IsWord k.key
   pub imported : IfSome k.imported (λ i. IsWord i.key)

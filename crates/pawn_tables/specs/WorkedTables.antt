@@ -1,22 +1,17 @@
 -- Tables worked out: those of a host with one book, in which a ring is pawned.
 use Rattle.std.specs.Prelude.{◌≡◌, ℕ, false, [], ◌∷◌, Some, None, length, map, pos, replicate, codes}
-use Rattle.pawn_tables.specs.Common.{empty, entries, insert, Value, Blob, Int, Null, Text, rates_of, Entry, Fixed, Repay, PledgeValue, AreNumbered, Open, Redeemed, Issue, Issued, BookValue, Host, rows}
-use Rattle.pawn_terms.specs.Worked.{date}
-use Rattle.pawn_pledge.specs.declared.record.BookingState.TheVariants.{Confirmed}
-use Rattle.pawn_pledge.specs.Worked.{ring, ring_opening}
-use Rattle.pawn_tables.specs.Entries.{IsEntriesPage, RiseFrom}
-use Rattle.pawn_tables.specs.Meta.{meta_rows}
-use Rattle.pawn_tables.specs.Places.{page_behind}
-use Rattle.pawn_tables.specs.Rows.{word, book_row, terms_listed, pledge_listed, entries_listed, secrets_listed, booking_listed, totals_listed, extensions_listed, closed_number, closed_day, closed_amount}
-use Rattle.pawn_tables.specs.StandsFor.{of_books, of_pledges}
+use Rattle.pawn_tables.specs.Common.{empty, entries, insert, Value, Blob, Int, Null, Text, rates_of, Entry, Fixed, Repay, PledgeValue, AreNumbered, Open}
+use Rattle.pawn_tables.specs.{Common.{Redeemed, Issue, Issued, BookValue, Host, rows}, Entries.{IsEntriesPage, RiseFrom}, Meta.meta_rows, Places.page_behind}
+use Rattle.pawn_tables.specs.Rows.{word, book_row, terms_listed, pledge_listed, entries_listed, secrets_listed, booking_listed, totals_listed}
+use Rattle.pawn_tables.specs.{Rows.{extensions_listed, closed_number, closed_day, closed_amount}, StandsFor.{of_books, of_pledges}}
+use Rattle.{pawn_terms.specs.Worked.date, pawn_pledge.specs.{declared.record.BookingState.TheVariants.Confirmed, Worked.{ring, ring_opening}}}
 
 -- the secret 4, sworn on 2024-01-31
 abbrev pub sworn : Issued
 sworn = record { day = date 2024 1 31; sort = Issue.Sworn; secret = 4 }
 
--- A ring, pawned for 100 pounds on 2024-01-01 (day 19723) at 2,667 millionths a day. On 2024-01-31 (day 19753) ten
--- pounds are repaid, the receipt is declared lost, window 2 of 2024-02-07 (day 19760) is confirmed, and 2024-09-30 (day
--- 19996) is agreed.
+-- A ring, pawned for 100 pounds on 2024-01-01 (day 19723) at 2,667 millionths a day. On 2024-01-31 (day 19753) ten pounds are repaid, the receipt is declared
+-- lost, window 2 of 2024-02-07 (day 19760) is confirmed, and 2024-09-30 (day 19996) is agreed.
 abbrev pub used_ring : PledgeValue
 used_ring = record {
   agreement = record { number = 1; opening = ring_opening (Fixed 10000) false None; taken = date 2024 1 1; version = 1; terms = rates_of 2667 0 0 };
@@ -43,20 +38,23 @@ abbrev pub entry : ℕ → Entry
 entry number = record { seq = number; day = date 2024 1 31; sort = Repay; pence = 1000 }
 
 pub record WorkedTables : Type 0 where
-  pub books : map (λ (e : ℕ × BookValue). book_row e.0 e.1) (entries host_of_stored_book.books) ≡ (n 7 ∷ word 5 ∷ Text (codes "High Street") ∷ n 2 ∷ n 1 ∷ n 1 ∷ Null ∷ Null ∷ []) ∷ []
+  pub books : map (λ (e : ℕ × BookValue). book_row e.0 e.1)
+      (entries host_of_stored_book.books) ≡ (n 7 ∷ word 5 ∷ Text (codes "High Street") ∷ n 2 ∷ n 1 ∷ n 1 ∷ Null ∷ Null ∷ []) ∷ []
   pub terms : of_books host_of_stored_book terms_listed ≡ (n 7 ∷ n 1 ∷ n 2667 ∷ n 0 ∷ n 0 ∷ []) ∷ []
   -- until the end that was agreed last
   pub pledges : of_pledges host_of_stored_book pledge_listed ≡ (
       n 7 ∷ n 1 ∷ Text (codes "A1") ∷ Text (codes "Gold ring") ∷ n 0 ∷ n 10000 ∷ n 19723 ∷ Null ∷ n 0 ∷ n 1
       ∷ n 19996 ∷ n 0 ∷ n 19753 ∷ n 0 ∷ Null ∷ Null ∷ []) ∷ []
   pub entries_are : of_pledges host_of_stored_book entries_listed ≡ (n 7 ∷ n 1 ∷ n 1 ∷ n 19753 ∷ n 1 ∷ n 1000 ∷ []) ∷ []
-  pub secrets : of_pledges host_of_stored_book secrets_listed ≡ (n 7 ∷ n 1 ∷ n 1 ∷ n 19723 ∷ n 0 ∷ word 3 ∷ []) ∷ (n 7 ∷ n 1 ∷ n 2 ∷ n 19753 ∷ n 1 ∷ word 4 ∷ []) ∷ []
+  pub secrets : of_pledges host_of_stored_book secrets_listed ≡ (n 7 ∷ n 1 ∷ n 1 ∷ n 19723 ∷ n 0 ∷ word 3 ∷ [])
+      ∷ (n 7 ∷ n 1 ∷ n 2 ∷ n 19753 ∷ n 1 ∷ word 4 ∷ []) ∷ []
   pub bookings : of_pledges host_of_stored_book booking_listed ≡ (n 7 ∷ n 1 ∷ n 19760 ∷ n 2 ∷ n 1 ∷ []) ∷ []
   pub extensions : of_pledges host_of_stored_book extensions_listed ≡ (n 7 ∷ n 1 ∷ n 1 ∷ n 19753 ∷ n 19996 ∷ []) ∷ []
   -- of thirty days' charges, 800.1 pence, the repayment takes eight pounds; a tenth of a penny stays
   pub totals : of_pledges host_of_stored_book totals_listed ≡ (n 7 ∷ n 1 ∷ n 19753 ∷ n 9800 ∷ n 100000 ∷ []) ∷ []
   -- a book, a version of terms, a pledge, an entry, two secrets and a booking are counted
-  pub notes : meta_rows (rows host_of_stored_book) host_of_stored_book.limit ≡ (Text (codes "schema") ∷ n 3 ∷ []) ∷ (Text (codes "rows") ∷ n 7 ∷ []) ∷ (Text (codes "limit") ∷ n 1000 ∷ []) ∷ []
+  pub notes : meta_rows (rows host_of_stored_book) host_of_stored_book.limit ≡ (Text (codes "schema") ∷ n 3 ∷ []) ∷ (Text (codes "rows") ∷ n 7 ∷ [])
+      ∷ (Text (codes "limit") ∷ n 1000 ∷ []) ∷ []
   -- a key is sixteen bytes
   pub key : word 5 ≡ Blob (0 ∷ 0 ∷ 0 ∷ 0 ∷ 0 ∷ 0 ∷ 0 ∷ 0 ∷ 0 ∷ 0 ∷ 0 ∷ 0 ∷ 0 ∷ 0 ∷ 0 ∷ 5 ∷ [])
   -- a ring that nothing was done with has no such row

@@ -2,7 +2,7 @@
 
 ghost use Rattle.std.specs.Prelude.{◌≡◌, is_ok, option_map};
 ghost use Rattle.pawn_tables.specs.Common.{get, state, book_head, confirmed_count, rows, IsNextBook, number_of, pledges_of, HasUnsoundBook, IsUnsoundAt, Lends};
-ghost use Rattle.pawn_tables.specs.Tables.{FindsBy, FindsOf, ListDebts};
+ghost use Rattle.pawn_tables.specs.{Finding.{FindsBy, FindsOf}, StandsFor.ListDebts};
 
 use crate::heads::{first_head, first_number, only_count, only_number};
 use crate::queries::rows_of;
@@ -17,8 +17,7 @@ pub fn head_in<S: Alter>(
     alloc: Global,
     book: u32,
 ) -> Result<Option<BookHead>, KeepError>
-    ensures finds { FindsBy S.Store tx.old.conn tx.new.conn (IsUnsoundAt book) result
-        (λ h head. head ≡ option_map book_head (get h.books book)) }
+    ensures finds { FindsBy S.Store tx.old.conn tx.new.conn (IsUnsoundAt book) result (λ h head. head ≡ option_map book_head (get h.books book)) }
     ensures lent { Lends S.Store tx.old.conn tx.new.conn (is_ok result) }
 {
     let rows = rows_of(tx, READ_HEAD, params![book])?;
@@ -31,8 +30,7 @@ pub fn ref_in<S: Alter>(
     book: u32,
     reference: &str,
 ) -> Result<Option<Number>, KeepError>
-    ensures finds { FindsBy S.Store tx.old.conn tx.new.conn (IsUnsoundAt book) result
-        (λ h number. number ≡ number_of (get h.books book) reference.now) }
+    ensures finds { FindsBy S.Store tx.old.conn tx.new.conn (IsUnsoundAt book) result (λ h number. number ≡ number_of (get h.books book) reference.now) }
     ensures lent { Lends S.Store tx.old.conn tx.new.conn (is_ok result) }
 {
     let rows = rows_of(tx, FIND_REFERENCE, params![book, reference])?;
@@ -64,10 +62,8 @@ pub fn next_in<S: Alter>(
     tx: &mut Transaction<'_, S>,
     above: u32,
 ) -> Result<Option<Number>, KeepError>
-    ensures finds { FindsBy S.Store tx.old.conn tx.new.conn HasUnsoundBook result
-        (λ h next. IsNextBook h above next) }
-    ensures told { FindsOf ListDebts HasUnsoundBook (state S.Store tx.old.conn.now)
-        (state S.Store tx.new.conn.now) result (λ h next. IsNextBook h above next) }
+    ensures finds { FindsBy S.Store tx.old.conn tx.new.conn HasUnsoundBook result (λ h next. IsNextBook h above next) }
+    ensures told { FindsOf ListDebts HasUnsoundBook (state S.Store tx.old.conn.now) (state S.Store tx.new.conn.now) result (λ h next. IsNextBook h above next) }
     ensures lent { Lends S.Store tx.old.conn tx.new.conn (is_ok result) }
 {
     let rows = rows_of(tx, FIND_NEXT_BOOK, params![above])?;
@@ -76,8 +72,7 @@ pub fn next_in<S: Alter>(
 
 /// How many rows all books have together, as the store counts them.
 pub fn rows_in<S: Alter>(tx: &mut Transaction<'_, S>) -> Result<u64, KeepError>
-    ensures finds { FindsBy S.Store tx.old.conn tx.new.conn HasUnsoundBook result
-        (λ h count. count ≡ rows h) }
+    ensures finds { FindsBy S.Store tx.old.conn tx.new.conn HasUnsoundBook result (λ h count. count ≡ rows h) }
     ensures lent { Lends S.Store tx.old.conn tx.new.conn (is_ok result) }
 {
     let rows = rows_of(tx, READ_ROWS, &[])?;

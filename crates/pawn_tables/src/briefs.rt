@@ -1,6 +1,5 @@
 ghost use Rattle.std.specs.Prelude.{◌≡◌, is_ok, option_map};
-ghost use Rattle.pawn_tables.specs.Common.{get, brief_of, pledge_in, IsUnsoundAt, Lends};
-ghost use Rattle.pawn_tables.specs.Finding.{FindsBy};
+ghost use Rattle.pawn_tables.specs.{Common.{get, brief_of, pledge_in, IsUnsoundAt, Lends}, Finding.FindsBy};
 
 use crate::joining::briefs::join;
 use crate::list_ends::list_ends_in;

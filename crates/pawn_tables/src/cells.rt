@@ -1,8 +1,8 @@
-ghost use Rattle.std.specs.Prelude.{◌≡◌, ◌≢◌, ◌<◌, ℕ, List, Bool, Option, IfSome, length, ⊤};
-ghost use Rattle.pawn_tables.specs.Common.{to_be_bytes, w128, IsUtf8, column, Words, IsDayNumber, IsStampDay, Sort, IsText, BookingState, Issue, IsWord, Database, NoRecord};
-ghost use Rattle.pawn_tables.specs.Tables.{IsAmount, IsRead, flag, flag_number, issue_number, number, or_null, sort_number, state_number, word};
+ghost use Rattle.std.specs.{Prelude.{◌≡◌, ◌≢◌, ◌<◌, ℕ, List, Bool, Option, IfSome, length, ⊤}, Str.IsUtf8};
+ghost use Rattle.pawn_tables.specs.Common.{to_be_bytes, w128, column, IsDayNumber, IsStampDay, Sort, IsText, BookingState, Issue, IsWord, Database, NoRecord};
+ghost use Rattle.pawn_tables.specs.{Entries.IsAmount, Finding.IsRead, Rows.{flag, flag_number, issue_number, number, or_null, sort_number, state_number, word}};
+ghost use Rattle.sqlite.specs.declared.{types.Value.TheVariants.Text as Words, error.ErrorCode.TheVariants.OutOfMemory};
 ghost use Rattle.sqlite.specs.declared.error.Error.TheVariants as SqlError;
-ghost use Rattle.sqlite.specs.declared.error.ErrorCode.TheVariants.{OutOfMemory};
 ghost use Rattle.pawn_book.specs.declared.fault.KeepError.TheVariants as Keeper;
 
 use pawn_book::{BookingState, Day, Issue, KeepError, RequestDay, Secret, Sort, StoreFault};
@@ -41,8 +41,7 @@ fn unread(error: Error) -> KeepError
 
 /// The number in a column.
 pub(crate) fn number_at(row: &Row, at: usize) -> Result<u64, KeepError>
-    ensures read { (n : ℕ) → at < length row.now → column row.now at ≡ number n
-        → IsRead result n ⊤ }
+    ensures read { (n : ℕ) → at < length row.now → column row.now at ≡ number n → IsRead result n ⊤ }
 {
     match row.get::<u64>(at) {
         Ok(n) => Ok(n),
@@ -52,8 +51,7 @@ pub(crate) fn number_at(row: &Row, at: usize) -> Result<u64, KeepError>
 
 /// The number in a column, or none if it is NULL.
 pub(crate) fn optional_at(row: &Row, at: usize) -> Result<Option<u64>, KeepError>
-    ensures read { (n : Option ℕ) → at < length row.now → column row.now at ≡ or_null number n
-        → IsRead result n ⊤ }
+    ensures read { (n : Option ℕ) → at < length row.now → column row.now at ≡ or_null number n → IsRead result n ⊤ }
 {
     match row.get::<Option<u64>>(at) {
         Ok(n) => Ok(n),
@@ -74,8 +72,7 @@ fn flag_of(number: u64) -> Result<bool, KeepError>
 
 /// The flag in a column.
 pub(crate) fn flag_at(row: &Row, at: usize) -> Result<bool, KeepError>
-    ensures read { (b : Bool) → at < length row.now → column row.now at ≡ flag b
-        → IsRead result b ⊤ }
+    ensures read { (b : Bool) → at < length row.now → column row.now at ≡ flag b → IsRead result b ⊤ }
 {
     flag_of(number_at(row, at)?)
 }
@@ -95,8 +92,7 @@ pub(crate) fn day_of(number: u64) -> Result<Day, KeepError>
 
 /// The day in a column.
 pub(crate) fn day_at(row: &Row, at: usize) -> Result<Day, KeepError>
-    ensures read { (d : ℕ) → at < length row.now → column row.now at ≡ number d → IsRead result d
-        (IsDayNumber d) }
+    ensures read { (d : ℕ) → at < length row.now → column row.now at ≡ number d → IsRead result d (IsDayNumber d) }
 {
     day_of(number_at(row, at)?)
 }
@@ -116,8 +112,7 @@ pub(crate) fn request_day(number: Option<u64>) -> Result<Option<RequestDay>, Kee
 
 /// The key or secret in a column.
 pub(crate) fn word_at(row: &Row, at: usize) -> Result<Secret, KeepError>
-    ensures read { (w : ℕ) → at < length row.now → IsWord w → column row.now at ≡ word w
-        → IsRead result w ⊤ }
+    ensures read { (w : ℕ) → at < length row.now → IsWord w → column row.now at ≡ word w → IsRead result w ⊤ }
 {
     let blob = match row.get::<Vec<u8>>(at) {
         Ok(blob) => blob,
@@ -141,8 +136,7 @@ fn key_of(bytes: &[u8]) -> Result<Secret, KeepError>
 
 /// The key in a column, or none if it is NULL.
 pub(crate) fn optional_word_at(row: &Row, at: usize) -> Result<Option<Secret>, KeepError>
-    ensures read { (w : Option ℕ) → at < length row.now → IfSome w IsWord
-        → column row.now at ≡ or_null word w → IsRead result w ⊤ }
+    ensures read { (w : Option ℕ) → at < length row.now → IfSome w IsWord → column row.now at ≡ or_null word w → IsRead result w ⊤ }
 {
     match row.get::<Option<Vec<u8>>>(at) {
         Ok(Some(bytes)) => Ok(Some(key_of(&bytes)?)),
@@ -157,8 +151,7 @@ pub(crate) fn text_at<const MOST: usize>(
     row: &Row,
     at: usize,
 ) -> Result<Text<MOST>, KeepError>
-    ensures read { (t : List ℕ) → at < length row.now → column row.now at ≡ Words t
-        → IsRead result t (IsText MOST t × IsUtf8 t) }
+    ensures read { (t : List ℕ) → at < length row.now → column row.now at ≡ Words t → IsRead result t (IsText MOST t × IsUtf8 t) }
 {
     let string = match row.get::<String>(at) {
         Ok(string) => string,

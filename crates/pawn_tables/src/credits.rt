@@ -1,8 +1,8 @@
 #![tactic(auto, using(crate::proofs::StatementFinds::unread_debts))]
 
 ghost use Rattle.std.specs.Prelude.{◌≡◌, Option, IfSome, is_ok, option_map};
-ghost use Rattle.pawn_tables.specs.Common.{get, state, IsStampDay, PledgeValue, pledge_in, IsUnsoundAt, Lends};
-ghost use Rattle.pawn_tables.specs.Tables.{FindsOf, IsRead, IsCreditTold, credit_told, at_most_one, credit_cells, ListDebts};
+ghost use Rattle.pawn_tables.specs.{Common.{get, state, IsStampDay, PledgeValue, pledge_in, IsUnsoundAt, Lends}, Finding.{FindsOf, IsRead}};
+ghost use Rattle.pawn_tables.specs.{PledgeRows.{IsCreditTold, credit_told}, Rows.{at_most_one, credit_cells}, StandsFor.ListDebts};
 
 use crate::cells::{NO_RECORD, day_of, number_at, optional_at, request_day};
 use crate::queries::rows_of;
@@ -32,8 +32,7 @@ fn named_day(number: u64) -> Result<RequestDay, KeepError>
 
 // What a row holds of its pledge's credit.
 fn credit_of(row: &Row) -> Result<Credit, KeepError>
-    ensures read { (p : PledgeValue) → row.now ≡ credit_cells p → IsRead result (credit_told p)
-        (IsCreditTold p) }
+    ensures read { (p : PledgeValue) → row.now ≡ credit_cells p → IsRead result (credit_told p) (IsCreditTold p) }
 {
     let number = number_at(row, 0)?;
     let credit = number_at(row, 1)?;
@@ -52,8 +51,7 @@ fn credit_of(row: &Row) -> Result<Credit, KeepError>
 
 // What the first row holds of its pledge's credit, if there is a row.
 fn first_credit(rows: &[Row]) -> Result<Option<Credit>, KeepError>
-    ensures read { (p : Option PledgeValue) → rows.now ≡ at_most_one credit_cells p → IsRead result
-        (option_map credit_told p) (IfSome p IsCreditTold) }
+    ensures read { (p : Option PledgeValue) → rows.now ≡ at_most_one credit_cells p → IsRead result (option_map credit_told p) (IfSome p IsCreditTold) }
 {
     let [row, ..] = rows else {
         return Ok(None);
@@ -67,8 +65,7 @@ pub fn credit_in<S: Alter>(
     book: u32,
     number: u32,
 ) -> Result<Option<Credit>, KeepError>
-    ensures finds { FindsOf ListDebts (IsUnsoundAt book) (state S.Store tx.old.conn.now)
-        (state S.Store tx.new.conn.now) result
+    ensures finds { FindsOf ListDebts (IsUnsoundAt book) (state S.Store tx.old.conn.now) (state S.Store tx.new.conn.now) result
         (λ h x. x ≡ option_map credit_told (pledge_in (get h.books book) number)) }
     ensures lent { Lends S.Store tx.old.conn tx.new.conn (is_ok result) }
 {

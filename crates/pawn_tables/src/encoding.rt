@@ -125,8 +125,7 @@ fn sum_value(pence: u64) -> Result<Value, KeepError>
 /// The cell for the sum that was paid or that a sale brought, in pence, or NULL while the pledge is open. `REFUSED` if
 /// 63 bits cannot hold it.
 pub fn closed_amount(closing: Closing) -> Result<Value, KeepError>
-    ensures value { IfOk result (λ amount. amount ≡ spec.or_null spec.number
-        (spec.closed_amount closing)) }
+    ensures value { IfOk result (λ amount. amount ≡ spec.or_null spec.number (spec.closed_amount closing)) }
 {
     match closing {
         Closing::Open => Ok(optional(None)),

@@ -1,6 +1,6 @@
 ghost use Rattle.std.specs.Prelude.{[], ◌∷◌, ◌≡◌, ℕ, Option, IfSome, min, option_map, ⊤};
-ghost use Rattle.pawn_tables.specs.Common.{IsNumber, BookValue, book_head, IsCapacity, Imported};
-ghost use Rattle.pawn_tables.specs.Tables.{IsRead, HasKeys, IsHeadTold, most_counted, number_cells, at_most_one, head_cells, import_count, import_key};
+ghost use Rattle.pawn_tables.specs.{Common.{IsNumber, BookValue, book_head, IsCapacity, Imported}, Finding.IsRead, Heads.{HasKeys, IsHeadTold, most_counted}};
+ghost use Rattle.pawn_tables.specs.{Heads.number_cells, Rows.{at_most_one, head_cells, import_count, import_key}};
 
 use crate::cells::{NO_RECORD, number_at, optional_at, optional_word_at, text_at, word_at};
 use pawn_book::{BookHead, Capacity, Imported, KeepError, Number, Secret, StoreFault};
@@ -9,8 +9,7 @@ use std::alloc::Global;
 
 // The import that filled a book, by its key and the number of its pledges.
 fn imported_of(key: Option<Secret>, pledges: Option<u64>) -> Result<Option<Imported>, KeepError>
-    ensures read { (i : Option Imported) → key ≡ import_key i → pledges ≡ import_count i
-        → IsRead result i ⊤ }
+    ensures read { (i : Option Imported) → key ≡ import_key i → pledges ≡ import_count i → IsRead result i ⊤ }
 {
     match (key, pledges) {
         (Some(key), Some(pledges)) => Ok(Some(Imported { key, pledges })),
@@ -31,8 +30,7 @@ fn capacity_of(number: u64) -> Result<Capacity, KeepError>
 
 // The head that the row of a book holds.
 fn head_of(alloc: Global, row: &Row) -> Result<BookHead, KeepError>
-    ensures read { (k : BookValue) → HasKeys k → row.now ≡ head_cells k → IsRead result
-        (book_head k) (IsHeadTold k) }
+    ensures read { (k : BookValue) → HasKeys k → row.now ≡ head_cells k → IsRead result (book_head k) (IsHeadTold k) }
 {
     let key = word_at(row, 0)?;
     let name = text_at(alloc, row, 1)?;
@@ -73,8 +71,7 @@ pub(crate) fn number_of(number: u64) -> Result<Number, KeepError>
 
 /// The number of a book or a pledge in the first row, if there is a row.
 pub(crate) fn first_number(rows: &[Row]) -> Result<Option<Number>, KeepError>
-    ensures read { (n : Option ℕ) → rows.now ≡ at_most_one number_cells n → IsRead result n
-        (IfSome n IsNumber) }
+    ensures read { (n : Option ℕ) → rows.now ≡ at_most_one number_cells n → IsRead result n (IfSome n IsNumber) }
 {
     let [row, ..] = rows else {
         return Ok(None);

@@ -1,6 +1,5 @@
 ghost use Rattle.std.specs.Prelude.{◌≡◌, ℕ, List, map, ⊤};
-ghost use Rattle.pawn_tables.specs.Common.{IsNumber, Each};
-ghost use Rattle.pawn_tables.specs.Tables.{IsRead, number_cells, IsLineOf, line_cells, Line};
+ghost use Rattle.pawn_tables.specs.{Common.{IsNumber, Each}, Finding.IsRead, Heads.number_cells, Lines.{IsLineOf, line_cells}, declared.line.Line.Line};
 
 use crate::cells::number_at;
 use crate::heads::number_of;
@@ -12,8 +11,7 @@ use std::alloc::Global;
 
 // The line of a row of a part.
 fn line_of(part: Part, row: &Row) -> Result<Line, KeepError>
-    ensures read { (l : Line) → IsLineOf part l → row.now ≡ line_cells part l → IsRead result l
-        (IsNumber l.number) }
+    ensures read { (l : Line) → IsLineOf part l → row.now ≡ line_cells part l → IsRead result l (IsNumber l.number) }
 {
     let number = number_of(number_at(row, 0)?)?;
     match part {
@@ -28,8 +26,7 @@ fn line_of(part: Part, row: &Row) -> Result<Line, KeepError>
 
 /// The lines of the rows of a part.
 pub(crate) fn read_lines(alloc: Global, part: Part, rows: &[Row]) -> Result<Rows<Line>, KeepError>
-    ensures read { (ls : List Line) → Each (IsLineOf part) ls → rows.now ≡ map (line_cells part) ls
-        → IsRead result ls (Each (λ l. IsNumber l.number) ls) }
+    ensures read { (ls : List Line) → Each (IsLineOf part) ls → rows.now ≡ map (line_cells part) ls → IsRead result ls (Each (λ l. IsNumber l.number) ls) }
 {
     let mut lines = Rows::new(alloc);
     for row in rows {

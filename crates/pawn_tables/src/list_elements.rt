@@ -1,8 +1,8 @@
 #![tactic(auto, using(crate::proofs::StatementFinds::unread))]
 
 ghost use Rattle.std.specs.Prelude.{◌≡◌, is_ok};
-ghost use Rattle.pawn_tables.specs.Common.{get, pledge_in, entries_of, extensions_of, secrets_of, IsUnsoundAt, Lends};
-ghost use Rattle.pawn_tables.specs.Tables.{with_seq, FindsBy, at_place};
+ghost use Rattle.pawn_tables.specs.{Common.{get, pledge_in, entries_of, extensions_of, secrets_of, IsUnsoundAt, Lends}, Entries.with_seq, Finding.FindsBy};
+ghost use Rattle.pawn_tables.specs.Places.{at_place};
 
 use crate::lists::{first_entry, first_extension, first_issued};
 use crate::queries::rows_of;

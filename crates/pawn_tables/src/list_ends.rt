@@ -2,8 +2,9 @@
 #![tactic(auto, using(crate::proofs::StatementFinds::unread))]
 
 ghost use Rattle.std.specs.Prelude.{◌≡◌, ℕ, IfSome, Option, is_ok, length, unwrap_or, ⊤};
-ghost use Rattle.pawn_tables.specs.Common.{get, IsDayNumber, pledge_in, entries_of, extensions_of, secrets_of, IsUnsoundAt, IsWord, Lends};
-ghost use Rattle.pawn_tables.specs.Tables.{FindsBy, IsRead, number_cells, AreListEnds, last_cells, last_issued, at_most_one, LastSecret};
+ghost use Rattle.pawn_tables.specs.{Common.{get, IsDayNumber, pledge_in, entries_of, extensions_of, secrets_of, IsUnsoundAt, IsWord, Lends}, Finding.FindsBy};
+ghost use Rattle.pawn_tables.specs.{Finding.IsRead, Heads.number_cells, ListEnds.{AreListEnds, last_cells, last_issued}, Rows.at_most_one};
+ghost use Rattle.pawn_tables.specs.declared.joining.LastSecret.{LastSecret};
 
 use crate::cells::number_at;
 use crate::heads::only_count;
@@ -16,8 +17,7 @@ use sqlite::{Alter, Row, Transaction, params};
 
 // The last secret of a row, and its place.
 fn last_of(row: &Row) -> Result<LastSecret, KeepError>
-    ensures read { (l : LastSecret) → IsWord l.issued.secret → row.now ≡ last_cells l
-        → IsRead result l (IsDayNumber l.issued.day) }
+    ensures read { (l : LastSecret) → IsWord l.issued.secret → row.now ≡ last_cells l → IsRead result l (IsDayNumber l.issued.day) }
 {
     let place = number_at(row, 0)?;
     let issued = issued_of(row)?;
@@ -27,8 +27,7 @@ fn last_of(row: &Row) -> Result<LastSecret, KeepError>
 // The last secret of the first row, and its place, if there is a row.
 fn first_last(rows: &[Row]) -> Result<Option<LastSecret>, KeepError>
     ensures read { (l : Option LastSecret) → IfSome l (λ x. IsWord x.issued.secret)
-        → rows.now ≡ at_most_one last_cells l → IsRead result l
-        (IfSome l (λ x. IsDayNumber x.issued.day)) }
+        → rows.now ≡ at_most_one last_cells l → IsRead result l (IfSome l (λ x. IsDayNumber x.issued.day)) }
 {
     let [row, ..] = rows else {
         return Ok(None);
@@ -38,8 +37,7 @@ fn first_last(rows: &[Row]) -> Result<Option<LastSecret>, KeepError>
 
 // How many elements there are: the first row has the place of the last, and without a row there are none.
 fn first_place(rows: &[Row]) -> Result<u64, KeepError>
-    ensures read { (n : Option ℕ) → rows.now ≡ at_most_one number_cells n → IsRead result
-        (unwrap_or n 0) ⊤ }
+    ensures read { (n : Option ℕ) → rows.now ≡ at_most_one number_cells n → IsRead result (unwrap_or n 0) ⊤ }
 {
     let [row, ..] = rows else {
         return Ok(0);
@@ -96,8 +94,7 @@ pub(crate) fn list_ends_in<S: Alter>(
     book: u32,
     number: u32,
 ) -> Result<ListEnds, KeepError>
-    ensures finds { FindsBy S.Store tx.old.conn tx.new.conn (IsUnsoundAt book) result
-        (λ h t. IfSome (pledge_in (get h.books book) number) (AreListEnds t)) }
+    ensures finds { FindsBy S.Store tx.old.conn tx.new.conn (IsUnsoundAt book) result (λ h t. IfSome (pledge_in (get h.books book) number) (AreListEnds t)) }
     ensures lent { Lends S.Store tx.old.conn tx.new.conn (is_ok result) }
 {
     let entries = entry_count(tx, book, number)?;

@@ -1,6 +1,6 @@
 ghost use Rattle.std.specs.Prelude.{◌≡◌, ℕ, IfSome, List, Option, map};
-ghost use Rattle.pawn_tables.specs.Common.{IsDayNumber, Entry, Each, Extension, Issued, AreWords, IsWord};
-ghost use Rattle.pawn_tables.specs.Tables.{IsEntryTold, IsRead, at_most_one, entry_cells, extension_cells, placed_from, secret_cells};
+ghost use Rattle.pawn_tables.specs.{Common.{IsDayNumber, Entry, Each, Extension, Issued, AreWords, IsWord}, Entries.IsEntryTold, Finding.IsRead};
+ghost use Rattle.pawn_tables.specs.Rows.{at_most_one, entry_cells, extension_cells, placed_from, secret_cells};
 
 use crate::cells::{amount_of, day_at, issue_of, number_at, sort_of, word_at};
 use pawn_book::{Entry, Extension, Issued, KeepError};
@@ -28,8 +28,7 @@ pub(crate) fn entry_of(row: &Row) -> Result<Entry, KeepError>
 
 /// The secret of a row, and how it was issued.
 pub(crate) fn issued_of(row: &Row) -> Result<Issued, KeepError>
-    ensures read { (place : ℕ) (i : Issued) → IsWord i.secret → row.now ≡ secret_cells place i
-        → IsRead result i (IsDayNumber i.day) }
+    ensures read { (place : ℕ) (i : Issued) → IsWord i.secret → row.now ≡ secret_cells place i → IsRead result i (IsDayNumber i.day) }
 {
     let day = day_at(row, 1)?;
     let sort = issue_of(number_at(row, 2)?)?;
@@ -39,8 +38,7 @@ pub(crate) fn issued_of(row: &Row) -> Result<Issued, KeepError>
 
 /// The extension of a row.
 pub(crate) fn extension_of(row: &Row) -> Result<Extension, KeepError>
-    ensures read { (place : ℕ) (e : Extension) → row.now ≡ extension_cells place e → IsRead result e
-        (IsDayNumber e.day × IsDayNumber e.until) }
+    ensures read { (place : ℕ) (e : Extension) → row.now ≡ extension_cells place e → IsRead result e (IsDayNumber e.day × IsDayNumber e.until) }
 {
     let day = day_at(row, 1)?;
     let until = day_at(row, 2)?;
@@ -49,8 +47,7 @@ pub(crate) fn extension_of(row: &Row) -> Result<Extension, KeepError>
 
 /// The entries of rows.
 pub(crate) fn read_entries(alloc: Global, rows: &[Row]) -> Result<Entries, KeepError>
-    ensures read { (es : List Entry) → rows.now ≡ map entry_cells es → IsRead result es
-        (Each IsEntryTold es) }
+    ensures read { (es : List Entry) → rows.now ≡ map entry_cells es → IsRead result es (Each IsEntryTold es) }
 {
     let mut entries = Entries::new(alloc);
     for row in rows {
@@ -65,8 +62,7 @@ pub(crate) fn read_entries(alloc: Global, rows: &[Row]) -> Result<Entries, KeepE
 /// The secrets of rows, and how they were issued.
 pub(crate) fn read_secrets(alloc: Global, rows: &[Row]) -> Result<Secrets, KeepError>
     ensures read { (from : ℕ) (is : List Issued) → AreWords is
-        → rows.now ≡ placed_from secret_cells from is → IsRead result is
-        (Each (λ i. IsDayNumber i.day) is) }
+        → rows.now ≡ placed_from secret_cells from is → IsRead result is (Each (λ i. IsDayNumber i.day) is) }
 {
     let mut secrets = Secrets::new(alloc);
     for row in rows {
@@ -95,8 +91,7 @@ pub(crate) fn read_extensions(alloc: Global, rows: &[Row]) -> Result<Extensions,
 
 /// The entry of the first row, if there is a row.
 pub(crate) fn first_entry(rows: &[Row]) -> Result<Option<Entry>, KeepError>
-    ensures read { (e : Option Entry) → rows.now ≡ at_most_one entry_cells e → IsRead result e
-        (IfSome e IsEntryTold) }
+    ensures read { (e : Option Entry) → rows.now ≡ at_most_one entry_cells e → IsRead result e (IfSome e IsEntryTold) }
 {
     let [row, ..] = rows else {
         return Ok(None);
@@ -107,8 +102,7 @@ pub(crate) fn first_entry(rows: &[Row]) -> Result<Option<Entry>, KeepError>
 /// The secret of the first row, and how it was issued, if there is a row.
 pub(crate) fn first_issued(rows: &[Row]) -> Result<Option<Issued>, KeepError>
     ensures read { (place : ℕ) (i : Option Issued) → IfSome i (λ x. IsWord x.secret)
-        → rows.now ≡ at_most_one (secret_cells place) i → IsRead result i
-        (IfSome i (λ x. IsDayNumber x.day)) }
+        → rows.now ≡ at_most_one (secret_cells place) i → IsRead result i (IfSome i (λ x. IsDayNumber x.day)) }
 {
     let [row, ..] = rows else {
         return Ok(None);
@@ -118,8 +112,7 @@ pub(crate) fn first_issued(rows: &[Row]) -> Result<Option<Issued>, KeepError>
 
 /// The extension of the first row, if there is a row.
 pub(crate) fn first_extension(rows: &[Row]) -> Result<Option<Extension>, KeepError>
-    ensures read { (place : ℕ) (e : Option Extension) → rows.now ≡ at_most_one
-        (extension_cells place) e → IsRead result e
+    ensures read { (place : ℕ) (e : Option Extension) → rows.now ≡ at_most_one (extension_cells place) e → IsRead result e
         (IfSome e (λ x. IsDayNumber x.day × IsDayNumber x.until)) }
 {
     let [row, ..] = rows else {

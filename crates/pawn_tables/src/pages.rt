@@ -2,8 +2,8 @@
 #![tactic(auto, using(crate::proofs::StatementFinds::unread))]
 
 ghost use Rattle.std.specs.Prelude.{◌≡◌, is_ok};
-ghost use Rattle.pawn_tables.specs.Common.{get, pledge_in, entries_of, extensions_of, secrets_of, IsUnsoundAt, Lends};
-ghost use Rattle.pawn_tables.specs.Tables.{IsEntriesPage, FindsBy, page_behind};
+ghost use Rattle.pawn_tables.specs.{Common.{get, pledge_in, entries_of, extensions_of, secrets_of, IsUnsoundAt, Lends}, Entries.IsEntriesPage, Finding.FindsBy};
+ghost use Rattle.pawn_tables.specs.Places.{page_behind};
 
 use crate::lists::{read_entries, read_extensions, read_secrets};
 use crate::queries::rows_of;
@@ -58,8 +58,7 @@ pub fn extensions_page<S: Alter>(
     behind: u32,
 ) -> Result<Extensions, KeepError>
     ensures finds { FindsBy S.Store tx.old.conn tx.new.conn (IsUnsoundAt book) result
-        (λ h page. page ≡ page_behind behind (extensions_of (pledge_in (get h.books book)
-        number))) }
+        (λ h page. page ≡ page_behind behind (extensions_of (pledge_in (get h.books book) number))) }
     ensures lent { Lends S.Store tx.old.conn tx.new.conn (is_ok result) }
 {
     let rows = rows_of(tx, READ_EXTENSIONS_PAGE, params![book, number, behind])?;

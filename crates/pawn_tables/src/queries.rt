@@ -1,9 +1,10 @@
 #![tactic(auto, using(crate::proofs::StatementFinds::unread, crate::proofs::StatementFinds::unread_debts))]
 
 ghost use Rattle.std.specs.Prelude.{◌≡◌, Err, IfOk, is_ok, option_map};
-ghost use Rattle.pawn_tables.specs.Common.{get, state, HasCleanDisk, Shown, bound, pledge_in, entries_of, extensions_of, secrets_of, terms_of, terms_at, IsUnsoundAt, NoRecord, Lends};
+ghost use Rattle.pawn_tables.specs.Common.{get, state, HasCleanDisk, Shown, bound, pledge_in, entries_of, extensions_of, secrets_of, terms_of, terms_at};
+ghost use Rattle.pawn_tables.specs.{Common.{IsUnsoundAt, NoRecord, Lends}, Finding.{FindsBy, FindsOf}, PledgeRows.{booking_of, row_of, totals_in}};
+ghost use Rattle.pawn_tables.specs.StandsFor.{ListDebts};
 ghost use Rattle.pawn_book.specs.declared.fault.KeepError.TheVariants as Keeper;
-ghost use Rattle.pawn_tables.specs.Tables.{FindsBy, FindsOf, booking_of, row_of, totals_in, ListDebts};
 
 use crate::cells::refused;
 use crate::lists::{read_entries, read_extensions, read_secrets};
@@ -27,8 +28,7 @@ pub(crate) fn rows_of<S: Alter>(
     params: &[ValueRef<'_>],
 ) -> Result<Vec<Row>, KeepError>
     ensures shown { HasCleanDisk (state S.Store tx.new.conn.now) → IfOk result
-        (λ rows. Shown sql.now (bound params.now) (state S.Store tx.old.conn.now)
-        (state S.Store tx.new.conn.now) rows.items) }
+        (λ rows. Shown sql.now (bound params.now) (state S.Store tx.old.conn.now) (state S.Store tx.new.conn.now) rows.items) }
     ensures unread { result ≡ Err (Keeper.Store NoRecord) → ⊥ }
     ensures lent { Lends S.Store tx.old.conn tx.new.conn (is_ok result) }
 {
@@ -45,10 +45,8 @@ pub fn entries_in<S: Alter>(
     book: u32,
     number: u32,
 ) -> Result<Entries, KeepError>
-    ensures finds { FindsBy S.Store tx.old.conn tx.new.conn (IsUnsoundAt book) result
-        (λ h x. x ≡ entries_of (pledge_in (get h.books book) number)) }
-    ensures told { FindsOf ListDebts (IsUnsoundAt book) (state S.Store tx.old.conn.now)
-        (state S.Store tx.new.conn.now) result
+    ensures finds { FindsBy S.Store tx.old.conn tx.new.conn (IsUnsoundAt book) result (λ h x. x ≡ entries_of (pledge_in (get h.books book) number)) }
+    ensures told { FindsOf ListDebts (IsUnsoundAt book) (state S.Store tx.old.conn.now) (state S.Store tx.new.conn.now) result
         (λ h x. x ≡ entries_of (pledge_in (get h.books book) number)) }
     ensures lent { Lends S.Store tx.old.conn tx.new.conn (is_ok result) }
 {
@@ -63,8 +61,7 @@ pub(crate) fn secrets_in<S: Alter>(
     book: u32,
     number: u32,
 ) -> Result<Secrets, KeepError>
-    ensures finds { FindsBy S.Store tx.old.conn tx.new.conn (IsUnsoundAt book) result
-        (λ h x. x ≡ secrets_of (pledge_in (get h.books book) number)) }
+    ensures finds { FindsBy S.Store tx.old.conn tx.new.conn (IsUnsoundAt book) result (λ h x. x ≡ secrets_of (pledge_in (get h.books book) number)) }
     ensures lent { Lends S.Store tx.old.conn tx.new.conn (is_ok result) }
 {
     let rows = rows_of(tx, READ_SECRETS, params![book, number])?;
@@ -78,8 +75,7 @@ pub(crate) fn extensions_in<S: Alter>(
     book: u32,
     number: u32,
 ) -> Result<Extensions, KeepError>
-    ensures finds { FindsBy S.Store tx.old.conn tx.new.conn (IsUnsoundAt book) result
-        (λ h x. x ≡ extensions_of (pledge_in (get h.books book) number)) }
+    ensures finds { FindsBy S.Store tx.old.conn tx.new.conn (IsUnsoundAt book) result (λ h x. x ≡ extensions_of (pledge_in (get h.books book) number)) }
     ensures lent { Lends S.Store tx.old.conn tx.new.conn (is_ok result) }
 {
     let rows = rows_of(tx, READ_EXTENSIONS, params![book, number])?;
@@ -92,8 +88,7 @@ pub fn booking_in<S: Alter>(
     book: u32,
     number: u32,
 ) -> Result<Option<Booking>, KeepError>
-    ensures finds { FindsBy S.Store tx.old.conn tx.new.conn (IsUnsoundAt book) result
-        (λ h x. x ≡ booking_of (pledge_in (get h.books book) number)) }
+    ensures finds { FindsBy S.Store tx.old.conn tx.new.conn (IsUnsoundAt book) result (λ h x. x ≡ booking_of (pledge_in (get h.books book) number)) }
     ensures lent { Lends S.Store tx.old.conn tx.new.conn (is_ok result) }
 {
     let rows = rows_of(tx, READ_BOOKING, params![book, number])?;
@@ -106,8 +101,7 @@ pub(crate) fn totals_in<S: Alter>(
     book: u32,
     number: u32,
 ) -> Result<Option<Totals>, KeepError>
-    ensures finds { FindsBy S.Store tx.old.conn tx.new.conn (IsUnsoundAt book) result
-        (λ h x. x ≡ totals_in (pledge_in (get h.books book) number)) }
+    ensures finds { FindsBy S.Store tx.old.conn tx.new.conn (IsUnsoundAt book) result (λ h x. x ≡ totals_in (pledge_in (get h.books book) number)) }
     ensures lent { Lends S.Store tx.old.conn tx.new.conn (is_ok result) }
 {
     let rows = rows_of(tx, READ_TOTALS, params![book, number])?;
@@ -120,10 +114,8 @@ pub fn terms_in<S: Alter>(
     book: u32,
     version: u32,
 ) -> Result<Option<Terms>, KeepError>
-    ensures finds { FindsBy S.Store tx.old.conn tx.new.conn (IsUnsoundAt book) result
-        (λ h x. x ≡ terms_at (terms_of (get h.books book)) version) }
-    ensures told { FindsOf ListDebts (IsUnsoundAt book) (state S.Store tx.old.conn.now)
-        (state S.Store tx.new.conn.now) result
+    ensures finds { FindsBy S.Store tx.old.conn tx.new.conn (IsUnsoundAt book) result (λ h x. x ≡ terms_at (terms_of (get h.books book)) version) }
+    ensures told { FindsOf ListDebts (IsUnsoundAt book) (state S.Store tx.old.conn.now) (state S.Store tx.new.conn.now) result
         (λ h x. x ≡ terms_at (terms_of (get h.books book)) version) }
     ensures lent { Lends S.Store tx.old.conn tx.new.conn (is_ok result) }
 {
@@ -138,8 +130,7 @@ pub(crate) fn row_in<S: Alter>(
     book: u32,
     number: u32,
 ) -> Result<Option<PledgeRow>, KeepError>
-    ensures finds { FindsBy S.Store tx.old.conn tx.new.conn (IsUnsoundAt book) result
-        (λ h x. x ≡ option_map row_of (pledge_in (get h.books book) number)) }
+    ensures finds { FindsBy S.Store tx.old.conn tx.new.conn (IsUnsoundAt book) result (λ h x. x ≡ option_map row_of (pledge_in (get h.books book) number)) }
     ensures lent { Lends S.Store tx.old.conn tx.new.conn (is_ok result) }
 {
     let rows = rows_of(tx, READ_PLEDGE, params![book, number])?;

@@ -1,6 +1,6 @@
 ghost use Rattle.std.specs.Prelude.{◌≡◌, Option, IfSome, ⊤};
-ghost use Rattle.pawn_tables.specs.Common.{IsDayNumber, IsChecked, Rates, credit_of, Kind, Totals, Booking, Closing};
-ghost use Rattle.pawn_tables.specs.Tables.{IsRead, at_most_one, booking_cells, closed_amount, closed_day, closed_number, kind_number, terms_cells, totals_cells};
+ghost use Rattle.pawn_tables.specs.{Common.{IsDayNumber, IsChecked, Rates, credit_of, Kind, Totals, Booking, Closing}, Finding.IsRead, Rows.at_most_one};
+ghost use Rattle.pawn_tables.specs.Rows.{booking_cells, closed_amount, closed_day, closed_number, kind_number, terms_cells, totals_cells};
 
 use crate::cells::{NO_RECORD, day_at, day_of, number_at, state_of};
 use pawn_book::{Booking, Closing, Day, KeepError, Kind, Opening, Rates, Terms};
@@ -47,8 +47,7 @@ pub(crate) fn closing_of(
     day: Option<Day>,
     amount: Option<u64>,
 ) -> Result<Closing, KeepError>
-    ensures read { (c : Closing) → closed ≡ closed_number c → day ≡ closed_day c
-        → amount ≡ closed_amount c → IsRead result c ⊤ }
+    ensures read { (c : Closing) → closed ≡ closed_number c → day ≡ closed_day c → amount ≡ closed_amount c → IsRead result c ⊤ }
 {
     match (closed, day, amount) {
         (0, None, None) => Ok(Closing::Open),
@@ -109,8 +108,7 @@ fn terms_of(row: &Row) -> Result<Terms, KeepError>
 
 /// The booking of the first row, if there is a row.
 pub(crate) fn first_booking(rows: &[Row]) -> Result<Option<Booking>, KeepError>
-    ensures read { (k : Option Booking) → rows.now ≡ at_most_one booking_cells k → IsRead result k
-        (IfSome k (λ b. IsDayNumber b.day)) }
+    ensures read { (k : Option Booking) → rows.now ≡ at_most_one booking_cells k → IsRead result k (IfSome k (λ b. IsDayNumber b.day)) }
 {
     let [row, ..] = rows else {
         return Ok(None);
@@ -120,8 +118,7 @@ pub(crate) fn first_booking(rows: &[Row]) -> Result<Option<Booking>, KeepError>
 
 /// The totals of the first row, if there is a row.
 pub(crate) fn first_totals(rows: &[Row]) -> Result<Option<Totals>, KeepError>
-    ensures read { (t : Option Totals) → rows.now ≡ at_most_one totals_cells t → IsRead result t
-        (IfSome t (λ u. IsDayNumber u.day)) }
+    ensures read { (t : Option Totals) → rows.now ≡ at_most_one totals_cells t → IsRead result t (IfSome t (λ u. IsDayNumber u.day)) }
 {
     let [row, ..] = rows else {
         return Ok(None);
@@ -131,8 +128,7 @@ pub(crate) fn first_totals(rows: &[Row]) -> Result<Option<Totals>, KeepError>
 
 /// The terms of the first row, if there is a row.
 pub(crate) fn first_terms(rows: &[Row]) -> Result<Option<Terms>, KeepError>
-    ensures read { (t : Option Rates) → rows.now ≡ at_most_one terms_cells t → IsRead result t
-        (IfSome t IsChecked) }
+    ensures read { (t : Option Rates) → rows.now ≡ at_most_one terms_cells t → IsRead result t (IfSome t IsChecked) }
 {
     let [row, ..] = rows else {
         return Ok(None);

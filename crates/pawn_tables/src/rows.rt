@@ -1,6 +1,6 @@
 ghost use Rattle.std.specs.Prelude.{◌≡◌, Option, IfSome, option_map};
-ghost use Rattle.pawn_tables.specs.Common.{IsDayNumber, PledgeValue};
-ghost use Rattle.pawn_tables.specs.Tables.{IsRead, IsRowTold, IsTold, row_of, at_most_one, closed_day, pledge_cells};
+ghost use Rattle.pawn_tables.specs.{Common.{IsDayNumber, PledgeValue}, Finding.IsRead, PledgeRows.{IsRowTold, IsTold, row_of}, Rows.{at_most_one, closed_day}};
+ghost use Rattle.pawn_tables.specs.Rows.{pledge_cells};
 
 use crate::cells::{day_at, flag_at, number_at, optional_at, request_day, text_at};
 use crate::records::{PledgeRow, closing_of, kind_of, optional_day};
@@ -10,8 +10,7 @@ use std::alloc::Global;
 
 // The opening that the row of a pledge holds.
 fn opening_at(alloc: Global, row: &Row) -> Result<Opening, KeepError>
-    ensures read { (p : PledgeValue) → row.now ≡ pledge_cells p → IsRead result p.agreement.opening
-        (IsTold p.agreement.opening) }
+    ensures read { (p : PledgeValue) → row.now ≡ pledge_cells p → IsRead result p.agreement.opening (IsTold p.agreement.opening) }
 {
     let reference = text_at(alloc, row, 0)?;
     let article = text_at(alloc, row, 1)?;
@@ -31,8 +30,7 @@ fn opening_at(alloc: Global, row: &Row) -> Result<Opening, KeepError>
 
 // The closing of the pledge of a row.
 fn closing_at(row: &Row) -> Result<Closing, KeepError>
-    ensures read { (p : PledgeValue) → row.now ≡ pledge_cells p → IsRead result p.standing.closing
-        (IfSome (closed_day p.standing.closing) IsDayNumber) }
+    ensures read { (p : PledgeValue) → row.now ≡ pledge_cells p → IsRead result p.standing.closing (IfSome (closed_day p.standing.closing) IsDayNumber) }
 {
     let closed = number_at(row, 11)?;
     let day = optional_day(optional_at(row, 12)?)?;
@@ -42,8 +40,7 @@ fn closing_at(row: &Row) -> Result<Closing, KeepError>
 
 // What the row of a pledge holds.
 fn pledge_row(alloc: Global, row: &Row) -> Result<PledgeRow, KeepError>
-    ensures read { (p : PledgeValue) → row.now ≡ pledge_cells p → IsRead result (row_of p)
-        (IsRowTold p) }
+    ensures read { (p : PledgeValue) → row.now ≡ pledge_cells p → IsRead result (row_of p) (IsRowTold p) }
 {
     let opening = opening_at(alloc, row)?;
     let taken = day_at(row, 4)?;
@@ -65,8 +62,7 @@ fn pledge_row(alloc: Global, row: &Row) -> Result<PledgeRow, KeepError>
 
 /// What the first row holds of its pledge, if there is a row.
 pub(crate) fn first_pledge(alloc: Global, rows: &[Row]) -> Result<Option<PledgeRow>, KeepError>
-    ensures read { (p : Option PledgeValue) → rows.now ≡ at_most_one pledge_cells p → IsRead result
-        (option_map row_of p) (IfSome p IsRowTold) }
+    ensures read { (p : Option PledgeValue) → rows.now ≡ at_most_one pledge_cells p → IsRead result (option_map row_of p) (IfSome p IsRowTold) }
 {
     let [row, ..] = rows else {
         return Ok(None);

@@ -1,9 +1,8 @@
 #![tactic(auto, using(crate::proofs::StatementFinds::unread))]
 
 ghost use Rattle.std.specs.Prelude.{◌≡◌, is_ok, length};
-ghost use Rattle.pawn_tables.specs.Common.{get, pledges_of, part_items, IsUnsoundAt, Lends};
+ghost use Rattle.pawn_tables.specs.{Common.{get, pledges_of, part_items, IsUnsoundAt, Lends}, Finding.FindsBy, Lines.{IsLinesPage, NamesWindows}};
 ghost use Rattle.pawn_book.specs.declared.sheet.Part.TheVariants as part_of;
-ghost use Rattle.pawn_tables.specs.Tables.{FindsBy, IsLinesPage, NamesWindows};
 
 use crate::books::confirmed_in;
 use crate::heads::only_count;
@@ -51,8 +50,7 @@ pub fn windows_in<S: Alter>(
     book: u32,
     day: Day,
 ) -> Result<Rows<u64>, KeepError>
-    ensures finds { FindsBy S.Store tx.old.conn tx.new.conn (IsUnsoundAt book) result
-        (λ h windows. NamesWindows day (pledges_of (get h.books book)) windows) }
+    ensures finds { FindsBy S.Store tx.old.conn tx.new.conn (IsUnsoundAt book) result (λ h windows. NamesWindows day (pledges_of (get h.books book)) windows) }
     ensures lent { Lends S.Store tx.old.conn tx.new.conn (is_ok result) }
 {
     let day = day.count();

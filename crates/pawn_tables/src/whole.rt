@@ -1,8 +1,7 @@
 #![tactic(auto, using(crate::proofs::Basics::lent_then))]
 
 ghost use Rattle.std.specs.Prelude.{◌≡◌, IfSome, is_ok};
-ghost use Rattle.pawn_tables.specs.Common.{get, pledge_in, terms_of, terms_at, IsUnsoundAt, Lends};
-ghost use Rattle.pawn_tables.specs.Tables.{FindsBy, AreLists, AreSides, AreTold};
+ghost use Rattle.pawn_tables.specs.{Common.{get, pledge_in, terms_of, terms_at, IsUnsoundAt, Lends}, Finding.FindsBy, PledgeRows.{AreLists, AreSides, AreTold}};
 
 use crate::cells::NO_RECORD;
 use crate::joining::pledges::join;
@@ -21,8 +20,7 @@ pub fn terms_under<S: Alter>(
     book: u32,
     version: u64,
 ) -> Result<Option<Terms>, KeepError>
-    ensures finds { FindsBy S.Store tx.old.conn tx.new.conn (IsUnsoundAt book) result
-        (λ h terms. terms ≡ terms_at (terms_of (get h.books book)) version) }
+    ensures finds { FindsBy S.Store tx.old.conn tx.new.conn (IsUnsoundAt book) result (λ h terms. terms ≡ terms_at (terms_of (get h.books book)) version) }
     ensures lent { Lends S.Store tx.old.conn tx.new.conn (is_ok result) }
 {
     let Ok(short) = u32::try_from(version) else {
@@ -38,8 +36,7 @@ pub(crate) fn lists_in<S: Alter>(
     book: u32,
     number: u32,
 ) -> Result<Lists, KeepError>
-    ensures finds { FindsBy S.Store tx.old.conn tx.new.conn (IsUnsoundAt book) result
-        (λ h l. IfSome (pledge_in (get h.books book) number) (AreLists l)) }
+    ensures finds { FindsBy S.Store tx.old.conn tx.new.conn (IsUnsoundAt book) result (λ h l. IfSome (pledge_in (get h.books book) number) (AreLists l)) }
     ensures lent { Lends S.Store tx.old.conn tx.new.conn (is_ok result) }
 {
     let entries = entries_in(tx, alloc, book, number)?;
@@ -60,8 +57,7 @@ pub(crate) fn sides_in<S: Alter>(
     version: u32,
 ) -> Result<RowsBeside, KeepError>
     ensures finds { FindsBy S.Store tx.old.conn tx.new.conn (IsUnsoundAt book) result
-        (λ h s. IfSome (pledge_in (get h.books book) number) (λ p. version ≡ p.agreement.version
-        → AreSides s p)) }
+        (λ h s. IfSome (pledge_in (get h.books book) number) (λ p. version ≡ p.agreement.version → AreSides s p)) }
     ensures lent { Lends S.Store tx.old.conn tx.new.conn (is_ok result) }
 {
     let terms = terms_in(tx, book, version)?;
@@ -81,8 +77,7 @@ pub(crate) fn stored_pledge_in<S: Alter>(
     book: u32,
     number: u32,
 ) -> Result<Option<StoredPledge>, KeepError>
-    ensures finds { FindsBy S.Store tx.old.conn tx.new.conn (IsUnsoundAt book) result
-        (λ h t. AreTold t (pledge_in (get h.books book) number)) }
+    ensures finds { FindsBy S.Store tx.old.conn tx.new.conn (IsUnsoundAt book) result (λ h t. AreTold t (pledge_in (get h.books book) number)) }
     ensures lent { Lends S.Store tx.old.conn tx.new.conn (is_ok result) }
 {
     let Some(row) = row_in(tx, alloc, book, number)? else {
@@ -103,8 +98,7 @@ pub fn pledge_of<S: Alter>(
     book: u32,
     number: Number,
 ) -> Result<Option<Pledge>, KeepError>
-    ensures finds { FindsBy S.Store tx.old.conn tx.new.conn (IsUnsoundAt book) result
-        (λ h pledge. pledge ≡ pledge_in (get h.books book) number) }
+    ensures finds { FindsBy S.Store tx.old.conn tx.new.conn (IsUnsoundAt book) result (λ h pledge. pledge ≡ pledge_in (get h.books book) number) }
     ensures lent { Lends S.Store tx.old.conn tx.new.conn (is_ok result) }
 {
     let n = number.get();

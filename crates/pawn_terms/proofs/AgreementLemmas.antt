@@ -1,6 +1,9 @@
 -- The library's calendar counts the days as the rules' own does.
-use Rattle.pawn_terms.proofs.Basics.{◌≡◌, ℕ, zero, suc, ◌+◌, ◌-◌, ◌≤◌, refl, ap, ◌∙◌, arith, ℤ, pos, day_count, days_from_civil, Date, epoch_day, signed_arith, days_from_civil-day_count, day_count-day, day_count-next_month, day_count-next_year, Civil, IsDayNumber, civil_of, day_number, days_of_years, days_of_months, AgreesWithLibrary}
-use Rattle.pawn_terms.proofs.CalendarLemmas.{count_of-first, civil_of-year, page_date}
+use Rattle.{std.proofs.Common.{◌≡◌, ℕ, zero, suc, ◌+◌, ◌-◌, ◌≤◌, refl, ap, ◌∙◌, arith, ℤ, pos}, jiff_core.specs.Calendar.{day_count, days_from_civil}}
+use Rattle.jiff_core.{specs.{declared.civil.date.Date.Date, Date.epoch_day}, proofs.{SignedLemmas.signed_arith, CalendarLemmas.days_from_civil-day_count}}
+use Rattle.{jiff_core.proofs.CalendarLemmas.{day_count-day, day_count-next_month, day_count-next_year}, pawn_terms.specs.Calendar.{Civil, IsDayNumber}}
+use Rattle.pawn_terms.{specs.Calendar.{civil_of, day_number, days_of_years, days_of_months, AgreesWithLibrary}, proofs.CalendarLemmas.count_of-first}
+use Rattle.pawn_terms.proofs.CalendarLemmas.{civil_of-year, page_date}
 
 -- the first day of a year
 year_begins : (n : ℕ) → day_count (pos (2000 + n)) 1 1 ≡ 4_382_910 + days_of_years n
@@ -23,15 +26,23 @@ counts_alike c year month day =
     let y : 2000 + (c.year - 2000) ≡ c.year = omega (arith, year) in
     let m : (c.month - 1) + 1 ≡ c.month = omega (arith, month) in
     let first : day_count (pos c.year) 1 1 ≡ 4_382_910 + days_of_years (c.year - 2000) = rw y at (year_begins (c.year - 2000)) in
-    let begins : day_count (pos c.year) c.month 1 ≡ day_count (pos c.year) 1 1 + days_of_months c.year (c.month - 1) = rw m at (month_begins c.year (c.month - 1)) in
-    omega (arith, signed_arith, first, begins, day, day_count-day (pos c.year) c.month c.day 1 day (omega arith), days_from_civil-day_count (pos c.year) c.month c.day)
+    let begins : day_count (pos c.year) c.month 1 ≡ day_count (pos c.year) 1 1 + days_of_months c.year (c.month - 1) =
+    rw m at (month_begins c.year (c.month - 1)) in
+    omega (
+      arith,
+      signed_arith,
+      first,
+      begins,
+      day,
+      day_count-day (pos c.year) c.month c.day 1 day (omega arith),
+      days_from_civil-day_count (pos c.year) c.month c.day,
+    )
 
 -- the number of a date of the library from 2000 on
-pub number_of-date : (d : Date) (y m n : ℕ) → d.year ≡ pos y → d.month ≡ m → d.day ≡ n → 2000 ≤ y → epoch_day d ≡ pos (day_number (record { year = y; month = m; day = n }))
+pub number_of-date : (d : Date) (y m n : ℕ) → d.year ≡ pos y → d.month ≡ m → d.day ≡ n → 2000 ≤ y
+    → epoch_day d ≡ pos (day_number (record { year = y; month = m; day = n }))
 number_of-date d y m n e f g low =
-    ap (λ (z : ℤ). days_from_civil z d.month d.day) e
-    ∙ ap (λ (k : ℕ). days_from_civil (pos y) k d.day) f
-    ∙ ap (λ (k : ℕ). days_from_civil (pos y) m k) g
+    ap (λ (z : ℤ). days_from_civil z d.month d.day) e ∙ ap (λ (k : ℕ). days_from_civil (pos y) k d.day) f ∙ ap (λ (k : ℕ). days_from_civil (pos y) m k) g
     ∙ counts_alike (record { year = y; month = m; day = n }) low (omega (arith, f, d.month_in)) (omega (arith, g, d.day_in))
 
 -- a day is numbered by its page

@@ -1,4 +1,3 @@
-pub mod Basics
 pub mod CalendarLemmas
 pub mod SixMonths
 pub mod TextLemmas

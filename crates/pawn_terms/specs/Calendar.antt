@@ -1,6 +1,6 @@
 -- The calendar: a day is a number, and its year, month and day are found by turning pages from 2000-01-01.
-use Rattle.std.specs.Prelude.{◌≡◌, ℕ, zero, suc, ◌+◌, ◌-◌, ◌≤◌, ◌<◌, ◌/◌, ◌%◌, ◌==◌, nat_lt, nat_le, min, max, Bool, not, ◌&&◌, ◌||◌, if◌then◌else◌, List, [], ◌∷◌, Option, Some, None, pos}
-use Rattle.std.specs.Int.{IsInRange}
+use Rattle.std.specs.Prelude.{◌≡◌, ℕ, zero, suc, ◌+◌, ◌-◌, ◌≤◌, ◌<◌, ◌/◌, ◌%◌, ◌==◌, nat_lt, nat_le, min, max, Bool, not, ◌&&◌, ◌||◌, if◌then◌else◌, List, []}
+use Rattle.std.specs.{Prelude.{◌∷◌, Option, Some, None, pos}, Int.IsInRange}
 use Rattle.jiff_core.specs.Calendar.{days_in_month, days_from_civil}
 pub use Rattle.pawn_terms.specs.Limits.{first_day, last_stamp_day, final_day}
 

@@ -1,7 +1,6 @@
 -- The terms of an agreement.
 use Rattle.std.specs.Prelude.{ℕ, ◌≤◌}
-use Rattle.pawn_terms.specs.declared.terms.Rates.{Rates}
-pub use Rattle.pawn_terms.specs.Limits.{most_rate, most_keep}
+use Rattle.pawn_terms.specs.{declared.terms.Rates.Rates, Limits.{most_rate, most_keep}}
 
 -- the rate of interest in millionths per day, and the charges for safe keeping up to the end of the period and after
 -- it, in millionths of a penny per day

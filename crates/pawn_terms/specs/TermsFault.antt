@@ -1,10 +1,7 @@
 -- Why three numbers are refused as terms.
 use Rattle.std.specs.Prelude.{ℕ, List, [], ◌∷◌, nat_lt, ◌||◌, Result, Ok, codes}
-use Rattle.pawn_base.specs.Refusals.{first_of}
-use Rattle.pawn_terms.specs.declared.terms.Rates.{Rates}
-use Rattle.pawn_terms.specs.Terms.{most_rate, most_keep}
-use Rattle.pawn_terms.specs.declared.terms.TermsFault.{TermsFault}
-use Rattle.pawn_terms.specs.declared.terms.TermsFault.TheVariants.{RateTooHigh, KeepTooHigh, KeepingRate}
+use Rattle.{pawn_base.specs.Refusals.first_of, pawn_terms.specs.declared.terms.{Rates.Rates, TermsFault.{TermsFault, TheVariants.{RateTooHigh, KeepTooHigh}}}}
+use Rattle.pawn_terms.specs.{declared.terms.TermsFault.TheVariants.KeepingRate, Limits.{most_rate, most_keep}}
 
 -- the terms of three numbers, or the first fault that applies
 abbrev pub terms_answer : Rates → Result Rates TermsFault

@@ -1,9 +1,7 @@
 -- Days, ends of periods and terms, worked out.
 use Rattle.std.specs.Prelude.{◌≡◌, ℕ, ◌+◌, Some, None, Ok, Err, codes}
-use Rattle.pawn_terms.specs.Calendar.{day_number, day_text, six_months, period_end, first_day, last_stamp_day, final_day}
-use Rattle.pawn_terms.specs.Terms.{rates_of}
-use Rattle.pawn_terms.specs.TermsFault.{terms_answer}
-use Rattle.pawn_terms.specs.declared.terms.TermsFault.TheVariants.{RateTooHigh, KeepTooHigh, KeepingRate}
+use Rattle.pawn_terms.specs.{Calendar.{day_number, day_text, six_months, period_end, first_day, last_stamp_day, final_day}, Terms.rates_of}
+use Rattle.pawn_terms.specs.{TermsFault.terms_answer, declared.terms.TermsFault.TheVariants.{RateTooHigh, KeepTooHigh, KeepingRate}}
 
 -- a day by its year, month and day of the month
 abbrev pub date : ℕ → ℕ → ℕ → ℕ

@@ -1,9 +1,7 @@
-ghost use Rattle.std.specs.Prelude.{◌≡◌, ◌↔◌, ℕ, ◌+◌, ◌≤◌, ◌<◌, ◌/◌, pos, ◌≤ℤ◌, unsigned_abs, IsOk, IfOk, IsSome, IfSome, IfNone, codes};
-ghost use Rattle.std.specs.Int.{IsInRange};
-ghost use Rattle.jiff_core.specs.Calendar.{IsEpochDay};
-ghost use Rattle.jiff_core.specs.Date.{epoch_day};
-ghost use Rattle.jiff_span.specs.Months.{add_months, IsShiftable};
-ghost use Rattle.pawn_terms.specs.Calendar.{Civil, last_stamp_day, final_day, IsDayNumber, IsStampDay, IsStampCivil, civil_of, day_number, six_months, later_of, period_end, day_text, civil_text, IsWritable, digit};
+ghost use Rattle.std.specs.{Prelude.{◌≡◌, ◌↔◌, ℕ, ◌+◌, ◌≤◌, ◌<◌, ◌/◌, pos, ◌≤ℤ◌, unsigned_abs, IsOk, IfOk, IsSome, IfSome, IfNone, codes}, Int.IsInRange};
+ghost use Rattle.{jiff_core.specs.{Calendar.IsEpochDay, Date.epoch_day}, jiff_span.specs.Months.{add_months, IsShiftable}, pawn_terms.specs.Calendar.Civil};
+ghost use Rattle.pawn_terms.specs.Calendar.{last_stamp_day, final_day, IsDayNumber, IsStampDay, IsStampCivil, civil_of, day_number, six_months, later_of};
+ghost use Rattle.pawn_terms.specs.Calendar.{period_end, day_text, civil_text, IsWritable, digit};
 
 use crate::limits::{FINAL_DAY, FIRST_DAY};
 use jiff::ToSpan;
@@ -123,12 +121,9 @@ impl Day {
     /// The day of a year, a month and a day of the month. `BadDay` if the calendar has no such day, or it is not from
     /// 2000-01-01 to 2199-12-31.
     pub fn from_ymd(year: u16, month: u8, day: u8) -> Result<Day, BadDay>
-        ensures succeeds { IsOk result ↔ IsStampCivil
-            (record { year = year; month = month; day = day }) }
-        ensures value { IfOk result (λ d. civil_of d ≡ record
-            { year = year; month = month; day = day }) }
-        ensures number { IfOk result (λ d. d ≡ day_number
-            (record { year = year; month = month; day = day })) }
+        ensures succeeds { IsOk result ↔ IsStampCivil (record { year = year; month = month; day = day }) }
+        ensures value { IfOk result (λ d. civil_of d ≡ record { year = year; month = month; day = day }) }
+        ensures number { IfOk result (λ d. d ≡ day_number (record { year = year; month = month; day = day })) }
         ensures in_range { IfOk result IsStampDay }
     {
         if year < 2000 || year > 2199 || month > 12 || day > 31 {
@@ -181,8 +176,7 @@ impl Day {
 // The text of a date of the library from 2000 on.
 fn date_text(date: civil::Date) -> [u8; 10]
     requires year { pos 0 ≤ℤ date.year }
-    ensures value { result ≡ civil_text
-        (record { year = unsigned_abs date.year; month = date.month; day = date.day }) }
+    ensures value { result ≡ civil_text (record { year = unsigned_abs date.year; month = date.month; day = date.day }) }
 {
     let year = date.year as u32;
     let month = date.month as u32;
@@ -210,10 +204,8 @@ fn digit_of(number: u32) -> u8
 
 // The year, month and day that a text of ten characters names, be there such a day or not.
 fn civil_in(text: &[u8]) -> Option<(u16, u8, u8)>
-    ensures some { IfSome result
-        (λ p. text.now ≡ civil_text (record { year = p.0; month = p.1; day = p.2 })) }
-    ensures writable { IfSome result
-        (λ p. IsWritable (record { year = p.0; month = p.1; day = p.2 })) }
+    ensures some { IfSome result (λ p. text.now ≡ civil_text (record { year = p.0; month = p.1; day = p.2 })) }
+    ensures writable { IfSome result (λ p. IsWritable (record { year = p.0; month = p.1; day = p.2 })) }
     ensures none { IfNone result ((c : Civil) → IsWritable c → text.now ≡ civil_text c → ⊥) }
 {
     if text.len() != 10 {

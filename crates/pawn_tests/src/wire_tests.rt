@@ -58,7 +58,8 @@ fn replies_are_written(rt: HostRuntime) -> Result<(), Fail> {
     for (out, wanted) in [
         (
             opened,
-            "HTTP/1.1 200 OK\r\nContent-Length: 63\r\nContent-Type: application/json\r\n\r\n{\"number\":1,\"receipt\":\"1-da41597c-5157-488d-7724-e03fb8d84a37\"}",
+            "HTTP/1.1 200 OK\r\nContent-Length: 63\r\nContent-Type: application/json\r\n\r\n\
+                {\"number\":1,\"receipt\":\"1-da41597c-5157-488d-7724-e03fb8d84a37\"}",
         ),
         (
             refused,

@@ -1,4 +1,3 @@
-pub mod Basics
 pub mod SoundLemmas
 pub mod StatementLemmas
 pub mod PresentedLemmas

@@ -1,9 +1,11 @@
 -- What is shown for receipts, one after the other.
-use Rattle.pawn_view.proofs.Basics.{◌≡◌, ◌∙◌, ℕ, zero, suc, ◌+◌, ◌-◌, ◌<◌, ◌≤◌, arith, Bool, true, false, List, [], ◌∷◌, ◌++◌, length, take, drop, get_or, map, Option, Some, None, codes, refl, sym, ap, subst, if◌then◌else◌, Result, BriefFields, End, Front, KeepError, PledgeValue, Puts, PutsShare, Receipt, ViewFault, Whole, Writing, are_unknown, brief_of, call_end, ending_of, is_live, live_at, not, only_live, option_map, write_failed, append-nil, Shows, further_texts, presented_text, shown_of, shown_text, statement_text, share_puts, share_more, share_then, writings_in_turn}
-use Rattle.std.proofs.lemmas.Grind.{flat_map-append}
-use Rattle.std.proofs.lemmas.List.{take_more, take_rest, map-append}
-use Rattle.pawn_book.proofs.VisitLemmas.{cut_at}
-use Rattle.pawn_view.proofs.StatementLemmas.{some_same, shows_ended}
+use Rattle.std.proofs.Common.{◌≡◌, ◌∙◌, ℕ, zero, suc, ◌+◌, ◌-◌, ◌<◌, ◌≤◌, arith, Bool, true, false, List, [], ◌∷◌, ◌++◌, length, take, drop, get_or, map}
+use Rattle.std.proofs.Common.{Option, Some, None, codes, refl, sym, ap, subst, if◌then◌else◌, Result, not, option_map, append-nil}
+use Rattle.{std.proofs.lemmas.{Grind.flat_map-append, List.{take_more, take_rest, map-append}}, pawn_view.specs.Common.{BriefFields, End, Front, KeepError}}
+use Rattle.pawn_view.specs.Common.{PledgeValue, Puts, PutsShare, Receipt, ViewFault, Whole, Writing, are_unknown, brief_of, call_end, ending_of, is_live}
+use Rattle.pawn_view.specs.{Common.{live_at, only_live, write_failed}, Shown.{Shows, shown_of}, Text.{further_texts, presented_text, shown_text}}
+use Rattle.{pawn_view.{specs.Text.statement_text, proofs.StatementLemmas.{some_same, shows_ended}}, pawn_writing.proofs.ShareLemmas.{share_puts, share_more}}
+use Rattle.{pawn_writing.proofs.ShareLemmas.{share_then, writings_in_turn}, pawn_book.proofs.VisitLemmas.cut_at}
 
 -- ---- whether one of them is live
 
@@ -22,11 +24,12 @@ any_known_in f (r ∷ rs) (suc i) d brief lt is =
       | Some p ↦ refl
     ]
 
-pub any_known : (f : Receipt → Option PledgeValue) (receipts : List Receipt) (i : ℕ) (x : Receipt) (brief : BriefFields) → i < length receipts → x ≡ get_or receipts i x
-    → Some brief ≡ option_map brief_of (f x) → are_unknown (map f receipts) ≡ false
+pub any_known : (f : Receipt → Option PledgeValue) (receipts : List Receipt) (i : ℕ) (x : Receipt) (brief : BriefFields) → i < length receipts
+    → x ≡ get_or receipts i x → Some brief ≡ option_map brief_of (f x) → are_unknown (map f receipts) ≡ false
 any_known f receipts i x brief lt at is = any_known_in f receipts i x brief lt (subst (λ (y : Receipt). Some brief ≡ option_map brief_of (f y)) at is)
 
-unknown-snoc : (f : Receipt → Option PledgeValue) (rs : List Receipt) (r : Receipt) → are_unknown (map f rs) ≡ true → f r ≡ None → are_unknown (map f (rs ++ r ∷ [])) ≡ true
+unknown-snoc : (f : Receipt → Option PledgeValue) (rs : List Receipt) (r : Receipt) → are_unknown (map f rs) ≡ true → f r ≡ None
+    → are_unknown (map f (rs ++ r ∷ [])) ≡ true
 unknown-snoc f [] r before is = ap (λ (o : Option PledgeValue). are_unknown (o ∷ [])) is
 unknown-snoc f (q ∷ rs) r before is =
     elim (f q) as (λ (o : Option PledgeValue). are_unknown (o ∷ map f rs) ≡ true → are_unknown (o ∷ map f (rs ++ r ∷ [])) ≡ true) [
@@ -41,22 +44,22 @@ none_of (Some p) e = cc
 -- one more is not live
 pub unknown_more : (f : Receipt → Option PledgeValue) (receipts : List Receipt) (i : ℕ) (x : Receipt) → i < length receipts → x ≡ get_or receipts i x
     → are_unknown (map f (take i receipts)) ≡ true → None ≡ option_map brief_of (f x) → are_unknown (map f (take (i + 1) receipts)) ≡ true
-unknown_more f receipts i x lt at before is =
-    subst (λ (rs : List Receipt). are_unknown (map f rs) ≡ true) (sym (take_more receipts i x lt))
+unknown_more f receipts i x lt at before is = subst (λ (rs : List Receipt). are_unknown (map f rs) ≡ true) (sym (take_more receipts i x lt))
     (unknown-snoc f (take i receipts) (get_or receipts i x) before (ap f (sym at) ∙ none_of (f x) is))
 
 -- ---- one receipt
 
 -- the statement of the pledge that a live receipt is of
-pub shown_statement : {W : Type 0} (contents : W → Option (List ℕ)) (a w : Writing W) (day : ℕ) (pledges : ℕ → Option PledgeValue) (r : Receipt) (brief : BriefFields) (end : End)
-    → Some brief ≡ option_map brief_of (live_at pledges r)
-    → ((p : PledgeValue) → pledges r.number ≡ Some p → brief ≡ brief_of p → PutsShare contents a (statement_text day p) end w)
-    → PutsShare contents a (shown_text day (live_at pledges r)) end w
+pub shown_statement : {W : Type 0} (contents : W → Option (List ℕ)) (a w : Writing W) (day : ℕ) (pledges : ℕ → Option PledgeValue) (r : Receipt)
+    (brief : BriefFields) (end : End) → Some brief ≡ option_map brief_of (live_at pledges r) → ((p : PledgeValue) → pledges r.number ≡ Some p
+    → brief ≡ brief_of p → PutsShare contents a (statement_text day p) end w) → PutsShare contents a (shown_text day (live_at pledges r)) end w
 shown_statement contents a w day pledges r brief end is share =
-    elim (pledges r.number) as (λ (o : Option PledgeValue). pledges r.number ≡ o → Some brief ≡ option_map brief_of (only_live r.secret o) → PutsShare contents a (shown_text day (only_live r.secret o)) end w) [
+    elim (pledges r.number) as (λ (o : Option PledgeValue). pledges r.number ≡ o → Some brief ≡ option_map brief_of (only_live r.secret o)
+    → PutsShare contents a (shown_text day (only_live r.secret o)) end w) [
       | None ↦ λ at said. cc
       | Some p ↦ λ at said.
-          elim (is_live r.secret p) as (λ (b : Bool). Some brief ≡ option_map brief_of (if b then Some p else None) → PutsShare contents a (shown_text day (if b then Some p else None)) end w) [
+          elim (is_live r.secret p) as (λ (b : Bool). Some brief ≡ option_map brief_of (if b then Some p else None)
+          → PutsShare contents a (shown_text day (if b then Some p else None)) end w) [
             | true ↦ λ e. share p at (some_same e)
             | false ↦ λ e. cc
           ] said
@@ -68,44 +71,41 @@ shown_statement contents a w day pledges r brief end is share =
 abbrev pub further : ℕ → Option PledgeValue → List ℕ
 further day p = codes "\n" ++ shown_text day p
 
-further_cut : (f : Receipt → Option PledgeValue) (day : ℕ) (receipts : List Receipt) (i : ℕ) (d : Receipt) → i < length receipts
-    → further_texts day (map f receipts) ≡ further_texts day (map f (take i receipts)) ++ (further day (f (get_or receipts i d)) ++ further_texts day (map f (drop (i + 1) receipts)))
-further_cut f day receipts i d lt =
-    ap (λ (rs : List Receipt). further_texts day (map f rs)) (sym (cut_at receipts i d lt))
+further_cut : (f : Receipt → Option PledgeValue) (day : ℕ) (receipts : List Receipt) (i : ℕ) (d : Receipt) → i < length receipts → further_texts day (map f
+    receipts) ≡ further_texts day (map f (take i receipts)) ++ (further day (f (get_or receipts i d)) ++ further_texts day (map f (drop (i + 1) receipts)))
+further_cut f day receipts i d lt = ap (λ (rs : List Receipt). further_texts day (map f rs)) (sym (cut_at receipts i d lt))
     ∙ ap (further_texts day) (map-append f (take i receipts) (get_or receipts i d ∷ drop (i + 1) receipts))
     ∙ flat_map-append (further day) (map f (take i receipts)) (f (get_or receipts i d) ∷ map f (drop (i + 1) receipts))
 
 further_more : (f : Receipt → Option PledgeValue) (day : ℕ) (receipts : List Receipt) (i : ℕ) (d : Receipt) → i < length receipts
     → further_texts day (map f (take (i + 1) receipts)) ≡ further_texts day (map f (take i receipts)) ++ further day (f (get_or receipts i d))
-further_more f day receipts i d lt =
-    ap (λ (rs : List Receipt). further_texts day (map f rs)) (take_more receipts i d lt)
-    ∙ ap (further_texts day) (map-append f (take i receipts) (get_or receipts i d ∷ []))
-    ∙ flat_map-append (further day) (map f (take i receipts)) (f (get_or receipts i d) ∷ [])
+further_more f day receipts i d lt = ap (λ (rs : List Receipt). further_texts day (map f rs)) (take_more receipts i d lt) ∙ ap (further_texts day)
+    (map-append f (take i receipts) (get_or receipts i d ∷ [])) ∙ flat_map-append (further day) (map f (take i receipts)) (f (get_or receipts i d) ∷ [])
     ∙ ap (λ (t : List ℕ). further_texts day (map f (take i receipts)) ++ t) (append-nil (further day (f (get_or receipts i d))))
 
 -- one receipt more after those before it
 further_shown : {W : Type 0} (contents : W → Option (List ℕ)) (a b c w : Writing W) (day : ℕ) (before : List ℕ) (p : Option PledgeValue) (end : End)
     → PutsShare contents a before Whole b → Puts contents b (codes "\n") c → PutsShare contents c (shown_text day p) end w
     → PutsShare contents a (before ++ further day p) end w
-further_shown contents a b c w day before p end first blank share =
-    share_then {s = before} {t = further day p} writings_in_turn first (share_then {s = codes "\n"} {t = shown_text day p} writings_in_turn (share_puts writings_in_turn blank) share)
+further_shown contents a b c w day before p end first blank share = share_then {s = before} {t = further day p} writings_in_turn first
+    (share_then {s = codes "\n"} {t = shown_text day p} writings_in_turn (share_puts writings_in_turn blank) share)
 
-further_goes_on_in : {W : Type 0} (contents : W → Option (List ℕ)) (a b c w : Writing W) (day : ℕ) (f : Receipt → Option PledgeValue) (receipts : List Receipt) (i : ℕ) (d : Receipt) → i < length receipts
-    → PutsShare contents a (further_texts day (map f (take i receipts))) Whole b → Puts contents b (codes "\n") c → PutsShare contents c (shown_text day (f (get_or receipts i d))) Whole w
-    → PutsShare contents a (further_texts day (map f (take (i + 1) receipts))) Whole w
+further_goes_on_in : {W : Type 0} (contents : W → Option (List ℕ)) (a b c w : Writing W) (day : ℕ) (f : Receipt → Option PledgeValue) (receipts : List Receipt)
+    (i : ℕ) (d : Receipt) → i < length receipts → PutsShare contents a (further_texts day (map f (take i receipts))) Whole b → Puts contents b (codes "\n") c
+    → PutsShare contents c (shown_text day (f (get_or receipts i d))) Whole w → PutsShare contents a (further_texts day (map f (take (i + 1) receipts))) Whole w
 further_goes_on_in contents a b c w day f receipts i d lt first blank share =
     subst (λ (t : List ℕ). PutsShare contents a t Whole w) (sym (further_more f day receipts i d lt))
     (further_shown contents a b c w day (further_texts day (map f (take i receipts))) (f (get_or receipts i d)) Whole first blank share)
 
-further_stops_in : {W : Type 0} (contents : W → Option (List ℕ)) (a b c w : Writing W) (day : ℕ) (f : Receipt → Option PledgeValue) (receipts : List Receipt) (i : ℕ) (d : Receipt) → i < length receipts
-    → PutsShare contents a (further_texts day (map f (take i receipts))) Whole b → Puts contents b (codes "\n") c → PutsShare contents c (shown_text day (f (get_or receipts i d))) Front w
-    → PutsShare contents a (further_texts day (map f receipts)) Front w
+further_stops_in : {W : Type 0} (contents : W → Option (List ℕ)) (a b c w : Writing W) (day : ℕ) (f : Receipt → Option PledgeValue) (receipts : List Receipt)
+    (i : ℕ) (d : Receipt) → i < length receipts → PutsShare contents a (further_texts day (map f (take i receipts))) Whole b → Puts contents b (codes "\n") c
+    → PutsShare contents c (shown_text day (f (get_or receipts i d))) Front w → PutsShare contents a (further_texts day (map f receipts)) Front w
 further_stops_in contents a b c w day f receipts i d lt first blank share =
     let x = get_or receipts i d in
     let rest = further_texts day (map f (drop (i + 1) receipts)) in
     subst (λ (t : List ℕ). PutsShare contents a t Front w) (sym (further_cut f day receipts i d lt))
-    (share_then {s = further_texts day (map f (take i receipts))} {t = further day (f x) ++ rest} writings_in_turn first
-    (share_more {s = further day (f x)} writings_in_turn rest (share_then {s = codes "\n"} {t = shown_text day (f x)} writings_in_turn (share_puts writings_in_turn blank) share)))
+    (share_then {s = further_texts day (map f (take i receipts))} {t = further day (f x) ++ rest} writings_in_turn first (share_more {s = further day (f x)}
+    writings_in_turn rest (share_then {s = codes "\n"} {t = shown_text day (f x)} writings_in_turn (share_puts writings_in_turn blank) share)))
 
 -- all but the first
 abbrev pub rest_of : List Receipt → List Receipt
@@ -116,40 +116,41 @@ pub first_and_rest : (f : Receipt → Option PledgeValue) (receipts : List Recei
     → f x ∷ map f (rest_of receipts) ≡ map f receipts
 first_and_rest f [] x some at = absurd (omega (arith, some))
 first_and_rest f (r ∷ rs) x some at =
-    ap (λ (q : Receipt). f q ∷ map f (rest_of (r ∷ rs))) at
-    ∙ ap (λ (qs : List Receipt). f r ∷ map f qs) (take_rest (r ∷ rs) 1)
+    ap (λ (q : Receipt). f q ∷ map f (rest_of (r ∷ rs))) at ∙ ap (λ (qs : List Receipt). f r ∷ map f qs) (take_rest (r ∷ rs) 1)
 
 -- a statement, and what is shown for others
-pub statement_then : {W : Type 0} (contents : W → Option (List ℕ)) (a b w : Writing W) (day : ℕ) (p : PledgeValue) (others : List (Option PledgeValue)) (end : End)
-    → PutsShare contents a (statement_text day p) Whole b → PutsShare contents b (further_texts day others) end w
+pub statement_then : {W : Type 0} (contents : W → Option (List ℕ)) (a b w : Writing W) (day : ℕ) (p : PledgeValue) (others : List (Option PledgeValue))
+    (end : End) → PutsShare contents a (statement_text day p) Whole b → PutsShare contents b (further_texts day others) end w
     → PutsShare contents a (statement_text day p ++ further_texts day others) end w
 statement_then contents a b w day p others end first rest = share_then {s = statement_text day p} {t = further_texts day others} writings_in_turn first rest
 
 -- a statement that was not put whole
 pub statement_stops : {W : Type 0} (contents : W → Option (List ℕ)) (a w : Writing W) (day : ℕ) (p : PledgeValue) (others : List (Option PledgeValue))
-    → PutsShare contents a (statement_text day p) Front w
-    → PutsShare contents a (statement_text day p ++ further_texts day others) Front w
+    → PutsShare contents a (statement_text day p) Front w → PutsShare contents a (statement_text day p ++ further_texts day others) Front w
 statement_stops contents a w day p others first = share_more {s = statement_text day p} writings_in_turn (further_texts day others) first
 
 -- the text where the first is live
-pub live_first_shows : {W : Type 0} (contents : W → Option (List ℕ)) (a w : Writing W) (day : ℕ) (pledges : ℕ → Option PledgeValue) (r : Receipt) (others : List (Option PledgeValue)) (brief : BriefFields) (done : Result (Unit {0}) KeepError) (answer : Result (Unit {0}) ViewFault)
-    → write_failed a ≡ false → answer ≡ ending_of done (write_failed w) → Some brief ≡ option_map brief_of (live_at pledges r)
-    → ((p : PledgeValue) → pledges r.number ≡ Some p → brief ≡ brief_of p → PutsShare contents a (statement_text day p ++ further_texts day others) (call_end done) w)
+pub live_first_shows : {W : Type 0} (contents : W → Option (List ℕ)) (a w : Writing W) (day : ℕ) (pledges : ℕ → Option PledgeValue) (r : Receipt)
+    (others : List (Option PledgeValue)) (brief : BriefFields) (done : Result (Unit {0}) KeepError) (answer : Result (Unit {0}) ViewFault)
+    → write_failed a ≡ false → answer ≡ ending_of done (write_failed w) → Some brief ≡ option_map brief_of (live_at pledges r) → ((p : PledgeValue)
+    → pledges r.number ≡ Some p → brief ≡ brief_of p → PutsShare contents a (statement_text day p ++ further_texts day others) (call_end done) w)
     → Shows contents a (shown_of day (live_at pledges r ∷ others)) answer w
 live_first_shows contents a w day pledges r others brief done answer fine is live share =
-    elim (pledges r.number) as (λ (o : Option PledgeValue). pledges r.number ≡ o → Some brief ≡ option_map brief_of (only_live r.secret o) → Shows contents a (shown_of day (only_live r.secret o ∷ others)) answer w) [
+    elim (pledges r.number) as (λ (o : Option PledgeValue). pledges r.number ≡ o → Some brief ≡ option_map brief_of (only_live r.secret o)
+    → Shows contents a (shown_of day (only_live r.secret o ∷ others)) answer w) [
       | None ↦ λ at said. cc
       | Some p ↦ λ at said.
-          elim (is_live r.secret p) as (λ (b : Bool). Some brief ≡ option_map brief_of (if b then Some p else None) → Shows contents a (shown_of day ((if b then Some p else None) ∷ others)) answer w) [
+          elim (is_live r.secret p) as (λ (b : Bool). Some brief ≡ option_map brief_of (if b then Some p else None)
+          → Shows contents a (shown_of day ((if b then Some p else None) ∷ others)) answer w) [
             | true ↦ λ e. shows_ended contents a w (statement_text day p ++ further_texts day others) done answer fine is (share p at (some_same e))
             | false ↦ λ e. cc
           ] said
     ] refl live
 
 -- the text where the first is not live, and another is
-pub dead_first_shows : {W : Type 0} (contents : W → Option (List ℕ)) (a b w : Writing W) (day : ℕ) (others : List (Option PledgeValue)) (unknown : Bool) (done : Result (Unit {0}) KeepError) (answer : Result (Unit {0}) ViewFault)
-    → write_failed a ≡ false → answer ≡ ending_of done (write_failed w) → true ≡ not unknown
-    → Puts contents a (codes "Unknown receipt\n") b → PutsShare contents b (further_texts day others) (call_end done) w
+pub dead_first_shows : {W : Type 0} (contents : W → Option (List ℕ)) (a b w : Writing W) (day : ℕ) (others : List (Option PledgeValue)) (unknown : Bool)
+    (done : Result (Unit {0}) KeepError) (answer : Result (Unit {0}) ViewFault) → write_failed a ≡ false → answer ≡ ending_of done (write_failed w)
+    → true ≡ not unknown → Puts contents a (codes "Unknown receipt\n") b → PutsShare contents b (further_texts day others) (call_end done) w
     → Shows contents a (if unknown then None else Some (presented_text day (None ∷ others))) answer w
 dead_first_shows contents a b w day others true done answer fine is known line share = cc
 dead_first_shows contents a b w day others false done answer fine is known line share =
@@ -157,26 +158,28 @@ dead_first_shows contents a b w day others false done answer fine is known line 
     (share_then {s = codes "Unknown receipt\n"} {t = further_texts day others} writings_in_turn (share_puts writings_in_turn line) share)
 
 -- the text where the first is not live, told of the first
-pub dead_first : {W : Type 0} (contents : W → Option (List ℕ)) (a w : Writing W) (day : ℕ) (p : Option PledgeValue) (others : List (Option PledgeValue)) (answer : Result (Unit {0}) ViewFault)
+pub dead_first : {W : Type 0} (contents : W → Option (List ℕ)) (a w : Writing W) (day : ℕ) (p : Option PledgeValue) (others : List (Option PledgeValue))
+    (answer : Result (Unit {0}) ViewFault)
     → None ≡ option_map brief_of p → Shows contents a (shown_of day (None ∷ others)) answer w → Shows contents a (shown_of day (p ∷ others)) answer w
 dead_first contents a w day p others answer is shows =
     subst (λ (o : Option PledgeValue). Shows contents a (shown_of day (o ∷ others)) answer w) (sym (none_of p is)) shows
 
 -- what was said of the first and the rest is said of all
-pub shows_all : {W : Type 0} (contents : W → Option (List ℕ)) (a w : Writing W) (day : ℕ) (f : Receipt → Option PledgeValue) (receipts : List Receipt) (x : Receipt) (answer : Result (Unit {0}) ViewFault) → 1 ≤ length receipts → x ≡ get_or receipts 0 x
-    → Shows contents a (shown_of day (f x ∷ map f (rest_of receipts))) answer w
-    → Shows contents a (shown_of day (map f receipts)) answer w
+pub shows_all : {W : Type 0} (contents : W → Option (List ℕ)) (a w : Writing W) (day : ℕ) (f : Receipt → Option PledgeValue) (receipts : List Receipt)
+    (x : Receipt) (answer : Result (Unit {0}) ViewFault) → 1 ≤ length receipts → x ≡ get_or receipts 0 x
+    → Shows contents a (shown_of day (f x ∷ map f (rest_of receipts))) answer w → Shows contents a (shown_of day (map f receipts)) answer w
 shows_all contents a w day f receipts x answer some at shows =
     subst (λ (ps : List (Option PledgeValue)). Shows contents a (shown_of day ps) answer w) (first_and_rest f receipts x some at) shows
 
-pub further_goes_on : {W : Type 0} (contents : W → Option (List ℕ)) (a b c w : Writing W) (day : ℕ) (f : Receipt → Option PledgeValue) (receipts : List Receipt) (i : ℕ) (x : Receipt) → i < length receipts → x ≡ get_or receipts i x
-    → PutsShare contents a (further_texts day (map f (take i receipts))) Whole b → Puts contents b (codes "\n") c → PutsShare contents c (shown_text day (f x)) Whole w
+pub further_goes_on : {W : Type 0} (contents : W → Option (List ℕ)) (a b c w : Writing W) (day : ℕ) (f : Receipt → Option PledgeValue) (receipts : List Receipt)
+    (i : ℕ) (x : Receipt) → i < length receipts → x ≡ get_or receipts i x → PutsShare contents a (further_texts day (map f (take i receipts))) Whole b
+    → Puts contents b (codes "\n") c → PutsShare contents c (shown_text day (f x)) Whole w
     → PutsShare contents a (further_texts day (map f (take (i + 1) receipts))) Whole w
-further_goes_on contents a b c w day f receipts i x lt at first blank share =
-    further_goes_on_in contents a b c w day f receipts i x lt first blank (subst (λ (y : Receipt). PutsShare contents c (shown_text day (f y)) Whole w) at share)
+further_goes_on contents a b c w day f receipts i x lt at first blank share = further_goes_on_in contents a b c w day f receipts i x lt first blank
+    (subst (λ (y : Receipt). PutsShare contents c (shown_text day (f y)) Whole w) at share)
 
-pub further_stops : {W : Type 0} (contents : W → Option (List ℕ)) (a b c w : Writing W) (day : ℕ) (f : Receipt → Option PledgeValue) (receipts : List Receipt) (i : ℕ) (x : Receipt) → i < length receipts → x ≡ get_or receipts i x
-    → PutsShare contents a (further_texts day (map f (take i receipts))) Whole b → Puts contents b (codes "\n") c → PutsShare contents c (shown_text day (f x)) Front w
-    → PutsShare contents a (further_texts day (map f receipts)) Front w
+pub further_stops : {W : Type 0} (contents : W → Option (List ℕ)) (a b c w : Writing W) (day : ℕ) (f : Receipt → Option PledgeValue) (receipts : List Receipt)
+    (i : ℕ) (x : Receipt) → i < length receipts → x ≡ get_or receipts i x → PutsShare contents a (further_texts day (map f (take i receipts))) Whole b
+    → Puts contents b (codes "\n") c → PutsShare contents c (shown_text day (f x)) Front w → PutsShare contents a (further_texts day (map f receipts)) Front w
 further_stops contents a b c w day f receipts i x lt at first blank share =
     further_stops_in contents a b c w day f receipts i x lt first blank (subst (λ (y : Receipt). PutsShare contents c (shown_text day (f y)) Front w) at share)

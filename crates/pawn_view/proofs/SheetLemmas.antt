@@ -1,9 +1,10 @@
 -- A day's sheet, put item by item.
-use Rattle.pawn_view.proofs.Basics.{◌≡◌, ◌∙◌, ℕ, false, List, [], ◌∷◌, Option, Some, None, Result, sym, ap, subst, inl, inr, BookValue, End, Flow, Handed, IsShare, KeepError, PledgeValue, Puts, PutsLine, PutsShare, SheetItem, ViewFault, Writing, book_head, call_end, codes, day_sheet, ending_of, option_map, pledges_of, write_failed, Shows, day_line, lines_share, share_puts, share_then, writings_in_turn}
+use Rattle.std.proofs.Common.{◌≡◌, ◌∙◌, ℕ, false, List, [], ◌∷◌, Option, Some, None, Result, sym, ap, subst, inl, inr, codes, option_map}
+use Rattle.pawn_view.specs.Common.{BookValue, End, Flow, Handed, IsShare, KeepError, PledgeValue, Puts, PutsLine, PutsShare, SheetItem, ViewFault, Writing}
+use Rattle.pawn_view.specs.{Common.{book_head, call_end, day_sheet, ending_of, pledges_of, write_failed}, Shown.Shows, Text.day_line}
+use Rattle.pawn_view.{specs.{declared.sheets.SheetLines.SheetLines, Sheets.{PutsItem, book_sheet, day_lines, sheet_line}}, proofs.StatementLemmas.shows_ended}
+use Rattle.{pawn_view.proofs.StatementLemmas.some_same, pawn_writing.proofs.ShareLemmas.{lines_share, share_puts, share_then, writings_in_turn}}
 use Rattle.pawn_book.specs.declared.change.BookHead.{BookHead}
-use Rattle.pawn_view.specs.declared.sheets.SheetLines.{SheetLines}
-use Rattle.pawn_view.specs.Sheets.{PutsItem, book_sheet, day_lines, sheet_line}
-use Rattle.pawn_view.proofs.StatementLemmas.{shows_ended, some_same}
 
 -- to what a visitor holds, its items were handed as to a writer
 pub record LinesHanded {W : Type 0} (contents : W → Option (List ℕ)) (v : SheetLines W) (items : List SheetItem) (flow : Flow) (w : SheetLines W) : Type 0 where
@@ -30,17 +31,18 @@ lines_handed contents v w (item ∷ items) flow handed = elim handed [
 ]
 
 -- what was put of a day's lines
-pub day_put : {W : Type 0} (contents : W → Option (List ℕ)) (v w : SheetLines W) (given : List SheetItem) (flow : Flow) (end : End) (day : ℕ) (pledges : List PledgeValue)
-    → Handed (PutsItem contents) v given flow w → IsShare given flow end (day_sheet pledges day)
+pub day_put : {W : Type 0} (contents : W → Option (List ℕ)) (v w : SheetLines W) (given : List SheetItem) (flow : Flow) (end : End) (day : ℕ)
+    (pledges : List PledgeValue) → Handed (PutsItem contents) v given flow w → IsShare given flow end (day_sheet pledges day)
     → PutsShare contents v.writer.now (day_lines v.capacity day pledges) end w.writer.now
 day_put contents v w given flow end day pledges handed share =
-    lines_share contents (sheet_line v.capacity) v.writer.now w.writer.now given (day_sheet pledges day) flow end (lines_handed contents v w given flow handed).lines share
+    lines_share contents (sheet_line v.capacity) v.writer.now w.writer.now given (day_sheet pledges day) flow end
+    (lines_handed contents v w given flow handed).lines share
 
 -- the heading of a book's sheet, and then its lines, by what held the writer until then
-pub sheet_shows : {W : Type 0} (contents : W → Option (List ℕ)) (a b held w : Writing W) (day : ℕ) (o : Option BookValue) (head : BookHead) (done : Result (Unit {0}) KeepError) (answer : Result (Unit {0}) ViewFault)
-    → write_failed a ≡ false → answer ≡ ending_of done (write_failed w) → Some head ≡ option_map book_head o
-    → Puts contents a (day_line (codes "Day sheet ") day) b → PutsShare contents b (day_lines head.capacity day (pledges_of o)) (call_end done) held → w ≡ held
-    → Shows contents a (option_map (book_sheet day) o) answer w
+pub sheet_shows : {W : Type 0} (contents : W → Option (List ℕ)) (a b held w : Writing W) (day : ℕ) (o : Option BookValue) (head : BookHead)
+    (done : Result (Unit {0}) KeepError) (answer : Result (Unit {0}) ViewFault) → write_failed a ≡ false → answer ≡ ending_of done (write_failed w)
+    → Some head ≡ option_map book_head o → Puts contents a (day_line (codes "Day sheet ") day) b → PutsShare contents b
+    (day_lines head.capacity day (pledges_of o)) (call_end done) held → w ≡ held → Shows contents a (option_map (book_sheet day) o) answer w
 sheet_shows contents a b held w day None head done answer fine is at first share same = cc
 sheet_shows contents a b held w day (Some book) head done answer fine is at first share same =
     let above = day_line (codes "Day sheet ") day in

@@ -1,8 +1,11 @@
 -- A statement, put part by part.
-use Rattle.pawn_view.proofs.Basics.{◌≡◌, ◌∙◌, ℕ, Bool, true, false, List, ◌++◌, Option, Some, None, Result, Ok, Err, refl, sym, ap, subst, [], ◌∷◌, inl, inr, BriefFields, End, Flow, Front, Handed, IsShare, KeepError, Owing, PledgeValue, PutFront, Puts, PutsLine, PutsShare, ViewFault, Whole, Writing, Written, brief_of, brief_owing, brief_status, call_end, debt_of, due, end_of, ending_of, flat_map, max, option_map, owing_of, status_of, unwrap_or, write_failed, Shows, entry_line, extended_line, first_lines, open_or_last, shown_day, state_lines, state_on, statement_text, front-more, now_by, lines_share, share_all, share_puts, share_more, share_then, writings_in_turn}
-use Rattle.pawn_view.specs.declared.statements.StatementLines.{StatementLines}
-use Rattle.pawn_view.specs.Shown.{PutsElement}
-use Rattle.pawn_view.proofs.SoundLemmas.{IsTold}
+use Rattle.std.proofs.Common.{◌≡◌, ◌∙◌, ℕ, Bool, true, false, List, ◌++◌, Option, Some, None, Result, Ok, Err, refl, sym, ap, subst, [], ◌∷◌, inl, inr, max}
+use Rattle.{std.proofs.Common.{option_map, unwrap_or}, pawn_view.specs.Common.{BriefFields, End, Flow, Front, Handed, IsShare, KeepError, PledgeValue}}
+use Rattle.pawn_view.specs.Common.{PutFront, Puts, PutsLine, PutsShare, ViewFault, Whole, Writing, Written, brief_of, brief_owing, brief_status, call_end}
+use Rattle.pawn_view.specs.{Common.{debt_of, due, end_of, ending_of, flat_map, owing_of, status_of, write_failed}, Shown.{Shows, open_or_last, PutsElement}}
+use Rattle.pawn_view.specs.Text.{entry_line, extended_line, first_lines, shown_day, state_lines, state_on, statement_text}
+use Rattle.{pawn_view.{specs.declared.statements.StatementLines.StatementLines, proofs.SoundLemmas.IsTold}, pawn_debt.specs.declared.owing.Owing.Owing}
+use Rattle.pawn_writing.proofs.{PutLemmas.{front-more, now_by}, ShareLemmas.{lines_share, share_all, share_puts, share_more, share_then, writings_in_turn}}
 
 -- the lines of a brief above the extensions, and below them
 abbrev pub brief_first : BriefFields → List ℕ
@@ -22,15 +25,16 @@ state_of_brief : (p : PledgeValue) (b : BriefFields) (v day : ℕ) → b ≡ bri
     → brief_state b v ≡ state_on (shown_day p.standing.closing p.standing.last day) p
 state_of_brief p b v day is told v_is =
     let day_is : v ≡ shown_day p.standing.closing p.standing.last day = v_is ∙ ap (λ (x : BriefFields). brief_day x day) is ∙ told.day day in
-    let owed : brief_owing (brief_of p) v ≡ owing_of (due (debt_of p) v) = subst (λ (x : ℕ). brief_owing (brief_of p) x ≡ owing_of (due (debt_of p) x)) (sym day_is) (told.owing day) in
-    ap (λ (x : BriefFields). brief_state x v) is
-    ∙ ap (λ (o : Owing). state_lines (status_of p v) o p.standing) owed
-    ∙ ap (λ (x : ℕ). state_on x p) day_is
+    let owed : brief_owing (brief_of p) v ≡ owing_of (due (debt_of p) v) =
+    subst (λ (x : ℕ). brief_owing (brief_of p) x ≡ owing_of (due (debt_of p) x)) (sym day_is) (told.owing day) in
+    ap (λ (x : BriefFields). brief_state x v) is ∙ ap (λ (o : Owing). state_lines (status_of p v) o p.standing) owed ∙ ap (λ (x : ℕ). state_on x p) day_is
 
 -- to what a visitor holds, its elements were handed as to a writer
 elements_handed : {W T : Type 0} (contents : W → Option (List ℕ)) (line : T → List ℕ) (v w : StatementLines W) (xs : List T) (flow : Flow)
-    → Handed (PutsElement contents line) v xs flow w → Handed (PutsLine contents line) v.writer.now xs flow w.writer.now × (w.writer.ghost_name ≡ v.writer.ghost_name)
-elements_handed contents line v w [] flow (goes, same) = ((goes, ap (λ (x : StatementLines _). x.writer.now) same), sym (ap (λ (x : StatementLines _). x.writer.ghost_name) same))
+    → Handed (PutsElement contents line) v xs flow w
+    → Handed (PutsLine contents line) v.writer.now xs flow w.writer.now × (w.writer.ghost_name ≡ v.writer.ghost_name)
+elements_handed contents line v w [] flow (goes, same) =
+    ((goes, ap (λ (x : StatementLines _). x.writer.now) same), sym (ap (λ (x : StatementLines _). x.writer.ghost_name) same))
 elements_handed contents line v w (x ∷ xs) flow handed = elim handed [
   | inl (u, first, rest) ↦ let more = elements_handed contents line u w xs flow rest in (inl (u.writer.now, first.puts, more.0), more.1 ∙ first.same_writer)
   | inr (stops, none, last) ↦ (inr (stops, none, last.puts), last.same_writer)
@@ -41,20 +45,21 @@ pub elements_writer : {W T : Type 0} (contents : W → Option (List ℕ)) (line 
 elements_writer contents line v w xs flow handed = (elements_handed contents line v w xs flow handed).1
 
 -- what was put of the lines of a list of the pledge
-pub elements_put : {W T : Type 0} (contents : W → Option (List ℕ)) (line : T → List ℕ) (v w : StatementLines W) (items : Option PledgeValue → List T) (o : Option PledgeValue) (p : PledgeValue) (given : List T) (flow : Flow) (end : End)
-    → Handed (PutsElement contents line) v given flow w → o ≡ Some p → IsShare given flow end (items o) → PutsShare contents v.writer.now (flat_map line (items (Some p))) end w.writer.now
+pub elements_put : {W T : Type 0} (contents : W → Option (List ℕ)) (line : T → List ℕ) (v w : StatementLines W) (items : Option PledgeValue → List T)
+    (o : Option PledgeValue) (p : PledgeValue) (given : List T) (flow : Flow) (end : End) → Handed (PutsElement contents line) v given flow w → o ≡ Some p
+    → IsShare given flow end (items o) → PutsShare contents v.writer.now (flat_map line (items (Some p))) end w.writer.now
 elements_put contents line v w items o p given flow end handed is share =
     lines_share contents line v.writer.now w.writer.now given (items (Some p)) flow end (elements_handed contents line v w given flow handed).0
     (subst (λ (x : Option PledgeValue). IsShare given flow end (items x)) is share)
 
 -- a statement whose extensions were not all put
-pub statement_cut : {W : Type 0} (contents : W → Option (List ℕ)) (a b c : Writing W) (day : ℕ) (p : PledgeValue) (brief : BriefFields) → brief ≡ brief_of p → Puts contents a (brief_first brief) b
+pub statement_cut : {W : Type 0} (contents : W → Option (List ℕ)) (a b c : Writing W) (day : ℕ) (p : PledgeValue) (brief : BriefFields) → brief ≡ brief_of p
+    → Puts contents a (brief_first brief) b
     → PutsShare contents b (flat_map extended_line p.extensions) Front c → PutsShare contents a (statement_text day p) Front c
 statement_cut contents a b c day p brief is first extended =
     let rest = state_on (shown_day p.standing.closing p.standing.last day) p ++ flat_map entry_line p.entries in
     share_then {s = first_lines p.agreement (end_of p)} {t = flat_map extended_line p.extensions ++ rest} writings_in_turn
-    (share_puts writings_in_turn (subst (λ (t : List ℕ). Puts contents a t b) (first_of_brief p brief is) first))
-    (share_more writings_in_turn rest extended)
+    (share_puts writings_in_turn (subst (λ (t : List ℕ). Puts contents a t b) (first_of_brief p brief is) first)) (share_more writings_in_turn rest extended)
 
 -- a statement whose parts were all put
 pub statement_whole : {W : Type 0} (contents : W → Option (List ℕ)) (a b c d e : Writing W) (day v : ℕ) (p : PledgeValue) (brief : BriefFields) (end : End)
@@ -67,24 +72,25 @@ statement_whole contents a b c d e day v p brief end is told v_is first extensio
     let entries = flat_map entry_line p.entries in
     share_then {s = first_lines p.agreement (end_of p)} {t = extended ++ (on ++ entries)} writings_in_turn
     (share_puts writings_in_turn (subst (λ (t : List ℕ). Puts contents a t b) (first_of_brief p brief is) first))
-    (share_then {s = extended} {t = on ++ entries} writings_in_turn extensions
-    (share_then {s = on} {t = entries} writings_in_turn
+    (share_then {s = extended} {t = on ++ entries} writings_in_turn extensions (share_then {s = on} {t = entries} writings_in_turn
     (share_puts writings_in_turn (subst (λ (t : List ℕ). Puts contents c t d) (state_of_brief p brief v day is told v_is) state)) lines))
 
 -- ---- how a text ends
 
 -- a writer that failed was given a front of the text
-ended_failed : {W : Type 0} (contents : W → Option (List ℕ)) (a w : Writing W) (text : List ℕ) (end : End) → write_failed a ≡ false → write_failed w ≡ true → PutsShare contents a text end w → Written contents a text Front w
+ended_failed : {W : Type 0} (contents : W → Option (List ℕ)) (a w : Writing W) (text : List ℕ) (end : End) → write_failed a ≡ false → write_failed w ≡ true
+    → PutsShare contents a text end w → Written contents a text Front w
 ended_failed contents a w text end fine failed share =
     let front = now_by contents a w share.0 true failed (share.3.fine fine) in
     (subst (λ (t : List ℕ). PutFront contents a t w) share.2 (front-more contents a w share.0 share.1 front.0), failed)
 
-ended_whole : {W : Type 0} (contents : W → Option (List ℕ)) (a w : Writing W) (text : List ℕ) → write_failed a ≡ false → write_failed w ≡ false → PutsShare contents a text Whole w → Written contents a text Whole w
+ended_whole : {W : Type 0} (contents : W → Option (List ℕ)) (a w : Writing W) (text : List ℕ) → write_failed a ≡ false → write_failed w ≡ false
+    → PutsShare contents a text Whole w → Written contents a text Whole w
 ended_whole contents a w text fine going share =
     subst (λ (t : List ℕ). Written contents a t Whole w) (share_all share.2 (share.4 going refl)) (now_by contents a w share.0 false going (share.3.fine fine))
 
-ended_cut : {W : Type 0} (contents : W → Option (List ℕ)) (a w : Writing W) (text : List ℕ) (end : End) → write_failed a ≡ false → write_failed w ≡ false → PutsShare contents a text end w
-    → PutFront contents a text w × (write_failed w ≡ false)
+ended_cut : {W : Type 0} (contents : W → Option (List ℕ)) (a w : Writing W) (text : List ℕ) (end : End) → write_failed a ≡ false → write_failed w ≡ false
+    → PutsShare contents a text end w → PutFront contents a text w × (write_failed w ≡ false)
 ended_cut contents a w text end fine going share =
     let written = now_by contents a w share.0 false going (share.3.fine fine) in ((share.0, share.1, share.2, written.0), going)
 
@@ -96,7 +102,8 @@ shows_by contents a w text (Err KeepError.Memory) false fine now share = ended_c
 shows_by contents a w text (Err (KeepError.Store why)) false fine now share = ended_cut contents a w text Front fine now share
 
 -- the text was put, and the answer says how that ended
-pub shows_ended : {W : Type 0} (contents : W → Option (List ℕ)) (a w : Writing W) (text : List ℕ) (done : Result (Unit {0}) KeepError) (answer : Result (Unit {0}) ViewFault)
+pub shows_ended : {W : Type 0} (contents : W → Option (List ℕ)) (a w : Writing W) (text : List ℕ) (done : Result (Unit {0}) KeepError)
+    (answer : Result (Unit {0}) ViewFault)
     → write_failed a ≡ false → answer ≡ ending_of done (write_failed w) → PutsShare contents a text (call_end done) w → Shows contents a (Some text) answer w
 shows_ended contents a w text done answer fine is share =
     subst (λ (r : Result (Unit {0}) ViewFault). Shows contents a (Some text) r w) (sym is) (shows_by contents a w text done (write_failed w) fine refl share)
@@ -105,9 +112,9 @@ pub some_same : {A : Type 0} {a b : A} → Some a ≡ Some b → a ≡ b
 some_same {a = a} e = ap (λ (o : Option _). unwrap_or o a) e
 
 -- the same of the pledge that the brief is of
-pub statement_shows : {W : Type 0} (contents : W → Option (List ℕ)) (a w : Writing W) (day : ℕ) (o : Option PledgeValue) (brief : BriefFields) (done : Result (Unit {0}) KeepError) (answer : Result (Unit {0}) ViewFault)
-    → write_failed a ≡ false → answer ≡ ending_of done (write_failed w) → Some brief ≡ option_map brief_of o
-    → ((p : PledgeValue) → o ≡ Some p → brief ≡ brief_of p → PutsShare contents a (statement_text day p) (call_end done) w)
+pub statement_shows : {W : Type 0} (contents : W → Option (List ℕ)) (a w : Writing W) (day : ℕ) (o : Option PledgeValue) (brief : BriefFields)
+    (done : Result (Unit {0}) KeepError) (answer : Result (Unit {0}) ViewFault) → write_failed a ≡ false → answer ≡ ending_of done (write_failed w)
+    → Some brief ≡ option_map brief_of o → ((p : PledgeValue) → o ≡ Some p → brief ≡ brief_of p → PutsShare contents a (statement_text day p) (call_end done) w)
     → Shows contents a (option_map (statement_text day) o) answer w
 statement_shows contents a w day None brief done answer fine is at share = cc
 statement_shows contents a w day (Some p) brief done answer fine is at share =

@@ -4,4 +4,3 @@ pub mod Sheets
 pub mod Worked
 pub mod WorkedSheets
 pub mod Common
-pub mod Views

@@ -1,8 +1,7 @@
 -- The text of a day's sheet, and the visitor that writes it.
 use Rattle.std.specs.Prelude.{ℕ, List, ◌++◌, Option, ◌≡◌, codes, decimal, option_map}
-use Rattle.pawn_view.specs.Common.{Asked, AskedHead, BookValue, Confirmed, Ends, EndsHead, Flow, Host, PledgeValue, PutsLine, SheetItem, Window, day_sheet, flat_map, get}
-use Rattle.pawn_view.specs.declared.sheets.SheetLines.{SheetLines}
-use Rattle.pawn_view.specs.Text.{day_line, number_line}
+use Rattle.pawn_view.specs.Common.{Asked, AskedHead, BookValue, Confirmed, Ends, EndsHead, Flow, Host, PledgeValue, PutsLine, SheetItem, Window, day_sheet}
+use Rattle.pawn_view.specs.{Common.{flat_map, get}, declared.sheets.SheetLines.SheetLines, Text.{day_line, number_line}}
 
 -- a window's line: how many come, and how many may
 abbrev pub window_line : ℕ → ℕ → ℕ → List ℕ

@@ -1,7 +1,7 @@
 -- What a call that writes a text has written, and what it answers.
 use Rattle.std.specs.Prelude.{ℕ, false, max, List, [], Option, Some, None, Result, Ok, Err, ◌≡◌, map, option_map, unwrap_or, if◌then◌else◌}
-use Rattle.pawn_view.specs.Common.{Closing, Flow, Front, Host, Open, PledgeValue, PutFront, PutsLine, Receipt, Redeemed, Sold, ViewFault, Whole, Writing, Written, are_unknown, get, live_at, pledge_in, write_failed}
-use Rattle.pawn_view.specs.declared.statements.StatementLines.{StatementLines}
+use Rattle.pawn_view.specs.Common.{Closing, Flow, Front, Host, Open, PledgeValue, PutFront, PutsLine, Receipt, Redeemed, Sold, ViewFault, Whole, Writing}
+use Rattle.pawn_view.specs.{Common.{Written, are_unknown, get, live_at, pledge_in, write_failed}, declared.statements.StatementLines.StatementLines}
 use Rattle.pawn_view.specs.Text.{statement_text, presented_text}
 
 -- the day for which a statement is given, if a closed pledge's last change was its closing
@@ -40,6 +40,7 @@ Shows contents old text (Err ViewFault.Store) new = PutFront contents old (unwra
 Shows contents old text (Err ViewFault.Unknown) new = (text ≡ None) × (new ≡ old)
 
 -- a visitor that writes a line for each element to the writer that it borrows; the writer stays the same
-pub record PutsElement {W T : Type 0} (contents : W → Option (List ℕ)) (line : T → List ℕ) (v : StatementLines W) (x : T) (flow : Flow) (w : StatementLines W) : Type 0 where
+pub record PutsElement {W T : Type 0} (contents : W → Option (List ℕ)) (line : T → List ℕ) (v : StatementLines W) (x : T) (flow : Flow)
+    (w : StatementLines W) : Type 0 where
   pub puts : PutsLine contents line v.writer.now x flow w.writer.now
   pub same_writer : w.writer.ghost_name ≡ v.writer.ghost_name

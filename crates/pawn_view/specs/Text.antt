@@ -1,13 +1,8 @@
 -- The texts, line by line. Days are day numbers, amounts are pence.
 use Rattle.std.specs.Prelude.{ℕ, ◌/◌, ◌-◌, max, Bool, true, false, List, [], ◌∷◌, ◌++◌, Option, Some, None, codes, decimal}
-use Rattle.pawn_view.specs.Common.{Closing, Entry, Extension, Fixed, Open, Owing, PledgeValue, Redeemed, Running, Sold, day_text, debt_of, digit, due, end_of, flat_map, owing_of, status_of}
-use Rattle.pawn_debt.specs.declared.entry.Kind.{Kind}
-use Rattle.pawn_debt.specs.Words.{sort_text}
-use Rattle.pawn_pledge.specs.declared.record.Agreement.{Agreement}
-use Rattle.pawn_pledge.specs.declared.record.Standing.{Standing}
-use Rattle.pawn_pledge.specs.declared.record.Booking.{Booking}
-use Rattle.pawn_pledge.specs.Words.{state_text}
-use Rattle.pawn_pledge.specs.declared.record.Status.{Status}
+use Rattle.pawn_view.specs.Common.{Closing, Open, PledgeValue, Redeemed, Sold, day_text, debt_of, digit, due, end_of, flat_map, owing_of, status_of}
+use Rattle.pawn_debt.specs.{declared.{owing.Owing.Owing, entry.{Entry.Entry, Kind.{TheVariants.{Fixed, Running}, Kind}}}, Words.sort_text}
+use Rattle.pawn_pledge.specs.{declared.record.{Extension.Extension, Agreement.Agreement, Standing.Standing, Booking.Booking, Status.Status}, Words.state_text}
 
 -- pounds, a point and two digits of pence
 abbrev pub money : ℕ → List ℕ

@@ -1,10 +1,10 @@
 -- Examples of texts, worked out.
-use Rattle.std.specs.Prelude.{◌≡◌, false, true, [], ◌∷◌, Some, None, codes}
-use Rattle.pawn_view.specs.Common.{Command, Fixed, Open, PledgeValue, Redeemed, Running, Sold, after_telling, date, ring, ring_pledge}
-use Rattle.pawn_debt.specs.declared.entry.Sort.TheVariants.{Draw, Repay}
-use Rattle.pawn_terms.specs.Terms.{rates_of}
+use Rattle.std.specs.Prelude.{◌≡◌, false, true, [], ◌∷◌, Some, None, codes, List, ℕ, ◌++◌}
+use Rattle.pawn_view.specs.{Common.{Command, Open, PledgeValue, Redeemed, Sold, date}, Text.{money, date_text, kind_line, extended_line, held_line}}
+use Rattle.pawn_view.specs.Text.{booking_line, closing_line, entry_line, statement_text, presented_text}
+use Rattle.{pawn_debt.specs.declared.entry.{Kind.TheVariants.{Fixed, Running}, Sort.TheVariants.{Draw, Repay}}, pawn_pledge.specs.Worked.{after_telling, ring}}
+use Rattle.{pawn_pledge.specs.Worked.ring_pledge, pawn_terms.specs.Terms.rates_of}
 use Rattle.pawn_pledge.specs.declared.record.BookingState.TheVariants as state
-use Rattle.pawn_view.specs.Text.{money, date_text, kind_line, extended_line, held_line, booking_line, closing_line, entry_line, statement_text, presented_text}
 
 -- pounds, and two digits of pence
 abbrev pub WorkedAmounts : Type 0
@@ -54,34 +54,41 @@ WorkedClosings =
 abbrev pub ring_at_interest : PledgeValue
 ring_at_interest = ring_pledge (Fixed 10000) false None (rates_of 2667 0 0)
 
+-- how each statement of the ring for 100 pounds begins
+abbrev pub begun : List ℕ
+begun = codes "Pledge 1\nArticle Gold ring\nKind fixed 100.00\nTaken 2024-01-31\nEnds 2024-07-31\nStatus "
+
+-- the statement of the ring for 75 pounds, once it has passed to the broker
+abbrev pub passed : List ℕ
+passed = codes "Pledge 1\nArticle Gold ring\nKind fixed 75.00\nTaken 2024-01-31\nEnds 2024-07-31\nStatus passed\nHeld no\nBooking none\n"
+
 -- statements from the day taken on; without amounts once the ring has passed to the broker
 abbrev pub WorkedStatements : Type 0
 WorkedStatements =
-    let inside = codes "Pledge 1\nArticle Gold ring\nKind fixed 100.00\nTaken 2024-01-31\nEnds 2024-07-31\nStatus inside\nPrincipal 100.00\nCharges 0.00\nOwing 100.00\nHeld no\nBooking none\n" in
+    let inside = begun ++ codes "inside\nPrincipal 100.00\nCharges 0.00\nOwing 100.00\nHeld no\nBooking none\n" in
     (statement_text (date 2024 1 31) (ring 10000) ≡ inside)
     × (statement_text (date 2020 2 29) (ring 10000) ≡ inside)
-    × (statement_text (date 2024 8 1) (ring 7500)
-    ≡ codes "Pledge 1\nArticle Gold ring\nKind fixed 75.00\nTaken 2024-01-31\nEnds 2024-07-31\nStatus passed\nHeld no\nBooking none\n")
+    × (statement_text (date 2024 8 1) (ring 7500) ≡ passed)
 
 -- statements of a ring at interest: ten pounds are repaid after thirty days, of which eight pay what is charged
 abbrev pub WorkedCharges : Type 0
 WorkedCharges =
     (statement_text (date 2024 3 1) ring_at_interest
-    ≡ codes "Pledge 1\nArticle Gold ring\nKind fixed 100.00\nTaken 2024-01-31\nEnds 2024-07-31\nStatus inside\nPrincipal 100.00\nCharges 8.00\nOwing 108.00\nHeld no\nBooking none\n")
+    ≡ begun ++ codes "inside\nPrincipal 100.00\nCharges 8.00\nOwing 108.00\nHeld no\nBooking none\n")
     × (statement_text (date 2024 3 1) (after_telling ring_at_interest (date 2024 3 1) (Command.Repay 1 1000))
-    ≡ codes "Pledge 1\nArticle Gold ring\nKind fixed 100.00\nTaken 2024-01-31\nEnds 2024-07-31\nStatus inside\nPrincipal 98.00\nCharges 0.00\nOwing 98.00\nHeld no\nBooking none\nEntry 1 2024-03-01 repay 10.00\n")
+    ≡ begun ++ codes "inside\nPrincipal 98.00\nCharges 0.00\nOwing 98.00\nHeld no\nBooking none\nEntry 1 2024-03-01 repay 10.00\n")
 
 -- statements of a ring that was redeemed or sold, on any later day
 abbrev pub WorkedEndings : Type 0
 WorkedEndings =
     (statement_text (date 2025 1 1) (after_telling (ring 10000) (date 2024 8 1) (Command.Redeem 10000))
-    ≡ codes "Pledge 1\nArticle Gold ring\nKind fixed 100.00\nTaken 2024-01-31\nEnds 2024-07-31\nStatus redeemed\nPrincipal 100.00\nCharges 0.00\nOwing 100.00\nHeld no\nBooking none\nRedeemed 2024-08-01 paid 100.00\n")
+    ≡ begun ++ codes "redeemed\nPrincipal 100.00\nCharges 0.00\nOwing 100.00\nHeld no\nBooking none\nRedeemed 2024-08-01 paid 100.00\n")
     × (statement_text (date 2025 1 1) (after_telling (ring 10000) (date 2024 8 1) (Command.Sell 12345))
-    ≡ codes "Pledge 1\nArticle Gold ring\nKind fixed 100.00\nTaken 2024-01-31\nEnds 2024-07-31\nStatus sold\nPrincipal 100.00\nCharges 0.00\nOwing 100.00\nHeld no\nBooking none\nSold 2024-08-01 net 123.45 surplus 23.45 shortfall 0.00\n")
+    ≡ begun ++ codes "sold\nPrincipal 100.00\nCharges 0.00\nOwing 100.00\nHeld no\nBooking none\nSold 2024-08-01 net 123.45 surplus 23.45 shortfall 0.00\n")
 
 -- receipts: the line of an unknown one, and a blank line between two
 abbrev pub WorkedPresented : Type 0
 WorkedPresented =
     (presented_text (date 2024 8 1) (None ∷ Some (ring 7500) ∷ None ∷ [])
-    ≡ codes "Unknown receipt\n\nPledge 1\nArticle Gold ring\nKind fixed 75.00\nTaken 2024-01-31\nEnds 2024-07-31\nStatus passed\nHeld no\nBooking none\n\nUnknown receipt\n")
+    ≡ codes "Unknown receipt\n\n" ++ passed ++ codes "\nUnknown receipt\n")
     × (presented_text (date 2024 8 1) (None ∷ []) ≡ codes "Unknown receipt\n")

@@ -1,9 +1,8 @@
 -- Examples of day's sheets, worked out.
 use Rattle.std.specs.Prelude.{◌≡◌, ℕ, [], ◌∷◌, codes}
-use Rattle.pawn_view.specs.Common.{Asked, AskedHead, Command, Confirmed, Ends, EndsHead, PledgeValue, Window, after_telling, date, day_sheet, ring, ring_extended, status_of}
-use Rattle.pawn_pledge.specs.declared.command.Decision.TheVariants.{Confirm}
+use Rattle.pawn_view.specs.{Common.{Asked, AskedHead, Command, Confirmed, Ends, EndsHead, PledgeValue, Window, date, day_sheet, status_of}, Sheets.sheet_line}
+use Rattle.{pawn_view.specs.Sheets.sheet_text, pawn_pledge.specs.{Worked.{after_telling, ring, ring_extended}, declared.command.Decision.TheVariants.Confirm}}
 use Rattle.pawn_pledge.specs.declared.record.Status.TheVariants.{Passed}
-use Rattle.pawn_view.specs.Sheets.{sheet_line, sheet_text}
 
 -- a pledge as it stands, under another number
 abbrev pub numbered : ℕ → PledgeValue → PledgeValue
@@ -37,7 +36,8 @@ WorkedSheets =
 -- windows come in order, and in each window its pledges in order of number
 abbrev pub WorkedWindows : Type 0
 WorkedWindows =
-    day_sheet (confirmed_for 15 ∷ numbered 2 (confirmed_for 0) ∷ numbered 3 (confirmed_for 15) ∷ numbered 4 (asked_for 15) ∷ numbered 5 (asked_for 0) ∷ []) (date 2024 3 4)
+    day_sheet (confirmed_for 15 ∷ numbered 2 (confirmed_for 0) ∷ numbered 3 (confirmed_for 15) ∷ numbered 4 (asked_for 15) ∷ numbered 5 (asked_for 0) ∷ [])
+    (date 2024 3 4)
     ≡ Window 0 1 ∷ Confirmed 2 ∷ Window 15 2 ∷ Confirmed 1 ∷ Confirmed 3 ∷ AskedHead 2 ∷ Asked 4 15 ∷ Asked 5 0 ∷ EndsHead 0 ∷ []
 
 -- pledges whose period ends on the day: a ring that then passes, and one that was extended, at its later end only; none

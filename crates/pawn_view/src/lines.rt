@@ -2,8 +2,8 @@
 //!
 //! Each writes its line, and takes no memory.
 ghost use Rattle.std.specs.Prelude.{◌≡◌, ◌++◌, codes};
-ghost use Rattle.pawn_writing.specs.Ends.{Puts};
-ghost use Rattle.pawn_view.specs.Text.{text_line, number_line, day_line, amount_line, kind_line, extended_line, status_line, owed_lines, held_line, booking_line, redeemed_line, sold_line, closing_line, entry_line, date_text};
+ghost use Rattle.{pawn_writing.specs.Ends.Puts, pawn_view.specs.Text.{text_line, number_line, day_line, amount_line, kind_line, extended_line, status_line}};
+ghost use Rattle.pawn_view.specs.Text.{owed_lines, held_line, booking_line, redeemed_line, sold_line, closing_line, entry_line, date_text};
 
 use crate::money::pence_text;
 use itoa::Buffer;

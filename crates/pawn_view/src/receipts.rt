@@ -1,7 +1,8 @@
 //! The statements of the receipts that a bearer presents.
 ghost use Rattle.std.specs.Prelude.{◌≡◌, ◌++◌, ◌∷◌, false, true, not, option_map, Some, None, IfOk, IsErrOf};
-ghost use Rattle.pawn_view.specs.Common.{IsQuietView, IsSound, IsSteady, PledgeValue, PutsShare, Reads, are_unknown, brief_of, call_end, get, live_at, pledge_in, write_failed};
-ghost use Rattle.pawn_view.specs.Views.{Shows, further_texts, live_pledges, pledge_at, presentation_of, shown_of, shown_text, statement_text};
+ghost use Rattle.pawn_view.specs.Common.{IsQuietView, IsSound, IsSteady, PledgeValue, PutsShare, Reads, are_unknown, brief_of, call_end, get, live_at};
+ghost use Rattle.pawn_view.specs.{Common.{pledge_in, write_failed}, Shown.{Shows, live_pledges, pledge_at, presentation_of, shown_of}, Text.further_texts};
+ghost use Rattle.pawn_view.specs.Text.{shown_text, statement_text};
 
 use crate::statements::{ending, put_statement};
 use pawn_book::{Brief, Day, Keep, KeepError, Number, Receipt};
@@ -17,8 +18,7 @@ fn live_brief<K: Keep>(
     receipt: &Receipt,
 ) -> Result<Option<Brief>, KeepError>
     ensures reads { Reads K.keeping keep.old keep.new
-        (λ h. IfOk result (λ brief. brief
-        ≡ option_map brief_of (live_at (pledge_in (get h.books book)) receipt.now))) }
+        (λ h. IfOk result (λ brief. brief ≡ option_map brief_of (live_at (pledge_in (get h.books book)) receipt.now))) }
     ensures steady { IsSteady K.keeping keep.old result }
 {
     match keep.brief(book, receipt.number)? {
@@ -29,8 +29,7 @@ fn live_brief<K: Keep>(
 
 // Whether one of the receipts is live.
 fn is_any_live<K: Keep>(keep: &mut K, book: Number, receipts: &[Receipt]) -> Result<bool, KeepError>
-    ensures reads { Reads K.keeping keep.old keep.new
-        (λ h. IfOk result (λ live. live ≡ not (are_unknown (live_pledges h book receipts.now)))) }
+    ensures reads { Reads K.keeping keep.old keep.new (λ h. IfOk result (λ live. live ≡ not (are_unknown (live_pledges h book receipts.now)))) }
     ensures steady { IsSteady K.keeping keep.old result }
 {
     for receipt in receipts {
@@ -51,10 +50,7 @@ fn put_shown<K: Keep, W: Write>(
     writer: &mut Writing<W>,
 ) -> Result<(), KeepError>
     ensures shares { Reads K.keeping keep.old keep.new
-        (λ h. IsSound h
-        → PutsShare W.contents writer.old
-        (shown_text day (live_at (pledge_in (get h.books book)) receipt.now))
-        (call_end result) writer.new) }
+        (λ h. IsSound h → PutsShare W.contents writer.old (shown_text day (live_at (pledge_in (get h.books book)) receipt.now)) (call_end result) writer.new) }
     ensures steady { IsSteady K.keeping keep.old result }
 {
     match live_brief(keep, book, receipt) {
@@ -76,9 +72,7 @@ fn put_further<K: Keep, W: Write>(
     writer: &mut Writing<W>,
 ) -> Result<(), KeepError>
     ensures shares { Reads K.keeping keep.old keep.new
-        (λ h. IsSound h
-        → PutsShare W.contents writer.old (further_texts day (live_pledges h book receipts.now))
-        (call_end result) writer.new) }
+        (λ h. IsSound h → PutsShare W.contents writer.old (further_texts day (live_pledges h book receipts.now)) (call_end result) writer.new) }
     ensures steady { IsSteady K.keeping keep.old result }
 {
     for receipt in receipts {
@@ -98,12 +92,8 @@ fn put_from<K: Keep, W: Write>(
     day: Day,
     writer: &mut Writing<W>,
 ) -> Result<(), KeepError>
-    ensures shares { Reads K.keeping keep.old keep.new
-        (λ h. IsSound h → (p : PledgeValue) → pledge_at h book number ≡ Some p
-        → brief.now ≡ brief_of p
-        → PutsShare W.contents writer.old
-        (statement_text day p ++ further_texts day (live_pledges h book receipts.now))
-        (call_end result) writer.new) }
+    ensures shares { Reads K.keeping keep.old keep.new (λ h. IsSound h → (p : PledgeValue) → pledge_at h book number ≡ Some p → brief.now ≡ brief_of p
+        → PutsShare W.contents writer.old (statement_text day p ++ further_texts day (live_pledges h book receipts.now)) (call_end result) writer.new) }
     ensures steady { IsSteady K.keeping keep.old result }
 {
     put_statement(keep, book, number, brief, day, writer)?;
@@ -121,9 +111,7 @@ fn show_others<K: Keep, W: Write>(
 ) -> Result<(), ViewFault>
     requires fine { write_failed writer.old ≡ false }
     ensures shows { Reads K.keeping keep.old keep.new
-        (λ h. IsSound h
-        → Shows W.contents writer.old
-        (shown_of day (None ∷ live_pledges h book receipts.now)) result writer.new) }
+        (λ h. IsSound h → Shows W.contents writer.old (shown_of day (None ∷ live_pledges h book receipts.now)) result writer.new) }
     ensures write { IsErrOf result ViewFault.Write → write_failed writer.new ≡ true }
     ensures steady { IsQuietView K.keeping keep.old result }
 {
@@ -151,8 +139,7 @@ pub fn show_presented<K: Keep, W: Write>(
 ) -> Result<(), ViewFault>
     requires fine { write_failed writer.old ≡ false }
     ensures shows { Reads K.keeping keep.old keep.new
-        (λ h. IsSound h
-        → Shows W.contents writer.old (presentation_of h book receipts.now day) result writer.new) }
+        (λ h. IsSound h → Shows W.contents writer.old (presentation_of h book receipts.now day) result writer.new) }
     ensures write { IsErrOf result ViewFault.Write → write_failed writer.new ≡ true }
     ensures steady { IsQuietView K.keeping keep.old result }
 {

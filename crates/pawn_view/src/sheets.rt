@@ -1,9 +1,7 @@
 //! The sheet of a book's day.
 ghost use Rattle.std.specs.Prelude.{◌≡◌, false, true, IsErrOf};
-ghost use Rattle.pawn_view.specs.Common.{IsQuietView, IsSteady, Puts, PutsShare, Reads, call_end, get, pledges_of, write_failed};
-ghost use Rattle.pawn_view.specs.Sheets.{PutsItem, asked_sheet_line, day_lines, sheet_line, sheet_of, window_line};
-ghost use Rattle.pawn_view.specs.Shown.{Shows};
-ghost use Rattle.pawn_view.specs.Text.{number_line};
+ghost use Rattle.pawn_view.specs.{Common.{IsQuietView, IsSteady, Puts, PutsShare, Reads, call_end, get, pledges_of, write_failed}, Sheets.PutsItem};
+ghost use Rattle.pawn_view.specs.{Sheets.{asked_sheet_line, day_lines, sheet_line, sheet_of, window_line}, Shown.Shows, Text.number_line};
 
 use crate::lines::{put_day, put_number};
 use crate::statements::ending;
@@ -89,10 +87,8 @@ impl<'a, W: Write> Visitor<SheetItem> for SheetLines<'a, W> {
 impl<'a, W: Write> SheetLines<'a, W> {
     // Writes the lines of a day's sheet below its heading.
     fn put_day<K: Keep>(&mut self, keep: &mut K, book: Number, day: Day) -> Result<(), KeepError>
-        ensures shares { Reads K.keeping keep.old keep.new (λ h.
-            PutsShare W.contents self.old.writer.now
-            (day_lines self.old.capacity day (pledges_of (get h.books book)))
-            (call_end result) self.new.writer.now) }
+        ensures shares { Reads K.keeping keep.old keep.new (λ h. PutsShare W.contents self.old.writer.now
+            (day_lines self.old.capacity day (pledges_of (get h.books book))) (call_end result) self.new.writer.now) }
         ensures same_writer { self.new.writer.ghost_name ≡ self.old.writer.ghost_name }
         ensures steady { IsSteady K.keeping keep.old result }
     {
@@ -112,8 +108,7 @@ pub fn show_day_sheet<K: Keep, W: Write>(
     writer: &mut Writing<W>,
 ) -> Result<(), ViewFault>
     requires fine { write_failed writer.old ≡ false }
-    ensures shows { Reads K.keeping keep.old keep.new
-        (λ h. Shows W.contents writer.old (sheet_of h book day) result writer.new) }
+    ensures shows { Reads K.keeping keep.old keep.new (λ h. Shows W.contents writer.old (sheet_of h book day) result writer.new) }
     ensures write { IsErrOf result ViewFault.Write → write_failed writer.new ≡ true }
     ensures steady { IsQuietView K.keeping keep.old result }
 {

@@ -1,7 +1,7 @@
 //! The statement of a pledge.
 ghost use Rattle.std.specs.Prelude.{◌≡◌, ◌≤◌, false, true, Some, max, IsErrOf};
-ghost use Rattle.pawn_view.specs.Common.{IsQuietView, IsSound, IsSteady, PledgeValue, Puts, PutsShare, Reads, brief_of, brief_owing, brief_status, call_end, ending_of, write_failed};
-ghost use Rattle.pawn_view.specs.Text.{first_lines, state_lines, statement_text, extended_line, entry_line};
+ghost use Rattle.pawn_view.specs.Common.{IsQuietView, IsSound, IsSteady, PledgeValue, Puts, PutsShare, Reads, brief_of, brief_owing, brief_status, call_end};
+ghost use Rattle.pawn_view.specs.{Common.{ending_of, write_failed}, Text.{first_lines, state_lines, statement_text, extended_line, entry_line}};
 ghost use Rattle.pawn_view.specs.Shown.{PutsElement, Shows, pledge_at, statement_of, open_or_last};
 
 use crate::lines::{
@@ -38,8 +38,7 @@ impl<'a, W: Write> Visitor<Extension> for StatementLines<'a, W> {
 
 // Writes the lines above the extensions: the number, the article, the kind, the day taken and the end of the period.
 fn put_first<W: Write>(writer: &mut Writing<W>, brief: &Brief)
-    ensures puts { Puts W.contents writer.old
-        (first_lines brief.now.agreement brief.now.ends) writer.new }
+    ensures puts { Puts W.contents writer.old (first_lines brief.now.agreement brief.now.ends) writer.new }
 {
     let fields = brief.fields();
     let agreement = &fields.agreement;
@@ -53,9 +52,7 @@ fn put_first<W: Write>(writer: &mut Writing<W>, brief: &Brief)
 // Writes the lines between the extensions and the entries: how the pledge stands on the day.
 fn put_state<W: Write>(writer: &mut Writing<W>, brief: &Brief, day: Day)
     requires later { brief.now.totals.day ≤ day }
-    ensures puts { Puts W.contents writer.old
-        (state_lines (brief_status brief.now day)
-        (brief_owing brief.now day) brief.now.standing) writer.new }
+    ensures puts { Puts W.contents writer.old (state_lines (brief_status brief.now day) (brief_owing brief.now day) brief.now.standing) writer.new }
 {
     let status = brief.status(day);
     let owing = brief.owing(day);
@@ -70,8 +67,7 @@ fn put_state<W: Write>(writer: &mut Writing<W>, brief: &Brief, day: Day)
 // The day for which the statement is given. It is never before the day of the last entry, since what was owed earlier
 // is not in the brief.
 fn shown_day(brief: &Brief, day: Day) -> Day
-    ensures answer { result ≡ max
-        (open_or_last brief.now.standing.closing brief.now.standing.last day) brief.now.totals.day }
+    ensures answer { result ≡ max (open_or_last brief.now.standing.closing brief.now.standing.last day) brief.now.totals.day }
 {
     let fields = brief.fields();
     let shown = match fields.standing.closing {
@@ -90,9 +86,7 @@ pub(crate) fn put_statement<K: Keep, W: Write>(
     day: Day,
     writer: &mut Writing<W>,
 ) -> Result<(), KeepError>
-    ensures shares { Reads K.keeping keep.old keep.new
-        (λ h. IsSound h → (p : PledgeValue) → pledge_at h book number ≡ Some p
-        → brief.now ≡ brief_of p
+    ensures shares { Reads K.keeping keep.old keep.new (λ h. IsSound h → (p : PledgeValue) → pledge_at h book number ≡ Some p → brief.now ≡ brief_of p
         → PutsShare W.contents writer.old (statement_text day p) (call_end result) writer.new) }
     ensures steady { IsSteady K.keeping keep.old result }
 {
@@ -115,9 +109,7 @@ pub fn show_statement<K: Keep, W: Write>(
     writer: &mut Writing<W>,
 ) -> Result<(), ViewFault>
     requires fine { write_failed writer.old ≡ false }
-    ensures shows { Reads K.keeping keep.old keep.new
-        (λ h. IsSound h
-        → Shows W.contents writer.old (statement_of h book number day) result writer.new) }
+    ensures shows { Reads K.keeping keep.old keep.new (λ h. IsSound h → Shows W.contents writer.old (statement_of h book number day) result writer.new) }
     ensures write { IsErrOf result ViewFault.Write → write_failed writer.new ≡ true }
     ensures steady { IsQuietView K.keeping keep.old result }
 {

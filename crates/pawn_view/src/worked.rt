@@ -1,5 +1,5 @@
-ghost use Rattle.pawn_view.specs.Worked.{WorkedAmounts, WorkedDays, WorkedLines, WorkedBookings, WorkedClosings, WorkedStatements, WorkedCharges, WorkedEndings, WorkedPresented};
-ghost use Rattle.pawn_view.specs.WorkedSheets.{WorkedSheetLines, WorkedSheets, WorkedWindows, WorkedSheetEnds};
+ghost use Rattle.pawn_view.specs.Worked.{WorkedAmounts, WorkedDays, WorkedLines, WorkedBookings, WorkedClosings, WorkedStatements, WorkedCharges};
+ghost use Rattle.pawn_view.specs.{Worked.{WorkedEndings, WorkedPresented}, WorkedSheets.{WorkedSheetLines, WorkedSheets, WorkedWindows, WorkedSheetEnds}};
 
 /// Examples of amounts and days as text.
 pub fn worked_words()

@@ -1,7 +1,8 @@
 -- Texts that JSON writes as they are.
-use Rattle.pawn_wire.proofs.Basics.{◌≡◌, ℕ, List, [], ◌∷◌, ◌++◌, refl, ap, ◌∙◌, arith, sym, append_assoc, Option, Some, None, IsTrue, ◌&&◌, nat_le, not, ◌==◌, codes, decimal, common_steps, serde_json_on_literals, compact_text, escape, escape_byte, no_members, object, Row, Total, is_unescaped, number_member, opened_text, refusal_members, refusal_text, text_member}
-use Rattle.pawn_wire.specs.Types.{Detail}
-use Rattle.pawn_wire.proofs.DigitLemmas.{both_true}
+use Rattle.std.proofs.Common.{◌≡◌, ℕ, List, [], ◌∷◌, ◌++◌, refl, ap, ◌∙◌, arith, sym, append_assoc, Option, Some, None, IsTrue, ◌&&◌, nat_le, not, ◌==◌, codes}
+use Rattle.{std.proofs.{Common.decimal, lemmas.Grind.common_steps}, serde_json.proofs.OnLiterals.serde_json_on_literals, pawn_wire.specs.Common.compact_text}
+use Rattle.pawn_wire.specs.{Common.{no_members, object}, Types.{Row, Total, Detail}, Laws.{is_unescaped, number_member, refusal_members, text_member}}
+use Rattle.{pawn_wire.{specs.Bodies.{opened_text, refusal_text}, proofs.DigitLemmas.both_true}, json.specs.Print.{escape, escape_byte}}
 
 escape_plain_byte : (b : ℕ) → IsTrue (nat_le 32 b && not (b == 34) && not (b == 92)) → escape_byte b ≡ b ∷ []
 unfolding escape_byte
@@ -27,9 +28,8 @@ opened_text-json number receipt h =
 pub refusal_text-json : (code : ℕ) (name : List ℕ) (detail : Option Detail) → IsTrue (is_unescaped name)
     → refusal_text code name detail ≡ compact_text (object (refusal_members code name detail))
 unfolding serde_json_on_literals
-refusal_text-json code name None h =
-    ap (λ (t : List ℕ). codes "{\"code\":" ++ (decimal code ++ (codes ",\"name\":\"" ++ t))) (quoted name (codes "}") h)
-refusal_text-json code name (Some (Total total)) h =
-    ap (λ (t : List ℕ). codes "{\"code\":" ++ (decimal code ++ (codes ",\"name\":\"" ++ t))) (quoted name (codes ",\"total\":" ++ (decimal total ++ codes "}")) h)
+refusal_text-json code name None h = ap (λ (t : List ℕ). codes "{\"code\":" ++ (decimal code ++ (codes ",\"name\":\"" ++ t))) (quoted name (codes "}") h)
+refusal_text-json code name (Some (Total total)) h = ap (λ (t : List ℕ). codes "{\"code\":" ++ (decimal code ++ (codes ",\"name\":\"" ++ t)))
+    (quoted name (codes ",\"total\":" ++ (decimal total ++ codes "}")) h)
 refusal_text-json code name (Some (Row row)) h =
     ap (λ (t : List ℕ). codes "{\"code\":" ++ (decimal code ++ (codes ",\"name\":\"" ++ t))) (quoted name (codes ",\"row\":" ++ (decimal row ++ codes "}")) h)

@@ -1,7 +1,8 @@
 -- On short numerals.
-use Rattle.pawn_wire.proofs.Basics.{◌≡◌, ℕ, zero, suc, ◌+◌, ◌*◌, ◌-◌, ◌^◌, ◌<◌, ◌≤◌, List, [], ◌∷◌, length, take, get_or, refl, arith, Bool, true, false, length-take, lit<, IsTrue, ◌&&◌, nat_lt, nat_le, AllDigits, digit_value, digits_value, is_ascii_digit, list_all, common_steps, digit_at, digits_value-lt, digits_value_push, pow-le-pow_right, take_more}
-use Rattle.pawn_wire.specs.Numeral.{is_short_numeral}
-use Rattle.pawn_wire.specs.Limits.{max_digits}
+use Rattle.std.proofs.Common.{◌≡◌, ℕ, zero, suc, ◌+◌, ◌*◌, ◌-◌, ◌^◌, ◌<◌, ◌≤◌, List, [], ◌∷◌, length, take, get_or, refl, arith, Bool, true, false, length-take}
+use Rattle.std.proofs.{Common.{lit<, IsTrue, ◌&&◌, nat_lt, nat_le}, lemmas.{Grind.common_steps, Str.Parse.digit_at, Int.Digits.digits_value-lt}}
+use Rattle.{std.proofs.{lemmas.{Int.Digits.digits_value_push, List.take_more}, Math.Nat.pow-le-pow_right}, pawn_wire.specs.Common.{AllDigits, digit_value}}
+use Rattle.pawn_wire.specs.{Common.{digits_value, is_ascii_digit, list_all}, Numeral.is_short_numeral, Limits.max_digits}
 
 pub digit_small : (c : ℕ) → IsTrue (is_ascii_digit c) → (digit_value c ≡ c - 48) × (48 ≤ c) × (c < 58)
 digit_small c h = grind (arith, common_steps)

@@ -1,5 +1,9 @@
 -- On heads: what the first bytes of a stream say of the whole stream.
-use Rattle.pawn_wire.proofs.Basics.{◌≡◌, ℕ, ◌+◌, ◌-◌, ◌≤◌, List, ◌++◌, length, map, take, drop, sym, ap, ◌∙◌, arith, append_assoc, length-append, length-take, Result, Bool, ReadsRequest-append, length-map, take-append-add, take-append-drop, take-append-le, AreFieldsAt, HasNoRequest, HeaderSpan, IsRequestAt, ReadsRequest, RequestHead, RequestOverflows, RequestSpans, header_bytes, print_request, HeadFault, NeverHasHead, ReadsHead, body_length, closes_by, fields_of, max_fields, max_head}
+use Rattle.std.proofs.Common.{◌≡◌, ℕ, ◌+◌, ◌-◌, ◌≤◌, List, ◌++◌, length, map, take, drop, sym, ap, ◌∙◌, arith, append_assoc, length-append, length-take, Result}
+use Rattle.std.proofs.{Common.{Bool, take-append-drop}, lemmas.List.{length-map, take-append-le}, Math.Seq.take-append-add}
+use Rattle.httparse.{proofs.GrammarLemmas.ReadsRequest-append, specs.Grammar.{HasNoRequest, ReadsRequest, RequestHead, print_request}}
+use Rattle.pawn_wire.specs.{Common.{AreFieldsAt, HeaderSpan, IsRequestAt, RequestOverflows, RequestSpans, header_bytes}, Types.HeadFault, Head.NeverHasHead}
+use Rattle.pawn_wire.specs.{Head.{ReadsHead, body_length, closes_by, fields_of}, Limits.{max_fields, max_head}}
 
 -- what follows the front is no part of the head
 pub reads_on : (s : List ℕ) (n : ℕ) (h : RequestHead) (rest : List ℕ) → ReadsRequest (take n s) h rest → ReadsRequest s h (rest ++ drop n s)
@@ -10,26 +14,23 @@ reads_on s n h rest r =
 -- no head of so few fields can follow the front
 pub overflows_on : (s : List ℕ) (n : ℕ) → RequestOverflows max_fields (take n s) → RequestOverflows max_fields s
 overflows_on s n over more h rest r =
-    let whole : s ++ more ≡ take n s ++ (drop n s ++ more) = sym (sym (append_assoc (take n s) (drop n s) more) ∙ ap (λ xs. xs ++ more) (take-append-drop n s)) in
+    let whole : s ++ more ≡ take n s ++ (drop n s ++ more) =
+    sym (sym (append_assoc (take n s) (drop n s) more) ∙ ap (λ xs. xs ++ more) (take-append-drop n s)) in
     over (drop n s ++ more) h rest (rw whole at r)
 
 -- a full front without a head
 pub never_by_length : (s : List ℕ) → max_head ≤ length s → HasNoRequest (take max_head s) → NeverHasHead s
-never_by_length s long none more h rest r =
-    none h (take (max_head - length (print_request h)) rest) (r.0.0, front)
-  where
-    split : max_head ≡ length (print_request h) + (max_head - length (print_request h))
-    split = let small = r.2 in omega arith
+never_by_length s long none more h rest r = none h (take (max_head - length (print_request h)) rest) (r.0.0, front) where
+  split : max_head ≡ length (print_request h) + (max_head - length (print_request h))
+  split = let small = r.2 in omega arith
 
-    front : take max_head s ≡ print_request h ++ take (max_head - length (print_request h)) rest
-    front =
-        sym (take-append-le max_head s more long)
-        ∙ ap (take max_head) r.0.1
-        ∙ ap (λ n. take n (print_request h ++ rest)) split
-        ∙ take-append-add (print_request h) rest (max_head - length (print_request h))
+  front : take max_head s ≡ print_request h ++ take (max_head - length (print_request h)) rest
+  front = sym (take-append-le max_head s more long) ∙ ap (take max_head) r.0.1 ∙ ap (λ n. take n (print_request h ++ rest)) split
+      ∙ take-append-add (print_request h) rest (max_head - length (print_request h))
 
 -- the head has as many fields as spans
-pub fields_fit : (buf : List ℕ) (spans : List HeaderSpan) (n : ℕ) (h : RequestHead) → AreFieldsAt buf spans n h.fields → n ≤ max_fields → length h.fields ≤ max_fields
+pub fields_fit : (buf : List ℕ) (spans : List HeaderSpan) (n : ℕ) (h : RequestHead) → AreFieldsAt buf spans n h.fields → n ≤ max_fields
+    → length h.fields ≤ max_fields
 fields_fit buf spans n h same le =
     let e = ap length same in
     let f = simp length-map at e in
@@ -38,8 +39,7 @@ fields_fit buf spans n h same le =
 
 -- a head of the front is one of the stream
 pub whole_head : (s : List ℕ) (n : ℕ) (headers : List HeaderSpan) (r : RequestSpans) (h : RequestHead)
-    → IsRequestAt (take n s) headers r h → n ≤ max_head → r.headers ≤ max_fields
-    → ReadsHead s h (drop r.len (take n s) ++ drop n s)
+    → IsRequestAt (take n s) headers r h → n ≤ max_head → r.headers ≤ max_fields → ReadsHead s h (drop r.len (take n s) ++ drop n s)
 whole_head s n headers r h at small few =
     let e = ap length at.reads.1 in
     let f = simp length-append at e in
@@ -48,11 +48,9 @@ whole_head s n headers r h at small few =
 
 -- what the fields' spans cover is what the head's fields say
 pub told_by_fields : (s : List ℕ) (n : ℕ) (headers : List HeaderSpan) (r : RequestSpans) (h : RequestHead) (x : Result ℕ HeadFault)
-    → IsRequestAt (take n s) headers r h
-    → x ≡ body_length (map (header_bytes (take n s)) (take r.headers headers)) → body_length (fields_of h) ≡ x
+    → IsRequestAt (take n s) headers r h → x ≡ body_length (map (header_bytes (take n s)) (take r.headers headers)) → body_length (fields_of h) ≡ x
 told_by_fields s n headers r h x at e = ap body_length (sym at.fields) ∙ sym e
 
-pub closed_by_fields : (s : List ℕ) (n : ℕ) (headers : List HeaderSpan) (r : RequestSpans) (h : RequestHead) (x : Bool)
-    → IsRequestAt (take n s) headers r h
+pub closed_by_fields : (s : List ℕ) (n : ℕ) (headers : List HeaderSpan) (r : RequestSpans) (h : RequestHead) (x : Bool) → IsRequestAt (take n s) headers r h
     → x ≡ closes_by r.version (map (header_bytes (take n s)) (take r.headers headers)) → x ≡ closes_by h.minor (fields_of h)
 closed_by_fields s n headers r h x at e = e ∙ (λ i. closes_by (at.version i) (at.fields i))

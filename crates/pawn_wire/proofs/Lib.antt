@@ -1,4 +1,3 @@
-pub mod Basics
 pub mod BodyLemmas
 pub mod DayLemmas
 pub mod DigitLemmas

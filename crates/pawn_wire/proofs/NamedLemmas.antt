@@ -1,10 +1,12 @@
 -- Numbers and days as texts.
-use Rattle.pawn_wire.proofs.Basics.{◌≡◌, ℕ, zero, suc, ◌+◌, ◌*◌, ◌/◌, ◌%◌, ◌^◌, ◌<◌, ◌≤◌, List, [], ◌∷◌, length, take, drop, get_or, lit<, subst, Bool, true, false, Option, Some, None, IfSome, IfNone, refl, sym, ap, ◌∙◌, arith, IsTrue, ◌==◌, nat_lt, nat_le, not, ◌&&◌, slice_index, bytes_eq, if◌then◌else◌, decimal, AllDigits, Civil, IsNumber, IsStampDay, IsWritable, civil_of, civil_text, day_number, day_text, digit, digit_value, digits_value, first_day, is_ascii_digit, last_stamp_day, list_all, IsNumeralModel, common_steps, decimal-digits_value, decimal_digit, decimal_is_IsNumeral, digit_from_value, digit_value_digit, digits_value-lt, first_decimal, length-decimal-le, nat_tests, pow-le-pow_right, number_said, day_said}
-use Rattle.std.proofs.lemmas.Slice.Eq.{bytes_eq-Decides}
-use Rattle.pawn_terms.proofs.AgreementLemmas.{day_number-of}
-use Rattle.pawn_terms.proofs.TextLemmas.{civil_of-stamp}
-use Rattle.pawn_wire.specs.Named.{is_numeral, civil_said, is_text_of_day}
-use Rattle.pawn_wire.proofs.DigitLemmas.{both_true, all_digits}
+use Rattle.std.proofs.Common.{◌≡◌, ℕ, zero, suc, ◌+◌, ◌*◌, ◌/◌, ◌%◌, ◌^◌, ◌<◌, ◌≤◌, List, [], ◌∷◌, length, take, drop, get_or, lit<, subst, Bool, true, false}
+use Rattle.std.proofs.Common.{Option, Some, None, IfSome, IfNone, refl, sym, ap, ◌∙◌, arith, IsTrue, ◌==◌, nat_lt, nat_le, not, ◌&&◌, slice_index, bytes_eq}
+use Rattle.std.proofs.{Common.{if◌then◌else◌, decimal}, lemmas.{Str.Parse.{IsNumeralModel, digit_from_value}, Grind.common_steps, Fmt.decimal-digits_value}}
+use Rattle.std.proofs.lemmas.{Fmt.{decimal_digit, decimal_is_IsNumeral, first_decimal, length-decimal-le}, Str.digit_value_digit, Int.Digits.digits_value-lt}
+use Rattle.{std.proofs.{lemmas.{Bool.Decides.nat_tests, Slice.Eq.bytes_eq-Decides}, Math.Nat.pow-le-pow_right}, pawn_wire.specs.Common.{AllDigits, Civil}}
+use Rattle.pawn_wire.specs.Common.{IsNumber, IsStampDay, IsWritable, civil_of, civil_text, day_number, day_text, digit, digit_value, digits_value, first_day}
+use Rattle.pawn_wire.specs.{Common.{is_ascii_digit, last_stamp_day, list_all}, Named.{number_said, day_said, is_numeral, civil_said, is_text_of_day}}
+use Rattle.{pawn_wire.proofs.DigitLemmas.{both_true, all_digits}, pawn_terms.proofs.{AgreementLemmas.day_number-of, TextLemmas.civil_of-stamp}}
 
 -- ---- numbers of books and pledges
 
@@ -58,17 +60,15 @@ value_of_numeral text is =
 
 pub number_said-is : (n : ℕ) (text : List ℕ) → number_said text ≡ Some n → IsNumber n × (text ≡ decimal n)
 unfolding number_said
-number_said-is n text e = by_test (is_numeral text) refl e
-  where
-    by_test : (b : Bool) → is_numeral text ≡ b → (if b then Some (digits_value 10 text) else None) ≡ Some n → IsNumber n × (text ≡ decimal n)
-    by_test false test same = absurd cc
-    by_test true test same =
-        let is = numeral text test in
-        let value : digits_value 10 text ≡ n = cc in
-        let written = value_of_numeral text is in
-        let text_is : text ≡ decimal n = sym written.0 ∙ ap decimal value in
-        ((not_zero is n text_is, omega (arith, written.1, value)), text_is)
-      where
+number_said-is n text e = by_test (is_numeral text) refl e where
+  by_test : (b : Bool) → is_numeral text ≡ b → (if b then Some (digits_value 10 text) else None) ≡ Some n → IsNumber n × (text ≡ decimal n)
+  by_test false test same = absurd cc
+  by_test true test same =
+      let is = numeral text test in
+      let value : digits_value 10 text ≡ n = cc in
+      let written = value_of_numeral text is in
+      let text_is : text ≡ decimal n = sym written.0 ∙ ap decimal value in
+      ((not_zero is n text_is, omega (arith, written.1, value)), text_is) where
         zero_first : (n : ℕ) → text ≡ decimal n → n ≡ 0 → get_or text 0 0 ≡ 48
         zero_first n text_is zero_is = ap (λ (l : List ℕ). get_or l 0 0) (text_is ∙ ap decimal zero_is ∙ decimal_digit 0 (lit< tt))
 
@@ -78,19 +78,18 @@ number_said-is n text e = by_test (is_numeral text) refl e
 
 pub number_said-some : (n : ℕ) (text : List ℕ) → IsNumber n → text ≡ decimal n → number_said text ≡ Some n
 unfolding number_said
-number_said-some n text range e = subst (λ (t : List ℕ). (if is_numeral t then Some (digits_value 10 t) else None) ≡ Some n) (sym e) of_decimal
-  where
-    small : n < 2 ^ 64
-    small = omega (arith, range.1)
+number_said-some n text range e = subst (λ (t : List ℕ). (if is_numeral t then Some (digits_value 10 t) else None) ≡ Some n) (sym e) of_decimal where
+  small : n < 2 ^ 64
+  small = omega (arith, range.1)
 
-    is : is_numeral (decimal n) ≡ true
-    is =
-        let numeral_of = decimal_is_IsNumeral n small in
-        is_numeral-of (decimal n) numeral_of.0.1 numeral_of.0.0 (length-decimal-le 9 n (lit< tt) (omega (arith, range.1)) small)
-        (λ first. omega (arith, first, first_decimal n range.0 small))
+  is : is_numeral (decimal n) ≡ true
+  is =
+      let numeral_of = decimal_is_IsNumeral n small in
+      is_numeral-of (decimal n) numeral_of.0.1 numeral_of.0.0 (length-decimal-le 9 n (lit< tt) (omega (arith, range.1)) small)
+      (λ first. omega (arith, first, first_decimal n range.0 small))
 
-    of_decimal : (if is_numeral (decimal n) then Some (digits_value 10 (decimal n)) else None) ≡ Some n
-    of_decimal = rw is (ap Some (decimal_is_IsNumeral n small).1)
+  of_decimal : (if is_numeral (decimal n) then Some (digits_value 10 (decimal n)) else None) ≡ Some n
+  of_decimal = rw is (ap Some (decimal_is_IsNumeral n small).1)
 
 -- what says nothing that it could say
 pub none_said : {A : Type 0} (o : Option A) → ((x : A) → o ≡ Some x → ⊥) → o ≡ None
@@ -102,10 +101,12 @@ number_said-none text none = none_said (number_said text) (λ n e. let is = numb
 
 -- no number has a leading zero
 pub number_said-leading_zero : (rest : List ℕ) → number_said (48 ∷ rest) ≡ None
-number_said-leading_zero rest = number_said-none (48 ∷ rest) (λ n range e. (let first = first_decimal n range.0 (omega (arith, range.1)) in let here : get_or (decimal n) 0 0 ≡ 48 = sym (ap (λ (l : List ℕ). get_or l 0 0) e) in omega (arith, first, here)))
+number_said-leading_zero rest = number_said-none (48 ∷ rest) (λ n range e. (let first = first_decimal n range.0 (omega (arith, range.1)) in
+    let here : get_or (decimal n) 0 0 ≡ 48 = sym (ap (λ (l : List ℕ). get_or l 0 0) e) in omega (arith, first, here)))
 
 -- the number that was read is the one that the text says
-pub number_said-of : (r : Option ℕ) (text : List ℕ) → IfSome r (λ n. IsNumber n × (text ≡ decimal n)) → IfNone r ((n : ℕ) → IsNumber n → text ≡ decimal n → ⊥) → r ≡ number_said text
+pub number_said-of : (r : Option ℕ) (text : List ℕ) → IfSome r (λ n. IsNumber n × (text ≡ decimal n)) → IfNone r ((n : ℕ) → IsNumber n → text ≡ decimal n → ⊥)
+    → r ≡ number_said text
 number_said-of None text some none = sym (number_said-none text none)
 number_said-of (Some n) text some none = sym (number_said-some n text some.0 some.1)
 
@@ -131,8 +132,7 @@ digit_said n = omega (arith, digit_value_digit (digit n) (omega arith, omega ari
 two_said : (n a b : ℕ) → n < 100 → a ≡ n / 10 % 10 → b ≡ n % 10 → (0 * 10 + a) * 10 + b ≡ n
 two_said n a b small e f = omega arith
 
-four_said : (n a b c d : ℕ) → n < 10000 → a ≡ n / 1000 % 10 → b ≡ n / 100 % 10 → c ≡ n / 10 % 10 → d ≡ n % 10
-    → (((0 * 10 + a) * 10 + b) * 10 + c) * 10 + d ≡ n
+four_said : (n a b c d : ℕ) → n < 10000 → a ≡ n / 1000 % 10 → b ≡ n / 100 % 10 → c ≡ n / 10 % 10 → d ≡ n % 10 → (((0 * 10 + a) * 10 + b) * 10 + c) * 10 + d ≡ n
 four_said n a b c d small e f g h = omega arith
 
 -- the digits of a text that is written write the day
@@ -148,24 +148,20 @@ civil_said-of c w =
 
 pub day_said-some : (day : ℕ) (text : List ℕ) → IsStampDay day → text ≡ day_text day → day_said text ≡ Some day
 unfolding day_said
-day_said-some day text stamp e = rw number (rw (is_text_of_day-of text day stamp e) refl)
-  where
-    number : day_number (civil_said text) ≡ day
-    number =
-        ap (λ (t : List ℕ). day_number (civil_said t)) e
-        ∙ ap day_number (civil_said-of (civil_of day) (civil_of-stamp day stamp).1)
-        ∙ day_number-of day (stamp.0, omega (arith, stamp.1))
+day_said-some day text stamp e = rw number (rw (is_text_of_day-of text day stamp e) refl) where
+  number : day_number (civil_said text) ≡ day
+  number = ap (λ (t : List ℕ). day_number (civil_said t)) e
+      ∙ ap day_number (civil_said-of (civil_of day) (civil_of-stamp day stamp).1) ∙ day_number-of day (stamp.0, omega (arith, stamp.1))
 
 pub day_said-is : (day : ℕ) (text : List ℕ) → day_said text ≡ Some day → IsStampDay day × (text ≡ day_text day)
 unfolding day_said
-day_said-is day text e = by_test (is_text_of_day text (day_number (civil_said text))) refl e
-  where
-    by_test : (b : Bool) → is_text_of_day text (day_number (civil_said text)) ≡ b
-        → (if b then Some (day_number (civil_said text)) else None) ≡ Some day → IsStampDay day × (text ≡ day_text day)
-    by_test false test same = absurd cc
-    by_test true test same =
-        let number : day_number (civil_said text) ≡ day = cc in
-        day_tested text day (ap (is_text_of_day text) (sym number) ∙ test)
+day_said-is day text e = by_test (is_text_of_day text (day_number (civil_said text))) refl e where
+  by_test : (b : Bool) → is_text_of_day text (day_number (civil_said text)) ≡ b
+      → (if b then Some (day_number (civil_said text)) else None) ≡ Some day → IsStampDay day × (text ≡ day_text day)
+  by_test false test same = absurd cc
+  by_test true test same =
+      let number : day_number (civil_said text) ≡ day = cc in
+      day_tested text day (ap (is_text_of_day text) (sym number) ∙ test)
 
 pub day_said-none : (text : List ℕ) → ((m : ℕ) → IsStampDay m → text ≡ day_text m → ⊥) → day_said text ≡ None
 day_said-none text none = none_said (day_said text) (λ day e. let is = day_said-is day text e in none day is.0 is.1)

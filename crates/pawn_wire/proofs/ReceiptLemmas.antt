@@ -1,11 +1,14 @@
 -- On receipts and the fields that name them.
-use Rattle.pawn_wire.proofs.Basics.{◌≡◌, ℕ, ◌+◌, ◌<◌, ◌≤◌, ◌^◌, ◌%◌, suc, List, [], ◌∷◌, ◌++◌, length, map, take, drop, get_or, refl, sym, ap, ◌∙◌, subst, arith, append_assoc, Option, Some, None, IfSome, Result, Ok, Bool, true, false, inl, inr, IsTrue, not, ◌==◌, decimal, option_map, codes, nat_lt, IsSome, ◌↔◌, AreFew, HeaderSpan, IsReceiptText, MOST_RECEIPTS, Receipt, after_first, before_first, header_bytes, list_all, position_or_len, secret_of_text, str_eq_ignore_ascii_case, Decides-eqb, common_steps, decimal_by_steps, drop_all, filter_map-append, list_all-append, map-append, nat_tests, take-append-drop, take-append-le, take_all, uuid_on_literals, BadReceipt, Says, WireFault, all_said, and_then, is_hyphen, number_said, receipt_said, receipt_values, receipts_said, value_under, values_of}
-use Rattle.std.specs.Option.{ok_or}
-use Rattle.std.proofs.lemmas.Bool.{cases_lt, false≢true}
-use Rattle.std.proofs.lemmas.List.Sums.{split_at_first, passes_at_first}
-use Rattle.pawn_wire.proofs.FieldLemmas.{values_hit, values_other}
-use Rattle.pawn_wire.proofs.DigitLemmas.{both_true}
-use Rattle.pawn_wire.proofs.NamedLemmas.{none_said, number_said-is, number_said-some}
+use Rattle.std.proofs.Common.{◌≡◌, ℕ, ◌+◌, ◌<◌, ◌≤◌, ◌^◌, ◌%◌, suc, List, [], ◌∷◌, ◌++◌, length, map, take, drop, get_or, refl, sym, ap, ◌∙◌, subst, arith}
+use Rattle.std.proofs.Common.{append_assoc, Option, Some, None, IfSome, Result, Ok, Bool, true, false, inl, inr, IsTrue, not, ◌==◌, decimal, option_map, codes}
+use Rattle.std.proofs.{Common.{nat_lt, IsSome, ◌↔◌, take-append-drop, take_all}, lemmas.{Bool.Decides.{Decides-eqb, nat_tests}, Grind.common_steps}}
+use Rattle.std.proofs.lemmas.{Fmt.decimal_by_steps, List.{drop_all, map-append, take-append-le, Elements.filter_map-append, Folds.list_all-append}}
+use Rattle.{std.{specs.Option.ok_or, proofs.lemmas.{Bool.{cases_lt, false≢true}, List.Sums.{split_at_first, passes_at_first}}}, pawn_wire.specs.Common.AreFew}
+use Rattle.pawn_wire.specs.Common.{HeaderSpan, IsReceiptText, MOST_RECEIPTS, Receipt, after_first, before_first, header_bytes, list_all, position_or_len}
+use Rattle.pawn_wire.specs.{Common.{secret_of_text, str_eq_ignore_ascii_case}, Types.{BadReceipt, WireFault}, Chain.{Says, and_then}, Receipts.all_said}
+use Rattle.pawn_wire.specs.{Receipts.{is_hyphen, receipt_said, receipt_values, receipts_said}, Named.number_said, Fields.{value_under, values_of}}
+use Rattle.pawn_wire.proofs.{FieldLemmas.{values_hit, values_other}, DigitLemmas.both_true, NamedLemmas.{none_said, number_said-is, number_said-some}}
+use Rattle.uuid.proofs.OnLiterals.{uuid_on_literals}
 
 -- ---- a text is cut at its first hyphen
 
@@ -13,13 +16,12 @@ abbrev no_hyphen : List ℕ → Bool
 no_hyphen s = list_all (λ b. not (b == 45)) s
 
 decimal-no_hyphen : (n : ℕ) → n < 2 ^ 64 → IsTrue (no_hyphen (decimal n))
-decimal-no_hyphen n small = decimal_by_steps (λ m ds. IsTrue (no_hyphen ds)) one more n small
-  where
-    one : (m : ℕ) → m < 10 → IsTrue (no_hyphen ((48 + m) ∷ []))
-    one m h = grind (arith, common_steps)
+decimal-no_hyphen n small = decimal_by_steps (λ m ds. IsTrue (no_hyphen ds)) one more n small where
+  one : (m : ℕ) → m < 10 → IsTrue (no_hyphen ((48 + m) ∷ []))
+  one m h = grind (arith, common_steps)
 
-    more : (m : ℕ) (ds : List ℕ) → 10 ≤ m → IsTrue (no_hyphen ds) → IsTrue (no_hyphen (ds ++ ((48 + m % 10) ∷ [])))
-    more m ds h rest = rw (list_all-append (λ b. not (b == 45)) ds ((48 + m % 10) ∷ []), rest) (one (m % 10) (omega arith))
+  more : (m : ℕ) (ds : List ℕ) → 10 ≤ m → IsTrue (no_hyphen ds) → IsTrue (no_hyphen (ds ++ ((48 + m % 10) ∷ [])))
+  more m ds h rest = rw (list_all-append (λ b. not (b == 45)) ds ((48 + m % 10) ∷ []), rest) (one (m % 10) (omega arith))
 
 at_hyphen : (front rest : List ℕ) → IsTrue (no_hyphen front) → position_or_len is_hyphen (front ++ 45 ∷ rest) ≡ length front
 at_hyphen [] rest h = refl
@@ -35,8 +37,7 @@ drop_front (b ∷ bs) rest =
     ap (λ (n : ℕ). drop n (b ∷ (bs ++ 45 ∷ rest))) next ∙ drop_front bs rest
 
 before_hyphen : (front rest : List ℕ) → IsTrue (no_hyphen front) → before_first is_hyphen (front ++ 45 ∷ rest) ≡ front
-before_hyphen front rest h =
-    ap (λ (n : ℕ). take n (front ++ 45 ∷ rest)) (at_hyphen front rest h)
+before_hyphen front rest h = ap (λ (n : ℕ). take n (front ++ 45 ∷ rest)) (at_hyphen front rest h)
     ∙ take-append-le (length front) front (45 ∷ rest) (omega arith) ∙ take_all (length front) front (omega arith)
 
 after_hyphen : (front rest : List ℕ) → IsTrue (no_hyphen front) → after_first is_hyphen (front ++ 45 ∷ rest) ≡ rest
@@ -45,8 +46,7 @@ after_hyphen front rest h = ap (λ (n : ℕ). drop (n + 1) (front ++ 45 ∷ rest
 -- ---- the receipt of a text
 
 abbrev receipt_parts : Option ℕ → Option ℕ → Option Receipt
-receipt_parts number secret =
-    and_then number (λ n. option_map (λ s. record { number = n; secret = s }) secret)
+receipt_parts number secret = and_then number (λ n. option_map (λ s. record { number = n; secret = s }) secret)
 
 -- a text of a receipt says it
 pub receipt_said-some : (text : List ℕ) (r : Receipt) → IsReceiptText text r → receipt_said text ≡ Some r
@@ -64,32 +64,32 @@ no_secret = refl
 
 -- what a text says is its receipt
 pub receipt_said-is : (text : List ℕ) (r : Receipt) → receipt_said text ≡ Some r → IsReceiptText text r
-receipt_said-is text r e = by_parts (number_said (before_first is_hyphen text)) (secret_of_text (after_first is_hyphen text)) refl refl e
-  where
-    hyphen_found : (s : ℕ) → secret_of_text (after_first is_hyphen text) ≡ Some s → position_or_len is_hyphen text < length text
-    hyphen_found s h = elim (cases_lt (position_or_len is_hyphen text) (length text)) [
-      | inl less ↦ less
-      | inr more ↦
-          let gone : after_first is_hyphen text ≡ [] = drop_all (position_or_len is_hyphen text + 1) text (omega arith) in
-          let none : secret_of_text (after_first is_hyphen text) ≡ None = ap secret_of_text gone ∙ no_secret in
-          absurd cc
-    ]
+receipt_said-is text r e = by_parts (number_said (before_first is_hyphen text)) (secret_of_text (after_first is_hyphen text)) refl refl e where
+  hyphen_found : (s : ℕ) → secret_of_text (after_first is_hyphen text) ≡ Some s → position_or_len is_hyphen text < length text
+  hyphen_found s h = elim (cases_lt (position_or_len is_hyphen text) (length text)) [
+    | inl less ↦ less
+    | inr more ↦
+        let gone : after_first is_hyphen text ≡ [] = drop_all (position_or_len is_hyphen text + 1) text (omega arith) in
+        let none : secret_of_text (after_first is_hyphen text) ≡ None = ap secret_of_text gone ∙ no_secret in
+        absurd cc
+  ]
 
-    whole : (s : ℕ) → secret_of_text (after_first is_hyphen text) ≡ Some s → text ≡ before_first is_hyphen text ++ 45 ∷ after_first is_hyphen text
-    whole s h =
-        let found = hyphen_found s h in
-        let here : get_or text (position_or_len is_hyphen text) 0 ≡ 45 = (Decides-eqb (get_or text (position_or_len is_hyphen text) 0) 45).0 (passes_at_first is_hyphen text 0 found) in
-        split_at_first is_hyphen text 0 found ∙ ap (λ (b : ℕ). before_first is_hyphen text ++ b ∷ after_first is_hyphen text) here
+  whole : (s : ℕ) → secret_of_text (after_first is_hyphen text) ≡ Some s → text ≡ before_first is_hyphen text ++ 45 ∷ after_first is_hyphen text
+  whole s h =
+      let found = hyphen_found s h in
+      let here : get_or text (position_or_len is_hyphen text) 0 ≡ 45 =
+      (Decides-eqb (get_or text (position_or_len is_hyphen text) 0) 45).0 (passes_at_first is_hyphen text 0 found) in
+      split_at_first is_hyphen text 0 found ∙ ap (λ (b : ℕ). before_first is_hyphen text ++ b ∷ after_first is_hyphen text) here
 
-    by_parts : (n s : Option ℕ) → number_said (before_first is_hyphen text) ≡ n → secret_of_text (after_first is_hyphen text) ≡ s
-        → receipt_parts n s ≡ Some r → IsReceiptText text r
-    by_parts None s en es same = absurd cc
-    by_parts (Some n) None en es same = absurd cc
-    by_parts (Some n) (Some s) en es same =
-        let number = number_said-is n (before_first is_hyphen text) en in
-        let parts : ◌≡◌ {A = Receipt} (record { number = n; secret = s }) r = cc in
-        subst (λ (q : Receipt). IsReceiptText text q) parts
-        (number.0, (after_first is_hyphen text, whole s es ∙ ap (λ (front : List ℕ). front ++ 45 ∷ after_first is_hyphen text) number.1, es))
+  by_parts : (n s : Option ℕ) → number_said (before_first is_hyphen text) ≡ n → secret_of_text (after_first is_hyphen text) ≡ s
+      → receipt_parts n s ≡ Some r → IsReceiptText text r
+  by_parts None s en es same = absurd cc
+  by_parts (Some n) None en es same = absurd cc
+  by_parts (Some n) (Some s) en es same =
+      let number = number_said-is n (before_first is_hyphen text) en in
+      let parts : ◌≡◌ {A = Receipt} (record { number = n; secret = s }) r = cc in
+      subst (λ (q : Receipt). IsReceiptText text q) parts
+      (number.0, (after_first is_hyphen text, whole s es ∙ ap (λ (front : List ℕ). front ++ 45 ∷ after_first is_hyphen text) number.1, es))
 
 -- a text of no receipt says none
 pub receipt_said-none : (text : List ℕ) → ((r : Receipt) → IsReceiptText text r → ⊥) → receipt_said text ≡ None
@@ -97,7 +97,8 @@ receipt_said-none text none = none_said (receipt_said text) (λ r e. none r (rec
 
 -- ---- the receipts of several values
 
-push_said : (o : Option (List Receipt)) (p r : Receipt) (rs : List Receipt) → o ≡ Some (rs ++ r ∷ []) → option_map (λ receipts. p ∷ receipts) o ≡ Some ((p ∷ rs) ++ r ∷ [])
+push_said : (o : Option (List Receipt)) (p r : Receipt) (rs : List Receipt) → o ≡ Some (rs ++ r ∷ [])
+    → option_map (λ receipts. p ∷ receipts) o ≡ Some ((p ∷ rs) ++ r ∷ [])
 push_said o p r rs e = ap (λ (x : Option (List Receipt)). option_map (λ receipts. p ∷ receipts) x) e
 
 pub all_said-push : (values : List (List ℕ)) (value : List ℕ) (receipts : List Receipt) (receipt : Receipt)
@@ -105,45 +106,40 @@ pub all_said-push : (values : List (List ℕ)) (value : List ℕ) (receipts : Li
 all_said-push [] value receipts receipt all one =
     let none : [] ≡ receipts = cc in
     rw one (ap (λ (rs : List Receipt). Some (rs ++ receipt ∷ [])) none)
-all_said-push (v ∷ vs) value receipts receipt all one =
-    by_first (receipt_said v) (all_said vs) (λ rs e. all_said-push vs value rs receipt e one) refl all
-  where
-    by_first : (p : Option Receipt) (o : Option (List Receipt)) → ((rs : List Receipt) → all_said vs ≡ Some rs → all_said (vs ++ value ∷ []) ≡ Some (rs ++ receipt ∷ []))
-        → all_said vs ≡ o → and_then p (λ r. option_map (λ rs. r ∷ rs) o) ≡ Some receipts
-        → and_then p (λ r. option_map (λ rs. r ∷ rs) (all_said (vs ++ value ∷ []))) ≡ Some (receipts ++ receipt ∷ [])
-    by_first None o ih e same = absurd cc
-    by_first (Some p) None ih e same = absurd cc
-    by_first (Some p) (Some rs) ih e same =
-        let list : p ∷ rs ≡ receipts = cc in
-        push_said (all_said (vs ++ value ∷ [])) p receipt rs (ih rs e)
-        ∙ ap (λ (l : List Receipt). Some (l ++ receipt ∷ [])) list
+all_said-push (v ∷ vs) value receipts receipt all one = by_first (receipt_said v) (all_said vs) (λ rs e. all_said-push vs value rs receipt e one) refl all where
+  by_first : (p : Option Receipt) (o : Option (List Receipt)) → ((rs : List Receipt) → all_said vs ≡ Some rs
+      → all_said (vs ++ value ∷ []) ≡ Some (rs ++ receipt ∷ [])) → all_said vs ≡ o → and_then p (λ r. option_map (λ rs. r ∷ rs) o) ≡ Some receipts
+      → and_then p (λ r. option_map (λ rs. r ∷ rs) (all_said (vs ++ value ∷ []))) ≡ Some (receipts ++ receipt ∷ [])
+  by_first None o ih e same = absurd cc
+  by_first (Some p) None ih e same = absurd cc
+  by_first (Some p) (Some rs) ih e same =
+      let list : p ∷ rs ≡ receipts = cc in
+      push_said (all_said (vs ++ value ∷ [])) p receipt rs (ih rs e) ∙ ap (λ (l : List Receipt). Some (l ++ receipt ∷ [])) list
 
 pub all_said-bad : (values : List (List ℕ)) (value : List ℕ) (more : List (List ℕ)) → receipt_said value ≡ None → all_said (values ++ value ∷ more) ≡ None
 all_said-bad [] value more bad = rw bad refl
-all_said-bad (v ∷ vs) value more bad = rw (all_said-bad vs value more bad) (none (receipt_said v))
-  where
-    none : (p : Option Receipt) → and_then p (λ r. option_map (λ rs. r ∷ rs) None) ≡ None
-    none None = refl
-    none (Some r) = refl
+all_said-bad (v ∷ vs) value more bad = rw (all_said-bad vs value more bad) (none (receipt_said v)) where
+  none : (p : Option Receipt) → and_then p (λ r. option_map (λ rs. r ∷ rs) None) ≡ None
+  none None = refl
+  none (Some r) = refl
 
 -- as many receipts as values
 pub all_said-length : (values : List (List ℕ)) (receipts : List Receipt) → all_said values ≡ Some receipts → length receipts ≡ length values
 all_said-length [] receipts all = (let none : [] ≡ receipts = cc in ap length (sym none))
-all_said-length (v ∷ vs) receipts all = by_first (receipt_said v) (all_said vs) (all_said-length vs) refl all
-  where
-    by_first : (p : Option Receipt) (o : Option (List Receipt)) → ((rs : List Receipt) → all_said vs ≡ Some rs → length rs ≡ length vs) → all_said vs ≡ o → and_then p (λ r. option_map (λ rs. r ∷ rs) o) ≡ Some receipts → length receipts ≡ length (v ∷ vs)
-    by_first None o ih e same = absurd cc
-    by_first (Some p) None ih e same = absurd cc
-    by_first (Some p) (Some rs) ih e same =
-        let list : p ∷ rs ≡ receipts = cc in
-        let more : length (p ∷ rs) ≡ length (v ∷ vs) = omega (arith, ih rs e) in
-        ap length (sym list) ∙ more
+all_said-length (v ∷ vs) receipts all = by_first (receipt_said v) (all_said vs) (all_said-length vs) refl all where
+  by_first : (p : Option Receipt) (o : Option (List Receipt)) → ((rs : List Receipt) → all_said vs ≡ Some rs → length rs ≡ length vs) → all_said vs ≡ o
+      → and_then p (λ r. option_map (λ rs. r ∷ rs) o) ≡ Some receipts → length receipts ≡ length (v ∷ vs)
+  by_first None o ih e same = absurd cc
+  by_first (Some p) None ih e same = absurd cc
+  by_first (Some p) (Some rs) ih e same =
+      let list : p ∷ rs ≡ receipts = cc in
+      let more : length (p ∷ rs) ≡ length (v ∷ vs) = omega (arith, ih rs e) in
+      ap length (sym list) ∙ more
 
 -- the values of the first fields, and of the others
-pub values_of-rest : (name bytes : List ℕ) (fs : List HeaderSpan) (k : ℕ)
-    → values_of name (map (header_bytes bytes) fs) ≡ values_of name (map (header_bytes bytes) (take k fs)) ++ values_of name (map (header_bytes bytes) (drop k fs))
-values_of-rest name bytes fs k =
-    ap (λ (l : List HeaderSpan). values_of name (map (header_bytes bytes) l)) (sym (take-append-drop k fs))
+pub values_of-rest : (name bytes : List ℕ) (fs : List HeaderSpan) (k : ℕ) → values_of name (map (header_bytes bytes) fs) ≡ values_of name
+    (map (header_bytes bytes) (take k fs)) ++ values_of name (map (header_bytes bytes) (drop k fs))
+values_of-rest name bytes fs k = ap (λ (l : List HeaderSpan). values_of name (map (header_bytes bytes) l)) (sym (take-append-drop k fs))
     ∙ ap (values_of name) (map-append (header_bytes bytes) (take k fs) (drop k fs))
     ∙ filter_map-append (value_under name) (map (header_bytes bytes) (take k fs)) (map (header_bytes bytes) (drop k fs))
 
@@ -151,11 +147,9 @@ values_of-rest name bytes fs k =
 
 module _ (bytes : List ℕ) (fs : List HeaderSpan) (i : ℕ) (d : HeaderSpan) (fits : i < length fs) where
   pub collect_hit : (items : List Receipt) (receipt : Receipt) → str_eq_ignore_ascii_case (header_bytes bytes (get_or fs i d)).0 (codes "pledge-receipt") ≡ true
-      → all_said (receipt_values (map (header_bytes bytes) (take i fs))) ≡ Some items
-      → receipt_said (header_bytes bytes (get_or fs i d)).1 ≡ Some receipt
+      → all_said (receipt_values (map (header_bytes bytes) (take i fs))) ≡ Some items → receipt_said (header_bytes bytes (get_or fs i d)).1 ≡ Some receipt
       → all_said (receipt_values (map (header_bytes bytes) (take (i + 1) fs))) ≡ Some (items ++ receipt ∷ [])
-  collect_hit items receipt e all one =
-      ap all_said (values_hit (codes "pledge-receipt") bytes fs i d fits e)
+  collect_hit items receipt e all one = ap all_said (values_hit (codes "pledge-receipt") bytes fs i d fits e)
       ∙ all_said-push (receipt_values (map (header_bytes bytes) (take i fs))) (header_bytes bytes (get_or fs i d)).1 items receipt all one
 
   pub collect_other : (items : List Receipt) → str_eq_ignore_ascii_case (header_bytes bytes (get_or fs i d)).0 (codes "pledge-receipt") ≡ false
@@ -164,24 +158,21 @@ module _ (bytes : List ℕ) (fs : List HeaderSpan) (i : ℕ) (d : HeaderSpan) (f
   collect_other items e all = ap all_said (values_other (codes "pledge-receipt") bytes fs i d fits e) ∙ all
 
   pub collect_bad : str_eq_ignore_ascii_case (header_bytes bytes (get_or fs i d)).0 (codes "pledge-receipt") ≡ true
-      → receipt_said (header_bytes bytes (get_or fs i d)).1 ≡ None
-      → all_said (receipt_values (map (header_bytes bytes) fs)) ≡ None
+      → receipt_said (header_bytes bytes (get_or fs i d)).1 ≡ None → all_said (receipt_values (map (header_bytes bytes) fs)) ≡ None
   collect_bad e bad =
       let front = receipt_values (map (header_bytes bytes) (take i fs)) in
       let value = (header_bytes bytes (get_or fs i d)).1 in
       let others = receipt_values (map (header_bytes bytes) (drop (i + 1) fs)) in
-      ap all_said
-      (values_of-rest (codes "pledge-receipt") bytes fs (i + 1)
-      ∙ ap (λ (l : List (List ℕ)). l ++ others) (values_hit (codes "pledge-receipt") bytes fs i d fits e)
-      ∙ append_assoc front (value ∷ []) others)
-      ∙ all_said-bad front value others bad
+      ap all_said (values_of-rest (codes "pledge-receipt") bytes fs (i + 1) ∙ ap (λ (l : List (List ℕ)). l ++ others)
+      (values_hit (codes "pledge-receipt") bytes fs i d fits e) ∙ append_assoc front (value ∷ []) others) ∙ all_said-bad front value others bad
 
 -- ---- as many receipts as there may be
 
 pub few_said : (values : List (List ℕ)) (items : List Receipt) (few : Option (List Receipt)) (answer : Result (List Receipt) WireFault)
     → answer ≡ ok_or few BadReceipt → IfSome few (λ r. r ≡ items) → (IsSome few ↔ AreFew items)
     → all_said values ≡ Some items → (length values ≡ 0 → ⊥) → length values ≤ MOST_RECEIPTS → Says answer (receipts_said values)
-few_said values items few answer e list some all not_none not_many = subst (λ (a : Result (List Receipt) WireFault). Says a (receipts_said values)) (sym e) (by_few few list (some.1 are_few))
+few_said values items few answer e list some all not_none not_many =
+    subst (λ (a : Result (List Receipt) WireFault). Says a (receipts_said values)) (sym e) (by_few few list (some.1 are_few))
   where
     are_few : AreFew items
     are_few = let len = all_said-length values items all in (omega (arith, len, not_none), omega (arith, len))

@@ -1,6 +1,9 @@
 -- On the routes.
-use Rattle.pawn_wire.proofs.Basics.{◌≡◌, ℕ, ◌+◌, ◌<◌, List, [], ◌∷◌, ◌++◌, length, map, take, get_or, refl, sym, ap, ◌∙◌, subst, Result, Ok, Err, All-cons, All-head, All-nil, All-tail, IsAscii-drop, IsAscii-take, IsUtf8-from_ascii, map_more, ◌&&◌, cond, Bool, true, false, ◌-◌, drop, leb, All, Some, slice_get, Bor, InsertError, InsertsRead, IsAscii, Scan, Shows, parse_route, part_of, walk, Endpoint, Rows, plain, with_route, with_routes}
-use Rattle.std.proofs.lemmas.Str.Ascii.{IsAscii-nil}
+use Rattle.std.proofs.Common.{◌≡◌, ℕ, ◌+◌, ◌<◌, List, [], ◌∷◌, ◌++◌, length, map, take, get_or, refl, sym, ap, ◌∙◌, subst, Result, Ok, Err, ◌&&◌, cond, Bool}
+use Rattle.std.proofs.{Common.{true, false, ◌-◌, drop, leb, All, Some, slice_get}, lemmas.List.Elements.{All-cons, All-head, All-nil, All-tail}}
+use Rattle.{std.proofs.lemmas.{Str.{IsAscii-drop, IsAscii-take, IsUtf8-from_ascii, Ascii.IsAscii-nil}, List.map_more}, pawn_wire.specs.Common.{Bor, IsAscii}}
+use Rattle.pawn_wire.specs.{Common.{Shows, part_of, walk}, Types.Endpoint, Route.{Rows, plain, with_route, with_routes}}
+use Rattle.matchit.specs.{declared.error.InsertError.InsertError, Router.InsertsRead, Route.{Scan, parse_route}}
 
 pub inserted : (x : Result Scan InsertError) (e : Endpoint) (old new : Rows) → InsertsRead x e old new (Ok tt) → new ≡ with_route x e old
 inserted (Ok s) e old new h = h.1
@@ -13,27 +16,23 @@ with_routes-push (y ∷ ys) x rows = with_routes-push ys x (with_route (parse_ro
 
 pub with_routes_more : (items : List (Bor (List ℕ) × Endpoint)) (i : ℕ) (d : Bor (List ℕ) × Endpoint) (start old new : Rows)
     → i < length items → old ≡ with_routes (map plain (take i items)) start
-    → InsertsRead (parse_route (get_or items i d).0.now) (get_or items i d).1 old new (Ok tt)
-    → new ≡ with_routes (map plain (take (i + 1) items)) start
-with_routes_more items i d start old new fits e h =
-    inserted (parse_route (get_or items i d).0.now) (get_or items i d).1 old new h
+    → InsertsRead (parse_route (get_or items i d).0.now) (get_or items i d).1 old new (Ok tt) → new ≡ with_routes (map plain (take (i + 1) items)) start
+with_routes_more items i d start old new fits e h = inserted (parse_route (get_or items i d).0.now) (get_or items i d).1 old new h
     ∙ ap (with_route (parse_route (get_or items i d).0.now) (get_or items i d).1) e
     ∙ sym (ap (λ xs. with_routes xs start) (map_more plain items i d fits) ∙ with_routes-push (map plain (take i items)) (plain (get_or items i d)) start)
 
 -- ---- the parts that parameters took
 
 pub part_ascii : (bytes : List ℕ) (start end : ℕ) → IsAscii bytes → IsAscii (part_of bytes start end)
-part_ascii bytes start end h = by_test (leb start end && leb end (length bytes))
-  where
-    by_test : (b : Bool) → IsAscii (cond b (take (end - start) (drop start bytes)) [])
-    by_test true = IsAscii-take (drop start bytes) (end - start) (IsAscii-drop bytes start h)
-    by_test false = IsAscii-nil
+part_ascii bytes start end h = by_test (leb start end && leb end (length bytes)) where
+  by_test : (b : Bool) → IsAscii (cond b (take (end - start) (drop start bytes)) [])
+  by_test true = IsAscii-take (drop start bytes) (end - start) (IsAscii-drop bytes start h)
+  by_test false = IsAscii-nil
 
 pub walk_ascii : (pattern text path : List ℕ) (names : List (ℕ × ℕ)) (token at : ℕ) → IsAscii path
     → All (λ p. IsAscii p.1) (walk pattern text path names token at)
 walk_ascii pattern text path [] token at h = All-nil _
-walk_ascii pattern text path (name ∷ rest) token at h =
-    All-cons (λ p. IsAscii p.1) _ _ (part_ascii path _ _ h) (walk_ascii pattern text path rest _ _ h)
+walk_ascii pattern text path (name ∷ rest) token at h = All-cons (λ p. IsAscii p.1) _ _ (part_ascii path _ _ h) (walk_ascii pattern text path rest _ _ h)
 
 abbrev parts : List (List ℕ × List ℕ) → List (List ℕ)
 parts w = map (λ p. p.1) w
@@ -42,14 +41,14 @@ pub first_part : (w t : List (List ℕ × List ℕ)) (p : List ℕ × List ℕ) 
     → Some x ≡ slice_get (parts w) 0
 first_part w t p x all e shows =
     let ascii = All-head (λ q. IsAscii q.1) p t (All-rest0 w t p all e) in
-    ap Some (shows (IsUtf8-from_ascii p.1 ascii)) ∙ sym (ap (λ v. slice_get (parts v) 0) e)
-  where
-    All-rest0 : (w t : List (List ℕ × List ℕ)) (p : List ℕ × List ℕ) → All (λ q. IsAscii q.1) w → w ≡ p ∷ t → All (λ q. IsAscii q.1) (p ∷ t)
-    All-rest0 w t p all e = subst (λ v. All (λ q. IsAscii q.1) v) e all
+    ap Some (shows (IsUtf8-from_ascii p.1 ascii)) ∙ sym (ap (λ v. slice_get (parts v) 0) e) where
+      All-rest0 : (w t : List (List ℕ × List ℕ)) (p : List ℕ × List ℕ) → All (λ q. IsAscii q.1) w → w ≡ p ∷ t → All (λ q. IsAscii q.1) (p ∷ t)
+      All-rest0 w t p all e = subst (λ v. All (λ q. IsAscii q.1) v) e all
 
 -- the first that is given
-pub first_given : (pattern text path : List ℕ) (names : List (ℕ × ℕ)) (w t : List (List ℕ × List ℕ)) (name x : List ℕ) → IsAscii path → w ≡ walk pattern text path names 0 0
-    → (p : List ℕ × List ℕ) × (w ≡ p ∷ t) × Shows p.0 name × Shows p.1 x → Some x ≡ slice_get (parts (walk pattern text path names 0 0)) 0
+pub first_given : (pattern text path : List ℕ) (names : List (ℕ × ℕ)) (w t : List (List ℕ × List ℕ)) (name x : List ℕ) → IsAscii path
+    → w ≡ walk pattern text path names 0 0 → (p : List ℕ × List ℕ) × (w ≡ p ∷ t) × Shows p.0 name × Shows p.1 x
+    → Some x ≡ slice_get (parts (walk pattern text path names 0 0)) 0
 first_given pattern text path names w t name x ascii is (p, first, name_is, shows) =
     first_part _ t p x (walk_ascii pattern text path names 0 0 ascii) (sym is ∙ first) shows
 

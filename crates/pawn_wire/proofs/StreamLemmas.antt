@@ -1,7 +1,10 @@
 -- Heads at the front of a stream, and what follows them.
-use Rattle.pawn_wire.proofs.Basics.{◌≡◌, ℕ, ◌+◌, ◌<◌, ◌≤◌, List, [], ◌∷◌, ◌++◌, length, refl, sym, ap, ◌∙◌, arith, append_assoc, append-nil, length-append, take, Ok, inl, inr, true, false, Bool, IsRequestHead, IsTrue, RequestHead, RequestOverflows, first_of, is_token_byte, is_uri_byte, lf, nat_lt, print_request, unwrap_or, All-cons, All-nil, ReadsRequest-append, nat_tests, print_request-append, take-append-add, IsBadHead, IsHead, NeverHasHead, Pair, ReadsHead, body_length, fields_of, length_by, max_body, max_fields, max_head}
-use Rattle.pawn_wire.specs.declared.fault.HeadFault.TheVariants.{Transfer, BadLength, BodyTooLong}
-use Rattle.pawn_wire.specs.Types.{HeadFacts}
+use Rattle.std.proofs.Common.{◌≡◌, ℕ, ◌+◌, ◌<◌, ◌≤◌, List, [], ◌∷◌, ◌++◌, length, refl, sym, ap, ◌∙◌, arith, append_assoc, append-nil, length-append, take, Ok}
+use Rattle.std.proofs.{Common.{inl, inr, true, false, Bool, IsTrue, nat_lt, unwrap_or}, lemmas.{List.Elements.{All-cons, All-nil}, Bool.Decides.nat_tests}}
+use Rattle.{std.proofs.Math.Seq.take-append-add, httparse.specs.Grammar.{IsRequestHead, RequestHead, is_token_byte, is_uri_byte, lf, print_request}}
+use Rattle.{httparse.proofs.GrammarLemmas.{ReadsRequest-append, print_request-append}, pawn_wire.specs.{Common.{RequestOverflows, first_of}, Head.IsBadHead}}
+use Rattle.pawn_wire.specs.{Head.{IsHead, NeverHasHead, ReadsHead, body_length, fields_of, length_by}, Fields.Pair, Limits.{max_body, max_fields, max_head}}
+use Rattle.pawn_wire.specs.{declared.fault.HeadFault.TheVariants.{Transfer, BadLength, BodyTooLong}, Types.HeadFacts}
 
 -- a head stays one, whatever follows
 pub reads_more : (s more : List ℕ) (h : RequestHead) (rest : List ℕ) → ReadsHead s h rest → ReadsHead (s ++ more) h (rest ++ more)
@@ -26,8 +29,7 @@ bad_head_never s (inr full) more h rest r = full.1 more h rest r
 -- the bytes of a whole request are one by themselves
 pub whole_front : (s : List ℕ) (h : RequestHead) (rest : List ℕ) (n : ℕ) → ReadsHead s h rest
     → ReadsHead (take (length (print_request h) + n) s) h (take n rest)
-whole_front s h rest n x =
-    ((x.0.0, ap (take (length (print_request h) + n)) x.0.1 ∙ take-append-add (print_request h) rest n), x.1, x.2)
+whole_front s h rest n x = ((x.0.0, ap (take (length (print_request h) + n)) x.0.1 ∙ take-append-add (print_request h) rest n), x.1, x.2)
 
 -- a head is not empty
 pub head_some : (h : RequestHead) → 0 < length (print_request h)
@@ -44,8 +46,7 @@ unfolding is_token_byte lib.Utf8.encode
 plain_is = record {
   method = (
     omega arith,
-    All-cons (λ b. IsTrue (is_token_byte b)) 71 (69 ∷ 84 ∷ []) refl
-        (All-cons (λ b. IsTrue (is_token_byte b)) 69 (84 ∷ []) refl
+    All-cons (λ b. IsTrue (is_token_byte b)) 71 (69 ∷ 84 ∷ []) refl (All-cons (λ b. IsTrue (is_token_byte b)) 69 (84 ∷ []) refl
         (All-cons (λ b. IsTrue (is_token_byte b)) 84 [] refl (All-nil (λ b. IsTrue (is_token_byte b))))),
   );
   target = (omega arith, All-cons (λ b. IsTrue (is_uri_byte b)) 47 [] refl (All-nil (λ b. IsTrue (is_uri_byte b))));
@@ -56,20 +57,20 @@ plain_is = record {
 
 -- the empty stream can still become a head
 pub nil_is_no_bad_head : IsBadHead [] → ⊥
-nil_is_no_bad_head (inl over) = (let k = over (print_request plain_head) plain_head [] (plain_is, sym (append-nil (print_request plain_head))) in omega (arith, k))
+nil_is_no_bad_head (inl over) =
+    (let k = over (print_request plain_head) plain_head [] (plain_is, sym (append-nil (print_request plain_head))) in omega (arith, k))
 nil_is_no_bad_head (inr full) = omega (arith, full.0)
 
 -- ---- a head's facts are within the limits
 
 body_within : (fields : List Pair) (n : ℕ) → body_length fields ≡ Ok n → n ≤ max_body
-body_within fields n e = by_test _ _ (unwrap_or (length_by fields) 0) (nat_lt max_body (unwrap_or (length_by fields) 0)) refl e
-  where
-    by_test : (coded bad : Bool) (told : ℕ) (long : Bool) → nat_lt max_body told ≡ long
-        → first_of ((coded, Transfer) ∷ (bad, BadLength) ∷ (long, BodyTooLong) ∷ []) (Ok told) ≡ Ok n → n ≤ max_body
-    by_test true bad told long is same = absurd cc
-    by_test false true told long is same = absurd cc
-    by_test false false told true is same = absurd cc
-    by_test false false told false is same = (let k : told ≡ n = cc in grind (arith, nat_tests, k, is))
+body_within fields n e = by_test _ _ (unwrap_or (length_by fields) 0) (nat_lt max_body (unwrap_or (length_by fields) 0)) refl e where
+  by_test : (coded bad : Bool) (told : ℕ) (long : Bool) → nat_lt max_body told ≡ long
+      → first_of ((coded, Transfer) ∷ (bad, BadLength) ∷ (long, BodyTooLong) ∷ []) (Ok told) ≡ Ok n → n ≤ max_body
+  by_test true bad told long is same = absurd cc
+  by_test false true told long is same = absurd cc
+  by_test false false told true is same = absurd cc
+  by_test false false told false is same = (let k : told ≡ n = cc in grind (arith, nat_tests, k, is))
 
 -- a head and its body have few bytes
 pub head_within : (h : RequestHead) (f : HeadFacts) → length (print_request h) ≤ max_head → IsHead h f → f.len + f.body ≤ max_head + max_body

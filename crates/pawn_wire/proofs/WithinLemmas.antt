@@ -1,11 +1,21 @@
 -- What bytes say is within the limits of its parts.
-use Rattle.pawn_wire.proofs.Basics.{◌≡◌, ℕ, ◌≤◌, List, [], ◌∷◌, length, Bool, true, false, Option, Some, None, IfSome, Result, Ok, Err, refl, ap, subst, arith, inl, inr, ◌==◌, ◌&&◌, not, nat_le, nat_lt, bytes_eq, if◌then◌else◌, is_some, option_map, option_and_then, slice_get, codes, nat_tests, AreFew, Bearer, BookRows, Broker, Command, Data, IsCapacity, IsNumber, IsOpening, IsStampDay, IsText, MOST_ARTICLE_BYTES, MOST_BOOKINGS, MOST_NAME_BYTES, MOST_RECEIPTS, MOST_REFERENCE_BYTES, NewBook, Opening, Operator, Receipt, Request, after_first, as_null, as_number, as_str, as_u64, before_first, first_of, get, is_text, secret_of_text, AskedFor, Asks, BadBody, BadReceipt, Create, Endpoint, Export, HoldsRows, IsAsked, IsBodyNumber, IsCallerWithin, IsCommandWithin, IsOutlined, NoReceipt, NoRoute, OnPledge, OnReceipt, Outline, Pair, Present, PutTerms, SaysRequest, Show, ShowDay, TakePledge, TooManyReceipts, WireFault, WrongMethod, after, all_said, and_then, asked_booking, asked_entry, asks_said, bearers_command_said, body_said, brokers_command_said, day_at, day_if_any, day_or_null, day_said, decision_of, fields_of, flag_at, framing_faults, if_text, in_range, is_ascii_text, is_hyphen, json_of, key_at, key_given, key_of, kind_of, max_number, method_of, new_book_of, new_terms_of, number_at, number_said, one_said, opening_of, optional_day_at, or_fault, outline_by, paper_of, place_asked, place_of, receipt_faults, receipt_said, receipt_values, receipts_said, route_of, string_at, target_said, text_at}
+use Rattle.std.proofs.Common.{◌≡◌, ℕ, ◌≤◌, List, [], ◌∷◌, length, Bool, true, false, Option, Some, None, IfSome, Result, Ok, Err, refl, ap, subst, arith, inl}
+use Rattle.std.proofs.Common.{inr, ◌==◌, ◌&&◌, not, nat_le, nat_lt, bytes_eq, if◌then◌else◌, is_some, option_map, option_and_then, slice_get, codes}
+use Rattle.{std.proofs.lemmas.Bool.Decides.nat_tests, pawn_wire.specs.Common.{AreFew, Bearer, BookRows, Broker, Command, Data, IsCapacity, IsNumber, IsOpening}}
+use Rattle.pawn_wire.specs.Common.{IsStampDay, IsText, MOST_ARTICLE_BYTES, MOST_BOOKINGS, MOST_NAME_BYTES, MOST_RECEIPTS, MOST_REFERENCE_BYTES, NewBook}
+use Rattle.pawn_wire.specs.{Common.{Opening, Operator, Receipt, Request, after_first, before_first, first_of, is_text, secret_of_text}, Route.AskedFor}
+use Rattle.pawn_wire.specs.{Route.route_of, Types.{Asks, BadBody, BadReceipt, Create, Endpoint, Export, NoReceipt, NoRoute, OnPledge, OnReceipt, Outline}}
+use Rattle.pawn_wire.specs.Types.{Present, PutTerms, Show, ShowDay, TakePledge, TooManyReceipts, WireFault, WrongMethod, Import, BearerAction, BrokerAction}
+use Rattle.pawn_wire.specs.{Types.{NewBooking, NewEntry, Place, Target}, Request.{HoldsRows, IsAsked, IsOutlined, SaysRequest, framing_faults, outline_by}}
+use Rattle.pawn_wire.specs.{Laws.{IsBodyNumber, IsCallerWithin, IsCommandWithin}, Fields.Pair, Chain.{after, and_then, or_fault}, Receipts.all_said}
+use Rattle.pawn_wire.specs.{Receipts.{is_hyphen, one_said, receipt_faults, receipt_said, receipt_values, receipts_said}, Commands.{asked_booking, asked_entry}}
+use Rattle.pawn_wire.specs.{Commands.{bearers_command_said, brokers_command_said, decision_of, paper_of}, Asking.{asks_said, key_given, key_of}}
+use Rattle.pawn_wire.specs.{Member.{body_said, day_at, flag_at, if_text, in_range, json_of, key_at, number_at, string_at, text_at}, Body.day_if_any}
+use Rattle.pawn_wire.specs.{Body.{day_or_null, kind_of, new_book_of, new_terms_of, opening_of, optional_day_at}, Named.{day_said, number_said}, Head.fields_of}
+use Rattle.pawn_wire.{specs.{Place.{is_ascii_text, method_of, place_asked, place_of, target_said}, Limits.max_number}, proofs.NamedLemmas.number_said-is}
+use Rattle.{pawn_wire.proofs.{NamedLemmas.day_said-is, ReceiptLemmas.all_said-length}, serde_json.specs.Find.{as_null, as_number, as_str, as_u64, get}}
 use Rattle.pawn_book.specs.declared.request.BrokerRequest.TheVariants as broker
 use Rattle.pawn_book.specs.declared.request.BearerRequest.TheVariants as bearer
-use Rattle.pawn_wire.specs.Http.{Import}
-use Rattle.pawn_wire.specs.Types.{BearerAction, BrokerAction, NewBooking, NewEntry, Place, Target}
-use Rattle.pawn_wire.proofs.NamedLemmas.{number_said-is, day_said-is}
-use Rattle.pawn_wire.proofs.ReceiptLemmas.{all_said-length}
 
 -- ---- chains
 
@@ -37,19 +47,17 @@ mapped P f (Some a) b e each = (let same : f a ≡ b = cc in subst P same (each 
 -- ---- parts
 
 ranged : (least most n m : ℕ) → in_range least most n ≡ Some m → (least ≤ m) × (m ≤ most)
-ranged least most n m e = by_test (nat_le least n) (nat_le n most) refl refl e
-  where
-    by_test : (a b : Bool) → nat_le least n ≡ a → nat_le n most ≡ b → (if a && b then Some n else None) ≡ Some m → (least ≤ m) × (m ≤ most)
-    by_test true true low high same = (let k : n ≡ m = cc in (grind (arith, nat_tests, low, k), grind (arith, nat_tests, high, k)))
-    by_test true false low high same = absurd cc
-    by_test false b low high same = absurd cc
+ranged least most n m e = by_test (nat_le least n) (nat_le n most) refl refl e where
+  by_test : (a b : Bool) → nat_le least n ≡ a → nat_le n most ≡ b → (if a && b then Some n else None) ≡ Some m → (least ≤ m) × (m ≤ most)
+  by_test true true low high same = (let k : n ≡ m = cc in (grind (arith, nat_tests, low, k), grind (arith, nat_tests, high, k)))
+  by_test true false low high same = absurd cc
+  by_test false b low high same = absurd cc
 
 texted : (most : ℕ) (s t : List ℕ) → if_text most s ≡ Some t → IsText most t
-texted most s t e = by_test (is_text most s) refl e
-  where
-    by_test : (b : Bool) → is_text most s ≡ b → (if b then Some s else None) ≡ Some t → IsText most t
-    by_test true is same = (let k : s ≡ t = cc in subst (λ (x : List ℕ). IsText most x) k is)
-    by_test false is same = absurd cc
+texted most s t e = by_test (is_text most s) refl e where
+  by_test : (b : Bool) → is_text most s ≡ b → (if b then Some s else None) ≡ Some t → IsText most t
+  by_test true is same = (let k : s ≡ t = cc in subst (λ (x : List ℕ). IsText most x) k is)
+  by_test false is same = absurd cc
 
 text_within : (most : ℕ) (name : List ℕ) (d : Data) (t : List ℕ) → text_at most name d ≡ Some t → IsText most t
 text_within most name d t e = let s = given_some (string_at name d) (if_text most) t e in texted most s.0 t s.2
@@ -58,15 +66,15 @@ day_within : (text : List ℕ) (day : ℕ) → day_said text ≡ Some day → Is
 day_within text day e = (day_said-is day text e).0
 
 some_day : (member : Data) (agreed : Option ℕ) → day_or_null member ≡ Some agreed → IfSome agreed IsStampDay
-some_day member agreed e = by_null (is_some (as_null member)) (and_then (as_str member) day_said) refl e
-  where
-    by_null : (null : Bool) (said : Option ℕ) → and_then (as_str member) day_said ≡ said → (if null then Some None else option_map Some said) ≡ Some agreed → IfSome agreed IsStampDay
-    by_null true said is same = (let k : None ≡ agreed = cc in subst (λ (o : Option ℕ). IfSome o IsStampDay) k tt)
-    by_null false None is same = absurd cc
-    by_null false (Some day) is same =
-        let k : Some day ≡ agreed = cc in
-        let s = given_some (as_str member) day_said day is in
-        subst (λ (o : Option ℕ). IfSome o IsStampDay) k (day_within s.0 day s.2)
+some_day member agreed e = by_null (is_some (as_null member)) (and_then (as_str member) day_said) refl e where
+  by_null : (null : Bool) (said : Option ℕ) → and_then (as_str member) day_said ≡ said → (if null then Some None else option_map Some said) ≡ Some agreed
+      → IfSome agreed IsStampDay
+  by_null true said is same = (let k : None ≡ agreed = cc in subst (λ (o : Option ℕ). IfSome o IsStampDay) k tt)
+  by_null false None is same = absurd cc
+  by_null false (Some day) is same =
+      let k : Some day ≡ agreed = cc in
+      let s = given_some (as_str member) day_said day is in
+      subst (λ (o : Option ℕ). IfSome o IsStampDay) k (day_within s.0 day s.2)
 
 agreed_within : (member : Option Data) (agreed : Option ℕ) → day_if_any member ≡ Some agreed → IfSome agreed IsStampDay
 agreed_within None agreed e = (let k : None ≡ agreed = cc in subst (λ (o : Option ℕ). IfSome o IsStampDay) k tt)
@@ -91,7 +99,8 @@ opening_within d opening e =
     let five_days = given_some (flag_at (codes "five_days") d) _ opening article.2 in
     let kind = given_some (kind_of d) _ opening five_days.2 in
     let reference = given_some (text_at MOST_REFERENCE_BYTES (codes "ref") d) _ opening kind.2 in
-    let same : ◌≡◌ {A = Opening} (record { reference = reference.0; article = article.0; kind = kind.0; agreed = agreed.0; five_days = five_days.0 }) opening = cc (reference.2) in
+    let same : ◌≡◌ {A = Opening} (record { reference = reference.0; article = article.0; kind = kind.0; agreed = agreed.0; five_days = five_days.0 }) opening =
+    cc (reference.2) in
     subst (λ (o : Opening). IsOpening o) same (record {
       reference = text_within MOST_REFERENCE_BYTES (codes "ref") d reference.0 reference.1;
       article = text_within MOST_ARTICLE_BYTES (codes "article") d article.0 article.1;
@@ -99,24 +108,22 @@ opening_within d opening e =
     })
 
 few_within : (values : List (List ℕ)) (receipts : List Receipt) → receipts_said values ≡ Ok receipts → AreFew receipts
-few_within values receipts e = by_test (length values == 0) (nat_lt MOST_RECEIPTS (length values)) refl refl e
-  where
-    by_test : (a b : Bool) → (length values == 0) ≡ a → nat_lt MOST_RECEIPTS (length values) ≡ b
-        → first_of ((a, NoReceipt) ∷ (b, TooManyReceipts) ∷ []) (or_fault BadReceipt (all_said values)) ≡ Ok receipts → AreFew receipts
-    by_test true b none many same = absurd cc
-    by_test false true none many same = absurd cc
-    by_test false false none many same =
-        let len = all_said-length values receipts (or_fault_ok BadReceipt (all_said values) receipts same) in
-        (grind (arith, nat_tests, none, len), grind (arith, nat_tests, many, len))
+few_within values receipts e = by_test (length values == 0) (nat_lt MOST_RECEIPTS (length values)) refl refl e where
+  by_test : (a b : Bool) → (length values == 0) ≡ a → nat_lt MOST_RECEIPTS (length values) ≡ b
+      → first_of ((a, NoReceipt) ∷ (b, TooManyReceipts) ∷ []) (or_fault BadReceipt (all_said values)) ≡ Ok receipts → AreFew receipts
+  by_test true b none many same = absurd cc
+  by_test false true none many same = absurd cc
+  by_test false false none many same =
+      let len = all_said-length values receipts (or_fault_ok BadReceipt (all_said values) receipts same) in
+      (grind (arith, nat_tests, none, len), grind (arith, nat_tests, many, len))
 
 -- ---- commands
 
 number_within : (name : List ℕ) (d : Data) (n : ℕ) → number_at name d ≡ Some n → IsBodyNumber n
-number_within name d n e = number_chain (option_and_then as_u64 (option_and_then as_number (get name d))) e
-  where
-    number_chain : (said : Option ℕ) → option_and_then (in_range 0 max_number) said ≡ Some n → IsBodyNumber n
-    number_chain None same = absurd cc
-    number_chain (Some m) same = (ranged 0 max_number m n same).1
+number_within name d n e = number_chain (option_and_then as_u64 (option_and_then as_number (get name d))) e where
+  number_chain : (said : Option ℕ) → option_and_then (in_range 0 max_number) said ≡ Some n → IsBodyNumber n
+  number_chain None same = absurd cc
+  number_chain (Some m) same = (ranged 0 max_number m n same).1
 
 day_at_within : (name : List ℕ) (d : Data) (day : ℕ) → day_at name d ≡ Some day → IsStampDay day
 day_at_within name d day e = let text = given_some (string_at name d) day_said day e in day_within text.0 day text.2
@@ -128,24 +135,23 @@ abbrev IsBookingWithin : NewBooking → Type 0
 IsBookingWithin b = IsStampDay b.day × IsBodyNumber b.window
 
 -- two parts of a body, one read after the other
-two_within : {C : Type 0} (P Q : ℕ → Type 0) (R : C → Type 0) (first second : Option ℕ) (make : ℕ → ℕ → C) (c : C) → ((n : ℕ) → first ≡ Some n → P n) → ((n : ℕ) → second ≡ Some n → Q n)
-    → ((a b : ℕ) → P a → Q b → R (make a b)) → and_then first (λ a. and_then second (λ b. Some (make a b))) ≡ Some c → R c
+two_within : {C : Type 0} (P Q : ℕ → Type 0) (R : C → Type 0) (first second : Option ℕ) (make : ℕ → ℕ → C) (c : C) → ((n : ℕ) → first ≡ Some n → P n)
+    → ((n : ℕ) → second ≡ Some n → Q n) → ((a b : ℕ) → P a → Q b → R (make a b)) → and_then first (λ a. and_then second (λ b. Some (make a b))) ≡ Some c → R c
 two_within P Q R first second make c one two both e =
     let a = given_some first _ c e in
     let b = given_some second _ c a.2 in
     subst R (some_same b.2) (both a.0 b.0 (one a.0 a.1) (two b.0 b.1))
 
 entry_within : (d : Data) (entry : NewEntry) → asked_entry d ≡ Some entry → IsEntryWithin entry
-entry_within d entry =
-    two_within IsBodyNumber IsBodyNumber IsEntryWithin (number_at (codes "pence") d) (number_at (codes "seq") d)
+entry_within d entry = two_within IsBodyNumber IsBodyNumber IsEntryWithin (number_at (codes "pence") d) (number_at (codes "seq") d)
     (λ pence seq. record { seq = seq; pence = pence }) entry (number_within (codes "pence") d) (number_within (codes "seq") d) (λ pence seq p s. (s, p))
 
 booking_within : (d : Data) (booking : NewBooking) → asked_booking d ≡ Some booking → IsBookingWithin booking
-booking_within d booking =
-    two_within IsStampDay IsBodyNumber IsBookingWithin (day_at (codes "day") d) (number_at (codes "window") d)
+booking_within d booking = two_within IsStampDay IsBodyNumber IsBookingWithin (day_at (codes "day") d) (number_at (codes "window") d)
     (λ day window. record { day = day; window = window }) booking (day_at_within (codes "day") d) (number_within (codes "window") d) (λ day window s n. (s, n))
 
-of_body : {A : Type 0} (P : A → Type 0) (part : Data → Option A) (body : List ℕ) (a : A) → body_said part body ≡ Some a → ((d : Data) → part d ≡ Some a → P a) → P a
+of_body : {A : Type 0} (P : A → Type 0) (part : Data → Option A) (body : List ℕ) (a : A) → body_said part body ≡ Some a → ((d : Data) → part d ≡ Some a → P a)
+    → P a
 of_body P part body a e each = (let d = given_some (json_of body) part a e in each d.0 d.2)
 
 -- a command that is made of what a body says
@@ -166,24 +172,26 @@ brokers_within BrokerAction.Extend body command e = made_within (day_at (codes "
 
 bearers_within : (action : BearerAction) (body : List ℕ) (command : Command) → bearers_command_said action body ≡ Some command → IsCommandWithin command
 bearers_within BearerAction.Repay body command e = made_within asked_entry (λ entry. Command.Repay entry.seq entry.pence) entry_within body command e
-bearers_within BearerAction.Ask body command e = made_within asked_booking (λ booking. Command.AskBooking booking.day booking.window) booking_within body command e
+bearers_within BearerAction.Ask body command e =
+    made_within asked_booking (λ booking. Command.AskBooking booking.day booking.window) booking_within body command e
 bearers_within BearerAction.Cancel body command e = (let same : Command.CancelBooking ≡ command = cc in subst IsCommandWithin same tt)
 bearers_within BearerAction.Redeem body command e = made_within (number_at (codes "paid")) Command.Redeem (number_within (codes "paid")) body command e
 
 receipt_within : (text : List ℕ) (receipt : Receipt) → receipt_said text ≡ Some receipt → IsNumber receipt.number
 receipt_within text receipt e =
     let number = given_some (number_said (before_first is_hyphen text)) _ receipt e in
-    by_secret number.0 (secret_of_text (after_first is_hyphen text)) (number_said-is number.0 (before_first is_hyphen text) number.1).0 number.2
-  where
-    by_secret : (number : ℕ) (secret : Option ℕ) → IsNumber number → option_map (λ secret. record { number = number; secret = secret }) secret ≡ Some receipt → IsNumber receipt.number
-    by_secret number None range same = absurd cc
-    by_secret number (Some secret) range same =
-        let k : ◌≡◌ {A = Receipt} (record { number = number; secret = secret }) receipt = cc in
-        subst (λ (x : Receipt). IsNumber x.number) k range
+    by_secret number.0 (secret_of_text (after_first is_hyphen text)) (number_said-is number.0 (before_first is_hyphen text) number.1).0 number.2 where
+      by_secret : (number : ℕ) (secret : Option ℕ) → IsNumber number → option_map (λ secret. record { number = number; secret = secret }) secret ≡ Some receipt
+          → IsNumber receipt.number
+      by_secret number None range same = absurd cc
+      by_secret number (Some secret) range same =
+          let k : ◌≡◌ {A = Receipt} (record { number = number; secret = secret }) receipt = cc in
+          subst (λ (x : Receipt). IsNumber x.number) k range
 
 one_within : (values : List (List ℕ)) (receipt : Receipt) → one_said values ≡ Ok receipt → IsNumber receipt.number
 one_within values receipt e =
-    let one = or_fault_ok BadReceipt (and_then (slice_get values 0) receipt_said) receipt (first_ok (receipt_faults 1 values) (or_fault BadReceipt (and_then (slice_get values 0) receipt_said)) receipt e) in
+    let one = or_fault_ok BadReceipt (and_then (slice_get values 0) receipt_said) receipt
+    (first_ok (receipt_faults 1 values) (or_fault BadReceipt (and_then (slice_get values 0) receipt_said)) receipt e) in
     let value = given_some (slice_get values 0) receipt_said receipt one in
     receipt_within value.0 receipt value.2
 
@@ -209,18 +217,19 @@ asks_within Create fields body caller within e =
     (λ new is. of_body (λ (b : NewBook). IsText MOST_NAME_BYTES b.name × IsCapacity b.capacity) new_book_of body new is (λ d. new_book_within d new))
 asks_within PutTerms fields body caller within e =
     let key = after_ok (key_of fields) _ caller e in
-    mapped AreAsksWithin (λ terms. Asks.Whole (Broker key.0 (broker.PutTerms terms))) (body_said new_terms_of body) caller (or_fault_ok BadBody _ caller key.2) (λ terms is. tt)
+    mapped AreAsksWithin (λ terms. Asks.Whole (Broker key.0 (broker.PutTerms terms))) (body_said new_terms_of body) caller (or_fault_ok BadBody _ caller key.2)
+    (λ terms is. tt)
 asks_within TakePledge fields body caller within e =
     let key = after_ok (key_of fields) _ caller e in
-    mapped AreAsksWithin (λ opening. Asks.Whole (Broker key.0 (broker.TakePledge opening))) (body_said opening_of body) caller (or_fault_ok BadBody _ caller key.2)
-    (λ opening is. of_body IsOpening opening_of body opening is (λ d. opening_within d opening))
+    mapped AreAsksWithin (λ opening. Asks.Whole (Broker key.0 (broker.TakePledge opening))) (body_said opening_of body) caller
+    (or_fault_ok BadBody _ caller key.2) (λ opening is. of_body IsOpening opening_of body opening is (λ d. opening_within d opening))
 asks_within (Show number) fields body caller within e =
     let key = after_ok (key_of fields) _ caller e in
     let same : Asks.Whole (Broker key.0 (broker.Show number)) ≡ caller = cc (key.2) in subst AreAsksWithin same within
 asks_within (OnPledge number action) fields body caller within e =
     let key = after_ok (key_of fields) _ caller e in
-    mapped AreAsksWithin (λ command. Asks.Whole (Broker key.0 (broker.OnPledge number command))) (brokers_command_said action body) caller (or_fault_ok BadBody _ caller key.2)
-    (λ command is. (within, brokers_within action body command is))
+    mapped AreAsksWithin (λ command. Asks.Whole (Broker key.0 (broker.OnPledge number command))) (brokers_command_said action body) caller
+    (or_fault_ok BadBody _ caller key.2) (λ command is. (within, brokers_within action body command is))
 asks_within (ShowDay day) fields body caller within e =
     let key = after_ok (key_of fields) _ caller e in
     let same : Asks.Whole (Broker key.0 (broker.SheetOf day)) ≡ caller = cc (key.2) in subst AreAsksWithin same within
@@ -237,8 +246,8 @@ asks_within Present fields body caller within e =
     subst AreAsksWithin same (few_within (receipt_values fields) receipts.0 receipts.1)
 asks_within (OnReceipt action) fields body caller within e =
     let receipt = after_ok (one_said (receipt_values fields)) _ caller e in
-    mapped AreAsksWithin (λ command. Asks.Whole (Bearer (bearer.OnPledge receipt.0 command))) (bearers_command_said action body) caller (or_fault_ok BadBody _ caller receipt.2)
-    (λ command is. (one_within (receipt_values fields) receipt.0 receipt.1, bearers_within action body command is))
+    mapped AreAsksWithin (λ command. Asks.Whole (Bearer (bearer.OnPledge receipt.0 command))) (bearers_command_said action body) caller
+    (or_fault_ok BadBody _ caller receipt.2) (λ command is. (one_within (receipt_values fields) receipt.0 receipt.1, bearers_within action body command is))
 
 -- a place is of a book's number, and what it names beside is within its limits
 abbrev IsPlaceWithin : Place → Type 0
@@ -248,15 +257,13 @@ IsPlaceWithin place = IsNumber place.book × IsTargetWithin place.target
 numbered : (of : ℕ → Target) (text : Option (List ℕ)) (target : Target) → ((n : ℕ) → IsNumber n → IsTargetWithin (of n))
     → option_map of (and_then text number_said) ≡ Some target → IsTargetWithin target
 numbered of text target each e =
-    mapped IsTargetWithin of (and_then text number_said) target e
-    (λ n is. let s = given_some text number_said n is in each n (number_said-is n s.0 s.2).0)
+    mapped IsTargetWithin of (and_then text number_said) target e (λ n is. let s = given_some text number_said n is in each n (number_said-is n s.0 s.2).0)
 
 target_within : (endpoint : Endpoint) (text : Option (List ℕ)) (target : Target) → target_said endpoint text ≡ Some target → IsTargetWithin target
 target_within Endpoint.Show text target e = numbered Show text target (λ n range. range) e
 target_within (Endpoint.OnPledge action) text target e = numbered (λ n. OnPledge n action) text target (λ n range. range) e
 target_within Endpoint.ShowDay text target e =
-    mapped IsTargetWithin ShowDay (and_then text day_said) target e
-    (λ day is. let s = given_some text day_said day is in day_within s.0 day s.2)
+    mapped IsTargetWithin ShowDay (and_then text day_said) target e (λ day is. let s = given_some text day_said day is in day_within s.0 day s.2)
 target_within endpoint text target e = subst IsTargetWithin (some_same e) tt
 
 asked_within : (asked : AskedFor) (place : Place) → place_asked asked ≡ Some place → IsPlaceWithin place
@@ -267,11 +274,10 @@ asked_within asked place e =
     (λ target is. ((number_said-is book.0 text.0 text.2).0, target_within asked.endpoint asked.item target is))
 
 place_within : (target : List ℕ) (place : Place) → place_of target ≡ Some place → IsPlaceWithin place
-place_within target place e = by_test (is_ascii_text target) e
-  where
-    by_test : (b : Bool) → (if b then and_then (route_of target) place_asked else None) ≡ Some place → IsPlaceWithin place
-    by_test true same = (let asked = given_some (route_of target) place_asked place same in asked_within asked.0 place asked.2)
-    by_test false same = absurd cc
+place_within target place e = by_test (is_ascii_text target) e where
+  by_test : (b : Bool) → (if b then and_then (route_of target) place_asked else None) ≡ Some place → IsPlaceWithin place
+  by_test true same = (let asked = given_some (route_of target) place_asked place same in asked_within asked.0 place asked.2)
+  by_test false same = absurd cc
 
 -- an outline is of a book's number, and what it asks whole is within its limits
 abbrev IsOutlineWithin : Outline → Type 0
@@ -281,7 +287,8 @@ outline_within : (method target : List ℕ) (fields : List Pair) (body : List �
     → outline_by method target fields body ≡ Ok outline → IsOutlineWithin outline
 outline_within method target fields body outline e =
     let place = after_ok (or_fault NoRoute (place_of target)) _ outline (first_ok (framing_faults fields body) _ outline e) in
-    let asked = after_ok (asks_said place.0.target fields body) _ outline (first_ok ((not (bytes_eq (method_of place.0.target) method), WrongMethod) ∷ []) _ outline place.2) in
+    let asked = after_ok (asks_said place.0.target fields body) _ outline
+    (first_ok ((not (bytes_eq (method_of place.0.target) method), WrongMethod) ∷ []) _ outline place.2) in
     let within = place_within target place.0 (or_fault_ok NoRoute (place_of target) place.0 place.1) in
     let same : ◌≡◌ {A = Outline} (record { book = place.0.book; asks = asked.0 }) outline = cc (asked.2) in
     subst IsOutlineWithin same (within.0, asks_within place.0.target fields body asked.0 within.1 asked.1)
@@ -298,7 +305,8 @@ filled_within body book key importing (Ok rows) request range text same =
     subst IsWithin is (range, text.2.0)
 filled_within body book key importing (Err fault) request range text same = absurd cc
 
-asked_in : (body : List ℕ) (book : ℕ) (asked : Asks) (request : Request) → IsNumber book → AreAsksWithin asked → IsAsked body book asked (Ok request) → IsWithin request
+asked_in : (body : List ℕ) (book : ℕ) (asked : Asks) (request : Request) → IsNumber book → AreAsksWithin asked → IsAsked body book asked (Ok request)
+    → IsWithin request
 asked_in body book (Asks.Whole caller) request range within same =
     let is : ◌≡◌ {A = Request} (record { book = book; caller = caller }) request = cc in subst IsWithin is (range, within)
 asked_in body book (Asks.Import key importing) request range within it = filled_within body book key importing it.0 request range it.1 it.2

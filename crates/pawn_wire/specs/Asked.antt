@@ -1,7 +1,5 @@
 -- What the router found, as values.
-use Rattle.std.specs.Prelude.{option_copied}
-use Rattle.pawn_wire.specs.Types.{Asked}
-use Rattle.pawn_wire.specs.Route.{AskedFor}
+use Rattle.{std.specs.Prelude.option_copied, pawn_wire.specs.{Types.Asked, Route.AskedFor}}
 
 -- the router's answer, with its texts as bytes
 abbrev pub endpoint_and_texts : Asked → AskedFor

@@ -1,15 +1,11 @@
 -- Who asks at a target, and what for.
 use Rattle.std.specs.Prelude.{ℕ, List, [], ◌∷◌, codes, Option, None, option_map, Result, Ok}
-use Rattle.pawn_wire.specs.Common.{Bearer, Broker, Operator, secret_of_text}
+use Rattle.pawn_wire.specs.{Common.{Bearer, Broker, Operator, secret_of_text}, Body.{new_book_of, new_terms_of, opening_of}, Chain.{after, or_fault}}
+use Rattle.pawn_wire.specs.{Commands.{brokers_command_said, bearers_command_said}, Fields.{Pair, values_of}, Member.body_said, Receipts.receipt_values}
+use Rattle.pawn_wire.specs.{Receipts.{receipts_said, one_said}, Types.{Asks, BadBody, BadKey, Create, Export, Import, OnPledge, OnReceipt, Present, PutTerms}}
+use Rattle.pawn_wire.specs.Types.{Show, ShowDay, TakePledge, Target, WireFault}
 use Rattle.pawn_book.specs.declared.request.BrokerRequest.TheVariants as broker
 use Rattle.pawn_book.specs.declared.request.BearerRequest.TheVariants as bearer
-use Rattle.pawn_wire.specs.Body.{new_book_of, new_terms_of, opening_of}
-use Rattle.pawn_wire.specs.Chain.{after, or_fault}
-use Rattle.pawn_wire.specs.Commands.{brokers_command_said, bearers_command_said}
-use Rattle.pawn_wire.specs.Fields.{Pair, values_of}
-use Rattle.pawn_wire.specs.Member.{body_said}
-use Rattle.pawn_wire.specs.Receipts.{receipt_values, receipts_said, one_said}
-use Rattle.pawn_wire.specs.Types.{Asks, BadBody, BadKey, Create, Export, Import, OnPledge, OnReceipt, Present, PutTerms, Show, ShowDay, TakePledge, Target, WireFault}
 
 -- the key in these values, if there is exactly one value
 abbrev pub key_said : List (List ℕ) → Option ℕ

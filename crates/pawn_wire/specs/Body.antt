@@ -1,11 +1,8 @@
 -- What the JSON bodies of requests say.
 use Rattle.std.specs.Prelude.{ℕ, List, codes, bytes_eq, if◌then◌else◌, Option, Some, None, is_some, option_map}
-use Rattle.pawn_wire.specs.Common.{Data, Fixed, MOST_ARTICLE_BYTES, MOST_BOOKINGS, MOST_NAME_BYTES, MOST_REFERENCE_BYTES, NewBook, Opening, Running, as_null, as_str, get}
-use Rattle.pawn_debt.specs.declared.entry.Kind.{Kind}
-use Rattle.pawn_book.specs.declared.request.NewTerms.{NewTerms}
-use Rattle.pawn_wire.specs.Chain.{and_then}
-use Rattle.pawn_wire.specs.Member.{in_range, number_at, string_at, flag_at, text_at, key_at}
-use Rattle.pawn_wire.specs.Named.{day_said}
+use Rattle.pawn_wire.specs.Common.{Data, Fixed, MOST_ARTICLE_BYTES, MOST_BOOKINGS, MOST_NAME_BYTES, MOST_REFERENCE_BYTES, NewBook, Opening, Running}
+use Rattle.{pawn_wire.specs.{Chain.and_then, Member.{in_range, number_at, string_at, flag_at, text_at, key_at}, Named.day_said}, serde_json.specs.Find.as_null}
+use Rattle.{serde_json.specs.Find.{as_str, get}, pawn_debt.specs.declared.entry.Kind.Kind, pawn_book.specs.declared.request.NewTerms.NewTerms}
 
 -- a new book: its capacity, its key and its name
 abbrev pub new_book_of : Data → Option NewBook

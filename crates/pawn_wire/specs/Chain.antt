@@ -1,7 +1,6 @@
 -- Steps one after the other, each of which may end in a fault.
 use Rattle.std.specs.Prelude.{◌≡◌, ◌⊎◌, Option, Some, None, Result, Ok, Err, MatchResult}
-use Rattle.pawn_base.specs.Refusals.{IsSaid}
-use Rattle.pawn_wire.specs.Types.{Memory, WireFault}
+use Rattle.{pawn_base.specs.Refusals.IsSaid, pawn_wire.specs.Types.{Memory, WireFault}}
 
 -- one step, and then what it gives the next, or its fault
 abbrev pub after : {A B : Type 0} → Result A WireFault → (A → Result B WireFault) → Result B WireFault

@@ -1,11 +1,7 @@
 -- What the bodies of commands say.
 use Rattle.std.specs.Prelude.{ℕ, List, codes, Bool, bytes_eq, if◌then◌else◌, Option, Some, None, option_map}
-use Rattle.pawn_wire.specs.Common.{Command, Confirm, Data, Refuse, Sworn, Written}
-use Rattle.pawn_pledge.specs.declared.command.Paper.{Paper}
-use Rattle.pawn_pledge.specs.declared.command.Decision.{Decision}
-use Rattle.pawn_wire.specs.Chain.{and_then}
-use Rattle.pawn_wire.specs.Member.{number_at, string_at, flag_at, day_at, body_said}
-use Rattle.pawn_wire.specs.Types.{BearerAction, BrokerAction, NewBooking, NewEntry}
+use Rattle.pawn_wire.specs.{Common.{Command, Confirm, Data, Refuse, Sworn, Written}, Chain.and_then, Member.{number_at, string_at, flag_at, day_at, body_said}}
+use Rattle.{pawn_wire.specs.Types.{BearerAction, BrokerAction, NewBooking, NewEntry}, pawn_pledge.specs.declared.command.{Paper.Paper, Decision.Decision}}
 
 -- an entry to be made: its number and its sum in pence
 abbrev pub asked_entry : Data → Option NewEntry

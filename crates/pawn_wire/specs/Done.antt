@@ -1,8 +1,7 @@
 -- The JSON bodies of replies to commands.
 use Rattle.std.specs.Prelude.{ℕ, List, ◌++◌, codes, decimal, Bool, if◌then◌else◌}
-use Rattle.pawn_wire.specs.Common.{day_text, receipt_text, sort_text, state_text}
-use Rattle.pawn_pledge.specs.declared.command.Done.{Done}
-use Rattle.pawn_pledge.specs.declared.command.Done.TheVariants.{Entered, Held, Declared, Booked, Redeemed, Sold, Extended}
+use Rattle.{pawn_wire.specs.Common.{day_text, receipt_text, sort_text, state_text}, pawn_pledge.specs.declared.command.Done.{Done, TheVariants.{Entered, Held}}}
+use Rattle.pawn_pledge.specs.declared.command.Done.TheVariants.{Declared, Booked, Redeemed, Sold, Extended}
 
 -- an entry was made
 abbrev pub entered_text : List ℕ → ℕ → ℕ → List ℕ → List ℕ

@@ -1,8 +1,8 @@
 -- The faults of bytes that are no request.
-use Rattle.pawn_wire.specs.Common.{Cause, CsvFault, List, None, Option, Some, codes, ℕ}
+use Rattle.pawn_wire.specs.{Common.{Cause, CsvFault}, Types.{Detail, HeadFault, Row, WireFault}, declared.fault.WireFault.TheVariants.{BadHead, Transfer}}
+use Rattle.pawn_wire.specs.declared.fault.WireFault.TheVariants.{BadLength, BodyTooLong, NoRoute, WrongMethod, BadBody, BadKey, BadReceipt, TooManyReceipts}
+use Rattle.{pawn_wire.specs.declared.fault.WireFault.TheVariants.{NoReceipt, Csv, Memory}, std.specs.Prelude.{List, None, Option, Some, codes, ℕ}}
 use Rattle.pawn_csv.specs.Fault.{cause_row}
-use Rattle.pawn_wire.specs.Types.{Detail, HeadFault, Row, WireFault}
-use Rattle.pawn_wire.specs.declared.fault.WireFault.TheVariants.{BadHead, Transfer, BadLength, BodyTooLong, NoRoute, WrongMethod, BadBody, BadKey, BadReceipt, TooManyReceipts, NoReceipt, Csv, Memory}
 
 -- a fault's number and its name
 abbrev pub wire_fault_row : WireFault → ℕ × List ℕ

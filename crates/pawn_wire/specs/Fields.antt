@@ -1,7 +1,6 @@
 -- The fields of a head, each as its name and its value.
 use Rattle.std.specs.Prelude.{◌≡◌, ℕ, ◌≤◌, List, [], ◌∷◌, length, map, Option, Some, None, if◌then◌else◌}
-use Rattle.pawn_wire.specs.Common.{filter_map, header_bytes, str_eq_ignore_ascii_case}
-use Rattle.pawn_wire.specs.Types.{Fields, Found, Missing, One, Several}
+use Rattle.pawn_wire.specs.{Common.{filter_map, header_bytes, str_eq_ignore_ascii_case}, Types.{Fields, Found, Missing, One, Several}}
 
 -- a name and a value
 abbrev pub Pair : Type 0

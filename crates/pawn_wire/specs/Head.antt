@@ -1,10 +1,9 @@
 -- Heads of requests.
-use Rattle.std.specs.Prelude.{◌≡◌, ℕ, ◌<◌, ◌≤◌, ◌⊎◌, ◌||◌, ◌==◌, nat_lt, Bool, List, [], ◌∷◌, ◌++◌, length, map, codes, Option, Some, None, is_none, unwrap_or, Result, Ok, Err}
-use Rattle.pawn_wire.specs.Common.{HasNoRequest, MayBecomeRequest, ReadsRequest, RequestHead, RequestOverflows, first_of, list_any, name_and_value, print_request, str_eq_ignore_ascii_case}
-use Rattle.pawn_wire.specs.Fields.{Pair, values_of}
-use Rattle.pawn_wire.specs.Limits.{max_head, max_fields, max_body}
-use Rattle.pawn_wire.specs.Numeral.{decimal_of}
-use Rattle.pawn_wire.specs.Types.{HeadFacts, HeadFault, HeadRead}
+use Rattle.std.specs.Prelude.{◌≡◌, ℕ, ◌<◌, ◌≤◌, ◌⊎◌, ◌||◌, ◌==◌, nat_lt, Bool, List, [], ◌∷◌, ◌++◌, length, map, codes, Option, Some, None, is_none, unwrap_or}
+use Rattle.std.specs.Prelude.{Result, Ok, Err}
+use Rattle.{httparse.specs.Grammar.{HasNoRequest, MayBecomeRequest, ReadsRequest, RequestHead, print_request}, pawn_wire.specs.Common.RequestOverflows}
+use Rattle.pawn_wire.specs.{Common.{first_of, list_any, name_and_value, str_eq_ignore_ascii_case}, Fields.{Pair, values_of}, Limits.{max_head, max_fields}}
+use Rattle.pawn_wire.specs.{Limits.max_body, Numeral.decimal_of, Types.{HeadFacts, HeadFault}, declared.head.HeadRead.HeadRead}
 
 -- the names and values of a head
 abbrev pub fields_of : RequestHead → List Pair

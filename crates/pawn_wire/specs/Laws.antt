@@ -1,19 +1,15 @@
 -- Laws of the definitions.
-use Rattle.std.specs.Prelude.{[], ◌∷◌, ◌++◌, ◌≡◌, ℕ, ◌≤◌, List, codes, Bool, true, false, IsTrue, ◌&&◌, not, ◌==◌, nat_le, if◌then◌else◌, Option, Some, None, Result, Ok, decimal}
-use Rattle.pawn_wire.specs.Common.{AreFew, Bearer, Booking, Broker, Command, Entry, Export, Import, IsCapacity, IsNumber, IsOpening, IsStampDay, IsText, MOST_NAME_BYTES, Members, Operator, PutTerms, Request, SheetOf, Show, TakePledge, boolean, compact_text, day_text, list_all, member, no_members, number, object, sort_text, state_text, string, unsigned}
-use Rattle.pawn_base.specs.Lists.{Each}
-use Rattle.pawn_book.specs.declared.request.Caller.{Caller}
-use Rattle.pawn_book.specs.Rows.{AreReplayable}
+use Rattle.std.specs.Prelude.{[], ◌∷◌, ◌++◌, ◌≡◌, ℕ, ◌≤◌, List, codes, Bool, true, false, IsTrue, ◌&&◌, not, ◌==◌, nat_le, if◌then◌else◌, Option, Some, None}
+use Rattle.std.specs.Prelude.{Result, Ok, decimal}
+use Rattle.pawn_wire.specs.Common.{AreFew, Bearer, Booking, Broker, Command, Entry, Export, Import, IsCapacity, IsNumber, IsOpening, IsStampDay, IsText}
+use Rattle.pawn_wire.specs.Common.{MOST_NAME_BYTES, Members, Operator, PutTerms, Request, SheetOf, Show, TakePledge, boolean, compact_text, day_text, list_all}
+use Rattle.pawn_wire.specs.{Common.{member, no_members, number, object, sort_text, state_text, string, unsigned}, Bodies.{book_text, version_text, filled_text}}
+use Rattle.pawn_wire.specs.{Bodies.{opened_text, refusal_text}, Done.{entered_text, held_text, declared_text, booked_text, redeemed_text, sold_text}}
+use Rattle.pawn_wire.specs.{Done.extended_text, Limits.max_number, Named.{number_said, day_said}, Request.SaysRequest, Route.{table, route_of}, Types.Detail}
+use Rattle.{pawn_wire.specs.Types.{Endpoint, Row, Total, WireFault}, pawn_base.specs.Lists.Each, pawn_book.specs.declared.request.Caller.Caller}
+use Rattle.pawn_book.specs.{declared.request.BearerRequest.TheVariants.Present, Rows.AreReplayable}
 use Rattle.pawn_book.specs.declared.request.BrokerRequest.TheVariants as broker
-use Rattle.pawn_book.specs.declared.request.BearerRequest.TheVariants.{Present}
 use Rattle.pawn_book.specs.declared.request.BearerRequest.TheVariants as bearer
-use Rattle.pawn_wire.specs.Bodies.{book_text, version_text, filled_text, opened_text, refusal_text}
-use Rattle.pawn_wire.specs.Done.{entered_text, held_text, declared_text, booked_text, redeemed_text, sold_text, extended_text}
-use Rattle.pawn_wire.specs.Limits.{max_number}
-use Rattle.pawn_wire.specs.Named.{number_said, day_said}
-use Rattle.pawn_wire.specs.Request.{SaysRequest}
-use Rattle.pawn_wire.specs.Route.{table, route_of}
-use Rattle.pawn_wire.specs.Types.{Detail, Endpoint, Row, Total, WireFault}
 
 -- no byte that a JSON text escapes
 abbrev pub is_unescaped : List ℕ → Bool
@@ -61,12 +57,14 @@ pub record BodiesAreJson : Type 0 where
   pub held : (barred : Bool) → held_text barred ≡ compact_text (object (member (codes "held") (boolean barred) no_members))
   pub declared : (receipt : List ℕ) → IsTrue (is_unescaped receipt)
       → declared_text receipt ≡ compact_text (object (text_member (codes "receipt") receipt no_members))
-  pub booked : (booking : Booking) → booked_text (state_text booking.state) (day_text booking.day) booking.window ≡ compact_text (object (booking_members booking))
+  pub booked : (booking : Booking)
+      → booked_text (state_text booking.state) (day_text booking.day) booking.window ≡ compact_text (object (booking_members booking))
   pub redeemed : (paid day : ℕ)
       → redeemed_text paid (day_text day) ≡ compact_text (object (number_member (codes "paid") paid (text_member (codes "redeemed") (day_text day) no_members)))
   pub sold : (net shortfall surplus : ℕ)
       → sold_text net shortfall surplus
-      ≡ compact_text (object (number_member (codes "net") net (number_member (codes "shortfall") shortfall (number_member (codes "surplus") surplus no_members))))
+      ≡ compact_text
+      (object (number_member (codes "net") net (number_member (codes "shortfall") shortfall (number_member (codes "surplus") surplus no_members))))
   pub extended : (until : ℕ) → extended_text (day_text until) ≡ compact_text (object (text_member (codes "ends") (day_text until) no_members))
 
 -- ---- what requests may say

@@ -24,4 +24,3 @@ pub mod WorkedHeads
 pub mod WorkedReplies
 pub mod WorkedRequests
 pub mod Common
-pub mod Http

@@ -1,6 +1,5 @@
 -- How much a request may hold.
-use Rattle.std.specs.Prelude.{ℕ}
-use Rattle.pawn_wire.specs.Types.{MAX_BODY, MAX_DIGITS, MAX_FIELDS, MAX_HEAD, MAX_NUMBER}
+use Rattle.{std.specs.Prelude.ℕ, pawn_wire.specs.declared.limits.TheConstants.{MAX_BODY, MAX_DIGITS, MAX_FIELDS, MAX_HEAD, MAX_NUMBER}}
 
 -- the most bytes of a head, with the empty line at its end
 abbrev pub max_head : ℕ

@@ -1,11 +1,7 @@
 -- JSON bodies and their members.
 use Rattle.std.specs.Prelude.{◌≡◌, ℕ, ◌⊎◌, List, Bool, ◌&&◌, nat_le, if◌then◌else◌, Option, Some, None, option_and_then, Result, MatchResult}
-use Rattle.pawn_wire.specs.Common.{Data, as_bool, as_number, as_str, as_u64, get, is_text, is_utf8, read, secret_of_text, view}
-use Rattle.serde_json.specs.declared.value.Value.{Value}
-use Rattle.pawn_wire.specs.Chain.{and_then}
-use Rattle.pawn_wire.specs.Limits.{max_number}
-use Rattle.pawn_wire.specs.Named.{day_said}
-use Rattle.pawn_wire.specs.Types.{BadBody, Memory, WireFault}
+use Rattle.pawn_wire.specs.{Common.{Data, is_text, is_utf8, read, secret_of_text, view}, Chain.and_then, Limits.max_number, Named.day_said, Types.BadBody}
+use Rattle.{pawn_wire.specs.Types.{Memory, WireFault}, serde_json.specs.{Find.{as_bool, as_number, as_str, as_u64, get}, declared.value.Value.Value}}
 
 -- the JSON value that the bytes write
 abbrev pub json_of : List ℕ → Option Data

@@ -1,7 +1,6 @@
 -- Numbers in fields.
 use Rattle.std.specs.Prelude.{ℕ, List, length, Bool, ◌&&◌, nat_lt, nat_le, Option, Some, None, if◌then◌else◌}
-use Rattle.pawn_wire.specs.Common.{digits_value, is_ascii_digit, list_all}
-use Rattle.pawn_wire.specs.Limits.{max_digits}
+use Rattle.pawn_wire.specs.{Common.{digits_value, is_ascii_digit, list_all}, Limits.max_digits}
 
 -- 1 to 19 digits
 abbrev pub is_short_numeral : List ℕ → Bool

@@ -1,10 +1,7 @@
 -- What targets ask for: places.
-use Rattle.std.specs.Prelude.{ℕ, nat_lt, Bool, List, codes, if◌then◌else◌, Option, Some, None, option_map}
-use Rattle.std.specs.List.{list_all}
-use Rattle.pawn_wire.specs.Chain.{and_then}
-use Rattle.pawn_wire.specs.Named.{number_said, day_said}
-use Rattle.pawn_wire.specs.Route.{AskedFor, route_of}
-use Rattle.pawn_wire.specs.Types.{Create, Endpoint, Export, Import, OnPledge, OnReceipt, Place, Present, PutTerms, Show, ShowDay, TakePledge, Target}
+use Rattle.std.specs.{Prelude.{ℕ, nat_lt, Bool, List, codes, if◌then◌else◌, Option, Some, None, option_map}, List.list_all}
+use Rattle.pawn_wire.specs.{Chain.and_then, Named.{number_said, day_said}, Route.{AskedFor, route_of}, Types.{Create, Endpoint, Export, Import, OnPledge}}
+use Rattle.pawn_wire.specs.Types.{OnReceipt, Place, Present, PutTerms, Show, ShowDay, TakePledge, Target}
 
 abbrev pub is_ascii_text : List ℕ → Bool
 is_ascii_text text = list_all (λ b. nat_lt b 128) text

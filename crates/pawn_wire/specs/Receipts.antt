@@ -1,10 +1,7 @@
 -- Receipts that fields present.
 use Rattle.std.specs.Prelude.{ℕ, ◌==◌, Bool, List, [], ◌∷◌, length, nat_lt, slice_get, codes, Option, Some, option_map, Result}
-use Rattle.pawn_wire.specs.Common.{MOST_RECEIPTS, Receipt, after_first, before_first, first_of, secret_of_text}
-use Rattle.pawn_wire.specs.Chain.{and_then, or_fault}
-use Rattle.pawn_wire.specs.Fields.{Pair, values_of}
-use Rattle.pawn_wire.specs.Named.{number_said}
-use Rattle.pawn_wire.specs.Types.{BadReceipt, NoReceipt, TooManyReceipts, WireFault}
+use Rattle.pawn_wire.specs.{Common.{MOST_RECEIPTS, Receipt, after_first, before_first, first_of, secret_of_text}, Chain.{and_then, or_fault}, Fields.Pair}
+use Rattle.pawn_wire.specs.{Fields.values_of, Named.number_said, Types.{BadReceipt, NoReceipt, TooManyReceipts, WireFault}}
 
 -- the byte `-`
 abbrev pub is_hyphen : ℕ → Bool

@@ -1,14 +1,9 @@
 -- Replies.
 use Rattle.std.specs.Prelude.{ℕ, List, ◌++◌, length, codes, decimal, Option, option_map}
-use Rattle.http.specs.StatusCode.{status_text}
-use Rattle.pawn_wire.specs.Common.{BookFilled, BookMade, Commanded, Opened, TermsPut, receipt_text}
+use Rattle.{http.specs.StatusCode.status_text, pawn_book.specs.declared.reply.Reply.{TheVariants.{BookFilled, BookMade, Commanded, Opened, TermsPut}, Reply}}
+use Rattle.pawn_wire.specs.{Common.receipt_text, Bodies.{book_text, version_text, filled_text, opened_text, refusal_text}, Done.commanded_text}
+use Rattle.pawn_wire.specs.{Status.reply_status, Fault.{wire_fault_code, detail_of, wire_fault_name}, Types.{Detail, Memory, Out, Total, WireFault}}
 use Rattle.pawn_book.specs.Refusals as book
-use Rattle.pawn_book.specs.declared.reply.Reply.{Reply}
-use Rattle.pawn_wire.specs.Bodies.{book_text, version_text, filled_text, opened_text, refusal_text}
-use Rattle.pawn_wire.specs.Done.{commanded_text}
-use Rattle.pawn_wire.specs.Status.{reply_status}
-use Rattle.pawn_wire.specs.Fault.{wire_fault_code, detail_of, wire_fault_name}
-use Rattle.pawn_wire.specs.Types.{Detail, Memory, Out, Total, WireFault}
 
 -- the head of a reply: its status, the length of its body and the body's type
 abbrev pub head_text : ℕ → ℕ → List ℕ → List ℕ

@@ -1,13 +1,9 @@
 -- Requests.
 use Rattle.std.specs.Prelude.{◌≡◌, ◌≢◌, ℕ, ◌⊎◌, ◌==◌, Bool, not, List, [], ◌∷◌, ◌++◌, map, length, bytes_eq, unwrap_or, Result, Ok, Err}
-use Rattle.pawn_wire.specs.Common.{BookRows, Broker, CsvFault, Import, IsFirstCause, IsTextOf, Request, RequestHead, first_of, strip_bom, Cause}
-use Rattle.pawn_wire.specs.Asking.{asks_said}
-use Rattle.pawn_wire.specs.Chain.{OrMemory, after, or_fault}
-use Rattle.pawn_wire.specs.Fault.{wire_fault}
-use Rattle.pawn_wire.specs.Fields.{Pair}
-use Rattle.pawn_wire.specs.Head.{ReadsHead, fields_of, length_by, field_faults}
-use Rattle.pawn_wire.specs.Place.{method_of, place_of}
-use Rattle.pawn_wire.specs.Types.{Asks, Csv, NoRoute, Outline, WireFault, WrongMethod}
+use Rattle.pawn_wire.specs.{Common.{BookRows, Broker, CsvFault, Import, Request, first_of, Cause}, Asking.asks_said, Chain.{OrMemory, after, or_fault}}
+use Rattle.pawn_wire.specs.{Fault.wire_fault, Fields.Pair, Head.{ReadsHead, fields_of, length_by, field_faults}, Place.{method_of, place_of}, Types.{Asks, Csv}}
+use Rattle.{pawn_wire.specs.Types.{NoRoute, Outline, WireFault, WrongMethod}, csv.specs.Reading.strip_bom, pawn_csv.specs.Reading.{IsFirstCause, IsTextOf}}
+use Rattle.httparse.specs.Grammar.{RequestHead}
 
 -- the faults of a head's fields and of the body's length, in their order
 abbrev pub framing_faults : List Pair → List ℕ → List (Bool × WireFault)

@@ -1,10 +1,7 @@
 -- The targets of the service.
 use Rattle.std.specs.Prelude.{ℕ, List, [], ◌∷◌, codes, map, Option, option_map, slice_get, Result, Ok, Err}
-use Rattle.pawn_wire.specs.Common.{Bor, InsertError, RouteOf, Scan, parse_route, route_from, walk}
-use Rattle.matchit.specs.Rows.{RowsOf}
-use Rattle.matchit.specs.Order.{placed}
-use Rattle.matchit.specs.Seek.{first}
-use Rattle.pawn_wire.specs.Types.{BearerAction, BrokerAction, Endpoint}
+use Rattle.{pawn_wire.specs.{Common.{Bor, walk}, Types.{BearerAction, BrokerAction, Endpoint}}, matchit.specs.declared.error.InsertError.InsertError}
+use Rattle.matchit.specs.{Router.{RouteOf, route_from}, Route.{Scan, parse_route}, Rows.RowsOf, Order.placed, Seek.first}
 
 -- the targets, each with its endpoint
 abbrev pub table : List (List ℕ × Endpoint)

@@ -1,24 +1,8 @@
 -- This crate's own declared types, handed on from one place.
-pub use Rattle.pawn_wire.specs.declared.asking.Asks.{Asks}
-pub use Rattle.pawn_wire.specs.declared.commands.NewBooking.{NewBooking}
-pub use Rattle.pawn_wire.specs.declared.commands.NewEntry.{NewEntry}
-pub use Rattle.pawn_wire.specs.declared.detail.Detail.{Detail}
-pub use Rattle.pawn_wire.specs.declared.detail.Detail.TheVariants.{Row, Total}
-pub use Rattle.pawn_wire.specs.declared.fault.HeadFault.{HeadFault}
-pub use Rattle.pawn_wire.specs.declared.fault.WireFault.{WireFault}
-pub use Rattle.pawn_wire.specs.declared.fault.WireFault.TheVariants.{BadBody, BadKey, BadReceipt, Csv, Memory, NoReceipt, NoRoute, TooManyReceipts, WrongMethod}
-pub use Rattle.pawn_wire.specs.declared.fields.Fields.{Fields}
-pub use Rattle.pawn_wire.specs.declared.fields.Found.{Found}
-pub use Rattle.pawn_wire.specs.declared.fields.Found.TheVariants.{Missing, One, Several}
-pub use Rattle.pawn_wire.specs.declared.head.HeadFacts.{HeadFacts}
-pub use Rattle.pawn_wire.specs.declared.head.HeadRead.{HeadRead}
-pub use Rattle.pawn_wire.specs.declared.limits.TheConstants.{MAX_BODY, MAX_DIGITS, MAX_FIELDS, MAX_HEAD, MAX_NUMBER}
-pub use Rattle.pawn_wire.specs.declared.place.Place.{Place}
-pub use Rattle.pawn_wire.specs.declared.place.Target.{Target}
-pub use Rattle.pawn_wire.specs.declared.place.Target.TheVariants.{Create, PutTerms, TakePledge, Show, OnPledge, ShowDay, Export, Import, Present, OnReceipt}
-pub use Rattle.pawn_wire.specs.declared.reply.Out.{Out}
-pub use Rattle.pawn_wire.specs.declared.request.Outline.{Outline}
-pub use Rattle.pawn_wire.specs.declared.route.BearerAction.{BearerAction}
-pub use Rattle.pawn_wire.specs.declared.route.BrokerAction.{BrokerAction}
-pub use Rattle.pawn_wire.specs.declared.route.Endpoint.{Endpoint}
-pub use Rattle.pawn_wire.specs.declared.router.Asked.{Asked}
+pub use Rattle.pawn_wire.specs.declared.{asking.Asks.Asks, commands.{NewBooking.NewBooking, NewEntry.NewEntry}, detail.Detail.{Detail, TheVariants.Row}}
+pub use Rattle.pawn_wire.specs.declared.{detail.Detail.TheVariants.Total, fault.{HeadFault.HeadFault, WireFault.{WireFault, TheVariants.{BadBody, BadKey}}}}
+pub use Rattle.pawn_wire.specs.declared.fault.WireFault.TheVariants.{BadReceipt, Csv, Memory, NoReceipt, NoRoute, TooManyReceipts, WrongMethod}
+pub use Rattle.pawn_wire.specs.declared.{fields.{Fields.Fields, Found.{Found, TheVariants.{Missing, One, Several}}}, head.HeadFacts.HeadFacts}
+pub use Rattle.pawn_wire.specs.declared.place.{Place.Place, Target.{Target, TheVariants.{Create, PutTerms, TakePledge, Show, OnPledge, ShowDay, Export}}}
+pub use Rattle.pawn_wire.specs.declared.{place.Target.TheVariants.{Import, Present, OnReceipt}, reply.Out.Out, request.Outline.Outline}
+pub use Rattle.pawn_wire.specs.declared.{route.{BearerAction.BearerAction, BrokerAction.BrokerAction, Endpoint.Endpoint}, router.Asked.Asked}

@@ -1,8 +1,6 @@
 -- Examples of heads of requests, worked out.
 use Rattle.std.specs.Prelude.{◌≡◌, ℕ, List, [], ◌∷◌, codes, false, true, Ok, Err}
-use Rattle.httparse.specs.Grammar.{Field, RequestHead, crlf, print_request}
-use Rattle.pawn_wire.specs.Fields.{Pair}
-use Rattle.pawn_wire.specs.Head.{IsHead, fields_of, body_length, closes_by}
+use Rattle.{httparse.specs.Grammar.{Field, RequestHead, crlf, print_request}, pawn_wire.specs.{Fields.Pair, Head.{IsHead, fields_of, body_length, closes_by}}}
 use Rattle.pawn_wire.specs.Types.{HeadFault}
 
 -- a field's line: its name, and its value with the white space round it

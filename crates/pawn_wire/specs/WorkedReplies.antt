@@ -1,10 +1,8 @@
 -- Examples of replies, worked out.
 use Rattle.std.specs.Prelude.{◌≡◌, codes}
-use Rattle.pawn_wire.specs.Common.{BookFilled, BookMade, Opened, Receipt, TermsPut, Cause}
-use Rattle.pawn_book.specs.declared.refusal.Refusal.TheVariants.{NoSuchReceipt, NotOperator, BookTaken, Full}
-use Rattle.pawn_wire.specs.Reply.{memory_text, out_text}
-use Rattle.pawn_wire.specs.Status.{reply_status}
-use Rattle.pawn_wire.specs.Types.{BadBody, Csv, NoRoute, Out, WireFault}
+use Rattle.pawn_book.specs.declared.{reply.Reply.TheVariants.{BookFilled, BookMade, Opened, TermsPut}, refusal.Refusal.TheVariants.{NoSuchReceipt, NotOperator}}
+use Rattle.{pawn_book.specs.declared.refusal.Refusal.TheVariants.{BookTaken, Full}, pawn_wire.specs.{Common.{Receipt, Cause}, Reply.{memory_text, out_text}}}
+use Rattle.pawn_wire.specs.{Status.reply_status, Types.{BadBody, Csv, NoRoute, Out, WireFault}}
 
 -- the first number and the last of each kind: bad requests, forbidden, not found, unavailable, and conflicts between them
 abbrev pub WorkedReplyStatuses : Type 0
@@ -57,4 +55,5 @@ WorkedAnswers =
     × (out_text (Out.Done (BookFilled 2))
     ≡ codes "HTTP/1.1 200 OK\r\nContent-Length: 14\r\nContent-Type: application/json\r\n\r\n{\"imported\":2}")
     × (out_text (Out.Done (Opened first_receipt_of_ring))
-    ≡ codes "HTTP/1.1 200 OK\r\nContent-Length: 63\r\nContent-Type: application/json\r\n\r\n{\"number\":1,\"receipt\":\"1-da41597c-5157-488d-7724-e03fb8d84a37\"}")
+    ≡ codes
+    "HTTP/1.1 200 OK\r\nContent-Length: 63\r\nContent-Type: application/json\r\n\r\n{\"number\":1,\"receipt\":\"1-da41597c-5157-488d-7724-e03fb8d84a37\"}")

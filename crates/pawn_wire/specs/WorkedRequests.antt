@@ -1,21 +1,13 @@
 -- Examples of requests, worked out.
 use Rattle.std.specs.Prelude.{◌≡◌, ℕ, List, [], ◌∷◌, codes, replicate, false, true, Option, Some, None, Ok, Err}
-use Rattle.pawn_wire.specs.Common.{Bearer, Broker, Command, Confirm, Fixed, Receipt, Running, Sworn}
-use Rattle.pawn_terms.specs.Worked.{date}
+use Rattle.pawn_wire.specs.{Common.{Bearer, Broker, Command, Confirm, Fixed, Receipt, Running, Sworn}, Body.{new_book_of, new_terms_of, opening_of}}
+use Rattle.pawn_wire.specs.{Commands.{brokers_command_said, bearers_command_said}, Fields.Pair, Limits.{max_head, max_fields, max_body, max_digits, max_number}}
+use Rattle.pawn_wire.specs.{Member.body_said, Named.{number_said, day_said}, Receipts.{receipt_values, receipt_said, receipts_said, one_said}, Asking.key_of}
+use Rattle.pawn_wire.specs.{Place.place_of, Request.outline_by, WorkedHeads.{chunked_coding, tells_length}, Types.{Asks, BadBody, BadKey, BadReceipt}}
+use Rattle.pawn_wire.specs.Types.{BearerAction, BrokerAction, Create, Export, Import, NoReceipt, NoRoute, OnPledge, OnReceipt, Place, Present, PutTerms, Show}
+use Rattle.{pawn_wire.specs.Types.{ShowDay, TakePledge, Target, TooManyReceipts, WireFault, WrongMethod}, pawn_terms.specs.Worked.date}
 use Rattle.pawn_book.specs.declared.request.BrokerRequest.TheVariants as broker
 use Rattle.pawn_book.specs.declared.request.BearerRequest.TheVariants as bearer
-use Rattle.pawn_wire.specs.Body.{new_book_of, new_terms_of, opening_of}
-use Rattle.pawn_wire.specs.Commands.{brokers_command_said, bearers_command_said}
-use Rattle.pawn_wire.specs.Fields.{Pair}
-use Rattle.pawn_wire.specs.Limits.{max_head, max_fields, max_body, max_digits, max_number}
-use Rattle.pawn_wire.specs.Member.{body_said}
-use Rattle.pawn_wire.specs.Named.{number_said, day_said}
-use Rattle.pawn_wire.specs.Receipts.{receipt_values, receipt_said, receipts_said, one_said}
-use Rattle.pawn_wire.specs.Asking.{key_of}
-use Rattle.pawn_wire.specs.Place.{place_of}
-use Rattle.pawn_wire.specs.Request.{outline_by}
-use Rattle.pawn_wire.specs.WorkedHeads.{chunked_coding, tells_length}
-use Rattle.pawn_wire.specs.Types.{Asks, BadBody, BadKey, BadReceipt, BearerAction, BrokerAction, Create, Export, Import, NoReceipt, NoRoute, OnPledge, OnReceipt, Place, Present, PutTerms, Show, ShowDay, TakePledge, Target, TooManyReceipts, WireFault, WrongMethod}
 
 -- the limits of a request: the bytes and the fields of its head, the bytes of its body, the digits of the number that
 -- gives the body's length, and the largest number in a body
@@ -155,9 +147,11 @@ WorkedBodies =
     × (body_said new_terms_of (codes "[]") ≡ None)
     × (body_said opening_of (codes "{\"agreed\":null,\"article\":\"Gold ring\",\"five_days\":false,\"kind\":\"fixed\",\"pence\":10000,\"ref\":\"A1\"}")
     ≡ Some (record { reference = codes "A1"; article = codes "Gold ring"; kind = Fixed 10000; agreed = None; five_days = false }))
-    × (body_said opening_of (codes "{\"agreed\":\"2001-02-28\",\"article\":\"Gold ring\",\"five_days\":true,\"kind\":\"running\",\"pence\":10000,\"ref\":\"A1\"}")
+    × (body_said opening_of
+    (codes "{\"agreed\":\"2001-02-28\",\"article\":\"Gold ring\",\"five_days\":true,\"kind\":\"running\",\"pence\":10000,\"ref\":\"A1\"}")
     ≡ Some (record { reference = codes "A1"; article = codes "Gold ring"; kind = Running 10000; agreed = Some 11381; five_days = true }))
-    × (body_said opening_of (codes "{\"agreed\":\"2001-02-29\",\"article\":\"Gold ring\",\"five_days\":true,\"kind\":\"running\",\"pence\":10000,\"ref\":\"A1\"}")
+    × (body_said opening_of
+    (codes "{\"agreed\":\"2001-02-29\",\"article\":\"Gold ring\",\"five_days\":true,\"kind\":\"running\",\"pence\":10000,\"ref\":\"A1\"}")
     ≡ None)
 
 -- bodies of commands

@@ -1,6 +1,7 @@
 //! Who asks at a target, and what for.
 ghost use Rattle.std.specs.Prelude.{◌≡◌, codes};
-ghost use Rattle.pawn_wire.specs.Http.{Create, Export, Import, OnPledge, OnReceipt, Present, PutTerms, Says, Show, ShowDay, TakePledge, asks_said, key_given, pairs_of};
+ghost use Rattle.pawn_wire.specs.{Types.{Create, Export, Import, OnPledge, OnReceipt, Present, PutTerms, Show, ShowDay, TakePledge}, Chain.Says};
+ghost use Rattle.pawn_wire.specs.{Asking.{asks_said, key_given}, Fields.pairs_of};
 
 use crate::fault::WireFault;
 use crate::fields::{Fields, Found};
@@ -44,8 +45,7 @@ fn key(fields: &Fields<'_>) -> Result<Secret, WireFault>
 
 // The operator, who makes a book.
 fn create(alloc: Global, sent: &Sent<'_>) -> Result<Asks, WireFault>
-    ensures value { Says result (asks_said Create
-        (pairs_of sent.now.fields) sent.now.body.now) }
+    ensures value { Says result (asks_said Create (pairs_of sent.now.fields) sent.now.body.now) }
 {
     let key = key(&sent.fields)?;
     let value = member::json(alloc, sent.body)?;
@@ -55,8 +55,7 @@ fn create(alloc: Global, sent: &Sent<'_>) -> Result<Asks, WireFault>
 
 // A broker, who puts terms.
 fn put_terms(alloc: Global, sent: &Sent<'_>) -> Result<Asks, WireFault>
-    ensures value { Says result (asks_said PutTerms
-        (pairs_of sent.now.fields) sent.now.body.now) }
+    ensures value { Says result (asks_said PutTerms (pairs_of sent.now.fields) sent.now.body.now) }
 {
     let key = key(&sent.fields)?;
     let value = member::json(alloc, sent.body)?;
@@ -73,8 +72,7 @@ fn by_broker(key: Secret, asked: BrokerRequest) -> Asks
 
 // A broker, who takes a pledge.
 fn take_pledge(alloc: Global, sent: &Sent<'_>) -> Result<Asks, WireFault>
-    ensures value { Says result (asks_said TakePledge
-        (pairs_of sent.now.fields) sent.now.body.now) }
+    ensures value { Says result (asks_said TakePledge (pairs_of sent.now.fields) sent.now.body.now) }
 {
     let key = key(&sent.fields)?;
     let value = member::json(alloc, sent.body)?;
@@ -84,8 +82,7 @@ fn take_pledge(alloc: Global, sent: &Sent<'_>) -> Result<Asks, WireFault>
 
 // A broker, who sees the pledge of this number.
 fn show(number: Number, sent: &Sent<'_>) -> Result<Asks, WireFault>
-    ensures value { Says result (asks_said (Show number)
-        (pairs_of sent.now.fields) sent.now.body.now) }
+    ensures value { Says result (asks_said (Show number) (pairs_of sent.now.fields) sent.now.body.now) }
 {
     let key = key(&sent.fields)?;
     Ok(by_broker(key, BrokerRequest::Show(number)))
@@ -98,8 +95,7 @@ fn command_pledge(
     action: BrokerAction,
     sent: &Sent<'_>,
 ) -> Result<Asks, WireFault>
-    ensures value { Says result (asks_said (OnPledge number action)
-        (pairs_of sent.now.fields) sent.now.body.now) }
+    ensures value { Says result (asks_said (OnPledge number action) (pairs_of sent.now.fields) sent.now.body.now) }
 {
     let key = key(&sent.fields)?;
     let command = commands::brokers_command(alloc, action, sent.body)?;
@@ -108,8 +104,7 @@ fn command_pledge(
 
 // A broker, who sees a day's sheet.
 fn show_day(day: RequestDay, sent: &Sent<'_>) -> Result<Asks, WireFault>
-    ensures value { Says result (asks_said (ShowDay day)
-        (pairs_of sent.now.fields) sent.now.body.now) }
+    ensures value { Says result (asks_said (ShowDay day) (pairs_of sent.now.fields) sent.now.body.now) }
 {
     let key = key(&sent.fields)?;
     Ok(by_broker(key, BrokerRequest::SheetOf(day)))
@@ -117,8 +112,7 @@ fn show_day(day: RequestDay, sent: &Sent<'_>) -> Result<Asks, WireFault>
 
 // A broker, who exports the book as a text.
 fn export(sent: &Sent<'_>) -> Result<Asks, WireFault>
-    ensures value { Says result (asks_said Export
-        (pairs_of sent.now.fields) sent.now.body.now) }
+    ensures value { Says result (asks_said Export (pairs_of sent.now.fields) sent.now.body.now) }
 {
     let key = key(&sent.fields)?;
     Ok(by_broker(key, BrokerRequest::Export))
@@ -126,8 +120,7 @@ fn export(sent: &Sent<'_>) -> Result<Asks, WireFault>
 
 // A broker, who fills the book with the rows of an import: the broker's key and the import's.
 fn import(sent: &Sent<'_>) -> Result<Asks, WireFault>
-    ensures value { Says result (asks_said Import
-        (pairs_of sent.now.fields) sent.now.body.now) }
+    ensures value { Says result (asks_said Import (pairs_of sent.now.fields) sent.now.body.now) }
 {
     let key = key(&sent.fields)?;
     let importing = key_under(b"import-key", &sent.fields)?;
@@ -136,8 +129,7 @@ fn import(sent: &Sent<'_>) -> Result<Asks, WireFault>
 
 // A bearer, who sees the pledges of receipts.
 fn present(alloc: Global, sent: &Sent<'_>) -> Result<Asks, WireFault>
-    ensures value { Says result (asks_said Present
-        (pairs_of sent.now.fields) sent.now.body.now) }
+    ensures value { Says result (asks_said Present (pairs_of sent.now.fields) sent.now.body.now) }
 {
     let receipts = receipts::receipts(alloc, &sent.fields)?;
     Ok(Asks::Whole(Caller::Bearer(BearerRequest::Present(receipts))))
@@ -145,8 +137,7 @@ fn present(alloc: Global, sent: &Sent<'_>) -> Result<Asks, WireFault>
 
 // A bearer, with a command for the pledge of a receipt.
 fn command_receipt(alloc: Global, action: BearerAction, sent: &Sent<'_>) -> Result<Asks, WireFault>
-    ensures value { Says result (asks_said (OnReceipt action)
-        (pairs_of sent.now.fields) sent.now.body.now) }
+    ensures value { Says result (asks_said (OnReceipt action) (pairs_of sent.now.fields) sent.now.body.now) }
 {
     let receipt = receipts::one(&sent.fields)?;
     let command = commands::bearers_command(alloc, action, sent.body)?;
@@ -155,8 +146,7 @@ fn command_receipt(alloc: Global, action: BearerAction, sent: &Sent<'_>) -> Resu
 
 // Reads who asks at a target, and what for: first the key or the receipts, then the body.
 pub(crate) fn who_asks(alloc: Global, target: Target, sent: &Sent<'_>) -> Result<Asks, WireFault>
-    ensures value { Says result (asks_said target
-        (pairs_of sent.now.fields) sent.now.body.now) }
+    ensures value { Says result (asks_said target (pairs_of sent.now.fields) sent.now.body.now) }
 {
     match target {
         Target::Create => create(alloc, sent),

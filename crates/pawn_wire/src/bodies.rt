@@ -1,6 +1,6 @@
 //! The JSON bodies of replies.
 ghost use Rattle.std.specs.Prelude.{◌≡◌, IfOk, Some, string_bytes};
-ghost use Rattle.pawn_wire.specs.Http.{Row, Total, book_text, filled_text, opened_text, refusal_text, version_text};
+ghost use Rattle.pawn_wire.specs.{Types.{Row, Total}, Bodies.{book_text, filled_text, opened_text, refusal_text, version_text}};
 
 use crate::detail::Detail;
 use std::alloc::{AllocError, Global};
@@ -55,8 +55,7 @@ fn refusal_with_total(
     name: &str,
     total: u64,
 ) -> Result<String, AllocError>
-    ensures text { IfOk result (λ s. string_bytes s ≡ refusal_text code name.now
-        (Some (Total total))) }
+    ensures text { IfOk result (λ s. string_bytes s ≡ refusal_text code name.now (Some (Total total))) }
 {
     format!(in alloc; "{{\"code\":{code},\"name\":\"{name}\",\"total\":{total}}}")
 }

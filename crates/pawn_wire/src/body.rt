@@ -1,7 +1,7 @@
 //! The JSON bodies of requests.
 ghost use Rattle.std.specs.Prelude.{◌≡◌};
-ghost use Rattle.pawn_wire.specs.Common.{MOST_BOOKINGS, view};
-ghost use Rattle.pawn_wire.specs.Http.{BadBody, GivesPart, day_or_null, in_range, kind_named, kind_of, new_book_of, new_terms_of, opening_of, optional_day_at};
+ghost use Rattle.pawn_wire.specs.{Common.{MOST_BOOKINGS, view}, Types.BadBody, Chain.GivesPart, Body.{day_or_null, kind_named, kind_of, new_book_of}};
+ghost use Rattle.pawn_wire.specs.{Body.{new_terms_of, opening_of, optional_day_at}, Member.in_range};
 
 use crate::fault::WireFault;
 use crate::member;

@@ -1,7 +1,8 @@
 //! The JSON bodies of commands.
 ghost use Rattle.std.specs.Prelude.{◌≡◌, true};
-ghost use Rattle.pawn_pledge.specs.Commands.{is_brokers, is_bearers};
-ghost use Rattle.pawn_wire.specs.Http.{BadBody, GivesPart, asked_booking, asked_entry, bearers_command_said, body_said, brokers_command_said, day_at, decision_by, decision_of, number_at, paper_named, paper_of};
+ghost use Rattle.{pawn_pledge.specs.Commands.{is_brokers, is_bearers}, pawn_wire.specs.{Types.BadBody, Chain.GivesPart, Commands.{asked_booking, asked_entry}}};
+ghost use Rattle.pawn_wire.specs.{Commands.{bearers_command_said, brokers_command_said, decision_by, decision_of, paper_named, paper_of}, Member.body_said};
+ghost use Rattle.pawn_wire.specs.Member.{day_at, number_at};
 
 use crate::fault::WireFault;
 use crate::member;

@@ -1,7 +1,7 @@
 //! The JSON bodies of replies to commands.
 ghost use Rattle.std.specs.Prelude.{◌≡◌, IfOk, string_bytes};
-ghost use Rattle.pawn_wire.specs.Common.{day_text, receipt_text, sort_text, state_text};
-ghost use Rattle.pawn_wire.specs.Done.{entered_text, held_text, declared_text, booked_text, redeemed_text, sold_text, extended_text, commanded_text};
+ghost use Rattle.pawn_wire.specs.{Common.{day_text, receipt_text, sort_text, state_text}, Done.{entered_text, held_text, declared_text, booked_text}};
+ghost use Rattle.pawn_wire.specs.Done.{redeemed_text, sold_text, extended_text, commanded_text};
 
 use pawn_book::{Booking, Day, Done, Entry, Number, Receipt};
 use std::alloc::{AllocError, Global};
@@ -29,8 +29,7 @@ fn entered_text(
 
 // The body for an entry that was made.
 fn tell_entry(alloc: Global, entry: Entry) -> Result<String, AllocError>
-    ensures text { IfOk result (λ s. string_bytes s
-        ≡ entered_text (day_text entry.day) entry.pence entry.seq (sort_text entry.sort)) }
+    ensures text { IfOk result (λ s. string_bytes s ≡ entered_text (day_text entry.day) entry.pence entry.seq (sort_text entry.sort)) }
 {
     let day = day_text(alloc, entry.day)?;
     entered_text(
@@ -76,8 +75,7 @@ fn booked_text(alloc: Global, state: &str, day: &str, window: u64) -> Result<Str
 
 // The body for a booking: its state, its day and its window.
 fn tell_booking(alloc: Global, booking: Booking) -> Result<String, AllocError>
-    ensures text { IfOk result (λ s. string_bytes s
-        ≡ booked_text (state_text booking.state) (day_text booking.day) booking.window) }
+    ensures text { IfOk result (λ s. string_bytes s ≡ booked_text (state_text booking.state) (day_text booking.day) booking.window) }
 {
     let day = day_text(alloc, booking.day)?;
     booked_text(alloc, booking.state.word(), day.as_str(), booking.window)

@@ -1,7 +1,6 @@
 //! Why bytes are no request.
 ghost use Rattle.std.specs.Prelude.{◌≡◌};
-ghost use Rattle.pawn_wire.specs.Fault.{wire_fault_code, detail_of, wire_fault_name, text_fault, wire_fault};
-ghost use Rattle.pawn_wire.specs.declared.fault.WireFault.TheVariants.{Memory};
+ghost use Rattle.pawn_wire.specs.{Fault.{wire_fault_code, detail_of, wire_fault_name, text_fault, wire_fault}, declared.fault.WireFault.TheVariants.Memory};
 
 use crate::detail::Detail;
 use pawn_csv::{Cause, CsvFault};

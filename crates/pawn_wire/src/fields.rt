@@ -1,5 +1,5 @@
 //! The fields of a head, by their names.
-ghost use Rattle.pawn_wire.specs.Common.{All, IsHeaderWithin, length};
+ghost use Rattle.{std.specs.Prelude.{All, length}, pawn_wire.specs.Common.IsHeaderWithin};
 
 use httparse::spans::HeaderSpan;
 
@@ -37,8 +37,7 @@ impl<'a> Fields<'a> {
     // Whether a field has this name, whatever the case of its letters.
     pub(crate) fn is_named(&self, field: &HeaderSpan, name: &[u8]) -> bool
         requires within { IsHeaderWithin (length self.now.bytes.now) field.now }
-        ensures value { result ≡ str_eq_ignore_ascii_case
-            (header_bytes self.now.bytes.now field.now).0 name.now }
+        ensures value { result ≡ str_eq_ignore_ascii_case (header_bytes self.now.bytes.now field.now).0 name.now }
     {
         field.name.of(self.bytes).eq_ignore_ascii_case(name)
     }
@@ -75,8 +74,7 @@ impl<'a> Fields<'a> {
     // Whether a field has this name and this value, whatever the case of their letters.
     fn is_pair(&self, field: &HeaderSpan, name: &[u8], value: &[u8]) -> bool
         requires within { IsHeaderWithin (length self.now.bytes.now) field.now }
-        ensures value { result ≡ (str_eq_ignore_ascii_case
-            (header_bytes self.now.bytes.now field.now).0 name.now
+        ensures value { result ≡ (str_eq_ignore_ascii_case (header_bytes self.now.bytes.now field.now).0 name.now
             && str_eq_ignore_ascii_case (header_bytes self.now.bytes.now field.now).1 value.now) }
     {
         self.is_named(field, name) && field.value.of(self.bytes).eq_ignore_ascii_case(value)
@@ -84,8 +82,7 @@ impl<'a> Fields<'a> {
 
     // Whether some field has this name and this value.
     pub(crate) fn has_value(&self, name: &[u8], value: &[u8]) -> bool
-        ensures value { result ≡ list_any
-            (λ v. str_eq_ignore_ascii_case v value.now) (values_of name.now (pairs_of self.now)) }
+        ensures value { result ≡ list_any (λ v. str_eq_ignore_ascii_case v value.now) (values_of name.now (pairs_of self.now)) }
     {
         let mut found = false;
         for field in self.spans {

@@ -1,6 +1,6 @@
 //! Heads of requests.
 ghost use Rattle.std.specs.Prelude.{◌≡◌, ◌+◌, ◌≤◌};
-ghost use Rattle.pawn_wire.specs.Http.{IfWhole, IsHeadRead, body_length, closes_by, max_body, max_head, pairs_of};
+ghost use Rattle.pawn_wire.specs.{Head.{IfWhole, IsHeadRead, body_length, closes_by}, Limits.{max_body, max_head}, Fields.pairs_of};
 
 use crate::fault::HeadFault;
 use crate::fields::{Fields, Found};

@@ -1,7 +1,7 @@
 //! JSON bodies and their members.
 ghost use Rattle.std.specs.Prelude.{◌≡◌, option_copied};
-ghost use Rattle.serde_json.specs.View.{view};
-ghost use Rattle.pawn_wire.specs.Http.{BadBody, GivesPart, JsonOf, day_at, day_said, flag_at, key_at, number_at, string_at, text_at};
+ghost use Rattle.{serde_json.specs.View.view, pawn_wire.specs.{Types.BadBody, Chain.GivesPart, Member.{JsonOf, day_at, flag_at, key_at, number_at, string_at}}};
+ghost use Rattle.pawn_wire.specs.{Member.text_at, Named.day_said};
 
 use crate::fault::WireFault;
 use crate::limits::MAX_NUMBER;

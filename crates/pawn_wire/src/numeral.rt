@@ -1,7 +1,6 @@
 //! Numbers in fields.
 ghost use Rattle.std.specs.Prelude.{◌≡◌, IsTrue};
-ghost use Rattle.pawn_wire.specs.Common.{digits_value, is_ascii_digit, list_all};
-ghost use Rattle.pawn_wire.specs.Numeral.{is_short_numeral, decimal_of};
+ghost use Rattle.pawn_wire.specs.{Common.{digits_value, is_ascii_digit, list_all}, Numeral.{is_short_numeral, decimal_of}};
 
 use crate::limits::MAX_DIGITS;
 

@@ -1,6 +1,6 @@
 //! What targets ask for.
 ghost use Rattle.std.specs.Prelude.{◌≡◌, bytes_eq, option_copied};
-ghost use Rattle.pawn_wire.specs.Http.{is_ascii_text, method_of, number_said, place_of, target_said};
+ghost use Rattle.pawn_wire.specs.{Place.{is_ascii_text, method_of, place_of, target_said}, Named.number_said};
 
 use crate::member;
 use crate::route::{BearerAction, BrokerAction, Endpoint};

@@ -1,6 +1,7 @@
 //! Receipts that fields present.
 ghost use Rattle.std.specs.Prelude.{◌≡◌, ◌⊎◌, Some, None, MatchResult};
-ghost use Rattle.pawn_wire.specs.Http.{BadReceipt, Memory, Says, all_said, one_said, pairs_of, receipt_said, receipt_values, receipts_said};
+ghost use Rattle.pawn_wire.specs.{Types.{BadReceipt, Memory}, Chain.Says, Receipts.{all_said, one_said, receipt_said, receipt_values, receipts_said}};
+ghost use Rattle.pawn_wire.specs.Fields.{pairs_of};
 
 use crate::fault::WireFault;
 use crate::fields::{Fields, Found};
@@ -21,10 +22,8 @@ fn receipt_of(text: &[u8]) -> Option<Receipt>
 
 // The receipts in the fields `Pledge-Receipt`. `BadReceipt` if one is malformed.
 fn collect(alloc: Global, fields: &Fields<'_>) -> Result<Vec<Receipt>, WireFault>
-    ensures all { MatchResult result
-        (λ v. all_said (receipt_values (pairs_of fields.now)) ≡ Some v.items)
-        (λ e. (e ≡ Memory) ⊎
-        ((e ≡ BadReceipt) × (all_said (receipt_values (pairs_of fields.now)) ≡ None))) }
+    ensures all { MatchResult result (λ v. all_said (receipt_values (pairs_of fields.now)) ≡ Some v.items)
+        (λ e. (e ≡ Memory) ⊎ ((e ≡ BadReceipt) × (all_said (receipt_values (pairs_of fields.now)) ≡ None))) }
 {
     let mut receipts = Vec::new(alloc);
     for field in fields.spans {

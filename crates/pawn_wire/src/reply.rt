@@ -1,7 +1,7 @@
 //! Replies to bytes.
 ghost use Rattle.std.specs.Prelude.{◌≡◌, IfOk, string_bytes};
-ghost use Rattle.pawn_pledge.specs.Receipt.{receipt_text};
-ghost use Rattle.pawn_wire.specs.Http.{book_text, commanded_text, done_text, fault_text, filled_text, head_text, json_text, memory_text, opened_text, out_text, refused_text, reply_text, version_text, wire_fault};
+ghost use Rattle.{pawn_pledge.specs.Receipt.receipt_text, pawn_wire.specs.{Bodies.{book_text, filled_text, opened_text, version_text}, Done.commanded_text}};
+ghost use Rattle.pawn_wire.specs.{Reply.{done_text, fault_text, head_text, json_text, memory_text, out_text, refused_text, reply_text}, Fault.wire_fault};
 
 use crate::detail::Detail;
 use crate::fault::{HeadFault, WireFault};
@@ -119,8 +119,7 @@ fn filled_reply(alloc: Global, pledges: u64) -> Result<Vec<u8>, AllocError>
 }
 
 fn opening_reply(alloc: Global, receipt: Receipt) -> Result<Vec<u8>, AllocError>
-    ensures text { IfOk result (λ v. v.items ≡ json_text 200
-        (opened_text receipt.number (receipt_text receipt))) }
+    ensures text { IfOk result (λ v. v.items ≡ json_text 200 (opened_text receipt.number (receipt_text receipt))) }
 {
     let number = receipt.number.get();
     let text = receipt.text(alloc)?;

@@ -1,7 +1,7 @@
 //! Requests from bytes.
 ghost use Rattle.std.specs.Prelude.{◌≡◌};
-ghost use Rattle.pawn_wire.specs.Common.{Broker, Import};
-ghost use Rattle.pawn_wire.specs.Http.{HoldsRows, IsAsked, IsOutlined, IsRequestRead, OrMemory, Says, outline_by, pairs_of};
+ghost use Rattle.pawn_wire.specs.{Common.{Broker, Import}, Request.{HoldsRows, IsAsked, IsOutlined, IsRequestRead, outline_by}, Chain.{OrMemory, Says}};
+ghost use Rattle.pawn_wire.specs.Fields.{pairs_of};
 
 use crate::asking::{Asks, Sent, who_asks};
 use crate::fault::WireFault;
@@ -31,8 +31,7 @@ fn outline_by(
     target: &[u8],
     sent: &Sent<'_>,
 ) -> Result<Outline, WireFault>
-    ensures value { Says result (outline_by method.now target.now
-        (pairs_of sent.now.fields) sent.now.body.now) }
+    ensures value { Says result (outline_by method.now target.now (pairs_of sent.now.fields) sent.now.body.now) }
 {
     let length = body_length(&sent.fields)?;
     if length != sent.body.len() {
@@ -92,8 +91,7 @@ fn request_by(
     target: &[u8],
     sent: &Sent<'_>,
 ) -> Result<Request, WireFault>
-    ensures value { OrMemory (IsOutlined sent.now.body.now
-        (outline_by method.now target.now (pairs_of sent.now.fields) sent.now.body.now)) result }
+    ensures value { OrMemory (IsOutlined sent.now.body.now (outline_by method.now target.now (pairs_of sent.now.fields) sent.now.body.now)) result }
 {
     let outline = outline_by(alloc, router, method, target, sent)?;
     request_of(alloc, outline, sent.body)

@@ -1,7 +1,6 @@
 //! The service's routes.
 ghost use Rattle.std.specs.Prelude.{◌≡◌, Some, None, OnOk, map, option_copied, slice_get};
-ghost use Rattle.pawn_wire.specs.Common.{IsAscii, walk};
-ghost use Rattle.pawn_wire.specs.Route.{with_routes, plain};
+ghost use Rattle.pawn_wire.specs.{Common.{IsAscii, walk}, Route.{with_routes, plain}};
 
 use crate::route::{Endpoint, ROUTES};
 use matchit::{InsertError, Params, Router as Matcher};
@@ -73,11 +72,9 @@ impl Router {
 fn first_two<'v>(params: &Params<'_, 'v>) -> (Option<&'v str>, Option<&'v str>)
     requires ascii { IsAscii params.now.path.now }
     ensures first { option_copied result.0 ≡ slice_get
-        (map (λ p. p.1) (walk params.now.pattern.now params.now.text.now params.now.path.now
-        params.now.names.now 0 0)) 0 }
+        (map (λ p. p.1) (walk params.now.pattern.now params.now.text.now params.now.path.now params.now.names.now 0 0)) 0 }
     ensures second { option_copied result.1 ≡ slice_get
-        (map (λ p. p.1) (walk params.now.pattern.now params.now.text.now params.now.path.now
-        params.now.names.now 0 0)) 1 }
+        (map (λ p. p.1) (walk params.now.pattern.now params.now.text.now params.now.path.now params.now.names.now 0 0)) 1 }
 {
     let mut parts = params.iter();
     let Some((_, first)) = parts.next() else {

@@ -1,6 +1,7 @@
-ghost use Rattle.pawn_wire.specs.WorkedHeads.{WorkedHeads, WorkedLengths, WorkedConnections};
-ghost use Rattle.pawn_wire.specs.WorkedReplies.{WorkedReplyStatuses, WorkedRefusals, WorkedFaults, WorkedAnswers};
-ghost use Rattle.pawn_wire.specs.WorkedRequests.{WorkedLimits, WorkedTargets, WorkedNoTargets, WorkedPathNumbers, WorkedDayTexts, WorkedKeys, WorkedReceiptLists, WorkedBodies, WorkedCommands, WorkedOrder, WorkedRequests};
+ghost use Rattle.pawn_wire.specs.{WorkedHeads.{WorkedHeads, WorkedLengths, WorkedConnections}, WorkedReplies.{WorkedReplyStatuses, WorkedRefusals}};
+ghost use Rattle.pawn_wire.specs.{WorkedReplies.{WorkedFaults, WorkedAnswers}, WorkedRequests.{WorkedLimits, WorkedTargets, WorkedNoTargets}};
+ghost use Rattle.pawn_wire.specs.WorkedRequests.{WorkedPathNumbers, WorkedDayTexts, WorkedKeys, WorkedReceiptLists, WorkedBodies, WorkedCommands, WorkedOrder};
+ghost use Rattle.pawn_wire.specs.WorkedRequests.{WorkedRequests};
 
 /// Examples of heads, of their bodies' lengths, and of connections that close.
 pub fn worked_heads()

@@ -1,4 +1,3 @@
-pub mod Basics
 pub mod EndsLemmas
 pub mod PutLemmas
 pub mod ShareLemmas

@@ -1,5 +1,9 @@
 -- Texts put one after the other.
-use Rattle.pawn_writing.proofs.Basics.{Appends, End, Front, Whole, flat_map, Appends-nil, Appends-trans, append-nil, cases_Bool, common_steps, eqb-true, flat_map-append, nat_tests, take-append-drop, take_more, ◌<◌, ◌≤◌, ◌+◌, nat_eq, length, take, drop, get_or, arith, ◌≡◌, ◌∙◌, ℕ, Bool, true, false, List, [], ◌∷◌, ◌++◌, Option, refl, sym, inl, inr, ap, subst, append_assoc, write_failed, written_bytes, end_by, PutFront, Written, Puts, Writing}
+use Rattle.std.{specs.{Io.KnownBytes.Appends, List.flat_map}, proofs.{KnownBytes.{Appends-nil, Appends-trans}, Common.{append-nil, eqb-true, take-append-drop}}}
+use Rattle.std.proofs.Common.{◌<◌, ◌≤◌, ◌+◌, nat_eq, length, take, drop, get_or, arith, ◌≡◌, ◌∙◌, ℕ, Bool, true, false, List, [], ◌∷◌, ◌++◌, Option, refl, sym}
+use Rattle.std.proofs.{Common.{inl, inr, ap, subst, append_assoc}, lemmas.{Bool.{cases_Bool, Decides.nat_tests}, Grind.{common_steps, flat_map-append}}}
+use Rattle.{std.proofs.lemmas.List.take_more, pawn_book.specs.Visits.{End, Front, Whole}, pawn_writing.specs.Ends.{write_failed, written_bytes, end_by}}
+use Rattle.pawn_writing.specs.{Ends.{PutFront, Written, Puts}, declared.writing.Writing.Writing}
 
 -- a whole text, and then as much of another
 put-then : {W : Type 0} (contents : W → Option (List ℕ)) (a b c : Writing W) (s t : List ℕ) (end : End)
@@ -23,8 +27,8 @@ now_by contents a b text failed is written = subst (λ (v : Bool). Written conte
 
 -- `send` to a writer that has not failed
 pub puts_sent : {W : Type 0} (contents : W → Option (List ℕ)) (a b : Writing W) (bs : List ℕ) (n : ℕ) → write_failed a ≡ false → n ≤ length bs
-    → Appends (written_bytes contents a) (written_bytes contents b) (take n bs) → (n ≡ length bs → write_failed b ≡ false) → (n < length bs → write_failed b ≡ true)
-    → Puts contents a bs b
+    → Appends (written_bytes contents a) (written_bytes contents b) (take n bs) → (n ≡ length bs → write_failed b ≡ false)
+    → (n < length bs → write_failed b ≡ true) → Puts contents a bs b
 puts_sent contents a b bs n fine bound bytes done failed = record {
   failed = λ f. cc;
   fine = λ f. elim (cases_Bool (nat_eq n (length bs))) [
@@ -43,7 +47,8 @@ pub puts_nil : {W : Type 0} (contents : W → Option (List ℕ)) (a : Writing W)
 puts_nil contents a = record { failed = λ failed. refl; fine = λ fine. by_now contents a a [] false fine (Appends-nil _, fine) }
 
 -- a text and then another
-pub puts_then : {W : Type 0} {contents : W → Option (List ℕ)} {a b c : Writing W} {s t : List ℕ} → Puts contents a s b → Puts contents b t c → Puts contents a (s ++ t) c
+pub puts_then : {W : Type 0} {contents : W → Option (List ℕ)} {a b c : Writing W} {s t : List ℕ} → Puts contents a s b → Puts contents b t c
+    → Puts contents a (s ++ t) c
 puts_then {contents = contents} {a = a} {b = b} {c = c} {s = s} {t = t} first second = record {
   failed = λ failed. let same = first.failed failed in second.failed (ap write_failed same ∙ failed) ∙ same;
   fine = λ fine. elim (cases_Bool (write_failed b)) [
@@ -62,6 +67,5 @@ puts_then {contents = contents} {a = a} {b = b} {c = c} {s = s} {t = t} first se
 pub puts_more : {W X : Type 0} (contents : W → Option (List ℕ)) (a b c : Writing W) (f : X → List ℕ) (xs : List X) (i : ℕ) (d : X) → i < length xs
     → Puts contents a (flat_map f (take i xs)) b → Puts contents b (f (get_or xs i d)) c → Puts contents a (flat_map f (take (i + 1) xs)) c
 puts_more contents a b c f xs i d lt first second =
-    subst (λ (t : List ℕ). Puts contents a t c)
-    (sym (ap (flat_map f) (take_more xs i d lt) ∙ flat_map-append f (take i xs) (get_or xs i d ∷ []) ∙ ap (λ (t : List ℕ). flat_map f (take i xs) ++ t) (append-nil (f (get_or xs i d)))))
-    (puts_then first second)
+    subst (λ (t : List ℕ). Puts contents a t c) (sym (ap (flat_map f) (take_more xs i d lt) ∙ flat_map-append f (take i xs) (get_or xs i d ∷ [])
+    ∙ ap (λ (t : List ℕ). flat_map f (take i xs) ++ t) (append-nil (f (get_or xs i d))))) (puts_then first second)

@@ -1,6 +1,8 @@
 -- Texts that are put line by line, in as many calls as it takes.
-use Rattle.pawn_writing.proofs.Basics.{◌≡◌, ◌∙◌, ℕ, Bool, true, false, List, [], ◌∷◌, ◌++◌, Option, refl, sym, ap, subst, inl, inr, append_assoc, End, Flow, Front, Go, Handed, IsShare, Stop, Whole, flat_map, if◌then◌else◌, append-nil, cases_Bool, flat_map-append, Writing, write_failed, Puts, Share, PutsLine, PutsShare}
-use Rattle.pawn_writing.proofs.PutLemmas.{puts_nil, puts_then}
+use Rattle.std.proofs.Common.{◌≡◌, ◌∙◌, ℕ, Bool, true, false, List, [], ◌∷◌, ◌++◌, Option, refl, sym, ap, subst, inl, inr, append_assoc, if◌then◌else◌}
+use Rattle.{std.{proofs.{Common.append-nil, lemmas.{Bool.cases_Bool, Grind.flat_map-append}}, specs.List.flat_map}, pawn_book.specs.Visits.{End, Front, Handed}}
+use Rattle.{pawn_book.specs.{Visits.{IsShare, Whole}, declared.visit.Flow.{Flow, TheVariants.{Go, Stop}}}, pawn_writing.specs.declared.writing.Writing.Writing}
+use Rattle.pawn_writing.{specs.Ends.{write_failed, Puts, Share, PutsLine, PutsShare}, proofs.PutLemmas.{puts_nil, puts_then}}
 
 -- the lines of what was handed were put
 lines_put : {W T : Type 0} (contents : W → Option (List ℕ)) (line : T → List ℕ) (v w : Writing W) (xs : List T) (flow : Flow)
@@ -43,16 +45,18 @@ pub writings_in_turn : {W : Type 0} {contents : W → Option (List ℕ)} → Put
 writings_in_turn = record { joined = λ a b c s t first second. puts_then first second; ended = λ a b s puts. puts.failed }
 
 -- a text that was put
-pub share_puts : {S : Type 0} {Puts : S → List ℕ → S → Type 0} {has_ended : S → Bool} {a b : S} {s : List ℕ} → PutsInTurn Puts has_ended → Puts a s b → Share Puts has_ended a s Whole b
+pub share_puts : {S : Type 0} {Puts : S → List ℕ → S → Type 0} {has_ended : S → Bool} {a b : S} {s : List ℕ} → PutsInTurn Puts has_ended → Puts a s b
+    → Share Puts has_ended a s Whole b
 share_puts {s = s} turn puts = (s, [], append-nil s, puts, λ fine done. refl)
 
 -- a text that was cut, and what would have come behind it
-pub share_more : {S : Type 0} {Puts : S → List ℕ → S → Type 0} {has_ended : S → Bool} {a b : S} {s : List ℕ} → PutsInTurn Puts has_ended → (t : List ℕ) → Share Puts has_ended a s Front b → Share Puts has_ended a (s ++ t) Front b
-share_more turn t (out, rest, whole, puts, all) =
-    (out, rest ++ t, sym (append_assoc out rest t) ∙ ap (λ (x : List ℕ). x ++ t) whole, puts, λ fine done. cc)
+pub share_more : {S : Type 0} {Puts : S → List ℕ → S → Type 0} {has_ended : S → Bool} {a b : S} {s : List ℕ} → PutsInTurn Puts has_ended → (t : List ℕ)
+    → Share Puts has_ended a s Front b → Share Puts has_ended a (s ++ t) Front b
+share_more turn t (out, rest, whole, puts, all) = (out, rest ++ t, sym (append_assoc out rest t) ∙ ap (λ (x : List ℕ). x ++ t) whole, puts, λ fine done. cc)
 
 -- all of a text is a front of it
-pub share_front : {S : Type 0} {Puts : S → List ℕ → S → Type 0} {has_ended : S → Bool} {a b : S} {s : List ℕ} → PutsInTurn Puts has_ended → Share Puts has_ended a s Whole b → Share Puts has_ended a s Front b
+pub share_front : {S : Type 0} {Puts : S → List ℕ → S → Type 0} {has_ended : S → Bool} {a b : S} {s : List ℕ} → PutsInTurn Puts has_ended
+    → Share Puts has_ended a s Whole b → Share Puts has_ended a s Front b
 share_front turn (out, rest, whole, puts, all) = (out, rest, whole, puts, λ fine done. cc)
 
 -- what went out is all of the text, if nothing is left
@@ -62,20 +66,21 @@ share_all {out = out} whole none = sym (append-nil out) ∙ ap (λ (x : List ℕ
 -- a text and then another
 pub share_then : {S : Type 0} {Puts : S → List ℕ → S → Type 0} {has_ended : S → Bool} {a b c : S} {s t : List ℕ} {end : End} → PutsInTurn Puts has_ended
     → Share Puts has_ended a s Whole b → Share Puts has_ended b t end c → Share Puts has_ended a (s ++ t) end c
-share_then {Puts = Puts} {has_ended = has_ended} {a = a} {b = b} {c = c} {s = s} {t = t} turn (out, rest, whole, puts, all) (out', rest', whole', puts', all') = elim (cases_Bool (has_ended b)) [
-  | inl ended ↦
-      let same = turn.ended b c out' puts' ended in (
-        out,
-        rest ++ t,
-        sym (append_assoc out rest t) ∙ ap (λ (x : List ℕ). x ++ t) whole,
-        subst (λ (x : _). Puts a out x) (sym same) puts,
-        λ fine done. cc,
+share_then {Puts = Puts} {has_ended = has_ended} {a = a} {b = b} {c = c} {s = s} {t = t} turn (out, rest, whole, puts, all) (out', rest', whole', puts', all') =
+    elim (cases_Bool (has_ended b)) [
+      | inl ended ↦
+          let same = turn.ended b c out' puts' ended in (
+            out,
+            rest ++ t,
+            sym (append_assoc out rest t) ∙ ap (λ (x : List ℕ). x ++ t) whole,
+            subst (λ (x : _). Puts a out x) (sym same) puts,
+            λ fine done. cc,
+          )
+      | inr fine ↦ (
+        s ++ out',
+        rest',
+        append_assoc s out' rest' ∙ ap (λ (x : List ℕ). s ++ x) whole',
+        turn.joined a b c s out' (subst (λ (x : List ℕ). Puts a x b) (share_all whole (all fine refl)) puts) puts',
+        all',
       )
-  | inr fine ↦ (
-    s ++ out',
-    rest',
-    append_assoc s out' rest' ∙ ap (λ (x : List ℕ). s ++ x) whole',
-    turn.joined a b c s out' (subst (λ (x : List ℕ). Puts a x b) (share_all whole (all fine refl)) puts) puts',
-    all',
-  )
-]
+    ]

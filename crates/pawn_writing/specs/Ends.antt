@@ -1,6 +1,6 @@
 -- What contracts say of a `Writing`, and what it means that a text was written.
-use Rattle.std.specs.Prelude.{ℕ, Bool, true, false, List, [], ◌∷◌, ◌++◌, ◌==◌, ◌≡◌, Option, Result, Ok, Err, if◌then◌else◌}
-use Rattle.pawn_writing.specs.Common.{Appends, End, Flow, Front, Go, Stop, Whole}
+use Rattle.std.specs.{Prelude.{ℕ, Bool, true, false, List, [], ◌∷◌, ◌++◌, ◌==◌, ◌≡◌, Option, Result, Ok, Err, if◌then◌else◌}, Io.KnownBytes.Appends}
+use Rattle.pawn_book.specs.{Visits.{End, Front, Whole}, declared.visit.Flow.{Flow, TheVariants.{Go, Stop}}}
 use Rattle.pawn_writing.specs.declared.writing.Writing.{Writing}
 
 -- the writer inside

@@ -1,8 +1,6 @@
 -- How writing a text ends: whole, or with which fault.
 use Rattle.std.specs.Prelude.{◌≡◌, Bool, true, false, Result, Ok, Err}
-use Rattle.pawn_book.specs.Keeping.{Keeping}
-use Rattle.pawn_book.specs.declared.fault.KeepError.{KeepError}
-use Rattle.pawn_writing.specs.declared.fault.ViewFault.{ViewFault}
+use Rattle.{pawn_book.specs.{Keeping.Keeping, declared.fault.KeepError.KeepError}, pawn_writing.specs.declared.fault.ViewFault.ViewFault}
 
 -- the fault when the keeper does not answer
 abbrev pub view_fault : KeepError → ViewFault

@@ -1,9 +1,7 @@
 //! The lists of a pledge. The keeper is asked for one only if the pledge's brief says that it is not empty.
-ghost use Rattle.std.specs.Prelude.{◌≡◌, Some};
-ghost use Rattle.std.specs.FinMap.{get};
-ghost use Rattle.pawn_pledge.specs.Brief.{brief_of};
-ghost use Rattle.pawn_writing.specs.Common.{IsShare, IsSteady, PledgeValue, Reads, Visits, call_end, entries_of, extensions_of};
-ghost use Rattle.pawn_book.specs.BookStep.{pledge_in};
+ghost use Rattle.std.specs.{Prelude.{◌≡◌, Some}, FinMap.get};
+ghost use Rattle.{pawn_pledge.specs.{Brief.brief_of, Pledge.PledgeValue}, pawn_book.specs.{Visits.{IsShare, Visits, call_end}, Keeping.{IsSteady, Reads}}};
+ghost use Rattle.pawn_book.specs.{Keeping.{entries_of, extensions_of}, BookStep.pledge_in};
 
 use pawn_book::{Brief, Entry, Extension, Keep, KeepError, Number, Visitor};
 
@@ -16,11 +14,8 @@ pub fn visit_extensions<K: Keep, V: Visitor<Extension>>(
     brief: &Brief,
     visitor: &mut V,
 ) -> Result<(), KeepError>
-    ensures reads { Visits V.step visitor.old visitor.new (λ given flow.
-        Reads K.keeping keep.old keep.new (λ h. (p : PledgeValue)
-        → pledge_in (get h.books book) number ≡ Some p → brief.now ≡ brief_of p
-        → IsShare given flow (call_end result)
-        (extensions_of (pledge_in (get h.books book) number)))) }
+    ensures reads { Visits V.step visitor.old visitor.new (λ given flow. Reads K.keeping keep.old keep.new (λ h. (p : PledgeValue) → pledge_in (get h.books
+        book) number ≡ Some p → brief.now ≡ brief_of p → IsShare given flow (call_end result) (extensions_of (pledge_in (get h.books book) number)))) }
     ensures unasked { brief.now.counts.extensions ≡ 0 → keep.new ≡ keep.old }
     ensures steady { IsSteady K.keeping keep.old result }
 {
@@ -39,11 +34,8 @@ pub fn visit_entries<K: Keep, V: Visitor<Entry>>(
     brief: &Brief,
     visitor: &mut V,
 ) -> Result<(), KeepError>
-    ensures reads { Visits V.step visitor.old visitor.new (λ given flow.
-        Reads K.keeping keep.old keep.new (λ h. (p : PledgeValue)
-        → pledge_in (get h.books book) number ≡ Some p → brief.now ≡ brief_of p
-        → IsShare given flow (call_end result)
-        (entries_of (pledge_in (get h.books book) number)))) }
+    ensures reads { Visits V.step visitor.old visitor.new (λ given flow. Reads K.keeping keep.old keep.new (λ h. (p : PledgeValue) → pledge_in (get h.books
+        book) number ≡ Some p → brief.now ≡ brief_of p → IsShare given flow (call_end result) (entries_of (pledge_in (get h.books book) number)))) }
     ensures unasked { brief.now.counts.entries ≡ 0 → keep.new ≡ keep.old }
     ensures steady { IsSteady K.keeping keep.old result }
 {

@@ -1,8 +1,8 @@
 //! A writer that remembers whether it failed, and calls that write to one.
-ghost use Rattle.std.specs.Prelude.{◌≡◌, ◌+◌, ◌<◌, ◌≤◌, true, false, ◌||◌, length, take, if◌then◌else◌};
-ghost use Rattle.pawn_writing.specs.Common.{Appends, Go, Stop, WriteAppends, flat_map};
+ghost use Rattle.std.specs.{Prelude.{◌≡◌, ◌+◌, ◌<◌, ◌≤◌, true, false, ◌||◌, length, take, if◌then◌else◌}, Io.KnownBytes.{Appends, WriteAppends}, List.flat_map};
 ghost use Rattle.std.specs.Io.{WritesAtMost};
-ghost use Rattle.pawn_writing.specs.Ends.{writing_inner, write_failed, written_bytes, is_write_failure, Puts};
+ghost use Rattle.{pawn_book.specs.declared.visit.Flow.TheVariants.{Go, Stop}, pawn_writing.specs.Ends.{writing_inner, write_failed, written_bytes}};
+ghost use Rattle.pawn_writing.specs.Ends.{is_write_failure, Puts};
 
 use pawn_book::Flow;
 use std::io;
@@ -57,10 +57,8 @@ impl<W: Write> Writing<W> {
     /// a failure. That much is tested.
     pub fn write(&mut self, bytes: &[u8]) -> io::Result<usize>
         ensures bound { WritesAtMost result bytes.now }
-        ensures bytes { WriteAppends (written_bytes W.contents self.old)
-            (written_bytes W.contents self.new) result bytes.now }
-        ensures failed { write_failed self.new
-            ≡ (write_failed self.old || is_write_failure result bytes.now) }
+        ensures bytes { WriteAppends (written_bytes W.contents self.old) (written_bytes W.contents self.new) result bytes.now }
+        ensures failed { write_failed self.new ≡ (write_failed self.old || is_write_failure result bytes.now) }
     {
         let answer = self.inner.write(bytes);
         match &answer {
@@ -82,8 +80,7 @@ impl<W: Write> Writing<W> {
 pub fn send<W: Write>(writer: &mut Writing<W>, bytes: &[u8]) -> usize
     requires fine { write_failed writer.old ≡ false }
     ensures bound { result ≤ length bytes.now }
-    ensures bytes { Appends (written_bytes W.contents writer.old)
-        (written_bytes W.contents writer.new) (take result bytes.now) }
+    ensures bytes { Appends (written_bytes W.contents writer.old) (written_bytes W.contents writer.new) (take result bytes.now) }
     ensures done { result ≡ length bytes.now → write_failed writer.new ≡ false }
     ensures failed { result < length bytes.now → write_failed writer.new ≡ true }
 {

@@ -1,15 +1,11 @@
 -- How the program prints why it did not do what it was asked.
-use Rattle.std.specs.Prelude.{ℕ, List, codes}
-use Rattle.pawn_opening.specs.declared.fault.OpenFault.{OpenFault}
+use Rattle.{std.specs.Prelude.{ℕ, List, codes}, pawn_opening.specs.declared.fault.OpenFault.OpenFault, pawn_check.specs.declared.fault.CheckFault.CheckFault}
+use Rattle.{pawn_move.specs.declared.fault.MoveFault.MoveFault, pawn_program.specs.declared.fault.SettingsFault.SettingsFault}
+use Rattle.pawnd.specs.declared.fault.Fault.{Fault, TheVariants.{Settings, Memory, Opening, Checking, Moving}}
 use Rattle.pawn_opening.specs.declared.fault.OpenFault.TheVariants as Open
-use Rattle.pawn_check.specs.declared.fault.CheckFault.{CheckFault}
 use Rattle.pawn_check.specs.declared.fault.CheckFault.TheVariants as Check
-use Rattle.pawn_move.specs.declared.fault.MoveFault.{MoveFault}
 use Rattle.pawn_move.specs.declared.fault.MoveFault.TheVariants as Move
-use Rattle.pawn_program.specs.declared.fault.SettingsFault.{SettingsFault}
 use Rattle.pawn_program.specs.declared.fault.SettingsFault.TheVariants as Said
-use Rattle.pawnd.specs.declared.fault.Fault.{Fault}
-use Rattle.pawnd.specs.declared.fault.Fault.TheVariants.{Settings, Memory, Opening, Checking, Moving}
 
 -- the number and name of a fault in a word of the command line
 abbrev pub settings_line : SettingsFault → List ℕ

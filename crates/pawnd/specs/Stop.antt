@@ -1,8 +1,7 @@
 -- How the program says that it did not do what it was asked.
 use Rattle.std.specs.Prelude.{ℕ, List, ◌++◌, codes}
+use Rattle.pawnd.specs.declared.stop.Stop.{Stop, TheVariants.{Usage, Fault, Io}}
 use Rattle.pawnd.specs.Fault as fault
-use Rattle.pawnd.specs.declared.stop.Stop.{Stop}
-use Rattle.pawnd.specs.declared.stop.Stop.TheVariants.{Usage, Fault, Io}
 
 -- the exit status
 abbrev pub stop_status : Stop → ℕ

@@ -4,9 +4,7 @@
 #![tactic(auto)]
 
 ghost use Rattle.std.specs.Prelude.{◌≡◌, ◌+◌, Err, IfOk, false};
-ghost use Rattle.pawn_host.specs.Keeps.{service_operator};
-ghost use Rattle.pawn_opening.specs.declared.fault.OpenFault.TheVariants.{Store};
-ghost use Rattle.pawn_store.specs.Running.{store_of};
+ghost use Rattle.{pawn_host.specs.Keeps.service_operator, pawn_opening.specs.declared.fault.OpenFault.TheVariants.Store, pawn_store.specs.Running.store_of};
 ghost use Rattle.pawnd.specs.declared.fault.Fault.TheVariants.{Opening};
 ghost use Rattle.pawnd.specs.declared.stop.Stop.TheVariants as Stops;
 
@@ -161,8 +159,7 @@ fn listen<S: Alter + Drop>(
     port: u16,
 ) -> Result<Served, Stop>
     ensures counted { IfOk result (λ served. served.answered + served.failed ≡ CONNECTIONS) }
-    ensures shut { result ≡ Err (Stops.Fault (Opening Store))
-        → (store_of S.Store service.new).is_open ≡ false }
+    ensures shut { result ≡ Err (Stops.Fault (Opening Store)) → (store_of S.Store service.new).is_open ≡ false }
 {
     let Ok(rng) = rand::make_rng(rt) else {
         return Err(Stop::Io);

@@ -1,6 +1,5 @@
 //! How the program says that it did not do what it was asked.
-ghost use Rattle.std.specs.Prelude.{◌≡◌};
-ghost use Rattle.std.specs.Process.{exit_status};
+ghost use Rattle.std.specs.{Prelude.◌≡◌, Process.exit_status};
 ghost use Rattle.pawnd.specs.Stop.{stop_status};
 
 use crate::fault::Fault;

@@ -1,8 +1,6 @@
 //! The store that the command line names.
 ghost use Rattle.std.specs.Prelude.{◌≡◌, ◌↔◌, Err, IfErr, IfOk, IsTrue, codes};
-ghost use Rattle.sqlite.specs.Held.{state};
-ghost use Rattle.sqlite.specs.Steps.{over_memory};
-ghost use Rattle.pawn_opening.specs.Opened.{OpensAs, empty_host};
+ghost use Rattle.{sqlite.specs.{Held.state, Steps.over_memory}, pawn_opening.specs.Opened.{OpensAs, empty_host}};
 
 use crate::fault::Fault;
 use crate::stop::Stop;
@@ -30,8 +28,7 @@ pub fn is_memory(database: &str) -> bool
 
 /// A keeper over a new store in memory.
 pub fn memory_keep(rt: &HostRuntime) -> Result<TableKeep<MemStore>, Stop>
-    ensures opens { IfOk result (λ keep. OpensAs (state over_memory keep.conn)
-        (empty_host 5000000)) }
+    ensures opens { IfOk result (λ keep. OpensAs (state over_memory keep.conn) (empty_host 5000000)) }
 {
     match keep_in_memory(rt.alloc(), ROWS) {
         Ok(keep) => Ok(keep),

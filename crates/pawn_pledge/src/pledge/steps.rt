@@ -1,6 +1,9 @@
 ghost use Rattle.std.specs.Prelude.{◌≡◌, ◌≤◌, ◌<◌, length, Ok, OnOk};
-ghost use Rattle.pawn_pledge.specs.Common.{Entry, first_of};
-ghost use Rattle.pawn_pledge.specs.Pledges.{Changed, IsApplied, IsStep, after_closing, ask_once, ask_step, bars, booking_after, cancel_step, confirm_in, decide_step, declare_bars, declare_step, decline_in, end_of, entry_of, entry_step, extend_step, hold_step, in_state, is_ahead, is_repeat, is_standing, issue_of, makes_booking, most_secrets, new_entry, numbered_step, pledge_step, redeem_step, sell_step, unless, with_extension, with_secret};
+ghost use Rattle.pawn_pledge.specs.{Common.{Entry, first_of}, Step.{Changed, IsApplied, IsStep, ask_once, ask_step, bars, cancel_step, confirm_in}};
+ghost use Rattle.pawn_pledge.specs.Step.{decide_step, declare_bars, declare_step, decline_in, entry_of, entry_step, extend_step, hold_step, makes_booking};
+ghost use Rattle.pawn_pledge.specs.{Step.{numbered_step, pledge_step, redeem_step, sell_step, unless}, Words.{after_closing, booking_after, in_state}};
+ghost use Rattle.pawn_pledge.specs.{Words.{is_ahead, is_repeat, is_standing, issue_of, new_entry, with_extension, with_secret}, Pledge.end_of};
+ghost use Rattle.pawn_pledge.specs.Limits.{most_secrets};
 
 use super::Pledge;
 use crate::command::{Applied, Command, Decision, Done, Paper, Stamp};
@@ -15,8 +18,7 @@ impl Pledge {
     /// Carries out one command, and gives its answer or the first refusal that applies. If it is refused, the pledge is
     /// unchanged. `Memory` refuses only a command that adds an entry, a secret or an extension.
     pub fn apply(&mut self, stamp: &Stamp, command: &Command) -> Result<Done, Refusal>
-        ensures step { IsStep (pledge_step self.old stamp.now command.now) self.old result
-            self.new }
+        ensures step { IsStep (pledge_step self.old stamp.now command.now) self.old result self.new }
     {
         match self.apply_telling(stamp, command) {
             Ok(applied) => Ok(applied.done),
@@ -27,8 +29,7 @@ impl Pledge {
     /// Carries out one command as `apply` does, and also reports whether it changed the pledge. Some commands that ask
     /// for what is so already, such as an entry sent again, are answered and change nothing.
     pub fn apply_telling(&mut self, stamp: &Stamp, command: &Command) -> Result<Applied, Refusal>
-        ensures step { IsApplied (pledge_step self.old stamp.now command.now) self.old result
-            self.new }
+        ensures step { IsApplied (pledge_step self.old stamp.now command.now) self.old result self.new }
     {
         let day = stamp.day.day();
         match *command {
@@ -69,8 +70,7 @@ impl Pledge {
 
     // A drawing or a repayment. One whose number is taken is answered as the first time, or refused if it differs.
     fn enter(&mut self, day: Day, seq: u64, sort: Sort, pence: u64) -> Result<Applied, Refusal>
-        ensures step { IsApplied (numbered_step self.old day seq sort pence (entry_of self.old seq))
-            self.old result self.new }
+        ensures step { IsApplied (numbered_step self.old day seq sort pence (entry_of self.old seq)) self.old result self.new }
     {
         let standing = self.debt.entry(seq);
         self.enter_once(standing, day, seq, sort, pence)
@@ -85,8 +85,7 @@ impl Pledge {
         sort: Sort,
         pence: u64,
     ) -> Result<Applied, Refusal>
-        ensures step { IsApplied (numbered_step self.old day seq sort pence standing) self.old
-            result self.new }
+        ensures step { IsApplied (numbered_step self.old day seq sort pence standing) self.old result self.new }
     {
         if let Some(entry) = standing {
             if !is_repeat(&entry, sort, pence) {
@@ -125,8 +124,7 @@ impl Pledge {
 
     fn draw(&mut self, day: Day, pence: u64) -> Result<Applied, Refusal>
         requires later { self.old.standing.last ≤ day }
-        ensures step { IsApplied (entry_step self.old day Sort.Draw pence) self.old result
-            self.new }
+        ensures step { IsApplied (entry_step self.old day Sort.Draw pence) self.old result self.new }
     {
         if day > self.debt.ends() {
             return Err(Refusal::PeriodOver);
@@ -139,8 +137,7 @@ impl Pledge {
 
     fn repay(&mut self, day: Day, pence: u64) -> Result<Applied, Refusal>
         requires later { self.old.standing.last ≤ day }
-        ensures step { IsApplied (entry_step self.old day Sort.Repay pence) self.old result
-            self.new }
+        ensures step { IsApplied (entry_step self.old day Sort.Repay pence) self.old result self.new }
     {
         let entry = self.next_entry(day, Sort::Repay, pence);
         self.debt.repay(day, pence)?;
@@ -150,8 +147,7 @@ impl Pledge {
 
     // Sets or clears the flag that bars redemption. If it is so already, nothing changes.
     fn hold(&mut self, day: Day, flag: bool) -> Result<Applied, Refusal>
-        ensures step { IsApplied (unless (bars self.old day) (hold_step self.old day flag)) self.old
-            result self.new }
+        ensures step { IsApplied (unless (bars self.old day) (hold_step self.old day flag)) self.old result self.new }
     {
         self.gate(day)?;
         if self.standing.held == flag {
@@ -164,8 +160,7 @@ impl Pledge {
 
     // Issues the stamp's word as the new secret.
     fn declare(&mut self, stamp: &Stamp, paper: Paper) -> Result<Applied, Refusal>
-        ensures step { IsApplied (unless (bars self.old stamp.now.day)
-            (declare_step self.old stamp.now paper)) self.old result self.new }
+        ensures step { IsApplied (unless (bars self.old stamp.now.day) (declare_step self.old stamp.now paper)) self.old result self.new }
     {
         let day = stamp.day.day();
         self.gate(day)?;
@@ -199,8 +194,7 @@ impl Pledge {
     fn issue(&mut self, issued: Issued) -> Result<Applied, Refusal>
         requires few { length self.old.secrets < most_secrets }
         requires later { self.old.standing.last ≤ issued.day }
-        ensures step { IsApplied (Changed (with_secret self.old issued)
-            (Done.Declared issued.secret)) self.old result self.new }
+        ensures step { IsApplied (Changed (with_secret self.old issued) (Done.Declared issued.secret)) self.old result self.new }
     {
         let day = issued.day;
         let secret = issued.secret;
@@ -225,8 +219,7 @@ impl Pledge {
 
     // Asks for a day and a window.
     fn ask(&mut self, day: Day, wanted: Day, window: u64) -> Result<Applied, Refusal>
-        ensures step { IsApplied (unless (bars self.old day) (ask_step self.old day wanted window))
-            self.old result self.new }
+        ensures step { IsApplied (unless (bars self.old day) (ask_step self.old day wanted window)) self.old result self.new }
     {
         self.gate(day)?;
         if window > LAST_WINDOW {
@@ -245,8 +238,7 @@ impl Pledge {
     // answered again.
     fn ask_once(&mut self, day: Day, wanted: Day, window: u64) -> Result<Applied, Refusal>
         requires later { self.old.standing.last ≤ day }
-        ensures step { IsApplied (ask_once self.old day wanted window self.old.standing.booking)
-            self.old result self.new }
+        ensures step { IsApplied (ask_once self.old day wanted window self.old.standing.booking) self.old result self.new }
     {
         let asked = Booking {
             day: wanted,
@@ -263,8 +255,7 @@ impl Pledge {
 
     // Cancels the booking. One that is cancelled already is answered again.
     fn cancel(&mut self, day: Day) -> Result<Applied, Refusal>
-        ensures step { IsApplied (unless (bars self.old day)
-            (cancel_step self.old day self.old.standing.booking)) self.old result self.new }
+        ensures step { IsApplied (unless (bars self.old day) (cancel_step self.old day self.old.standing.booking)) self.old result self.new }
     {
         self.gate(day)?;
         let Some(booking) = self.standing.booking else {
@@ -281,9 +272,7 @@ impl Pledge {
 
     // Confirms or refuses a booking.
     fn decide(&mut self, day: Day, decision: Decision) -> Result<Applied, Refusal>
-        ensures step { IsApplied (unless (bars self.old day)
-            (decide_step self.old day decision self.old.standing.booking)) self.old result
-            self.new }
+        ensures step { IsApplied (unless (bars self.old day) (decide_step self.old day decision self.old.standing.booking)) self.old result self.new }
     {
         self.gate(day)?;
         let Some(booking) = self.standing.booking else {
@@ -297,8 +286,7 @@ impl Pledge {
 
     fn confirm(&mut self, day: Day, booking: &Booking) -> Result<Applied, Refusal>
         requires later { self.old.standing.last ≤ day }
-        ensures step { IsApplied (confirm_in self.old day booking.now booking.now.state) self.old
-            result self.new }
+        ensures step { IsApplied (confirm_in self.old day booking.now booking.now.state) self.old result self.new }
     {
         match booking.state {
             BookingState::Asked => {
@@ -314,8 +302,7 @@ impl Pledge {
 
     fn decline(&mut self, day: Day, booking: &Booking) -> Result<Applied, Refusal>
         requires later { self.old.standing.last ≤ day }
-        ensures step { IsApplied (decline_in self.old day booking.now booking.now.state) self.old
-            result self.new }
+        ensures step { IsApplied (decline_in self.old day booking.now booking.now.state) self.old result self.new }
     {
         match booking.state {
             BookingState::Asked | BookingState::Confirmed => {
@@ -328,8 +315,7 @@ impl Pledge {
 
     // Closes the pledge on payment of what is owed, which is 0 for an account that was never drawn on.
     fn redeem(&mut self, day: Day, paid: u64) -> Result<Applied, Refusal>
-        ensures step { IsApplied (unless (bars self.old day) (redeem_step self.old day paid))
-            self.old result self.new }
+        ensures step { IsApplied (unless (bars self.old day) (redeem_step self.old day paid)) self.old result self.new }
     {
         self.gate(day)?;
         if self.standing.held {
@@ -347,8 +333,7 @@ impl Pledge {
 
     // Closes the pledge by sale.
     fn sell(&mut self, day: Day, net: u64) -> Result<Applied, Refusal>
-        ensures step { IsApplied (unless (bars self.old day) (sell_step self.old day net)) self.old
-            result self.new }
+        ensures step { IsApplied (unless (bars self.old day) (sell_step self.old day net)) self.old result self.new }
     {
         self.gate(day)?;
         let Status::Realisable = self.open_status(day) else {
@@ -370,8 +355,7 @@ impl Pledge {
 
     // Agrees on a later end of the period.
     fn extend(&mut self, day: Day, until: Day) -> Result<Applied, Refusal>
-        ensures step { IsApplied (unless (bars self.old day) (extend_step self.old day until))
-            self.old result self.new }
+        ensures step { IsApplied (unless (bars self.old day) (extend_step self.old day until)) self.old result self.new }
     {
         self.gate(day)?;
         let ends = self.debt.ends();
@@ -395,8 +379,7 @@ impl Pledge {
         requires later { self.old.standing.last ≤ extension.day }
         requires inside { extension.day ≤ end_of self.old }
         requires longer { end_of self.old < extension.until }
-        ensures step { IsApplied (Changed (with_extension self.old extension)
-            (Done.Extended extension.until)) self.old result self.new }
+        ensures step { IsApplied (Changed (with_extension self.old extension) (Done.Extended extension.until)) self.old result self.new }
     {
         let day = extension.day;
         let until = extension.until;

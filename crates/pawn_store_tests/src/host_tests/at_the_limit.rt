@@ -162,7 +162,8 @@ const ADDING: [Line; 10] = [
     Line {
         by: IMPORT,
         target: "POST /books/8/import",
-        body: "row,c1,c2,c3,c4,c5,c6,c7,c8,c9,c10,c11,c12,c13,c14\nB,2,1,1,,,,,,,,,,,\nT,1,0,0,0,,,,,,,,,,\nP,1,A1,Gold ring,fixed,10000,2024-01-31,,no,1,no,2024-01-31,open,,\nS,1,1,2024-01-31,opening,00000000-0000-0000-0000-000000000009,,,,,,,,,\n",
+        body: "row,c1,c2,c3,c4,c5,c6,c7,c8,c9,c10,c11,c12,c13,c14\nB,2,1,1,,,,,,,,,,,\nT,1,0,0,0,,,,,,,,,,\n\
+            P,1,A1,Gold ring,fixed,10000,2024-01-31,,no,1,no,2024-01-31,open,,\nS,1,1,2024-01-31,opening,00000000-0000-0000-0000-000000000009,,,,,,,,,\n",
         reply: FULL,
     },
 ];
@@ -189,7 +190,8 @@ const OTHERS: [Line; 19] = [
     Line {
         by: IMPORT,
         target: "POST /books/8/import",
-        body: "row,c1,c2,c3,c4,c5,c6,c7,c8,c9,c10,c11,c12,c13,c14\nB,2,1,1,,,,,,,,,,,\nT,1,0,0,0,,,,,,,,,,\nP,1,A1,Gold ring,fixed,10000,2024-01-31,,no,1,no,2024-01-31,open,,\nS,1,1,2024-01-31,opening,00000000-0000-0000-0000-000000000009,,,,,,,,,\n",
+        body: "row,c1,c2,c3,c4,c5,c6,c7,c8,c9,c10,c11,c12,c13,c14\nB,2,1,1,,,,,,,,,,,\nT,1,0,0,0,,,,,,,,,,\n\
+            P,1,A1,Gold ring,fixed,10000,2024-01-31,,no,1,no,2024-01-31,open,,\nS,1,1,2024-01-31,opening,00000000-0000-0000-0000-000000000009,,,,,,,,,\n",
         reply: "{\"imported\":0}",
     },
     Line {
@@ -238,13 +240,15 @@ const OTHERS: [Line; 19] = [
         by: BEARER_1,
         target: "GET /books/7/held",
         body: "",
-        reply: "Pledge 1\nArticle Gold ring\nKind fixed 100.00\nTaken 2024-01-31\nEnds 2024-09-30\nExtended 2024-01-31 to 2024-09-30\nStatus inside\nPrincipal 99.00\nCharges 0.00\nOwing 99.00\nHeld no\nBooking 2024-03-05 4 cancelled\nEntry 1 2024-01-31 repay 1.00\n",
+        reply: "Pledge 1\nArticle Gold ring\nKind fixed 100.00\nTaken 2024-01-31\nEnds 2024-09-30\nExtended 2024-01-31 to 2024-09-30\nStatus inside\n\
+            Principal 99.00\nCharges 0.00\nOwing 99.00\nHeld no\nBooking 2024-03-05 4 cancelled\nEntry 1 2024-01-31 repay 1.00\n",
     },
     Line {
         by: BROKER,
         target: "GET /books/7/pledges/3",
         body: "",
-        reply: "Pledge 3\nArticle Gold ring\nKind fixed 100.00\nTaken 2024-01-31\nEnds 2024-07-31\nStatus inside\nPrincipal 100.00\nCharges 0.00\nOwing 100.00\nHeld no\nBooking none\n",
+        reply: "Pledge 3\nArticle Gold ring\nKind fixed 100.00\nTaken 2024-01-31\nEnds 2024-07-31\nStatus inside\nPrincipal 100.00\nCharges 0.00\n\
+            Owing 100.00\nHeld no\nBooking none\n",
     },
     Line {
         by: BROKER,

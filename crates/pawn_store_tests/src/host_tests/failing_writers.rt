@@ -15,7 +15,8 @@ use std::process::Abort;
 use std::test::Fail;
 
 const STATEMENT: &[u8] =
-    b"Pledge 1\nArticle Gold ring\nKind fixed 100.00\nTaken 2024-01-31\nEnds 2024-07-31\nStatus inside\nPrincipal 100.00\nCharges 0.00\nOwing 100.00\nHeld no\nBooking none\n";
+    b"Pledge 1\nArticle Gold ring\nKind fixed 100.00\nTaken 2024-01-31\nEnds 2024-07-31\nStatus inside\nPrincipal 100.00\nCharges 0.00\nOwing 100.00\nHeld no\n\
+        Booking none\n";
 
 const REPAY: &str = "POST /books/7/pledges/1/repay HTTP/1.1";
 

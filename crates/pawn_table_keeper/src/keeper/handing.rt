@@ -1,5 +1,4 @@
-ghost use Rattle.std.specs.Prelude.{map};
-ghost use Rattle.pawn_table_keeper.specs.Common.{with_head, HandsOver, item_of};
+ghost use Rattle.{std.specs.Prelude.map, pawn_table_keeper.specs.Common.{with_head, HandsOver, item_of}};
 
 use pawn_book::{Flow, Part, SheetItem, Visitor};
 use pawn_tables::Line;
@@ -34,8 +33,7 @@ pub(super) fn hand_lines<V: Visitor<SheetItem>>(part: Part, lines: &[Line], visi
 // Hands the part's heading, which gives how many lines there are, and then the lines' items. The lines must be all that
 // the part has.
 pub(super) fn hand_whole<V: Visitor<SheetItem>>(part: Part, lines: &[Line], visitor: &mut V) -> Flow
-    ensures hands { HandsOver V.step visitor.old
-        (with_head part (map (item_of part) lines.now)) result visitor.new }
+    ensures hands { HandsOver V.step visitor.old (with_head part (map (item_of part) lines.now)) result visitor.new }
 {
     let heading = part.heading(lines.len() as u64);
     match visitor.visit(&heading) {

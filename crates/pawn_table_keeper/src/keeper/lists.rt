@@ -1,8 +1,7 @@
 ghost use Rattle.std.specs.Prelude.{◌≡◌, IfErr, IfOk};
-ghost use Rattle.pawn_table_keeper.specs.Common.{get, pledge_in, entries_of, extensions_of, secrets_of, Database, page_end, page_behind};
+ghost use Rattle.pawn_table_keeper.specs.{Common.{get, pledge_in, entries_of, extensions_of, secrets_of, Database, page_end, page_behind}, Handing.Hands};
+ghost use Rattle.{pawn_table_keeper.specs.Handing.ReadsOfBook, pawn_tables.specs.Entries.{IsEntriesPage, behind}};
 ghost use Rattle.pawn_book.specs.declared.fault.KeepError.TheVariants as Keeper;
-ghost use Rattle.pawn_tables.specs.Entries.{IsEntriesPage, behind};
-ghost use Rattle.pawn_table_keeper.specs.Handing.{Hands, ReadsOfBook};
 
 use super::handing::hand_all;
 use super::{BEYOND, TOO_MANY, TableKeep};
@@ -42,8 +41,7 @@ impl<S: Alter> TableKeep<S> {
         number: Number,
         visitor: &mut V,
     ) -> Result<Flow, KeepError>
-        ensures hands { Hands S.Store book V.step self.old self.new visitor.old visitor.new result
-            (λ h. entries_of (pledge_in (get h.books book) number)) }
+        ensures hands { Hands S.Store book V.step self.old self.new visitor.old visitor.new result (λ h. entries_of (pledge_in (get h.books book) number)) }
     {
         let mut from = 0;
         for turn in 0..MOST_ENTRIES + 1 {
@@ -84,8 +82,7 @@ impl<S: Alter> TableKeep<S> {
         number: Number,
         visitor: &mut V,
     ) -> Result<Flow, KeepError>
-        ensures hands { Hands S.Store book V.step self.old self.new visitor.old visitor.new result
-            (λ h. secrets_of (pledge_in (get h.books book) number)) }
+        ensures hands { Hands S.Store book V.step self.old self.new visitor.old visitor.new result (λ h. secrets_of (pledge_in (get h.books book) number)) }
     {
         for turn in 0..MOST_SECRETS as u32 + 1 {
             let page = self.secrets_behind(book, number, turn * PLACES)?;
@@ -124,8 +121,7 @@ impl<S: Alter> TableKeep<S> {
         number: Number,
         visitor: &mut V,
     ) -> Result<Flow, KeepError>
-        ensures hands { Hands S.Store book V.step self.old self.new visitor.old visitor.new result
-            (λ h. extensions_of (pledge_in (get h.books book) number)) }
+        ensures hands { Hands S.Store book V.step self.old self.new visitor.old visitor.new result (λ h. extensions_of (pledge_in (get h.books book) number)) }
     {
         for turn in 0..MOST_EXTENSIONS as u32 + 1 {
             let page = self.extensions_behind(book, number, turn * PLACES)?;

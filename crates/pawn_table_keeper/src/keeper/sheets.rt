@@ -1,7 +1,6 @@
 ghost use Rattle.std.specs.Prelude.{◌≡◌, length};
-ghost use Rattle.pawn_table_keeper.specs.Common.{get, pledges_of, day_sheet, part_items, window_sheet, windows_sheet, with_head, IsLinesPage, NamesWindows, page_end};
-ghost use Rattle.pawn_table_keeper.specs.Handing.{Hands, ReadsOfBook};
-ghost use Rattle.pawn_table_keeper.specs.Windows.{named_sheet, named_sheets};
+ghost use Rattle.pawn_table_keeper.specs.Common.{get, pledges_of, day_sheet, part_items, window_sheet, windows_sheet, with_head, IsLinesPage, NamesWindows};
+ghost use Rattle.pawn_table_keeper.specs.{Common.page_end, Handing.{Hands, ReadsOfBook}, Windows.{named_sheet, named_sheets}};
 
 use super::handing::{hand_lines, hand_whole};
 use super::{TOO_MANY, TableKeep};
@@ -15,8 +14,7 @@ use sqlite::Alter;
 impl<S: Alter> TableKeep<S> {
     // How many items a part of a day's sheet has.
     fn count_part(&mut self, book: Number, day: Day, part: Part) -> Result<u64, KeepError>
-        ensures tells { ReadsOfBook S.Store self.old self.new book result
-            (λ h count. count ≡ length (part_items part day (pledges_of (get h.books book)))) }
+        ensures tells { ReadsOfBook S.Store self.old self.new book result (λ h count. count ≡ length (part_items part day (pledges_of (get h.books book)))) }
     {
         know_settled(&self.conn);
         let mut tx = self.conn.transaction();
@@ -33,8 +31,7 @@ impl<S: Alter> TableKeep<S> {
         part: Part,
         above: u32,
     ) -> Result<Rows<Line>, KeepError>
-        ensures tells { ReadsOfBook S.Store self.old self.new book result
-            (λ h page. IsLinesPage part day above (pledges_of (get h.books book)) page) }
+        ensures tells { ReadsOfBook S.Store self.old self.new book result (λ h page. IsLinesPage part day above (pledges_of (get h.books book)) page) }
     {
         know_settled(&self.conn);
         let mut tx = self.conn.transaction();
@@ -51,8 +48,7 @@ impl<S: Alter> TableKeep<S> {
         part: Part,
         visitor: &mut V,
     ) -> Result<Flow, KeepError>
-        ensures hands { Hands S.Store book V.step self.old self.new visitor.old visitor.new result
-            (λ h. part_items part day (pledges_of (get h.books book))) }
+        ensures hands { Hands S.Store book V.step self.old self.new visitor.old visitor.new result (λ h. part_items part day (pledges_of (get h.books book))) }
     {
         let mut above = 0;
         for turn in 0..MOST_PLEDGES + 1 {
@@ -132,8 +128,7 @@ impl<S: Alter> TableKeep<S> {
 
     // The windows in which somebody comes on a day.
     fn windows_on(&mut self, book: Number, day: Day) -> Result<Rows<u64>, KeepError>
-        ensures tells { ReadsOfBook S.Store self.old self.new book result
-            (λ h windows. NamesWindows day (pledges_of (get h.books book)) windows) }
+        ensures tells { ReadsOfBook S.Store self.old self.new book result (λ h windows. NamesWindows day (pledges_of (get h.books book)) windows) }
     {
         know_settled(&self.conn);
         let mut tx = self.conn.transaction();
@@ -188,8 +183,7 @@ impl<S: Alter> TableKeep<S> {
         day: Day,
         visitor: &mut V,
     ) -> Result<Flow, KeepError>
-        ensures hands { Hands S.Store book V.step self.old self.new visitor.old visitor.new result
-            (λ h. windows_sheet (pledges_of (get h.books book)) day) }
+        ensures hands { Hands S.Store book V.step self.old self.new visitor.old visitor.new result (λ h. windows_sheet (pledges_of (get h.books book)) day) }
     {
         let windows = self.windows_on(book, day)?;
         self.hand_these(book, day, windows.as_slice(), visitor)
@@ -202,8 +196,7 @@ impl<S: Alter> TableKeep<S> {
         day: Day,
         visitor: &mut V,
     ) -> Result<Flow, KeepError>
-        ensures hands { Hands S.Store book V.step self.old self.new visitor.old visitor.new result
-            (λ h. day_sheet (pledges_of (get h.books book)) day) }
+        ensures hands { Hands S.Store book V.step self.old self.new visitor.old visitor.new result (λ h. day_sheet (pledges_of (get h.books book)) day) }
     {
         match self.hand_windows(book, day, visitor)? {
             Flow::Go => {}

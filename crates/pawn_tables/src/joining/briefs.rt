@@ -1,6 +1,6 @@
 ghost use Rattle.std.specs.Prelude.{◌≡◌, List, length};
-ghost use Rattle.pawn_tables.specs.Common.{IsDayNumber, brief_of, PledgeValue, end_of, last_secret, live_under, Issued};
-ghost use Rattle.pawn_tables.specs.Tables.{IsRead, AreListEnds, last_issued, AreSides, HasSecret, IsBriefTold, row_of};
+ghost use Rattle.pawn_tables.specs.{Common.{IsDayNumber, brief_of, PledgeValue, end_of, last_secret, live_under, Issued}, Finding.IsRead, ListEnds.AreListEnds};
+ghost use Rattle.pawn_tables.specs.{ListEnds.last_issued, PledgeRows.{AreSides, HasSecret, IsBriefTold, row_of}};
 
 use super::pledges::{ends_of, record_of};
 use crate::cells::{NO_RECORD, day_of};
@@ -11,8 +11,7 @@ use pawn_pledge::Counts;
 
 // The last secret alone.
 fn secret_of(last: Option<LastSecret>) -> Option<Secret>
-    ensures value { (secrets : List Issued) → last ≡ last_issued secrets
-        → result ≡ last_secret secrets }
+    ensures value { (secrets : List Issued) → last ≡ last_issued secrets → result ≡ last_secret secrets }
 {
     match last {
         Some(last) => Some(last.issued.secret),
@@ -22,8 +21,7 @@ fn secret_of(last: Option<LastSecret>) -> Option<Secret>
 
 // The live secret: the last one, unless the pledge is redeemed.
 fn live_of(closing: Closing, last: Option<LastSecret>) -> Option<Secret>
-    ensures value { (secrets : List Issued) → last ≡ last_issued secrets
-        → result ≡ live_under closing (last_secret secrets) }
+    ensures value { (secrets : List Issued) → last ≡ last_issued secrets → result ≡ live_under closing (last_secret secrets) }
 {
     match closing {
         Closing::Redeemed { .. } => None,
@@ -61,8 +59,7 @@ fn fields_of(
     list_ends: ListEnds,
 ) -> Result<BriefFields, KeepError>
     ensures read { (p : PledgeValue) → number ≡ p.agreement.number → row ≡ row_of p
-        → AreSides sides p → AreListEnds list_ends p → IsRead result (brief_of p)
-        (HasSecret p × IsDayNumber (end_of p)) }
+        → AreSides sides p → AreListEnds list_ends p → IsRead result (brief_of p) (HasSecret p × IsDayNumber (end_of p)) }
 {
     let RowsBeside {
         terms,

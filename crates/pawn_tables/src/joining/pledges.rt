@@ -1,6 +1,5 @@
 ghost use Rattle.std.specs.Prelude.{◌≡◌, ◌↔◌, IfOk, IsTrue, Some};
-ghost use Rattle.pawn_tables.specs.Common.{totals_of, PledgeValue, debt_of, end_of, IsStanding};
-ghost use Rattle.pawn_tables.specs.Tables.{IsRead, AreLists, AreSides, row_of};
+ghost use Rattle.pawn_tables.specs.{Common.{totals_of, PledgeValue, debt_of, end_of, IsStanding}, Finding.IsRead, PledgeRows.{AreLists, AreSides, row_of}};
 
 use crate::cells::NO_RECORD;
 use crate::joining::{Lists, RowsBeside};
@@ -10,8 +9,7 @@ use pawn_debt::Totals;
 
 // Whether the stored end of the period and totals are those that follow from the pledge's record.
 fn agrees(pledge: &Pledge, ends: u64, totals: Totals) -> bool
-    ensures answer { IsTrue result ↔
-        ((ends ≡ end_of pledge.now) × (totals ≡ totals_of (debt_of pledge.now))) }
+    ensures answer { IsTrue result ↔ ((ends ≡ end_of pledge.now) × (totals ≡ totals_of (debt_of pledge.now))) }
 {
     let end = u64::from(pledge.ends().count());
     let owed = pledge.totals();
@@ -33,8 +31,7 @@ pub(super) fn record_of(
     booking: Option<Booking>,
 ) -> (Agreement, Standing)
     ensures value { (p : PledgeValue) → number ≡ p.agreement.number → row ≡ row_of p
-        → terms ≡ p.agreement.terms → booking ≡ p.standing.booking → (result.0 ≡ p.agreement)
-        × (result.1 ≡ p.standing) }
+        → terms ≡ p.agreement.terms → booking ≡ p.standing.booking → (result.0 ≡ p.agreement) × (result.1 ≡ p.standing) }
 {
     let PledgeRow {
         opening,
@@ -95,8 +92,7 @@ pub(crate) fn join(
     sides: RowsBeside,
     lists: Lists,
 ) -> Result<Pledge, KeepError>
-    ensures read { (p : PledgeValue) → number ≡ p.agreement.number → row ≡ row_of p
-        → AreSides sides p → AreLists lists p → IsRead result p (IsStanding p) }
+    ensures read { (p : PledgeValue) → number ≡ p.agreement.number → row ≡ row_of p → AreSides sides p → AreLists lists p → IsRead result p (IsStanding p) }
     ensures ends { IfOk result (λ p. row.ends ≡ end_of p) }
     ensures totals { IfOk result (λ p. sides.totals ≡ Some (totals_of (debt_of p))) }
 {

@@ -1,4 +1,4 @@
-use Rattle.pawn_book.proofs.Basics.{rules, ◌≡◌, Err, subst, sym, Acts, Commits, IsLeftByAct, IsLeftByCommit, Plans}
+use Rattle.{std.proofs.Common.{rules, ◌≡◌, Err, subst, sym}, pawn_book.specs.Plans.{Acts, Commits, IsLeftByAct, IsLeftByCommit, Plans}}
 use Rattle.pawn_book.proofs.ActLemmas.{made_acts, made_left, refused_acts, step_of, unmade_acts, unmade_left}
 use Rattle.pawn_book.proofs.acting.act.Goals as goal
 
@@ -19,7 +19,8 @@ returns-in_err-commit-clause-acts g c = λ honest h sound at.
     let made = c.commit.ensures.commits honest h sound (c.plan.ensures.reads.same was h at) in
     let said : c.from_residual-in_err-commit.result ≡ Err c.in_err-commit.field-0.0 = search rules in
     subst (λ r. Acts h c.args.operator c.args.stamp.now c.args.request.now r (g.K.Keep.keeping.stands c.commit.new.keep)) (sym said)
-    (unmade_acts h c.args.operator c.args.stamp.now c.args.request.now (g.K.Keep.keeping.stands c.commit.new.keep) c.in_ok-planned.planned.change c.in_ok-planned.planned.reply c.in_err-commit.field-0.0 plans
+    (unmade_acts h c.args.operator c.args.stamp.now c.args.request.now
+    (g.K.Keep.keeping.stands c.commit.new.keep) c.in_ok-planned.planned.change c.in_ok-planned.planned.reply c.in_err-commit.field-0.0 plans
     (subst (λ r. Commits h c.in_ok-planned.planned.change r (g.K.Keep.keeping.stands c.commit.new.keep)) c.in_err-commit.was made))
 
 pub returns-clause-acts : goal.returns-clause-acts
@@ -28,7 +29,8 @@ returns-clause-acts g c = λ honest h sound at.
     let told = c.plan.ensures.reads.tells was h at sound in
     let plans = subst (Plans h c.args.request.now.book (step_of h c.args.operator c.args.stamp.now c.args.request.now)) c.in_ok-planned.was told in
     let made = c.commit.ensures.commits honest h sound (c.plan.ensures.reads.same was h at) in
-    made_acts h c.args.operator c.args.stamp.now c.args.request.now (g.K.Keep.keeping.stands c.commit.new.keep) c.in_ok-planned.planned.change c.in_ok-planned.planned.reply sound plans
+    made_acts h c.args.operator c.args.stamp.now c.args.request.now
+    (g.K.Keep.keeping.stands c.commit.new.keep) c.in_ok-planned.planned.change c.in_ok-planned.planned.reply sound plans
     (subst (λ r. Commits h c.in_ok-planned.planned.change r (g.K.Keep.keeping.stands c.commit.new.keep)) c.in_ok-commit.was made)
 
 pub returns-in_err-commit-clause-crash : goal.returns-in_err-commit-clause-crash
@@ -39,8 +41,9 @@ returns-in_err-commit-clause-crash g c = λ honest h sound at left by.
     let made = c.commit.ensures.crash honest h sound (c.plan.ensures.reads.same was h at) left by in
     let said : c.from_residual-in_err-commit.result ≡ Err c.in_err-commit.field-0.0 = search rules in
     subst (λ r. IsLeftByAct h c.args.operator c.args.stamp.now c.args.request.now (g.K.Keep.keeping.leaves c.args.keep.now) r left) (sym said)
-    (unmade_left h c.args.operator c.args.stamp.now c.args.request.now c.in_ok-planned.planned.change c.in_ok-planned.planned.reply c.in_err-commit.field-0.0 _ (g.K.Keep.keeping.leaves c.plan.new.keep) left plans
-    (c.plan.ensures.reads.crash was) (subst (λ r. IsLeftByCommit h c.in_ok-planned.planned.change (g.K.Keep.keeping.leaves c.plan.new.keep) r left) c.in_err-commit.was made))
+    (unmade_left h c.args.operator c.args.stamp.now c.args.request.now c.in_ok-planned.planned.change c.in_ok-planned.planned.reply c.in_err-commit.field-0.0 _
+    (g.K.Keep.keeping.leaves c.plan.new.keep) left plans (c.plan.ensures.reads.crash was)
+    (subst (λ r. IsLeftByCommit h c.in_ok-planned.planned.change (g.K.Keep.keeping.leaves c.plan.new.keep) r left) c.in_err-commit.was made))
 
 pub returns-clause-crash : goal.returns-clause-crash
 returns-clause-crash g c = λ honest h sound at left by.
@@ -48,7 +51,8 @@ returns-clause-crash g c = λ honest h sound at left by.
     let told = c.plan.ensures.reads.tells was h at sound in
     let plans = subst (Plans h c.args.request.now.book (step_of h c.args.operator c.args.stamp.now c.args.request.now)) c.in_ok-planned.was told in
     let stood = c.plan.ensures.reads.same was h at in
-    let made = subst (λ r. Commits h c.in_ok-planned.planned.change r (g.K.Keep.keeping.stands c.commit.new.keep)) c.in_ok-commit.was (c.commit.ensures.commits honest h sound stood) in
-    made_left h c.args.operator c.args.stamp.now c.args.request.now c.in_ok-planned.planned.change c.in_ok-planned.planned.reply (g.K.Keep.keeping.stands c.commit.new.keep) _ (g.K.Keep.keeping.leaves c.plan.new.keep) left plans made
-    (c.plan.ensures.reads.crash was)
-    (subst (λ r. IsLeftByCommit h c.in_ok-planned.planned.change (g.K.Keep.keeping.leaves c.plan.new.keep) r left) c.in_ok-commit.was (c.commit.ensures.crash honest h sound stood left by))
+    let made = subst (λ r. Commits h c.in_ok-planned.planned.change r (g.K.Keep.keeping.stands c.commit.new.keep)) c.in_ok-commit.was
+    (c.commit.ensures.commits honest h sound stood) in
+    made_left h c.args.operator c.args.stamp.now c.args.request.now c.in_ok-planned.planned.change c.in_ok-planned.planned.reply (g.K.Keep.keeping.stands
+    c.commit.new.keep) _ (g.K.Keep.keeping.leaves c.plan.new.keep) left plans made (c.plan.ensures.reads.crash was) (subst (λ r. IsLeftByCommit h
+    c.in_ok-planned.planned.change (g.K.Keep.keeping.leaves c.plan.new.keep) r left) c.in_ok-commit.was (c.commit.ensures.crash honest h sound stood left by))

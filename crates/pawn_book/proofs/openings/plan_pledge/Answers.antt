@@ -1,6 +1,5 @@
-use Rattle.pawn_book.proofs.Basics.{◌∙◌, ap, Ok, Some, subst, sym, Agreement, IsSaid, IsUnwell, Opened, Plans, PutPledge, newest, next_pledge, take_pledge, with_reference}
-use Rattle.pawn_book.proofs.Plans.{taken_plans}
-use Rattle.pawn_book.proofs.Reading.{ok_is, reads_then}
+use Rattle.{std.proofs.Common.{◌∙◌, ap, Ok, Some, subst, sym}, pawn_book.specs.{Common.{Agreement, IsSaid}, Plans.{IsUnwell, Plans}, Books.{Opened, PutPledge}}}
+use Rattle.pawn_book.{specs.BookStep.{newest, next_pledge, take_pledge, with_reference}, proofs.{Plans.taken_plans, Reading.{ok_is, reads_then}}}
 use Rattle.pawn_book.proofs.openings.plan_pledge.Goals as goal
 
 pub returns-in-Ok-clause-reads : goal.returns-in-Ok-clause-reads
@@ -11,6 +10,6 @@ returns-in-Ok-clause-reads g c = reads_then c.find_reference.ensures.reads c.new
     (sym (ap (λ (a : Agreement). a.number) c.agreement-in-Ok.ensures.value))
     (subst (λ r. Plans h c.args.book (take_pledge at c.args.book c.args.opening.now c.args.stamp.now (with_reference at.pledges c.args.opening.now.reference))
     (Ok (record { change = Some (PutPledge c.args.book c.in-Ok.pledge.agreement.number c.in-Ok.pledge); reply = Opened r })))
-    (sym c.first_receipt-in-Ok.ensures.value)
-    (taken_plans h c.args.book at c.args.head.now c.args.opening.now c.args.stamp.now c.in-Ok.pledge sound is heads
-    (ok_is (c.in-Ok-None.is ∙ ap Ok c.in-Ok-None.field-0-is) (found sound)) answer c.in-Ok.ensures.standing c.know_given.ensures.reference c.know_given.ensures.article c.know_given.ensures.word c.know_given.ensures.day)))
+    (sym c.first_receipt-in-Ok.ensures.value) (taken_plans h c.args.book at c.args.head.now c.args.opening.now c.args.stamp.now c.in-Ok.pledge sound is heads
+    (ok_is (c.in-Ok-None.is ∙ ap Ok c.in-Ok-None.field-0-is) (found sound)) answer c.in-Ok.ensures.standing c.know_given.ensures.reference
+    c.know_given.ensures.article c.know_given.ensures.word c.know_given.ensures.day)))

@@ -1,4 +1,4 @@
-use Rattle.pawn_book.proofs.Basics.{drop, Each, PledgeValue, IsUnder}
+use Rattle.{std.proofs.Common.drop, pawn_book.specs.{Common.{Each, PledgeValue}, Rows.IsUnder}}
 use Rattle.pawn_book.proofs.replaying.are_under.Given as goal
 
 abbrev pub invariant-loop-parts : goal.invariant-loop-parts

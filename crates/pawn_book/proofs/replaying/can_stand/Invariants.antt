@@ -1,4 +1,4 @@
-use Rattle.pawn_book.proofs.Basics.{drop, Each, IsStanding, PledgeValue}
+use Rattle.{std.proofs.Common.drop, pawn_book.specs.Common.{Each, IsStanding, PledgeValue}}
 use Rattle.pawn_book.proofs.replaying.can_stand.Given as goal
 
 abbrev pub invariant-loop-parts : goal.invariant-loop-parts

@@ -1,4 +1,4 @@
-use Rattle.pawn_book.proofs.Basics.{drop, DoNotFall, version_of}
+use Rattle.{std.proofs.Common.drop, pawn_book.specs.{Common.DoNotFall, Rows.version_of}}
 use Rattle.pawn_book.proofs.replaying.do_not_fall.Given as goal
 
 abbrev pub invariant-loop-parts : goal.invariant-loop-parts

@@ -1,4 +1,4 @@
-use Rattle.pawn_book.proofs.Basics.{◌≡◌, drop, list_any, references_of, is_same_text}
+use Rattle.{std.proofs.Common.{◌≡◌, drop}, pawn_book.specs.{Common.list_any, Rows.{references_of, is_same_text}}}
 use Rattle.pawn_book.proofs.replaying.has_reference.Given as goal
 
 abbrev pub invariant-loop-parts : goal.invariant-loop-parts

@@ -1,4 +1,4 @@
-use Rattle.pawn_book.proofs.Basics.{drop, Each, PledgeValue, HasTextsAndWords}
+use Rattle.{std.proofs.Common.drop, pawn_book.specs.{Common.{Each, PledgeValue}, Sound.HasTextsAndWords}}
 use Rattle.pawn_book.proofs.rows.know_records.Given as goal
 
 abbrev pub invariant-loop-parts : goal.invariant-loop-parts

@@ -1,4 +1,4 @@
-use Rattle.pawn_book.proofs.Basics.{drop, AreWords}
+use Rattle.{std.proofs.Common.drop, pawn_book.specs.Sound.AreWords}
 use Rattle.pawn_book.proofs.rows.know_written.Given as goal
 
 abbrev pub invariant-loop-issued : goal.invariant-loop-issued

@@ -1,4 +1,4 @@
-use Rattle.pawn_book.proofs.Basics.{refl}
+use Rattle.std.proofs.Common.{refl}
 use Rattle.pawn_book.proofs.worked.worked_imports.Goals as goal
 
 pub returns : goal.returns

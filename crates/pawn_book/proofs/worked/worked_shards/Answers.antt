@@ -1,6 +1,9 @@
-use Rattle.pawn_book.proofs.Basics.{◌≡◌, ℕ, List, [], ◌∷◌, map, sum_by, refl, sym, ap, ◌∙◌, if◌then◌else◌, Option, None, Some, nat_lt, FinMap, Stamp, civil_after, days_of_months, days_of_years, due_after, empty, entries, entries-insert, find, get, get-entries, insert, len-empty, len-entries, nat_cmp, put, nat_cmp_total, no_elements, BookValue, Full, Host, Makes, Outcome, Refuses, Request, Said, Says, book_rows, book_step, changed_book, handed, host_after, host_step, out_of, with_book, within_limit}
-use Rattle.pawn_book.specs.Books.{Answered}
-use Rattle.pawn_book.specs.WorkedShards.{a_ring, asked, book_of, first_shard, of_seven, one_host, second_shard, shard, told_of_run}
+use Rattle.std.{proofs.Common.{◌≡◌, ℕ, List, [], ◌∷◌, map, sum_by, refl, sym, ap, ◌∙◌, if◌then◌else◌, Option, None, Some, nat_lt}, specs.Ordering.nat_cmp}
+use Rattle.std.{proofs.lemmas.Cmp.nat_cmp_total, specs.FinMap.{FinMap, empty, entries, entries-insert, find, get, get-entries, insert, len-empty, len-entries}}
+use Rattle.{std.specs.FinMap.put, pawn_book.specs.{Common.Stamp, BookStep.{BookValue, Makes, Outcome, Refuses, Says, book_step, changed_book, out_of}}}
+use Rattle.pawn_book.specs.{Books.{Full, Request}, HostStep.{Host, book_rows, host_after, host_step, with_book, within_limit}, Runs.{Said, Answered}}
+use Rattle.pawn_book.specs.{Shards.handed, WorkedShards.{a_ring, asked, book_of, first_shard, of_seven, one_host, second_shard, shard, told_of_run}}
+use Rattle.{pawn_terms.specs.Calendar.{civil_after, days_of_months, days_of_years}, pawn_debt.specs.Due.due_after, pawn_base.proofs.ListLemmas.no_elements}
 use Rattle.pawn_book.proofs.worked.worked_shards.Goals as goal
 
 -- the books of a host as a list
@@ -53,22 +56,20 @@ within_listed h es b (Refuses why) is = refl
 within_listed h es b (Says out) is = refl
 within_listed h es b (Makes change reply) is =
     ap (λ (l : Books). if nat_lt h.limit (listed_rows l) then Refuses Full else Makes change reply)
-    (entries_put h b (changed_book (get h.books b) change)
-    ∙ ap (λ book. put_book b (changed_book book change) (entries h.books)) (get_found h.books b)
+    (entries_put h b (changed_book (get h.books b) change) ∙ ap (λ book. put_book b (changed_book book change) (entries h.books)) (get_found h.books b)
     ∙ ap (λ (l : Books). put_book b (changed_book (found l b) change) l) is)
 
-step_listed : (h : Host) (es : Books) (stamp : Stamp) (request : Request) → entries h.books ≡ es → host_step h 9 stamp request ≡ listed_step es h.limit stamp request
+step_listed : (h : Host) (es : Books) (stamp : Stamp) (request : Request) → entries h.books ≡ es
+    → host_step h 9 stamp request ≡ listed_step es h.limit stamp request
 step_listed h es stamp request is =
-    within_listed h es request.book (book_step (get h.books request.book) 9 request.book stamp request.caller) is
-    ∙ ap (λ book. listed_within es h.limit request.book (book_step book 9 request.book stamp request.caller))
-    (get_found h.books request.book ∙ ap (λ (l : Books). found l request.book) is)
+    within_listed h es request.book (book_step (get h.books request.book) 9 request.book stamp request.caller) is ∙ ap (λ book. listed_within es h.limit
+    request.book (book_step book 9 request.book stamp request.caller)) (get_found h.books request.book ∙ ap (λ (l : Books). found l request.book) is)
 
 after_listed : (h : Host) (es : Books) (b : ℕ) (o : Outcome) → entries h.books ≡ es → entries (host_after h b o).books ≡ listed_after es b o
 after_listed h es b (Refuses why) is = is
 after_listed h es b (Says out) is = is
 after_listed h es b (Makes change reply) is =
-    entries_put h b (changed_book (get h.books b) change)
-    ∙ ap (λ book. put_book b (changed_book book change) (entries h.books)) (get_found h.books b)
+    entries_put h b (changed_book (get h.books b) change) ∙ ap (λ book. put_book b (changed_book book change) (entries h.books)) (get_found h.books b)
     ∙ ap (λ (l : Books). put_book b (changed_book (found l b) change) l) is
 
 after_limit : (h : Host) (b : ℕ) (o : Outcome) → (host_after h b o).limit ≡ h.limit
@@ -86,8 +87,7 @@ told_listed h es (a ∷ asked) is =
     let rest : told_of_run next asked ≡ listed_told (listed_after es a.1.book (listed_step es h.limit a.0 a.1)) h.limit asked =
     told_listed next _ asked stands
     ∙ ap (λ limit. listed_told (listed_after es a.1.book (listed_step es h.limit a.0 a.1)) limit asked) (after_limit h a.1.book (host_step h 9 a.0 a.1)) in
-    ap (λ o. Answered (out_of o) ∷ told_of_run next asked) step
-    ∙ ap (λ says. Answered (out_of (listed_step es h.limit a.0 a.1)) ∷ says) rest
+    ap (λ o. Answered (out_of o) ∷ told_of_run next asked) step ∙ ap (λ says. Answered (out_of (listed_step es h.limit a.0 a.1)) ∷ says) rest
 
 -- the hosts' books
 

@@ -1,4 +1,4 @@
-use Rattle.pawn_check.proofs.Basics.{rules, ◌≡◌, Err, ap, BookHead, reads_then, reads_both}
+use Rattle.{std.proofs.Common.{rules, ◌≡◌, Err, ap}, pawn_book.{specs.declared.change.BookHead.BookHead, proofs.Reading.{reads_then, reads_both}}}
 use Rattle.pawn_check.proofs.Fronts.{handed_on, has_counts, sound_book}
 use Rattle.pawn_check.proofs.books.book_counts.Goals as goal
 
@@ -22,8 +22,8 @@ returns-clause-reads g c =
     let checked = both.1 k is (ap (λ (x : BookHead). x.terms) (both.0 k is)) in (
       (
         c.get.ensures.in_range,
-        sound_book k head (both.0 k is) c.in_ok-rows.rows c.know_head.ensures.key c.know_head.ensures.imported c.know_head.ensures.utf8 c.know_head.ensures.name c.know_head.ensures.capacity
-            c.if-head-gt-MOST_TERMS.false c.if-head-gt-MOST_PLEDGES.false checked front,
+        sound_book k head (both.0 k is) c.in_ok-rows.rows c.know_head.ensures.key c.know_head.ensures.imported c.know_head.ensures.utf8 c.know_head.ensures.name
+            c.know_head.ensures.capacity c.if-head-gt-MOST_TERMS.false c.if-head-gt-MOST_PLEDGES.false checked front,
       ),
       has_counts k head (both.0 k is) c.in_ok-rows.rows front,
     ))

@@ -1,5 +1,6 @@
-use Rattle.pawn_check.proofs.Basics.{◌≡◌, ◌+◌, ◌-◌, inl, inr, ℕ, Some, None, refl, sym, subst, arith, AreSound, IsNextBook, reads_as, reads_then, reads_both, AreCounted}
-use Rattle.pawn_check.proofs.Meeting.{AreMet, all_are_met, fits, next_is, none_are_met, one_is_left, one_more}
+use Rattle.{std.proofs.Common.{◌≡◌, ◌+◌, ◌-◌, inl, inr, ℕ, Some, None, refl, sym, subst, arith}, pawn_book.specs.{Sound.AreSound, Keeping.IsNextBook}}
+use Rattle.{pawn_book.proofs.Reading.{reads_as, reads_then, reads_both}, pawn_check.{specs.Judging.AreCounted, proofs.Meeting.{AreMet, all_are_met, fits}}}
+use Rattle.pawn_check.proofs.Meeting.{next_is, none_are_met, one_is_left, one_more}
 use Rattle.pawn_check.proofs.books.check.Goals as goal
 
 pub loop-book-init : goal.loop-book-init
@@ -15,7 +16,8 @@ pub returns-then-get-above-clause-judges : goal.returns-then-get-above-clause-ju
 returns-then-get-above-clause-judges g c =
     reads_then (reads_both c.loop-book.invariant.reads c.in_ok-book.ensures.reads) c.in_ok-has.ensures.reads (λ h both judged.
     let a : ℕ = c.loop-book.above in
-    let next : IsNextBook h a (Some c.in-Some.book) = subst (λ (x : ℕ). IsNextBook h x (Some c.in-Some.book)) (sym c.loop-book.invariant.last) (rw c.in-Some.is at both.1) in
+    let next : IsNextBook h a (Some c.in-Some.book) =
+    subst (λ (x : ℕ). IsNextBook h x (Some c.in-Some.book)) (sym c.loop-book.invariant.last) (rw c.in-Some.is at both.1) in
     let it = next_is h a c.in-Some.book c.in_ok-has.has next judged in
     let low = it.1.low in
     let few = fits h a c.in-Some.book c.loop-book.books c.loop-book.pledges c.loop-book.left c.in_ok-has.has it.0 both.0.1 it.1 in
@@ -29,12 +31,17 @@ pub loop-book-preserved : goal.loop-book-preserved
 loop-book-preserved g c = record {
   reads = reads_then (reads_both c.loop-book.invariant.reads c.in_ok-book.ensures.reads) c.in_ok-has.ensures.reads (λ h both judged.
       let a : ℕ = c.loop-book.above in
-      let next : IsNextBook h a (Some c.in-Some.book) = subst (λ (x : ℕ). IsNextBook h x (Some c.in-Some.book)) (sym c.loop-book.invariant.last) (rw c.in-Some.is at both.1) in
+      let next : IsNextBook h a (Some c.in-Some.book) =
+      subst (λ (x : ℕ). IsNextBook h x (Some c.in-Some.book)) (sym c.loop-book.invariant.last) (rw c.in-Some.is at both.1) in
       let it = next_is h a c.in-Some.book c.in_ok-has.has next judged in
-      let more = one_more h a c.in-Some.book c.loop-book.books c.loop-book.pledges c.loop-book.left c.in_ok-has.has it.0 both.0.1 it.1 in
-      (both.0.0, subst (λ (x : ℕ). AreMet h x (c.loop-book.books + 1) (c.loop-book.pledges + c.in_ok-has.has.pledges) (c.loop-book.left - c.in_ok-has.has.rows)) (sym c.get-above.ensures.value) more));
+      let more = one_more h a c.in-Some.book c.loop-book.books c.loop-book.pledges c.loop-book.left c.in_ok-has.has it.0 both.0.1 it.1 in (
+        both.0.0,
+        subst (λ (x : ℕ). AreMet h x (c.loop-book.books + 1) (c.loop-book.pledges + c.in_ok-has.has.pledges) (c.loop-book.left - c.in_ok-has.has.rows))
+            (sym c.get-above.ensures.value) more,
+      ));
   last = c.get-above.ensures.value;
-  few = let value = c.get.ensures.value in let second = c.get-above.ensures.value in let past = c.if-get-above.false in omega (arith, c.loop-book.invariant.few, value, second, past);
+  few = let value = c.get.ensures.value in let second = c.get-above.ensures.value in let past = c.if-get-above.false in
+      omega (arith, c.loop-book.invariant.few, value, second, past);
   fewer = let few = c.in_ok-has.ensures.few in omega (arith, c.loop-book.invariant.fewer, few);
   low = let value = c.get-above.ensures.value in let most = c.get-above.ensures.in_range in omega (arith, value, most);
 }

@@ -1,4 +1,4 @@
-use Rattle.pawn_check.proofs.Basics.{◌≡◌, length, arith, nat_tests, reads_as, reads_then}
+use Rattle.{std.proofs.{Common.{◌≡◌, length, arith}, lemmas.Bool.Decides.nat_tests}, pawn_book.proofs.Reading.{reads_as, reads_then}}
 use Rattle.pawn_check.proofs.Fronts.{all_checked, next_checked}
 use Rattle.pawn_check.proofs.books.find_terms.Goals as goal
 

@@ -1,4 +1,5 @@
-use Rattle.pawn_check.proofs.Basics.{◌≡◌, take, Some, BookValue, Each, IsChecked, Rates, Reads, get}
+use Rattle.{std.{proofs.Common.{◌≡◌, take, Some}, specs.FinMap.get}, pawn_book.specs.{BookStep.BookValue, Keeping.Reads}, pawn_base.specs.Lists.Each}
+use Rattle.pawn_terms.specs.{Terms.IsChecked, declared.terms.Rates.Rates}
 use Rattle.pawn_check.proofs.books.find_terms.Given as goal
 
 abbrev pub invariant-loop-version : goal.invariant-loop-version

@@ -1,7 +1,8 @@
-use Rattle.pawn_check.proofs.Basics.{rules, ◌≡◌, ◌≤◌, ℕ, Err, refl, arith, nat_tests, reads_as, reads_both, reads_then, HasUnsoundBook}
-use Rattle.pawn_check.proofs.Fronts.{both_ways, falls_below, handed_on, unfit_at}
+use Rattle.{std.proofs.{Common.{rules, ◌≡◌, ◌≤◌, ℕ, Err, refl, arith}, lemmas.Bool.Decides.nat_tests}, pawn_book.proofs.Reading.{reads_as, reads_both}}
+use Rattle.{pawn_book.{proofs.Reading.reads_then, specs.Sound.HasUnsoundBook}, pawn_check.proofs.Fronts.{both_ways, falls_below, handed_on, unfit_at}}
+use Rattle.pawn_check.proofs.pledges.next_step.Goals.{then-not-under-via-then-not-under, then-not-under-via-else-not-under+then-not-first, then-ne-via-then-ne}
+use Rattle.pawn_check.proofs.pledges.next_step.Goals.{then-ne-via-else-ne+then-next-version, then-ne-via-else-ne+else-next-version+then-not-can_stand}
 use Rattle.pawn_check.proofs.pledges.next_step.Goals as goal
-use Rattle.pawn_check.proofs.pledges.next_step.Goals.{then-not-under-via-then-not-under, then-not-under-via-else-not-under+then-not-first, then-ne-via-then-ne, then-ne-via-else-ne+then-next-version, then-ne-via-else-ne+else-next-version+then-not-can_stand}
 
 pub returns-then-ne-clause-reads : goal.returns-then-ne-clause-reads
 returns-then-ne-clause-reads g c =
@@ -9,20 +10,24 @@ returns-then-ne-clause-reads g c =
     let at = said k is within in
     let n : ℕ = c.args.number in
     elim c.then-ne.branch as (λ _. HasUnsoundBook h) [
-      | then-ne-via-then-ne w ↦ unfit_at h c.args.book n k c.in_ok-parts.parts is at (λ fits. let other = w.if-ne.ensures in grind (arith, nat_tests, fits.number, other))
+      | then-ne-via-then-ne w ↦
+          unfit_at h c.args.book n k c.in_ok-parts.parts is at (λ fits. let other = w.if-ne.ensures in grind (arith, nat_tests, fits.number, other))
       | then-ne-via-else-ne+then-next-version w ↦ falls_below h c.args.book place n c.args.version k c.in_ok-parts.parts is next at last w.if-next-version.true
-      | then-ne-via-else-ne+else-next-version+then-not-can_stand w ↦ unfit_at h c.args.book n k c.in_ok-parts.parts is at (λ fits. let stands = w.can_stand.ensures.answer.1 fits.standing in let not' = w.if-not-can_stand.true in both_ways _ stands not')
+      | then-ne-via-else-ne+else-next-version+then-not-can_stand w ↦ unfit_at h c.args.book n k c.in_ok-parts.parts is at
+          (λ fits. let stands = w.can_stand.ensures.answer.1 fits.standing in let not' = w.if-not-can_stand.true in both_ways _ stands not')
     ])
 
 pub returns-in_err-under-clause-reads : goal.returns-in_err-under-clause-reads
 returns-in_err-under-clause-reads g c =
     let now : c.from_residual-in_err-under.result ≡ Err c.in_err-under.field-0.0 = search rules in
-    reads_then c.in_ok-parts.ensures.reads c.in_err-under.ensures.reads (λ h before said k place is next within last. handed_on h c.in_err-under.field-0.0 _ _ now (said k is))
+    reads_then c.in_ok-parts.ensures.reads c.in_err-under.ensures.reads
+    (λ h before said k place is next within last. handed_on h c.in_err-under.field-0.0 _ _ now (said k is))
 
 pub returns-in_err-first-clause-reads : goal.returns-in_err-first-clause-reads
 returns-in_err-first-clause-reads g c =
     let now : c.from_residual-in_err-first.result ≡ Err c.in_err-first.field-0.0 = search rules in
-    reads_then (reads_both c.in_ok-parts.ensures.reads c.in_ok-under.ensures.reads) c.in_err-first.ensures.reads (λ h before said k place is next within last. handed_on h c.in_err-first.field-0.0 _ _ now (said k is))
+    reads_then (reads_both c.in_ok-parts.ensures.reads c.in_ok-under.ensures.reads) c.in_err-first.ensures.reads
+    (λ h before said k place is next within last. handed_on h c.in_err-first.field-0.0 _ _ now (said k is))
 
 pub returns-then-not-under-clause-reads : goal.returns-then-not-under-clause-reads
 returns-then-not-under-clause-reads g c =
@@ -30,8 +35,10 @@ returns-then-not-under-clause-reads g c =
     let at = both.0 k is within in
     let n : ℕ = c.args.number in
     elim c.then-not-under.branch as (λ _. HasUnsoundBook h) [
-      | then-not-under-via-then-not-under w ↦ unfit_at h c.args.book n k c.in_ok-parts.parts is at (λ fits. let holds = (both.1 k is).1 fits.under in let not' = w.if-not-under.true in both_ways _ holds not')
-      | then-not-under-via-else-not-under+then-not-first w ↦ unfit_at h c.args.book n k c.in_ok-parts.parts is at (λ fits. let holds = (said k is).1 fits.reference in let not' = w.if-not-first.true in both_ways _ holds not')
+      | then-not-under-via-then-not-under w ↦ unfit_at h c.args.book n k c.in_ok-parts.parts is at
+          (λ fits. let holds = (both.1 k is).1 fits.under in let not' = w.if-not-under.true in both_ways _ holds not')
+      | then-not-under-via-else-not-under+then-not-first w ↦ unfit_at h c.args.book n k c.in_ok-parts.parts is at
+          (λ fits. let holds = (said k is).1 fits.reference in let not' = w.if-not-first.true in both_ways _ holds not')
     ])
 
 pub returns-clause-reads : goal.returns-clause-reads

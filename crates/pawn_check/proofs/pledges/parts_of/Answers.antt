@@ -1,5 +1,4 @@
-use Rattle.pawn_check.proofs.Basics.{◌≤◌, reads_as}
-use Rattle.pawn_check.proofs.Fronts.{unfound}
+use Rattle.{std.proofs.Common.◌≤◌, pawn_book.proofs.Reading.reads_as, pawn_check.proofs.Fronts.unfound}
 use Rattle.pawn_check.proofs.pledges.parts_of.Goals as goal
 
 pub returns-clause-reads : goal.returns-clause-reads

@@ -1,4 +1,4 @@
-use Rattle.pawn_check.proofs.Basics.{rules, ◌≡◌, ◌≤◌, ◌<◌, Err, length, arith, nat_tests, reads_as, reads_then}
+use Rattle.{std.proofs.{Common.{rules, ◌≡◌, ◌≤◌, ◌<◌, Err, length, arith}, lemmas.Bool.Decides.nat_tests}, pawn_book.proofs.Reading.{reads_as, reads_then}}
 use Rattle.pawn_check.proofs.Fronts.{front_all, front_next, handed_on}
 use Rattle.pawn_check.proofs.pledges.pledges_rows.Goals as goal
 
@@ -14,8 +14,8 @@ loop-place-preserved g c = record {
   reads = reads_then c.loop-place.invariant.reads c.in_ok-step.ensures.reads (λ h before said k is count_is.
       let within : c.in-Some.number ≤ length k.pledges = omega (arith, c.in-Some.ensures.some, c.loop-place-test.true, count_is) in
       let less : c.loop-place.place < length k.pledges = omega (arith, c.loop-place-test.true, count_is) in
-      front_next k c.loop-place.place c.in-Some.number c.loop-place.version c.loop-place.rows c.in_ok-step.step.version c.in_ok-step.step.rows less c.in-Some.ensures.some
-      (said k c.loop-place.place is c.in-Some.ensures.some within (before k is count_is).last) (before k is count_is));
+      front_next k c.loop-place.place c.in-Some.number c.loop-place.version c.loop-place.rows c.in_ok-step.step.version c.in_ok-step.step.rows less
+      c.in-Some.ensures.some (said k c.loop-place.place is c.in-Some.ensures.some within (before k is count_is).last) (before k is count_is));
   few = let more = c.in_ok-step.ensures.few in omega (arith, c.loop-place.invariant.few, more);
 }
 

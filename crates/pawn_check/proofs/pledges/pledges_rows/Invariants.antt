@@ -1,8 +1,10 @@
-use Rattle.pawn_check.proofs.Basics.{◌≡◌, ◌≤◌, ◌*◌, length, take, Some, BookValue, Reads, get, IsFront}
+use Rattle.{std.{proofs.Common.{◌≡◌, ◌≤◌, ◌*◌, length, take, Some}, specs.FinMap.get}, pawn_book.specs.{BookStep.BookValue, Keeping.Reads}}
+use Rattle.pawn_check.specs.Judging.{IsFront}
 use Rattle.pawn_check.proofs.pledges.pledges_rows.Given as goal
 
 abbrev pub invariant-loop-place : goal.invariant-loop-place
 invariant-loop-place g l = record {
-  reads : Reads g.K.Keep.keeping l.fn.keep l.keep (λ h. (k : BookValue) → get h.books l.book ≡ Some k → l.count ≡ length k.pledges → IsFront k (take l.place k.pledges) l.version l.rows);
+  reads : Reads g.K.Keep.keeping l.fn.keep l.keep
+      (λ h. (k : BookValue) → get h.books l.book ≡ Some k → l.count ≡ length k.pledges → IsFront k (take l.place k.pledges) l.version l.rows);
   few : l.rows ≤ l.place * 10102;
 }

@@ -1,4 +1,4 @@
-use Rattle.pawn_csv.proofs.Basics.{◌≡◌, ℕ, ◌<◌, ◌≤◌, [], fields_of, column_at}
+use Rattle.pawn_csv.{proofs.Basics.{◌≡◌, ℕ, ◌<◌, ◌≤◌, []}, specs.{Common.fields_of, Spelling.column_at}}
 use Rattle.pawn_csv.proofs.columns.are_blank.Given as goal
 
 abbrev pub invariant-loop-place : goal.invariant-loop-place

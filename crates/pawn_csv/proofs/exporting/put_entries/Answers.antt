@@ -1,9 +1,8 @@
-use Rattle.pawn_csv.proofs.Basics.{refl, rules, reads_as, entry_row_text}
-use Rattle.pawn_csv.proofs.ListLemmas.{few_of, list_share, entry_lines}
+use Rattle.pawn_csv.{proofs.{Basics.{refl, rules, reads_as}, ListLemmas.{few_of, list_share, entry_lines}}, specs.Exports.entry_row_text}
 use Rattle.pawn_csv.proofs.exporting.put_entries.Goals as goal
 
 pub returns-clause-shares : goal.returns-clause-shares
-returns-clause-shares g c =
-    let (given, flow, handed, reads) = c.visit_entries.ensures.reads in
+returns-clause-shares g c = let (given, flow, handed, reads) = c.visit_entries.ensures.reads in
     reads_as reads (λ h share sound p at is.
-    list_share _ entry_row_text c.args.number _ _ _ _ _ _ _ (few_of h _ _ sound).entries (entry_lines c.args.number 1 _) (search rules) refl handed (share p at is))
+    list_share _ entry_row_text c.args.number _ _ _ _ _ _ _ (few_of h _ _ sound).entries (entry_lines c.args.number 1 _) (search rules) refl handed
+    (share p at is))

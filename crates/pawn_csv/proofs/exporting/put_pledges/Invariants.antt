@@ -1,9 +1,9 @@
-use Rattle.pawn_csv.proofs.Basics.{take, IsSound, Reads, Whole, get, pledges_of, PutsRowsShare}
-use Rattle.pawn_csv.proofs.ListLemmas.{lines_from}
+use Rattle.pawn_csv.{proofs.{Basics.take, ListLemmas.lines_from}, specs.{Common.{IsSound, Reads, Whole, get, pledges_of}, Sent.PutsRowsShare}}
 use Rattle.pawn_csv.proofs.CountLemmas.{record_lines}
 use Rattle.pawn_csv.proofs.exporting.put_pledges.Given as goal
 
 abbrev pub invariant-loop-index : goal.invariant-loop-index
 invariant-loop-index g l = record {
-  shares : Reads g.K.Keep.keeping l.fn.keep l.keep (λ h. IsSound h → PutsRowsShare g.W.Write.contents l.fn.rows.sink (lines_from record_lines 0 1 (take l.index (pledges_of (get h.books l.book)))) Whole l.rows.sink);
+  shares : Reads g.K.Keep.keeping l.fn.keep l.keep (λ h. IsSound h
+      → PutsRowsShare g.W.Write.contents l.fn.rows.sink (lines_from record_lines 0 1 (take l.index (pledges_of (get h.books l.book)))) Whole l.rows.sink);
 }

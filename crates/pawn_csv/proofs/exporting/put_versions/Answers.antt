@@ -1,21 +1,21 @@
-use Rattle.pawn_csv.proofs.Basics.{◌≡◌, length, arith, get, terms_of, nat_tests, reads_as, reads_then, Err, rules}
-use Rattle.pawn_csv.proofs.CountLemmas.{versions_all, versions_front, versions_next}
+use Rattle.pawn_csv.{proofs.{Basics.{◌≡◌, length, arith, nat_tests, reads_as, reads_then, Err, rules}, CountLemmas.versions_all}, specs.Common.{get, terms_of}}
+use Rattle.pawn_csv.proofs.CountLemmas.{versions_front, versions_next}
 use Rattle.pawn_csv.proofs.exporting.put_versions.Goals as goal
 
 pub returns-in_err-terms-clause-shares : goal.returns-in_err-terms-clause-shares
 returns-in_err-terms-clause-shares g c =
     let now : c.from_residual.result ≡ Err c.in_err-terms.field-0.0 = search rules in
-    reads_then c.loop-index.invariant.shares c.in_err-terms.ensures.reads (λ h before said count_is. rw now (versions_front (terms_of (get h.books c.args.book)) c.loop-index.index before))
+    reads_then c.loop-index.invariant.shares c.in_err-terms.ensures.reads
+    (λ h before said count_is. rw now (versions_front (terms_of (get h.books c.args.book)) c.loop-index.index before))
 
 pub loop-index-preserved : goal.loop-index-preserved
 loop-index-preserved g c = record {
-  shares = reads_then c.loop-index.invariant.shares c.in_ok-terms.ensures.reads (λ h before said.
-      versions_next (terms_of (get h.books c.args.book)) c.loop-index.index c.in-Some.terms
-      (rw c.in-Some.is at said) before (rw c.rates.ensures.value at c.put_terms.ensures.puts));
+  shares = reads_then c.loop-index.invariant.shares c.in_ok-terms.ensures.reads (λ h before said. versions_next (terms_of (get h.books c.args.book))
+      c.loop-index.index c.in-Some.terms (rw c.in-Some.is at said) before (rw c.rates.ensures.value at c.put_terms.ensures.puts));
 }
 
 pub returns-clause-shares : goal.returns-clause-shares
-returns-clause-shares g c =
-    reads_as c.loop-index.invariant.shares (λ h before count_is.
-    let all : c.loop-index.index ≡ length (terms_of (get h.books c.args.book)) = grind (arith, nat_tests, c.loop-index-test.false, c.loop-index.auto.index-end, count_is) in
+returns-clause-shares g c = reads_as c.loop-index.invariant.shares (λ h before count_is.
+    let all : c.loop-index.index ≡ length (terms_of (get h.books c.args.book)) =
+    grind (arith, nat_tests, c.loop-index-test.false, c.loop-index.auto.index-end, count_is) in
     versions_all (terms_of (get h.books c.args.book)) c.loop-index.index all before)

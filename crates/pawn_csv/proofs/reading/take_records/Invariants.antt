@@ -1,7 +1,6 @@
-use Rattle.pawn_csv.proofs.Basics.{◌≡◌, List, ℕ, Some, true, default_config, strip_bom, begun_of}
+use Rattle.pawn_csv.{proofs.{Basics.{◌≡◌, List, ℕ, Some, true}, ReadLemmas.SoFar}, specs.{Common.{default_config, strip_bom}, Order.begun_of}}
 use Rattle.csv.specs.Reading.{Ready}
 use Rattle.csv.specs.declared.reader.Trim.TheVariants as trim
-use Rattle.pawn_csv.proofs.ReadLemmas.{SoFar}
 use Rattle.pawn_csv.proofs.reading.take_records.Given as goal
 
 abbrev pub invariant-loop-index : goal.invariant-loop-index

@@ -1,4 +1,4 @@
-use Rattle.pawn_csv.proofs.Basics.{◌≡◌, [], arith, length, refl, ext_get_or, nat_tests, fields_of, COLUMNS, header}
+use Rattle.pawn_csv.{proofs.Basics.{◌≡◌, [], arith, length, refl, ext_get_or, nat_tests}, specs.{Common.fields_of, Types.COLUMNS, Rows.header}}
 use Rattle.pawn_csv.proofs.spelling.is_header.Goals as goal
 
 pub returns : goal.returns
@@ -8,5 +8,9 @@ returns c =
     let wide : length (fields_of c.args.columns.now) ≡ COLUMNS = grind (arith, nat_tests, count, other) in
     let over = c.loop-place-test.false in
     record {
-      answer = (λ t. ext_get_or [] (fields_of c.args.columns.now) header wide (λ place inside. c.loop-place.invariant.so_far place (grind (arith, nat_tests, over, inside, wide))), λ is. refl);
+      answer = (
+        λ t. ext_get_or [] (fields_of c.args.columns.now) header wide
+            (λ place inside. c.loop-place.invariant.so_far place (grind (arith, nat_tests, over, inside, wide))),
+        λ is. refl,
+      );
     }

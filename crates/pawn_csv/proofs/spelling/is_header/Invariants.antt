@@ -1,4 +1,4 @@
-use Rattle.pawn_csv.proofs.Basics.{◌≡◌, ℕ, ◌<◌, fields_of, column_at, header}
+use Rattle.pawn_csv.{proofs.Basics.{◌≡◌, ℕ, ◌<◌}, specs.{Common.fields_of, Spelling.column_at, Rows.header}}
 use Rattle.pawn_csv.proofs.spelling.is_header.Given as goal
 
 abbrev pub invariant-loop-place : goal.invariant-loop-place

@@ -1,6 +1,12 @@
-use Rattle.pawn_csv.proofs.Basics.{◌∙◌, arith, refl, sym, fields_of}
-use Rattle.pawn_csv.proofs.RowLemmas.{blank_follow, columns_are}
+use Rattle.{pawn_csv.{proofs.{Basics.{◌∙◌, arith, refl, sym}, RowLemmas.{blank_follow, columns_are}}, specs.Common.fields_of}, pawn_base.proofs.ListLemmas.◌&◌}
 use Rattle.pawn_csv.proofs.spelling.read_book_row.Goals as goal
 
 pub returns : goal.returns
-returns c = record { value = ((c.in_ok-terms.ensures.value.0, c.in_ok-pledges.ensures.value.0), columns_are c.requires.wide (c.requires.letter, (sym c.column.ensures.value ∙ c.in_ok-version.ensures.value.1, (sym c.column-2.ensures.value ∙ c.in_ok-terms.ensures.value.1, (sym c.column-3.ensures.value ∙ c.in_ok-pledges.ensures.value.1, blank_follow (fields_of c.args.columns.now) 4 11 (c.if-not-are_blank.ensures.answer.0 refl) (omega arith)))))) }
+returns c = record {
+  value = (
+    (c.in_ok-terms.ensures.value.0, c.in_ok-pledges.ensures.value.0),
+    columns_are c.requires.wide (c.requires.letter & sym c.column.ensures.value ∙ c.in_ok-version.ensures.value.1
+        & sym c.column-2.ensures.value ∙ c.in_ok-terms.ensures.value.1 & sym c.column-3.ensures.value ∙ c.in_ok-pledges.ensures.value.1
+        & blank_follow (fields_of c.args.columns.now) 4 11 (c.if-not-are_blank.ensures.answer.0 refl) (omega arith)),
+  );
+}

@@ -1,5 +1,5 @@
-use Rattle.pawn_csv.proofs.Basics.{refl, by_index, civil_after, days_of_months, days_of_years, escaped, fields_text, is_blank}
-use Rattle.std.specs.Fmt.{digits}
+use Rattle.{pawn_csv.{proofs.Basics.refl, specs.Common.{escaped, fields_text, is_blank}}, pawn_terms.specs.Calendar.{civil_after, days_of_months}}
+use Rattle.{pawn_terms.specs.Calendar.days_of_years, uuid.specs.Text.by_index, std.specs.Fmt.digits}
 use Rattle.pawn_csv.proofs.worked.worked_texts.Goals as goal
 
 pub returns : goal.returns

@@ -1,5 +1,4 @@
-use Rattle.pawn_host.proofs.CrashLemmas.{host_after-append}
-use Rattle.pawn_host.proofs.RunMore.{replies-append}
+use Rattle.pawn_host.proofs.{CrashLemmas.host_after-append, RunMore.replies-append}
 use Rattle.pawn_host.proofs.laws.runs_join.Goals as goal
 
 pub returns : goal.returns

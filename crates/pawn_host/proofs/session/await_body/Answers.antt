@@ -1,12 +1,14 @@
-use Rattle.pawn_host.proofs.Basics.{arith, ap, length, ◌∙◌, prepend_known, CutOff, NoMemory, Read, Stopped, left_of, unanswered}
-use Rattle.pawn_host.proofs.FindLemmas.{kept_more, head_more, found_short, found_request}
-use Rattle.pawn_host.proofs.ReadLemmas.{short_has_no_whole, fetched_more, fetched_last, fetched_nothing, fetched_other}
+use Rattle.{std.proofs.Common.{arith, ap, length, ◌∙◌}, pawn_host.specs.{Common.prepend_known, declared.session.Rest.TheVariants.{CutOff, NoMemory, Stopped}}}
+use Rattle.pawn_host.{specs.{declared.session.Cause.TheVariants.Read, Ends.left_of, Unanswered.unanswered}, proofs.FindLemmas.{kept_more, head_more}}
+use Rattle.pawn_host.proofs.{FindLemmas.{found_short, found_request}, ReadLemmas.{short_has_no_whole, fetched_more, fetched_last, fetched_nothing}}
+use Rattle.pawn_host.proofs.ReadLemmas.{fetched_other}
 use Rattle.pawn_host.proofs.session.await_body.Goals as goal
 
 pub loop-reader-preserved : goal.loop-reader-preserved
 loop-reader-preserved g c =
     let f = c.in-More.ensures.filled in
-    let none = short_has_no_whole (unanswered c.loop-reader.buffer) c.args.head c.loop-reader.invariant.head (omega (arith, ap length c.as_slice.ensures.value)) in
+    let none =
+    short_has_no_whole (unanswered c.loop-reader.buffer) c.args.head c.loop-reader.invariant.head (omega (arith, ap length c.as_slice.ensures.value)) in
     record {
       kept = kept_more _ _ _ _ _ f.0 c.loop-reader.invariant.kept f.2 f.3;
       head = head_more (unanswered c.loop-reader.buffer) _ f.0 c.args.head c.loop-reader.invariant.head f.2;
@@ -17,24 +19,33 @@ loop-reader-preserved g c =
 pub returns-in-Done-clause-found : goal.returns-in-Done-clause-found
 returns-in-Done-clause-found g c =
     let f = c.in-Done.ensures.filled in
-    found_short (prepend_known (unanswered c.args.buffer.now) (left_of g.R.Read.remaining c.args.reader.now)) (left_of g.R.Read.remaining c.loop-reader.reader) (left_of g.R.Read.remaining c.fill.new.reader) (unanswered c.loop-reader.buffer) c.args.head c.loop-reader.invariant.kept f.1 f.2 c.loop-reader.invariant.head (omega (arith, ap length c.as_slice.ensures.value))
+    found_short (prepend_known (unanswered c.args.buffer.now) (left_of g.R.Read.remaining c.args.reader.now)) (left_of g.R.Read.remaining c.loop-reader.reader)
+    (left_of g.R.Read.remaining c.fill.new.reader) (unanswered c.loop-reader.buffer) c.args.head c.loop-reader.invariant.kept f.1 f.2
+    c.loop-reader.invariant.head (omega (arith, ap length c.as_slice.ensures.value))
 
 pub returns-clause-found : goal.returns-clause-found
-returns-clause-found g c =
-    found_request (prepend_known (unanswered c.args.buffer.now) (left_of g.R.Read.remaining c.args.reader.now)) (left_of g.R.Read.remaining c.loop-reader.reader) (unanswered c.loop-reader.buffer) c.args.head c.loop-reader.invariant.kept c.loop-reader.invariant.head (omega (arith, ap length c.as_slice.ensures.value))
+returns-clause-found g c = found_request (prepend_known (unanswered c.args.buffer.now) (left_of g.R.Read.remaining c.args.reader.now))
+    (left_of g.R.Read.remaining c.loop-reader.reader) (unanswered c.loop-reader.buffer) c.args.head c.loop-reader.invariant.kept c.loop-reader.invariant.head
+    (omega (arith, ap length c.as_slice.ensures.value))
 
 pub returns-in-Done-clause-fetched : goal.returns-in-Done-clause-fetched
 returns-in-Done-clause-fetched g c =
-    let none = short_has_no_whole (unanswered c.loop-reader.buffer) c.args.head c.loop-reader.invariant.head (omega (arith, ap length c.as_slice.ensures.value)) in
-    fetched_other CutOff _ _ _ _ _ _ _ (fetched_nothing _ (unanswered c.loop-reader.buffer) _ _ _ _ _ _ c.loop-reader.invariant.fetched none c.in-Done.ensures.by.0 c.in-Done.ensures.filled.1)
+    let none =
+    short_has_no_whole (unanswered c.loop-reader.buffer) c.args.head c.loop-reader.invariant.head (omega (arith, ap length c.as_slice.ensures.value)) in
+    fetched_other CutOff _ _ _ _ _ _ _
+    (fetched_nothing _ (unanswered c.loop-reader.buffer) _ _ _ _ _ _ c.loop-reader.invariant.fetched none c.in-Done.ensures.by.0 c.in-Done.ensures.filled.1)
 
 pub returns-in-Failed-clause-fetched : goal.returns-in-Failed-clause-fetched
 returns-in-Failed-clause-fetched g c =
-    let none = short_has_no_whole (unanswered c.loop-reader.buffer) c.args.head c.loop-reader.invariant.head (omega (arith, ap length c.as_slice.ensures.value)) in
-    fetched_other (Stopped Read) _ _ _ _ _ _ _ (fetched_nothing _ (unanswered c.loop-reader.buffer) _ _ _ _ _ _ c.loop-reader.invariant.fetched none c.in-Failed.ensures.by.0 c.in-Failed.ensures.filled)
+    let none =
+    short_has_no_whole (unanswered c.loop-reader.buffer) c.args.head c.loop-reader.invariant.head (omega (arith, ap length c.as_slice.ensures.value)) in
+    fetched_other (Stopped Read) _ _ _ _ _ _ _
+    (fetched_nothing _ (unanswered c.loop-reader.buffer) _ _ _ _ _ _ c.loop-reader.invariant.fetched none c.in-Failed.ensures.by.0 c.in-Failed.ensures.filled)
 
 pub returns-in-NoRoom-clause-fetched : goal.returns-in-NoRoom-clause-fetched
 returns-in-NoRoom-clause-fetched g c =
-    let none = short_has_no_whole (unanswered c.loop-reader.buffer) c.args.head c.loop-reader.invariant.head (omega (arith, ap length c.as_slice.ensures.value)) in
+    let none =
+    short_has_no_whole (unanswered c.loop-reader.buffer) c.args.head c.loop-reader.invariant.head (omega (arith, ap length c.as_slice.ensures.value)) in
     let f = c.in-NoRoom.ensures.filled in
-    fetched_other NoMemory _ _ _ _ _ _ _ (fetched_last _ (unanswered c.loop-reader.buffer) f.0 _ _ _ _ _ _ c.loop-reader.invariant.fetched none c.in-NoRoom.ensures.by.0 f.1)
+    fetched_other NoMemory _ _ _ _ _ _ _
+    (fetched_last _ (unanswered c.loop-reader.buffer) f.0 _ _ _ _ _ _ c.loop-reader.invariant.fetched none c.in-NoRoom.ensures.by.0 f.1)

@@ -1,13 +1,15 @@
-use Rattle.pawn_host.proofs.Basics.{◌≡◌, ◌-◌, Keeps, prepend_known, HasHead, left_of, read_failed, reads, unanswered}
-use Rattle.pawn_host.proofs.ReadLemmas.{FetchedSoFar}
+use Rattle.{std.proofs.Common.{◌≡◌, ◌-◌}, pawn_host.specs.{Common.{Keeps, prepend_known}, Finding.HasHead, Ends.{left_of, read_failed, reads}}}
+use Rattle.pawn_host.{specs.Unanswered.unanswered, proofs.ReadLemmas.FetchedSoFar}
 use Rattle.pawn_host.proofs.session.await_body.Given as goal
 
 abbrev pub invariant-loop-reader : goal.invariant-loop-reader
 invariant-loop-reader g l = record {
-  kept : Keeps (prepend_known (unanswered l.initial.buffer) (left_of g.R.Read.remaining l.initial.reader)) (prepend_known (unanswered l.buffer) (left_of g.R.Read.remaining l.reader));
+  kept : Keeps (prepend_known (unanswered l.initial.buffer) (left_of g.R.Read.remaining l.initial.reader))
+      (prepend_known (unanswered l.buffer) (left_of g.R.Read.remaining l.reader));
   head : HasHead (unanswered l.buffer) l.head;
   fine : read_failed l.reader ≡ read_failed l.initial.reader;
-  fetched : FetchedSoFar (unanswered l.initial.buffer) (unanswered l.buffer) (left_of g.R.Read.remaining l.initial.reader) (left_of g.R.Read.remaining l.reader) (reads l.initial.reader) (reads l.reader);
+  fetched : FetchedSoFar (unanswered l.initial.buffer) (unanswered l.buffer) (left_of g.R.Read.remaining l.initial.reader) (left_of g.R.Read.remaining l.reader)
+      (reads l.initial.reader) (reads l.reader);
 }
 
 abbrev pub decreases-loop-reader : goal.decreases-loop-reader

@@ -1,12 +1,14 @@
-use Rattle.pawn_host.proofs.Basics.{◌≡◌, ◌-◌, Keeps, prepend_known, left_of, read_failed, reads, unanswered}
+use Rattle.{std.proofs.Common.{◌≡◌, ◌-◌}, pawn_host.specs.{Common.{Keeps, prepend_known}, Ends.{left_of, read_failed, reads}, Unanswered.unanswered}}
 use Rattle.pawn_host.proofs.ReadLemmas.{FetchedSoFar}
 use Rattle.pawn_host.proofs.session.await_head.Given as goal
 
 abbrev pub invariant-loop-head : goal.invariant-loop-head
 invariant-loop-head g l = record {
-  kept : Keeps (prepend_known (unanswered l.initial.buffer) (left_of g.R.Read.remaining l.initial.reader)) (prepend_known (unanswered l.buffer) (left_of g.R.Read.remaining l.reader));
+  kept : Keeps (prepend_known (unanswered l.initial.buffer) (left_of g.R.Read.remaining l.initial.reader))
+      (prepend_known (unanswered l.buffer) (left_of g.R.Read.remaining l.reader));
   fine : read_failed l.reader ≡ read_failed l.initial.reader;
-  fetched : FetchedSoFar (unanswered l.initial.buffer) (unanswered l.buffer) (left_of g.R.Read.remaining l.initial.reader) (left_of g.R.Read.remaining l.reader) (reads l.initial.reader) (reads l.reader);
+  fetched : FetchedSoFar (unanswered l.initial.buffer) (unanswered l.buffer) (left_of g.R.Read.remaining l.initial.reader) (left_of g.R.Read.remaining l.reader)
+      (reads l.initial.reader) (reads l.reader);
 }
 
 abbrev pub decreases-loop-head : goal.decreases-loop-head

@@ -1,4 +1,5 @@
-use Rattle.pawn_list_keeper.proofs.Basics.{◌≡◌, ◌≤◌, ◌+◌, ◌*◌, drop, length, Each, IsStanding, PledgeValue, most_terms, pledge_rows, sum_by}
+use Rattle.{std.proofs.Common.{◌≡◌, ◌≤◌, ◌+◌, ◌*◌, drop, length, sum_by}, pawn_list_keeper.specs.Common.{Each, IsStanding, PledgeValue, most_terms}}
+use Rattle.pawn_list_keeper.specs.Common.{pledge_rows}
 use Rattle.pawn_list_keeper.proofs.filling.count_rows.Given as goal
 
 abbrev pub invariant-loop-parts : goal.invariant-loop-parts

@@ -1,4 +1,4 @@
-use Rattle.pawn_list_keeper.proofs.Basics.{◌∙◌, Some, ap, refl, BookValue, ImportBook, Kept, listed_book}
+use Rattle.{std.proofs.Common.{◌∙◌, Some, ap, refl}, pawn_list_keeper.specs.{Common.{BookValue, ImportBook}, declared.kept.Kept.Kept, Listed.listed_book}}
 use Rattle.pawn_list_keeper.proofs.ListSaves.{filled_is, set_changes}
 use Rattle.pawn_list_keeper.proofs.filling.fill_book.Goals as goal
 
@@ -11,5 +11,5 @@ returns-clause-ok c =
     let next : Kept = record kept { terms = terms; pledges = pledges; imported = Some (record { key = c.args.key; pledges = c.len.result }) } in
     let filled = filled_is at c.args.key c.args.rows.now terms.items pledges.items c.len.result (c.in_ok-terms.ensures.same ∙ c.as_slice.ensures.value)
     (c.in_ok-pledges.ensures.same ∙ c.as_slice-2.ensures.value) (c.len.ensures ∙ pledges.ok.0) in
-    set_changes c.deref.result.now c.args.books.now.items c.in-Some.place kept next (ImportBook c.args.book c.args.key c.args.rows.now) c.deref.ensures.value c.in-Some.ensures.within
-    c.in-Some.ensures.some c.index_mut-kept.ensures.value refl (ap (λ (book : BookValue). Some book) filled)
+    set_changes c.deref.result.now c.args.books.now.items c.in-Some.place kept next (ImportBook c.args.book c.args.key c.args.rows.now) c.deref.ensures.value
+    c.in-Some.ensures.within c.in-Some.ensures.some c.index_mut-kept.ensures.value refl (ap (λ (book : BookValue). Some book) filled)

@@ -1,4 +1,4 @@
-use Rattle.pawn_list_keeper.proofs.Basics.{◌≡◌, drop, take, Each, IsStanding, PledgeValue}
+use Rattle.{std.proofs.Common.{◌≡◌, drop, take}, pawn_list_keeper.specs.Common.{Each, IsStanding, PledgeValue}}
 use Rattle.pawn_list_keeper.proofs.filling.pledges_of.Given as goal
 
 abbrev pub invariant-loop-parts : goal.invariant-loop-parts

@@ -1,4 +1,4 @@
-use Rattle.pawn_list_keeper.proofs.Basics.{◌≡◌, drop, take, Each, IsChecked, Rates}
+use Rattle.{std.proofs.Common.{◌≡◌, drop, take}, pawn_list_keeper.specs.Common.{Each, IsChecked, Rates}}
 use Rattle.pawn_list_keeper.proofs.filling.terms_of.Given as goal
 
 abbrev pub invariant-loop-numbers : goal.invariant-loop-numbers

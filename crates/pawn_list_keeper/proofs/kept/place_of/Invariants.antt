@@ -1,4 +1,4 @@
-use Rattle.pawn_list_keeper.proofs.Basics.{◌≡◌, ◌+◌, ℕ, drop, map, IsPlace, book_at, listed_book}
+use Rattle.{std.proofs.Common.{◌≡◌, ◌+◌, ℕ, drop, map}, pawn_list_keeper.specs.Listed.{IsPlace, book_at, listed_book}}
 use Rattle.pawn_list_keeper.proofs.kept.place_of.Given as goal
 
 abbrev pub invariant-loop-place : goal.invariant-loop-place

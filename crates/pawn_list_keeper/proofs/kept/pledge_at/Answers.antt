@@ -1,4 +1,4 @@
-use Rattle.pawn_list_keeper.proofs.Basics.{◌≡◌, ◌+◌, ◌-◌, ◌≤◌, length, ap, sym, ◌∙◌, arith, Some, pledge_past}
+use Rattle.{std.proofs.Common.{◌≡◌, ◌+◌, ◌-◌, ◌≤◌, length, ap, sym, ◌∙◌, arith, Some}, pawn_book.proofs.Places.pledge_past}
 use Rattle.pawn_list_keeper.proofs.ListReads.{pledge_from_place}
 use Rattle.pawn_list_keeper.proofs.kept.pledge_at.Goals as goal
 
@@ -13,6 +13,7 @@ returns-then-place-pledges c = record {
 pub returns-else-place-pledges : goal.returns-else-place-pledges
 returns-else-place-pledges c = record {
   found = (
-      let past : 1 + length c.args.pledges.now ≤ c.args.number = let value = c.get.ensures.value in let low = c.get.ensures.in_range.0 in let beyond = c.if-place-pledges.false in omega (arith, value, low, beyond) in
+      let past : 1 + length c.args.pledges.now ≤ c.args.number = let value = c.get.ensures.value in let low = c.get.ensures.in_range.0 in let beyond =
+      c.if-place-pledges.false in omega (arith, value, low, beyond) in
       pledge_past 1 c.args.pledges.now c.args.number past);
 }

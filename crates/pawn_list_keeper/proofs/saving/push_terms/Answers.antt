@@ -1,6 +1,5 @@
-use Rattle.pawn_list_keeper.proofs.Basics.{ℕ, Some, ap, refl, AddTerms, BookValue, Kept, listed_book}
-use Rattle.pawn_list_keeper.proofs.ListReads.{kept_same}
-use Rattle.pawn_list_keeper.proofs.ListSaves.{set_changes}
+use Rattle.{std.proofs.Common.{ℕ, Some, ap, refl}, pawn_list_keeper.specs.{Common.{AddTerms, BookValue}, declared.kept.Kept.Kept, Listed.listed_book}}
+use Rattle.pawn_list_keeper.proofs.{ListReads.kept_same, ListSaves.set_changes}
 use Rattle.pawn_list_keeper.proofs.saving.push_terms.Goals as goal
 
 pub returns-in-Ok-clause-ok : goal.returns-in-Ok-clause-ok
@@ -8,8 +7,9 @@ returns-in-Ok-clause-ok c =
     let kept : Kept = c.index_mut-kept.result.now in
     let at = (listed_book kept).1 in
     let next : Kept = record kept { terms = c.push.new.self } in
-    set_changes c.deref.result.now c.args.books.now.items c.in-Some.place kept next (AddTerms c.args.book c.args.version c.args.terms) c.deref.ensures.value c.in-Some.ensures.within
-    c.in-Some.ensures.some c.index_mut-kept.ensures.value refl (ap (λ ts. let book : BookValue = record at { terms = ts } in Some book) c.in-Ok.ensures.items)
+    set_changes c.deref.result.now c.args.books.now.items c.in-Some.place kept next
+    (AddTerms c.args.book c.args.version c.args.terms) c.deref.ensures.value c.in-Some.ensures.within c.in-Some.ensures.some c.index_mut-kept.ensures.value refl
+    (ap (λ ts. let book : BookValue = record at { terms = ts } in Some book) c.in-Ok.ensures.items)
 
 pub returns-in-Err-clause-err : goal.returns-in-Err-clause-err
 returns-in-Err-clause-err c =

@@ -1,4 +1,4 @@
-use Rattle.pawn_list_keeper.proofs.Basics.{◌≡◌, ◌+◌, ◌-◌, ◌<◌, length, ◌∙◌, sym, arith, put_next}
+use Rattle.{std.proofs.Common.{◌≡◌, ◌+◌, ◌-◌, ◌<◌, length, ◌∙◌, sym, arith}, pawn_book.proofs.Sounds.put_next}
 use Rattle.pawn_list_keeper.proofs.PledgePlaces.{put_from_place}
 use Rattle.pawn_list_keeper.proofs.saving.put.Goals as goal
 

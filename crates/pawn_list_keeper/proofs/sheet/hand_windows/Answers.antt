@@ -1,5 +1,4 @@
-use Rattle.pawn_list_keeper.proofs.Basics.{◌≤◌, ◌+◌, arith, Go, Stop, window_sheet}
-use Rattle.pawn_list_keeper.proofs.PartLemmas.{window_next, windows_stop}
+use Rattle.{std.proofs.Common.{◌≤◌, ◌+◌, arith}, pawn_list_keeper.{specs.Common.{Go, Stop, window_sheet}, proofs.PartLemmas.{window_next, windows_stop}}}
 use Rattle.pawn_list_keeper.proofs.sheet.hand_windows.Goals as goal
 
 pub returns-in-Stop : goal.returns-in-Stop
@@ -9,15 +8,13 @@ returns-in-Stop g c =
     let window = c.loop-window.window in
     let within : window + 1 ≤ 16 = omega (arith, c.loop-window-test.true) in
     record {
-      hands = (
-          windows_stop step c.args.visitor.now c.hand_window.new.visitor sheet (window + 1) 16 within
-          (window_next step c.args.visitor.now c.loop-window.visitor c.hand_window.new.visitor sheet window Stop c.loop-window.invariant.handed (rw c.in-Stop.is at c.hand_window.ensures.hands)));
+      hands = (windows_stop step c.args.visitor.now c.hand_window.new.visitor sheet (window + 1) 16 within (window_next step c.args.visitor.now
+          c.loop-window.visitor c.hand_window.new.visitor sheet window Stop c.loop-window.invariant.handed (rw c.in-Stop.is at c.hand_window.ensures.hands)));
     }
 
 pub loop-window-preserved : goal.loop-window-preserved
 loop-window-preserved g c = record {
   within = omega (arith, c.loop-window-test.true);
-  handed = (
-      window_next g.V.Visitor.step c.args.visitor.now c.loop-window.visitor c.hand_window.new.visitor (window_sheet c.args.pledges.now c.args.day) c.loop-window.window Go
-      c.loop-window.invariant.handed (rw c.in-Go.is at c.hand_window.ensures.hands));
+  handed = (window_next g.V.Visitor.step c.args.visitor.now c.loop-window.visitor c.hand_window.new.visitor
+      (window_sheet c.args.pledges.now c.args.day) c.loop-window.window Go c.loop-window.invariant.handed (rw c.in-Go.is at c.hand_window.ensures.hands));
 }

@@ -1,4 +1,4 @@
-use Rattle.pawn_list_keeper.proofs.Basics.{◌≤◌, Go, HandsOver, flat_map, window_sheet, windows_below}
+use Rattle.{std.proofs.Common.◌≤◌, pawn_list_keeper.specs.Common.{Go, HandsOver, flat_map, window_sheet, windows_below}}
 use Rattle.pawn_list_keeper.proofs.sheet.hand_windows.Given as goal
 
 abbrev pub invariant-loop-window : goal.invariant-loop-window

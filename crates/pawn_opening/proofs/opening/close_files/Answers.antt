@@ -5,4 +5,5 @@ pub returns-in-Ok-clause-kept : goal.returns-in-Ok-clause-kept
 returns-in-Ok-clause-kept g c clean h committed = closes c.args.conn c.in-Ok.files h (c.in-Ok.ensures.copied clean) committed
 
 pub returns-in-Err-clause-refuses : goal.returns-in-Err-clause-refuses
-returns-in-Err-clause-refuses g c = unclosed c.args.conn c.in-Err.store c.in-Err.error c.refused.result c.refused.ensures.store c.refused.ensures.told c.in-Err.ensures.err.0 c.in-Err.ensures.err.1
+returns-in-Err-clause-refuses g c = unclosed c.args.conn c.in-Err.store c.in-Err.error c.refused.result c.refused.ensures.store c.refused.ensures.told
+    c.in-Err.ensures.err.0 c.in-Err.ensures.err.1

@@ -1,4 +1,4 @@
-use Rattle.pawn_opening.proofs.Basics.{memory_is_clean}
+use Rattle.sqlite.proofs.Callers.{memory_is_clean}
 use Rattle.pawn_opening.proofs.opening.open_memory.Goals as goal
 
 pub returns-in-Ok-prepare-clause-opens : goal.returns-in-Ok-prepare-clause-opens

@@ -1,15 +1,21 @@
-use Rattle.pawn_opening.proofs.Answering.{rules, subst, state, failed, told, untold}
-use Rattle.pawn_opening.proofs.Basics.{IsNumberRead}
+use Rattle.{std.proofs.Common.{rules, subst}, pawn_opening.{specs.{Common.state, Refusing.IsNumberRead}, proofs.Recognised.{failed, told, untold}}}
 use Rattle.pawn_opening.proofs.recognising.schema_noted.Goals as goal
 
 pub returns-in-Ok : goal.returns-in-Ok
 returns-in-Ok g c = record {
-  tells = told (state g.S.Store c.args.conn.now) (state g.S.Store c.query_all.new.self) (c.query_all.ensures.mode c.requires.rests) c.query_all.ensures.survives c.in-Ok.rows.items c.number_of.result c.in-Ok.ensures.ok
+  tells = told (state g.S.Store c.args.conn.now) (state g.S.Store c.query_all.new.self)
+      (c.query_all.ensures.mode c.requires.rests) c.query_all.ensures.survives c.in-Ok.rows.items c.number_of.result c.in-Ok.ensures.ok
       (subst (λ rows. IsNumberRead rows c.number_of.result) c.deref.ensures.value c.number_of.ensures.read);
 }
 
 pub returns-in-Err : goal.returns-in-Err
-returns-in-Err g c = record { tells = failed (state g.S.Store c.args.conn.now) (state g.S.Store c.query_all.new.self) (c.query_all.ensures.mode c.requires.rests) c.query_all.ensures.survives (search rules) c.in-Err.error c.in-Err.ensures.err c.refused.result c.refused.ensures.store }
+returns-in-Err g c = record {
+  tells = failed (state g.S.Store c.args.conn.now) (state g.S.Store c.query_all.new.self) (c.query_all.ensures.mode c.requires.rests)
+      c.query_all.ensures.survives (search rules) c.in-Err.error c.in-Err.ensures.err c.refused.result c.refused.ensures.store;
+}
 
 pub returns-in-Err-SqlInputError : goal.returns-in-Err-SqlInputError
-returns-in-Err-SqlInputError g c = record { tells = untold (state g.S.Store c.args.conn.now) (state g.S.Store c.query_all.new.self) (c.query_all.ensures.mode c.requires.rests) c.query_all.ensures.survives (search rules) _ c.in-Err-SqlInputError.ensures.err c.in-Err-SqlInputError.field-0-0 c.in-Err-SqlInputError.field-0-is }
+returns-in-Err-SqlInputError g c = record {
+  tells = untold (state g.S.Store c.args.conn.now) (state g.S.Store c.query_all.new.self) (c.query_all.ensures.mode c.requires.rests)
+      c.query_all.ensures.survives (search rules) _ c.in-Err-SqlInputError.ensures.err c.in-Err-SqlInputError.field-0-0 c.in-Err-SqlInputError.field-0-is;
+}

@@ -1,6 +1,5 @@
-use Rattle.pawn_pledge.proofs.Basics.{ap, refl, Due, owing_of, debt_of}
+use Rattle.{std.proofs.Common.{ap, refl}, pawn_pledge.{specs.{Common.{Due, owing_of}, Pledge.debt_of}, proofs.Briefs.brief_is_within}}
 use Rattle.pawn_debt.proofs.EntryLemmas.{due-from-last}
-use Rattle.pawn_pledge.proofs.Briefs.{brief_is_within}
 use Rattle.pawn_pledge.proofs.laws.laws_of_briefs.Goals as goal
 
 pub returns-clause-owes : goal.returns-clause-owes

@@ -1,7 +1,5 @@
-use Rattle.pawn_pledge.proofs.Moves.{pledge_moves}
-use Rattle.pawn_pledge.proofs.Starts.{starts_standing}
-use Rattle.pawn_pledge.proofs.Receipts.{closed-moved}
-use Rattle.pawn_pledge.proofs.Steps.{agreement_stays, stays_replayable, stays_within, stays_standing, changes_differ}
+use Rattle.pawn_pledge.proofs.{Moves.pledge_moves, Starts.starts_standing, Receipts.closed-moved, Steps.{agreement_stays, stays_replayable, stays_within}}
+use Rattle.pawn_pledge.proofs.Steps.{stays_standing, changes_differ}
 use Rattle.pawn_pledge.proofs.laws.laws_of_steps.Goals as goal
 
 pub returns-clause-starts : goal.returns-clause-starts

@@ -1,4 +1,4 @@
-use Rattle.pawn_pledge.proofs.Basics.{drop, Each, Entry, IsDrawnBy}
+use Rattle.{std.proofs.Common.drop, pawn_pledge.specs.{Common.{Each, Entry}, Replayable.IsDrawnBy}}
 use Rattle.pawn_pledge.proofs.parts.are_drawn.Given as goal
 
 abbrev pub invariant-loop-e : goal.invariant-loop-e

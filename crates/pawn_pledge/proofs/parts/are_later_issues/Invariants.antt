@@ -1,4 +1,4 @@
-use Rattle.pawn_pledge.proofs.Basics.{drop, IsLaterIssue, Issued, Each}
+use Rattle.{std.proofs.Common.drop, pawn_pledge.specs.{Replayable.IsLaterIssue, declared.record.Issued.Issued, Common.Each}}
 use Rattle.pawn_pledge.proofs.parts.are_later_issues.Given as goal
 
 abbrev pub invariant-loop-i : goal.invariant-loop-i

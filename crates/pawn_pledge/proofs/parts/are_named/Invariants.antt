@@ -1,8 +1,10 @@
-use Rattle.pawn_pledge.proofs.Basics.{◌≤◌, drop, Each, last_stamp_day, Extension}
+use Rattle.{std.proofs.Common.{◌≤◌, drop}, pawn_pledge.specs.{Common.{Each, last_stamp_day}, declared.record.Extension.Extension}}
 use Rattle.pawn_pledge.proofs.parts.are_named.Given as goal
 
 abbrev pub invariant-loop-extension : goal.invariant-loop-extension
 invariant-loop-extension l = record {
-  down : Each {X = Extension} (λ e. e.until ≤ last_stamp_day) l.extensions → Each {X = Extension} (λ e. e.until ≤ last_stamp_day) (drop l.extension-index l.extensions);
-  back : Each {X = Extension} (λ e. e.until ≤ last_stamp_day) (drop l.extension-index l.extensions) → Each {X = Extension} (λ e. e.until ≤ last_stamp_day) l.extensions;
+  down : Each {X = Extension} (λ e. e.until ≤ last_stamp_day) l.extensions
+      → Each {X = Extension} (λ e. e.until ≤ last_stamp_day) (drop l.extension-index l.extensions);
+  back : Each {X = Extension} (λ e. e.until ≤ last_stamp_day) (drop l.extension-index l.extensions)
+      → Each {X = Extension} (λ e. e.until ≤ last_stamp_day) l.extensions;
 }

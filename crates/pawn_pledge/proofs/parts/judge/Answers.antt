@@ -1,5 +1,4 @@
-use Rattle.pawn_pledge.proofs.Basics.{rules}
-use Rattle.pawn_pledge.proofs.Stands.{stands}
+use Rattle.{std.proofs.Common.rules, pawn_pledge.proofs.Stands.stands}
 use Rattle.pawn_pledge.proofs.parts.judge.Goals as goal
 
 pub returns-clause-standing : goal.returns-clause-standing

@@ -1,5 +1,4 @@
-use Rattle.pawn_pledge.proofs.Basics.{refl, arith, by_index, codes}
-use Rattle.std.specs.Fmt.{digits}
+use Rattle.{std.{proofs.Common.{refl, arith, codes}, specs.Fmt.digits}, uuid.specs.Text.by_index}
 use Rattle.pawn_pledge.proofs.worked.worked_texts.Goals as goal
 
 pub returns-clause-secrets : goal.returns-clause-secrets

@@ -1,13 +1,12 @@
-use Rattle.pawn_program.proofs.Basics.{arith, refl, service_keep, start_of, goes_none}
-use Rattle.pawn_host.proofs.SessionLemmas.{open_then, within_most}
-use Rattle.pawn_program.proofs.ServingLemmas.{served_none, served_more}
+use Rattle.{std.proofs.Common.{arith, refl}, pawn_host.{specs.Keeps.{service_keep, start_of}, proofs.{CrashLemmas.goes_none, SessionLemmas.open_then}}}
+use Rattle.{pawn_host.proofs.SessionLemmas.within_most, pawn_program.proofs.{ServingLemmas.{served_none, served_more}, serving.serve_on.Goals.{in-Ok, in-Err}}}
 use Rattle.pawn_program.proofs.serving.serve_on.Goals as goal
-use Rattle.pawn_program.proofs.serving.serve_on.Goals.{in-Ok, in-Err}
 
 pub loop-turn-init : goal.loop-turn-init
 loop-turn-init g c = record {
   counted = refl;
-  stays = record { on = record { past = λ honest. honest; served = λ honest serves. serves; stays = λ steady. steady; whole = λ honest whole. whole }; operator = refl };
+  stays = record
+      { on = record { past = λ honest. honest; served = λ honest serves. serves; stays = λ steady. steady; whole = λ honest whole. whole }; operator = refl };
   served = λ honest h sound at. served_none (goes_none g.K.Keep.keeping (service_keep c.args.service.now) h at sound);
 }
 
@@ -19,7 +18,8 @@ loop-turn-preserved g c =
         stays = open_then c.loop-turn.invariant.stays w.converse.ensures.stays;
         served = λ honest h sound at.
             let so = c.loop-turn.invariant.served (w.converse.ensures.stays.on.past honest) h sound at in
-            served_more _ _ (start_of g.K.Keep.keeping c.args.service.now h) c.loop-turn.served.answered _ _ _ _ _ w.converse.result so c.loop-turn.invariant.stays.on.stays c.loop-turn.invariant.stays.operator so.goes.crash refl
+            served_more _ _ (start_of g.K.Keep.keeping c.args.service.now h) c.loop-turn.served.answered _ _ _ _ _ w.converse.result so
+            c.loop-turn.invariant.stays.on.stays c.loop-turn.invariant.stays.operator so.goes.crash refl
             (within_most w.converse.result w.converse.ensures.room) (w.converse.ensures.session honest _ so.goes.sound so.goes.stands_for);
       }
       | in-Err w ↦ rw (w.service-is, w.stamps-is, w.served-is) record {

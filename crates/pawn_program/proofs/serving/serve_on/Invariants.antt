@@ -1,5 +1,4 @@
-use Rattle.pawn_program.proofs.Basics.{◌≡◌, ◌+◌, StaysOpen, Serves, AreServed}
-use Rattle.pawn_program.specs.Clock.{GivesDated}
+use Rattle.{std.proofs.Common.{◌≡◌, ◌+◌}, pawn_host.specs.Keeps.{StaysOpen, Serves}, pawn_program.specs.{Serving.AreServed, Clock.GivesDated}}
 use Rattle.pawn_program.proofs.serving.serve_on.Given as goal
 
 abbrev pub invariant-loop-turn : goal.invariant-loop-turn

@@ -1,5 +1,4 @@
-use Rattle.pawn_program.proofs.Basics.{◌≡◌, ◌∙◌, sym, arith}
-use Rattle.std.proofs.lemmas.Fmt.{decimal_injective}
+use Rattle.std.proofs.{Common.{◌≡◌, ◌∙◌, sym, arith}, lemmas.Fmt.decimal_injective}
 use Rattle.pawn_program.proofs.settings.port_of.Goals as goal
 
 pub returns-then-port-gt-LAST_PORT-clause-none : goal.returns-then-port-gt-LAST_PORT-clause-none

@@ -1,5 +1,5 @@
-use Rattle.pawn_program.proofs.Basics.{◌≡◌, ℕ, List, [], length, Option, Some, None, refl, sym, ◌∙◌, arith, common_steps, hex_bytes, seed_of}
-use Rattle.pawn_program.proofs.HexLemmas.{after_bytes, byte_more, no_byte, all_bytes}
+use Rattle.std.proofs.{Common.{◌≡◌, ℕ, List, [], length, Option, Some, None, refl, sym, ◌∙◌, arith}, lemmas.Grind.common_steps}
+use Rattle.pawn_program.{specs.Settings.{hex_bytes, seed_of}, proofs.HexLemmas.{after_bytes, byte_more, no_byte, all_bytes}}
 use Rattle.pawn_program.proofs.settings.seed_of.Goals as goal
 
 -- a text of 64 bytes is read
@@ -16,8 +16,8 @@ loop-i-init c = (refl, no_front (hex_bytes c.args.text.now))
 pub returns-in_err-seed : goal.returns-in_err-seed
 returns-in_err-seed c =
     let none : hex_bytes c.args.text.now ≡ None =
-    no_byte c.args.text.now c.loop-i.i (omega (arith, c.if-text-ne64.false, c.loop-i-test.true)) c.loop-i.seed
-    c.loop-i.invariant.1 (sym c.hex_byte.ensures.value ∙ c.in_err-seed.was) in
+    no_byte c.args.text.now c.loop-i.i (omega (arith, c.if-text-ne64.false, c.loop-i-test.true)) c.loop-i.seed c.loop-i.invariant.1
+    (sym c.hex_byte.ensures.value ∙ c.in_err-seed.was) in
     record { value = c.from_residual.ensures ∙ sym (of_64 c.args.text.now c.if-text-ne64.false ∙ none) }
 
 pub loop-i-preserved : goal.loop-i-preserved
@@ -31,7 +31,6 @@ pub returns : goal.returns
 returns c =
     let end : c.loop-i.i ≡ 32 = omega (arith, c.loop-i-test.false, c.loop-i.auto.i-end) in
     record {
-      value =
-          sym (of_64 c.args.text.now c.if-text-ne64.false
-          ∙ all_bytes c.args.text.now c.loop-i.seed c.loop-i.i (omega (arith, end, c.if-text-ne64.false)) (omega (arith, end, c.loop-i.invariant.0)) c.loop-i.invariant.1);
+      value = sym (of_64 c.args.text.now c.if-text-ne64.false ∙ all_bytes c.args.text.now c.loop-i.seed c.loop-i.i (omega (arith, end, c.if-text-ne64.false))
+          (omega (arith, end, c.loop-i.invariant.0)) c.loop-i.invariant.1);
     }

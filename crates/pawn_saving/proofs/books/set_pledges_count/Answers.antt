@@ -1,6 +1,7 @@
-use Rattle.pawn_saving.proofs.Writing.{pledges_count_wrote, on_ran}
+use Rattle.pawn_saving.proofs.{BookStatements.pledges_count_wrote, StatementWrites.on_ran}
 use Rattle.pawn_saving.proofs.books.set_pledges_count.Goals as goal
 
 pub returns-clause-wrote : goal.returns-clause-wrote
 returns-clause-wrote g c k pledges len clean within listed rest only st =
-    on_ran c.write.result _ _ (rw (c.params-to_sql.ensures, c.params-to_sql-2.ensures) at (c.write.ensures.ran clean within)) (λ count. pledges_count_wrote _ _ listed st count c.args.book c.args.count k pledges rest len only)
+    on_ran c.write.result _ _ (rw (c.params-to_sql.ensures, c.params-to_sql-2.ensures) at (c.write.ensures.ran clean within))
+    (λ count. pledges_count_wrote _ _ listed st count c.args.book c.args.count k pledges rest len only)

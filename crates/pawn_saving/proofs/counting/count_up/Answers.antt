@@ -1,13 +1,12 @@
-use Rattle.pawn_saving.proofs.Writing.{state, inside_after_row, kept_by_row, open_by_row, count_told, counts}
-use Rattle.pawn_saving.proofs.Basics.{false, IsTrue, HasCleanDisk, IsLent, State, Survives}
-use Rattle.pawn_saving.specs.Common.{KeepsCommit}
+use Rattle.{pawn_saving.proofs.{Writing.state, Counter.{count_told, counts}}, one_table.proofs.Parts.{inside_after_row, kept_by_row, open_by_row}}
+use Rattle.{std.proofs.Common.{false, IsTrue}, pawn_tables.specs.Common.{HasCleanDisk, IsLent, State}, sqlite.specs.State.{Survives, KeepsCommit}}
 use Rattle.pawn_saving.proofs.counting.count_up.Goals as goal
 
 pub returns-in-Ok-get-clause-wrote : goal.returns-in-Ok-get-clause-wrote
-returns-in-Ok-get-clause-wrote g c clean within listed counted limit noted fits st =
-    let old = state g.S.Store c.args.tx.now.conn.now in
+returns-in-Ok-get-clause-wrote g c clean within listed counted limit noted fits st = let old = state g.S.Store c.args.tx.now.conn.now in
     let new = state g.S.Store c.query_row.new.self.conn.now in
-    let it = counts c.args.by old new c.in-Ok.row listed counted limit st noted fits (rw (c.params-to_sql.ensures, c.in-Ok.is) at (c.query_row.ensures.row clean)) in
+    let it =
+    counts c.args.by old new c.in-Ok.row listed counted limit st noted fits (rw (c.params-to_sql.ensures, c.in-Ok.is) at (c.query_row.ensures.row clean)) in
     count_told c.in-Ok-get.now _ c.in-Ok.row new.now listed limit c.in-Ok-get.ensures.ok.1 it.0 it.1
 
 pub returns-in-Ok-get-clause-lent : goal.returns-in-Ok-get-clause-lent
@@ -23,12 +22,17 @@ returns-in-Ok-get-clause-lent g c = record {
 
 -- an answer that is no count leaves the transaction to be rolled back
 failed : (old new : State) → (HasCleanDisk new → IsTrue old.in_transaction → KeepsCommit old new) → Survives old new (λ _. ⊥) → IsLent old new false
-failed old new kept survives = record { kept = kept; opened = λ clean within ok. absurd (let e = ok in cc); inside = λ clean within ok. absurd (let e = ok in cc); survives = survives }
+failed old new kept survives =
+    record { kept = kept; opened = λ clean within ok. absurd (let e = ok in cc); inside = λ clean within ok. absurd (let e = ok in cc); survives = survives }
 
 pub returns-clause-lent : goal.returns-clause-lent
-returns-clause-lent g c =
-    record { same_reference = search; leaves = failed _ _ (λ clean within. kept_by_row _ _ _ _ c.query_row.result within (c.query_row.ensures.row clean)) c.query_row.ensures.survives }
+returns-clause-lent g c = record {
+  same_reference = search;
+  leaves = failed _ _ (λ clean within. kept_by_row _ _ _ _ c.query_row.result within (c.query_row.ensures.row clean)) c.query_row.ensures.survives;
+}
 
 pub returns-in-Err-clause-lent : goal.returns-in-Err-clause-lent
-returns-in-Err-clause-lent g c =
-    record { same_reference = search; leaves = failed _ _ (λ clean within. kept_by_row _ _ _ _ c.query_row.result within (c.query_row.ensures.row clean)) c.query_row.ensures.survives }
+returns-in-Err-clause-lent g c = record {
+  same_reference = search;
+  leaves = failed _ _ (λ clean within. kept_by_row _ _ _ _ c.query_row.result within (c.query_row.ensures.row clean)) c.query_row.ensures.survives;
+}

@@ -1,6 +1,8 @@
-use Rattle.pawn_saving.proofs.Writing.{extension_wrote, on_ran}
+use Rattle.pawn_saving.proofs.StatementWrites.{extension_wrote, on_ran}
 use Rattle.pawn_saving.proofs.entries.put_extension.Goals as goal
 
 pub returns-clause-wrote : goal.returns-clause-wrote
 returns-clause-wrote g c clean within listed st =
-    on_ran c.write.result _ _ (rw (c.params-to_sql.ensures, c.params-to_sql-2.ensures, c.params-to_sql-3.ensures, c.params-to_sql-4.ensures, c.params-to_sql-5.ensures, c.count-day.ensures.value, c.count-until.ensures.value) at (c.write.ensures.ran clean within)) (λ count. extension_wrote _ _ listed st count c.args.book c.args.number c.args.place c.args.extension.now)
+    on_ran c.write.result _ _ (rw (c.params-to_sql-5.ensures, c.count-day.ensures.value, c.count-until.ensures.value) at
+    (rw (c.params-to_sql.ensures, c.params-to_sql-2.ensures, c.params-to_sql-3.ensures, c.params-to_sql-4.ensures) at (c.write.ensures.ran clean within)))
+    (λ count. extension_wrote _ _ listed st count c.args.book c.args.number c.args.place c.args.extension.now)

@@ -1,6 +1,8 @@
-use Rattle.pawn_saving.proofs.Writing.{rules, on_ran, totals_wrote}
+use Rattle.pawn_saving.proofs.{Writing.rules, StatementWrites.{on_ran, totals_wrote}}
 use Rattle.pawn_saving.proofs.pledges.set_totals.Goals as goal
 
 pub returns-clause-wrote : goal.returns-clause-wrote
 returns-clause-wrote g c before clean within listed rest only st =
-    on_ran c.write.result _ _ (rw (c.params-to_sql.ensures, c.params-to_sql-2.ensures, c.params-to_sql-3.ensures, c.params-to_sql-4.ensures, c.params-to_sql-5.ensures, c.count-day.ensures.value, c.in_ok-principal.ensures.value) at (c.write.ensures.ran clean within)) (λ count. totals_wrote _ _ listed st count c.args.book c.args.number _ c.args.totals.now before rest (search rules) only)
+    on_ran c.write.result _ _ (rw (c.params-to_sql-5.ensures, c.count-day.ensures.value, c.in_ok-principal.ensures.value) at
+    (rw (c.params-to_sql.ensures, c.params-to_sql-2.ensures, c.params-to_sql-3.ensures, c.params-to_sql-4.ensures) at (c.write.ensures.ran clean within)))
+    (λ count. totals_wrote _ _ listed st count c.args.book c.args.number _ c.args.totals.now before rest (search rules) only)

@@ -1,22 +1,20 @@
-use Rattle.pawn_saving.proofs.Writing.{Some, ap, refl, sym, ◌∙◌, ◌≡◌, state, pledge_in, rows, listed_as, with_sides, as_lists, stood, continues_it, old_sides, others, renewed_written, past}
+use Rattle.pawn_saving.{proofs.{Writing.{Some, ap, refl, sym, ◌∙◌, ◌≡◌, state, pledge_in, rows}, Hosting.as_lists, RowsInOrder.past}, specs.Counted.listed_as}
+use Rattle.pawn_saving.{specs.Putting.with_sides, proofs.{PledgeChanges.stood, PledgeWrites.{continues_it, old_sides, others, renewed_written}}}
 use Rattle.pawn_saving.proofs.renewing.renew_pledge.Goals as goal
 
 pub returns-clause-wrote : goal.returns-clause-wrote
-returns-clause-wrote g c old stored clean within h sound can st standing =
-    let new = state g.S.Store c.put_lists.new.tx.conn.now in
-    let b = c.args.book in
-    let n = c.args.number in
-    let p = c.args.pledge.now in
-    let l = c.args.stored.lengths in
-    let k = can.follows.0 in
-    let is = can.follows.1 in
+returns-clause-wrote g c old stored clean within h sound can st standing = let new = state g.S.Store c.put_lists.new.tx.conn.now in
+    let b = c.args.book in let n = c.args.number in
+    let p = c.args.pledge.now in let l = c.args.stored.lengths in
+    let k = can.follows.0 in let is = can.follows.1 in
     let some : stood h b n k p is ≡ Some old = ap (λ o. pledge_in o n) (sym is) ∙ standing in
-    let it = continues_it k n old p some can.follows.2 in
-    let counted = rows h in
-    let clean1 = past _ _ _ c.in_ok-put_lists.ensures.carried.leaves clean in
-    let within1 = c.in_ok-set_sides.ensures.lent.leaves.inside clean1 within refl in
+    let it = continues_it k n old p some can.follows.2 in let counted = rows h in
+    let clean1 = past _ _ _ c.in_ok-put_lists.ensures.carried.leaves clean in let within1 = c.in_ok-set_sides.ensures.lent.leaves.inside clean1 within refl in
     let rest = others h b n k old p is some in
-    let set = rw (c.get.ensures.value, c.get-2.ensures.value) at (c.in_ok-set_sides.ensures.wrote old (sym it.agreement) (c.in_ok-added.ensures.booked old stored) clean1 within (listed_as h counted) rest) in
+    let set = rw (c.get.ensures.value, c.get-2.ensures.value) at
+    (c.in_ok-set_sides.ensures.wrote old (sym it.agreement) (c.in_ok-added.ensures.booked old stored) clean1 within (listed_as h counted) rest) in
     let one = set (old_sides h b n k old p is some counted st.ordered) (as_lists _ h st) in
-    let two = rw (c.get-3.ensures.value, c.get-4.ensures.value) at (c.in_ok-put_lists.ensures.wrote clean within1 (with_sides b n p rest (listed_as h counted))) in
-    renewed_written h b n k old p is some counted st.ordered l it stored.lengths.entries stored.lengths.secrets stored.lengths.extensions new.now c.in_ok-added.added refl (c.in_ok-added.ensures.value old stored) (two one)
+    let two =
+    rw (c.get-3.ensures.value, c.get-4.ensures.value) at (c.in_ok-put_lists.ensures.wrote clean within1 (with_sides b n p rest (listed_as h counted))) in
+    renewed_written h b n k old p is some counted st.ordered l it stored.lengths.entries stored.lengths.secrets stored.lengths.extensions new.now
+    c.in_ok-added.added refl (c.in_ok-added.ensures.value old stored) (two one)

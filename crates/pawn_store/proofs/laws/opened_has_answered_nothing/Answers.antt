@@ -1,5 +1,4 @@
-use Rattle.pawn_store.proofs.Basics.{store_of}
-use Rattle.pawn_store.proofs.Runs.{nothing_answered}
+use Rattle.pawn_store.{specs.Running.store_of, proofs.Runs.nothing_answered}
 use Rattle.pawn_store.proofs.laws.opened_has_answered_nothing.Goals as goal
 
 pub returns : goal.returns

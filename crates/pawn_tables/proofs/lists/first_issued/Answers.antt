@@ -1,8 +1,15 @@
-use Rattle.pawn_tables.proofs.RowReading.{arith, rules, IsDayNumber, Issued, IsWord, secret_cells, first_err_of, first_of}
+use Rattle.pawn_tables.{proofs.RowReading.{arith, rules, IsDayNumber, Issued, IsWord, first_err_of, first_of}, specs.Rows.secret_cells}
 use Rattle.pawn_tables.proofs.lists.first_issued.Goals as goal
 
 pub returns-in_err-issued_of : goal.returns-in_err-issued_of
-returns-in_err-issued_of c = record { read = λ place i fits are. let e = first_err_of (secret_cells place) (λ (x : Issued). IsWord x.secret) (λ (x : Issued). IsDayNumber x.day) c.args.rows.now c.row-item.result _ c.row-item.is (let some = c.in-len1-up.len_at_least in omega (arith, some)) (c.in_err-issued_of.ensures.read place) i fits are in search rules }
+returns-in_err-issued_of c = record {
+  read = λ place i fits are. let e =
+      first_err_of (secret_cells place) (λ (x : Issued). IsWord x.secret) (λ (x : Issued). IsDayNumber x.day) c.args.rows.now c.row-item.result _ c.row-item.is
+      (let some = c.in-len1-up.len_at_least in omega (arith, some)) (c.in_err-issued_of.ensures.read place) i fits are in search rules;
+}
 
 pub returns : goal.returns
-returns c = record { read = λ place i fits are. first_of (secret_cells place) (λ (x : Issued). IsWord x.secret) c.args.rows.now c.row-item.result c.in_ok-issued_of.field-0 c.row-item.is (let some = c.in-len1-up.len_at_least in omega (arith, some)) (c.in_ok-issued_of.ensures.read place) i fits are }
+returns c = record {
+  read = λ place i fits are. first_of (secret_cells place) (λ (x : Issued). IsWord x.secret) c.args.rows.now c.row-item.result
+      c.in_ok-issued_of.field-0 c.row-item.is (let some = c.in-len1-up.len_at_least in omega (arith, some)) (c.in_ok-issued_of.ensures.read place) i fits are;
+}

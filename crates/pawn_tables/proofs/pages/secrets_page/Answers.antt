@@ -1,8 +1,11 @@
-use Rattle.pawn_tables.proofs.Reading.{◌+◌, ◌∙◌, page_words, secrets_page_shown, secrets_page_unsound, READ_SECRETS_PAGE, found, found_is, texts}
+use Rattle.pawn_tables.proofs.{Reading.{◌+◌, ◌∙◌, found, found_is}, ListPageReads.{page_words, secrets_page_shown, secrets_page_unsound}}
+use Rattle.pawn_tables.proofs.ReadTexts.{READ_SECRETS_PAGE, texts}
 use Rattle.pawn_tables.proofs.pages.secrets_page.Goals as goal
 
 pub returns-clause-finds : goal.returns-clause-finds
 returns-clause-finds g c =
     found _ _ _ _ _ c.read_secrets.result _ READ_SECRETS_PAGE.now (λ more. (texts more).secrets_page_is.2) c.in_ok-rows.ensures.lent.leaves
     (λ clean. rw (c.params-to_sql.ensures, c.params-to_sql-2.ensures, c.params-to_sql-3.ensures) at (c.in_ok-rows.ensures.shown clean))
-    (λ h st shown. found_is c.read_secrets.result _ _ _ (c.read_secrets.ensures.read (c.args.behind + 1) _ (page_words h st.storable c.args.book c.args.number c.args.behind) (c.deref.ensures.value ∙ secrets_page_shown _ _ h c.args.book c.args.number c.args.behind _ st shown)) (secrets_page_unsound h st.storable c.args.book c.args.number c.args.behind))
+    (λ h st shown. found_is c.read_secrets.result _ _ _ (c.read_secrets.ensures.read (c.args.behind + 1) _ (page_words h st.storable c.args.book c.args.number
+    c.args.behind) (c.deref.ensures.value ∙ secrets_page_shown _ _ h c.args.book c.args.number c.args.behind _ st shown))
+    (secrets_page_unsound h st.storable c.args.book c.args.number c.args.behind))

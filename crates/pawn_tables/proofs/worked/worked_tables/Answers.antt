@@ -1,10 +1,9 @@
-use Rattle.pawn_tables.proofs.Basics.{◌≡◌, ℕ, List, [], ◌∷◌, map, flat_map, sum_by, refl, sym, ap, ◌∙◌, arith, empty, entries, nat_cmp, nil_from_length, Row, PledgeValue, BookValue, meta_rows, book_row, terms_listed, pledge_listed, entries_listed, secrets_listed, booking_listed, totals_listed, extensions_listed, of_books, of_pledges}
-use Rattle.std.specs.FinMap.{entries-insert, put, len-empty, len-entries}
-use Rattle.std.proofs.lemmas.Cmp.{nat_cmp_total}
-use Rattle.pawn_terms.specs.Calendar.{days_of_years, days_of_months, civil_after}
-use Rattle.pawn_debt.specs.Due.{due_after}
-use Rattle.pawn_book.specs.HostStep.{book_rows}
-use Rattle.pawn_tables.specs.WorkedTables.{stored_book, host_of_stored_book}
+use Rattle.std.{proofs.Common.{◌≡◌, ℕ, List, [], ◌∷◌, map, flat_map, sum_by, refl, sym, ap, ◌∙◌, arith}, specs.FinMap.{entries-insert, put, len-empty}}
+use Rattle.{std.{specs.FinMap.len-entries, proofs.lemmas.Cmp.nat_cmp_total}, pawn_tables.specs.Common.{empty, entries, nat_cmp, Row, PledgeValue, BookValue}}
+use Rattle.pawn_tables.{proofs.Basics.nil_from_length, specs.{Meta.meta_rows, Rows.{book_row, terms_listed, pledge_listed, entries_listed, secrets_listed}}}
+use Rattle.pawn_tables.specs.{Rows.{booking_listed, totals_listed, extensions_listed}, StandsFor.{of_books, of_pledges}, WorkedTables.stored_book}
+use Rattle.{pawn_tables.specs.WorkedTables.host_of_stored_book, pawn_terms.specs.Calendar.{days_of_years, days_of_months, civil_after}}
+use Rattle.{pawn_debt.specs.Due.due_after, pawn_book.specs.HostStep.book_rows}
 use Rattle.pawn_tables.proofs.worked.worked_tables.Goals as goal
 
 no_entries : entries (empty {X = BookValue} {R = nat_cmp}) ≡ []
@@ -18,7 +17,8 @@ only = entries-insert nat_cmp_total empty 7 stored_book ∙ ap (put nat_cmp 7 st
 of_book : (f : ℕ → BookValue → List Row) → of_books host_of_stored_book f ≡ flat_map (λ (e : ℕ × BookValue). f e.0 e.1) ((7, stored_book) ∷ [])
 of_book f = ap (λ es. flat_map (λ (e : ℕ × BookValue). f e.0 e.1) es) only
 
-of_ring : (f : ℕ → PledgeValue → List Row) → of_pledges host_of_stored_book f ≡ flat_map (λ (e : ℕ × BookValue). flat_map (f e.0) e.1.pledges) ((7, stored_book) ∷ [])
+of_ring : (f : ℕ → PledgeValue → List Row)
+    → of_pledges host_of_stored_book f ≡ flat_map (λ (e : ℕ × BookValue). flat_map (f e.0) e.1.pledges) ((7, stored_book) ∷ [])
 of_ring f = of_book (λ b k. flat_map (f b) k.pledges)
 
 pub returns : goal.returns

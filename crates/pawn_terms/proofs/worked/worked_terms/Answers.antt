@@ -1,4 +1,4 @@
-use Rattle.pawn_terms.proofs.Basics.{refl}
+use Rattle.std.proofs.Common.{refl}
 use Rattle.pawn_terms.proofs.worked.worked_terms.Goals as goal
 
 pub returns : goal.returns

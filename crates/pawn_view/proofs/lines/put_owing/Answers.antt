@@ -1,4 +1,4 @@
-use Rattle.pawn_view.proofs.Basics.{puts_then}
+use Rattle.pawn_writing.proofs.PutLemmas.{puts_then}
 use Rattle.pawn_view.proofs.lines.put_owing.Goals as goal
 
 pub returns : goal.returns

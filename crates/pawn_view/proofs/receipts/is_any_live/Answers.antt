@@ -1,16 +1,15 @@
-use Rattle.pawn_view.proofs.Basics.{ap, sym, get, live_at, not, pledge_in, reads_then}
-use Rattle.pawn_view.proofs.PresentedLemmas.{any_known, unknown_more}
+use Rattle.{std.proofs.Common.{ap, sym, not}, pawn_view.{specs.Common.{get, live_at, pledge_in}, proofs.PresentedLemmas.{any_known, unknown_more}}}
+use Rattle.pawn_book.proofs.Reading.{reads_then}
 use Rattle.pawn_view.proofs.receipts.is_any_live.Goals as goal
 
 pub returns-in-Some-clause-reads : goal.returns-in-Some-clause-reads
-returns-in-Some-clause-reads g c =
-    reads_then c.loop-receipt.invariant.reads c.in_ok-live_brief.ensures.reads (λ h before said.
-    sym (ap not (any_known (live_at (pledge_in (get h.books c.args.book))) c.args.receipts.now c.loop-receipt.receipt-index c.receipt-item.result c.in-Some.field-0
-    c.loop-receipt-test.true c.receipt-item.is (rw c.in-Some.is at said))))
+returns-in-Some-clause-reads g c = reads_then c.loop-receipt.invariant.reads c.in_ok-live_brief.ensures.reads
+    (λ h before said. sym (ap not (any_known (live_at (pledge_in (get h.books c.args.book))) c.args.receipts.now c.loop-receipt.receipt-index
+    c.receipt-item.result c.in-Some.field-0 c.loop-receipt-test.true c.receipt-item.is (rw c.in-Some.is at said))))
 
 pub loop-receipt-preserved : goal.loop-receipt-preserved
 loop-receipt-preserved g c = record {
-  reads = reads_then c.loop-receipt.invariant.reads c.in_ok-live_brief.ensures.reads (λ h before said.
-      unknown_more (live_at (pledge_in (get h.books c.args.book))) c.args.receipts.now c.loop-receipt.receipt-index c.receipt-item.result
-      c.loop-receipt-test.true c.receipt-item.is before (rw c.in-None.is at said));
+  reads =
+      reads_then c.loop-receipt.invariant.reads c.in_ok-live_brief.ensures.reads (λ h before said. unknown_more (live_at (pledge_in (get h.books c.args.book)))
+      c.args.receipts.now c.loop-receipt.receipt-index c.receipt-item.result c.loop-receipt-test.true c.receipt-item.is before (rw c.in-None.is at said));
 }

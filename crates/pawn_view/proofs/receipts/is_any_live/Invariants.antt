@@ -1,4 +1,4 @@
-use Rattle.pawn_view.proofs.Basics.{◌≡◌, true, take, map, Reads, are_unknown, get, live_at, pledge_in}
+use Rattle.{std.proofs.Common.{◌≡◌, true, take, map}, pawn_view.specs.Common.{Reads, are_unknown, get, live_at, pledge_in}}
 use Rattle.pawn_view.proofs.receipts.is_any_live.Given as goal
 
 abbrev pub invariant-loop-receipt : goal.invariant-loop-receipt

@@ -1,7 +1,8 @@
-use Rattle.pawn_view.proofs.Basics.{take, map, IsSound, PutsShare, Reads, Whole, get, live_at, pledge_in, further_texts}
+use Rattle.{std.proofs.Common.{take, map}, pawn_view.specs.{Common.{IsSound, PutsShare, Reads, Whole, get, live_at, pledge_in}, Text.further_texts}}
 use Rattle.pawn_view.proofs.receipts.put_further.Given as goal
 
 abbrev pub invariant-loop-receipt : goal.invariant-loop-receipt
 invariant-loop-receipt g l = record {
-  shares : Reads g.K.Keep.keeping l.fn.keep l.keep (λ h. IsSound h → PutsShare g.W.Write.contents l.fn.writer (further_texts l.day (map (live_at (pledge_in (get h.books l.book))) (take l.receipt-index l.receipts))) Whole l.writer);
+  shares : Reads g.K.Keep.keeping l.fn.keep l.keep (λ h. IsSound h → PutsShare g.W.Write.contents l.fn.writer
+      (further_texts l.day (map (live_at (pledge_in (get h.books l.book))) (take l.receipt-index l.receipts))) Whole l.writer);
 }

@@ -1,4 +1,4 @@
-use Rattle.pawn_wire.proofs.Basics.{refl, Err, IsAscii, IsOk, MatchResult, Ok, Result, IsUtf8-from_ascii}
+use Rattle.{std.proofs.{Common.{refl, Err, IsOk, MatchResult, Ok, Result}, lemmas.Str.IsUtf8-from_ascii}, pawn_wire.specs.Common.IsAscii}
 use Rattle.pawn_wire.proofs.DayLemmas.{day_ascii}
 use Rattle.pawn_wire.proofs.done.day_text.Goals as goal
 

@@ -1,6 +1,5 @@
-use Rattle.pawn_wire.proofs.Basics.{arith, ◌≡◌, ◌≤◌, ◌∙◌, ap, refl, inl, inr, body_length, closes_by, max_fields, max_head}
-use Rattle.pawn_wire.proofs.HeadLemmas.{whole_head, told_by_fields, closed_by_fields, overflows_on, never_by_length}
-use Rattle.pawn_wire.proofs.StreamLemmas.{head_within}
+use Rattle.{std.proofs.Common.{arith, ◌≡◌, ◌≤◌, ◌∙◌, ap, refl, inl, inr}, pawn_wire.specs.{Head.{body_length, closes_by}, Limits.{max_fields, max_head}}}
+use Rattle.pawn_wire.proofs.{HeadLemmas.{whole_head, told_by_fields, closed_by_fields, overflows_on, never_by_length}, StreamLemmas.head_within}
 use Rattle.pawn_wire.proofs.head.read_head.Goals as goal
 
 pub returns-in-Ok-clause-head : goal.returns-in-Ok-clause-head
@@ -14,8 +13,10 @@ returns-in-Ok-clause-head c =
       whole_head c.args.bytes.now c.min.result c.parse_request.new.headers c.in-Ok-Complete.head x.0 x.1 within few,
       record {
         len = x.1.len;
-        body = told_by_fields c.args.bytes.now c.min.result c.parse_request.new.headers c.in-Ok-Complete.head x.0 _ x.1 (c.in-Ok.ensures.value ∙ ap body_length c.new-fields.ensures.pairs);
-        closes = closed_by_fields c.args.bytes.now c.min.result c.parse_request.new.headers c.in-Ok-Complete.head x.0 _ x.1 (c.closes.ensures.value ∙ ap (closes_by c.in-Ok-Complete.head.version) c.new-fields.ensures.pairs);
+        body = told_by_fields c.args.bytes.now c.min.result c.parse_request.new.headers c.in-Ok-Complete.head x.0 _ x.1
+            (c.in-Ok.ensures.value ∙ ap body_length c.new-fields.ensures.pairs);
+        closes = closed_by_fields c.args.bytes.now c.min.result c.parse_request.new.headers c.in-Ok-Complete.head x.0 _ x.1
+            (c.closes.ensures.value ∙ ap (closes_by c.in-Ok-Complete.head.version) c.new-fields.ensures.pairs);
       },
     )
 
@@ -34,7 +35,8 @@ returns-in-Err-clause-head c =
       x.0,
       _,
       whole_head c.args.bytes.now c.min.result c.parse_request.new.headers c.in-Ok-Complete.head x.0 x.1 within few,
-      told_by_fields c.args.bytes.now c.min.result c.parse_request.new.headers c.in-Ok-Complete.head x.0 _ x.1 (c.in-Err.ensures.value ∙ ap body_length c.new-fields.ensures.pairs),
+      told_by_fields c.args.bytes.now c.min.result c.parse_request.new.headers c.in-Ok-Complete.head x.0 _ x.1
+          (c.in-Err.ensures.value ∙ ap body_length c.new-fields.ensures.pairs),
     )
 
 pub returns-in_default-clause-head : goal.returns-in_default-clause-head

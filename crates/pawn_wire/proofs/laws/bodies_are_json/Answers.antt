@@ -1,5 +1,4 @@
-use Rattle.pawn_wire.proofs.Basics.{refl, serde_json_on_literals}
-use Rattle.pawn_wire.proofs.BodyLemmas.{opened_text-json, refusal_text-json}
+use Rattle.{std.proofs.Common.refl, serde_json.proofs.OnLiterals.serde_json_on_literals, pawn_wire.proofs.BodyLemmas.{opened_text-json, refusal_text-json}}
 use Rattle.pawn_wire.proofs.DoneLemmas.{entered_text-json, held_text-json, declared_text-json, booked_text-json, redeemed_text-json, extended_text-json}
 use Rattle.pawn_wire.proofs.laws.bodies_are_json.Goals as goal
 

@@ -1,6 +1,6 @@
-use Rattle.pawn_wire.proofs.Basics.{refl, drop, day_text, IsTargetFound, table}
-use Rattle.pawn_wire.proofs.NamedLemmas.{number_said-is, number_said-some, number_said-leading_zero, day_said-is, day_said-some}
-use Rattle.pawn_wire.proofs.TargetFacts.{each_part, first_targets, second_targets, third_targets, fourth_targets, last_targets}
+use Rattle.{std.proofs.Common.{refl, drop}, pawn_wire.{specs.{Common.day_text, Laws.IsTargetFound, Route.table}, proofs.NamedLemmas.number_said-is}}
+use Rattle.pawn_wire.proofs.{NamedLemmas.{number_said-some, number_said-leading_zero, day_said-is, day_said-some}, TargetFacts.{each_part, first_targets}}
+use Rattle.pawn_wire.proofs.TargetFacts.{second_targets, third_targets, fourth_targets, last_targets}
 use Rattle.pawn_wire.proofs.laws.laws_of_targets.Goals as goal
 
 pub returns-clause-numbers : goal.returns-clause-numbers
@@ -17,8 +17,5 @@ returns-clause-days c = record {
 }
 
 pub returns-clause-targets : goal.returns-clause-targets
-returns-clause-targets c =
-    each_part IsTargetFound 4 table first_targets
-    (each_part IsTargetFound 4 (drop 4 table) second_targets
-    (each_part IsTargetFound 4 (drop 8 table) third_targets
-    (each_part IsTargetFound 4 (drop 12 table) fourth_targets last_targets)))
+returns-clause-targets c = each_part IsTargetFound 4 table first_targets (each_part IsTargetFound 4 (drop 4 table) second_targets
+    (each_part IsTargetFound 4 (drop 8 table) third_targets (each_part IsTargetFound 4 (drop 12 table) fourth_targets last_targets)))

@@ -1,5 +1,4 @@
-use Rattle.pawn_wire.proofs.Basics.{arith}
-use Rattle.pawn_wire.proofs.DigitLemmas.{short_numeral, value_bound, value_more}
+use Rattle.{std.proofs.Common.arith, pawn_wire.proofs.DigitLemmas.{short_numeral, value_bound, value_more}}
 use Rattle.pawn_wire.proofs.numeral.number.Goals as goal
 
 pub overflow_mul-number : goal.overflow_mul-number

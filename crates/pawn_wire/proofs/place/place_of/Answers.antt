@@ -1,10 +1,9 @@
-use Rattle.pawn_wire.proofs.Basics.{arith, IsAscii, IsUtf8-from_ascii, common_steps}
+use Rattle.{std.proofs.{Common.arith, lemmas.{Str.IsUtf8-from_ascii, Grind.common_steps}}, pawn_wire.specs.Common.IsAscii}
 use Rattle.pawn_wire.proofs.place.place_of.Goals as goal
 
 pub returns-in_default : goal.returns-in_default
 returns-in_default c =
     let ascii : IsAscii c.args.target.now = ascii_found c in
-    absurd (c.in_default.ensures.cases.0 (IsUtf8-from_ascii c.args.target.now ascii))
-  where
-    ascii_found : (c : goal.In_default) → IsAscii c.args.target.now
-    ascii_found c = grind (arith, common_steps)
+    absurd (c.in_default.ensures.cases.0 (IsUtf8-from_ascii c.args.target.now ascii)) where
+      ascii_found : (c : goal.In_default) → IsAscii c.args.target.now
+      ascii_found c = grind (arith, common_steps)

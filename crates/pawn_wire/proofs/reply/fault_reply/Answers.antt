@@ -1,4 +1,4 @@
-use Rattle.pawn_wire.proofs.Basics.{sym, ap, digits, HeadFault, fault_text, wire_fault}
+use Rattle.{std.{proofs.Common.{sym, ap}, specs.Fmt.digits}, pawn_wire.specs.{Types.HeadFault, Reply.fault_text, Fault.wire_fault}}
 use Rattle.pawn_wire.proofs.reply.fault_reply.Goals as goal
 
 pub returns-in-BadHead : goal.returns-in-BadHead

@@ -1,4 +1,4 @@
-use Rattle.pawn_wire.proofs.Basics.{refl, digits}
+use Rattle.std.{proofs.Common.refl, specs.Fmt.digits}
 use Rattle.pawn_wire.proofs.reply.memory_reply.Goals as goal
 
 pub returns : goal.returns

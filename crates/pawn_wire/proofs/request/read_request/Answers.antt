@@ -1,6 +1,6 @@
-use Rattle.pawn_wire.proofs.Basics.{arith, ◌≤◌, refl, inr, length, ◌-◌, take, drop, IsOutlined, OrMemory, max_fields, max_head, outline_by, pairs_of}
-use Rattle.pawn_wire.proofs.HeadLemmas.{whole_head}
-use Rattle.pawn_wire.proofs.RequestLemmas.{is_read, said_by_spans, none_in_front, none_by_overflow}
+use Rattle.{std.proofs.Common.{arith, ◌≤◌, refl, inr, length, ◌-◌, take, drop}, pawn_wire.specs.{Request.{IsOutlined, outline_by}, Chain.OrMemory}}
+use Rattle.pawn_wire.{specs.{Limits.{max_fields, max_head}, Fields.pairs_of}, proofs.{HeadLemmas.whole_head, RequestLemmas.{is_read, said_by_spans}}}
+use Rattle.pawn_wire.proofs.RequestLemmas.{none_in_front, none_by_overflow}
 use Rattle.pawn_wire.proofs.request.read_request.Goals as goal
 
 pub returns-in-Ok-Complete : goal.returns-in-Ok-Complete
@@ -10,14 +10,15 @@ returns-in-Ok-Complete c =
     let within : c.min.result ≤ max_head = omega (arith, c.min.ensures) in
     let few : c.in-Ok-Complete.head.headers ≤ max_fields = let k = y.section.count_fits in let l = c.parse_request.auto in omega arith in
     let body = take (length c.args.bytes.now - c.in-Ok-Complete.head.len) (drop c.in-Ok-Complete.head.len c.args.bytes.now) in
-    let says : OrMemory (IsOutlined body (outline_by c.of.result.now c.of-in-Ok-Complete.result.now (pairs_of c.new-fields.result) body)) c.request_by.result = c.request_by.ensures.value in
+    let says : OrMemory (IsOutlined body (outline_by c.of.result.now c.of-in-Ok-Complete.result.now (pairs_of c.new-fields.result) body)) c.request_by.result =
+    c.request_by.ensures.value in
     let m = c.of.ensures in
     let p = c.of-in-Ok-Complete.ensures in
     let pairs = c.new-fields.ensures.pairs in
     record {
       read = is_read c.args.bytes.now c.request_by.result x.0 _
-          (whole_head c.args.bytes.now c.min.result c.parse_request.new.headers c.in-Ok-Complete.head x.0 x.1 within few)
-          (said_by_spans c.args.bytes.now c.min.result c.parse_request.new.headers c.in-Ok-Complete.head x.0 c.request_by.result x.1 y.section.len_fits (rw (m, p, pairs) at says));
+          (whole_head c.args.bytes.now c.min.result c.parse_request.new.headers c.in-Ok-Complete.head x.0 x.1 within few) (said_by_spans c.args.bytes.now
+          c.min.result c.parse_request.new.headers c.in-Ok-Complete.head x.0 c.request_by.result x.1 y.section.len_fits (rw (m, p, pairs) at says));
     }
 
 pub returns-in-Ok-Partial : goal.returns-in-Ok-Partial

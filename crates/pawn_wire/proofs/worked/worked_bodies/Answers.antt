@@ -1,4 +1,5 @@
-use Rattle.pawn_wire.proofs.Basics.{refl, chars, civil_after, days_of_months, days_of_years, is_utf8, serde_json_on_literals, uuid_on_literals, day_said}
+use Rattle.{std.proofs.Common.refl, pawn_wire.specs.{Common.{chars, civil_after, days_of_months, days_of_years, is_utf8}, Named.day_said}}
+use Rattle.{serde_json.proofs.OnLiterals.serde_json_on_literals, uuid.proofs.OnLiterals.uuid_on_literals}
 use Rattle.pawn_wire.proofs.worked.worked_bodies.Goals as goal
 
 pub returns-clause-bodies : goal.returns-clause-bodies

@@ -1,4 +1,4 @@
-use Rattle.pawn_wire.proofs.Basics.{refl, uuid_on_literals, number_said}
+use Rattle.{std.proofs.Common.refl, uuid.proofs.OnLiterals.uuid_on_literals, pawn_wire.specs.Named.number_said}
 use Rattle.pawn_wire.proofs.worked.worked_fields.Goals as goal
 
 pub returns-clause-keys : goal.returns-clause-keys

@@ -1,5 +1,4 @@
-use Rattle.pawn_wire.proofs.Basics.{refl, print_request}
-use Rattle.httparse.specs.Grammar.{trim_ows}
+use Rattle.{std.proofs.Common.refl, httparse.specs.Grammar.{print_request, trim_ows}}
 use Rattle.pawn_wire.proofs.worked.worked_heads.Goals as goal
 
 pub returns-clause-heads : goal.returns-clause-heads

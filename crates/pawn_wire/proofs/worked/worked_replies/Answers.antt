@@ -1,8 +1,9 @@
-use Rattle.pawn_wire.proofs.Basics.{refl, digits, uuid_on_literals}
+use Rattle.{std.{proofs.Common.refl, specs.Fmt.digits}, uuid.proofs.OnLiterals.uuid_on_literals}
 use Rattle.pawn_wire.proofs.worked.worked_replies.Goals as goal
 
 pub returns-clause-statuses : goal.returns-clause-statuses
-returns-clause-statuses c = (refl, refl, refl, refl, refl, refl, refl, refl, refl, refl, refl, refl, refl, refl, refl, refl, refl, refl, refl, refl, refl, refl, refl, refl)
+returns-clause-statuses c =
+    (refl, refl, refl, refl, refl, refl, refl, refl, refl, refl, refl, refl, refl, refl, refl, refl, refl, refl, refl, refl, refl, refl, refl, refl)
 
 pub returns-clause-refusals : goal.returns-clause-refusals
 unfolding digits

@@ -1,4 +1,6 @@
-use Rattle.pawn_wire.proofs.Basics.{refl, chars, civil_after, days_of_months, days_of_years, is_utf8, matchit_on_literals, day_said, number_said, table_rows, serde_json_on_literals, uuid_on_literals}
+use Rattle.{std.proofs.Common.refl, pawn_wire.specs.{Common.{chars, civil_after, days_of_months, days_of_years, is_utf8}, Named.{day_said, number_said}}}
+use Rattle.{pawn_wire.specs.Route.table_rows, matchit.proofs.OnLiterals.matchit_on_literals, serde_json.proofs.OnLiterals.serde_json_on_literals}
+use Rattle.uuid.proofs.OnLiterals.{uuid_on_literals}
 use Rattle.pawn_wire.proofs.worked.worked_requests.Goals as goal
 
 pub returns-clause-requests : goal.returns-clause-requests

@@ -1,4 +1,4 @@
-use Rattle.pawn_writing.proofs.Basics.{take, flat_map, Puts}
+use Rattle.{std.{proofs.Common.take, specs.List.flat_map}, pawn_writing.specs.Ends.Puts}
 use Rattle.pawn_writing.proofs.writing.put_all.Given as goal
 
 abbrev pub invariant-loop-piece : goal.invariant-loop-piece

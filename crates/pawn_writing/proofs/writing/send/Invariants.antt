@@ -1,4 +1,4 @@
-use Rattle.pawn_writing.proofs.Basics.{length, ◌-◌, ◌≡◌, ◌≤◌, false, take, Appends, write_failed, written_bytes}
+use Rattle.{std.{proofs.Common.{length, ◌-◌, ◌≡◌, ◌≤◌, false, take}, specs.Io.KnownBytes.Appends}, pawn_writing.specs.Ends.{write_failed, written_bytes}}
 use Rattle.pawn_writing.proofs.writing.send.Given as goal
 
 abbrev pub invariant-loop-sent : goal.invariant-loop-sent

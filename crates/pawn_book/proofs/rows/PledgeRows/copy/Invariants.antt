@@ -1,4 +1,4 @@
-use Rattle.pawn_book.proofs.Basics.{◌≡◌, take}
+use Rattle.std.proofs.Common.{◌≡◌, take}
 use Rattle.pawn_book.proofs.rows.PledgeRows.copy.Given as goal
 
 abbrev pub invariant-loop-parts : goal.invariant-loop-parts

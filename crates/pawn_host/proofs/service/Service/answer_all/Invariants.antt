@@ -1,6 +1,5 @@
-use Rattle.pawn_host.proofs.Basics.{◌≡◌, ◌≤◌, ◌*◌, ◌^◌, false, prepend_known, write_failed, written_bytes, Serves, StaysOpen, left_of, read_failed, reads, unanswered}
-use Rattle.pawn_host.proofs.ReadLemmas.{ReadSoFar}
-use Rattle.pawn_host.proofs.SessionLemmas.{SoFar, TakenSoFar}
+use Rattle.{std.proofs.Common.{◌≡◌, ◌≤◌, ◌*◌, ◌^◌, false}, pawn_host.specs.{Common.{prepend_known, write_failed, written_bytes}, Keeps.{Serves, StaysOpen}}}
+use Rattle.pawn_host.{specs.{Ends.{left_of, read_failed, reads}, Unanswered.unanswered}, proofs.{ReadLemmas.ReadSoFar, SessionLemmas.{SoFar, TakenSoFar}}}
 use Rattle.pawn_host.proofs.service.Service.answer_all.Given as goal
 
 abbrev pub invariant-loop-acted : goal.invariant-loop-acted

@@ -1,7 +1,5 @@
-use Rattle.pawn_host.proofs.Basics.{◌∙◌, ap, arith, ◌+◌, ℕ, refl, take_all, start_of, start_after, answer_bytes, host_by}
-use Rattle.pawn_host.proofs.SessionLemmas.{acted_at, open_then}
-use Rattle.pawn_host.proofs.HeadlineLemmas.{run_of_slots}
-use Rattle.pawn_host.proofs.RunMore.{run_turn}
+use Rattle.{std.proofs.Common.{◌∙◌, ap, arith, ◌+◌, ℕ, refl, take_all}, pawn_host.specs.Keeps.{start_of, start_after, answer_bytes, host_by}}
+use Rattle.pawn_host.proofs.{SessionLemmas.{acted_at, open_then}, HeadlineLemmas.run_of_slots, RunMore.run_turn}
 use Rattle.pawn_host.proofs.service.Service.run.Goals as goal
 
 pub loop-item-preserved : goal.loop-item-preserved
@@ -13,11 +11,14 @@ loop-item-preserved g c = record {
       let before = c.loop-item.invariant.run (c.answer_one-answer.ensures.stays.on.past honest) h sound at in
       let start = start_of g.K.Keep.keeping c.args.self.now h in
       let acted = c.answer_one-answer.ensures.acted honest (host_by start before.items) before.goes.sound before.goes.stands_for in
-      run_turn start _ _ c.loop-item.item-index c.args.items.now c.item-item.result c.loop-item.answers.items _ c.answer_one-answer.result c.loop-item-test.true c.item-item.is c.push_reserved.ensures.items before
-      (acted_at _ (start_after start before.items) c.item-item.result.0 c.as_slice.result.now c.item-item.result.1.items _ (answer_bytes c.answer_one-answer.result) _ acted c.loop-item.invariant.stays.on.stays c.loop-item.invariant.stays.operator before.goes.crash c.as_slice.ensures.value refl);
+      run_turn start _ _ c.loop-item.item-index c.args.items.now c.item-item.result c.loop-item.answers.items _ c.answer_one-answer.result c.loop-item-test.true
+      c.item-item.is c.push_reserved.ensures.items before (acted_at _
+      (start_after start before.items) c.item-item.result.0 c.as_slice.result.now c.item-item.result.1.items _ (answer_bytes c.answer_one-answer.result) _ acted
+      c.loop-item.invariant.stays.on.stays c.loop-item.invariant.stays.operator before.goes.crash c.as_slice.ensures.value refl);
 }
 
 pub returns-clause-headline : goal.returns-clause-headline
 returns-clause-headline g c = λ honest h sound at.
     let run = c.loop-item.invariant.run honest h sound at in
-    run_of_slots (start_of g.K.Keep.keeping c.args.self.now h) _ _ _ (rw (take_all c.loop-item.item-index c.args.items.now (omega (arith, c.loop-item-test.false))) at run)
+    run_of_slots (start_of g.K.Keep.keeping c.args.self.now h) _ _ _
+    (rw (take_all c.loop-item.item-index c.args.items.now (omega (arith, c.loop-item-test.false))) at run)

@@ -1,8 +1,5 @@
-use Rattle.pawn_host.proofs.Basics.{◌∙◌, ℕ, ap, Vec, Global, codes, reply_text, start_of, Refusal}
-use Rattle.pawn_host.proofs.CrashLemmas.{goes_read}
-use Rattle.pawn_host.proofs.RunLemmas.{all_written}
-use Rattle.pawn_host.proofs.RowsLemmas.{acted_rows, no_text, rows_request}
-use Rattle.pawn_host.proofs.ViewLemmas.{view_acted}
+use Rattle.{std.proofs.Common.{◌∙◌, ℕ, ap, Vec, Global, codes}, pawn_host.{specs.{Common.{reply_text, Refusal}, Keeps.start_of}, proofs.CrashLemmas.goes_read}}
+use Rattle.pawn_host.proofs.{RunLemmas.all_written, RowsLemmas.{acted_rows, no_text, rows_request}, ViewLemmas.view_acted}
 use Rattle.pawn_host.proofs.service.Service.show_rows.Goals as goal
 
 pub returns-clause-acted : goal.returns-clause-acted
@@ -14,9 +11,8 @@ returns-clause-acted g c = λ honest h sound at with_key bytes read.
     (reply_text 200 (codes "text/csv; charset=utf-8") c.into_inner.result.items) c.export-shown.result read c.tell_view.ensures.tells goes (λ store. cc)
     (λ u is tells. let whole = rw is at shows in
     acted_rows start c.args.stamp.now bytes c.tell_view.result _ c.args.book c.args.key
-    whole.0 c.into_inner.result.items read with_key whole.1
-    (all_written c.new-rows.result.sink.writer.inner.items c.export-shown.new.rows.sink.writer.inner.items c.into_inner.result.items whole.0
-    (ap (λ (v : Vec ℕ Global). v.items) c.into_inner.ensures.answer) whole.2.0 (ap (λ (v : Vec ℕ Global). v.items) c.new-rows.ensures.inner ∙ c.new.ensures.items))
+    whole.0 c.into_inner.result.items read with_key whole.1 (all_written c.new-rows.result.sink.writer.inner.items
+    c.export-shown.new.rows.sink.writer.inner.items c.into_inner.result.items whole.0 (ap (λ (v : Vec ℕ Global). v.items) c.into_inner.ensures.answer) whole.2.0
+    (ap (λ (v : Vec ℕ Global). v.items) c.new-rows.ensures.inner ∙ c.new.ensures.items))
     tells goes)
-    (λ is. let none = rw is at shows in absurd (no_text h c.args.book c.args.key with_key none.0))
-    (λ steady is. c.export-shown.ensures.steady steady is)
+    (λ is. let none = rw is at shows in absurd (no_text h c.args.book c.args.key with_key none.0)) (λ steady is. c.export-shown.ensures.steady steady is)

@@ -1,7 +1,8 @@
-use Rattle.pawn_list_keeper.proofs.Basics.{◌∙◌, ap, map, confirmed_count, pledges_of, book_at, listed_book}
+use Rattle.{std.proofs.Common.{◌∙◌, ap, map}, pawn_list_keeper.specs.{Common.{confirmed_count, pledges_of}, Listed.{book_at, listed_book}}}
 use Rattle.pawn_list_keeper.proofs.ListKeeping.{book_read, list_reads}
 use Rattle.pawn_list_keeper.proofs.list.ListKeepKeep.confirmed_count.Goals as goal
 
 pub returns-clause-reads : goal.returns-clause-reads
-returns-clause-reads c = list_reads c.args.self.now _ (c.confirmed_count-count.ensures.value ∙ ap (λ ps. confirmed_count ps c.args.day c.args.window)
-    (c.pledges_in.ensures.value ∙ ap pledges_of (ap (λ ks. book_at (map listed_book ks) c.args.book) c.deref.ensures.value ∙ book_read _ c.args.self.now c.args.book c.self.view_is)))
+returns-clause-reads c =
+    list_reads c.args.self.now _ (c.confirmed_count-count.ensures.value ∙ ap (λ ps. confirmed_count ps c.args.day c.args.window) (c.pledges_in.ensures.value
+    ∙ ap pledges_of (ap (λ ks. book_at (map listed_book ks) c.args.book) c.deref.ensures.value ∙ book_read _ c.args.self.now c.args.book c.self.view_is)))

@@ -1,4 +1,4 @@
-use Rattle.pawn_list_keeper.proofs.Basics.{refl, subst, IsSound, host_of}
+use Rattle.{std.proofs.Common.{refl, subst}, pawn_book.specs.Sound.IsSound, pawn_list_keeper.specs.Listed.host_of}
 use Rattle.pawn_list_keeper.proofs.list.ListKeepKeep.save.Goals as goal
 
 pub make-requires : goal.make-requires

@@ -1,9 +1,9 @@
-use Rattle.pawn_list_keeper.proofs.Basics.{◌∙◌, ap, map, subst, IsShare, Whole, pledge_in, secrets_of, book_at, listed_book}
+use Rattle.{std.proofs.Common.{◌∙◌, ap, map, subst}, pawn_list_keeper.specs.{Common.{IsShare, Whole, pledge_in, secrets_of}, Listed.{book_at, listed_book}}}
 use Rattle.pawn_list_keeper.proofs.ListKeeping.{book_read, list_reads}
 use Rattle.pawn_list_keeper.proofs.list.ListKeepKeep.secrets.Goals as goal
 
 pub returns-clause-reads : goal.returns-clause-reads
-returns-clause-reads g c =
-    let visits = c.hand.ensures.visits in
-    let same = c.secrets_in.ensures.value ∙ ap (λ o. secrets_of (pledge_in o c.args.number)) (ap (λ ks. book_at (map listed_book ks) c.args.book) c.deref.ensures.value ∙ book_read _ c.args.self.now c.args.book c.self.view_is) in
+returns-clause-reads g c = let visits = c.hand.ensures.visits in
+    let same = c.secrets_in.ensures.value ∙ ap (λ o. secrets_of (pledge_in o c.args.number))
+    (ap (λ ks. book_at (map listed_book ks) c.args.book) c.deref.ensures.value ∙ book_read _ c.args.self.now c.args.book c.self.view_is) in
     (visits.0, visits.1, visits.2, list_reads c.args.self.now _ (subst (IsShare visits.0 visits.1 Whole) same visits.3))

@@ -1,8 +1,9 @@
-use Rattle.pawn_pledge.specs.Step.{pledge_start}
-use Rattle.pawn_pledge.proofs.Starts.{started_stands, starts_standing}
+use Rattle.pawn_pledge.{specs.Step.pledge_start, proofs.Starts.{started_stands, starts_standing}}
 use Rattle.pawn_pledge.proofs.pledge.Pledge.start.Goals as goal
 
 pub returns-clause-standing : goal.returns-clause-standing
 returns-clause-standing c =
-    started_stands (pledge_start c.args.number c.args.opening c.args.version c.args.terms c.args.stamp.now) c.of_opening.result c.of_opening.ensures.started (λ p is.
-    starts_standing c.args.number c.args.opening c.args.version c.args.terms c.args.stamp.now p c.get.ensures.in_range c.know_limits.ensures.within c.rates.ensures.checked c.day.ensures.in_range is)
+    started_stands (pledge_start c.args.number c.args.opening c.args.version c.args.terms c.args.stamp.now) c.of_opening.result c.of_opening.ensures.started
+    (λ p is.
+    starts_standing c.args.number c.args.opening c.args.version c.args.terms c.args.stamp.now p c.get.ensures.in_range c.know_limits.ensures.within
+    c.rates.ensures.checked c.day.ensures.in_range is)

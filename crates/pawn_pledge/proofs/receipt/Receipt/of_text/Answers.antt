@@ -1,5 +1,5 @@
-use Rattle.pawn_pledge.proofs.Basics.{◌≡◌, ◌+◌, List, ℕ, ◌∷◌, ◌++◌, Some, None, drop, sym, ap, ◌∙◌, arith, take_rest, secret_of_text}
-use Rattle.pawn_pledge.proofs.TextLemmas.{has_hyphen, cut_at, cut_by}
+use Rattle.std.proofs.{Common.{◌≡◌, ◌+◌, List, ℕ, ◌∷◌, ◌++◌, Some, None, drop, sym, ap, ◌∙◌, arith}, lemmas.List.take_rest}
+use Rattle.pawn_pledge.{specs.Secret.secret_of_text, proofs.TextLemmas.{has_hyphen, cut_at, cut_by}}
 use Rattle.pawn_pledge.proofs.receipt.Receipt.of_text.Goals as goal
 
 pub returns-in_default-clause-err : goal.returns-in_default-clause-err

@@ -1,5 +1,4 @@
-use Rattle.pawn_program.proofs.Basics.{refl, arith}
-use Rattle.pawn_program.proofs.StampLemmas.{taken_in_order, taken_are_fewer}
+use Rattle.{std.proofs.Common.{refl, arith}, pawn_program.proofs.StampLemmas.{taken_in_order, taken_are_fewer}}
 use Rattle.pawn_program.proofs.stamps.Stamps.new.Goals as goal
 
 pub returns-clause-stamps : goal.returns-clause-stamps

@@ -1,7 +1,6 @@
-use Rattle.pawn_table_keeper.proofs.Calls.{get, pledges_of, part_items, keeping_of, items_past, HandedTo}
+use Rattle.pawn_table_keeper.{specs.{Common.{get, pledges_of, part_items, items_past}, Handing.keeping_of}, proofs.Handings.HandedTo}
 use Rattle.pawn_table_keeper.proofs.keeper.TableKeep.hand_part.Given as goal
 
 abbrev pub invariant-loop-turn : goal.invariant-loop-turn
-invariant-loop-turn g l =
-    HandedTo (keeping_of g.S.Store) g.V.Visitor.step (λ h. part_items l.part l.day (pledges_of (get h.books l.book))) (λ n h. items_past l.part l.day n (pledges_of (get h.books l.book)))
-    l.fn.self l.self l.fn.visitor l.visitor l.above l.turn
+invariant-loop-turn g l = HandedTo (keeping_of g.S.Store) g.V.Visitor.step (λ h. part_items l.part l.day (pledges_of (get h.books l.book)))
+    (λ n h. items_past l.part l.day n (pledges_of (get h.books l.book))) l.fn.self l.self l.fn.visitor l.visitor l.above l.turn

@@ -1,5 +1,6 @@
-use Rattle.pawn_table_keeper.proofs.Calls.{get, pledge_in, secrets_of, keeping_of, HandedPages}
+use Rattle.pawn_table_keeper.{specs.{Common.{get, pledge_in, secrets_of}, Handing.keeping_of}, proofs.PageHandings.HandedPages}
 use Rattle.pawn_table_keeper.proofs.keeper.TableKeep.hand_secrets.Given as goal
 
 abbrev pub invariant-loop-turn : goal.invariant-loop-turn
-invariant-loop-turn g l = HandedPages (keeping_of g.S.Store) g.V.Visitor.step (λ h. secrets_of (pledge_in (get h.books l.book) l.number)) l.fn.self l.self l.fn.visitor l.visitor l.turn
+invariant-loop-turn g l = HandedPages (keeping_of g.S.Store) g.V.Visitor.step
+    (λ h. secrets_of (pledge_in (get h.books l.book) l.number)) l.fn.self l.self l.fn.visitor l.visitor l.turn

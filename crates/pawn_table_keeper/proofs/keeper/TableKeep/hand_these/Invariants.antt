@@ -1,8 +1,10 @@
-use Rattle.pawn_table_keeper.proofs.Basics.{Ok, ◌≤◌, get, flat_map, pledges_of, windows_below, Go, keeping_of, named_sheet, IsUnsoundAt, HandsRows}
+use Rattle.{std.proofs.Common.{Ok, ◌≤◌}, pawn_table_keeper.specs.{Common.{get, flat_map, pledges_of, windows_below, Go, IsUnsoundAt}, Handing.keeping_of}}
+use Rattle.pawn_table_keeper.specs.{Handing.HandsRows, Windows.named_sheet}
 use Rattle.pawn_table_keeper.proofs.keeper.TableKeep.hand_these.Given as goal
 
 abbrev pub invariant-loop-window : goal.invariant-loop-window
 invariant-loop-window g l = record {
   within : l.window ≤ 16;
-  handed : HandsRows (keeping_of g.S.Store) (IsUnsoundAt l.book) g.V.Visitor.step l.fn.self l.self l.fn.visitor l.visitor (Ok Go) (λ h. flat_map (named_sheet l.windows (pledges_of (get h.books l.book)) l.day) (windows_below l.window));
+  handed : HandsRows (keeping_of g.S.Store) (IsUnsoundAt l.book) g.V.Visitor.step l.fn.self l.self l.fn.visitor l.visitor (Ok Go)
+      (λ h. flat_map (named_sheet l.windows (pledges_of (get h.books l.book)) l.day) (windows_below l.window));
 }

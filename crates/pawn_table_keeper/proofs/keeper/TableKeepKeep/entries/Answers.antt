@@ -1,8 +1,8 @@
-use Rattle.pawn_table_keeper.proofs.Calls.{Err, ap, rules, ◌≡◌, get, pledge_in, entries_of, call_end, keeping_of, visits_of}
+use Rattle.{std.proofs.Common.{Err, ap, rules, ◌≡◌}, pawn_table_keeper.specs.{Common.{get, pledge_in, entries_of, call_end}, Handing.keeping_of}}
+use Rattle.pawn_table_keeper.proofs.Handings.{visits_of}
 use Rattle.pawn_table_keeper.proofs.keeper.TableKeepKeep.entries.Goals as goal
 
 pub returns-in_err-hand_entries-clause-reads : goal.returns-in_err-hand_entries-clause-reads
-returns-in_err-hand_entries-clause-reads g c =
-    let is : c.from_residual.result ≡ Err c.in_err-hand_entries.field-0.0 = search rules in
-    visits_of (keeping_of g.S.Store) g.V.Visitor.step c.args.self.now c.hand_entries.new.self c.args.visitor.now c.hand_entries.new.visitor (Err c.in_err-hand_entries.field-0.0) c.from_residual.result (λ h. entries_of (pledge_in (get h.books c.args.book) c.args.number))
-    (ap call_end is) c.in_err-hand_entries.ensures.hands
+returns-in_err-hand_entries-clause-reads g c = let is : c.from_residual.result ≡ Err c.in_err-hand_entries.field-0.0 = search rules in
+    visits_of (keeping_of g.S.Store) g.V.Visitor.step _ _ _ _ (Err c.in_err-hand_entries.field-0.0) c.from_residual.result
+    (λ h. entries_of (pledge_in (get h.books c.args.book) c.args.number)) (ap call_end is) c.in_err-hand_entries.ensures.hands

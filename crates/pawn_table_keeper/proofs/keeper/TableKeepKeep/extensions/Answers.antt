@@ -1,8 +1,8 @@
-use Rattle.pawn_table_keeper.proofs.Calls.{Err, ap, rules, ◌≡◌, get, pledge_in, extensions_of, call_end, keeping_of, visits_of}
+use Rattle.{std.proofs.Common.{Err, ap, rules, ◌≡◌}, pawn_table_keeper.specs.{Common.{get, pledge_in, extensions_of, call_end}, Handing.keeping_of}}
+use Rattle.pawn_table_keeper.proofs.Handings.{visits_of}
 use Rattle.pawn_table_keeper.proofs.keeper.TableKeepKeep.extensions.Goals as goal
 
 pub returns-in_err-hand_extensions-clause-reads : goal.returns-in_err-hand_extensions-clause-reads
-returns-in_err-hand_extensions-clause-reads g c =
-    let is : c.from_residual.result ≡ Err c.in_err-hand_extensions.field-0.0 = search rules in
-    visits_of (keeping_of g.S.Store) g.V.Visitor.step c.args.self.now c.hand_extensions.new.self c.args.visitor.now c.hand_extensions.new.visitor (Err c.in_err-hand_extensions.field-0.0) c.from_residual.result (λ h. extensions_of (pledge_in (get h.books c.args.book) c.args.number))
-    (ap call_end is) c.in_err-hand_extensions.ensures.hands
+returns-in_err-hand_extensions-clause-reads g c = let is : c.from_residual.result ≡ Err c.in_err-hand_extensions.field-0.0 = search rules in
+    visits_of (keeping_of g.S.Store) g.V.Visitor.step _ _ _ _ (Err c.in_err-hand_extensions.field-0.0) c.from_residual.result
+    (λ h. extensions_of (pledge_in (get h.books c.args.book) c.args.number)) (ap call_end is) c.in_err-hand_extensions.ensures.hands

@@ -1,4 +1,4 @@
-use Rattle.pawn_table_keeper.proofs.Calls.{get, pledges_of, keeping_of, Walked}
+use Rattle.pawn_table_keeper.{specs.{Common.{get, pledges_of}, Handing.keeping_of}, proofs.Walks.Walked}
 use Rattle.pawn_table_keeper.proofs.keeper.TableKeepKeep.walk.Given as goal
 
 abbrev pub invariant-loop-place : goal.invariant-loop-place

@@ -1,4 +1,5 @@
-use Rattle.pawn_table_keeper.proofs.Calls.{rules, subst, map-id, HandsOver, Go, Stop, page_goes, page_stops, page_whole}
+use Rattle.{std.proofs.Common.{rules, subst, map-id}, pawn_table_keeper.{specs.Common.{HandsOver, Go, Stop}, proofs.PageHandings.{page_goes, page_stops}}}
+use Rattle.pawn_table_keeper.proofs.PageHandings.{page_whole}
 use Rattle.pawn_table_keeper.proofs.keeper.handing.hand_all.Goals as goal
 
 pub returns-in-Stop : goal.returns-in-Stop
@@ -16,7 +17,6 @@ loop-item-preserved g c =
 
 pub returns : goal.returns
 returns g c = record {
-  hands = (
-      subst (λ xs. HandsOver g.V.Visitor.step c.args.visitor.now xs Go c.loop-item.visitor) (map-id c.args.items.now)
-      (page_whole g.V.Visitor.step (λ x. x) c.args.items.now c.args.visitor.now c.loop-item.visitor c.loop-item.item-index (search rules) c.loop-item.invariant));
+  hands = (subst (λ xs. HandsOver g.V.Visitor.step c.args.visitor.now xs Go c.loop-item.visitor) (map-id c.args.items.now) (page_whole g.V.Visitor.step
+      (λ x. x) c.args.items.now c.args.visitor.now c.loop-item.visitor c.loop-item.item-index (search rules) c.loop-item.invariant));
 }

@@ -1,4 +1,4 @@
-use Rattle.pawn_table_keeper.proofs.Basics.{map, take, Handed, Go}
+use Rattle.{std.proofs.Common.{map, take}, pawn_table_keeper.specs.Common.{Handed, Go}}
 use Rattle.pawn_table_keeper.proofs.keeper.handing.hand_all.Given as goal
 
 abbrev pub invariant-loop-item : goal.invariant-loop-item

@@ -1,5 +1,4 @@
-use Rattle.pawn_tables.proofs.Basics.{rules}
-use Rattle.pawn_tables.proofs.ListEndReads.{last_place}
+use Rattle.{std.proofs.Common.rules, pawn_tables.proofs.ListEndReads.last_place}
 use Rattle.pawn_tables.proofs.joining.briefs.place_of.Goals as goal
 
 pub returns-in-Some : goal.returns-in-Some

@@ -1,4 +1,4 @@
-use Rattle.pawn_wire.proofs.Basics.{◌≡◌, ◌≤◌, length, map, take, header_bytes, values_of}
+use Rattle.{std.proofs.Common.{◌≡◌, ◌≤◌, length, map, take}, pawn_wire.specs.{Common.header_bytes, Fields.values_of}}
 use Rattle.pawn_wire.proofs.fields.Fields.count.Given as goal
 
 abbrev pub invariant-loop-field : goal.invariant-loop-field
