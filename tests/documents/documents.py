@@ -1,7 +1,7 @@
 """The documents: each path that one names is there, each link leads to a file and to a heading of it, each definition
 that the glossary names stands in the file that it names, each clause of docs/PROVED.md in the contract of its call,
 each definition of specs has a name of its own, each definition that is quoted stands in the file that it is quoted
-from. They are short, and so are their sentences. A measured figure stands in one of them, and docs/BENCH.md is what
+from. They are short, and so are their sentences, and the lines of the crates. A measured figure stands in one of them, and docs/BENCH.md is what
 its script writes.
 """
 import csv
@@ -19,6 +19,7 @@ DOCUMENTS = sorted(
     path for pattern in ("*.md", "*/*.md") for path in glob.glob(pattern, root_dir=TOP) if not path.startswith(MADE)
 )
 README_WORDS = 900
+COLUMNS = 160
 # All prose together, in words as `wc -w` counts them. What a script writes is no prose: these pages whole, and what
 # stands in others between `<!-- By PATH .. -->` and `<!-- until here -->`.
 PROSE_WORDS = 26_000
@@ -188,6 +189,14 @@ def each_definition_has_one_name():
     print(f"        {len(places)} definitions", flush=True)
 
 
+def no_line_of_the_crates_is_long():
+    paths = [path for end in ("rt", "antt") for part in ("src", "specs", "proofs")
+             for path in glob.glob(os.path.join(TOP, f"crates/*/{part}/**/*.{end}"), recursive=True)]
+    long = [path for path in paths if any(len(line) > COLUMNS for line in read(os.path.relpath(path, TOP)).split("\n"))]
+    expect(f"files of crates with a line above {COLUMNS} columns", long, [])
+    expect("how many were read", len(paths) > 900, True)
+
+
 def each_quotation_is_true():
     form = re.compile(r"(?ms)^```\w+ from (\S+)\n(.*?)^```$")
     quoted = [(document, *found) for document in DOCUMENTS for found in form.findall(read(document))]
@@ -287,6 +296,6 @@ def these_checks_can_fail():
 main(
     each_path_is_there, each_link_leads_somewhere, each_word_is_defined_where_the_glossary_says,
     each_installed_path_is_in_the_release, each_clause_stands_in_its_contract, each_definition_has_one_name,
-    each_quotation_is_true, these_checks_can_fail, the_prose_is_short, no_sentence_is_too_long,
-    each_figure_stands_in_one_document, the_page_of_figures_is_what_its_script_writes,
+    no_line_of_the_crates_is_long, each_quotation_is_true, these_checks_can_fail, the_prose_is_short,
+    no_sentence_is_too_long, each_figure_stands_in_one_document, the_page_of_figures_is_what_its_script_writes,
 )
