@@ -5,7 +5,7 @@ ghost use Rattle.pawn_book.specs.BookStep.{bearer_commands, book_head, broker_co
 ghost use Rattle.pawn_book.specs.{BookStep.within_window, Plans.{IsOutcome, Plans, outcome_of}, Keeping.{IsQuiet, Reads}, Sound.{IsSound, IsWord}};
 
 use crate::change::{BookHead, Change, Planned};
-use crate::gates::{find_live, know_word, unwell_refusal};
+use crate::gates::{find_live, know_stamp, unwell_refusal};
 use crate::keep::Keep;
 use crate::refusal::Refusal;
 use crate::reply::Reply;
@@ -69,9 +69,7 @@ fn plan_command(
     ensures word { IsWord stamp.now.word }
     ensures store { result ≡ Err Refusal.Store → ⊥ }
 {
-    // Reading the day gives a proof that a stamp may have it.
-    let _ = stamp.day.day();
-    know_word(stamp);
+    know_stamp(stamp);
     match pledge.apply_telling(stamp, command) {
         Err(PledgeRefusal::Memory) => Err(Refusal::Memory),
         Err(refusal) => Err(Refusal::Pledge(refusal)),

@@ -1,5 +1,6 @@
 //! Who is let in, and to what.
 ghost use Rattle.std.specs.{Prelude.{◌≡◌, IfOk}, FinMap.get};
+ghost use Rattle.pawn_terms.specs.Calendar.{IsStampDay};
 ghost use Rattle.pawn_book.specs.{Plans.{Gates, IsUnwell}, Keeping.{IsQuiet, IsSteady, Reads}, Sound.IsWord, BookStep.{live_at, pledge_in}};
 
 use crate::change::BookHead;
@@ -54,9 +55,11 @@ pub(crate) fn unwell_refusal(error: KeepError) -> Refusal
     }
 }
 
-// Gives a proof that the word of a stamp has 128 bits.
-pub(crate) fn know_word(stamp: &Stamp)
+// Gives a proof that the word of a stamp has 128 bits, and that a stamp may have its day.
+pub(crate) fn know_stamp(stamp: &Stamp)
     ensures word { IsWord stamp.now.word }
+    ensures day { IsStampDay stamp.now.day }
 {
     let _word = stamp.word;
+    let _ = stamp.day.day();
 }

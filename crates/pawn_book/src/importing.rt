@@ -33,6 +33,7 @@ impl ReplayableRows {
     /// The rows, if `replayable` is true of them; otherwise they are handed back.
     pub fn of_rows(rows: BookRows) -> Result<ReplayableRows, BookRows>
         ensures same { IfOk result (λ replayable. replayable ≡ rows) }
+        ensures replayable { IfOk result (λ replayable. AreReplayable replayable.terms replayable.pledges) }
         ensures back { IfErr result (λ back. back ≡ rows) }
         ensures refused { IfErr result (λ back. AreReplayable rows.terms rows.pledges → ⊥) }
     {

@@ -6,7 +6,7 @@ ghost use Rattle.pawn_book.specs.{Sound.{IsSound, IsWord}, Plans.{IsUnwell, Plan
 
 use crate::change::{BookHead, Change, Planned};
 use crate::fault::KeepError;
-use crate::gates::{know_word, unwell_refusal};
+use crate::gates::{know_stamp, unwell_refusal};
 use crate::keep::Keep;
 use crate::limits::MOST_PLEDGES;
 use crate::refusal::Refusal;
@@ -68,11 +68,9 @@ fn know_given(opening: &Opening, stamp: &Stamp)
     ensures word { IsWord stamp.now.word }
     ensures day { IsDayNumber stamp.now.day }
 {
-    // Reading these gives a proof of what they are.
-    let _ = stamp.day.day();
     let _ = opening.reference.as_str();
     let _ = opening.article.as_str();
-    know_word(stamp);
+    know_stamp(stamp);
 }
 
 // The pledge with this reference in a book, if there is one.

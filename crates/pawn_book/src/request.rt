@@ -54,6 +54,18 @@ pub struct NewBook {
 }
 
 impl NewBook {
+    // Gives a proof that the name, the capacity and the key are within their limits.
+    fn know_limits(&self)
+        ensures name { IsText MOST_NAME_BYTES self.now.name }
+        ensures capacity { IsCapacity self.now.capacity }
+        ensures utf8 { IsUtf8 self.now.name }
+        ensures key { IsWord self.now.key }
+    {
+        let _ = self.name.as_str();
+        let _ = self.capacity.get();
+        let _ = self.key.word();
+    }
+
     /// A copy of the new book. The only error is that memory is refused.
     pub fn copy(&self) -> Result<NewBook, AllocError>
         ensures same { IfOk result (λ new_book. new_book ≡ self.now) }
@@ -62,10 +74,7 @@ impl NewBook {
         ensures utf8 { IsUtf8 self.now.name }
         ensures key { IsWord self.now.key }
     {
-        // Reading these gives a proof that they are within their limits.
-        let _ = self.name.as_str();
-        let _ = self.capacity.get();
-        let _ = self.key.word();
+        self.know_limits();
         let name = self.name.copy()?;
         Ok(NewBook {
             key: self.key,

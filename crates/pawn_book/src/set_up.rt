@@ -22,8 +22,7 @@ pub(crate) fn plan_book<K: Keep>(
     ensures reads { Reads K.keeping keep.old keep.new (λ h. IsSound h → Plans h book (make_book (get h.books book) book new_book.now) result) }
     ensures steady { IsQuiet K.keeping keep.old result }
 {
-    // Reading the number gives a proof that a book may have it.
-    let _ = book.get();
+    book.know_limits();
     let reply = Reply::BookMade(book);
     match keep.book_head(book) {
         Err(error) => Err(unwell_refusal(error)),

@@ -2,21 +2,24 @@
 ghost use Rattle.std.specs.{Prelude.{◌≡◌, ◌≤◌, IfOk, IfSome, Some, length, unwrap_or}, Str.IsUtf8, FinMap.get};
 ghost use Rattle.pawn_book.specs.{BookStep.{BookValue, book_head}, Limits.{IsCapacity, most_name_bytes, most_pledges}, Keeping.{IsNextBook, Reads, terms_of}};
 ghost use Rattle.{pawn_book.specs.{Sound.IsWord, HostStep.rows, Rows.terms_at}, pawn_base.specs.{Lists.Each, Text.IsText}, pawn_terms.specs.Terms.IsChecked};
+ghost use Rattle.pawn_pledge.specs.Number.{IsNumber};
 ghost use Rattle.pawn_check.specs.Judging.{FindsSound, IsQuietCheck, Judges, JudgesBook};
 
 use crate::counts::{BookCounts, Counts};
 use crate::fault::CheckFault;
 use crate::pledges::pledges_rows;
-use pawn_book::{BookHead, Keep, MOST_PLEDGES, MOST_TERMS, Number, Terms};
+use pawn_book::{BookHead, Keep, MOST_PLEDGES, MOST_TERMS, Number, Rates};
 
-// Reads the keys, the name and the capacity of a book, so that the proof knows that they are within their limits.
-fn know_head(head: &BookHead)
+// Gives a proof that the number, the keys, the name and the capacity of a book are within their limits.
+fn know_head(book: Number, head: &BookHead)
+    ensures number { IsNumber book }
     ensures key { IsWord head.now.key }
     ensures imported { IfSome head.now.imported (λ i. IsWord i.key) }
     ensures utf8 { IsUtf8 head.now.name }
     ensures name { IsText most_name_bytes head.now.name }
     ensures capacity { IsCapacity head.now.capacity }
 {
+    book.know_limits();
     let _ = head.key.word();
     let _ = head.name.as_str();
     let _ = head.capacity.get();
@@ -25,16 +28,20 @@ fn know_head(head: &BookHead)
     }
 }
 
-// The terms of a version, if the book has them.
-fn terms_under<K: Keep>(
+// The three numbers of a version of the terms, if the book has it.
+fn rates_under<K: Keep>(
     keep: &mut K,
     book: Number,
     version: u64,
-) -> Result<Option<Terms>, CheckFault>
-    ensures reads { Reads K.keeping keep.old keep.new (λ h. FindsSound h result (λ terms. terms ≡ terms_at (terms_of (get h.books book)) version)) }
+) -> Result<Option<Rates>, CheckFault>
+    ensures reads { Reads K.keeping keep.old keep.new (λ h. FindsSound h result (λ rates. rates ≡ terms_at (terms_of (get h.books book)) version)) }
+    ensures checked { IfOk result (λ rates. IfSome rates IsChecked) }
     ensures quiet { IsQuietCheck K.keeping keep.old result }
 {
-    Ok(keep.terms(book, version)?)
+    match keep.terms(book, version)? {
+        Some(terms) => Ok(Some(terms.rates())),
+        None => Ok(None),
+    }
 }
 
 // Checks that a book has its versions of terms 1 to `count`, each within the limits.
@@ -44,10 +51,9 @@ fn find_terms<K: Keep>(keep: &mut K, book: Number, count: u64) -> Result<(), Che
     ensures quiet { IsQuietCheck K.keeping keep.old result }
 {
     for version in 0..count {
-        let Some(terms) = terms_under(keep, book, version + 1)? else {
+        let Some(_) = rates_under(keep, book, version + 1)? else {
             return Err(CheckFault::Damaged);
         };
-        let _ = terms.rates();
     }
     Ok(())
 }
@@ -70,8 +76,7 @@ fn book_counts<K: Keep>(keep: &mut K, book: Number) -> Result<BookCounts, CheckF
     ensures quiet { IsQuietCheck K.keeping keep.old result }
 {
     let head = head_of(keep, book)?;
-    know_head(&head);
-    let _ = book.get();
+    know_head(book, &head);
     if head.terms > MOST_TERMS || head.pledges > MOST_PLEDGES {
         return Err(CheckFault::Damaged);
     }

@@ -34,7 +34,7 @@ fn parts_of<K: Keep>(keep: &mut K, book: Number, number: Number) -> Result<Parts
         → FindsSound h result (λ parts. pledge_from 1 k.pledges number ≡ Some parts)) }
     ensures quiet { IsQuietCheck K.keeping keep.old result }
 {
-    let _ = number.get();
+    number.know_limits();
     match keep.pledge(book, number)? {
         Some(pledge) => match pledge.parts() {
             Ok(parts) => Ok(parts),

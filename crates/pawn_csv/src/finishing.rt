@@ -158,11 +158,7 @@ fn judge(rows: Option<BookRows>) -> Result<ReplayableRows, Cause>
     };
     match ReplayableRows::of_rows(rows) {
         Err(_) => Err(Cause::NotReplayable),
-        Ok(replayable) => {
-            // Reading the rows lets the proof know that they are replayable.
-            let _ = replayable.rows();
-            Ok(replayable)
-        }
+        Ok(replayable) => Ok(replayable),
     }
 }
 

@@ -7,7 +7,7 @@ use crate::entry::{Entries, Entry, Kind, Sort, find_entry};
 use crate::fault::DebtFault;
 use crate::limits::{MOST_ENTRIES, MOST_PENCE};
 use crate::owing::{Owing, Totals, after_days, after_draw, after_repay, owing_after};
-use crate::replay::replay_entries;
+use crate::replay::{first_totals, replay_entries};
 use pawn_terms::{Day, Terms};
 use std::alloc::{AllocError, Global};
 use std::marker::Model;
@@ -56,18 +56,13 @@ impl Debt {
         if kind.credit() == 0 || kind.credit() > MOST_PENCE {
             return Err(DebtFault::BadAmount);
         }
-        let _ = taken.count();
         Ok(Debt {
             kind,
             terms,
             taken,
             ends,
             entries: Entries::new(alloc),
-            totals: Totals {
-                day: taken,
-                principal: kind.first_principal(),
-                millionths: 0,
-            },
+            totals: first_totals(kind, terms, taken, ends),
         })
     }
 

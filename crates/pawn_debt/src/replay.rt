@@ -76,12 +76,19 @@ fn accept(
     }
 }
 
+// Gives a proof that a day is one of the calendar.
+fn know_day(day: Day)
+    ensures in_range { IsDayNumber day }
+{
+    let _ = day.count();
+}
+
 // What is owed before there are entries.
-fn first_totals(kind: Kind, terms: Terms, taken: Day, ends: Day) -> Totals
+pub(crate) fn first_totals(kind: Kind, terms: Terms, taken: Day, ends: Day) -> Totals
     requires within { credit_of kind ≤ most_pence }
     ensures kept { IsDebtKept (record { kind = kind; terms = terms; taken = taken; ends = ends; entries = [] }) result }
 {
-    let _ = taken.count();
+    know_day(taken);
     Totals {
         day: taken,
         principal: kind.first_principal(),

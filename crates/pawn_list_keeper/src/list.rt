@@ -53,6 +53,13 @@ impl ListKeep {
         }
     }
 
+    // Gives a proof that the host of the list is sound.
+    fn know_sound(&self)
+        ensures sound { IsSound (host_of self.now) }
+    {
+        let _ = &self.rows;
+    }
+
     // Makes a change, or answers `Full` if the rows would be above the limit. After an error the books are as before.
     fn make(&mut self, change: &Change) -> Result<(), SaveError>
         requires can_save { CanSave (host_of self.old) change.now }
@@ -173,8 +180,7 @@ impl Keep for ListKeep {
     }
 
     fn save(&mut self, change: &Change) -> Result<(), SaveError> {
-        // Reading the list gives a proof that its host is sound.
-        let _ = &self.rows;
+        self.know_sound();
         self.make(change)
     }
 

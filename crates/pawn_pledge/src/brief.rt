@@ -114,7 +114,6 @@ fn terms_within(fields: &BriefFields) -> Option<Terms>
     let Ok(terms) = fields.agreement.terms.check() else {
         return None;
     };
-    let _ = terms.rates();
     if !is_credit_within(fields.agreement.opening.kind) {
         return None;
     }

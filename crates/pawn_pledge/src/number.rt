@@ -64,4 +64,11 @@ impl Number {
     {
         self.number
     }
+
+    /// Gives a proof that a book or a pledge can have the number.
+    pub fn know_limits(self)
+        ensures in_range { IsNumber self }
+    {
+        let _ = self.number;
+    }
 }

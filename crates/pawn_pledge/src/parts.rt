@@ -289,7 +289,6 @@ pub(crate) fn judge(parts: &Parts) -> Option<Found>
     let Ok(terms) = parts.agreement.terms.check() else {
         return None;
     };
-    let _ = terms.rates();
     if !is_limited(parts) {
         return None;
     }
@@ -335,7 +334,7 @@ fn is_limited(parts: &Parts) -> bool
     ensures limits { IsTrue result ↔ IsLimited parts.now }
     ensures types { IsTyped parts.now }
 {
-    let _ = parts.agreement.number.get();
+    parts.agreement.number.know_limits();
     parts.agreement.opening.know_limits();
     let credit = parts.agreement.opening.kind.credit();
     if credit == 0 || credit > MOST_PENCE {

@@ -1,4 +1,5 @@
 ghost use Rattle.std.specs.Prelude.{◌≡◌, ◌≤◌, ◌↔◌, IsTrue, Some, OnErr, IfOk, IfErr, length};
+ghost use Rattle.pawn_pledge.specs.{Common.{IsChecked, IsStampDay}, Number.IsNumber, Replayable.IsOpening};
 ghost use Rattle.pawn_pledge.specs.{Common.{IsOwed, due, last_of, most_millionths, most_pence, owing_of, totals_of}, Pledge.{status_of, open_status}};
 ghost use Rattle.pawn_pledge.specs.{Pledge.{last_secret, live_of, end_of, debt_of}, Step.{pledge_start, IsStarted}, Replayable.IsStanding, Brief.brief_of};
 
@@ -53,6 +54,18 @@ impl Model for Pledge {
     }) a.debt };
 }
 
+// Gives a proof that all that a pledge starts from is within its limits.
+fn know_start(number: Number, opening: &Opening, terms: Terms, stamp: &Stamp)
+    ensures number { IsNumber number }
+    ensures opening { IsOpening opening.now }
+    ensures terms { IsChecked terms }
+    ensures day { IsStampDay stamp.now.day }
+{
+    let _ = (terms.rates(), stamp.day.day());
+    number.know_limits();
+    opening.know_limits();
+}
+
 impl Pledge {
     /// A new pledge, taken on the stamp's day, whose first secret is the stamp's word. `BadAmount` if its sum or limit
     /// is 0 or above `MOST_PENCE`, and `Memory` if memory is refused. `version` is the version of `terms` in the book.
@@ -67,9 +80,7 @@ impl Pledge {
         ensures started { IsStarted (pledge_start number opening version terms stamp.now) result }
         ensures standing { IfOk result IsStanding }
     {
-        // Reading these gives a proof that they are within their limits.
-        let _ = (number.get(), terms.rates(), stamp.day.day());
-        opening.know_limits();
+        know_start(number, &opening, terms, stamp);
         Pledge::of_opening(alloc, number, opening, version, terms, stamp)
     }
 

@@ -1,4 +1,4 @@
-ghost use Rattle.std.specs.Prelude.{◌≡◌};
+ghost use Rattle.std.specs.Prelude.{◌≡◌, IfOk};
 ghost use Rattle.pawn_terms.specs.Terms.{IsChecked};
 
 use crate::limits::{MOST_KEEP, MOST_RATE};
@@ -68,11 +68,12 @@ pub struct Rates {
 }
 
 impl Rates {
-    ghost use Rattle.pawn_terms.specs.TermsFault.{terms_answer};
+    ghost use Rattle.pawn_terms.specs.{Terms.IsChecked, TermsFault.terms_answer};
 
     /// The terms of these numbers, or the first fault, in the order of `TermsFault`.
     pub fn check(self) -> Result<Terms, TermsFault>
         ensures value { result ≡ terms_answer self }
+        ensures checked { IfOk result IsChecked }
     {
         if self.rate > MOST_RATE {
             return Err(TermsFault::RateTooHigh);

@@ -7,4 +7,4 @@ returns-in-Ok-clause-reads g c = reads_as c.book_head.ensures.reads (λ h told s
     let none = no_head (get h.books c.args.book) (ok_is (c.in-Ok-None.is ∙ ap Ok c.in-Ok-None.field-0-is) told) in
     subst (λ new. Plans h c.args.book (make_book (get h.books c.args.book) c.args.book c.args.new_book.now)
     (Ok (record { change = Some (MakeBook c.args.book new); reply = BookMade c.args.book }))) (sym c.in-Ok.ensures.same) (book_plans h c.args.book
-    c.args.new_book.now c.get.ensures.in_range c.copy.ensures.key c.copy.ensures.utf8 c.copy.ensures.name c.copy.ensures.capacity sound none))
+    c.args.new_book.now c.know_limits.ensures.in_range c.copy.ensures.key c.copy.ensures.utf8 c.copy.ensures.name c.copy.ensures.capacity sound none))

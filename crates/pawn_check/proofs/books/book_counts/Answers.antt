@@ -21,7 +21,7 @@ returns-clause-reads g c =
     let front = said k is (ap (λ (x : BookHead). x.pledges) (both.0 k is)) in
     let checked = both.1 k is (ap (λ (x : BookHead). x.terms) (both.0 k is)) in (
       (
-        c.get.ensures.in_range,
+        c.know_head.ensures.number,
         sound_book k head (both.0 k is) c.in_ok-rows.rows c.know_head.ensures.key c.know_head.ensures.imported c.know_head.ensures.utf8 c.know_head.ensures.name
             c.know_head.ensures.capacity c.if-head-gt-MOST_TERMS.false c.if-head-gt-MOST_PLEDGES.false checked front,
       ),

@@ -3,5 +3,5 @@ use Rattle.pawn_check.proofs.pledges.parts_of.Goals as goal
 
 pub returns-clause-reads : goal.returns-clause-reads
 returns-clause-reads g c = reads_as c.in_ok-pledge.ensures.reads (λ h said k is within.
-    let low : 1 ≤ c.args.number = c.get.ensures.in_range.0 in
+    let low : 1 ≤ c.args.number = c.know_limits.ensures.in_range.0 in
     absurd (unfound h c.args.book c.args.number k is low within (rw c.in-None.is at said)))

@@ -1,4 +1,4 @@
-use Rattle.pawn_tables.{proofs.RowReading.{arith, refl, rules, credit_of, cell_at}, specs.Rows.{kind_number, number}}
+use Rattle.pawn_tables.proofs.RowReading.{arith, refl, rules, cell_at}
 use Rattle.pawn_tables.proofs.credits.credit_of.Goals as goal
 
 pub returns-in_err-number : goal.returns-in_err-number

@@ -1,4 +1,4 @@
-use Rattle.pawn_tables.{proofs.RowReading.{arith, refl, rules, IsNumber, number_cells, always_read, first_err, cell_at}, specs.Rows.number}
+use Rattle.pawn_tables.proofs.RowReading.{arith, refl, rules, IsNumber, number_cells, always_read, first_err, cell_at}
 use Rattle.pawn_tables.proofs.heads.first_number.Goals as goal
 
 pub returns-in_err-number_at : goal.returns-in_err-number_at

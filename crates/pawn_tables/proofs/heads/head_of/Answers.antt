@@ -1,4 +1,4 @@
-use Rattle.pawn_tables.{proofs.RowReading.{arith, length, refl, rules, Text, cell_at}, specs.Rows.number}
+use Rattle.pawn_tables.proofs.RowReading.{arith, refl, rules, cell_at}
 use Rattle.pawn_tables.proofs.heads.head_of.Goals as goal
 
 pub returns-in_err-name : goal.returns-in_err-name

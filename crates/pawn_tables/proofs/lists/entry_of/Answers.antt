@@ -1,4 +1,4 @@
-use Rattle.pawn_tables.{proofs.RowReading.{arith, refl, rules, cell_at}, specs.Rows.{number, sort_number}}
+use Rattle.pawn_tables.proofs.RowReading.{arith, refl, rules, cell_at}
 use Rattle.pawn_tables.proofs.lists.entry_of.Goals as goal
 
 pub returns-in_err-seq : goal.returns-in_err-seq

@@ -1,4 +1,4 @@
-use Rattle.pawn_tables.{proofs.RowReading.{arith, refl, rules, cell_at}, specs.Rows.number}
+use Rattle.pawn_tables.proofs.RowReading.{arith, refl, rules, cell_at}
 use Rattle.pawn_tables.proofs.records.totals_of.Goals as goal
 
 pub returns-in_err-day : goal.returns-in_err-day

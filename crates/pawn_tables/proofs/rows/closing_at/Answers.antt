@@ -1,4 +1,4 @@
-use Rattle.pawn_tables.{proofs.RowReading.{arith, refl, rules, cell_at}, specs.Rows.{closed_number, number}}
+use Rattle.pawn_tables.proofs.RowReading.{arith, refl, rules, cell_at}
 use Rattle.pawn_tables.proofs.rows.closing_at.Goals as goal
 
 pub returns-in_err-closed : goal.returns-in_err-closed

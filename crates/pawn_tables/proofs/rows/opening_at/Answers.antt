@@ -1,4 +1,4 @@
-use Rattle.pawn_tables.{proofs.RowReading.{arith, refl, rules, Text, credit_of, cell_at}, specs.Rows.{kind_number, number}}
+use Rattle.pawn_tables.proofs.RowReading.{arith, refl, rules, cell_at}
 use Rattle.pawn_tables.proofs.rows.opening_at.Goals as goal
 
 pub returns-in_err-reference : goal.returns-in_err-reference

@@ -1,4 +1,4 @@
-use Rattle.pawn_tables.{proofs.RowReading.{arith, refl, rules, end_of, cell_at}, specs.Rows.number}
+use Rattle.pawn_tables.proofs.RowReading.{arith, refl, rules, cell_at}
 use Rattle.pawn_tables.proofs.rows.pledge_row.Goals as goal
 
 pub returns-in_err-taken : goal.returns-in_err-taken

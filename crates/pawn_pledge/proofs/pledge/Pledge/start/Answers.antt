@@ -5,5 +5,5 @@ pub returns-clause-standing : goal.returns-clause-standing
 returns-clause-standing c =
     started_stands (pledge_start c.args.number c.args.opening c.args.version c.args.terms c.args.stamp.now) c.of_opening.result c.of_opening.ensures.started
     (λ p is.
-    starts_standing c.args.number c.args.opening c.args.version c.args.terms c.args.stamp.now p c.get.ensures.in_range c.know_limits.ensures.within
-    c.rates.ensures.checked c.day.ensures.in_range is)
+    starts_standing c.args.number c.args.opening c.args.version c.args.terms c.args.stamp.now p c.know_start.ensures.number c.know_start.ensures.opening
+    c.know_start.ensures.terms c.know_start.ensures.day is)
