@@ -6,7 +6,7 @@ pub loop-version-preserved : goal.loop-version-preserved
 loop-version-preserved g c = record {
   reads = reads_then c.loop-version.invariant.reads c.in_ok-rates_under.ensures.reads (λ h before said k is.
       next_checked h c.args.book c.loop-version.version k c.in-Some.field-0 is (rw c.in-Some.is at said)
-          (rw c.in-Some.is at c.in_ok-rates_under.ensures.checked) (before k is));
+      (rw c.in-Some.is at c.in_ok-rates_under.ensures.checked) (before k is));
 }
 
 pub returns-clause-reads : goal.returns-clause-reads

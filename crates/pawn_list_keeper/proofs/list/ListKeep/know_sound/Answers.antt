@@ -2,4 +2,4 @@ use Rattle.{std.proofs.Common.subst, pawn_book.specs.Sound.IsSound, pawn_list_ke
 use Rattle.pawn_list_keeper.proofs.list.ListKeep.know_sound.Goals as goal
 
 pub returns : goal.returns
-returns c = record { sound = subst (λ k. IsSound (host_of k)) c.self.view_is c.self.invariant.sound; }
+returns c = record { sound = subst (λ k. IsSound (host_of k)) c.self.view_is c.self.invariant.sound }
