@@ -1,6 +1,17 @@
 //! Whole requests and their replies: by `run`, over lists and over tables, at the row limit, over a log that stops, and over streams
 //! and writers that are slow or fail.
 
+// The text of a book whose rows, the first one aside, are these. It may stand after a head.
+macro_rules! book_text {
+    ($rows:literal $(, after $head:literal)?) => {
+        concat!(
+            $($head,)?
+            "row,c1,c2,c3,c4,c5,c6,c7,c8,c9,c10,c11,c12,c13,c14\n",
+            $rows
+        )
+    };
+}
+
 mod at_the_limit;
 mod ends;
 mod failing_writers;
@@ -77,7 +88,7 @@ fn tells_each(rt: &impl Abort, answers: &[Answer]) {
     assert_eq!(rt; answers.len(), TURNS.len());
     let mut place = 1usize;
     for (answer, turn) in answers.iter().zip(&TURNS) {
-        assert_eq!(rt; bytes_of(answer), turn.reply, "turn {place}");
+        assert_eq!(rt; bytes_of(answer), turn.reply.as_bytes(), "turn {place}");
         place = place.saturating_add(1);
     }
 }
@@ -86,7 +97,10 @@ fn tells_each(rt: &impl Abort, answers: &[Answer]) {
 fn items_of_turns(rt: &impl Abort, alloc: Global) -> Result<Vec<(Stamp, Vec<u8>)>, Fail> {
     let mut items = Vec::new(alloc);
     for turn in TURNS {
-        items.push((stamp(rt, turn.word), Vec::from_slice(alloc, turn.request)?))?;
+        items.push((
+            stamp(rt, turn.word),
+            Vec::from_slice(alloc, turn.request.as_bytes())?,
+        ))?;
     }
     Ok(items)
 }

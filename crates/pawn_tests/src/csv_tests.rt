@@ -7,14 +7,15 @@ mod exports;
 mod torn;
 
 // A text with a pledge whose receipt was declared lost, and whose bearer asked for a booking.
-const EXAMPLE: &[u8] =
-    b"row,c1,c2,c3,c4,c5,c6,c7,c8,c9,c10,c11,c12,c13,c14\nB,1,1,1,,,,,,,,,,,\nT,1,0,0,0,,,,,,,,,,\n\
+const EXAMPLE: &str = book_text!(
+    "B,1,1,1,,,,,,,,,,,\nT,1,0,0,0,,,,,,,,,,\n\
         P,1,A1,Gold ring,fixed,10000,2024-01-31,,no,1,no,2024-02-01,open,,\nS,1,1,2024-01-31,opening,00000000-0000-0000-0000-000000000003,,,,,,,,,\n\
-        S,1,2,2024-02-01,sworn,00000000-0000-0000-0000-000000000004,,,,,,,,,\nK,1,2024-02-10,3,asked,,,,,,,,,,\n";
+        S,1,2,2024-02-01,sworn,00000000-0000-0000-0000-000000000004,,,,,,,,,\nK,1,2024-02-10,3,asked,,,,,,,,,,\n"
+);
 
 #[test]
 fn the_text_of_a_book_is_read(rt: HostRuntime) -> Result<(), Fail> {
-    let Ok(book) = read_book(rt.alloc(), EXAMPLE) else {
+    let Ok(book) = read_book(rt.alloc(), EXAMPLE.as_bytes()) else {
         return Err(Fail::from("no book"));
     };
     assert!(rt; book.rows().terms.len() == 1);

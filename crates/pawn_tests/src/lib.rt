@@ -3,6 +3,17 @@
 //! its tests. Those of the other crates are in `pawn_store_tests`.
 #![tactic(auto)]
 
+// The text of a book whose rows, the first one aside, are these.
+#[cfg(test)]
+macro_rules! book_text {
+    ($rows:literal) => {
+        concat!(
+            "row,c1,c2,c3,c4,c5,c6,c7,c8,c9,c10,c11,c12,c13,c14\n",
+            $rows
+        )
+    };
+}
+
 #[cfg(test)]
 mod asking;
 #[cfg(test)]

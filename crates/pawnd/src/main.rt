@@ -19,7 +19,7 @@ use fault::Fault;
 use moving::move_file;
 use pawn_check::check;
 use pawn_host::{Reading, Secret, Service, Writing};
-use pawn_program::{ClockStamps, ServeSettings, Served, Settings, SettingsFault, Stamps, Words};
+use pawn_program::{ClockStamps, ServeSettings, Served, Settings, Stamps, Words};
 use pawn_store::{CONNECTIONS, OpenFault, TableKeep, answer_over_tables, serve_to_the_end};
 use sqlite::Alter;
 use std::env;
@@ -51,11 +51,6 @@ fn obey(rt: &HostRuntime) -> Result<(), Stop> {
     }
 }
 
-// The stop for a word of the command line that is at fault.
-fn unsaid(why: SettingsFault) -> Stop {
-    Stop::Fault(Fault::Settings(why))
-}
-
 // Answers the requests of standard input. This is `pawnd answer`.
 fn answer(rt: &HostRuntime, mut args: Args) -> Result<(), Stop> {
     let mut next = || args.next();
@@ -68,7 +63,7 @@ fn answer(rt: &HostRuntime, mut args: Args) -> Result<(), Stop> {
     ) else {
         return Err(Stop::Usage);
     };
-    let settings = Settings::read(rt, day.as_str(), seed.as_str(), key.as_str()).map_err(unsaid)?;
+    let settings = Settings::read(rt, day.as_str(), seed.as_str(), key.as_str())?;
     do_on(rt, database.as_str(), Work::Answer(settings))
 }
 
@@ -78,7 +73,7 @@ fn serve(rt: &HostRuntime, mut args: Args) -> Result<(), Stop> {
     let (Some(database), Some(port), Some(key), None) = (next(), next(), next(), next()) else {
         return Err(Stop::Usage);
     };
-    let settings = ServeSettings::read(rt, port.as_str(), key.as_str()).map_err(unsaid)?;
+    let settings = ServeSettings::read(rt, port.as_str(), key.as_str())?;
     do_on(rt, database.as_str(), Work::Serve(settings))
 }
 

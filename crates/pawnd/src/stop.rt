@@ -1,8 +1,11 @@
 //! How the program says that it did not do what it was asked.
 ghost use Rattle.std.specs.{Prelude.◌≡◌, Process.exit_status};
 ghost use Rattle.pawnd.specs.Stop.{stop_status};
+ghost use Rattle.pawnd.specs.declared.fault.Fault.TheVariants.{Settings};
+ghost use Rattle.pawnd.specs.declared.stop.Stop.TheVariants as Stops;
 
 use crate::fault::Fault;
+use pawn_program::SettingsFault;
 use std::fmt;
 use std::process::ExitCode;
 
@@ -27,6 +30,14 @@ impl Stop {
             Stop::Fault(_) => 1,
             Stop::Io => 3,
         }
+    }
+}
+
+impl From<SettingsFault> for Stop {
+    ghost from_gives = { λ why stop. stop ≡ Stops.Fault (Settings why) };
+
+    fn from(why: SettingsFault) -> Stop {
+        Stop::Fault(Fault::Settings(why))
     }
 }
 

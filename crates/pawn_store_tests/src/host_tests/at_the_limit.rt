@@ -34,6 +34,15 @@ const REFUSED: &[u8] = b"HTTP/1.1 503 Service Unavailable\r\n";
 
 const FULL: &str = "{\"code\":490,\"name\":\"Full\"}";
 
+// The text of a book without terms.
+const EMPTY_BOOK: &str = book_text!("B,2,0,0,,,,,,,,,,,\n");
+
+// The text of a book with one pledge.
+const ONE_RING: &str = book_text!(
+    "B,2,1,1,,,,,,,,,,,\nT,1,0,0,0,,,,,,,,,,\n\
+            P,1,A1,Gold ring,fixed,10000,2024-01-31,,no,1,no,2024-01-31,open,,\nS,1,1,2024-01-31,opening,00000000-0000-0000-0000-000000000009,,,,,,,,,\n"
+);
+
 // What fills the service, and is asked once more when it is full.
 const BOOK: Line = Line {
     by: OPERATOR,
@@ -162,8 +171,7 @@ const ADDING: [Line; 10] = [
     Line {
         by: IMPORT,
         target: "POST /books/8/import",
-        body: "row,c1,c2,c3,c4,c5,c6,c7,c8,c9,c10,c11,c12,c13,c14\nB,2,1,1,,,,,,,,,,,\nT,1,0,0,0,,,,,,,,,,\n\
-            P,1,A1,Gold ring,fixed,10000,2024-01-31,,no,1,no,2024-01-31,open,,\nS,1,1,2024-01-31,opening,00000000-0000-0000-0000-000000000009,,,,,,,,,\n",
+        body: ONE_RING,
         reply: FULL,
     },
 ];
@@ -184,14 +192,13 @@ const OTHERS: [Line; 19] = [
     Line {
         by: IMPORT,
         target: "POST /books/8/import",
-        body: "row,c1,c2,c3,c4,c5,c6,c7,c8,c9,c10,c11,c12,c13,c14\nB,2,0,0,,,,,,,,,,,\n",
+        body: EMPTY_BOOK,
         reply: "{\"imported\":0}",
     },
     Line {
         by: IMPORT,
         target: "POST /books/8/import",
-        body: "row,c1,c2,c3,c4,c5,c6,c7,c8,c9,c10,c11,c12,c13,c14\nB,2,1,1,,,,,,,,,,,\nT,1,0,0,0,,,,,,,,,,\n\
-            P,1,A1,Gold ring,fixed,10000,2024-01-31,,no,1,no,2024-01-31,open,,\nS,1,1,2024-01-31,opening,00000000-0000-0000-0000-000000000009,,,,,,,,,\n",
+        body: ONE_RING,
         reply: "{\"imported\":0}",
     },
     Line {
@@ -254,7 +261,7 @@ const OTHERS: [Line; 19] = [
         by: BROKER,
         target: "GET /books/8/export",
         body: "",
-        reply: "row,c1,c2,c3,c4,c5,c6,c7,c8,c9,c10,c11,c12,c13,c14\nB,2,0,0,,,,,,,,,,,\n",
+        reply: EMPTY_BOOK,
     },
     Line {
         by: BEARER_2,

@@ -73,7 +73,7 @@ fn failing_at(alloc: Global, failing: usize, failure: Failure) -> Writing<Flaky>
 // Takes the ring of the first turns into book 7.
 fn takes_ring<K: Keep>(rt: &impl Abort, service: &mut Service<K>) {
     for turn in TURNS.iter().take(3) {
-        service.answer_one(&stamp(rt, turn.word), turn.request);
+        service.answer_one(&stamp(rt, turn.word), turn.request.as_bytes());
     }
 }
 
@@ -169,8 +169,8 @@ fn goes_on<K: Keep>(rt: &impl Abort, alloc: Global, service: &mut Service<K>) ->
     let again = whole_of(rt, alloc, &mut service.keep)?;
     assert!(rt; again.taken.as_slice() == text, "the next statement");
     let declare = TURNS[4];
-    let answer = service.answer_one(&stamp(rt, declare.word), declare.request);
-    assert_eq!(rt; bytes_of(&answer), declare.reply);
+    let answer = service.answer_one(&stamp(rt, declare.word), declare.request.as_bytes());
+    assert_eq!(rt; bytes_of(&answer), declare.reply.as_bytes());
     Ok(())
 }
 

@@ -46,7 +46,7 @@ fn shown_after_each(rt: &impl Abort, alloc: Global) -> Result<Vec<Shown>, Fail> 
     let mut all = Vec::new(alloc);
     all.push(show_all(rt, &mut service))?;
     for turn in TURNS {
-        service.answer_one(&stamp(rt, turn.word), turn.request);
+        service.answer_one(&stamp(rt, turn.word), turn.request.as_bytes());
         all.push(show_all(rt, &mut service))?;
     }
     Ok(all)
@@ -56,8 +56,8 @@ fn shown_after_each(rt: &impl Abort, alloc: Global) -> Result<Vec<Shown>, Fail> 
 fn played<K: Keep>(rt: &impl Abort, service: &mut Service<K>) -> usize {
     let mut answered = 0usize;
     for turn in TURNS {
-        let answer = service.answer_one(&stamp(rt, turn.word), turn.request);
-        if bytes_of(&answer) != turn.reply {
+        let answer = service.answer_one(&stamp(rt, turn.word), turn.request.as_bytes());
+        if bytes_of(&answer) != turn.reply.as_bytes() {
             break;
         }
         answered = answered.saturating_add(1);

@@ -10,7 +10,7 @@ use std::io;
 use std::io::{ErrorKind, Write};
 use std::test::Fail;
 
-const TEXT: &[u8] = b"row,c1,c2,c3,c4,c5,c6,c7,c8,c9,c10,c11,c12,c13,c14\nB,2,0,0,,,,,,,,,,,\n";
+const TEXT: &str = book_text!("B,2,0,0,,,,,,,,,,,\n");
 
 // A writer that takes one byte, and then fails.
 #[derive(Drop)]
@@ -65,13 +65,10 @@ fn one_book(alloc: Global) -> Result<ListKeep, Fail> {
 #[test]
 fn a_book_that_stands_is_exported(rt: HostRuntime) -> Result<(), Fail> {
     let mut keep = one_book(rt.alloc())?;
-    for (book, came, text) in [
-        (7u64, Ok(()), TEXT),
-        (8, Err(ViewFault::Unknown), b"".as_slice()),
-    ] {
+    for (book, came, text) in [(7u64, Ok(()), TEXT), (8, Err(ViewFault::Unknown), "")] {
         let mut rows = RowWriter::new(rt.alloc(), Vec::new(rt.alloc()));
         assert_eq!(rt; export(&mut keep, number(book)?, &mut rows), came);
-        assert_eq!(rt; rows.into_inner().as_slice(), text);
+        assert_eq!(rt; rows.into_inner().as_slice(), text.as_bytes());
     }
     Ok(())
 }
