@@ -2,7 +2,7 @@
 use Rattle.std.proofs.Common.{◌≡◌, ℕ, ◌<◌, ◌≤◌, Some, None, Ok, Err, refl, ◌∙◌, ap, sym, subst, arith, inl, inr, Result, if◌then◌else◌, Option, true, false}
 use Rattle.{std.{proofs.{Common.{nat_lt, ◌⊎◌}, lemmas.Bool.Decides.nat_tests}, specs.FinMap.get}, pawn_book.specs.{Common.Stamp, Plans.{Acts, Commits}}}
 use Rattle.pawn_book.specs.{Plans.{IsLeftByAct, IsLeftByCommit, IsLeftByStep, IsUnwell, Plans, next_host}, BookStep.{BookValue, Makes, Outcome, Refuses, Says}}
-use Rattle.pawn_book.specs.{BookStep.{Told, book_step, changed_book, out_of}, Books.{Change, Full, Refusal, Reply, Request}, HostStep.{Host, host_after}}
+use Rattle.pawn_book.specs.{BookStep.{Replied, book_step, changed_book, out_of}, Books.{Change, Full, Refusal, Reply, Request}, HostStep.{Host, host_after}}
 use Rattle.pawn_book.specs.{HostStep.{host_step, rows, with_book, within_limit}, Keeping.IsLeftBy, Sound.IsSound, Changes.{book_number, with_change}}
 use Rattle.pawn_book.specs.declared.fault.SaveError.{SaveError}
 use Rattle.pawn_book.specs.declared.fault.SaveError.TheVariants as Save
@@ -47,7 +47,7 @@ pub made_acts : (h : Host) (operator : ℕ) (stamp : Stamp) (request : Request) 
     → IsSound h → Plans h request.book (step_of h operator stamp request) (Ok (record { change = change; reply = reply })) → Commits h change (Ok tt) stands
     → Acts h operator stamp request (Ok reply) stands
 made_acts h operator stamp request stands None reply sound plans made =
-    let is : host_step h operator stamp request ≡ Says (Told reply) = ap (within_limit h request.book) plans.0 in
+    let is : host_step h operator stamp request ≡ Says (Replied reply) = ap (within_limit h request.book) plans.0 in
     let after : next_host h operator stamp request ≡ h = ap (host_after h request.book) is in
     (ap out_of is, subst stands (sym after) made, subst IsSound (sym after) sound)
 made_acts h operator stamp request stands (Some change) reply sound plans made =
@@ -105,7 +105,7 @@ pub made_left : (h : Host) (operator : ℕ) (stamp : Stamp) (request : Request) 
     (left : Host) → Plans h request.book (step_of h operator stamp request) (Ok (record { change = change; reply = reply })) → Commits h change (Ok tt) stands
     → ((g : Host) → mid g → before g) → IsLeftByCommit h change mid (Ok tt) left → IsLeftByAct h operator stamp request before (Ok reply) left
 made_left h operator stamp request None reply stands before mid left plans made back by =
-    let is : host_step h operator stamp request ≡ Says (Told reply) = ap (within_limit h request.book) plans.0 in
+    let is : host_step h operator stamp request ≡ Says (Replied reply) = ap (within_limit h request.book) plans.0 in
     subst (λ o. IsLeftByStep h request.book o before left) (sym is) (back left by)
 made_left h operator stamp request (Some change) reply stands before mid left plans made back by =
     let is : host_step h operator stamp request ≡ Makes change reply = ap (within_limit h request.book) plans.0

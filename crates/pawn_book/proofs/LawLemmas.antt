@@ -6,8 +6,8 @@ use Rattle.pawn_book.specs.{Common.{PledgeValue, Rates, Receipt, Running, Stamp,
 use Rattle.pawn_book.specs.Books.{BookFilled, BookMade, BookNotEmpty, BookTaken, Broker, Caller, Change, Export, Import, ImportBook, NewTerms, NoSuchBook}
 use Rattle.pawn_book.specs.Books.{NotOperator, OnPledge, Opened, Operator, PutPledge, PutTerms, RefTaken, Refusal, Reply, SheetOf, Show, TakePledge, TermsFull}
 use Rattle.pawn_book.specs.{Books.{TermsPut, TermsSeq}, Laws.{Asks, BookChangesDiffer, IsMaking, RepeatsActOnce, book_run}, BookStep.{BookValue, Refuses, Says}}
-use Rattle.pawn_book.specs.BookStep.{Told, are_same_rates, book_head, book_step, changed_book, filled_book, first_receipt, first_secret, import_rows, is_live}
-use Rattle.pawn_book.specs.BookStep.{is_same_book, is_same_end, is_same_flag, is_same_kind, is_same_opening, made_book, make_book, newest, next_terms}
+use Rattle.pawn_book.specs.BookStep.{Replied, are_same_rates, book_head, book_step, changed_book, filled_book, first_receipt, first_secret, import_rows}
+use Rattle.pawn_book.specs.BookStep.{is_live, is_same_book, is_same_end, is_same_flag, is_same_kind, is_same_opening, made_book, make_book, newest, next_terms}
 use Rattle.pawn_book.specs.{BookStep.{only_live, pledge_from, put_from, put_terms, take_pledge, under_terms, with_reference}, Changes.Continues}
 use Rattle.pawn_book.{specs.{Sound.IsSoundBook, Rows.{is_same_text, terms_at}, Limits.most_terms}, proofs.Sounds.{absurd_none, each_at, some_is}}
 use Rattle.pawn_book.proofs.{KeptLemmas.{number_kept, put_there, reference_kept}, Plans.{next_is, not_standing, taken_is}, GrowLemmas.{Grown, grown_same}}
@@ -134,8 +134,8 @@ asks_not_making (Bearer asked) n command asks making = making
 pub repeat_told : RepeatsActOnce
 repeat_told before operator b stamp again caller change reply later making is = from (made_by before operator b stamp caller change reply is) where
   told : (book : BookValue) → changed_book before change ≡ Some book
-      → ((next : BookValue) → Grown book next → book_step (Some next) operator b again caller ≡ Says (Told reply))
-      → book_step (book_run (changed_book before change) operator b later) operator b again caller ≡ Says (Told reply)
+      → ((next : BookValue) → Grown book next → book_step (Some next) operator b again caller ≡ Says (Replied reply))
+      → book_step (book_run (changed_book before change) operator b later) operator b again caller ≡ Says (Replied reply)
   told book makes answers =
       let run = run_grows book book operator b later (grown_same book) in
       ap (λ o. book_step (book_run o operator b later) operator b again caller) makes
@@ -145,13 +145,13 @@ repeat_told before operator b stamp again caller change reply later making is = 
   opens book next key same passes = ap (λ k. k == key) same ∙ passes
 
   from : MadeBy before operator b stamp caller change reply
-      → book_step (book_run (changed_book before change) operator b later) operator b again caller ≡ Says (Told reply)
+      → book_step (book_run (changed_book before change) operator b later) operator b again caller ≡ Says (Replied reply)
   from (BookIs key new asks passes none makes says) = told (made_book new) (ap (changed_book before) makes) (λ next grown.
       let same : is_same_book (book_head next) new ≡ true =
       and_from _ _ (and_from _ _ (ap (λ k. k == new.key) grown.key ∙ equal_itself new.key) (ap (λ t. is_same_text t new.name) grown.name ∙ text_same new.name))
       (ap (λ n. n == new.capacity) grown.capacity ∙ equal_itself new.capacity) in
       ap (book_step (Some next) operator b again) asks ∙ ap (λ v. if v then make_book (Some next) b new else Refuses NotOperator) passes
-      ∙ ap (λ v. if v then Says (Told (BookMade b)) else Refuses BookTaken) same ∙ ap (λ r. Says (Told r)) (sym says))
+      ∙ ap (λ v. if v then Says (Replied (BookMade b)) else Refuses BookTaken) same ∙ ap (λ r. Says (Replied r)) (sym says))
   from (TermsAre key new book terms asks stands passes absent answer makes says) =
       told (record book { terms = book.terms ++ terms ∷ [] }) (ap (changed_book before) makes ∙ ap (λ o. changed_book o (AddTerms b new.version terms)) stands)
       (λ next grown.
@@ -162,8 +162,8 @@ repeat_told before operator b stamp again caller change reply later making is = 
       let at : terms_at next.terms new.version ≡ Some terms =
       ap (λ ts. terms_at ts new.version) grown.terms.1 ∙ version_at book.terms new.version terms grown.terms.0 version in
       ap (book_step (Some next) operator b again) asks ∙ ap (λ v. if v then put_terms next b new (terms_at next.terms new.version) else Refuses NoSuchBook)
-      (opens book next key grown.key passes) ∙ ap (put_terms next b new) at ∙ ap (λ v. if v then Says (Told (TermsPut new.version)) else Refuses TermsSeq)
-      (terms_asked (length book.terms) new terms answer) ∙ ap (λ r. Says (Told r)) (sym says))
+      (opens book next key grown.key passes) ∙ ap (put_terms next b new) at ∙ ap (λ v. if v then Says (Replied (TermsPut new.version)) else Refuses TermsSeq)
+      (terms_asked (length book.terms) new terms answer) ∙ ap (λ r. Says (Replied r)) (sym says))
   from (PledgeIs key opening book p asks stands passes absent answer makes says) =
       told (record book { pledges = put_from 1 book.pledges p.agreement.number p })
       (ap (changed_book before) makes ∙ ap (λ o. changed_book o (PutPledge b p.agreement.number p)) stands) (λ next grown.
@@ -178,14 +178,14 @@ repeat_told before operator b stamp again caller change reply later making is = 
       let q = found.0 in
       ap (book_step (Some next) operator b again) asks ∙ ap (λ v. if v then take_pledge next b opening again (with_reference next.pledges opening.reference)
       else Refuses NoSuchBook) (opens book next key grown.key passes) ∙ ap (take_pledge next b opening again) found.1
-      ∙ ap (λ v. if v then Says (Told (Opened (first_receipt q))) else Refuses RefTaken) (opening_kept p q opening found.2 ∙ same)
-      ∙ ap (λ r. Says (Told (Opened r))) (first_kept p q taken.first.0 taken.first.1 found.2) ∙ ap (λ r. Says (Told r)) (sym says))
+      ∙ ap (λ v. if v then Says (Replied (Opened (first_receipt q))) else Refuses RefTaken) (opening_kept p q opening found.2 ∙ same)
+      ∙ ap (λ r. Says (Replied (Opened r))) (first_kept p q taken.first.0 taken.first.1 found.2) ∙ ap (λ r. Says (Replied r)) (sym says))
   from (RowsAre key importing rows book asks stands passes unfilled makes says) =
       told (filled_book book importing rows) (ap (changed_book before) makes ∙ ap (λ o. changed_book o (ImportBook b importing rows)) stands) (λ next grown.
       let own = grown.imported (record { key = importing; pledges = length rows.pledges }) refl in
       ap (book_step (Some next) operator b again) asks ∙ ap (λ v. if v then import_rows (book_head next) b importing rows next.imported else Refuses NoSuchBook)
       (opens book next key grown.key passes) ∙ ap (import_rows (book_head next) b importing rows) own ∙ ap (λ v. if v then Says
-      (Told (BookFilled (length rows.pledges))) else Refuses BookNotEmpty) (equal_itself importing) ∙ ap (λ r. Says (Told r)) (sym says))
+      (Replied (BookFilled (length rows.pledges))) else Refuses BookNotEmpty) (equal_itself importing) ∙ ap (λ r. Says (Replied r)) (sym says))
   from (CommandIs book n command stands asks did) = absurd (asks_not_making caller n command asks making)
 
 -- the pledge that a command changed stands at its number after any run

@@ -4,16 +4,16 @@ use Rattle.{std.proofs.Common.{◌≡◌, subst, Ok, Result, IfOk}, pawn_book.sp
 -- a keeper goes on after one call, and after another
 pub on_then : {K : Type 0} {k : Keeping K} {a b c : K} → GoesOn k a b → GoesOn k b c → GoesOn k a c
 on_then f s = record {
-  past = λ honest. f.past (s.past honest);
-  served = λ honest now. f.served (s.past honest) (s.served honest now);
+  was_honest = λ honest. f.was_honest (s.was_honest honest);
+  served = λ honest now. f.served (s.was_honest honest) (s.served honest now);
   stays = λ steady. s.stays (f.stays steady);
-  whole = λ honest whole. s.whole honest (f.whole (s.past honest) whole);
+  whole = λ honest whole. s.whole honest (f.whole (s.was_honest honest) whole);
 }
 
 -- a keeper that was not asked is as it was
 pub reads_none : {K : Type 0} (k : Keeping K) (s : K) (P : Host → Type 0) → ((h : Host) → P h) → Reads k s s P
 reads_none k s P all = record {
-  on = record { past = λ honest. honest; served = λ honest now. now; stays = λ steady. steady; whole = λ honest whole. whole };
+  on = record { was_honest = λ honest. honest; served = λ honest now. now; stays = λ steady. steady; whole = λ honest whole. whole };
   same = λ honest h at. at;
   back = λ honest now h at. at;
   tells = λ honest h at. all h;
@@ -25,10 +25,10 @@ pub reads_then : {K : Type 0} {k : Keeping K} {a b c : K} {P Q R : Host → Type
     → Reads k a b P → Reads k b c Q → ((h : Host) → P h → Q h → R h) → Reads k a c R
 reads_then f s both = record {
   on = on_then f.on s.on;
-  same = λ honest h at. s.same honest h (f.same (s.on.past honest) h at);
-  back = λ honest now h at. f.back (s.on.past honest) (s.on.served honest now) h (s.back honest now h at);
-  tells = λ honest h at. both h (f.tells (s.on.past honest) h at) (s.tells honest h (f.same (s.on.past honest) h at));
-  crash = λ honest h left. f.crash (s.on.past honest) h (s.crash honest h left);
+  same = λ honest h at. s.same honest h (f.same (s.on.was_honest honest) h at);
+  back = λ honest now h at. f.back (s.on.was_honest honest) (s.on.served honest now) h (s.back honest now h at);
+  tells = λ honest h at. both h (f.tells (s.on.was_honest honest) h at) (s.tells honest h (f.same (s.on.was_honest honest) h at));
+  crash = λ honest h left. f.crash (s.on.was_honest honest) h (s.crash honest h left);
 }
 
 -- what a read tells, in other words

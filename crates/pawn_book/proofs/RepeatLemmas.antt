@@ -3,7 +3,7 @@ use Rattle.std.proofs.{Common.{◌≡◌, ℕ, List, Some, refl, ◌∙◌, ap, 
 use Rattle.pawn_book.specs.{Common.{Answered, Command, Done, PledgeValue, Stamp, end_of, entry_command, pledge_step}, Laws.{Asks, BookEntriesActOnce}}
 use Rattle.pawn_book.specs.{Laws.{BookExtensionsActOnce, EntriesActOnceForAll, Passes, StandingEndIsTold, StillPasses, book_run}, Books.{Bearer, Broker}}
 use Rattle.pawn_book.specs.Books.{Caller, Change, Commanded, Export, Import, NoSuchBook, OnPledge, OnReceipt, Operator, Present, PutTerms, Reply, SheetOf, Show}
-use Rattle.pawn_book.specs.{Books.TakePledge, BookStep.{BookValue, Makes, Refuses, Says, Told, bearer_commands, book_step, broker_commands, changed_book}}
+use Rattle.pawn_book.specs.{Books.TakePledge, BookStep.{BookValue, Makes, Refuses, Says, Replied, bearer_commands, book_step, broker_commands, changed_book}}
 use Rattle.pawn_book.{specs.BookStep.{judged_outcome, live_at, only_live, pledge_from, pledge_in, within_window}, proofs.LawLemmas.{live_found, numbered_in}}
 use Rattle.pawn_book.proofs.{LawLemmas.stands_after, MadeLemmas.{DidOn, if_makes, number_made, receipt_made}, Sounds.some_is}
 use Rattle.pawn_pledge.proofs.Repeats.{entered_again, extended-made, standing_end_is_answered}
@@ -30,7 +30,7 @@ did_on book operator b stamp (Bearer (OnReceipt r own)) n command change reply a
 -- what a pledge answers without a change is told to whoever passes
 told_to : (book : BookValue) (operator b : ℕ) (stamp : Stamp) (caller : Caller) (n : ℕ) (command : Command) (p : PledgeValue) (done : Done)
     → Asks caller n command → Passes (Some book) caller → pledge_from 1 book.pledges n ≡ Some p → pledge_step p stamp command ≡ Answered done
-    → book_step (Some book) operator b stamp caller ≡ Says (Told (Commanded n done))
+    → book_step (Some book) operator b stamp caller ≡ Says (Replied (Commanded n done))
 told_to book operator b stamp (Operator key new) n command p done asks passes at step = absurd asks
 told_to book operator b stamp (Broker key (PutTerms new)) n command p done asks passes at step = absurd asks
 told_to book operator b stamp (Broker key (TakePledge opening)) n command p done asks passes at step = absurd asks
@@ -43,13 +43,13 @@ told_to book operator b stamp (Broker key (OnPledge m own)) n command p done ask
     let opens : (book.key == key) ≡ true = grind (arith, nat_tests, holds) in
     ap (λ v. if v then broker_commands book b m stamp own (pledge_from 1 book.pledges m) else Refuses NoSuchBook) opens
     ∙ ap (broker_commands book b m stamp own) (ap (pledge_from 1 book.pledges) asks.0 ∙ at)
-    ∙ ap (λ j. within_window book (judged_outcome b m j)) (ap (pledge_step p stamp) asks.1 ∙ step) ∙ ap (λ (k : ℕ). Says (Told (Commanded k done))) asks.0
+    ∙ ap (λ j. within_window book (judged_outcome b m j)) (ap (pledge_step p stamp) asks.1 ∙ step) ∙ ap (λ (k : ℕ). Says (Replied (Commanded k done))) asks.0
 told_to book operator b stamp (Bearer (Present receipts)) n command p done asks passes at step = absurd asks
 told_to book operator b stamp (Bearer (OnReceipt r own)) n command p done asks passes at step =
     let here : pledge_from 1 book.pledges r.number ≡ Some p = ap (pledge_from 1 book.pledges) asks.0 ∙ at in
     let live : is_some (only_live r.secret (Some p)) ≡ true = ap (λ o. is_some (only_live r.secret o)) (sym here) ∙ passes in
     ap (λ o. bearer_commands b r.number stamp own (only_live r.secret o)) here ∙ ap (bearer_commands b r.number stamp own) (live_found r.secret p live)
-    ∙ ap (judged_outcome b r.number) (ap (pledge_step p stamp) asks.1 ∙ step) ∙ ap (λ (k : ℕ). Says (Told (Commanded k done))) asks.0
+    ∙ ap (judged_outcome b r.number) (ap (pledge_step p stamp) asks.1 ∙ step) ∙ ap (λ (k : ℕ). Says (Replied (Commanded k done))) asks.0
 
 -- an entry is told again
 pub entry_told_to_all : EntriesActOnceForAll
@@ -59,7 +59,7 @@ entry_told_to_all before operator b stamp again caller other n sort seq pence ch
     let q = stands.3.0 in
     let told = entered_again did.old did.next q stamp again sort seq pence did.done (numbered_in before n did.old sound did.stands) did.step stands.3.2.lists in
     ap (λ o. book_step o operator b again other) stands.1 ∙ told_to stands.0 operator b again other n (entry_command sort seq pence) q did.done asks'
-    (subst (λ (o : Option BookValue). Passes o other) stands.1 passes) stands.3.1 told ∙ ap (λ r. Says (Told r)) (sym did.says)
+    (subst (λ (o : Option BookValue). Passes o other) stands.1 passes) stands.3.1 told ∙ ap (λ r. Says (Replied r)) (sym did.says)
 
 -- whoever asked passes still: the broker by the key, and a bearer while the receipt is live
 still_passes : (before : BookValue) (operator b : ℕ) (stamp : Stamp) (caller : Caller) (n : ℕ) (command : Command) (change : Change) (reply : Reply)
@@ -97,4 +97,4 @@ extension_told before operator b key n until stamp again change reply later p is
     ap (λ o. book_step o operator b again (Broker key (OnPledge n (Command.Extend until)))) stands.1 ∙ told_to after operator b again
     (Broker key (OnPledge n (Command.Extend until))) n (Command.Extend until) p (Done.Extended until) (refl, refl) (after, refl, holds) there
     (ap (λ (e : ℕ). pledge_step p again (Command.Extend e)) (sym ends) ∙ told ∙ ap (λ (e : ℕ). Answered (Done.Extended e)) ends) ∙ ap (λ (d : Done). Says
-    (Told (Commanded n d))) (sym (extended-made did.old did.next stamp until did.done did.step)) ∙ ap (λ r. Says (Told r)) (sym did.says)
+    (Replied (Commanded n d))) (sym (extended-made did.old did.next stamp until did.done did.step)) ∙ ap (λ r. Says (Replied r)) (sym did.says)

@@ -27,7 +27,7 @@ pub record BookValue : Type 0 where
 
 -- what is answered, before it is written as text
 pub data Out : Type 0 where
-  Told : (reply : Reply) → Out
+  Replied : (reply : Reply) → Out
   Denied : (why : Refusal) → Out
   -- on a day, a statement or the unknown line for each receipt
   Shown : (day : ℕ) (pledges : List (Option PledgeValue)) → Out
@@ -46,7 +46,7 @@ pub data Outcome : Type 0 where
 abbrev pub out_of : Outcome → Out
 out_of (Refuses why) = Denied why
 out_of (Says out) = out
-out_of (Makes change reply) = Told reply
+out_of (Makes change reply) = Replied reply
 
 -- the newest terms
 abbrev pub newest : List Rates → Option Rates
@@ -117,7 +117,7 @@ is_same_book head new = (head.key == new.key) && is_same_text head.name new.name
 -- to make a book: if there is an equal one, the same is answered again
 abbrev pub make_book : Option BookValue → ℕ → NewBook → Outcome
 make_book None b new = Makes (MakeBook b new) (BookMade b)
-make_book (Some book) b new = if is_same_book (book_head book) new then Says (Told (BookMade b)) else Refuses BookTaken
+make_book (Some book) b new = if is_same_book (book_head book) new then Says (Replied (BookMade b)) else Refuses BookTaken
 
 -- refused unless the key is the operator's
 abbrev pub operator_step : ℕ → ℕ → Outcome → Outcome
@@ -143,7 +143,7 @@ next_terms standing new =
 
 -- PutTerms: equal terms that the book has are answered again
 abbrev pub put_terms : BookValue → ℕ → NewTerms → Option Rates → Outcome
-put_terms book b new (Some terms) = if are_same_rates terms new.rates then Says (Told (TermsPut new.version)) else Refuses TermsSeq
+put_terms book b new (Some terms) = if are_same_rates terms new.rates then Says (Replied (TermsPut new.version)) else Refuses TermsSeq
 put_terms book b new None = make_or_refuse (next_terms (length book.terms) new) (λ terms. Makes (AddTerms b new.version terms) (TermsPut new.version))
 
 -- the secret with which a pledge was taken
@@ -192,7 +192,7 @@ next_pledge head opening stamp (Some terms) =
 
 -- TakePledge: an equal opening is answered as the first time
 abbrev pub take_pledge : BookValue → ℕ → Opening → Stamp → Option PledgeValue → Outcome
-take_pledge book b opening stamp (Some p) = if is_same_opening p.agreement.opening opening then Says (Told (Opened (first_receipt p))) else Refuses RefTaken
+take_pledge book b opening stamp (Some p) = if is_same_opening p.agreement.opening opening then Says (Replied (Opened (first_receipt p))) else Refuses RefTaken
 take_pledge book b opening stamp None =
     make_or_refuse (next_pledge (book_head book) opening stamp (newest book.terms)) (λ p. Makes (PutPledge b p.agreement.number p) (Opened (first_receipt p)))
 
@@ -226,7 +226,7 @@ is_window_full book (Some booking) = nat_le book.capacity (confirmed_count book.
 -- what came of a command on pledge n
 abbrev pub judged_outcome : ℕ → ℕ → Judged → Outcome
 judged_outcome b n (Refused why) = Refuses (Pledge why)
-judged_outcome b n (Answered done) = Says (Told (Commanded n done))
+judged_outcome b n (Answered done) = Says (Replied (Commanded n done))
 judged_outcome b n (Changed next done) = Makes (PutPledge b n next) (Commanded n done)
 
 -- a booking is confirmed only where its window has room
@@ -257,7 +257,7 @@ is_empty head = (head.terms == 0) && (head.pledges == 0)
 -- Import: the rows become an empty book's, once; the book's own import is answered again, whatever rows come
 abbrev pub import_rows : BookHead → ℕ → ℕ → BookRows → Option Imported → Outcome
 import_rows head b key rows None = if is_empty head then Makes (ImportBook b key rows) (BookFilled (length rows.pledges)) else Refuses BookNotEmpty
-import_rows head b key rows (Some imported) = if imported.key == key then Says (Told (BookFilled imported.pledges)) else Refuses BookNotEmpty
+import_rows head b key rows (Some imported) = if imported.key == key then Says (Replied (BookFilled imported.pledges)) else Refuses BookNotEmpty
 
 -- SheetOf: the sheet of a day
 abbrev pub show_sheet : BookValue → ℕ → Outcome

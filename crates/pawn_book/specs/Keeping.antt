@@ -26,7 +26,7 @@ pub record Keeping (K : Type 0) : Type 1 where
 -- a keeper goes on after a call: if it is honest now, or serves, it was so before, and if it was steady or whole, it
 -- still is
 pub record GoesOn {K : Type 0} (k : Keeping K) (old new : K) : Type 0 where
-  pub past : k.honest new → k.honest old
+  pub was_honest : k.honest new → k.honest old
   pub served : k.honest new → k.serves new → k.serves old
   pub stays : k.steady old → k.steady new
   pub whole : k.honest new → k.whole old → k.whole new

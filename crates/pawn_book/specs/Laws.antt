@@ -2,8 +2,8 @@
 use Rattle.std.specs.Prelude.{◌≡◌, ℕ, List, [], ◌∷◌, Option, None, Some, is_some, true}
 use Rattle.{pawn_debt.specs.declared.entry.Sort.Sort, pawn_book.specs.Common.{Command, Done, MayExtend, PledgeValue, Stamp, end_of, entry_command}}
 use Rattle.pawn_book.specs.declared.request.{Caller.{Caller, TheVariants.{Operator, Broker, Bearer}}, BrokerRequest.BrokerRequest, BearerRequest.BearerRequest}
-use Rattle.pawn_book.specs.{declared.{reply.Reply.{Reply, TheVariants.Commanded}, change.Change.Change}, BookStep.{BookValue, Told, Says, Makes, changed_book}}
-use Rattle.pawn_book.specs.{BookStep.{book_after, book_step, live_at, pledge_from, pledge_in}, Sound.IsSoundBook}
+use Rattle.pawn_book.specs.{declared.{reply.Reply.{Reply, TheVariants.Commanded}, change.Change.Change}, BookStep.{BookValue, Replied, Says, Makes}}
+use Rattle.pawn_book.specs.{BookStep.{book_after, changed_book, book_step, live_at, pledge_from, pledge_in}, Sound.IsSoundBook}
 use Rattle.pawn_book.specs.declared.request.BrokerRequest.TheVariants as asked
 use Rattle.pawn_book.specs.declared.request.BearerRequest.TheVariants as presented
 
@@ -40,7 +40,7 @@ abbrev pub RepeatsActOnce : Type 0
 RepeatsActOnce =
     (before : Option BookValue) (operator b : ℕ) (stamp again : Stamp) (caller : Caller) (change : Change) (reply : Reply) (later : List (Stamp × Caller))
     → IsMaking caller → book_step before operator b stamp caller ≡ Makes change reply
-    → book_step (book_run (changed_book before change) operator b later) operator b again caller ≡ Says (Told reply)
+    → book_step (book_run (changed_book before change) operator b later) operator b again caller ≡ Says (Replied reply)
 
 -- the command that a caller asks for
 abbrev pub broker_command : BrokerRequest → Option Command
@@ -99,7 +99,7 @@ BookEntriesActOnce =
     (change : Change) (reply : Reply) (later : List (Stamp × Caller))
     → IsSoundBook before → Asks caller n (entry_command sort seq pence) → book_step (Some before) operator b stamp caller ≡ Makes change reply
     → StillPasses (book_run (changed_book (Some before) change) operator b later) caller
-    → book_step (book_run (changed_book (Some before) change) operator b later) operator b again caller ≡ Says (Told reply)
+    → book_step (book_run (changed_book (Some before) change) operator b later) operator b again caller ≡ Says (Replied reply)
 
 -- a broker passes by the book's key, and a bearer by a live receipt
 abbrev pub Passes : Option BookValue → Caller → Type 0
@@ -116,7 +116,7 @@ EntriesActOnceForAll =
     → IsSoundBook before → Asks caller n (entry_command sort seq pence) → Asks other n (entry_command sort seq pence)
     → book_step (Some before) operator b stamp caller ≡ Makes change reply
     → Passes (book_run (changed_book (Some before) change) operator b later) other
-    → book_step (book_run (changed_book (Some before) change) operator b later) operator b again other ≡ Says (Told reply)
+    → book_step (book_run (changed_book (Some before) change) operator b later) operator b again other ≡ Says (Replied reply)
 
 -- an extension to the present end, where nothing bars it, is answered with that end and changes nothing
 abbrev pub StandingEndIsTold : Type 0
@@ -124,7 +124,7 @@ StandingEndIsTold =
     (book : BookValue) (operator b n : ℕ) (stamp : Stamp) (p : PledgeValue)
     → pledge_from 1 book.pledges n ≡ Some p → MayExtend p stamp.day
     → book_step (Some book) operator b stamp (Broker book.key (asked.OnPledge n (Command.Extend (end_of p)))) ≡ Says
-    (Told (Commanded n (Done.Extended (end_of p))))
+    (Replied (Commanded n (Done.Extended (end_of p))))
 
 -- So an extension that was made is answered the same again and makes none, whatever was asked in between. It is so
 -- while its end is the present one, and nothing bars an extension.
@@ -134,4 +134,4 @@ BookExtensionsActOnce =
     → book_step (Some before) operator b stamp (Broker key (asked.OnPledge n (Command.Extend until))) ≡ Makes change reply
     → pledge_in (book_run (changed_book (Some before) change) operator b later) n ≡ Some p → end_of p ≡ until → MayExtend p again.day
     → book_step (book_run (changed_book (Some before) change) operator b later) operator b again (Broker key (asked.OnPledge n (Command.Extend until)))
-    ≡ Says (Told reply)
+    ≡ Says (Replied reply)

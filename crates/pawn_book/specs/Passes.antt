@@ -28,9 +28,10 @@ IsOne slot = (r : Receipt) × (slot ≡ r ∷ [])
 
 -- Of slots of a sort, and runs whose requests are of a sort. A slot's machine holds the pledges of the book that are in
 -- the slot. Each settled reply to a slot's request is that of the slot alone.
-pub record Pass (F : Type 0) (Of : Caller → Type 0) (Is : List Receipt → Type 0) : Type 0 where
-  pub held : (h : Host) (operator b : ℕ) (slot : List Receipt) (events : List (Event F)) (n : ℕ) → Is slot → AreAll Of events
+pub record Pass (F : Type 0) (IsAsked : Caller → Type 0) (IsSlot : List Receipt → Type 0) : Type 0 where
+  pub held : (h : Host) (operator b : ℕ) (slot : List Receipt) (events : List (Event F)) (n : ℕ) → IsSlot slot → AreAll IsAsked events
       → solo slot (slot_trace b slot h operator events) n ≡ slot_of slot (get (run_host h operator events).books b) n
-  pub alone : (h : Host) (operator b : ℕ) (slot : List Receipt) (before : List (Event F)) (stamp : Stamp) (asked : BearerRequest) → Is slot → AreAll Of before
-      → is_slots slot asked ≡ true → is_settled (reply_after h operator before stamp (record { book = b; caller = Bearer asked })) ≡ true
+  pub alone : (h : Host) (operator b : ℕ) (slot : List Receipt) (before : List (Event F)) (stamp : Stamp) (asked : BearerRequest)
+      → IsSlot slot → AreAll IsAsked before → is_slots slot asked ≡ true
+      → is_settled (reply_after h operator before stamp (record { book = b; caller = Bearer asked })) ≡ true
       → reply_after h operator before stamp (record { book = b; caller = Bearer asked }) ≡ solo_reply slot (slot_trace b slot h operator before) b stamp asked

@@ -2,8 +2,8 @@
 use Rattle.std.specs.Prelude.{◌≡◌, ◌⊎◌, ℕ, ◌≤◌, ◌<◌, Option, Some, None, Result, Ok, Err, IfSome}
 use Rattle.{pawn_pledge.specs.declared.command.Stamp.Stamp, pawn_book.specs.declared.request.Caller.{Caller, TheVariants.{Operator, Broker, Bearer}}}
 use Rattle.pawn_book.specs.declared.{request.{BrokerRequest.BrokerRequest, BearerRequest.BearerRequest, Request.Request}, reply.Reply.Reply}
-use Rattle.pawn_book.specs.{declared.{refusal.Refusal.Refusal, change.{BookHead.BookHead, Change.Change, Planned.Planned}}, BookStep.{BookValue, Told, Outcome}}
-use Rattle.pawn_book.specs.{BookStep.{Refuses, Says, Makes, out_of, gate_step, book_head}, HostStep.{Host, rows, host_step, host_after}, Sound.IsSound}
+use Rattle.pawn_book.specs.{declared.{refusal.Refusal.Refusal, change.{BookHead.BookHead, Change.Change, Planned.Planned}}, BookStep.{BookValue, Outcome}}
+use Rattle.pawn_book.specs.{BookStep.{Replied, Refuses, Says, Makes, out_of, gate_step, book_head}, HostStep.{Host, rows, host_step, host_after}, Sound.IsSound}
 use Rattle.pawn_book.specs.{Changes.{CanSave, book_number, with_change}, Keeping.IsFitting}
 use Rattle.pawn_book.specs.declared.request.BrokerRequest.TheVariants as broker
 use Rattle.pawn_book.specs.declared.request.BearerRequest.TheVariants as bearer
@@ -19,7 +19,7 @@ IsRefused outcome why = IsUnwell why ⊎ (outcome ≡ Refuses why)
 
 -- the outcome that a plan stands for: its reply, with its change if it has one
 abbrev pub outcome_of : Option Change → Reply → Outcome
-outcome_of None reply = Says (Told reply)
+outcome_of None reply = Says (Replied reply)
 outcome_of (Some change) reply = Makes change reply
 
 -- the plan is the outcome: its reply, and its change, which may be saved
@@ -61,7 +61,7 @@ next_host h operator stamp request = host_after h request.book (host_step h oper
 -- the answer is the host's step, and the keeper goes on to the host after it, which is sound
 abbrev pub Acts : Host → ℕ → Stamp → Request → Result Reply Refusal → (Host → Type 0) → Type 0
 Acts h operator stamp request (Ok reply) stands =
-    (out_of (host_step h operator stamp request) ≡ Told reply) × stands (next_host h operator stamp request) × IsSound (next_host h operator stamp request)
+    (out_of (host_step h operator stamp request) ≡ Replied reply) × stands (next_host h operator stamp request) × IsSound (next_host h operator stamp request)
 Acts h operator stamp request (Err why) stands = stands h × IsRefused (host_step h operator stamp request) why
 
 -- a host that a crash may leave after an outcome: the host after a change alone, else what it might have left before

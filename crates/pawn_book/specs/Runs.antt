@@ -1,8 +1,8 @@
 -- Runs: requests one after the other, each with how it was answered.
 use Rattle.std.specs.Prelude.{ℕ, List, [], ◌∷◌, ◌++◌, Bool, true, false, Option, None, Some, Result, Ok, Err}
 use Rattle.{pawn_pledge.specs.declared.command.Stamp.Stamp, pawn_book.specs.declared.{request.Request.Request, refusal.Refusal.{Refusal, TheVariants.Full}}}
-use Rattle.pawn_book.specs.{declared.refusal.Refusal.TheVariants.{Memory, Store}, BookStep.{Out, Told, Denied, Shown, Listed, Exported, out_of}, HostStep.Host}
-use Rattle.pawn_book.specs.HostStep.{host_step, host_after}
+use Rattle.pawn_book.specs.{declared.refusal.Refusal.TheVariants.{Memory, Store}, BookStep.{Out, Replied, Denied, Shown, Listed, Exported, out_of}}
+use Rattle.pawn_book.specs.HostStep.{Host, host_step, host_after}
 
 -- how an item was answered: as the request or the fault that its bytes read as, or as refused for memory or by the
 -- store
@@ -84,7 +84,7 @@ is_by_rules Store = false
 is_by_rules why = true
 
 abbrev pub is_settled : Out → Bool
-is_settled (Told reply) = true
+is_settled (Replied reply) = true
 is_settled (Denied why) = is_by_rules why
 is_settled (Shown day pledges) = true
 is_settled (Listed day capacity items) = true

@@ -2,8 +2,8 @@
 use Rattle.std.specs.Prelude.{◌≡◌, ℕ, [], ◌∷◌, Option, Some, None, codes}
 use Rattle.pawn_book.specs.{Common.{free, ring}, declared.{change.Change.TheVariants.ImportBook, refusal.Refusal.TheVariants.{BookNotEmpty, NoSuchBook}}}
 use Rattle.pawn_book.specs.declared.{reply.Reply.TheVariants.BookFilled, request.{BrokerRequest.TheVariants.Import, Caller.TheVariants.Broker}}
-use Rattle.pawn_book.specs.{declared.rows.BookRows.BookRows, BookStep.{BookValue, Outcome, Told, Refuses, Says, Makes, book_after, book_step}, WorkedSlots.at}
-use Rattle.pawn_book.specs.WorkedSlots.{one_book}
+use Rattle.pawn_book.specs.{declared.rows.BookRows.BookRows, BookStep.{BookValue, Outcome, Replied, Refuses, Says, Makes, book_after, book_step}}
+use Rattle.pawn_book.specs.WorkedSlots.{at, one_book}
 
 -- book 7, run by the key 5, before anything was put into it
 abbrev pub empty_book : Option BookValue
@@ -29,8 +29,8 @@ pub record WorkedImports : Type 0 where
   pub fills : book_filled ≡ Some (record
       { key = 5; name = codes "High Street"; capacity = 1; terms = free ∷ []; pledges = ring 10000 ∷ []; imported = Some (record { key = 6; pledges = 1 }) })
   -- again under its key it is answered as the first time, whatever rows come
-  pub again : importing 6 ring_rows book_filled ≡ Says (Told (BookFilled 1))
-  pub again_without : importing 6 no_book_rows book_filled ≡ Says (Told (BookFilled 1))
+  pub again : importing 6 ring_rows book_filled ≡ Says (Replied (BookFilled 1))
+  pub again_without : importing 6 no_book_rows book_filled ≡ Says (Replied (BookFilled 1))
   -- under another key, and into a book with terms, it is refused
   pub another : importing 8 ring_rows book_filled ≡ Refuses BookNotEmpty
   pub with_terms : importing 6 ring_rows one_book ≡ Refuses BookNotEmpty

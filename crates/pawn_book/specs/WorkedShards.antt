@@ -2,7 +2,7 @@
 use Rattle.std.specs.{Prelude.{◌≡◌, ℕ, true, false, List, [], ◌∷◌, ◌==◌, if◌then◌else◌, None, codes}, FinMap.{empty, insert}}
 use Rattle.pawn_book.specs.{Common.{Command, Done, Fixed, Stamp, free, ring_opening}, declared.refusal.Refusal.TheVariants.Full}
 use Rattle.pawn_book.specs.declared.{reply.Reply.TheVariants.{Opened, Commanded}, request.BrokerRequest.{BrokerRequest, TheVariants.{TakePledge, OnPledge}}}
-use Rattle.pawn_book.specs.{declared.request.{Caller.TheVariants.Broker, Request.Request}, BookStep.{BookValue, Told, Denied}, HostStep.Host, Runs.Said}
+use Rattle.pawn_book.specs.{declared.request.{Caller.TheVariants.Broker, Request.Request}, BookStep.{BookValue, Replied, Denied}, HostStep.Host, Runs.Said}
 use Rattle.pawn_book.specs.{Runs.{Answered, run_replies}, Shards.{handed, taken}, WorkedSlots.{at, receipt}}
 
 -- a book that is run by a key, with terms without charges
@@ -48,7 +48,7 @@ abbrev pub told_of_run : Host → List (Stamp × Request) → List (Said ⊥)
 told_of_run h run = run_replies h 9 (taken run)
 
 abbrev pub opened : ℕ → Said ⊥
-opened word = Answered (Told (Opened (receipt word)))
+opened word = Answered (Replied (Opened (receipt word)))
 
 pub record WorkedShards : Type 0 where
   -- each shard is handed the requests on its book
@@ -57,8 +57,8 @@ pub record WorkedShards : Type 0 where
   pub handed_third : handed shard 2 asked ≡ []
   -- one host answers all four, and each shard its own two, as that host does
   pub together : told_of_run one_host asked
-      ≡ opened 1 ∷ opened 2 ∷ Answered (Told (Commanded 1 (Done.Held true))) ∷ Answered (Told (Commanded 1 (Done.Held false))) ∷ []
-  pub first : told_of_run (first_shard 1000) (handed shard 0 asked) ≡ opened 1 ∷ Answered (Told (Commanded 1 (Done.Held true))) ∷ []
-  pub second : told_of_run second_shard (handed shard 1 asked) ≡ opened 2 ∷ Answered (Told (Commanded 1 (Done.Held false))) ∷ []
+      ≡ opened 1 ∷ opened 2 ∷ Answered (Replied (Commanded 1 (Done.Held true))) ∷ Answered (Replied (Commanded 1 (Done.Held false))) ∷ []
+  pub first : told_of_run (first_shard 1000) (handed shard 0 asked) ≡ opened 1 ∷ Answered (Replied (Commanded 1 (Done.Held true))) ∷ []
+  pub second : told_of_run second_shard (handed shard 1 asked) ≡ opened 2 ∷ Answered (Replied (Commanded 1 (Done.Held false))) ∷ []
   -- the rows of a shard are its own limit: where it has no row left it refuses, and that is not settled
   pub full : told_of_run (first_shard 3) (handed shard 0 (of_seven 1 a_ring ∷ [])) ≡ Answered (Denied Full) ∷ []

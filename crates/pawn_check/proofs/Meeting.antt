@@ -55,16 +55,16 @@ other_key a b less = from (nat_cmp b a) refl where
   from Greater e = refl
 
 -- what a key finds behind others is past them
-past : (m n : ℕ) (es : Books) (k : BookValue) → T (below_all nat_cmp m es) → find nat_cmp n es ≡ Some k → m < n
-past m n [] k up is = absurd_none is
-past m n (e ∷ es) k up is =
+is_behind : (m n : ℕ) (es : Books) (k : BookValue) → T (below_all nat_cmp m es) → find nat_cmp n es ≡ Some k → m < n
+is_behind m n [] k up is = absurd_none is
+is_behind m n (e ∷ es) k up is =
     elim (is_eq (nat_cmp n e.0)) as (λ v. is_eq (nat_cmp n e.0) ≡ v → cond v (Some e.1) (find nat_cmp n es) ≡ Some k → m < n) [
       | true ↦ λ same here. let key = same_key n e.0 same in let less = below m e.0 (both_told _ _ up).0 in omega (arith, key, less)
-      | false ↦ λ other there. past m n es k (both_told _ _ up).1 there
+      | false ↦ λ other there. is_behind m n es k (both_told _ _ up).1 there
     ] refl is
 
 behind : (b : ℕ) (e : ℕ × BookValue) (es : Books) (x : BookValue) → T (below_all nat_cmp e.0 es) → find nat_cmp b es ≡ Some x → find nat_cmp b (e ∷ es) ≡ Some x
-behind b e es x up is = ap (λ v. cond v (Some e.1) (find nat_cmp b es)) (other_key e.0 b (past e.0 b es x up is)) ∙ is
+behind b e es x up is = ap (λ v. cond v (Some e.1) (find nat_cmp b es)) (other_key e.0 b (is_behind e.0 b es x up is)) ∙ is
 
 at_front : (e : ℕ × BookValue) (es : Books) → find nat_cmp e.0 (e ∷ es) ≡ Some e.1
 at_front e es = ap (λ v. cond v (Some e.1) (find nat_cmp e.0 es)) (own_key e.0)
@@ -106,7 +106,7 @@ next_met f a n k (e ∷ es) up is low least = go (is_eq (nat_cmp n e.0)) refl is
       let worth : f e.1 ≡ f k = ap f value in
       omega (arith, new, old, rest_new, rest_old, worth)
   go false other there more =
-      let before : e.0 < n = past e.0 n es k (both_told _ _ up).0 there in
+      let before : e.0 < n = is_behind e.0 n es k (both_told _ _ up).0 there in
       let within : e.0 ≤ a = not_far (nat_le e.0 a) refl before in
       let same : is_met n e.0 ≡ is_met a e.0 = grind (arith, nat_tests, before, within) in
       let new = up_to-cons f n e es (is_met a e.0) same in

@@ -1,10 +1,10 @@
 -- Each answer of a run is that of a machine alone.
 use Rattle.std.proofs.Common.{◌≡◌, ℕ, zero, suc, List, [], ◌∷◌, take, true, Some, Ok, refl, ◌∙◌, ap, sym, subst, All, Result, slice_get}
 use Rattle.{std.proofs.lemmas.List.Elements.{All-head, All-tail}, pawn_host.specs.Common.{Denied, Exported, Host, Listed, Mark, Out, Refusal, Request}}
-use Rattle.pawn_host.specs.Common.{SaysRequest, Shown, Stamp, Told, WireFault, book_trace, get, host_after_event, host_step, is_settled, mark_reply, no_memory}
-use Rattle.pawn_host.specs.{Common.{no_store, out_of, read_as, reply_alone, slot_trace, solo_reply}, Headline.{AnswerAlone, IsRunOfSlots, IsSettled, by_bearer}}
-use Rattle.pawn_host.specs.{Headline.reply_bytes, Laws.{EqualBookTracesReplyAlike, EqualTracesReplyAlike, RunsAnswerAlone}, Run.{IsMarkOf, IsMarked, Item}}
-use Rattle.pawn_host.{specs.{Run.{event_of, events, host_after_run, replies, said_text}, Keeps.{IsRun, Kept, Start}}, proofs.RunMore.marked_all}
+use Rattle.pawn_host.specs.Common.{SaysRequest, Shown, Stamp, Replied, WireFault, book_trace, get, host_after_event, host_step, is_settled, mark_reply}
+use Rattle.pawn_host.specs.{Common.{no_memory, no_store, out_of, read_as, reply_alone, slot_trace, solo_reply}, Headline.{AnswerAlone, IsRunOfSlots, IsSettled}}
+use Rattle.pawn_host.specs.{Headline.{by_bearer, reply_bytes}, Laws.{EqualBookTracesReplyAlike, EqualTracesReplyAlike, RunsAnswerAlone}, Run.IsMarkOf}
+use Rattle.pawn_host.{specs.{Run.{IsMarked, Item, event_of, events, host_after_run, replies, said_text}, Keeps.{IsRun, Kept, Start}}, proofs.RunMore.marked_all}
 use Rattle.{pawn_wire.proofs.RequestLemmas.reads_unique, pawn_book.proofs.{Sounds.{absurd_none, some_is}, SlotRuns.{books_answer_alone, slots_answer_alone}}}
 
 -- the answer at a place is what its item was told
@@ -30,7 +30,7 @@ settled_refusal Refusal.Store settled = absurd (settled.2 refl)
 settled_refusal why settled = refl
 
 settled_out : (out : Out) → IsSettled (reply_bytes out) → is_settled out ≡ true
-settled_out (Told reply) settled = refl
+settled_out (Replied reply) settled = refl
 settled_out (Denied why) settled = settled_refusal why settled
 settled_out (Shown day pledges) settled = refl
 settled_out (Listed day capacity items) settled = refl

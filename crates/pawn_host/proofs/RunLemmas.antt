@@ -4,7 +4,7 @@ use Rattle.std.proofs.{Common.{Ok, Err, codes, if◌then◌else◌, unwrap_or, o
 use Rattle.pawn_book.specs.{Plans.{Acts, Commits, Gates, IsLeftByAct, IsLeftByStep, IsRefused, IsUnwell, next_host}, declared.request.Caller.Caller}
 use Rattle.{pawn_book.specs.{declared.{reply.Reply.Reply, change.Change.Change}, Changes.with_change}, pawn_host.specs.Common.{Answered, Bearer, BearerRequest}}
 use Rattle.pawn_host.specs.Common.{BookValue, Broker, BrokerRequest, Denied, Host, IsSound, Out, Outcome, Present, Receipt, Refusal, Refuses, Request, Says}
-use Rattle.pawn_host.specs.Common.{SaysRequest, Show, Shown, Stamp, Told, WireFault, are_unknown, broker_step, fault_text, gate_step, get, host_after}
+use Rattle.pawn_host.specs.Common.{SaysRequest, Show, Shown, Stamp, Replied, WireFault, are_unknown, broker_step, fault_text, gate_step, get, host_after}
 use Rattle.pawn_host.specs.Common.{host_step, memory_text, no_memory, no_store, out_of, out_text, pledge_in, read_as, reply_text, rows, show_pledge}
 use Rattle.pawn_host.specs.{Common.within_limit, declared.service.Answer.Answer, Keeps.{GoesTo, IsActed, IsKeyOf, Kept, Start, Tells, answer_bytes}}
 use Rattle.pawn_host.{specs.{Crashes.IsDone, Run.said_text, declared.service.Answer.TheVariants.{Bytes, Memory}}, proofs.CrashLemmas.goes_wider}
@@ -134,7 +134,7 @@ pub acted_done : (start : Start) (stamp : Stamp) (bytes text : List ℕ) (kept :
     → SaysRequest bytes (Ok request) → text ≡ out_text (wire.Done reply) → Acts start.host start.operator stamp request (Ok reply) kept.stands → ((left : Host)
     → kept.leaves left → IsLeftByAct start.host start.operator stamp request start.leaves (Ok reply) left) → IsActed start stamp bytes text kept
 acted_done start stamp bytes text kept request reply read is acts crash =
-    acted_said start stamp bytes text kept request (Told reply) read acts.0 is (record { stands_for = acts.1; sound = acts.2; crash = crash })
+    acted_said start stamp bytes text kept request (Replied reply) read acts.0 is (record { stands_for = acts.1; sound = acts.2; crash = crash })
 
 -- a change was not made: where there was no room for it a crash does not leave it either
 pub goes_unmade : (start : Start) (stamp : Stamp) (request : Request) (kept : Kept) (change : Option Change) (why : Refusal) → IsSound start.host

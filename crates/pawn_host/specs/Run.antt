@@ -1,6 +1,6 @@
 -- A run of the service: requests as bytes, each with how it was answered.
 use Rattle.std.specs.Prelude.{◌≢◌, ℕ, List, map, codes, Err}
-use Rattle.pawn_host.specs.Common.{Answered, Denied, Event, Exported, Faulted, Host, Listed, Mark, Said, SaysRequest, Shown, Stamp, Told, WireFault, csv_of}
+use Rattle.pawn_host.specs.Common.{Answered, Denied, Event, Exported, Faulted, Host, Listed, Mark, Said, SaysRequest, Shown, Stamp, Replied, WireFault, csv_of}
 use Rattle.{pawn_host.specs.Common.{fault_text, no_memory, no_store, out_text, read_as, reply_text, run_host, run_replies}, pawn_view.specs.Text.presented_text}
 use Rattle.{pawn_view.specs.Sheets.sheet_text, pawn_wire.specs.declared.fault.WireFault.TheVariants.Memory}
 use Rattle.pawn_wire.specs.declared.reply.Out.TheVariants as wire
@@ -34,7 +34,7 @@ events items = map event_of items
 
 -- the bytes of a reply
 abbrev pub said_text : Said WireFault → List ℕ
-said_text (Answered (Told reply)) = out_text (wire.Done reply)
+said_text (Answered (Replied reply)) = out_text (wire.Done reply)
 said_text (Answered (Denied why)) = out_text (wire.Refused why)
 said_text (Answered (Shown day pledges)) = reply_text 200 (codes "text/plain; charset=utf-8") (presented_text day pledges)
 said_text (Answered (Listed day capacity items)) = reply_text 200 (codes "text/plain; charset=utf-8") (sheet_text day capacity items)

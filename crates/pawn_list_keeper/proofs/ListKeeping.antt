@@ -6,7 +6,7 @@ use Rattle.pawn_list_keeper.proofs.ListReads.{get-book_at}
 -- a read tells what is so of the list's host
 pub list_reads : (k : Books) (P : Host → Type 0) → P (host_of k) → Reads list_keeping k k P
 list_reads k P told = record {
-  on = record { past = λ honest. honest; served = λ honest now. now; stays = λ steady. steady; whole = λ honest whole. whole };
+  on = record { was_honest = λ honest. honest; served = λ honest now. now; stays = λ steady. steady; whole = λ honest whole. whole };
   same = λ honest h is. is;
   back = λ honest now h is. is;
   tells = λ honest h is. subst P (sym is) told;

@@ -2,7 +2,7 @@
 use Rattle.{std.proofs.Common.{ℕ, Bool, true, Option, Some, Result, Ok, Err, IsTrue, refl, sym, subst}, pawn_opening.specs.Common.{HasCleanDisk, State, Host}}
 use Rattle.{pawn_opening.specs.Common.IsLent, pawn_tables.specs.{Common.{IsNextBook, HasUnsoundBook, IsUnsoundAt, KeepError, Rests}, Finding.{Finds, FindsOf}}}
 use Rattle.{pawn_tables.specs.StandsFor.ListDebts, pawn_saving.specs.Writing.IsCarried, pawn_move.proofs.Basics.{clean_before, rests_then, carried_none}}
-use Rattle.pawn_move.{proofs.{Basics.{carried_then, past}, Reading.{handed, tell_then}}, specs.Moving.{AreOwedIn, IsNextJudged, ListFirstDebts}}
+use Rattle.pawn_move.{proofs.{Basics.{carried_then, was_clean}, Reading.{handed, tell_then}}, specs.Moving.{AreOwedIn, IsNextJudged, ListFirstDebts}}
 
 -- ---- a walk that leaves the tables as they are
 
@@ -50,7 +50,7 @@ module _ (P : Host → Type 0) (old mid new : State) (walked : HasWalked P old m
 pub next_judged : (s0 s1 s2 : State) (above b : ℕ) → IsLent s0 s1 true → IsCarried s1 s2 true → FindsOf ListDebts HasUnsoundBook s0 s1 (Ok (Some b))
     (λ h next. IsNextBook h above next) → FindsOf {A = Unit {0}} ListFirstDebts (IsUnsoundAt b) s1 s2 (Ok tt) (λ h done. AreOwedIn h b)
     → FindsOf ListFirstDebts HasUnsoundBook s0 s2 (Ok (Some b)) (λ h next. IsNextJudged h above next)
-next_judged s0 s1 s2 above b lent carried found judged clean within h tell = let was = past s1 s2 true carried clean in
+next_judged s0 s1 s2 above b lent carried found judged clean within h tell = let was = was_clean s1 s2 true carried clean in
     let one = found was within h (λ now. (tell now).debts) in
     let two = judged clean one.1.inside h (λ _. tell_then ListFirstDebts HasUnsoundBook s0 s1 h lent was within tell one.1) in
     ((one.0, two.0), rests_then s0 s1 s2 one.1 two.1)
@@ -58,7 +58,7 @@ next_judged s0 s1 s2 above b lent carried found judged clean within h tell = let
 pub next_not_judged : (s0 s1 s2 : State) (above b : ℕ) (ok : Bool) (e : KeepError) → IsLent s0 s1 true → IsCarried s1 s2 ok
     → FindsOf ListDebts HasUnsoundBook s0 s1 (Ok (Some b)) (λ h next. IsNextBook h above next) → FindsOf {A = Unit {0}} ListFirstDebts (IsUnsoundAt b) s1 s2
     (Err e) (λ h done. AreOwedIn h b) → FindsOf {A = Option ℕ} ListFirstDebts HasUnsoundBook s0 s2 (Err e) (λ h next. IsNextJudged h above next)
-next_not_judged s0 s1 s2 above b ok e lent carried found judged clean within h tell = let was = past s1 s2 ok carried clean in
+next_not_judged s0 s1 s2 above b ok e lent carried found judged clean within h tell = let was = was_clean s1 s2 ok carried clean in
     let one = found was within h (λ now. (tell now).debts) in
     handed e (λ done. AreOwedIn h b × Rests s1 s2) (λ next. IsNextJudged h above next × Rests s0 s2) (IsUnsoundAt b h) (HasUnsoundBook h) (λ it. (b, it))
     (judged clean one.1.inside h (λ _. tell_then ListFirstDebts HasUnsoundBook s0 s1 h lent was within tell one.1))

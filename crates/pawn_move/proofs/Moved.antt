@@ -1,6 +1,6 @@
 -- Tables of an older schema, moved to the program's.
 use Rattle.std.proofs.Common.{◌≡◌, ◌++◌, ℕ, List, [], Some, None, Result, Ok, Err, OnOk, Bool, true, false, IsTrue, refl, sym, ap, subst, ◌∙◌, arith}
-use Rattle.{std.proofs.Common.{append-nil, T, flat_map, ◌∷◌, ◌≢◌}, pawn_move.{proofs.Basics.{both_told, clean_before, past}, specs.Moving.AreAllOwed}}
+use Rattle.{std.proofs.Common.{append-nil, T, flat_map, ◌∷◌, ◌≢◌}, pawn_move.{proofs.Basics.{both_told, clean_before, was_clean}, specs.Moving.AreAllOwed}}
 use Rattle.pawn_move.specs.{Moving.{IsMoving, ListFirstDebts, Moves, MovesOwed, NotesProgram, PutsAll, listed_with}, StandsUnder.{HasNoExtension, StandsUnder}}
 use Rattle.{pawn_move.proofs.{Filled.{firsts, untold}, Reading.handed, BooksUpTo.{Entry, below_key, here_found, past_head}}, pawn_tables.specs.Common.entries}
 use Rattle.pawn_tables.specs.Common.{entries_sorted, find_key, get, get-entries, is_sorted, nat_cmp, Tables, PledgeValue, Each, BookValue, HasUnsoundBook}
@@ -82,13 +82,13 @@ module _ (s0 s1 s2 : State) (l1 : IsLent s0 s1 true) (l2 : IsLent s1 s2 true) (m
       )
 
   pub first_not_put : (s3 : State) (e : KeepError) → IsCarried s2 s3 false → PutsAll s2 s3 (Err e) → Moves 1 s0 s3 (Err e)
-  first_not_put s3 e carried puts clean within h none st = let mid = made_first (past s2 s3 false carried clean) within h st in
+  first_not_put s3 e carried puts clean within h none st = let mid = made_first (was_clean s2 s3 false carried clean) within h st in
       handed e _ _ _ _ (λ it. it) (puts clean mid.1 1 [] h none mid.0)
 
   pub first_moved : (s3 s4 : State) (r : Result (Unit {0}) KeepError) (ok : Bool) → IsCarried s2 s3 true → IsLent s3 s4 ok → PutsAll s2 s3 (Ok tt)
       → r ≢ Err (Keeper.Store NoRecord) → NotesProgram s3 s4 r → Moves 1 s0 s4 r
   first_moved s3 s4 r ok carried l4 puts not notes clean within h none st = let clean3 = clean_before s3 s4 ok l4 clean in
-      let mid = made_first (past s2 s3 true carried clean3) within h st in let put = puts clean3 mid.1 1 [] h none mid.0 in
+      let mid = made_first (was_clean s2 s3 true carried clean3) within h st in let put = puts clean3 mid.1 1 [] h none mid.0 in
       noted s3 s4 1 r h not clean (carried.inside clean3 mid.1 refl) notes (subst (λ rows. IsMoving 1 rows s3.now h) (append-nil _) put.1)
 
   pub first_owed : (s3 s4 : State) (r : Result (Unit {0}) KeepError) (ok : Bool) → IsCarried s2 s3 true → IsLent s3 s4 ok → PutsAll s2 s3 (Ok tt)
@@ -96,7 +96,7 @@ module _ (s0 s1 s2 : State) (l1 : IsLent s0 s1 true) (l2 : IsLent s1 s2 true) (m
   first_owed s3 s4 r ok carried l4 puts clean within h none st = go r where
     go : (x : Result (Unit {0}) KeepError) → OnOk x (AreAllOwed h)
     go (Ok done) = let clean3 = clean_before s3 s4 ok l4 clean in
-        let mid = made_first (past s2 s3 true carried clean3) within h st in
+        let mid = made_first (was_clean s2 s3 true carried clean3) within h st in
         (puts clean3 mid.1 1 [] h none mid.0).0
     go (Err e) = tt
 
@@ -119,7 +119,7 @@ module _ (s0 s1 : State) (l1 : IsLent s0 s1 true) (made : AddsTable {E = KeepErr
   judged_second : {A : Type 0} (s2 : State) (ok : Bool) (r : Result A KeepError) (P : Host → A → Type 0) → IsCarried s1 s2 ok
       → FindsOf ListFirstDebts HasUnsoundBook s1 s2 r P → HasCleanDisk s2 → IsTrue s0.in_transaction
       → (h : Host) → StandsUnder 2 s0.now h → IsMoving 2 (of_pledges h totals_listed) s1.now h × Finds r (λ x. P h x × Rests s1 s2) (HasUnsoundBook h)
-  judged_second s2 ok r P carried judged clean within h st = let mid = made_second (past s1 s2 ok carried clean) within h st in
+  judged_second s2 ok r P carried judged clean within h st = let mid = made_second (was_clean s1 s2 ok carried clean) within h st in
       (mid.0, judged clean mid.1 h (λ now. firsts 2 (of_pledges h totals_listed) s1.now h mid.0))
 
   pub second_not_judged : (s2 : State) (e : KeepError) (P : Host → Unit {0} → Type 0) → IsCarried s1 s2 false

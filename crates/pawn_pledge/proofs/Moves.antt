@@ -5,8 +5,8 @@ use Rattle.{pawn_base.proofs.{RefusalLemmas.first_of-ok, TestLemmas.{not_below, 
 use Rattle.pawn_pledge.specs.Common.{DebtFault, DebtValue, Draw, Entry, NoneApplies, Repay, Sort, draw_answer, first_of, last_of, last_stamp_day, most_entries}
 use Rattle.pawn_pledge.specs.{Common.{most_pence, repay_answer, sort_answer, with_entry}, Step.{Answered, Changed, Judged, ask_bars, ask_once, ask_step, bars}}
 use Rattle.pawn_pledge.specs.Step.{cancel_in, cancel_step, confirm_in, decide_step, declare_bars, declare_step, decline_in, entry_step, extend_bars}
-use Rattle.pawn_pledge.specs.Step.{extend_step, hold_step, makes_booking, numbered_step, past, period_bars, pledge_step, redeem_bars, redeem_step, sell_bars}
-use Rattle.pawn_pledge.specs.{Step.{sell_step, under_debt, unless}, declared.record.{Booking.Booking, BookingState.BookingState, Closing.Closing}}
+use Rattle.pawn_pledge.specs.Step.{extend_step, hold_step, makes_booking, numbered_step, where_clear, period_bars, pledge_step, redeem_bars, redeem_step}
+use Rattle.pawn_pledge.specs.{Step.{sell_bars, sell_step, under_debt, unless}, declared.record.{Booking.Booking, BookingState.BookingState, Closing.Closing}}
 use Rattle.pawn_pledge.specs.{declared.command.{Command.Command, Done.Done, Paper.Paper}, Commands.IsCommand, Replayable.{IsDrawnBy, IsNotPassed}}
 use Rattle.pawn_pledge.specs.{Pledge.{PledgeValue, debt_of, end_of, is_realisable, open_status, total_on}, declared.refusal.Refusal.Refusal}
 use Rattle.pawn_pledge.specs.{declared.command.Stamp.Stamp, declared.record.Standing.Standing, Words.{in_state, is_ahead, is_open, is_repeat, is_standing}}
@@ -16,14 +16,15 @@ use Rattle.pawn_pledge.{specs.declared.command.Decision.TheVariants.Refuse, proo
 use Rattle.pawn_pledge.proofs.Settled.{close-settles}
 
 -- a step that changes was not refused on the way
-past-changed : (g : Result (Unit {0}) Refusal) (own : Judged) (q : PledgeValue) (d : Done) → past g own ≡ Changed q d → (g ≡ Ok tt) × (own ≡ Changed q d)
-past-changed (Ok u) own q d h = (refl, h)
-past-changed (Err e) own q d h = cc
+where_clear-changed : (g : Result (Unit {0}) Refusal) (own : Judged) (q : PledgeValue) (d : Done) → where_clear g own ≡ Changed q d
+    → (g ≡ Ok tt) × (own ≡ Changed q d)
+where_clear-changed (Ok u) own q d h = (refl, h)
+where_clear-changed (Err e) own q d h = cc
 
 pub unless-changed : (rows : List (Bool × Refusal)) (own : Judged) (q : PledgeValue) (d : Done) → unless rows own ≡ Changed q d
     → NoneApplies rows × (own ≡ Changed q d)
 unless-changed rows own q d h =
-    let a = past-changed (first_of rows (Ok tt)) own q d h in
+    let a = where_clear-changed (first_of rows (Ok tt)) own q d h in
     ((first_of-ok rows (Ok tt) tt a.0).0, a.1)
 
 -- nor answered

@@ -2,7 +2,7 @@
 use Rattle.std.proofs.Common.{◌≡◌, ◌≢◌, ℕ, ◌+◌, ◌≤◌, List, [], ◌∷◌, ◌++◌, length, Some, None, Ok, Err, refl, ◌∙◌, ap, sym, arith, ◌==◌, nat_lt, not, true}
 use Rattle.{std.proofs.{Common.{false, Bool, Option, Result, if◌then◌else◌, ◌&&◌, find}, lemmas.Bool.Decides.nat_tests}, pawn_pledge.specs.Common.DebtFault}
 use Rattle.pawn_pledge.specs.{Common.{DebtValue, Draw, Entry, NoneApplies, Repay, Sort, draw_answer, repay_answer, sort_answer}, Step.{Answered, Changed}}
-use Rattle.pawn_pledge.specs.Step.{Judged, bars, entry_of, entry_step, extend_bars, numbered_step, past, period_bars, pledge_step, under_debt, unless}
+use Rattle.pawn_pledge.specs.Step.{Judged, bars, entry_of, entry_step, extend_bars, numbered_step, where_clear, period_bars, pledge_step, under_debt, unless}
 use Rattle.pawn_pledge.specs.{Replayable.AreNumbered, declared.command.{Command.Command, Done.Done}, Laws.{EntriesActOnce, ExtensionsActOnce}}
 use Rattle.pawn_pledge.specs.{Laws.{StandingEndIsAnswered, entry_command, pledge_after_all}, Growth.Grows, Pledge.{PledgeValue, debt_of, end_of}}
 use Rattle.pawn_pledge.specs.{declared.{refusal.Refusal.Refusal, command.Stamp.Stamp}, Words.{is_ahead, is_repeat, new_entry, same_sort, with_extension}}
@@ -11,7 +11,7 @@ use Rattle.{pawn_base.proofs.RefusalLemmas.first_of-past, pawn_debt.proofs.Repla
 
 -- what is not refused comes to what follows
 pub unless-past : (rows : List (Bool × Refusal)) (own : Judged) → NoneApplies rows → unless rows own ≡ own
-unless-past rows own h = ap (λ r. past r own) (first_of-past rows (Ok tt) h)
+unless-past rows own h = ap (λ r. where_clear r own) (first_of-past rows (Ok tt) h)
 
 -- an entry that is made is the next one
 abbrev IsMade : PledgeValue → ℕ → Sort → ℕ → PledgeValue → Done → Type 0

@@ -31,13 +31,13 @@ pub data Judged : Type 0 where
   Changed : (pledge : PledgeValue) (done : Done) → Judged
 
 -- where nothing is refused, what follows
-abbrev pub past : Result (Unit {0}) Refusal → Judged → Judged
-past (Ok clear) judged = judged
-past (Err why) judged = Refused why
+abbrev pub where_clear : Result (Unit {0}) Refusal → Judged → Judged
+where_clear (Ok clear) judged = judged
+where_clear (Err why) judged = Refused why
 
 -- refused for the first condition that holds, or else what follows
 abbrev pub unless : List (Bool × Refusal) → Judged → Judged
-unless rows judged = past (first_of rows (Ok tt)) judged
+unless rows judged = where_clear (first_of rows (Ok tt)) judged
 
 -- what bars every command on the day x
 abbrev pub bars : PledgeValue → ℕ → List (Bool × Refusal)

@@ -13,13 +13,13 @@ carried_none s = record {
   survives = record { clean = omega arith; shield = λ h. h; counts = omega arith; limit = refl; closes = λ clean now. inl now; crash = λ clean db x. inl x };
 }
 
-pub past : (a b : State) (ok : Bool) → IsCarried a b ok → HasCleanDisk b → HasCleanDisk a
-past a b ok l clean = let up = l.survives.clean in omega (arith, clean, up)
+pub was_clean : (a b : State) (ok : Bool) → IsCarried a b ok → HasCleanDisk b → HasCleanDisk a
+was_clean a b ok l clean = let up = l.survives.clean in omega (arith, clean, up)
 
 pub both_carried : (a b c : State) (ok : Bool) → IsCarried a b true → IsCarried b c ok → IsCarried a c ok
 both_carried a b c ok f s = record {
-  kept = λ clean within. let was = past b c ok s clean in kept_then a b c (f.kept was within) (s.kept clean (f.inside was within refl));
-  inside = λ clean within is_ok. let was = past b c ok s clean in s.inside clean (f.inside was within refl) is_ok;
+  kept = λ clean within. let was = was_clean b c ok s clean in kept_then a b c (f.kept was within) (s.kept clean (f.inside was within refl));
+  inside = λ clean within is_ok. let was = was_clean b c ok s clean in s.inside clean (f.inside was within refl) is_ok;
   survives = survives_then a b c _ _ (λ _. ⊥) (λ _ db none. none) (λ _ db none. none) f.survives s.survives;
 }
 
@@ -32,13 +32,13 @@ carried_then a b c ok f s = both_carried a b c ok f (is_carried b c ok s)
 
 pub lent_carried : (a b c : State) (ok : Bool) → IsLent a b true → IsCarried b c ok → IsLent a c ok
 lent_carried a b c ok f s = let both = both_carried a b c ok (is_carried a b true f) s in
-    record { kept = both.kept; opened = λ clean within is_ok. f.opened (past b c ok s clean) within refl; inside = both.inside; survives = both.survives }
+    record { kept = both.kept; opened = λ clean within is_ok. f.opened (was_clean b c ok s clean) within refl; inside = both.inside; survives = both.survives }
 
 -- the disk was clean, and the transaction went on, where the second and the third of three parts began
 pub of_three : {old one two new : State} {ok : Bool} → IsCarried old one true → IsCarried one two true → IsCarried two new ok → HasCleanDisk new
     → IsTrue old.in_transaction → HasCleanDisk one × IsTrue one.in_transaction × HasCleanDisk two × IsTrue two.in_transaction
-of_three {old = old} {one = one} {two = two} {new = new} {ok = ok} f s t clean within = let clean2 = past two new ok t clean in
-    let clean1 = past one two true s clean2 in let within1 = f.inside clean1 within refl in
+of_three {old = old} {one = one} {two = two} {new = new} {ok = ok} f s t clean within = let clean2 = was_clean two new ok t clean in
+    let clean1 = was_clean one two true s clean2 in let within1 = f.inside clean1 within refl in
     (clean1, within1, clean2, s.inside clean2 within1 refl)
 
 -- what was lent and went well, whatever comes of it then

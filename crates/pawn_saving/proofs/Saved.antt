@@ -77,7 +77,8 @@ module _ {K : Type 0} (state : K → State) (old new : K) (begun lent : State) (
     written clean h sound k = wrote (clean_past after clean) was.within h sound (may (clean_first clean) h sound k)
 
     on_past : (HasCleanDisk (state new) → IsWhole (state old) → IsWhole (state new)) → GoesOn (keeping_by state) old new
-    on_past whole = record { past = λ clean. was.clean (clean_first clean); served = λ clean now. was_served clean; stays = λ steady. steady; whole = whole }
+    on_past whole =
+      record { was_honest = λ clean. was.clean (clean_first clean); served = λ clean now. was_served clean; stays = λ steady. steady; whole = whole }
 
     -- the changed host is sound
     changed_sound : HasCleanDisk (state new) → (h : Host) → IsSound h → Keeps (state old) h → IsSound (with_change h change)
@@ -180,7 +181,7 @@ module _ {K : Type 0} (state : K → State) (old new : K) (begun lent : State) (
     pub saves_undone : Saves {T = T} (keeping_by state) old new change (Err e)
     saves_undone = record {
       on = record {
-        past = λ clean. was.clean (clean_begun clean);
+        was_honest = λ clean. was.clean (clean_begun clean);
         served = back_opened false part (clean_past after) undone (λ clean. (undone clean).autocommit);
         stays = λ steady. steady;
         whole = λ clean w.

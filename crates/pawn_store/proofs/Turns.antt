@@ -12,8 +12,8 @@ module _ {K : Type 0} (k : Keeping K) {first a b : Service K} {new : K} {P : Hos
       (λ start. AreServed steps from mid start answered) → Serves k a b (λ start. AreServed steps mid to start further) → OfHost k (service_keep first) new
       (λ h. AreServed steps from to (start_of k first h) (answered + further) (record { stands = k.stands new; leaves = k.leaves new }))
   served_turn steps from mid to answered further so then honest h sound at =
-      let before = reads.on.past honest in
-      let past = so (more.on.past before) h sound at in
+      let before = reads.on.was_honest honest in
+      let past = so (more.on.was_honest before) h sound at in
       let next = then before _ past.goes.sound past.goes.stands_for in
       served_on steps from to (start_of k first h) (answered + further) (kept_by k b) (record { stands = k.stands new; leaves = k.leaves new })
       (λ g. reads.same honest g) (λ left. reads.crash honest left) (served_then steps from mid to (start_of k first h) _ answered further (kept_by k a)

@@ -11,7 +11,7 @@ pub errs_after : {K A : Type 0} {IsUnsound : Host → Type 0} (k : Keeping K) (a
     → Reads k b c Q → Errs k b c IsUnsound r → Errs k a c IsUnsound r
 errs_after k a b c r before then errs = record {
   never = λ steady. errs.never (before.on.stays steady);
-  no_record = λ is honest h at. errs.no_record is honest h (before.same (then.on.past honest) h at);
+  no_record = λ is honest h at. errs.no_record is honest h (before.same (then.on.was_honest honest) h at);
 }
 
 -- an error that is handed on

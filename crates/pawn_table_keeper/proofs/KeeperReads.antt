@@ -73,7 +73,7 @@ module _ {K : Type 0} (state_of : K → State) (old new : K) {A : Type 0} {IsUns
 
   pub read_by : Reads (keeping_by state_of) old new (λ h. IfOk r (P h))
   read_by = record {
-    on = record { past = clean_old; served = opened; stays = λ steady. steady; whole = whole };
+    on = record { was_honest = clean_old; served = opened; stays = λ steady. steady; whole = whole };
     same = kept;
     back = λ clean now h k. record {
       autocommit = was.ended;

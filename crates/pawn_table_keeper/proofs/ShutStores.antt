@@ -57,7 +57,7 @@ module _ {K : Type 0} (state : K → State) (old new : K) (rested : (state old).
   pub asked : Reads (keeping_by state) old new (λ h. Unit {0})
   asked = record {
     on = record {
-      past = was_clean;
+      was_honest = was_clean;
       served = λ clean serves. (as_it_was clean serves).0;
       stays = λ steady. steady;
       whole =

@@ -7,7 +7,7 @@ use Rattle.pawn_tables.specs.{Common.{State, Table, IsAscending, Text, BookValue
 use Rattle.pawn_tables.specs.{At.{is_below, is_from}, Heads.number_cells, Meta.{meta_row, meta_rows}, Ours.with_indexes, Rows.{at_most_one, book_row}}
 use Rattle.pawn_tables.specs.{Rows.{head_cells, number}, Schema.{books, books_tree, meta, meta_tree}, StandsFor.{ListDebts, StandsFor}}
 use Rattle.pawn_tables.proofs.{RowsUnderKey.{both_pass, lower_key, same_key, truth_of, equals, less, of_one_book, rows_at}, Basics.{nat_tests, filter_agree}}
-use Rattle.pawn_tables.proofs.{Basics.{ascending-filter, filter-map, map-map, value_cmp-Int, value_cmp-Text}, PledgeReads.{few, one_mapped, short}}
+use Rattle.pawn_tables.proofs.{Basics.{ascending-filter, filter-map, map-map, value_cmp-Int, value_cmp-Text}, PledgeReads.{few_of, one_mapped, one_listed}}
 use Rattle.one_table.proofs.Found.{shown_first, shown_listed}
 use Rattle.pawn_tables.proofs.ReadTexts as text
 
@@ -58,7 +58,7 @@ pub head_shown : (old new : State) (h : Host) (b : ℕ) (rows : List Row) → St
     → rows ≡ at_most_one head_cells (get h.books b)
 head_shown old new h b rows st shown = let t : Table = record books { tree = books_tree } in
     let cells : Row → Row = λ v. column v 1 ∷ column v 2 ∷ column v 3 ∷ column v 4 ∷ column v 5 ∷ column v 6 ∷ column v 7 ∷ [] in
-    short rows _ (few head_cells (get h.books b)) (subst (λ xs. IsPermutation xs rows) (one_book h b)
+    one_listed rows _ (few_of head_cells (get h.books b)) (subst (λ xs. IsPermutation xs rows) (one_book h b)
     (shown_listed (with_indexes st.schema.more) books_tree (λ _. refl) t text.of_book text.head_shows (number b ∷ []) (at_book b) cells (λ _. refl)
     (λ _. refl) text.READ_HEAD.now _ [] ((text.texts st.schema.more).head_is) old new _ rows st.schema.is st.books shown))
 
@@ -75,7 +75,7 @@ pub rows_shown : (old new : State) (h : Host) (found : List Row) → StandsFor o
     → found ≡ number_cells (rows h) ∷ []
 rows_shown old new h found st shown = let t : Table = record meta { tree = meta_tree } in
     let cells : Row → Row = λ v. column v 1 ∷ [] in
-    short found _ (omega arith) (subst (λ xs. IsPermutation xs found) (ap (map cells) (counted_alone (rows h) h.limit))
+    one_listed found _ (omega arith) (subst (λ xs. IsPermutation xs found) (ap (map cells) (counted_alone (rows h) h.limit))
     (shown_listed (with_indexes st.schema.more) meta_tree (λ _. refl) t text.rows_tests text.one_shown [] is_rows cells (λ _. refl)
     (λ _. refl) text.READ_ROWS.now _ [] ((text.texts st.schema.more).rows_is) old new _ found st.schema.is st.meta shown))
 

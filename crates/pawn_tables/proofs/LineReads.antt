@@ -1,6 +1,6 @@
 -- What the queries for the parts of a day's sheet show, where the tables stand for a host.
 use Rattle.std.proofs.Common.{◌≡◌, ◌==◌, ℕ, ◌+◌, List, [], ◌∷◌, map, filter, filter_map, take, length, nat_lt, Bool, true, false, cond, ◌&&◌, Option, Some}
-use Rattle.std.proofs.{Common.{None, refl, sym, ap, ◌∙◌, arith, option_map}, lemmas.List.Recursion.is_count_by, Math.Bool.and-true}
+use Rattle.std.proofs.{Common.{None, refl, sym, ap, ◌∙◌, arith, option_map}, lemmas.List.Recursion.is_count_by, Math.Bool.{and-true, and_assoc}}
 use Rattle.pawn_tables.specs.Common.{get, cons_option, list_all, Row, column, Shown, State, PledgeValue, end_of, Booking, BookingState, Closing}
 use Rattle.pawn_tables.specs.Common.{confirmed_count, is_asked, is_confirmed, is_confirmed_for, Host, pledges_of, part_item, part_items, Part, SheetItem}
 use Rattle.pawn_tables.specs.{Common.Confirmed, At.{is_above, is_at}, Heads.number_cells, Lines.{asked_cells, asked_line, confirmed_line, ends_line, item_of}}
@@ -37,10 +37,6 @@ confirmed_state state_is.Asked = refl
 confirmed_state state_is.Confirmed = refl
 confirmed_state state_is.Refused = refl
 confirmed_state state_is.Cancelled = refl
-
-together : (a b c : Bool) → (a && (b && c)) ≡ ((a && b) && c)
-together true b c = refl
-together false b c = refl
 
 asked_state : (s : BookingState) → (state_number s == 0) ≡ is_asked s
 asked_state state_is.Asked = refl
@@ -150,7 +146,7 @@ at_slot b day window v = list_all (λ (x : Bool). x)
 
 slot_passes : (b day window m n : ℕ) (k : Booking) → at_slot b day window (under m n (booking_cells k)) ≡ ((m == b) && (true && is_confirmed_at day window k))
 slot_passes b day window m n k = (λ i. equals m b i && (equals k.day day i && (equals k.window window i && is_confirmed_in k i)))
-    ∙ ap (λ c. (m == b) && c) (together (k.day == day) (k.window == window) (is_confirmed k.state))
+    ∙ ap (λ c. (m == b) && c) (sym (and_assoc (k.day == day) (k.window == window) (is_confirmed k.state)))
 
 pub confirmed_shown : (b day window : ℕ) (old new : State) (h : Host) (rows : List Row) → StandsFor old.now h → Shown text.COUNT_CONFIRMED.now
     (number b ∷ number day ∷ number window ∷ []) old new rows → rows ≡ count_of (confirmed_count (pledges_of (get h.books b)) day window) ∷ []
@@ -197,7 +193,7 @@ confirmed_page_passes : (b above day window m n : ℕ) (k : Booking)
     → at_confirmed_page b above day window (under m n (booking_cells k)) ≡ ((m == b) && (nat_lt above n && is_confirmed_at day window k))
 confirmed_page_passes b above day window m n k =
     (λ i. equals m b i && (books.above n above i && (equals k.day day i && (equals k.window window i && is_confirmed_in k i))))
-    ∙ ap (λ c. (m == b) && (nat_lt above n && c)) (together (k.day == day) (k.window == window) (is_confirmed k.state))
+    ∙ ap (λ c. (m == b) && (nat_lt above n && c)) (sym (and_assoc (k.day == day) (k.window == window) (is_confirmed k.state)))
 
 pub confirmed_page_shown : (b above day window : ℕ) (old new : State) (h : Host) (rows : List Row) → StandsFor old.now h → Shown text.READ_CONFIRMED_PAGE.now
     (number b ∷ number above ∷ number day ∷ number window ∷ []) old new rows → rows ≡ map (line_cells (part_of.Confirmed window))

@@ -74,16 +74,16 @@ first_from n k (x ∷ xs) rise e more is = go (first_from n (x.seq + 1) xs rise.
 rest_from : (n k : ℕ) (es : List Entry) → RiseFrom k es → (e : Entry) (more : List Entry) → entries_from n es ≡ e ∷ more → entries_from (e.seq + 1) es ≡ more
 rest_from n k [] rise e more is = absurd (let x = is in cc)
 rest_from n k (x ∷ xs) rise e more is = go (rest_from n (x.seq + 1) xs rise.1 e more) (nat_le n x.seq) refl is where
-  past : x.seq ≤ e.seq → entries_from (e.seq + 1) (x ∷ xs) ≡ entries_from (e.seq + 1) xs
-  past le = let under' : nat_le (e.seq + 1) x.seq ≡ false = grind (arith, nat_tests, le) in cond-false _ _ _ under'
+  left_out : x.seq ≤ e.seq → entries_from (e.seq + 1) (x ∷ xs) ≡ entries_from (e.seq + 1) xs
+  left_out le = let under' : nat_le (e.seq + 1) x.seq ≡ false = grind (arith, nat_tests, le) in cond-false _ _ _ under'
 
   go : (entries_from n xs ≡ e ∷ more → entries_from (e.seq + 1) xs ≡ more) → (c : Bool) → nat_le n x.seq ≡ c
       → cond c (x ∷ entries_from n xs) (entries_from n xs) ≡ e ∷ more → entries_from (e.seq + 1) (x ∷ xs) ≡ more
-  go rest false over is = let low = first_from n (x.seq + 1) xs rise.1 e more is in past (omega (arith, low)) ∙ rest is
+  go rest false over is = let low = first_from n (x.seq + 1) xs rise.1 e more is in left_out (omega (arith, low)) ∙ rest is
   go rest true over is = let same : x ≡ e = (let y = is in cc) in
       let left : entries_from n xs ≡ more = (let y = is in cc) in let seq : x.seq ≡ e.seq = ap (λ (y : Entry). y.seq) same in
       let low : n ≤ x.seq + 1 = grind (arith, nat_tests, over) in
-      past (omega (arith, seq)) ∙ all_from (e.seq + 1) (x.seq + 1) xs (omega (arith, seq)) rise.1 ∙ sym (all_from n (x.seq + 1) xs low rise.1) ∙ left
+      left_out (omega (arith, seq)) ∙ all_from (e.seq + 1) (x.seq + 1) xs (omega (arith, seq)) rise.1 ∙ sym (all_from n (x.seq + 1) xs low rise.1) ∙ left
 
 pub is_entries_page : (n k : ℕ) (es : List Entry) → RiseFrom k es → IsEntriesPage n es (take most_page_rows (entries_from n es))
 is_entries_page n k es rise = is_page (λ m. entries_from m es) behind (λ m e more is. rest_from m k es rise e more is) n

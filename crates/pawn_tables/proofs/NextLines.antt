@@ -29,15 +29,15 @@ all_above n m (p ∷ ps) lt numbered = let at = numbered.0 in
     ap (λ c. cond c (p ∷ above n ps) (above n ps)) over ∙ ap (λ l. p ∷ l) (all_above n (m + 1) ps (omega (arith, lt)) numbered.1)
 
 -- they are those past so many
-past : (n k m : ℕ) (ps : List PledgeValue) → AreNumberedFrom k ps → m + 1 ≡ k + n → drop n ps ≡ above m ps
-past zero k m ps numbered is = sym (all_above m k ps (omega (arith, is)) numbered)
-past (suc n) k m [] numbered is = refl
-past (suc n) k m (p ∷ ps) numbered is = let at = numbered.0 in
+drop-above : (n k m : ℕ) (ps : List PledgeValue) → AreNumberedFrom k ps → m + 1 ≡ k + n → drop n ps ≡ above m ps
+drop-above zero k m ps numbered is = sym (all_above m k ps (omega (arith, is)) numbered)
+drop-above (suc n) k m [] numbered is = refl
+drop-above (suc n) k m (p ∷ ps) numbered is = let at = numbered.0 in
     let under' : nat_lt m (number_in_book p) ≡ false = grind (arith, nat_tests, is, at) in
-    past n (k + 1) m ps numbered.1 (omega (arith, is)) ∙ sym (ap (λ c. cond c (p ∷ above m ps) (above m ps)) under')
+    drop-above n (k + 1) m ps numbered.1 (omega (arith, is)) ∙ sym (ap (λ c. cond c (p ∷ above m ps) (above m ps)) under')
 
-past_first : (n : ℕ) (ps : List PledgeValue) → AreNumberedFrom 1 ps → drop n ps ≡ above n ps
-past_first n ps numbered = past n 1 n ps numbered (omega arith)
+drop-first : (n : ℕ) (ps : List PledgeValue) → AreNumberedFrom 1 ps → drop n ps ≡ above n ps
+drop-first n ps numbered = drop-above n 1 n ps numbered (omega arith)
 
 module _ {A : Type 0} (part : Part) (day : ℕ) (tell : PledgeValue → Option A) (line : A → Line)
     (says : (p : PledgeValue) → part_item part day p ≡ option_map (λ a. item_of part (line a)) (tell p))
@@ -106,7 +106,7 @@ module _ {A : Type 0} (part : Part) (day : ℕ) (tell : PledgeValue → Option A
   is_lines_page n ps numbered = page_as (lines_above ps) (λ m. items_past part day m ps) (item_of part) (λ (l : Line). l.number) n _ past_is
       (is_page (lines_above ps) (λ (l : Line). l.number) (λ m l more is. step m (told_above tell m ps) refl l more is) n) where
         past_is : (m : ℕ) → items_past part day m ps ≡ map (item_of part) (lines_above ps m)
-        past_is m = ap (part_items part day) (past_first m ps numbered) ∙ items_are (above m ps) ∙ sym (map-map (item_of part) line (told_above tell m ps))
+        past_is m = ap (part_items part day) (drop-first m ps numbered) ∙ items_are (above m ps) ∙ sym (map-map (item_of part) line (told_above tell m ps))
 
         step : (m : ℕ) (as' : List A) → told_above tell m ps ≡ as' → (l : Line) (more : List Line) → map line as' ≡ l ∷ more → lines_above ps l.number ≡ more
         step m [] told l more is = absurd (let e = is in cc)

@@ -8,8 +8,8 @@ use Rattle.pawn_tables.specs.Rows.{booking_listed, entry_cells, extension_cells,
 use Rattle.pawn_tables.{specs.{Schema.{books_tree, meta_tree, terms_tree}, StandsFor.{HoldHost, StandsFor, of_pledges}}, proofs.Basics.nat_tests}
 use Rattle.pawn_tables.{proofs.{Basics.{IsPermutation-map, IsPermutation-filter}, RowsUnderKey.{of_one_pledge, rows_at}}, specs.Keeps.keeping_by}
 use Rattle.pawn_tables.proofs.{ListsOfRows.{mapped, each_any}, Lent.debts_of, PledgeReads.{ListsRows, booking_told, bookings_list, entries_list, entries_told}}
-use Rattle.pawn_tables.proofs.PledgeReads.{entries_up, extensions_list, extensions_told, extensions_up, few, four, fourteen, number_in, one_told, one_version}
-use Rattle.pawn_tables.proofs.{PledgeReads.{pledges_list, secrets_list, secrets_told, secrets_up, short, three, under_in}, BookReads.one_book}
+use Rattle.pawn_tables.proofs.PledgeReads.{entries_up, extensions_list, extensions_told, extensions_up, few_of, four, fourteen, number_in, one_listed, one_told}
+use Rattle.pawn_tables.proofs.{PledgeReads.{one_version, pledges_list, secrets_list, secrets_told, secrets_up, three, under_in}, BookReads.one_book}
 use Rattle.{pawn_tables.proofs.SoundReads.words_in, sqlite.{proofs.Callers.one_permutation, specs.Effect.Database}, sqlite_trees.specs.Objects.catalog_tree}
 use Rattle.sqlite_catalog.proofs.ReadLemmas.{lists_once}
 use Rattle.pawn_tables.proofs.SameRows as SameRows
@@ -33,7 +33,8 @@ module _ (db : Database) (h g : Host) (a : StandsFor db h) (c : StandsFor db g) 
   single : {A : Type 0} (f : ℕ → PledgeValue → List Row) (cells : Row → Row) (told : A → Row) (part : Option PledgeValue → Option A)
       → ((o : Option PledgeValue) → map cells (rows_at o (f b)) ≡ at_most_one told (part o))
       → IsPermutation (rows_at mine (f b)) (rows_at other (f b)) → at_most_one told (part mine) ≡ at_most_one told (part other)
-  single f cells told part shows same = sym (short _ _ (few told (part mine)) (subst (λ xs. IsPermutation xs (at_most_one told (part other))) (shows mine)
+  single f cells told part shows same =
+    sym (one_listed _ _ (few_of told (part mine)) (subst (λ xs. IsPermutation xs (at_most_one told (part other))) (shows mine)
       (subst (IsPermutation (map cells (rows_at mine (f b)))) (shows other) (IsPermutation-map cells _ _ same))))
 
   entries_same : entries_of mine ≡ entries_of other
@@ -138,14 +139,14 @@ module _ (db : Database) (h g : Host) (a : StandsFor db h) (c : StandsFor db g) 
   head_same : (b : ℕ) → at_most_one head_cells (get h.books b) ≡ at_most_one head_cells (get g.books b)
   head_same b = let cells : Row → Row = λ v. column v 1 ∷ column v 2 ∷ column v 3 ∷ column v 4 ∷ column v 5 ∷ column v 6 ∷ column v 7 ∷ [] in
       let same = IsPermutation-map cells _ _ (IsPermutation-filter (at_book b) _ _ (SameRows.held_twice db.trees books_tree _ _ _ a.books c.books)) in
-      sym (short _ _ (few head_cells (get h.books b)) (subst (λ xs. IsPermutation xs (at_most_one head_cells (get g.books b))) (one_book h b)
+      sym (one_listed _ _ (few_of head_cells (get h.books b)) (subst (λ xs. IsPermutation xs (at_most_one head_cells (get g.books b))) (one_book h b)
       (subst (IsPermutation (map cells (filter (at_book b) _))) (one_book g b) same)))
 
   version_same : (b v : ℕ) → terms_at (terms_of (get h.books b)) v ≡ terms_at (terms_of (get g.books b)) v
   version_same b v =
       let same = IsPermutation-map three _ _ (IsPermutation-filter (at_pledge b v) _ _ (SameRows.held_twice db.trees terms_tree _ _ _ a.terms c.terms)) in
       SameRows.same_at_most terms_cells SameRows.same_terms _ _
-      (sym (short _ _ (few terms_cells (terms_at (terms_of (get h.books b)) v)) (subst (λ xs. IsPermutation xs (at_most_one terms_cells
+      (sym (one_listed _ _ (few_of terms_cells (terms_at (terms_of (get h.books b)) v)) (subst (λ xs. IsPermutation xs (at_most_one terms_cells
       (terms_at (terms_of (get g.books b)) v))) (one_version h b v) (subst (IsPermutation (map three (filter (at_pledge b v) _))) (one_version g b v) same))))
 
   pledge_at_same : (b n : ℕ) → pledge_in (get h.books b) n ≡ pledge_in (get g.books b) n

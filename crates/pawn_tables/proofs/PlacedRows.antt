@@ -31,20 +31,20 @@ module _ (c : ℕ) where
   test_is : (s k : ℕ) (r : Row) → column r c ≡ number k → has_place s r ≡ (k == s)
   test_is s k r is = ap (λ v. is_at v (number s)) is ∙ equals k s
 
-  past : (s k : ℕ) (rs : List Row) → CountFrom k rs → s < k → filter (has_place s) rs ≡ []
-  past s k [] counts lt = refl
-  past s k (r ∷ rs) counts lt = let other : (k == s) ≡ false = grind (arith, nat_tests, lt) in
-      cond-false _ _ _ (test_is s k r counts.0 ∙ other) ∙ past s (k + 1) rs counts.1 (omega (arith, lt))
+  none_with_place : (s k : ℕ) (rs : List Row) → CountFrom k rs → s < k → filter (has_place s) rs ≡ []
+  none_with_place s k [] counts lt = refl
+  none_with_place s k (r ∷ rs) counts lt = let other : (k == s) ≡ false = grind (arith, nat_tests, lt) in
+      cond-false _ _ _ (test_is s k r counts.0 ∙ other) ∙ none_with_place s (k + 1) rs counts.1 (omega (arith, lt))
 
   at_count : (s k n : ℕ) (rs : List Row) → CountFrom k rs → s ≡ k + n → filter (has_place s) rs ≡ at_most_one (λ r. r) (slice_get rs n)
   at_count s k n [] counts is = refl
   at_count s k zero (r ∷ rs) counts is = let here : (k == s) ≡ true = grind (arith, nat_tests, is) in
-      cond-true _ _ _ (test_is s k r counts.0 ∙ here) ∙ ap (λ l. r ∷ l) (past s (k + 1) rs counts.1 (omega (arith, is)))
+      cond-true _ _ _ (test_is s k r counts.0 ∙ here) ∙ ap (λ l. r ∷ l) (none_with_place s (k + 1) rs counts.1 (omega (arith, is)))
   at_count s k (suc n) (r ∷ rs) counts is = let other : (k == s) ≡ false = grind (arith, nat_tests, is) in
       cond-false _ _ _ (test_is s k r counts.0 ∙ other) ∙ at_count s (k + 1) n rs counts.1 (omega (arith, is))
 
   placed_alone : (s : ℕ) (rs : List Row) → CountFrom 1 rs → filter (has_place s) rs ≡ at_most_one (λ r. r) (at_place rs s)
-  placed_alone zero rs counts = past 0 1 rs counts (omega arith)
+  placed_alone zero rs counts = none_with_place 0 1 rs counts (omega arith)
   placed_alone (suc n) rs counts = at_count (suc n) 1 n rs counts (omega arith)
 
   module _ {A : Type 0} (g : ℕ → A → Row) (count : (at : ℕ) (x : A) → column (g at x) c ≡ number at) (told : ℕ → A → Row) (cells : Row → Row)

@@ -116,14 +116,14 @@ one_told f cells told b is None = refl
 one_told f cells told b is (Some p) = ap (λ r. r ∷ []) (is p)
 
 -- where one row at most is listed, the rows shown are those
-pub short : (rows xs : List Row) → length xs ≤ 1 → IsPermutation xs rows → rows ≡ xs
-short rows [] few same = nil_from_length rows (length_permutation [] rows same)
-short rows (x ∷ []) few same = one_permutation x rows same
-short rows (x ∷ y ∷ xs) few same = absurd (omega (arith, few))
+pub one_listed : (rows xs : List Row) → length xs ≤ 1 → IsPermutation xs rows → rows ≡ xs
+one_listed rows [] few same = nil_from_length rows (length_permutation [] rows same)
+one_listed rows (x ∷ []) few same = one_permutation x rows same
+one_listed rows (x ∷ y ∷ xs) few same = absurd (omega (arith, few))
 
-pub few : {A : Type 0} (f : A → Row) (o : Option A) → length (at_most_one f o) ≤ 1
-few f None = omega arith
-few f (Some x) = omega arith
+pub few_of : {A : Type 0} (f : A → Row) (o : Option A) → length (at_most_one f o) ≤ 1
+few_of f None = omega arith
+few_of f (Some x) = omega arith
 
 pub one_mapped : {A B : Type 0} (f : A → B) (g : B → Row) (o : Option A) → at_most_one (λ x. g (f x)) o ≡ at_most_one g (option_map f o)
 one_mapped f g None = refl
@@ -199,7 +199,7 @@ module _ (old new : State) (ours : HasOurTables old.now.schema) (h : Host) (t : 
   pub alone_shown : {A : Type 0} (told : A → Row) (part : Option PledgeValue → Option A) → ((o : Option PledgeValue)
       → map cells (rows_at o (f b)) ≡ at_most_one told (part o)) → Asks (with_indexes ours.more) sql (over_table t.tree text.of_pledge shows []) names
       → Shown sql (number b ∷ number n ∷ []) old new rows → rows ≡ at_most_one told (part (pledge_in (get h.books b) n))
-  alone_shown told part tells asks shown = short rows _ (few told (part (pledge_in (get h.books b) n))) (subst (λ xs. IsPermutation xs rows)
+  alone_shown told part tells asks shown = one_listed rows _ (few_of told (part (pledge_in (get h.books b) n))) (subst (λ xs. IsPermutation xs rows)
       (ap (map cells) of_one ∙ tells (pledge_in (get h.books b) n)) (shown_listed (with_indexes ours.more) t.tree list.is_tree t text.of_pledge shows
       (number b ∷ number n ∷ []) (at_pledge b n) cells (list.of_pledge b n) shows_is sql names [] asks old new (of_pledges h f) rows ours.is list.holds shown))
 
@@ -239,8 +239,9 @@ module _ (old new : State) (ours : HasOurTables old.now.schema) (h : Host) (t : 
   pub one_shown : {A : Type 0} (told : A → Row) (o : Option A) → map cells (filter third (rows_at (pledge_in (get h.books b) n) (f b))) ≡ at_most_one told o
       → Asks (with_indexes ours.more) sql (over_table t.tree tests shows []) names → Shown sql params old new rows → rows ≡ at_most_one told o
   one_shown told o tells asks shown =
-      short rows _ (few told o) (subst (λ xs. IsPermutation xs rows) (ap (map cells) passing ∙ tells) (shown_listed (with_indexes ours.more) t.tree list.is_tree
-      t tests shows params at_third cells passes_is shows_is sql names [] asks old new (of_pledges h f) rows ours.is list.holds shown))
+      one_listed rows _ (few_of told o) (subst (λ xs. IsPermutation xs rows) (ap (map cells) passing ∙ tells)
+      (shown_listed (with_indexes ours.more) t.tree list.is_tree t tests shows params at_third cells passes_is shows_is sql names [] asks old new
+      (of_pledges h f) rows ours.is list.holds shown))
 
   -- a page of them, where they rise
   pub page_shown : Rise (λ v. column v 2) (rows_at (pledge_in (get h.books b) n) (f b))
@@ -326,6 +327,6 @@ one_version h b v =
 pub terms_shown : (old new : State) (h : Host) (b v : ℕ) (rows : List Row) → ListDebts old.now h
     → Shown text.READ_TERMS.now (number b ∷ number v ∷ []) old new rows → rows ≡ at_most_one terms_cells (terms_at (terms_of (get h.books b)) v)
 terms_shown old new h b v rows st shown = let t : Table = record terms { tree = terms_tree } in
-    short rows _ (few terms_cells (terms_at (terms_of (get h.books b)) v)) (subst (λ xs. IsPermutation xs rows) (one_version h b v)
+    one_listed rows _ (few_of terms_cells (terms_at (terms_of (get h.books b)) v)) (subst (λ xs. IsPermutation xs rows) (one_version h b v)
     (shown_listed (with_indexes st.schema.more) terms_tree (λ _. refl) t text.of_pledge text.three_shown (number b ∷ number v ∷ []) (at_pledge b v) three
     (λ _. refl) (λ _. refl) text.READ_TERMS.now _ [] ((text.texts st.schema.more).terms_is) old new (of_books h terms_listed) rows st.schema.is st.terms shown))

@@ -13,7 +13,7 @@ returns-in_err-planned-clause-acts g c = λ honest h sound at.
 
 pub returns-in_err-commit-clause-acts : goal.returns-in_err-commit-clause-acts
 returns-in_err-commit-clause-acts g c = λ honest h sound at.
-    let was = c.commit.ensures.on.past honest in
+    let was = c.commit.ensures.on.was_honest honest in
     let told = c.plan.ensures.reads.tells was h at sound in
     let plans = subst (Plans h c.args.request.now.book (step_of h c.args.operator c.args.stamp.now c.args.request.now)) c.in_ok-planned.was told in
     let made = c.commit.ensures.commits honest h sound (c.plan.ensures.reads.same was h at) in
@@ -25,7 +25,7 @@ returns-in_err-commit-clause-acts g c = λ honest h sound at.
 
 pub returns-clause-acts : goal.returns-clause-acts
 returns-clause-acts g c = λ honest h sound at.
-    let was = c.commit.ensures.on.past honest in
+    let was = c.commit.ensures.on.was_honest honest in
     let told = c.plan.ensures.reads.tells was h at sound in
     let plans = subst (Plans h c.args.request.now.book (step_of h c.args.operator c.args.stamp.now c.args.request.now)) c.in_ok-planned.was told in
     let made = c.commit.ensures.commits honest h sound (c.plan.ensures.reads.same was h at) in
@@ -35,7 +35,7 @@ returns-clause-acts g c = λ honest h sound at.
 
 pub returns-in_err-commit-clause-crash : goal.returns-in_err-commit-clause-crash
 returns-in_err-commit-clause-crash g c = λ honest h sound at left by.
-    let was = c.commit.ensures.on.past honest in
+    let was = c.commit.ensures.on.was_honest honest in
     let told = c.plan.ensures.reads.tells was h at sound in
     let plans = subst (Plans h c.args.request.now.book (step_of h c.args.operator c.args.stamp.now c.args.request.now)) c.in_ok-planned.was told in
     let made = c.commit.ensures.crash honest h sound (c.plan.ensures.reads.same was h at) left by in
@@ -47,7 +47,7 @@ returns-in_err-commit-clause-crash g c = λ honest h sound at left by.
 
 pub returns-clause-crash : goal.returns-clause-crash
 returns-clause-crash g c = λ honest h sound at left by.
-    let was = c.commit.ensures.on.past honest in
+    let was = c.commit.ensures.on.was_honest honest in
     let told = c.plan.ensures.reads.tells was h at sound in
     let plans = subst (Plans h c.args.request.now.book (step_of h c.args.operator c.args.stamp.now c.args.request.now)) c.in_ok-planned.was told in
     let stood = c.plan.ensures.reads.same was h at in

@@ -6,7 +6,8 @@ pub loop-turn-init : goal.loop-turn-init
 loop-turn-init g c = record {
   counted = refl;
   stays = record
-      { on = record { past = λ honest. honest; served = λ honest serves. serves; stays = λ steady. steady; whole = λ honest whole. whole }; operator = refl };
+      { on = record { was_honest = λ honest. honest; served = λ honest serves. serves; stays = λ steady. steady; whole = λ honest whole. whole };
+        operator = refl };
   served = λ honest h sound at. served_none (goes_none g.K.Keep.keeping (service_keep c.args.service.now) h at sound);
 }
 
@@ -17,7 +18,7 @@ loop-turn-preserved g c =
         counted = omega (arith, c.loop-turn.invariant.counted);
         stays = open_then c.loop-turn.invariant.stays w.converse.ensures.stays;
         served = λ honest h sound at.
-            let so = c.loop-turn.invariant.served (w.converse.ensures.stays.on.past honest) h sound at in
+            let so = c.loop-turn.invariant.served (w.converse.ensures.stays.on.was_honest honest) h sound at in
             served_more _ _ (start_of g.K.Keep.keeping c.args.service.now h) c.loop-turn.served.answered _ _ _ _ _ w.converse.result so
             c.loop-turn.invariant.stays.on.stays c.loop-turn.invariant.stays.operator so.goes.crash refl
             (within_most w.converse.result w.converse.ensures.room) (w.converse.ensures.session honest _ so.goes.sound so.goes.stands_for);

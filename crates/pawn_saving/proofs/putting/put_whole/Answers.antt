@@ -1,10 +1,11 @@
-use Rattle.pawn_saving.{proofs.{Writing.{refl, state}, RowsInOrder.past, PledgePartWrites.whole_put}, specs.Putting.{beside, sides_of}}
+use Rattle.pawn_saving.{proofs.{Writing.{refl, state}, RowsInOrder.was_clean, PledgePartWrites.whole_put}, specs.Putting.{beside, sides_of}}
 use Rattle.pawn_saving.proofs.putting.put_whole.Goals as goal
 
 pub returns-clause-wrote : goal.returns-clause-wrote
 returns-clause-wrote g c clean within listed none l = let b = c.args.book in
     let n = c.args.number in let p = c.args.pledge.now in
-    let clean1 = past _ _ _ c.in_ok-put_lists.ensures.carried.leaves clean in let within1 = c.in_ok-put_sides.ensures.lent.leaves.inside clean1 within refl in
+    let clean1 = was_clean _ _ _ c.in_ok-put_lists.ensures.carried.leaves clean in
+    let within1 = c.in_ok-put_sides.ensures.lent.leaves.inside clean1 within refl in
     let sides = c.in_ok-put_sides.ensures.wrote clean1 within listed none l in (
       c.in_ok-added.ensures.value,
       whole_put (state g.S.Store c.put_lists.new.tx.conn.now).now listed b n p

@@ -1,5 +1,6 @@
-use Rattle.pawn_saving.{proofs.{Writing.{Some, ap, refl, sym, ◌∙◌, ◌≡◌, state, pledge_in, rows}, Hosting.as_lists, RowsInOrder.past}, specs.Counted.listed_as}
-use Rattle.pawn_saving.{specs.Putting.with_sides, proofs.{PledgeChanges.stood, PledgeWrites.{continues_it, old_sides, others, renewed_written}}}
+use Rattle.pawn_saving.{proofs.{Writing.{Some, ap, refl, sym, ◌∙◌, ◌≡◌, state, pledge_in, rows}, Hosting.as_lists, RowsInOrder.was_clean}}
+use Rattle.pawn_saving.{specs.{Counted.listed_as, Putting.with_sides}, proofs.{PledgeChanges.stood, PledgeWrites.{continues_it, old_sides, others}}}
+use Rattle.pawn_saving.proofs.PledgeWrites.renewed_written
 use Rattle.pawn_saving.proofs.renewing.renew_pledge.Goals as goal
 
 pub returns-clause-wrote : goal.returns-clause-wrote
@@ -9,7 +10,8 @@ returns-clause-wrote g c old stored clean within h sound can st standing = let n
     let k = can.follows.0 in let is = can.follows.1 in
     let some : stood h b n k p is ≡ Some old = ap (λ o. pledge_in o n) (sym is) ∙ standing in
     let it = continues_it k n old p some can.follows.2 in let counted = rows h in
-    let clean1 = past _ _ _ c.in_ok-put_lists.ensures.carried.leaves clean in let within1 = c.in_ok-set_sides.ensures.lent.leaves.inside clean1 within refl in
+    let clean1 = was_clean _ _ _ c.in_ok-put_lists.ensures.carried.leaves clean in
+    let within1 = c.in_ok-set_sides.ensures.lent.leaves.inside clean1 within refl in
     let rest = others h b n k old p is some in
     let set = rw (c.get.ensures.value, c.get-2.ensures.value) at
     (c.in_ok-set_sides.ensures.wrote old (sym it.agreement) (c.in_ok-added.ensures.booked old stored) clean1 within (listed_as h counted) rest) in

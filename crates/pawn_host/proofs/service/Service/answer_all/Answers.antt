@@ -14,7 +14,8 @@ loop-acted-init g c = record {
   fetched = read_none _ _ _ c.requires.fresh c.new-buffer.ensures.nothing;
   room = omega arith;
   stays = record
-      { on = record { past = λ honest. honest; served = λ honest serves. serves; stays = λ steady. steady; whole = λ honest whole. whole }; operator = refl };
+      { on = record { was_honest = λ honest. honest; served = λ honest serves. serves; stays = λ steady. steady; whole = λ honest whole. whole };
+        operator = refl };
   so_far = λ honest h sound at. starts _ (goes_none g.K.Keep.keeping (service_keep c.args.self.now) h at sound) c.new-buffer.ensures.nothing;
 }
 
@@ -53,7 +54,7 @@ pub returns-then-count-text : goal.returns-then-count-text
 returns-then-count-text g c = record {
   stays = open_then c.loop-acted.invariant.stays c.answer_one-answer.ensures.stays;
   session = λ honest h sound at.
-      let so = c.loop-acted.invariant.so_far (c.answer_one-answer.ensures.stays.on.past honest) h sound at in
+      let so = c.loop-acted.invariant.so_far (c.answer_one-answer.ensures.stays.on.was_honest honest) h sound at in
       let start = start_of g.K.Keep.keeping c.args.self.now h in
       let mid = host_by start so.items in
       let acted = acted_at _ (start_after start so.items) c.in-Some.stamp _
@@ -76,7 +77,7 @@ pub returns-then-head : goal.returns-then-head
 returns-then-head g c = record {
   stays = open_then c.loop-acted.invariant.stays c.answer_one-answer.ensures.stays;
   session = λ honest h sound at.
-      let so = c.loop-acted.invariant.so_far (c.answer_one-answer.ensures.stays.on.past honest) h sound at in
+      let so = c.loop-acted.invariant.so_far (c.answer_one-answer.ensures.stays.on.was_honest honest) h sound at in
       let start = start_of g.K.Keep.keeping c.args.self.now h in
       let mid = host_by start so.items in
       let acted = acted_at _ (start_after start so.items) c.in-Some.stamp _
@@ -108,7 +109,7 @@ loop-acted-preserved g c = record {
   room = omega (arith, c.loop-acted.invariant.room);
   stays = open_then c.loop-acted.invariant.stays c.answer_one-answer.ensures.stays;
   so_far = λ honest h sound at.
-      let so = c.loop-acted.invariant.so_far (c.answer_one-answer.ensures.stays.on.past honest) h sound at in
+      let so = c.loop-acted.invariant.so_far (c.answer_one-answer.ensures.stays.on.was_honest honest) h sound at in
       let start = start_of g.K.Keep.keeping c.args.self.now h in
       let mid = host_by start so.items in
       let acted = acted_at _ (start_after start so.items) c.in-Some.stamp _

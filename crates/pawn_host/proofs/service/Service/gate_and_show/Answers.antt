@@ -4,7 +4,7 @@ use Rattle.pawn_host.proofs.service.Service.gate_and_show.Goals as goal
 
 pub returns-clause-acted : goal.returns-clause-acted
 returns-clause-acted g c = λ honest h sound at bytes read.
-    let before = c.show_past_gate.ensures.stays.on.past honest in
+    let before = c.show_past_gate.ensures.stays.on.was_honest honest in
     let gates = rw c.in-Ok.is at (c.gate.ensures.reads.tells before h at) in
     let acted = c.show_past_gate.ensures.acted honest h sound (c.gate.ensures.reads.same before h at) (gates.0, gates.1, gates.3) bytes read in
     acted_at _ (start_of g.K.Keep.keeping c.args.self.now h) c.args.stamp.now bytes bytes _ _ _ acted c.gate.ensures.reads.on.stays refl

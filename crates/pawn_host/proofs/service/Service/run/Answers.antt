@@ -8,7 +8,7 @@ loop-item-preserved g c = record {
   room = c.push_reserved.ensures.capacity ∙ c.loop-item.invariant.room;
   stays = open_then c.loop-item.invariant.stays c.answer_one-answer.ensures.stays;
   run = λ honest h sound at.
-      let before = c.loop-item.invariant.run (c.answer_one-answer.ensures.stays.on.past honest) h sound at in
+      let before = c.loop-item.invariant.run (c.answer_one-answer.ensures.stays.on.was_honest honest) h sound at in
       let start = start_of g.K.Keep.keeping c.args.self.now h in
       let acted = c.answer_one-answer.ensures.acted honest (host_by start before.items) before.goes.sound before.goes.stands_for in
       run_turn start _ _ c.loop-item.item-index c.args.items.now c.item-item.result c.loop-item.answers.items _ c.answer_one-answer.result c.loop-item-test.true
