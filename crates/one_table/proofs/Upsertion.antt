@@ -2,7 +2,7 @@
 use Rattle.std.proofs.Common.{◌≡◌, ◌⊎◌, ◌++◌, inl, inr, ℕ, suc, ◌/◌, ℤ, List, [], ◌∷◌, map, filter, length, Bool, true, false, cond, Option, Some, None, Ok}
 use Rattle.std.{proofs.Common.{refl, sym, ap, subst, ◌∙◌, arith, IsPermutation, append-nil, true≢false, IsTrue}, specs.{List.AllByRecursion, Ordering.is_eq}}
 use Rattle.std.{specs.Ordering.is_lt, proofs.lemmas.{Cmp.tied_itself, List.{Elements.filter_agree, Sorted.{IsPermutation-cons, IsPermutation-map}}}}
-use Rattle.{std.proofs.lemmas.List.Sorted.{IsPermutation-sym, IsPermutation-trans, length_permutation}, one_table.specs.Common.{Ordering, Equal, Less}}
+use Rattle.{std.proofs.lemmas.List.Sorted.{IsPermutation-sym, IsPermutation-trans, length_permutation}, one_table.specs.Common.{Equal, Less}}
 use Rattle.one_table.specs.Common.{Enforced, Compare, Eq, Binary, InsertOr, Does, Tally, Database, value_rows, Row, value_cmp, overlay, Chosen, Given, Schema}
 use Rattle.one_table.specs.{Common.{Values, Table, Term, IsTable, Trees, has_rowid, put_row, rowid, Value, Int, Null}, Listing.{Holds, Lists, Listed}}
 use Rattle.one_table.{specs.Listing.{with_rows, columns_of, IsNumbered}, proofs.{OneTable.{over_table, passes, shows_of}, Rowed.{plainly, carried, at_place}}}

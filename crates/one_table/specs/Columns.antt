@@ -1,5 +1,5 @@
 -- The columns, keys and references of a table, as its text gives them.
-use Rattle.std.specs.Prelude.{true, false, [], ◌∷◌, None, List, ℕ}
+use Rattle.std.specs.Prelude.{true, false, [], None, List, ℕ}
 use Rattle.{one_table.specs.Common.{Binary, Schema, Table, Null}, sqlite.specs.Kind.Kind, sqlite_schema.specs.declared.schema.Column.Column}
 use Rattle.sqlite_schema.specs.declared.schema.{Reference.Reference, Stamps.Stamps, Action.TheVariants.NoAction}
 

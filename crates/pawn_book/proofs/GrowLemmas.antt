@@ -2,14 +2,15 @@
 use Rattle.std.proofs.Common.{◌≡◌, ℕ, List, [], ◌∷◌, ◌++◌, length, Some, None, Ok, Err, refl, ◌∙◌, ap, sym, subst, arith, append_assoc, if◌then◌else◌, Option}
 use Rattle.{std.proofs.Common.{Result, ◌==◌, Bool, true, false, map, append-nil}, pawn_book.specs.Common.{Answered, Changed, Command, Done, Judged, Opening}}
 use Rattle.pawn_book.specs.{Common.{PledgeValue, Rates, Receipt, Refused, Stamp, pledge_step}, Books.{AddTerms, Bearer, BookFilled, BookNotEmpty, BookRows}}
-use Rattle.pawn_book.specs.Books.{Broker, Caller, Export, Import, ImportBook, Imported, NewTerms, NoSuchReceipt, OnPledge, OnReceipt, Opened, Operator, Present}
-use Rattle.pawn_book.specs.{Books.{PutPledge, PutTerms, Refusal, SheetOf, Show, TakePledge, TermsPut, WindowFull}, BookStep.{BookValue, Makes, Outcome}}
+use Rattle.pawn_book.specs.Books.{Broker, Caller, Import, ImportBook, Imported, NewTerms, NoSuchReceipt, OnPledge, OnReceipt, Opened, Operator, Present}
+use Rattle.pawn_book.specs.{Books.{PutPledge, PutTerms, Refusal, TakePledge, TermsPut, Viewer, WindowFull}, BookStep.{BookValue, Makes, Outcome}}
 use Rattle.pawn_book.specs.BookStep.{Refuses, Says, Shown, are_same_rates, are_unknown, bearer_commands, book_after, book_head, book_step, broker_commands}
 use Rattle.pawn_book.specs.BookStep.{confirmed_booking, filled_book, first_receipt, import_rows, is_empty, is_same_book, is_same_opening, is_window_full}
 use Rattle.pawn_book.specs.BookStep.{judged_outcome, live_at, make_or_refuse, newest, next_pledge, next_terms, pledge_from, pledge_in, present_receipts}
 use Rattle.pawn_book.specs.{BookStep.{put_from, put_terms, show_pledge, take_pledge, with_reference, within_window}, Laws.book_run, Rows.terms_at}
 use Rattle.pawn_book.proofs.{Sounds.{absurd_none, put_next}, KeptLemmas.{AreKept, are_kept_on, are_kept_push, are_kept_put, are_kept_same, kept_moved}}
 use Rattle.pawn_book.proofs.{CommandPlans.live_is, Plans.{empty_lists, taken_is, without_lists}}
+use Rattle.pawn_book.specs.declared.request.View.TheVariants as seen
 
 -- what stays and what grows in a book
 pub record Grown (old new : BookValue) : Type 0 where
@@ -168,10 +169,10 @@ step_grows book operator b stamp (Broker key (OnPledge n command)) =
     grows_by book (book.key == key) _ _ (number_grows book b n stamp command (pledge_from 1 book.pledges n) refl) (stays book)
 step_grows book operator b stamp (Broker key (Import importing rows)) =
     grows_by book (book.key == key) _ _ (import_grows book b importing rows book.imported refl) (stays book)
-step_grows book operator b stamp (Broker key (Show n)) =
+step_grows book operator b stamp (Viewer key (seen.Pledge n)) =
     grows_by book (book.key == key) _ _ (shown_stays book stamp (pledge_from 1 book.pledges n)) (stays book)
-step_grows book operator b stamp (Broker key (SheetOf day)) = grows_by book (book.key == key) _ _ (stays book) (stays book)
-step_grows book operator b stamp (Broker key Export) = grows_by book (book.key == key) _ _ (stays book) (stays book)
+step_grows book operator b stamp (Viewer key (seen.Sheet day)) = grows_by book (book.key == key) _ _ (stays book) (stays book)
+step_grows book operator b stamp (Viewer key seen.Rows) = grows_by book (book.key == key) _ _ (stays book) (stays book)
 step_grows book operator b stamp (Bearer (Present receipts)) = present_stays book stamp (map (live_at (pledge_in (Some book))) receipts)
 step_grows book operator b stamp (Bearer (OnReceipt r command)) = receipt_grows book b r stamp command (live_at (pledge_in (Some book)) r) refl
 

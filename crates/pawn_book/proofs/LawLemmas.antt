@@ -3,8 +3,8 @@ use Rattle.std.proofs.Common.{◌≡◌, ℕ, ◌+◌, zero, suc, List, [], ◌�
 use Rattle.std.proofs.{Common.{is_some, Option, Result, ◌==◌, ◌&&◌, ◌||◌, Bool, true, false, nat_lt, nat_le, unwrap_or, slice_get}, lemmas.Bool.and_from}
 use Rattle.{std.proofs.lemmas.Bool.Decides.nat_tests, pawn_book.specs.Common.{Agreement, AreNumbered, Command, Fixed, IsStanding, Issued, Kind, Opening}}
 use Rattle.pawn_book.specs.{Common.{PledgeValue, Rates, Receipt, Running, Stamp, TermsFault, result_unwrap_or, terms_answer}, Books.{AddTerms, Bearer}}
-use Rattle.pawn_book.specs.Books.{BookFilled, BookMade, BookNotEmpty, BookTaken, Broker, Caller, Change, Export, Import, ImportBook, NewTerms, NoSuchBook}
-use Rattle.pawn_book.specs.Books.{NotOperator, OnPledge, Opened, Operator, PutPledge, PutTerms, RefTaken, Refusal, Reply, SheetOf, Show, TakePledge, TermsFull}
+use Rattle.pawn_book.specs.Books.{BookFilled, BookMade, BookNotEmpty, BookTaken, Broker, Caller, Change, Import, ImportBook, NewTerms, NoSuchBook}
+use Rattle.pawn_book.specs.Books.{NotOperator, OnPledge, Opened, Operator, PutPledge, PutTerms, RefTaken, Refusal, Reply, TakePledge, TermsFull, Viewer}
 use Rattle.pawn_book.specs.{Books.{TermsPut, TermsSeq}, Laws.{Asks, BookChangesDiffer, IsMaking, RepeatsActOnce, book_run}, BookStep.{BookValue, Refuses, Says}}
 use Rattle.pawn_book.specs.BookStep.{Replied, are_same_rates, book_head, book_step, changed_book, filled_book, first_receipt, first_secret, import_rows}
 use Rattle.pawn_book.specs.BookStep.{is_live, is_same_book, is_same_end, is_same_flag, is_same_kind, is_same_opening, made_book, make_book, newest, next_terms}
@@ -125,9 +125,7 @@ asks_not_making (Broker key (PutTerms new)) n command asks making = asks
 asks_not_making (Broker key (TakePledge opening)) n command asks making = asks
 asks_not_making (Broker key (OnPledge m own)) n command asks making = making
 asks_not_making (Broker key (Import importing rows)) n command asks making = asks
-asks_not_making (Broker key (Show m)) n command asks making = asks
-asks_not_making (Broker key (SheetOf day)) n command asks making = asks
-asks_not_making (Broker key Export) n command asks making = asks
+asks_not_making (Viewer key view) n command asks making = asks
 asks_not_making (Bearer asked) n command asks making = making
 
 -- a request that made a change is told the same again, and makes none

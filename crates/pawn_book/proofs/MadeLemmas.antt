@@ -1,14 +1,15 @@
 -- How a change came about.
 use Rattle.std.proofs.Common.{◌≡◌, ℕ, List, length, Some, None, Ok, Err, refl, ap, sym, if◌then◌else◌, Option, Result, ◌==◌, Bool, true, false, map}
 use Rattle.pawn_book.specs.Common.{Answered, Changed, Command, Done, Judged, Opening, PledgeValue, Rates, Receipt, Refused, Stamp, pledge_step}
-use Rattle.pawn_book.specs.Books.{AddTerms, Bearer, BookFilled, BookMade, BookRows, Broker, Caller, Change, Commanded, Export, Import, ImportBook, Imported}
+use Rattle.pawn_book.specs.Books.{AddTerms, Bearer, BookFilled, BookMade, BookRows, Broker, Caller, Change, Commanded, Import, ImportBook, Imported}
 use Rattle.pawn_book.specs.Books.{MakeBook, NewBook, NewTerms, NoSuchReceipt, OnPledge, OnReceipt, Opened, Operator, Present, PutPledge, PutTerms, Refusal}
-use Rattle.pawn_book.specs.{Books.{Reply, SheetOf, Show, TakePledge, TermsPut, WindowFull}, Laws.Asks, BookStep.{BookValue, Makes, Out, Outcome, Refuses, Says}}
+use Rattle.pawn_book.specs.{Books.{Reply, TakePledge, TermsPut, Viewer, WindowFull}, Laws.Asks, BookStep.{BookValue, Makes, Out, Outcome, Refuses, Says}}
 use Rattle.pawn_book.specs.BookStep.{Shown, are_same_rates, are_unknown, bearer_commands, book_head, book_step, broker_commands, confirmed_booking}
 use Rattle.pawn_book.specs.BookStep.{first_receipt, import_rows, is_empty, is_same_book, is_same_opening, is_window_full, judged_outcome, live_at}
 use Rattle.pawn_book.specs.BookStep.{make_or_refuse, newest, next_pledge, next_terms, pledge_from, pledge_in, present_receipts, put_terms, show_pledge}
 use Rattle.pawn_book.{specs.{BookStep.{take_pledge, with_reference, within_window}, Changes.IsUnfilled, Rows.terms_at}, proofs.CommandPlans.live_is}
 use Rattle.pawn_book.proofs.Plans.{empty_lists}
+use Rattle.pawn_book.specs.declared.request.View.TheVariants as seen
 
 -- what an outcome makes
 abbrev pub change_in : Outcome → Change → Change
@@ -116,6 +117,7 @@ made_by None operator b stamp (Operator key new) change reply is =
 made_by (Some book) operator b stamp (Operator key new) change reply is =
     let passed = if_makes (key == operator) _ _ change reply is in told_again (is_same_book (book_head book) new) _ _ change reply passed.1
 made_by None operator b stamp (Broker key asked) change reply is = cc is
+made_by None operator b stamp (Viewer key view) change reply is = cc is
 made_by (Some book) operator b stamp (Broker key (PutTerms new)) change reply is =
     let passed = if_makes (book.key == key) _ _ change reply is in from (terms_at book.terms new.version) refl passed.1 where
       from : (o : Option Rates) → terms_at book.terms new.version ≡ o → put_terms book b new o ≡ Makes change reply
@@ -147,11 +149,11 @@ made_by (Some book) operator b stamp (Broker key (Import importing rows)) change
           let empty = empty_lists book filled.0 in
           RowsAre key importing rows book refl refl (if_makes (book.key == key) _ _ change reply is).0
           (record { terms = empty.0; pledges = empty.1; imported = at }) (same_change _ change _ reply filled.1) (same_reply _ change _ reply filled.1)
-made_by (Some book) operator b stamp (Broker key (Show n)) change reply is =
+made_by (Some book) operator b stamp (Viewer key (seen.Pledge n)) change reply is =
     let passed = if_makes (book.key == key) _ _ change reply is in shown_makes stamp (pledge_from 1 book.pledges n) change reply passed.1
-made_by (Some book) operator b stamp (Broker key (SheetOf day)) change reply is =
+made_by (Some book) operator b stamp (Viewer key (seen.Sheet day)) change reply is =
     let passed = if_makes (book.key == key) _ _ change reply is in cc passed.1
-made_by (Some book) operator b stamp (Broker key Export) change reply is =
+made_by (Some book) operator b stamp (Viewer key seen.Rows) change reply is =
     let passed = if_makes (book.key == key) _ _ change reply is in cc passed.1
 made_by None operator b stamp (Bearer (OnReceipt r command)) change reply is = cc is
 made_by (Some book) operator b stamp (Bearer (OnReceipt r command)) change reply is =

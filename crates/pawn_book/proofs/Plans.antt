@@ -1,6 +1,6 @@
 -- A plan by a keeper's answers is the book's step.
 use Rattle.std.proofs.Common.{◌≡◌, ◌≢◌, ℕ, ◌+◌, ◌<◌, ◌≤◌, zero, suc, List, [], ◌∷◌, ◌++◌, length, Some, None, Ok, Err, refl, ◌∙◌, ap, sym, subst, arith, inl}
-use Rattle.std.proofs.{Common.{if◌then◌else◌, Option, Result, ◌==◌, true, false, nat_lt, nat_le, option_map, ◌&&◌, IfErr, IfOk}, lemmas.Bool.and_parts}
+use Rattle.std.proofs.{Common.{if◌then◌else◌, Option, Result, ◌==◌, true, false, nat_lt, nat_le, option_map, IfErr, IfOk}, lemmas.Bool.and_parts}
 use Rattle.{std.{proofs.lemmas.Bool.Decides.nat_tests, specs.FinMap.get}, pawn_book.specs.Common.{Each, IsChecked, IsNumber, IsStanding, IsText, IsUtf8}}
 use Rattle.pawn_book.specs.{Common.{Issued, Opening, PledgeRefusal, PledgeValue, Rates, Stamp, pledge_start, result_unwrap_or}, Books.{AddTerms, BookFilled}}
 use Rattle.pawn_book.specs.Books.{BookMade, BookNotEmpty, BookRows, Change, ImportBook, MakeBook, Memory, NewBook, NewTerms, Opened, Planned, PledgesFull}

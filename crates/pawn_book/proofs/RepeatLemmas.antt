@@ -2,7 +2,7 @@
 use Rattle.std.proofs.{Common.{◌≡◌, ℕ, List, Some, refl, ◌∙◌, ap, sym, subst, arith, if◌then◌else◌, is_some, Option, ◌==◌, true}, lemmas.Bool.Decides.nat_tests}
 use Rattle.pawn_book.specs.{Common.{Answered, Command, Done, PledgeValue, Stamp, end_of, entry_command, pledge_step}, Laws.{Asks, BookEntriesActOnce}}
 use Rattle.pawn_book.specs.{Laws.{BookExtensionsActOnce, EntriesActOnceForAll, Passes, StandingEndIsTold, StillPasses, book_run}, Books.{Bearer, Broker}}
-use Rattle.pawn_book.specs.Books.{Caller, Change, Commanded, Export, Import, NoSuchBook, OnPledge, OnReceipt, Operator, Present, PutTerms, Reply, SheetOf, Show}
+use Rattle.pawn_book.specs.Books.{Caller, Change, Commanded, Import, NoSuchBook, OnPledge, OnReceipt, Operator, Present, PutTerms, Reply, Viewer}
 use Rattle.pawn_book.specs.{Books.TakePledge, BookStep.{BookValue, Makes, Refuses, Says, Replied, bearer_commands, book_step, broker_commands, changed_book}}
 use Rattle.pawn_book.{specs.BookStep.{judged_outcome, live_at, only_live, pledge_from, pledge_in, within_window}, proofs.LawLemmas.{live_found, numbered_in}}
 use Rattle.pawn_book.proofs.{LawLemmas.stands_after, MadeLemmas.{DidOn, if_makes, number_made, receipt_made}, Sounds.some_is}
@@ -15,9 +15,7 @@ did_on book operator b stamp (Operator key new) n command change reply asks is =
 did_on book operator b stamp (Broker key (PutTerms new)) n command change reply asks is = absurd asks
 did_on book operator b stamp (Broker key (TakePledge opening)) n command change reply asks is = absurd asks
 did_on book operator b stamp (Broker key (Import importing rows)) n command change reply asks is = absurd asks
-did_on book operator b stamp (Broker key (Show m)) n command change reply asks is = absurd asks
-did_on book operator b stamp (Broker key (SheetOf day)) n command change reply asks is = absurd asks
-did_on book operator b stamp (Broker key Export) n command change reply asks is = absurd asks
+did_on book operator b stamp (Viewer key view) n command change reply asks is = absurd asks
 did_on book operator b stamp (Broker key (OnPledge m own)) n command change reply asks is =
     let passed = if_makes (book.key == key) _ _ change reply is in
     let did = number_made book b m stamp own (pledge_from 1 book.pledges m) change reply refl passed.1 in
@@ -35,9 +33,7 @@ told_to book operator b stamp (Operator key new) n command p done asks passes at
 told_to book operator b stamp (Broker key (PutTerms new)) n command p done asks passes at step = absurd asks
 told_to book operator b stamp (Broker key (TakePledge opening)) n command p done asks passes at step = absurd asks
 told_to book operator b stamp (Broker key (Import importing rows)) n command p done asks passes at step = absurd asks
-told_to book operator b stamp (Broker key (Show m)) n command p done asks passes at step = absurd asks
-told_to book operator b stamp (Broker key (SheetOf day)) n command p done asks passes at step = absurd asks
-told_to book operator b stamp (Broker key Export) n command p done asks passes at step = absurd asks
+told_to book operator b stamp (Viewer key view) n command p done asks passes at step = absurd asks
 told_to book operator b stamp (Broker key (OnPledge m own)) n command p done asks passes at step =
     let holds : book.key ≡ key = ap (λ (k : BookValue). k.key) (some_is book passes.0 passes.1) ∙ passes.2 in
     let opens : (book.key == key) ≡ true = grind (arith, nat_tests, holds) in
@@ -72,6 +68,7 @@ still_passes before operator b stamp (Broker key request) n command change reply
     let test = (if_makes (before.key == key) _ _ change reply is).0 in
     let same = stands.2 in
     (stands.0, stands.1, grind (arith, nat_tests, test, same))
+still_passes before operator b stamp (Viewer key view) n command change reply later asks is passes = absurd asks
 still_passes before operator b stamp (Bearer request) n command change reply later asks is passes = passes
 
 pub entry_told : BookEntriesActOnce

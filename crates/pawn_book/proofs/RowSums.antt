@@ -1,5 +1,5 @@
 -- a sum over a map's values, after an insertion
-use Rattle.std.proofs.Common.{◌≡◌, ℕ, ◌+◌, ◌<◌, List, [], ◌∷◌, map, Some, None, refl, ◌∙◌, ap, sym, arith, T, Ordering, if◌then◌else◌, Option, false, ◌&&◌}
+use Rattle.std.proofs.Common.{◌≡◌, ℕ, ◌+◌, ◌<◌, List, [], ◌∷◌, map, Some, None, refl, ◌∙◌, ap, sym, arith, T, Ordering, if◌then◌else◌, Option, false}
 use Rattle.std.{proofs.{Common.sum_by, lemmas.Cmp.nat_cmp_total}, specs.{Ordering.{eq_by_cmp, is_eq, is_lt, nat_cmp}, Cmp.ranked}}
 use Rattle.std.{specs.{declared.cmp.Ordering.TheVariants.{Less, Equal, Greater}, FinMap.{entries, entries-insert}}, proofs.lemmas.List.Sums.sum_by-cons}
 use Rattle.{std.specs.FinMap.{entries_sorted, find, get, get-entries, is_sorted, put}, pawn_book.specs.{BookStep.BookValue, HostStep.{Host, book_rows, rows}}}

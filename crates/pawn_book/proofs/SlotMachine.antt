@@ -1,8 +1,8 @@
 -- What one step of a book does to the machine of a slot.
 use Rattle.std.proofs.Common.{◌≡◌, ℕ, ◌+◌, ◌<◌, ◌≤◌, List, [], ◌∷◌, ◌++◌, length, Some, None, refl, ◌∙◌, ap, sym, subst, arith, if◌then◌else◌, Option, ◌==◌}
 use Rattle.{std.proofs.{Common.{true, false, is_some, nat_lt}, lemmas.Bool.Decides.nat_tests}, pawn_book.specs.Common.{Command, PledgeValue, Receipt, Stamp}}
-use Rattle.pawn_book.specs.{Common.flat_map, Laws.{Asks, command_of}, Books.{Bearer, Broker, Caller, Change, Export, Import, ImportBook, OnPledge, OnReceipt}}
-use Rattle.pawn_book.specs.{Books.{Operator, Present, PutPledge, PutTerms, Reply, SheetOf, Show, TakePledge}, BookStep.{BookValue, Makes, Outcome, Refuses}}
+use Rattle.pawn_book.specs.{Common.flat_map, Laws.{Asks, command_of}, Books.{Bearer, Broker, Caller, Change, Import, ImportBook, OnPledge, OnReceipt}}
+use Rattle.pawn_book.specs.{Books.{Operator, Present, PutPledge, PutTerms, Reply, TakePledge, Viewer}, BookStep.{BookValue, Makes, Outcome, Refuses}}
 use Rattle.pawn_book.specs.{BookStep.{Says, book_after, book_head, book_step, pledge_from}, Traces.{Did, Entered, SlotEvent, did, enters, is_live_in}}
 use Rattle.pawn_book.specs.{Traces.{slot_events, slot_of, touches, within_slot}, Machines.{after_command, after_judgement, no_pledge, solo_from, solo_step}}
 use Rattle.pawn_book.{specs.{Machines.with_pledge, Changes.numbered_pledges}, proofs.MadeLemmas.{BookIs, CommandIs, MadeBy, PledgeIs, RowsAre, TermsAre}}
@@ -85,9 +85,7 @@ does_asked (Broker key (PutTerms new)) n stamp command asks = absurd asks
 does_asked (Broker key (TakePledge opening)) n stamp command asks = absurd asks
 does_asked (Broker key (OnPledge m own)) n stamp command asks = ap (λ (c : Command). Did n stamp c ∷ []) asks.1
 does_asked (Broker key (Import importing rows)) n stamp command asks = absurd asks
-does_asked (Broker key (Show m)) n stamp command asks = absurd asks
-does_asked (Broker key (SheetOf day)) n stamp command asks = absurd asks
-does_asked (Broker key Export) n stamp command asks = absurd asks
+does_asked (Viewer key view) n stamp command asks = absurd asks
 does_asked (Bearer (Present receipts)) n stamp command asks = absurd asks
 does_asked (Bearer (OnReceipt r own)) n stamp command asks = ap (λ (c : Command). Did n stamp c ∷ []) asks.1
 

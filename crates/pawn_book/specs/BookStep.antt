@@ -6,12 +6,13 @@ use Rattle.pawn_book.specs.Common.{Refused, Running, Stamp, TermsFault, first_of
 use Rattle.pawn_book.specs.declared.refusal.Refusal.{Refusal, TheVariants.{Pledge, Terms, NoSuchBook, NoSuchReceipt, NoSuchPledge, BookTaken, NoTerms}}
 use Rattle.pawn_book.specs.declared.refusal.Refusal.TheVariants.{TermsSeq, RefTaken, WindowFull, BookNotEmpty, NotOperator, TermsFull, PledgesFull}
 use Rattle.pawn_book.specs.declared.{reply.Reply.{Reply, TheVariants.{BookMade, TermsPut, BookFilled, Opened, Commanded}}, request.NewBook.NewBook}
-use Rattle.pawn_book.specs.declared.request.{NewTerms.NewTerms, Caller.{Caller, TheVariants.{Operator, Broker, Bearer}}, BrokerRequest.BrokerRequest}
-use Rattle.pawn_book.specs.declared.request.BrokerRequest.TheVariants.{PutTerms, TakePledge, OnPledge, Import, Show, SheetOf, Export}
+use Rattle.pawn_book.specs.declared.request.{NewTerms.NewTerms, Caller.{Caller, TheVariants.{Operator, Broker, Viewer, Bearer}}, View.View}
+use Rattle.pawn_book.specs.declared.request.BrokerRequest.{BrokerRequest, TheVariants.{PutTerms, TakePledge, OnPledge, Import}}
 use Rattle.pawn_book.specs.declared.{request.BearerRequest.{BearerRequest, TheVariants.{Present, OnPledge as OnReceipt}}, change.Imported.Imported}
 use Rattle.pawn_book.specs.declared.change.{BookHead.BookHead, Change.{Change, TheVariants.{MakeBook, AddTerms, PutPledge, ImportBook}}}
 use Rattle.pawn_book.specs.{declared.{rows.BookRows.BookRows, sheet.SheetItem.SheetItem}, Bookings.{confirmed_count, is_confirmed}, Limits.most_terms}
 use Rattle.pawn_book.specs.{Limits.most_pledges, Rows.{is_same_text, terms_at}, Sheet.day_sheet}
+use Rattle.pawn_book.specs.declared.request.View.TheVariants as seen
 
 -- a book: its key, name and capacity, and what was put into it
 pub record BookValue : Type 0 where
@@ -245,7 +246,7 @@ abbrev pub bearer_commands : ℕ → ℕ → Stamp → Command → Option Pledge
 bearer_commands b n stamp command None = Refuses NoSuchReceipt
 bearer_commands b n stamp command (Some p) = judged_outcome b n (pledge_step p stamp command)
 
--- Show: the statement of a pledge
+-- a view: the statement of a pledge
 abbrev pub show_pledge : Stamp → Option PledgeValue → Outcome
 show_pledge stamp None = Refuses NoSuchPledge
 show_pledge stamp (Some p) = Says (Shown stamp.day (Some p ∷ []))
@@ -259,7 +260,7 @@ abbrev pub import_rows : BookHead → ℕ → ℕ → BookRows → Option Import
 import_rows head b key rows None = if is_empty head then Makes (ImportBook b key rows) (BookFilled (length rows.pledges)) else Refuses BookNotEmpty
 import_rows head b key rows (Some imported) = if imported.key == key then Says (Replied (BookFilled imported.pledges)) else Refuses BookNotEmpty
 
--- SheetOf: the sheet of a day
+-- a view: the sheet of a day
 abbrev pub show_sheet : BookValue → ℕ → Outcome
 show_sheet book day = Says (Listed day book.capacity (day_sheet book.pledges day))
 
@@ -267,19 +268,22 @@ show_sheet book day = Says (Listed day book.capacity (day_sheet book.pledges day
 abbrev pub rows_of_book : BookValue → BookRows
 rows_of_book book = record { terms = book.terms; pledges = book.pledges }
 
--- Export: the rows of the book
+-- a view: the rows of the book
 abbrev pub export_rows : BookValue → Outcome
 export_rows book = Says (Exported (rows_of_book book))
 
--- what a broker asks of the book
+-- what a broker asks to be done
 abbrev pub broker_step : BookValue → ℕ → Stamp → BrokerRequest → Outcome
 broker_step book b stamp (PutTerms new) = put_terms book b new (terms_at book.terms new.version)
 broker_step book b stamp (TakePledge opening) = take_pledge book b opening stamp (with_reference book.pledges opening.reference)
 broker_step book b stamp (OnPledge n command) = broker_commands book b n stamp command (pledge_from 1 book.pledges n)
 broker_step book b stamp (Import key rows) = import_rows (book_head book) b key rows book.imported
-broker_step book b stamp (Show n) = show_pledge stamp (pledge_from 1 book.pledges n)
-broker_step book b stamp (SheetOf day) = show_sheet book day
-broker_step book b stamp Export = export_rows book
+
+-- what the holder of the book's key asks to see
+abbrev pub view_step : BookValue → Stamp → View → Outcome
+view_step book stamp (seen.Pledge n) = show_pledge stamp (pledge_from 1 book.pledges n)
+view_step book stamp (seen.Sheet day) = show_sheet book day
+view_step book stamp seen.Rows = export_rows book
 
 -- refused unless there is such a book, and the key is its own
 abbrev pub gate_step : Option BookValue → ℕ → (BookValue → Outcome) → Outcome
@@ -319,4 +323,5 @@ bearer_step pledges b stamp (OnReceipt r command) = bearer_commands b r.number s
 abbrev pub book_step : Option BookValue → ℕ → ℕ → Stamp → Caller → Outcome
 book_step before operator b stamp (Operator key new) = operator_step operator key (make_book before b new)
 book_step before operator b stamp (Broker key asked) = gate_step before key (λ book. broker_step book b stamp asked)
+book_step before operator b stamp (Viewer key view) = gate_step before key (λ book. view_step book stamp view)
 book_step before operator b stamp (Bearer asked) = bearer_step (pledge_in before) b stamp asked

@@ -3,7 +3,7 @@ pub use Rattle.pawn_book.specs.declared.change.{Change.{Change, TheVariants.{Add
 pub use Rattle.pawn_book.specs.declared.refusal.Refusal.{Refusal, TheVariants.{BookNotEmpty, BookTaken, Full, Memory, NoSuchBook, NoSuchReceipt, NotOperator}}
 pub use Rattle.pawn_book.specs.declared.{refusal.Refusal.TheVariants.{PledgesFull, RefTaken, TermsFull, TermsSeq, WindowFull}, reply.Reply.Reply}
 pub use Rattle.pawn_book.specs.declared.{reply.Reply.TheVariants.{BookFilled, BookMade, Commanded, Opened, TermsPut}, request.BearerRequest.BearerRequest}
-pub use Rattle.pawn_book.specs.declared.request.{BearerRequest.TheVariants.{OnPledge as OnReceipt, Present}, BrokerRequest.TheVariants.{Export, Import}}
-pub use Rattle.pawn_book.specs.declared.request.{BrokerRequest.TheVariants.{OnPledge, PutTerms, SheetOf, Show, TakePledge}, Caller.{Caller, TheVariants.Bearer}}
-pub use Rattle.pawn_book.specs.declared.request.{Caller.TheVariants.{Broker, Operator}, NewBook.NewBook, NewTerms.NewTerms, Request.Request}
+pub use Rattle.pawn_book.specs.declared.request.{BearerRequest.TheVariants.{OnPledge as OnReceipt, Present}, BrokerRequest.TheVariants.Import}
+pub use Rattle.pawn_book.specs.declared.request.{BrokerRequest.TheVariants.{OnPledge, PutTerms, TakePledge}, Caller.{Caller, TheVariants.Bearer}}
+pub use Rattle.pawn_book.specs.declared.request.{Caller.TheVariants.{Broker, Operator, Viewer}, NewBook.NewBook, NewTerms.NewTerms, Request.Request}
 pub use Rattle.pawn_book.specs.declared.{rows.BookRows.BookRows, visit.Flow.{Flow, TheVariants.{Go, Stop}}}

@@ -1,7 +1,8 @@
 -- What holds of every book, whatever is asked.
 use Rattle.std.specs.Prelude.{◌≡◌, ℕ, List, [], ◌∷◌, Option, None, Some, is_some, true}
 use Rattle.{pawn_debt.specs.declared.entry.Sort.Sort, pawn_book.specs.Common.{Command, Done, MayExtend, PledgeValue, Stamp, end_of, entry_command}}
-use Rattle.pawn_book.specs.declared.request.{Caller.{Caller, TheVariants.{Operator, Broker, Bearer}}, BrokerRequest.BrokerRequest, BearerRequest.BearerRequest}
+use Rattle.pawn_book.specs.declared.request.Caller.{Caller, TheVariants.{Operator, Broker, Viewer, Bearer}}
+use Rattle.pawn_book.specs.declared.request.{BrokerRequest.BrokerRequest, BearerRequest.BearerRequest}
 use Rattle.pawn_book.specs.{declared.{reply.Reply.{Reply, TheVariants.Commanded}, change.Change.Change}, BookStep.{BookValue, Replied, Says, Makes}}
 use Rattle.pawn_book.specs.{BookStep.{book_after, changed_book, book_step, live_at, pledge_from, pledge_in}, Sound.IsSoundBook}
 use Rattle.pawn_book.specs.declared.request.BrokerRequest.TheVariants as asked
@@ -25,13 +26,11 @@ IsSetUp (asked.PutTerms new) = Unit {0}
 IsSetUp (asked.TakePledge opening) = Unit {0}
 IsSetUp (asked.OnPledge n command) = ⊥
 IsSetUp (asked.Import key rows) = Unit {0}
-IsSetUp (asked.Show n) = ⊥
-IsSetUp (asked.SheetOf day) = ⊥
-IsSetUp asked.Export = ⊥
 
 abbrev pub IsMaking : Caller → Type 0
 IsMaking (Operator key new) = Unit {0}
 IsMaking (Broker key request) = IsSetUp request
+IsMaking (Viewer key view) = ⊥
 IsMaking (Bearer request) = ⊥
 
 -- a request for one of them that made a change is answered the same again and makes none, whatever was asked in
@@ -48,9 +47,6 @@ broker_command (asked.PutTerms new) = None
 broker_command (asked.TakePledge opening) = None
 broker_command (asked.OnPledge n command) = Some command
 broker_command (asked.Import key rows) = None
-broker_command (asked.Show n) = None
-broker_command (asked.SheetOf day) = None
-broker_command asked.Export = None
 
 abbrev pub bearer_command : BearerRequest → Option Command
 bearer_command (presented.Present receipts) = None
@@ -59,6 +55,7 @@ bearer_command (presented.OnPledge receipt command) = Some command
 abbrev pub command_of : Caller → Option Command
 command_of (Operator key new) = None
 command_of (Broker key request) = broker_command request
+command_of (Viewer key view) = None
 command_of (Bearer request) = bearer_command request
 
 -- a caller commands pledge n
@@ -67,9 +64,6 @@ BrokerAsks (asked.PutTerms new) n command = ⊥
 BrokerAsks (asked.TakePledge opening) n command = ⊥
 BrokerAsks (asked.OnPledge m own) n command = (m ≡ n) × (own ≡ command)
 BrokerAsks (asked.Import key rows) n command = ⊥
-BrokerAsks (asked.Show m) n command = ⊥
-BrokerAsks (asked.SheetOf day) n command = ⊥
-BrokerAsks asked.Export n command = ⊥
 
 abbrev pub BearerAsks : BearerRequest → ℕ → Command → Type 0
 BearerAsks (presented.Present receipts) n command = ⊥
@@ -78,6 +72,7 @@ BearerAsks (presented.OnPledge receipt own) n command = (receipt.number ≡ n) �
 abbrev pub Asks : Caller → ℕ → Command → Type 0
 Asks (Operator key new) n command = ⊥
 Asks (Broker key request) n command = BrokerAsks request n command
+Asks (Viewer key view) n command = ⊥
 Asks (Bearer request) n command = BearerAsks request n command
 
 -- a bearer's receipt is live
@@ -89,6 +84,7 @@ IsStillLive book (presented.OnPledge receipt command) = is_some (live_at (pledge
 abbrev pub StillPasses : Option BookValue → Caller → Type 0
 StillPasses book (Operator key new) = Unit {0}
 StillPasses book (Broker key request) = Unit {0}
+StillPasses book (Viewer key view) = Unit {0}
 StillPasses book (Bearer request) = IsStillLive book request
 
 -- A drawing or repayment that was entered is answered the same again and enters nothing, on any day, whatever became of
@@ -105,6 +101,7 @@ BookEntriesActOnce =
 abbrev pub Passes : Option BookValue → Caller → Type 0
 Passes book (Operator key new) = Unit {0}
 Passes book (Broker key request) = (at : BookValue) × (book ≡ Some at) × (at.key ≡ key)
+Passes book (Viewer key view) = (at : BookValue) × (book ≡ Some at) × (at.key ≡ key)
 Passes book (Bearer request) = IsStillLive book request
 
 -- And so it is for any caller that passes. What a bearer entered is answered to the broker and to the bearer of a later

@@ -1,11 +1,10 @@
 -- What is planned and made of a request.
 use Rattle.std.specs.Prelude.{◌≡◌, ◌⊎◌, ℕ, ◌≤◌, ◌<◌, Option, Some, None, Result, Ok, Err, IfSome}
-use Rattle.{pawn_pledge.specs.declared.command.Stamp.Stamp, pawn_book.specs.declared.request.Caller.{Caller, TheVariants.{Operator, Broker, Bearer}}}
-use Rattle.pawn_book.specs.declared.{request.{BrokerRequest.BrokerRequest, BearerRequest.BearerRequest, Request.Request}, reply.Reply.Reply}
+use Rattle.{pawn_pledge.specs.declared.command.Stamp.Stamp, pawn_book.specs.declared.request.Caller.{Caller, TheVariants.{Operator, Broker, Viewer, Bearer}}}
+use Rattle.pawn_book.specs.declared.{request.{BearerRequest.BearerRequest, Request.Request}, reply.Reply.Reply}
 use Rattle.pawn_book.specs.{declared.{refusal.Refusal.Refusal, change.{BookHead.BookHead, Change.Change, Planned.Planned}}, BookStep.{BookValue, Outcome}}
 use Rattle.pawn_book.specs.{BookStep.{Replied, Refuses, Says, Makes, out_of, gate_step, book_head}, HostStep.{Host, rows, host_step, host_after}, Sound.IsSound}
 use Rattle.pawn_book.specs.{Changes.{CanSave, book_number, with_change}, Keeping.IsFitting}
-use Rattle.pawn_book.specs.declared.request.BrokerRequest.TheVariants as broker
 use Rattle.pawn_book.specs.declared.request.BearerRequest.TheVariants as bearer
 use Rattle.pawn_book.specs.declared.refusal.Refusal.TheVariants as No
 
@@ -76,20 +75,12 @@ IsLeftByAct h operator stamp request before (Ok reply) left = IsLeftByStep h req
 IsLeftByAct h operator stamp request before (Err why) left = before left ⊎ (IsUnwell why × (left ≡ next_host h operator stamp request))
 
 -- a request that may change its book
-abbrev pub IsBrokerWrite : BrokerRequest → Type 0
-IsBrokerWrite (broker.PutTerms new) = Unit {0}
-IsBrokerWrite (broker.TakePledge opening) = Unit {0}
-IsBrokerWrite (broker.OnPledge number command) = Unit {0}
-IsBrokerWrite (broker.Import key rows) = Unit {0}
-IsBrokerWrite (broker.Show number) = ⊥
-IsBrokerWrite (broker.SheetOf day) = ⊥
-IsBrokerWrite broker.Export = ⊥
-
 abbrev pub IsBearerWrite : BearerRequest → Type 0
 IsBearerWrite (bearer.Present receipts) = ⊥
 IsBearerWrite (bearer.OnPledge receipt command) = Unit {0}
 
 abbrev pub IsWritten : Caller → Type 0
 IsWritten (Operator key new) = Unit {0}
-IsWritten (Broker key asked) = IsBrokerWrite asked
+IsWritten (Broker key asked) = Unit {0}
+IsWritten (Viewer key view) = ⊥
 IsWritten (Bearer asked) = IsBearerWrite asked

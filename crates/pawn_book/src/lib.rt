@@ -54,7 +54,7 @@ pub use receipts::Receipts;
 pub use refusal::Refusal;
 pub use replaying::replayable;
 pub use reply::Reply;
-pub use request::{BearerRequest, BrokerRequest, Caller, Name, NewBook, NewTerms, Request};
+pub use request::{BearerRequest, BrokerRequest, Caller, Name, NewBook, NewTerms, Request, View};
 pub use rows::{BookRows, PledgeRows, know_written};
 pub use sheet::{Part, SheetItem};
 pub use visit::{Flow, Visitor};

@@ -49,17 +49,13 @@ pub fn plan<K: Keep>(
                     plan_number(keep, request.book, &head, *number, stamp, &command)
                 }
                 BrokerRequest::Import { key, rows } => plan_import(request.book, &head, *key, rows),
-                BrokerRequest::Show(_) | BrokerRequest::SheetOf(_) | BrokerRequest::Export => {
-                    unreachable!()
-                }
             }
         }
-        Caller::Bearer(asked) => match asked {
-            BearerRequest::Present(_) => unreachable!(),
-            BearerRequest::OnPledge { receipt, command } => {
-                let command = command.command();
-                plan_receipt(keep, request.book, receipt, stamp, &command)
-            }
-        },
+        Caller::Bearer(BearerRequest::OnPledge { receipt, command }) => {
+            let command = command.command();
+            plan_receipt(keep, request.book, receipt, stamp, &command)
+        }
+        // Whoever only asks to see something has nothing planned.
+        Caller::Viewer { .. } | Caller::Bearer(BearerRequest::Present(_)) => unreachable!(),
     }
 }

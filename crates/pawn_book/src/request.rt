@@ -1,5 +1,5 @@
 ghost use Rattle.std.specs.Prelude.{◌≡◌, ◌↔◌, IfOk, IsTrue};
-ghost use Rattle.pawn_book.specs.{Common.{IsText, IsUtf8}, Plans.{IsBearerWrite, IsBrokerWrite, IsWritten}, Limits.IsCapacity, Sound.IsWord};
+ghost use Rattle.pawn_book.specs.{Common.{IsText, IsUtf8}, Plans.{IsBearerWrite, IsWritten}, Limits.IsCapacity, Sound.IsWord};
 
 use crate::capacity::Capacity;
 use crate::importing::ReplayableRows;
@@ -27,6 +27,8 @@ pub enum Caller {
     Operator { key: Secret, new_book: NewBook },
     /// Runs one book, by its key.
     Broker { key: Secret, asked: BrokerRequest },
+    /// Sees something of one book, by its key.
+    Viewer { key: Secret, view: View },
     /// Presents receipts of one book.
     Bearer(BearerRequest),
 }
@@ -38,7 +40,8 @@ impl Caller {
     {
         match self {
             Caller::Operator { .. } => true,
-            Caller::Broker { key: _, asked } => asked.writes(),
+            Caller::Broker { .. } => true,
+            Caller::Viewer { .. } => false,
             Caller::Bearer(asked) => asked.writes(),
         }
     }
@@ -84,7 +87,7 @@ impl NewBook {
     }
 }
 
-/// What a broker asks.
+/// What a broker asks to be done.
 #[derive(Drop)]
 pub enum BrokerRequest {
     PutTerms(NewTerms),
@@ -99,29 +102,17 @@ pub enum BrokerRequest {
         key: Secret,
         rows: ReplayableRows,
     },
-    /// To see the pledge of this number.
-    Show(Number),
-    /// To see the sheet of this day.
-    SheetOf(RequestDay),
-    /// To see the rows of the book: its terms and its pledges.
-    Export,
 }
 
-impl BrokerRequest {
-    // Whether it may change the book.
-    fn writes(&self) -> bool
-        ensures writes { IsTrue result ↔ IsBrokerWrite self.now }
-    {
-        match self {
-            BrokerRequest::PutTerms(_) => true,
-            BrokerRequest::TakePledge(_) => true,
-            BrokerRequest::OnPledge { .. } => true,
-            BrokerRequest::Import { .. } => true,
-            BrokerRequest::Show(_) => false,
-            BrokerRequest::SheetOf(_) => false,
-            BrokerRequest::Export => false,
-        }
-    }
+/// What the holder of a book's key asks to see.
+#[derive(Clone, Copy)]
+pub enum View {
+    /// The pledge of this number.
+    Pledge(Number),
+    /// The sheet of this day.
+    Sheet(RequestDay),
+    /// The rows of the book: its terms and its pledges.
+    Rows,
 }
 
 /// Terms to be put under a version. They are checked by the book.

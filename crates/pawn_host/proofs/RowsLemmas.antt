@@ -1,16 +1,16 @@
 -- Lemmas on a request for the rows of a book.
-use Rattle.{std.proofs.Common.{◌≡◌, ◌∙◌, ℕ, List, ap, sym, Some, None, Ok, codes, option_map}, pawn_host.specs.Common.{BookValue, Export, Exported, Host}}
+use Rattle.{std.proofs.Common.{◌≡◌, ◌∙◌, ℕ, List, ap, sym, Some, None, Ok, codes, option_map}, pawn_host.specs.Common.{BookValue, Exported, Host, View}}
 use Rattle.pawn_host.specs.{Common.{Request, Says, SaysRequest, Stamp, csv_of, host_step, reply_text, rows_of_book}, declared.service.Answer.Answer}
-use Rattle.pawn_host.{specs.Keeps.{GoesTo, IsActed, IsKeyOf, Kept, Start, Tells, answer_bytes}, proofs.RunLemmas.{acted_text, broker_request, some_same}}
+use Rattle.pawn_host.{specs.Keeps.{GoesTo, IsActed, IsKeyOf, Kept, Start, Tells, answer_bytes}, proofs.RunLemmas.{acted_text, view_request, some_same}}
 use Rattle.{pawn_host.proofs.RunLemmas.step_past_gate, pawn_csv.specs.Exports.text_of}
 
 abbrev pub rows_request : ℕ → ℕ → Request
-rows_request book key = broker_request book key Export
+rows_request book key = view_request book key View.Rows
 
 -- what comes of an export that is asked for with the book's key
 step_rows : (h : Host) (operator : ℕ) (stamp : Stamp) (book key : ℕ) (with_key : IsKeyOf h book key)
     → host_step h operator stamp (rows_request book key) ≡ Says (Exported (rows_of_book with_key.0))
-step_rows h operator stamp book key with_key = step_past_gate h operator stamp book key Export with_key
+step_rows h operator stamp book key with_key = step_past_gate h operator stamp book key View.Rows with_key
 
 -- the text of a book that stands
 text_is : (h : Host) (book key : ℕ) (with_key : IsKeyOf h book key) → text_of h book ≡ Some (csv_of (rows_of_book with_key.0))

@@ -3,11 +3,12 @@ use Rattle.std.proofs.Common.{◌≡◌, ◌∙◌, ℕ, Bool, true, false, List
 use Rattle.std.proofs.{Common.{Ok, Err, codes, if◌then◌else◌, unwrap_or, option_map, ◌==◌, append-nil}, lemmas.Bool.Decides.nat_tests}
 use Rattle.pawn_book.specs.{Plans.{Acts, Commits, Gates, IsLeftByAct, IsLeftByStep, IsRefused, IsUnwell, next_host}, declared.request.Caller.Caller}
 use Rattle.{pawn_book.specs.{declared.{reply.Reply.Reply, change.Change.Change}, Changes.with_change}, pawn_host.specs.Common.{Answered, Bearer, BearerRequest}}
-use Rattle.pawn_host.specs.Common.{BookValue, Broker, BrokerRequest, Denied, Host, IsSound, Out, Outcome, Present, Receipt, Refusal, Refuses, Request, Says}
-use Rattle.pawn_host.specs.Common.{SaysRequest, Show, Shown, Stamp, Replied, WireFault, are_unknown, broker_step, fault_text, gate_step, get, host_after}
+use Rattle.pawn_host.specs.Common.{BookValue, Denied, Host, IsSound, Out, Outcome, Present, Receipt, Refusal, Refuses, Request, Says}
+use Rattle.pawn_host.specs.Common.{SaysRequest, Shown, Stamp, Replied, View, Viewer, WireFault, are_unknown, fault_text, gate_step, get, host_after}
 use Rattle.pawn_host.specs.Common.{host_step, memory_text, no_memory, no_store, out_of, out_text, pledge_in, read_as, reply_text, rows, show_pledge}
-use Rattle.pawn_host.specs.{Common.within_limit, declared.service.Answer.Answer, Keeps.{GoesTo, IsActed, IsKeyOf, Kept, Start, Tells, answer_bytes}}
-use Rattle.pawn_host.{specs.{Crashes.IsDone, Run.said_text, declared.service.Answer.TheVariants.{Bytes, Memory}}, proofs.CrashLemmas.goes_wider}
+use Rattle.pawn_host.specs.{Common.{view_step, within_limit}, declared.service.Answer.Answer, Keeps.{GoesTo, IsActed, IsKeyOf, Kept, Start, Tells}}
+use Rattle.pawn_host.{specs.{Crashes.IsDone, Keeps.answer_bytes, Run.said_text, declared.service.Answer.TheVariants.{Bytes, Memory}}}
+use Rattle.pawn_host.proofs.CrashLemmas.goes_wider
 use Rattle.pawn_view.specs.{Text.{presented_text, statement_text}, Shown.{live_pledges, presentation_of, pledge_at, statement_of}}
 use Rattle.pawn_pledge.specs.Pledge.{PledgeValue}
 use Rattle.pawn_wire.specs.declared.reply.Out.TheVariants as wire
@@ -212,27 +213,27 @@ acted_shown start stamp bytes answer kept book day receipts text out read day_is
     acted_text start stamp bytes answer kept (present_request book receipts) (Shown stamp.day shown) plain out read step
     (ap (reply_text 200 plain) same) tells goes
 
--- ---- what a broker asks to see
+-- ---- what the holder of a book's key asks to see
 
-abbrev pub broker_request : ℕ → ℕ → BrokerRequest → Request
-broker_request book key asked = record { book = book; caller = Broker key asked }
+abbrev pub view_request : ℕ → ℕ → View → Request
+view_request book key view = record { book = book; caller = Viewer key view }
 
 abbrev pub show_request : ℕ → ℕ → ℕ → Request
-show_request book key number = broker_request book key (Show number)
+show_request book key number = view_request book key (View.Pledge number)
 
 -- what comes of a request with the book's key
-pub step_past_gate : (h : Host) (operator : ℕ) (stamp : Stamp) (book key : ℕ) (asked : BrokerRequest) (with_key : IsKeyOf h book key)
-    → host_step h operator stamp (broker_request book key asked) ≡ within_limit h book (broker_step with_key.0 book stamp asked)
-step_past_gate h operator stamp book key asked with_key =
+pub step_past_gate : (h : Host) (operator : ℕ) (stamp : Stamp) (book key : ℕ) (view : View) (with_key : IsKeyOf h book key)
+    → host_step h operator stamp (view_request book key view) ≡ within_limit h book (view_step with_key.0 stamp view)
+step_past_gate h operator stamp book key view with_key =
     let at = with_key.0 in
     let same : (at.key == key) ≡ true = grind (arith, nat_tests, with_key.2) in
-    ap (λ (o : Option BookValue). within_limit h book (gate_step o key (λ (k : BookValue). broker_step k book stamp asked))) with_key.1
-    ∙ ap (λ (v : Bool). within_limit h book (if v then broker_step at book stamp asked else Refuses Refusal.NoSuchBook)) same
+    ap (λ (o : Option BookValue). within_limit h book (gate_step o key (λ (k : BookValue). view_step k stamp view))) with_key.1
+    ∙ ap (λ (v : Bool). within_limit h book (if v then view_step at stamp view else Refuses Refusal.NoSuchBook)) same
 
 -- .. for a pledge
 step_key : (h : Host) (operator : ℕ) (stamp : Stamp) (book key number : ℕ) → IsKeyOf h book key
     → host_step h operator stamp (show_request book key number) ≡ within_limit h book (show_pledge stamp (pledge_at h book number))
-step_key h operator stamp book key number with_key = step_past_gate h operator stamp book key (Show number) with_key
+step_key h operator stamp book key number with_key = step_past_gate h operator stamp book key (View.Pledge number) with_key
     ∙ ap (λ (o : Option BookValue). within_limit h book (show_pledge stamp (pledge_in o number))) (sym with_key.1)
 
 -- there is no such pledge
@@ -262,10 +263,10 @@ acted_statement start stamp bytes answer kept book key number day text out read 
           acted_text start stamp bytes answer kept (show_request book key number) said plain out read step (ap (reply_text 200 plain) same) tells goes
 
 -- the key was another's, or the keeper did not answer
-pub gate_refused : (h : Host) (operator : ℕ) (stamp : Stamp) (book key : ℕ) (asked : BrokerRequest) (why : Refusal) → Gates (get h.books book) key (Err why)
-    → IsUnwell why ⊎ (host_step h operator stamp (broker_request book key asked) ≡ Refuses why)
-gate_refused h operator stamp book key asked why refused =
-    elim (refused (λ (k : BookValue). broker_step k book stamp asked)) [
+pub gate_refused : (h : Host) (operator : ℕ) (stamp : Stamp) (book key : ℕ) (view : View) (why : Refusal) → Gates (get h.books book) key (Err why)
+    → IsUnwell why ⊎ (host_step h operator stamp (view_request book key view) ≡ Refuses why)
+gate_refused h operator stamp book key view why refused =
+    elim (refused (λ (k : BookValue). view_step k stamp view)) [
       | inl unwell ↦ inl unwell
       | inr is ↦ inr (ap (within_limit h book) is)
     ]
@@ -275,12 +276,12 @@ pub all_written : (old new out text : List ℕ) → out ≡ new → new ≡ old 
 all_written old new out text same written empty = sym (same ∙ written ∙ ap (λ (x : List ℕ). x ++ text) empty)
 
 -- a request, by its parts
+pub read_view : (bytes : List ℕ) (request : Request) (key : ℕ) (view : View) → request.caller ≡ Viewer key view
+    → SaysRequest bytes (Ok request) → SaysRequest bytes (Ok (view_request request.book key view))
+read_view bytes request key view called read =
+    subst (λ (caller : Caller). SaysRequest bytes (Ok (record { book = request.book; caller = caller }))) called read
+
 pub read_present : (bytes : List ℕ) (request : Request) (asked : BearerRequest) (receipts : List Receipt) → request.caller ≡ Bearer asked
     → asked ≡ Present receipts → SaysRequest bytes (Ok request) → SaysRequest bytes (Ok (present_request request.book receipts))
 read_present bytes request asked receipts called is read =
     subst (λ (caller : Caller). SaysRequest bytes (Ok (record { book = request.book; caller = caller }))) (called ∙ ap Bearer is) read
-
-pub read_broker : (bytes : List ℕ) (request : Request) (key : ℕ) (asked this : BrokerRequest) → request.caller ≡ Broker key asked → asked ≡ this
-    → SaysRequest bytes (Ok request) → SaysRequest bytes (Ok (broker_request request.book key this))
-read_broker bytes request key asked this called is read =
-    subst (λ (caller : Caller). SaysRequest bytes (Ok (record { book = request.book; caller = caller }))) (called ∙ ap (Broker key) is) read

@@ -1,11 +1,11 @@
 -- Lemmas on a request for the sheet of a day.
 use Rattle.{std.proofs.Common.{◌≡◌, ◌∙◌, ℕ, List, ap, sym, Some, None, Ok, option_map}, pawn_host.specs.Common.{BookValue, Host, Listed, Out, Request, Says}}
-use Rattle.pawn_host.specs.{Common.{SaysRequest, SheetOf, Stamp, host_step, reply_text}, declared.service.Answer.Answer, Keeps.{GoesTo, IsActed, IsKeyOf, Kept}}
-use Rattle.pawn_host.{specs.Keeps.{Start, Tells, answer_bytes}, proofs.RunLemmas.{acted_text, broker_request, plain, some_same, step_past_gate}}
+use Rattle.pawn_host.specs.{Common.{SaysRequest, Stamp, View, host_step, reply_text}, declared.service.Answer.Answer, Keeps.{GoesTo, IsActed, IsKeyOf, Kept}}
+use Rattle.pawn_host.{specs.Keeps.{Start, Tells, answer_bytes}, proofs.RunLemmas.{acted_text, view_request, plain, some_same, step_past_gate}}
 use Rattle.{pawn_view.specs.Sheets.{book_sheet, sheet_of}, pawn_book.specs.Sheet.day_sheet}
 
 abbrev pub sheet_request : ℕ → ℕ → ℕ → Request
-sheet_request book key day = broker_request book key (SheetOf day)
+sheet_request book key day = view_request book key (View.Sheet day)
 
 -- what is told of a book's day
 abbrev book_listed : ℕ → BookValue → Out
@@ -14,7 +14,7 @@ book_listed day book = Listed day book.capacity (day_sheet book.pledges day)
 -- what comes of a day that is asked for with the book's key
 step_sheet : (h : Host) (operator : ℕ) (stamp : Stamp) (book key day : ℕ) (with_key : IsKeyOf h book key)
     → host_step h operator stamp (sheet_request book key day) ≡ Says (book_listed day with_key.0)
-step_sheet h operator stamp book key day with_key = step_past_gate h operator stamp book key (SheetOf day) with_key
+step_sheet h operator stamp book key day with_key = step_past_gate h operator stamp book key (View.Sheet day) with_key
 
 -- the sheet of a book that stands
 sheet_is : (h : Host) (book key day : ℕ) (with_key : IsKeyOf h book key) → sheet_of h book day ≡ Some (book_sheet day with_key.0)

@@ -1,25 +1,19 @@
--- What the holder of a book's key may ask to see, and how it is answered.
+-- How the holder of a book's key is shown what was asked for.
 use Rattle.std.specs.Prelude.{◌≡◌, ℕ, List, Result, Ok, Err}
-use Rattle.pawn_host.specs.{Common.{Broker, BrokerRequest, Keeping, Refusal, Request, Stamp, ViewFault, out_text}, declared.service.Answer.Answer}
-use Rattle.pawn_host.specs.{declared.service.{View.{TheVariants.{Pledge, Rows, Sheet}, View}, Service.Service}, Keeps.{Answers, IsKeyOf, Serves, Tells}}
+use Rattle.pawn_host.specs.{Common.{Keeping, Refusal, Request, Stamp, View, ViewFault, Viewer, out_text}, declared.service.Answer.Answer}
+use Rattle.pawn_host.specs.{declared.service.Service.Service, Keeps.{Answers, IsKeyOf, Serves, Tells}}
 use Rattle.pawn_host.specs.Keeps.{answer_bytes}
 use Rattle.pawn_wire.specs.declared.reply.Out.TheVariants as wire
-
--- the request for a view
-abbrev pub view_asked : View → BrokerRequest
-view_asked (Pledge number) = BrokerRequest.Show number
-view_asked (Sheet day) = BrokerRequest.SheetOf day
-view_asked Rows = BrokerRequest.Export
 
 -- a call of the service answers this request
 abbrev pub ServesRequest : {K : Type 0} → Keeping K → Service K → Service K → Stamp → Request → Answer → Type 0
 ServesRequest k old new stamp request answer = Serves k old new (λ start. Answers start stamp request (answer_bytes answer))
 
 -- a call of the service answers what was asked of a book, if its key was given
-abbrev pub ServesHolder : {K : Type 0} → Keeping K → Service K → Service K → Stamp → ℕ → ℕ → BrokerRequest → Answer → Type 0
-ServesHolder k old new stamp book key asked answer =
+abbrev pub ServesHolder : {K : Type 0} → Keeping K → Service K → Service K → Stamp → ℕ → ℕ → View → Answer → Type 0
+ServesHolder k old new stamp book key view answer =
     Serves k old new
-    (λ start kept. IsKeyOf start.host book key → Answers start stamp (record { book = book; caller = Broker key asked }) (answer_bytes answer) kept)
+    (λ start kept. IsKeyOf start.host book key → Answers start stamp (record { book = book; caller = Viewer key view }) (answer_bytes answer) kept)
 
 -- The answer to a view. It is the text if that was written whole, this refusal if there is nothing to show, or that the
 -- store failed. In all other cases, and in place of any of these, it may be that memory was refused.

@@ -1,12 +1,12 @@
 //! The service over a keeper: one request, or a list of them.
 ghost use Rattle.std.specs.Prelude.{◌≡◌, IfOk, OnErr, map};
-ghost use Rattle.pawn_host.specs.{Common.{Bearer, Broker, Export, Present, SheetOf, Show, out_text}, Keeps.{IsActed, IsRun, Serves, StaysOpen, Tells}};
+ghost use Rattle.pawn_host.specs.{Common.{Bearer, Present, Viewer, out_text}, Keeps.{IsActed, IsRun, Serves, StaysOpen, Tells}};
 ghost use Rattle.pawn_host.specs.{Keeps.{answer_bytes, service_keep, service_operator}, Headline.IsRunOfSlots, Views.{ServesHolder, ServesRequest, TellsView}};
-ghost use Rattle.{pawn_host.specs.Views.view_asked, pawn_book.specs.Plans.IsWritten};
+ghost use Rattle.pawn_book.specs.{Plans.IsWritten, declared.request.View.TheVariants.{Pledge, Rows, Sheet}};
 
 use pawn_book::{
-    BearerRequest, BrokerRequest, Caller, Keep, Number, Receipts, Refusal, Request, RequestDay,
-    Secret, Stamp, commit, gate, plan,
+    BearerRequest, Caller, Keep, Number, Receipts, Refusal, Request, RequestDay, Secret, Stamp,
+    View, commit, gate, plan,
 };
 use pawn_csv::{RowWriter, export};
 use pawn_view::{show_day_sheet, show_presented, show_statement};
@@ -19,14 +19,6 @@ use std::alloc::{AllocError, Global};
 pub enum Answer {
     Bytes(Vec<u8>),
     Memory,
-}
-
-// What the holder of a book's key may ask to see: a pledge, a day's sheet, or all rows.
-#[derive(Clone, Copy)]
-enum View {
-    Pledge(Number),
-    Sheet(RequestDay),
-    Rows,
 }
 
 /// The service over a keeper of books. `operator` is the key that may make books.
@@ -105,7 +97,7 @@ impl<K: Keep> Service<K> {
     // Checks the key of a book, and shows its holder what was asked for.
     fn gate_and_show(&mut self, stamp: &Stamp, book: Number, key: Secret, view: View) -> Answer
         ensures stays { StaysOpen K.keeping self.old self.new }
-        ensures acted { ServesRequest K.keeping self.old self.new stamp.now (record { book = book; caller = Broker key (view_asked view) }) result }
+        ensures acted { ServesRequest K.keeping self.old self.new stamp.now (record { book = book; caller = Viewer key view }) result }
     {
         match gate(&mut self.keep, book, key) {
             Err(refusal) => return tell(self.alloc, &Out::Refused(refusal)),
@@ -117,7 +109,7 @@ impl<K: Keep> Service<K> {
     // Shows what was asked for of a book whose key was given.
     fn show_past_gate(&mut self, stamp: &Stamp, book: Number, key: Secret, view: View) -> Answer
         ensures stays { StaysOpen K.keeping self.old self.new }
-        ensures acted { ServesHolder K.keeping self.old self.new stamp.now book key (view_asked view) result }
+        ensures acted { ServesHolder K.keeping self.old self.new stamp.now book key view result }
     {
         match view {
             View::Pledge(number) => self.show_pledge(stamp, book, key, number),
@@ -129,7 +121,7 @@ impl<K: Keep> Service<K> {
     // Shows a pledge of a book whose key was given.
     fn show_pledge(&mut self, stamp: &Stamp, book: Number, key: Secret, number: Number) -> Answer
         ensures stays { StaysOpen K.keeping self.old self.new }
-        ensures acted { ServesHolder K.keeping self.old self.new stamp.now book key (Show number) result }
+        ensures acted { ServesHolder K.keeping self.old self.new stamp.now book key (Pledge number) result }
     {
         let mut writer = Writing::new(Vec::new(self.alloc));
         let day = stamp.day.day();
@@ -141,7 +133,7 @@ impl<K: Keep> Service<K> {
     // Shows the sheet of a day of a book whose key was given.
     fn show_sheet(&mut self, stamp: &Stamp, book: Number, key: Secret, day: RequestDay) -> Answer
         ensures stays { StaysOpen K.keeping self.old self.new }
-        ensures acted { ServesHolder K.keeping self.old self.new stamp.now book key (SheetOf day) result }
+        ensures acted { ServesHolder K.keeping self.old self.new stamp.now book key (Sheet day) result }
     {
         let mut writer = Writing::new(Vec::new(self.alloc));
         let shown = show_day_sheet(&mut self.keep, book, day.day(), &mut writer);
@@ -152,39 +144,12 @@ impl<K: Keep> Service<K> {
     // Shows the rows of a book whose key was given.
     fn show_rows(&mut self, stamp: &Stamp, book: Number, key: Secret) -> Answer
         ensures stays { StaysOpen K.keeping self.old self.new }
-        ensures acted { ServesHolder K.keeping self.old self.new stamp.now book key Export result }
+        ensures acted { ServesHolder K.keeping self.old self.new stamp.now book key Rows result }
     {
         let mut rows = RowWriter::new(self.alloc, Vec::new(self.alloc));
         let shown = export(&mut self.keep, book, &mut rows);
         let text = Out::Csv(rows.into_inner());
         tell_view(self.alloc, shown, &text, Refusal::NoSuchBook)
-    }
-
-    // Answers what a broker asks.
-    fn answer_broker(
-        &mut self,
-        stamp: &Stamp,
-        request: &Request,
-        key: Secret,
-        asked: &BrokerRequest,
-    ) -> Answer
-        requires asks { request.now.caller ≡ Broker key asked.now }
-        ensures stays { StaysOpen K.keeping self.old self.new }
-        ensures acted { ServesRequest K.keeping self.old self.new stamp.now request.now result }
-    {
-        match asked {
-            BrokerRequest::PutTerms(_) => self.act(stamp, request),
-            BrokerRequest::TakePledge(_) => self.act(stamp, request),
-            BrokerRequest::OnPledge { .. } => self.act(stamp, request),
-            BrokerRequest::Import { .. } => self.act(stamp, request),
-            BrokerRequest::Show(number) => {
-                self.gate_and_show(stamp, request.book, key, View::Pledge(*number))
-            }
-            BrokerRequest::SheetOf(day) => {
-                self.gate_and_show(stamp, request.book, key, View::Sheet(*day))
-            }
-            BrokerRequest::Export => self.gate_and_show(stamp, request.book, key, View::Rows),
-        }
     }
 
     // Answers what a bearer asks.
@@ -228,7 +193,8 @@ impl<K: Keep> Service<K> {
         };
         match &request.caller {
             Caller::Operator { .. } => self.act(stamp, &request),
-            Caller::Broker { key, asked } => self.answer_broker(stamp, &request, *key, asked),
+            Caller::Broker { .. } => self.act(stamp, &request),
+            Caller::Viewer { key, view } => self.gate_and_show(stamp, request.book, *key, *view),
             Caller::Bearer(asked) => self.answer_bearer(stamp, &request, asked),
         }
     }

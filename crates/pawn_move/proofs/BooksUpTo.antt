@@ -1,5 +1,5 @@
 -- The books of a host up to a number.
-use Rattle.std.proofs.Common.{◌≡◌, ◌≢◌, ◌==◌, ◌≤◌, ◌<◌, ◌++◌, ℕ, [], ◌∷◌, List, Bool, true, false, cond, ◌&&◌, Some, None, T, filter, flat_map, nat_le, refl}
+use Rattle.std.proofs.Common.{◌≡◌, ◌≢◌, ◌==◌, ◌≤◌, ◌<◌, ◌++◌, ℕ, [], ◌∷◌, List, Bool, true, false, cond, Some, None, T, filter, flat_map, nat_le, refl}
 use Rattle.std.{proofs.{Common.{sym, ap, subst, ◌∙◌, arith, append_assoc, append-nil}, lemmas.Bool.Decides.nat_tests}, specs.FinMap.Entries.below_all}
 use Rattle.{pawn_move.proofs.Basics.{both_told, below, same_key}, pawn_tables.specs.Common.{entries, entries_sorted, find_key, get, get-entries, is_sorted}}
 use Rattle.{pawn_tables.specs.{Common.{is_eq, nat_cmp, BookValue, IsNextBook}, StandsFor.of_books}, pawn_opening.specs.Common.{Row, Host}}

@@ -1,5 +1,5 @@
 -- The empty host is sound.
-use Rattle.std.{proofs.Common.{◌≡◌, ◌∙◌, ℕ, [], ◌∷◌, map, sym, ap, arith, sum_by}, specs.FinMap.{empty, entries, get-empty, len-empty, len-entries}}
+use Rattle.std.{proofs.Common.{◌≡◌, ◌∙◌, ℕ, [], map, sym, ap, arith, sum_by}, specs.FinMap.{empty, entries, get-empty, len-empty, len-entries}}
 use Rattle.{std.specs.Ordering.nat_cmp, pawn_book.{specs.{BookStep.BookValue, HostStep.{book_rows, rows}}, proofs.Sounds.absurd_none}}
 use Rattle.{pawn_opening.specs.Opened.empty_host, pawn_store.specs.Running.EmptyHostIsSound, pawn_base.proofs.ListLemmas.no_elements}
 

@@ -1,5 +1,5 @@
 -- A call over tables, from what the service says of it.
-use Rattle.std.proofs.{Common.{◌≡◌, ◌∙◌, ◌++◌, ℕ, List, [], refl, sym, subst, Result, Ok, Err, inl, All, Option}, lemmas.List.Elements.{All-append, All-nil}}
+use Rattle.std.proofs.{Common.{◌≡◌, ◌++◌, ℕ, List, [], refl, sym, subst, Result, Ok, Err, inl, All, Option}, lemmas.List.Elements.{All-append, All-nil}}
 use Rattle.pawn_host.specs.{declared.session.{Ended.Ended, IoFault.IoFault}, Session.{Given, IsSession}, Keeps.{GoesBy, Kept, Start}, Crashes.IsLeftByRun}
 use Rattle.pawn_host.{specs.Run.{IsMarked, Item, host_after_run}, proofs.CrashLemmas.{crash_leaves_whole, host_after-append, left_by-append, run_wider}}
 use Rattle.{pawn_host.proofs.HeadlineLemmas.runs_answer_alone, pawn_book.specs.{HostStep.Host, Sound.IsSound}, sqlite_wal.specs.Recovery.Image}

@@ -1,5 +1,5 @@
 -- The rows of one book: no request on another book changes them.
-use Rattle.std.specs.{Prelude.{ℕ, ◌≡◌, ◌≢◌, List, [], ◌∷◌, filter, map, Option, None, Some, IsPermutation}, List.AllByRecursion}
+use Rattle.std.specs.{Prelude.{ℕ, ◌≢◌, List, [], ◌∷◌, filter, map, Option, None, Some, IsPermutation}, List.AllByRecursion}
 use Rattle.{sqlite.specs.{Effect.Database, Order.Row, Table.Table, Tree.Trees}, pawn_book.specs.{Runs.{Event, request_in, run_host}, HostStep.Host}}
 use Rattle.{pawn_book.specs.{declared.request.Request.Request, Plans.next_host}, pawn_pledge.specs.declared.command.Stamp.Stamp}
 use Rattle.pawn_tables.specs.{StandsFor.StandsFor, At.at_book, Schema.{books, terms, pledges, entries, secrets, bookings, totals, extensions, bookings_tree}}

@@ -1,5 +1,5 @@
 -- Lists that are longer than those of a sound book.
-use Rattle.std.proofs.Common.{◌≡◌, ◌≤◌, ◌<◌, ◌+◌, ◌==◌, ℕ, suc, List, [], ◌∷◌, length, Option, Some, None, refl, ap, arith}
+use Rattle.std.proofs.Common.{◌≡◌, ◌≤◌, ◌<◌, ℕ, suc, List, [], ◌∷◌, length, Option, Some, None, refl, ap, arith}
 use Rattle.pawn_table_keeper.specs.Common.{get, cons_option, filter_map, PledgeValue, BookValue, pledge_in, Host, entries_of, extensions_of, pledges_of}
 use Rattle.{pawn_table_keeper.specs.Common.{secrets_of, part_item, part_items, IsSoundAt, IsUnsoundAt, Part}, pawn_debt.specs.Limits.most_entries}
 use Rattle.{pawn_pledge.specs.{Limits.{most_extensions, most_secrets}, Replayable.IsStanding}, pawn_book.{specs.Limits.most_pledges, proofs.Sounds.each_at}}

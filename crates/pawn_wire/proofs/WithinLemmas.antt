@@ -3,7 +3,7 @@ use Rattle.std.proofs.Common.{◌≡◌, ℕ, ◌≤◌, List, [], ◌∷◌, le
 use Rattle.std.proofs.Common.{inr, ◌==◌, ◌&&◌, not, nat_le, nat_lt, bytes_eq, if◌then◌else◌, is_some, option_map, option_and_then, slice_get, codes}
 use Rattle.{std.proofs.lemmas.Bool.Decides.nat_tests, pawn_wire.specs.Common.{AreFew, Bearer, BookRows, Broker, Command, Data, IsCapacity, IsNumber, IsOpening}}
 use Rattle.pawn_wire.specs.Common.{IsStampDay, IsText, MOST_ARTICLE_BYTES, MOST_BOOKINGS, MOST_NAME_BYTES, MOST_RECEIPTS, MOST_REFERENCE_BYTES, NewBook}
-use Rattle.pawn_wire.specs.{Common.{Opening, Operator, Receipt, Request, after_first, before_first, first_of, is_text, secret_of_text}, Route.AskedFor}
+use Rattle.pawn_wire.specs.{Common.{Opening, Operator, Receipt, Request, Viewer, after_first, before_first, first_of, is_text, secret_of_text}, Route.AskedFor}
 use Rattle.pawn_wire.specs.{Route.route_of, Types.{Asks, BadBody, BadReceipt, Create, Endpoint, Export, NoReceipt, NoRoute, OnPledge, OnReceipt, Outline}}
 use Rattle.pawn_wire.specs.Types.{Present, PutTerms, Show, ShowDay, TakePledge, TooManyReceipts, WireFault, WrongMethod, Import, BearerAction, BrokerAction}
 use Rattle.pawn_wire.specs.{Types.{NewBooking, NewEntry, Place, Target}, Request.{HoldsRows, IsAsked, IsOutlined, SaysRequest, framing_faults, outline_by}}
@@ -16,6 +16,7 @@ use Rattle.pawn_wire.{specs.{Place.{is_ascii_text, method_of, place_asked, place
 use Rattle.{pawn_wire.proofs.{NamedLemmas.day_said-is, ReceiptLemmas.all_said-length}, serde_json.specs.Find.{as_null, as_number, as_str, as_u64, get}}
 use Rattle.pawn_book.specs.declared.request.BrokerRequest.TheVariants as broker
 use Rattle.pawn_book.specs.declared.request.BearerRequest.TheVariants as bearer
+use Rattle.pawn_book.specs.declared.request.View.TheVariants as seen
 
 -- ---- chains
 
@@ -225,17 +226,17 @@ asks_within TakePledge fields body caller within e =
     (or_fault_ok BadBody _ caller key.2) (λ opening is. of_body IsOpening opening_of body opening is (λ d. opening_within d opening))
 asks_within (Show number) fields body caller within e =
     let key = after_ok (key_of fields) _ caller e in
-    let same : Asks.Whole (Broker key.0 (broker.Show number)) ≡ caller = cc (key.2) in subst AreAsksWithin same within
+    let same : Asks.Whole (Viewer key.0 (seen.Pledge number)) ≡ caller = cc (key.2) in subst AreAsksWithin same within
 asks_within (OnPledge number action) fields body caller within e =
     let key = after_ok (key_of fields) _ caller e in
     mapped AreAsksWithin (λ command. Asks.Whole (Broker key.0 (broker.OnPledge number command))) (brokers_command_said action body) caller
     (or_fault_ok BadBody _ caller key.2) (λ command is. (within, brokers_within action body command is))
 asks_within (ShowDay day) fields body caller within e =
     let key = after_ok (key_of fields) _ caller e in
-    let same : Asks.Whole (Broker key.0 (broker.SheetOf day)) ≡ caller = cc (key.2) in subst AreAsksWithin same within
+    let same : Asks.Whole (Viewer key.0 (seen.Sheet day)) ≡ caller = cc (key.2) in subst AreAsksWithin same within
 asks_within Export fields body caller within e =
     let key = after_ok (key_of fields) _ caller e in
-    let same : Asks.Whole (Broker key.0 broker.Export) ≡ caller = cc (key.2) in subst AreAsksWithin same tt
+    let same : Asks.Whole (Viewer key.0 seen.Rows) ≡ caller = cc (key.2) in subst AreAsksWithin same tt
 asks_within Import fields body caller within e =
     let key = after_ok (key_of fields) _ caller e in
     let importing = after_ok (key_given (codes "import-key") fields) _ caller key.2 in

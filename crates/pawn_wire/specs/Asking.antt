@@ -1,11 +1,12 @@
 -- Who asks at a target, and what for.
 use Rattle.std.specs.Prelude.{ℕ, List, [], ◌∷◌, codes, Option, None, option_map, Result, Ok}
-use Rattle.pawn_wire.specs.{Common.{Bearer, Broker, Operator, secret_of_text}, Body.{new_book_of, new_terms_of, opening_of}, Chain.{after, or_fault}}
+use Rattle.pawn_wire.specs.{Common.{Bearer, Broker, Operator, Viewer, secret_of_text}, Body.{new_book_of, new_terms_of, opening_of}, Chain.{after, or_fault}}
 use Rattle.pawn_wire.specs.{Commands.{brokers_command_said, bearers_command_said}, Fields.{Pair, values_of}, Member.body_said, Receipts.receipt_values}
 use Rattle.pawn_wire.specs.{Receipts.{receipts_said, one_said}, Types.{Asks, BadBody, BadKey, Create, Export, Import, OnPledge, OnReceipt, Present, PutTerms}}
 use Rattle.pawn_wire.specs.Types.{Show, ShowDay, TakePledge, Target, WireFault}
 use Rattle.pawn_book.specs.declared.request.BrokerRequest.TheVariants as broker
 use Rattle.pawn_book.specs.declared.request.BearerRequest.TheVariants as bearer
+use Rattle.pawn_book.specs.declared.request.View.TheVariants as seen
 
 -- the key in these values, if there is exactly one value
 abbrev pub key_said : List (List ℕ) → Option ℕ
@@ -29,12 +30,12 @@ asks_said PutTerms fields body =
     after (key_of fields) (λ key. or_fault BadBody (option_map (λ terms. Asks.Whole (Broker key (broker.PutTerms terms))) (body_said new_terms_of body)))
 asks_said TakePledge fields body =
     after (key_of fields) (λ key. or_fault BadBody (option_map (λ opening. Asks.Whole (Broker key (broker.TakePledge opening))) (body_said opening_of body)))
-asks_said (Show number) fields body = after (key_of fields) (λ key. Ok (Asks.Whole (Broker key (broker.Show number))))
+asks_said (Show number) fields body = after (key_of fields) (λ key. Ok (Asks.Whole (Viewer key (seen.Pledge number))))
 asks_said (OnPledge number action) fields body =
     after (key_of fields) (λ key. or_fault BadBody
     (option_map (λ command. Asks.Whole (Broker key (broker.OnPledge number command))) (brokers_command_said action body)))
-asks_said (ShowDay day) fields body = after (key_of fields) (λ key. Ok (Asks.Whole (Broker key (broker.SheetOf day))))
-asks_said Export fields body = after (key_of fields) (λ key. Ok (Asks.Whole (Broker key broker.Export)))
+asks_said (ShowDay day) fields body = after (key_of fields) (λ key. Ok (Asks.Whole (Viewer key (seen.Sheet day))))
+asks_said Export fields body = after (key_of fields) (λ key. Ok (Asks.Whole (Viewer key seen.Rows)))
 asks_said Import fields body =
     after (key_of fields) (λ key. after (key_given (codes "import-key") fields) (λ importing. Ok (Asks.Import key importing)))
 asks_said Present fields body =

@@ -11,8 +11,8 @@ pub use Rattle.pawn_pledge.specs.{Receipt.{IsReceiptText, receipt_text}, Replaya
 pub use Rattle.pawn_pledge.specs.declared.command.{Command.Command, Decision.TheVariants.{Confirm, Refuse}, Paper.TheVariants.{Sworn, Written}}
 pub use Rattle.pawn_pledge.specs.declared.{limits.TheConstants.{MOST_ARTICLE_BYTES, MOST_REFERENCE_BYTES}, receipt.Receipt.Receipt}
 pub use Rattle.{pawn_pledge.specs.declared.record.{Booking.Booking, Opening.Opening}, pawn_book.specs.Limits.{AreFew, IsCapacity}}
-pub use Rattle.pawn_book.specs.declared.{limits.TheConstants.{MOST_BOOKINGS, MOST_NAME_BYTES, MOST_RECEIPTS}, request.BrokerRequest.TheVariants.Export}
-pub use Rattle.pawn_book.specs.declared.request.{BrokerRequest.TheVariants.{Import, PutTerms, SheetOf, Show, TakePledge}, Caller.TheVariants.{Bearer, Broker}}
+pub use Rattle.pawn_book.specs.declared.{limits.TheConstants.{MOST_BOOKINGS, MOST_NAME_BYTES, MOST_RECEIPTS}, request.Caller.TheVariants.Viewer}
+pub use Rattle.pawn_book.specs.declared.request.{BrokerRequest.TheVariants.{Import, PutTerms, TakePledge}, Caller.TheVariants.{Bearer, Broker}}
 pub use Rattle.pawn_book.specs.declared.{request.{Caller.TheVariants.Operator, NewBook.NewBook, Request.Request}, rows.BookRows.BookRows}
 pub use Rattle.pawn_csv.specs.declared.fault.{Cause.Cause, CsvFault.CsvFault}
 unfoldable pub use Rattle.{std.specs.Str.{chars, is_utf8}, pawn_terms.specs.Calendar.{civil_after, days_of_months, days_of_years}}

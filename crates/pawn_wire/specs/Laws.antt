@@ -1,8 +1,8 @@
 -- Laws of the definitions.
 use Rattle.std.specs.Prelude.{[], ◌∷◌, ◌++◌, ◌≡◌, ℕ, ◌≤◌, List, codes, Bool, true, false, IsTrue, ◌&&◌, not, ◌==◌, nat_le, if◌then◌else◌, Option, Some, None}
 use Rattle.std.specs.Prelude.{Result, Ok, decimal}
-use Rattle.pawn_wire.specs.Common.{AreFew, Bearer, Booking, Broker, Command, Entry, Export, Import, IsCapacity, IsNumber, IsOpening, IsStampDay, IsText}
-use Rattle.pawn_wire.specs.Common.{MOST_NAME_BYTES, Members, Operator, PutTerms, Request, SheetOf, Show, TakePledge, boolean, compact_text, day_text, list_all}
+use Rattle.pawn_wire.specs.Common.{AreFew, Bearer, Booking, Broker, Command, Entry, Import, IsCapacity, IsNumber, IsOpening, IsStampDay, IsText}
+use Rattle.pawn_wire.specs.Common.{MOST_NAME_BYTES, Members, Operator, PutTerms, Request, TakePledge, Viewer, boolean, compact_text, day_text, list_all}
 use Rattle.pawn_wire.specs.{Common.{member, no_members, number, object, sort_text, state_text, string, unsigned}, Bodies.{book_text, version_text, filled_text}}
 use Rattle.pawn_wire.specs.{Bodies.{opened_text, refusal_text}, Done.{entered_text, held_text, declared_text, booked_text, redeemed_text, sold_text}}
 use Rattle.pawn_wire.specs.{Done.extended_text, Limits.max_number, Named.{number_said, day_said}, Request.SaysRequest, Route.{table, route_of}, Types.Detail}
@@ -10,6 +10,7 @@ use Rattle.{pawn_wire.specs.Types.{Endpoint, Row, Total, WireFault}, pawn_base.s
 use Rattle.pawn_book.specs.{declared.request.BearerRequest.TheVariants.Present, Rows.AreReplayable}
 use Rattle.pawn_book.specs.declared.request.BrokerRequest.TheVariants as broker
 use Rattle.pawn_book.specs.declared.request.BearerRequest.TheVariants as bearer
+use Rattle.pawn_book.specs.declared.request.View.TheVariants as seen
 
 -- no byte that a JSON text escapes
 abbrev pub is_unescaped : List ℕ → Bool
@@ -93,10 +94,10 @@ IsCallerWithin (Operator key new_book) = IsText MOST_NAME_BYTES new_book.name ×
 IsCallerWithin (Broker key (PutTerms terms)) = Unit {0}
 IsCallerWithin (Broker key (TakePledge opening)) = IsOpening opening
 IsCallerWithin (Broker key (broker.OnPledge n command)) = IsNumber n × IsCommandWithin command
-IsCallerWithin (Broker key (Show n)) = IsNumber n
 IsCallerWithin (Broker key (Import importing rows)) = AreReplayable rows.terms rows.pledges
-IsCallerWithin (Broker key (SheetOf day)) = IsStampDay day
-IsCallerWithin (Broker key Export) = Unit {0}
+IsCallerWithin (Viewer key (seen.Pledge n)) = IsNumber n
+IsCallerWithin (Viewer key (seen.Sheet day)) = IsStampDay day
+IsCallerWithin (Viewer key seen.Rows) = Unit {0}
 IsCallerWithin (Bearer (Present receipts)) = AreFew receipts
 IsCallerWithin (Bearer (bearer.OnPledge receipt command)) = IsNumber receipt.number × IsCommandWithin command
 

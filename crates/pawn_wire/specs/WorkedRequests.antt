@@ -1,6 +1,6 @@
 -- Examples of requests, worked out.
 use Rattle.std.specs.Prelude.{◌≡◌, ℕ, List, [], ◌∷◌, codes, replicate, false, true, Option, Some, None, Ok, Err}
-use Rattle.pawn_wire.specs.{Common.{Bearer, Broker, Command, Confirm, Fixed, Receipt, Running, Sworn}, Body.{new_book_of, new_terms_of, opening_of}}
+use Rattle.pawn_wire.specs.{Common.{Bearer, Broker, Command, Confirm, Fixed, Receipt, Running, Sworn, Viewer}, Body.{new_book_of, new_terms_of, opening_of}}
 use Rattle.pawn_wire.specs.{Commands.{brokers_command_said, bearers_command_said}, Fields.Pair, Limits.{max_head, max_fields, max_body, max_digits, max_number}}
 use Rattle.pawn_wire.specs.{Member.body_said, Named.{number_said, day_said}, Receipts.{receipt_values, receipt_said, receipts_said, one_said}, Asking.key_of}
 use Rattle.pawn_wire.specs.{Place.place_of, Request.outline_by, WorkedHeads.{chunked_coding, tells_length}, Types.{Asks, BadBody, BadKey, BadReceipt}}
@@ -8,6 +8,7 @@ use Rattle.pawn_wire.specs.Types.{BearerAction, BrokerAction, Create, Export, Im
 use Rattle.{pawn_wire.specs.Types.{ShowDay, TakePledge, Target, TooManyReceipts, WireFault, WrongMethod}, pawn_terms.specs.Worked.date}
 use Rattle.pawn_book.specs.declared.request.BrokerRequest.TheVariants as broker
 use Rattle.pawn_book.specs.declared.request.BearerRequest.TheVariants as bearer
+use Rattle.pawn_book.specs.declared.request.View.TheVariants as seen
 
 -- the limits of a request: the bytes and the fields of its head, the bytes of its body, the digits of the number that
 -- gives the body's length, and the largest number in a body
@@ -193,11 +194,11 @@ WorkedOrder =
 abbrev pub WorkedRequests : Type 0
 WorkedRequests =
     (outline_by (codes "GET") (codes "/books/7/pledges/3") (gives_key operator_key ∷ []) []
-    ≡ Ok (record { book = 7; asks = Asks.Whole (Broker 0x11111111_1111_1111_1111_111111111111 (broker.Show 3)) }))
+    ≡ Ok (record { book = 7; asks = Asks.Whole (Viewer 0x11111111_1111_1111_1111_111111111111 (seen.Pledge 3)) }))
     × (outline_by (codes "GET") (codes "/books/7/days/2024-02-29") (gives_key operator_key ∷ []) []
-    ≡ Ok (record { book = 7; asks = Asks.Whole (Broker 0x11111111_1111_1111_1111_111111111111 (broker.SheetOf (date 2024 2 29))) }))
+    ≡ Ok (record { book = 7; asks = Asks.Whole (Viewer 0x11111111_1111_1111_1111_111111111111 (seen.Sheet (date 2024 2 29))) }))
     × (outline_by (codes "GET") (codes "/books/7/export") (gives_key operator_key ∷ []) []
-    ≡ Ok (record { book = 7; asks = Asks.Whole (Broker 0x11111111_1111_1111_1111_111111111111 broker.Export) }))
+    ≡ Ok (record { book = 7; asks = Asks.Whole (Viewer 0x11111111_1111_1111_1111_111111111111 seen.Rows) }))
     × (outline_by (codes "POST") (codes "/books/7/import") (gives_import_key ∷ gives_key operator_key ∷ []) []
     ≡ Ok (record { book = 7; asks = Asks.Import 0x11111111_1111_1111_1111_111111111111 0x33333333_3333_3333_3333_333333333333 }))
     × (outline_by (codes "POST") (codes "/books/7/pledges/3/hold") (gives_key operator_key ∷ []) []

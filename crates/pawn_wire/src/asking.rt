@@ -8,7 +8,7 @@ use crate::fields::{Fields, Found};
 use crate::place::Target;
 use crate::route::{BearerAction, BrokerAction};
 use crate::{body, commands, member, receipts};
-use pawn_book::{BearerRequest, BrokerRequest, Caller, Number, RequestDay, Secret};
+use pawn_book::{BearerRequest, BrokerRequest, Caller, Number, RequestDay, Secret, View};
 use std::alloc::Global;
 
 /// What a request has besides its method and target.
@@ -70,6 +70,13 @@ fn by_broker(key: Secret, asked: BrokerRequest) -> Asks
     Asks::Whole(Caller::Broker { key, asked })
 }
 
+// A view, with this key.
+fn by_viewer(key: Secret, view: View) -> Asks
+    ensures value { result ≡ Asks.Whole (Caller.Viewer key view) }
+{
+    Asks::Whole(Caller::Viewer { key, view })
+}
+
 // A broker, who takes a pledge.
 fn take_pledge(alloc: Global, sent: &Sent<'_>) -> Result<Asks, WireFault>
     ensures value { Says result (asks_said TakePledge (pairs_of sent.now.fields) sent.now.body.now) }
@@ -85,7 +92,7 @@ fn show(number: Number, sent: &Sent<'_>) -> Result<Asks, WireFault>
     ensures value { Says result (asks_said (Show number) (pairs_of sent.now.fields) sent.now.body.now) }
 {
     let key = key(&sent.fields)?;
-    Ok(by_broker(key, BrokerRequest::Show(number)))
+    Ok(by_viewer(key, View::Pledge(number)))
 }
 
 // A broker, with a command for the pledge of this number.
@@ -107,7 +114,7 @@ fn show_day(day: RequestDay, sent: &Sent<'_>) -> Result<Asks, WireFault>
     ensures value { Says result (asks_said (ShowDay day) (pairs_of sent.now.fields) sent.now.body.now) }
 {
     let key = key(&sent.fields)?;
-    Ok(by_broker(key, BrokerRequest::SheetOf(day)))
+    Ok(by_viewer(key, View::Sheet(day)))
 }
 
 // A broker, who exports the book as a text.
@@ -115,7 +122,7 @@ fn export(sent: &Sent<'_>) -> Result<Asks, WireFault>
     ensures value { Says result (asks_said Export (pairs_of sent.now.fields) sent.now.body.now) }
 {
     let key = key(&sent.fields)?;
-    Ok(by_broker(key, BrokerRequest::Export))
+    Ok(by_viewer(key, View::Rows))
 }
 
 // A broker, who fills the book with the rows of an import: the broker's key and the import's.

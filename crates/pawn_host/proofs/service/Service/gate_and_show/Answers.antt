@@ -1,5 +1,5 @@
-use Rattle.{std.proofs.Common.refl, pawn_host.{specs.{Keeps.{service_operator, start_of}, Views.view_asked}, proofs.CrashLemmas.goes_read}}
-use Rattle.pawn_host.proofs.{RunLemmas.{acted_refused, broker_request, err_is, gate_refused}, SessionLemmas.acted_at}
+use Rattle.{std.proofs.Common.refl, pawn_host.{specs.Keeps.{service_operator, start_of}, proofs.CrashLemmas.goes_read}}
+use Rattle.pawn_host.proofs.{RunLemmas.{acted_refused, view_request, err_is, gate_refused}, SessionLemmas.acted_at}
 use Rattle.pawn_host.proofs.service.Service.gate_and_show.Goals as goal
 
 pub returns-clause-acted : goal.returns-clause-acted
@@ -15,6 +15,6 @@ returns-in-Err-clause-acted g c = λ honest h sound at bytes read.
     let operator = service_operator c.args.self.now in
     let why = c.in-Err.refusal in
     let gates = rw c.in-Err.is at (c.gate.ensures.reads.tells honest h at) in
-    acted_refused (start_of g.K.Keep.keeping c.args.self.now h) c.args.stamp.now bytes c.tell.result _ (broker_request c.args.book c.args.key
-    (view_asked c.args.view)) why read c.tell.ensures.tells (goes_read c.gate.ensures.reads honest h at sound) (gate_refused h operator c.args.stamp.now
-    c.args.book c.args.key (view_asked c.args.view) why gates) (λ steady store. c.gate.ensures.steady steady (err_is c.gate.result why c.in-Err.is store))
+    acted_refused (start_of g.K.Keep.keeping c.args.self.now h) c.args.stamp.now bytes c.tell.result _ (view_request c.args.book c.args.key
+    c.args.view) why read c.tell.ensures.tells (goes_read c.gate.ensures.reads honest h at sound) (gate_refused h operator c.args.stamp.now
+    c.args.book c.args.key c.args.view why gates) (λ steady store. c.gate.ensures.steady steady (err_is c.gate.result why c.in-Err.is store))
