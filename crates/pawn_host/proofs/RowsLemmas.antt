@@ -1,8 +1,9 @@
 -- Lemmas on a request for the rows of a book.
 use Rattle.{std.proofs.Common.{◌≡◌, ◌∙◌, ℕ, List, ap, sym, Some, None, Ok, codes, option_map}, pawn_host.specs.Common.{BookValue, Exported, Host, View}}
 use Rattle.pawn_host.specs.{Common.{Request, Says, SaysRequest, Stamp, csv_of, host_step, reply_text, rows_of_book}, declared.service.Answer.Answer}
-use Rattle.pawn_host.{specs.Keeps.{GoesTo, IsActed, IsKeyOf, Kept, Start, Tells, answer_bytes}, proofs.RunLemmas.{acted_text, view_request, some_same}}
+use Rattle.pawn_host.{specs.Keeps.{GoesTo, IsActed, IsKeyOf, Kept, Start, Tells, answer_bytes}, proofs.RunLemmas.{acted_text, view_request}}
 use Rattle.{pawn_host.proofs.RunLemmas.step_past_gate, pawn_csv.specs.Exports.text_of}
+use Rattle.pawn_view.proofs.StatementLemmas.{some_same}
 
 abbrev pub rows_request : ℕ → ℕ → Request
 rows_request book key = view_request book key View.Rows

@@ -1,6 +1,6 @@
 -- Lemmas on one item of a run.
 use Rattle.std.proofs.Common.{◌≡◌, ◌∙◌, ℕ, Bool, true, false, List, [], ◌∷◌, ◌++◌, ◌⊎◌, ◌<◌, arith, inl, inr, refl, ap, sym, subst, Option, Some, None, Result}
-use Rattle.std.proofs.{Common.{Ok, Err, codes, if◌then◌else◌, unwrap_or, option_map, ◌==◌, append-nil}, lemmas.Bool.Decides.nat_tests}
+use Rattle.std.proofs.{Common.{Ok, Err, codes, if◌then◌else◌, option_map, ◌==◌, append-nil}, lemmas.Bool.Decides.nat_tests}
 use Rattle.pawn_book.specs.{Plans.{Acts, Commits, Gates, IsLeftByAct, IsLeftByStep, IsRefused, IsUnwell, next_host}, declared.request.Caller.Caller}
 use Rattle.{pawn_book.specs.{declared.{reply.Reply.Reply, change.Change.Change}, Changes.with_change}, pawn_host.specs.Common.{Answered, Bearer, BearerRequest}}
 use Rattle.pawn_host.specs.Common.{BookValue, Denied, Host, IsSound, Out, Outcome, Present, Receipt, Refusal, Refuses, Request, Says}
@@ -11,6 +11,7 @@ use Rattle.pawn_host.{specs.{Crashes.IsDone, Keeps.answer_bytes, Run.said_text, 
 use Rattle.pawn_host.proofs.CrashLemmas.goes_wider
 use Rattle.pawn_view.specs.{Text.{presented_text, statement_text}, Shown.{live_pledges, presentation_of, pledge_at, statement_of}}
 use Rattle.pawn_pledge.specs.Pledge.{PledgeValue}
+use Rattle.pawn_view.proofs.StatementLemmas.{some_same}
 use Rattle.pawn_wire.specs.declared.reply.Out.TheVariants as wire
 
 -- memory was wanting, and nothing changed
@@ -183,9 +184,6 @@ step_known : (h : Host) (operator : ℕ) (stamp : Stamp) (book : ℕ) (receipts 
     → host_step h operator stamp (present_request book receipts) ≡ Says (Shown stamp.day (live_pledges h book receipts))
 step_known h operator stamp book receipts is =
     ap (λ (b : Bool). within_limit h book (if b then Refuses Refusal.NoSuchReceipt else Says (Shown stamp.day (live_pledges h book receipts)))) is
-
-pub some_same : {A : Type 0} {a b : A} → Some a ≡ Some b → a ≡ b
-some_same {a = a} e = ap (λ (o : Option _). unwrap_or o a) e
 
 text_known : (u : Bool) (shown text : List ℕ) → (if u then None else Some shown) ≡ Some text → (u ≡ false) × (text ≡ shown)
 text_known true shown text is = cc

@@ -1,8 +1,9 @@
 -- Lemmas on a request for the sheet of a day.
 use Rattle.{std.proofs.Common.{◌≡◌, ◌∙◌, ℕ, List, ap, sym, Some, None, Ok, option_map}, pawn_host.specs.Common.{BookValue, Host, Listed, Out, Request, Says}}
 use Rattle.pawn_host.specs.{Common.{SaysRequest, Stamp, View, host_step, reply_text}, declared.service.Answer.Answer, Keeps.{GoesTo, IsActed, IsKeyOf, Kept}}
-use Rattle.pawn_host.{specs.Keeps.{Start, Tells, answer_bytes}, proofs.RunLemmas.{acted_text, view_request, plain, some_same, step_past_gate}}
+use Rattle.pawn_host.{specs.Keeps.{Start, Tells, answer_bytes}, proofs.RunLemmas.{acted_text, view_request, plain, step_past_gate}}
 use Rattle.{pawn_view.specs.Sheets.{book_sheet, sheet_of}, pawn_book.specs.Sheet.day_sheet}
+use Rattle.pawn_view.proofs.StatementLemmas.{some_same}
 
 abbrev pub sheet_request : ℕ → ℕ → ℕ → Request
 sheet_request book key day = view_request book key (View.Sheet day)

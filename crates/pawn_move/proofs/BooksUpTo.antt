@@ -1,19 +1,12 @@
 -- The books of a host up to a number.
 use Rattle.std.proofs.Common.{◌≡◌, ◌≢◌, ◌==◌, ◌≤◌, ◌<◌, ◌++◌, ℕ, [], ◌∷◌, List, Bool, true, false, cond, Some, None, T, filter, flat_map, nat_le, refl}
 use Rattle.std.{proofs.{Common.{sym, ap, subst, ◌∙◌, arith, append_assoc, append-nil}, lemmas.Bool.Decides.nat_tests}, specs.FinMap.Entries.below_all}
-use Rattle.{pawn_move.proofs.Basics.{both_told, below, same_key}, pawn_tables.specs.Common.{entries, entries_sorted, find_key, get, get-entries, is_sorted}}
+use Rattle.{pawn_move.proofs.Basics.{both_told, below}, pawn_tables.specs.Common.{entries, entries_sorted, find_key, get, get-entries, is_sorted}}
 use Rattle.{pawn_tables.specs.{Common.{is_eq, nat_cmp, BookValue, IsNextBook}, StandsFor.of_books}, pawn_opening.specs.Common.{Row, Host}}
+use Rattle.pawn_tables.proofs.BookReads.{below_key}
 
 abbrev pub Entry : Type 0
 Entry = ℕ × BookValue
-
--- a key that is found behind a lower bound
-pub below_key : (n : ℕ) (es : List Entry) → T (below_all nat_cmp n es) → (b : ℕ) (k : BookValue) → find_key nat_cmp b es ≡ Some k → n < b
-below_key n [] low' b k at = absurd (let e = at in cc)
-below_key n (e ∷ es) low' b k at = go (λ at. below_key n es (both_told _ _ low').1 b k at) (is_eq (nat_cmp b e.0)) refl at where
-  go : (find_key nat_cmp b es ≡ Some k → n < b) → (d : Bool) → is_eq (nat_cmp b e.0) ≡ d → cond d (Some e.1) (find_key nat_cmp b es) ≡ Some k → n < b
-  go rest true here at = let same = same_key e.0 b here in let under = below n e.0 (both_told _ _ low').0 in omega (arith, same, under)
-  go rest false here at = rest at
 
 -- of a list of entries, the one at its head
 pub here_found : (e : Entry) (es : List Entry) → find_key nat_cmp e.0 (e ∷ es) ≡ Some e.1

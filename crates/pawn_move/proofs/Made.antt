@@ -8,11 +8,6 @@ use Rattle.sqlite.specs.{declared.types.Value.TheVariants.{Int, Text}, Ops.{bina
 use Rattle.{sqlite_sql.specs.declared.ops.{BinaryOp.TheVariants.Compare, CompareOp.TheVariants.Eq}, one_table.proofs.{OneTable.over_table, Rowed.cast_int}}
 use Rattle.{one_table.proofs.{Rowed.cast_whole, Texts.Sets}, pawn_saving.proofs.Places.meta_place, sqlite_schema.specs.declared.schema.Index.Index}
 
--- where a statement ran, what it wrote
-pub on_ran : {E : Type 0} (r : Result (Unit {0}) E) (P : ℕ → Type 0) (Q : Type 0) → OnOk r ((count : ℕ) × P count) → ((count : ℕ) → P count → Q) → OnOk r Q
-on_ran (Ok done) P Q ran f = f ran.0 ran.1
-on_ran (Err e) P Q ran f = tt
-
 -- ---- the number is noted
 
 abbrev note_tests : List Term

@@ -5,15 +5,13 @@ use Rattle.pawn_tables.specs.{PledgeRows.{credit_told, totals_in}, Rows.{totals_
 use Rattle.{pawn_tables.proofs.PledgeReads.{holds_in, number_in, under_in}, pawn_opening.specs.Common.{HasCleanDisk, State, Host, IsLent}}
 use Rattle.pawn_move.{proofs.{Basics.{Rates, terms_at, clean_before, Credit}, Reading.three_find}, specs.Moving.{ListFirstDebts, rows_if_any}}
 use Rattle.pawn_debt.specs.declared.entry.Entry.{Entry}
+use Rattle.pawn_book.proofs.SoundLists.{some_is}
 
 -- the row that was found is that of a pledge
 pub credit_is : (o : Option PledgeValue) (credit : Credit) → Some credit ≡ option_map credit_told o
     → (p : PledgeValue) × (o ≡ Some p) × (credit ≡ credit_told p)
 credit_is None credit is = absurd (let e = is in cc)
 credit_is (Some p) credit is = (p, refl, (let e = is in cc))
-
-some_is : {A : Type 0} (x y : A) → Some x ≡ Some y → x ≡ y
-some_is x y e = cc
 
 -- the terms that stand under the version
 pub terms_are : (h : Host) (b n v : ℕ) (p : PledgeValue) (credit : Credit) (o : Option Rates) → AreBooksOrdered h → pledge_in (get h.books b) n ≡ Some p

@@ -7,6 +7,7 @@ use Rattle.pawn_opening.{specs.Laying.no_rows, proofs.TableTexts.{AreCreations, 
 use Rattle.{sqlite.{specs.{Change.{created, next_tree}, Does.lacks_sequence, State.Writes}, proofs.Callers.runs_as}, pawn_tables.specs.Schema.extensions}
 use Rattle.pawn_tables.specs.Schema.{extensions_tree, first_schema, keep_schema, second_schema, totals, totals_tree, books}
 use Rattle.{pawn_tables.specs.declared.texts.TheConstants.{MAKE_BOOKS, MAKE_EXTENSIONS, MAKE_TOTALS}, sqlite_trees.proofs.ListLemmas.all-append}
+use Rattle.pawn_opening.proofs.Gained.{kept_tables}
 
 -- a tree without rows
 empty_tree : (db : Trees) (tree : ℕ) (table : Table) → db tree ≡ [] → Holds db tree table []
@@ -14,18 +15,6 @@ empty_tree db tree table none = record {
   same = subst (λ rows. IsPermutation [] (map (columns_of table) rows)) (sym none) (IsPermutation-refl []);
   numbered = subst IsNumbered (sym none) (tt, tt);
 }
-
--- tables whose trees are kept hold what they held
-as_kept : (tables : List Table) (old new : Trees) (listed : Listed) → KeepsRows tables old new
-    → AllByRecursion (λ (t : Table). Holds old t.tree t (listed t.tree)) tables → AllByRecursion (λ (t : Table). Holds new t.tree t (listed t.tree)) tables
-as_kept [] old new listed kept holds = tt
-as_kept (t ∷ ts) old new listed kept holds = (
-  record {
-    same = subst (λ rows. IsPermutation (listed t.tree) (map (columns_of t) rows)) (sym kept.0) holds.0.same;
-    numbered = subst IsNumbered (sym kept.0) holds.0.numbered;
-  },
-  as_kept ts old new listed kept.1 holds.1,
-)
 
 -- what is made of tables that list these rows: the others are kept, and the new one is empty
 pub record IsAdded (schema : Schema) (table : Table) (new : Database) (listed : Listed) : Type 0 where
@@ -52,7 +41,7 @@ adds schema text table (defined, command, whole, plain, sequence) old new count 
     record {
       schema_is = ap (λ (d : Database). d.schema) now ∙ is;
       sound = w.sound;
-      others = as_kept schema.tables old.now.trees new.now.trees listed others st.tables;
+      others = kept_tables schema.tables old.now.trees new.now.trees listed others st.tables;
       empty = empty_tree new.now.trees (next_tree schema) (record table { tree = next_tree schema }) empty;
     }
 

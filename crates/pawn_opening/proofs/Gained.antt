@@ -46,7 +46,8 @@ holds_still old new tree t rows same holds = record {
   numbered = subst IsNumbered (sym same) holds.numbered;
 }
 
-kept_tables : (tables : List Table) (old new : Trees) (listed : Listed) → KeepsRows tables old new
+-- tables whose trees are kept hold what they held
+pub kept_tables : (tables : List Table) (old new : Trees) (listed : Listed) → KeepsRows tables old new
     → AllByRecursion (λ (t : Table). Holds old t.tree t (listed t.tree)) tables → AllByRecursion (λ (t : Table). Holds new t.tree t (listed t.tree)) tables
 kept_tables [] old new listed kept holds = tt
 kept_tables (t ∷ ts) old new listed kept holds = (holds_still old new t.tree t (listed t.tree) kept.0 holds.0, kept_tables ts old new listed kept.1 holds.1)

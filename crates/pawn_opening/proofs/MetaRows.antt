@@ -1,9 +1,10 @@
 -- A row of what the store notes.
-use Rattle.std.proofs.Common.{◌≡◌, inl, inr, ℕ, pos, ◌==◌, List, [], ◌∷◌, length, false, Ok, Err, Result, OnOk, refl, arith}
+use Rattle.std.proofs.Common.{◌≡◌, inl, inr, ℕ, pos, ◌==◌, List, [], ◌∷◌, length, false, Ok, refl, arith}
 use Rattle.pawn_opening.specs.Common.{everything, understood, Row, Executes, State, Term, col, lit, Int, Null, Text, Listed, Lists, with_rows, meta_row}
 use Rattle.{pawn_opening.{specs.Common.PUT_NOTE, proofs.Basics.{IsPlace, inserted}}, pawn_tables.specs.Schema.{keep_schema, meta, meta_tree}}
 use Rattle.{one_table.proofs.{Texts.Puts, Rowed.{cast_null, cast_int}}, sqlite_schema.specs.declared.schema.Keys.TheVariants.Enforced}
 use Rattle.sqlite_rules.specs.Action.{works}
+pub use Rattle.pawn_tables.proofs.Lent.{on_ran}
 
 abbrev pub note_values : List Term
 note_values = lit Null ∷ col 0 0 ∷ col 0 1 ∷ []
@@ -45,8 +46,3 @@ noted old new name value count listed st h =
     inserted keep_schema 6 (record meta { tree = meta_tree }) note_values 3 PUT_NOTE.now meta_place note_is.0 note_is.1 old new
     (Text name ∷ Int (pos value) ∷ []) (Null ∷ meta_row name value) (Null ∷ meta_row name value) (meta_row name value) count listed st refl
     (λ i. cast_null i ∷ Text name ∷ cast_int value i ∷ []) (λ rows. refl) h
-
--- where a statement ran, what it wrote
-pub on_ran : {E : Type 0} (r : Result (Unit {0}) E) (P : ℕ → Type 0) (Q : Type 0) → OnOk r ((count : ℕ) × P count) → ((count : ℕ) → P count → Q) → OnOk r Q
-on_ran (Ok done) P Q ran f = f ran.0 ran.1
-on_ran (Err e) P Q ran f = tt

@@ -14,7 +14,8 @@ left_fitting T h change before Save.Full left other was = absurd (other refl)
 left_fitting T h change before Save.Memory left other was = was
 left_fitting T h change before (Save.Store fault) left other was = was
 
-no_more : {P : Type 0} → P ⊎ ⊥ → P
+-- where the other can't be
+pub no_more : {P : Type 0} → P ⊎ ⊥ → P
 no_more (inl p) = p
 no_more (inr none) = absurd none
 

@@ -1,6 +1,6 @@
 -- What the statements of a change write.
-use Rattle.std.proofs.Common.{◌≡◌, ◌/◌, inl, inr, ℕ, ℤ, pos, List, [], ◌∷◌, ◌++◌, length, Bool, true, false, ◌&&◌, ◌||◌, ◌==◌, Option, Some, None, Result, Ok}
-use Rattle.{std.proofs.Common.{Err, refl, subst, arith, ◌∙◌, IsPermutation, filter, OnOk, option_map}, pawn_debt.specs.Due.credit_of}
+use Rattle.std.proofs.Common.{◌≡◌, ◌/◌, inl, inr, ℕ, ℤ, pos, List, [], ◌∷◌, ◌++◌, length, Bool, true, false, ◌&&◌, ◌||◌, ◌==◌, Option, Some, None, Ok}
+use Rattle.{std.proofs.Common.{refl, subst, arith, ◌∙◌, IsPermutation, filter, option_map}, pawn_debt.specs.Due.credit_of}
 use Rattle.pawn_saving.{proofs.Basics.{IsPlace, Puts, cast_int, cast_null, cast_whole, plainly, equals}, specs.Common.{cast, cast_row, Chosen, Integer}}
 use Rattle.pawn_saving.{specs.{Common.{value_rows, with_rowid, with_rows, AreLoose, ListsOurs}, Writing.IsOnly}, proofs.Differing.{differ, all_equal}}
 use Rattle.pawn_saving.proofs.{Differing.same_number, OurTables.{meets_same, row_joins, row_set_where, under_same}, Places.{terms_place, entries_place}}
@@ -12,12 +12,8 @@ use Rattle.pawn_tables.specs.Rows.{kind_number, number, or_null, pledge_cells, s
 use Rattle.pawn_tables.{proofs.Basics.nat_tests, specs.Schema.{terms, pledges, secrets, bookings, totals, extensions, bookings_tree, entries_tree}}
 use Rattle.pawn_tables.{specs.Schema.{extensions_tree, pledges_tree, secrets_tree, terms_tree, totals_tree, entries}, proofs.PlacedRows.regroup}
 use Rattle.{sqlite_rules.specs.Keys.conflicts, sqlite_value.specs.Keys.first_key, one_table.proofs.Upsertion.{upserted, Splits}}
+pub use Rattle.pawn_tables.proofs.Lent.{on_ran}
 use Rattle.pawn_saving.proofs.WriteTexts as text
-
--- where a statement ran, what it wrote
-pub on_ran : {E : Type 0} (r : Result (Unit {0}) E) (P : ℕ → Type 0) (Q : Type 0) → OnOk r ((count : ℕ) × P count) → ((count : ℕ) → P count → Q) → OnOk r Q
-on_ran (Ok done) P Q ran f = f ran.0 ran.1
-on_ran (Err e) P Q ran f = tt
 
 -- a row of the pledge passes the test
 pub own_row : (b n : ℕ) (cells : Row) → at_pledge b n (under b n cells) ≡ true

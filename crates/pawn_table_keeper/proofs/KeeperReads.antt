@@ -1,10 +1,11 @@
 -- A read of a keeper: a transaction that is lent, and rolled back.
-use Rattle.std.{proofs.Common.{◌≡◌, ◌⊎◌, inl, inr, true, false, Result, Ok, Err, IsTrue, refl, sym, subst, ◌∙◌, arith, IfOk, is_ok, ℕ}, specs.Borrow.MutBor}
+use Rattle.std.{proofs.Common.{◌≡◌, true, false, Result, Ok, Err, IsTrue, refl, sym, subst, ◌∙◌, arith, IfOk, is_ok, ℕ}, specs.Borrow.MutBor}
 use Rattle.pawn_table_keeper.specs.Common.{Held, state, HasCleanDisk, State, Host, Errs, Reads, KeepError, NoRecord, StandsFor, IsUnsoundAt}
 use Rattle.{pawn_table_keeper.specs.{Handing.{keeping_of, ReadsOfBook}, declared.keeper.TableKeep.TableKeep}, pawn_tables.specs.Keeps.{IsWhole, Keeps}}
 use Rattle.{pawn_tables.specs.{Keeps.keeping_by, Finding.{Finds, FindsBy, FindsIn}}, sqlite.specs.State.{IsRolledBack, KeepsCommit, Survives}}
 use Rattle.{sqlite_trees.specs.declared.store.Store.Ghosts, one_table.{specs.Lending.{IsLent, Lends, Rests}, proofs.{Lent.clean_before, Parts.rests_open}}}
 use Rattle.one_table.proofs.Parts.{committed_rests}
+use Rattle.pawn_saving.proofs.Saved.{no_more}
 use Rattle.pawn_book.specs.declared.fault.KeepError.TheVariants as Keeper
 
 -- what was found, alone
@@ -52,10 +53,6 @@ module _ {K : Type 0} (state_of : K → State) (old new : K) {A : Type 0} {IsUns
   as_it_was clean now = let undone = was.undone clean in
       (undone.undone now).0 ∙ sym (undone.undone now).1 ∙ committed_rests (state_of old) (begun_of (state_of old)) lent (state_of new) (λ now'. now') refl
       (commit_kept clean) undone now ∙ sym (was.settled was.ended (opened clean now))
-
-  no_more : {P : Type 0} → P ⊎ ⊥ → P
-  no_more (inl p) = p
-  no_more (inr none) = absurd none
 
   kept : HasCleanDisk (state_of new) → (h : Host) → Keeps (state_of old) h → Keeps (state_of new) h
   kept clean h k = record {

@@ -5,6 +5,7 @@ use Rattle.{sqlite.specs.declared.error.{Error.{TheVariants.SqliteFailure, Error
 use Rattle.{pawn_table_keeper.specs.Common.{State, Host, Reads, StandsFor}, pawn_tables.specs.Keeps.{Keeps, keeping_by}}
 use Rattle.sqlite_trees.{specs.declared.error.StoreError.{StoreError, TheVariants.{OutOfMemory, Io, Corrupt, Full, Broken, Unstorable}}, proofs.Doubt.no_doubt}
 use Rattle.sqlite_value.specs.Order.{Row}
+use Rattle.pawn_saving.proofs.Saved.{no_more}
 
 -- ---- it keeps what it kept
 
@@ -28,10 +29,6 @@ still : (old new : State) → (IsTrue old.is_open → old.now ≡ old.committed)
 still old new settled (inl same) serves = (same.0.was_open, same.0.now_is, same.0.now_is ∙ settled same.0.was_open ∙ sym same.0.committed_is)
 still old new settled (inr undone) serves =
     (undone.was_open serves, (undone.undone serves).0 ∙ sym (settled (undone.was_open serves)), (undone.undone serves).0 ∙ sym (undone.undone serves).1)
-
-no_more : {P : Type 0} → P ⊎ ⊥ → P
-no_more (inl p) = p
-no_more (inr none) = absurd none
 
 module _ {K : Type 0} (state : K → State) (old new : K) (rested : (state old).in_transaction ≡ false)
     (settled : IsTrue (state old).is_open → (state old).now ≡ (state old).committed)

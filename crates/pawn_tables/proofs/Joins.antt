@@ -5,25 +5,20 @@ use Rattle.pawn_tables.specs.Common.{BookValue, pledge_in, Host, entries_of, ext
 use Rattle.pawn_tables.specs.{Common.Rests, Finding.{FindsIn, IsRead}, PledgeRows.{AreLists, AreSides, AreTold, booking_of, row_of, totals_in}}
 use Rattle.pawn_tables.specs.{StandsFor.{AreBooksOrdered, AreStorable}, declared.joining.{Lists.Lists, RowsBeside.RowsBeside, StoredPledge.StoredPledge}}
 use Rattle.pawn_tables.proofs.{Basics.PledgeRow, Lent.unfound, PledgeReads.{number_in, under_in}}
+use Rattle.pawn_book.proofs.SoundLists.{under_length}
 
 -- the row that was found is that of a pledge
 pub row_is : (o : Option PledgeValue) (row : PledgeRow) → Some row ≡ option_map row_of o → (p : PledgeValue) × (o ≡ Some p) × (row ≡ row_of p)
 row_is None row is = absurd (let e = is in cc)
 row_is (Some p) row is = (p, refl, (let e = is in cc))
 
-within_terms : (ts : List Rates) (v : ℕ) (t : Rates) → terms_at ts v ≡ Some t → v ≤ length ts
-within_terms ts zero t is = omega arith
-within_terms [] (suc v) t is = absurd (let e = is in cc)
-within_terms (x ∷ ts) (suc zero) t is = omega arith
-within_terms (x ∷ ts) (suc (suc v)) t is = let rest : suc v ≤ length ts = within_terms ts (suc v) t is in omega (arith, rest)
-
 -- a version of 32 bits
 pub version_fits : (h : Host) (b n : ℕ) (p : PledgeValue) → AreBooksOrdered h → AreStorable h → pledge_in (get h.books b) n ≡ Some p
     → p.agreement.version < 2 ^ 32
 version_fits h b n p ordered storable is = inside (get h.books b) refl (under_in h b n p ordered is) where
   inside : (o : Option BookValue) → get h.books b ≡ o → terms_at (terms_of o) p.agreement.version ≡ Some p.agreement.terms → p.agreement.version < 2 ^ 32
-  inside None e at = let low = within_terms [] p.agreement.version p.agreement.terms at in omega (arith, low)
-  inside (Some k) e at = let low = within_terms k.terms p.agreement.version p.agreement.terms at in let few = (storable b k e).versions in
+  inside None e at = let low = under_length [] p.agreement.version p.agreement.terms at in omega (arith, low)
+  inside (Some k) e at = let low = under_length k.terms p.agreement.version p.agreement.terms at in let few = (storable b k e).versions in
       omega (arith, low, few)
 
 -- what the sides have, where they are of a pledge

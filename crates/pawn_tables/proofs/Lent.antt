@@ -1,5 +1,5 @@
 -- One part of a transaction after another, and what they find together.
-use Rattle.{std.proofs.Common.{◌≡◌, Bool, true, false, Result, Ok, Err, IsTrue, refl, sym, subst}, pawn_tables.specs.Common.{Tables, HasCleanDisk, State, Host}}
+use Rattle.{std.proofs.Common.{◌≡◌, ℕ, Bool, true, false, OnOk, Result, Ok, Err, IsTrue, refl, sym, subst}, pawn_tables.specs.Common.{Tables, HasCleanDisk, State, Host}}
 use Rattle.pawn_tables.{specs.{Common.{KeepError, Database, NoRecord, IsLent, Rests}, Finding.{Finds, FindsIn, Stood}}, proofs.Basics.lent_then}
 use Rattle.{pawn_tables.specs.StandsFor.{ListDebts, StandsFor}, one_table.proofs.Lent.{clean_before, rests_then}}
 use Rattle.pawn_book.specs.declared.fault.KeepError.TheVariants as Keeper
@@ -78,3 +78,8 @@ next_unfound {s0 = s0} {s1 = s1} {s2 = s2} {F = F} {q = q} {e = e} U Q r W found
 pub debts_of : (db : Tables) (h : Host) → StandsFor db h → ListDebts db h
 debts_of db h st =
     record { schema = st.schema; books = st.books; terms = st.terms; pledges = st.pledges; entries = st.entries; ordered = st.ordered; storable = st.storable }
+
+-- where a statement ran, what it wrote
+pub on_ran : {E : Type 0} (r : Result (Unit {0}) E) (P : ℕ → Type 0) (Q : Type 0) → OnOk r ((count : ℕ) × P count) → ((count : ℕ) → P count → Q) → OnOk r Q
+on_ran (Ok done) P Q ran f = f ran.0 ran.1
+on_ran (Err e) P Q ran f = tt

@@ -2,6 +2,7 @@
 use Rattle.std.proofs.Common.{◌≡◌, ◌++◌, ℕ, zero, suc, ◌+◌, ◌<◌, List, [], ◌∷◌, length, take, map, get_or, slice_get, Option, Some, None, Ok, Err, refl, sym}
 use Rattle.{std.proofs.Common.{ap, subst, ◌∙◌, arith, IfSome}, pawn_tables.specs.{Common.{Row, Each, KeepError, Database, NoRecord}, Finding.IsRead}}
 use Rattle.pawn_tables.specs.Rows.{at_most_one, placed_from}
+use Rattle.pawn_base.proofs.ListLemmas.{take_next}
 use Rattle.pawn_book.specs.declared.fault.KeepError.TheVariants as Keeper
 
 -- the element of a row, with its place
@@ -12,19 +13,14 @@ element_at f k (x ∷ xs) rows zero r are lt is = (k, x, is ∙ ap (λ rs. get_o
 element_at f k (x ∷ xs) rows (suc i) r are lt is = let short : suc i < suc (length (placed_from f (k + 1) xs)) = subst (λ rs. suc i < length rs) are lt in
     element_at f (k + 1) xs (placed_from f (k + 1) xs) i r refl (omega (arith, short)) (is ∙ ap (λ rs. get_or rs (suc i) r) are)
 
-take_next : {A : Type 0} (xs : List A) (i : ℕ) (x : A) → slice_get xs i ≡ Some x → take (suc i) xs ≡ take i xs ++ x ∷ []
-take_next [] i x at = absurd (let e = at in cc)
-take_next (y ∷ xs) zero x at = let same : y ≡ x = (let e = at in cc) in ap (λ z. z ∷ []) same
-take_next (y ∷ xs) (suc i) x at = ap (λ l. y ∷ l) (take_next xs i x at)
-
 pub each_at : {A : Type 0} (P : A → Type 0) (xs : List A) (i : ℕ) (x : A) → slice_get xs i ≡ Some x → Each P xs → P x
 each_at P [] i x at all = absurd (let e = at in cc)
 each_at P (y ∷ xs) zero x at all = let same : y ≡ x = (let e = at in cc) in subst P same all.0
 each_at P (y ∷ xs) (suc i) x at all = each_at P xs i x at all.1
 
-take_whole : {A : Type 0} (f : ℕ → A → Row) (k : ℕ) (xs : List A) → take (length (placed_from f k xs)) xs ≡ xs
-take_whole f k [] = refl
-take_whole f k (x ∷ xs) = ap (λ l. x ∷ l) (take_whole f (k + 1) xs)
+take_all_placed : {A : Type 0} (f : ℕ → A → Row) (k : ℕ) (xs : List A) → take (length (placed_from f k xs)) xs ≡ xs
+take_all_placed f k [] = refl
+take_all_placed f k (x ∷ xs) = ap (λ l. x ∷ l) (take_all_placed f (k + 1) xs)
 
 -- what is read so far of the rows of any list
 abbrev pub AreReadTo : {A : Type 0} → (ℕ → A → Row) → (A → Type 0) → List Row → ℕ → List A → Type 0
@@ -51,7 +47,7 @@ placed_err f W P rows i r (Keeper.Store NoRecord) lt is read from xs words are =
 -- all are read
 pub placed_whole : {A : Type 0} (f : ℕ → A → Row) (W : A → Type 0) (rows : List Row) (i : ℕ) (got : List A) → i ≡ length rows → AreReadTo f W rows i got
     → (from : ℕ) (xs : List A) → Each W xs → rows ≡ placed_from f from xs → got ≡ xs
-placed_whole f W rows i got end so from xs words are = so from xs words are ∙ ap (λ n. take n xs) (end ∙ ap length are) ∙ take_whole f from xs
+placed_whole f W rows i got end so from xs words are = so from xs words are ∙ ap (λ n. take n xs) (end ∙ ap length are) ∙ take_all_placed f from xs
 
 -- elements without their places
 pub mapped : {A : Type 0} (f : A → Row) (k : ℕ) (xs : List A) → map f xs ≡ placed_from (λ place x. f x) k xs

@@ -12,6 +12,7 @@ use Rattle.pawn_tables.proofs.PledgeReads.{entries_up, extensions_list, extensio
 use Rattle.pawn_tables.proofs.{PledgeReads.{one_version, pledges_list, secrets_list, secrets_told, secrets_up, three, under_in}, BookReads.one_book}
 use Rattle.{pawn_tables.proofs.SoundReads.words_in, sqlite.{proofs.Callers.one_permutation, specs.Effect.Database}, sqlite_trees.specs.Objects.catalog_tree}
 use Rattle.sqlite_catalog.proofs.ReadLemmas.{lists_once}
+use Rattle.pawn_book.proofs.SoundLists.{some_is}
 use Rattle.pawn_tables.proofs.SameRows as SameRows
 
 -- ---- what stands of a pledge, by the rows of two hosts
@@ -78,9 +79,6 @@ whole p q alike number' terms' entries' secrets' extensions' booking = λ i. rec
   standing = record { held = alike.held i; booking = booking i; last = alike.last i; closing = alike.closing i };
 }
 
-same_some : {A : Type 0} (x y : A) → Some x ≡ Some y → x ≡ y
-same_some x y e = (let z = e in cc)
-
 pledge_same : (ts us : List Rates) (n : ℕ) (o o' : Option PledgeValue) → ts ≡ us
     → ((p : PledgeValue) → o ≡ Some p → (p.agreement.number ≡ n) × (terms_at ts p.agreement.version ≡ Some p.agreement.terms)) → ((p : PledgeValue) → o'
     ≡ Some p → (p.agreement.number ≡ n) × (terms_at us p.agreement.version ≡ Some p.agreement.terms)) → at_most_one pledge_cells o ≡ at_most_one pledge_cells o'
@@ -90,7 +88,7 @@ pledge_same ts us n None (Some q) terms' a b row es ss xs booking = absurd (let 
 pledge_same ts us n (Some p) None terms' a b row es ss xs booking = absurd (let e = row in cc)
 pledge_same ts us n (Some p) (Some q) terms' a b row es ss xs booking = let alike = SameRows.same_row p q (let e = row in cc) in
     let mine = a p refl in let theirs = b q refl in
-    let terms'' = same_some _ _ (sym mine.1 ∙ ap (λ v. terms_at ts v) alike.version ∙ ap (λ l. terms_at l q.agreement.version) terms' ∙ theirs.1) in
+    let terms'' = some_is _ _ (sym mine.1 ∙ ap (λ v. terms_at ts v) alike.version ∙ ap (λ l. terms_at l q.agreement.version) terms' ∙ theirs.1) in
     ap Some (whole p q alike (mine.0 ∙ sym theirs.0) terms'' es ss xs booking)
 
 -- ---- lists, by what stands at each number
@@ -99,7 +97,7 @@ same_slices : {A : Type 0} (xs ys : List A) → ((n : ℕ) → slice_get xs n �
 same_slices [] [] at = refl
 same_slices [] (y ∷ ys) at = absurd (let e = at 0 in cc)
 same_slices (x ∷ xs) [] at = absurd (let e = at 0 in cc)
-same_slices (x ∷ xs) (y ∷ ys) at = let first = same_some x y (at 0) in let rest = same_slices xs ys (λ n. at (suc n)) in λ i. first i ∷ rest i
+same_slices (x ∷ xs) (y ∷ ys) at = let first = some_is x y (at 0) in let rest = same_slices xs ys (λ n. at (suc n)) in λ i. first i ∷ rest i
 
 same_terms : (ts us : List Rates) → ((v : ℕ) → terms_at ts v ≡ terms_at us v) → ts ≡ us
 same_terms ts us at = same_slices ts us (λ n. at (suc n))
@@ -111,7 +109,7 @@ same_from k [] (q ∷ qs) at = absurd (let here : (k == k) ≡ true = grind (ari
 same_from k (p ∷ ps) [] at = absurd (let here : (k == k) ≡ true = grind (arith, nat_tests) in let e : Some p ≡ None =
     sym (ap (λ c. if c then Some p else pledge_from (k + 1) ps k) here) ∙ at k (omega arith) in cc)
 same_from k (p ∷ ps) (q ∷ qs) at = let here : (k == k) ≡ true = grind (arith, nat_tests) in
-    let first = same_some p q (sym (ap (λ c. if c then Some p else pledge_from (k + 1) ps k) here) ∙ at k (omega arith)
+    let first = some_is p q (sym (ap (λ c. if c then Some p else pledge_from (k + 1) ps k) here) ∙ at k (omega arith)
     ∙ ap (λ c. if c then Some q else pledge_from (k + 1) qs k) here) in
     let rest = same_from (k + 1) ps qs (λ n le. let no' : (n == k) ≡ false = grind (arith, nat_tests, le) in
     sym (ap (λ c. if c then Some p else pledge_from (k + 1) ps n) no') ∙ at n (omega (arith, le))

@@ -2,10 +2,10 @@
 use Rattle.std.proofs.Common.{◌≡◌, ◌≢◌, ◌++◌, ◌==◌, ℕ, ◌+◌, ◌<◌, pos, List, [], ◌∷◌, map, filter, flat_map, Bool, true, false, cond, ◌&&◌, Option, Some, None}
 use Rattle.{std.proofs.Common.{T, refl, sym, ap, subst, ◌∙◌, arith, append-nil, if◌then◌else◌}, pawn_tables.proofs.Basics.{and_left, and_right, cond-false}}
 use Rattle.pawn_tables.{proofs.Basics.{cond-true, filter-append, flat_map_none, nat_tests, value_cmp-Int}, specs.Common.{entries, entries_sorted, get}}
-use Rattle.pawn_tables.specs.Common.{get-entries, is_sorted, below_all, AllByRecursion, is_eq, is_lt, nat_cmp, Less, binary, from_truth, is_true, Row, column}
+use Rattle.pawn_tables.specs.Common.{get-entries, is_sorted, below_all, AllByRecursion, is_eq, nat_cmp, Less, binary, from_truth, is_true, Row, column}
 use Rattle.pawn_tables.specs.Common.{value_cmp, IsAscending, Value, Entry, PledgeValue, BookValue, pledge_from, pledge_in, Host, AreNumberedFrom, find}
 use Rattle.pawn_tables.specs.{Entries.RiseFrom, Rows.{number, placed_from}, StandsFor.{AreBooksOrdered, of_books, of_pledges}, At.{is_at, at_pledge}}
-pub use Rattle.pawn_base.proofs.TestLemmas.{both_told as both_pass, told as is_passed}
+pub use Rattle.pawn_base.proofs.TestLemmas.{below as lower_key, both_told as both_pass, told as is_passed}
 
 -- a test of two that is passed, and one, as an equation
 
@@ -31,9 +31,6 @@ filter-flat_map p f (x ∷ xs) = filter-append p (f x) (flat_map f xs) ∙ ap (�
 
 pub same_key : (m n : ℕ) → is_eq (nat_cmp n m) ≡ true → m ≡ n
 same_key m n h = grind (arith, nat_tests, h)
-
-pub lower_key : (m n : ℕ) → T (is_lt (nat_cmp m n)) → m < n
-lower_key m n h = let e = is_passed _ h in grind (arith, nat_tests, e)
 
 module _ {X : Type 0} (n : ℕ) (f : ℕ → X → List Row) (none : (m : ℕ) (x : X) → m ≢ n → f m x ≡ []) where
   none_below : (es : List (ℕ × X)) → T (below_all nat_cmp n es) → flat_map (λ (e : ℕ × X). f e.0 e.1) es ≡ []
