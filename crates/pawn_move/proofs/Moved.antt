@@ -2,7 +2,8 @@
 use Rattle.std.proofs.Common.{◌≡◌, ◌++◌, ℕ, List, [], Some, None, Result, Ok, Err, OnOk, Bool, true, false, IsTrue, refl, sym, ap, subst, ◌∙◌, arith}
 use Rattle.{std.proofs.Common.{append-nil, T, flat_map, ◌∷◌, ◌≢◌}, pawn_move.{proofs.Basics.{both_told, clean_before, was_clean}, specs.Moving.AreAllOwed}}
 use Rattle.pawn_move.specs.{Moving.{IsMoving, ListFirstDebts, Moves, MovesOwed, NotesProgram, PutsAll, listed_with}, StandsUnder.{HasNoExtension, StandsUnder}}
-use Rattle.{pawn_move.proofs.{Filled.{firsts, untold}, Reading.handed, BooksUpTo.{Entry, below_key, here_found, past_head}}, pawn_tables.specs.Common.entries}
+use Rattle.{pawn_move.proofs.{Filled.{firsts, untold}, Reading.handed, BooksUpTo.{Entry, here_found, past_head}}, pawn_tables.specs.Common.entries}
+use Rattle.pawn_tables.proofs.BookReads.{below_key}
 use Rattle.pawn_tables.specs.Common.{entries_sorted, find_key, get, get-entries, is_sorted, nat_cmp, Tables, PledgeValue, Each, BookValue, HasUnsoundBook}
 use Rattle.pawn_tables.specs.{Common.{KeepError, NoRecord, Rests}, Finding.{Finds, FindsOf}, Rows.{extension_cells, extensions_listed, number_in_book}}
 use Rattle.pawn_tables.specs.{Rows.{placed_from, totals_listed, under}, Schema.{extensions, extensions_tree, first_schema, keep_schema, second_schema}}

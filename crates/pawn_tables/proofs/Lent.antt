@@ -1,6 +1,6 @@
 -- One part of a transaction after another, and what they find together.
-use Rattle.{std.proofs.Common.{◌≡◌, ℕ, Bool, true, false, OnOk, Result, Ok, Err, IsTrue, refl, sym, subst}, pawn_tables.specs.Common.{Tables, HasCleanDisk, State, Host}}
-use Rattle.pawn_tables.{specs.{Common.{KeepError, Database, NoRecord, IsLent, Rests}, Finding.{Finds, FindsIn, Stood}}, proofs.Basics.lent_then}
+use Rattle.{std.proofs.Common.{◌≡◌, ℕ, Bool, true, false, OnOk, Result, Ok, Err, IsTrue, refl, sym, subst}, pawn_tables.specs.Common.{Tables, HasCleanDisk}}
+use Rattle.pawn_tables.{specs.{Common.{State, Host, KeepError, Database, NoRecord, IsLent, Rests}, Finding.{Finds, FindsIn, Stood}}, proofs.Basics.lent_then}
 use Rattle.{pawn_tables.specs.StandsFor.{ListDebts, StandsFor}, one_table.proofs.Lent.{clean_before, rests_then}}
 use Rattle.pawn_book.specs.declared.fault.KeepError.TheVariants as Keeper
 
