@@ -8,7 +8,7 @@ use Rattle.pawn_host.specs.Common.{SaysRequest, Shown, Stamp, Replied, View, Vie
 use Rattle.pawn_host.specs.Common.{host_step, memory_text, no_memory, no_store, out_of, out_text, pledge_in, read_as, reply_text, rows, show_pledge}
 use Rattle.pawn_host.specs.{Common.{view_step, within_limit}, declared.service.Answer.Answer, Keeps.{GoesTo, IsActed, IsKeyOf, Kept, Start, Tells}}
 use Rattle.pawn_host.{specs.{Crashes.IsDone, Keeps.answer_bytes, Run.said_text, declared.service.Answer.TheVariants.{Bytes, Memory}}}
-use Rattle.pawn_host.proofs.CrashLemmas.goes_wider
+use Rattle.pawn_host.proofs.CrashLemmas.{goes_wider}
 use Rattle.pawn_view.specs.{Text.{presented_text, statement_text}, Shown.{live_pledges, presentation_of, pledge_at, statement_of}}
 use Rattle.pawn_pledge.specs.Pledge.{PledgeValue}
 use Rattle.pawn_view.proofs.StatementLemmas.{some_same}
