@@ -79,7 +79,7 @@ module _ {K : Type 0} (state : K → State) (old new : K) (begun lent : State) (
 
     on_past : (HasCleanDisk (state new) → IsWhole (state old) → IsWhole (state new)) → GoesOn (keeping_by state) old new
     on_past whole =
-      record { was_honest = λ clean. was.clean (clean_first clean); served = λ clean now. was_served clean; stays = λ steady. steady; whole = whole }
+        record { was_honest = λ clean. was.clean (clean_first clean); served = λ clean now. was_served clean; stays = λ steady. steady; whole = whole }
 
     -- the changed host is sound
     changed_sound : HasCleanDisk (state new) → (h : Host) → IsSound h → Keeps (state old) h → IsSound (with_change h change)

@@ -35,7 +35,7 @@ module _ (db : Database) (h g : Host) (a : StandsFor db h) (c : StandsFor db g) 
       → ((o : Option PledgeValue) → map cells (rows_at o (f b)) ≡ at_most_one told (part o))
       → IsPermutation (rows_at mine (f b)) (rows_at other (f b)) → at_most_one told (part mine) ≡ at_most_one told (part other)
   single f cells told part shows same =
-    sym (one_listed _ _ (few_of told (part mine)) (subst (λ xs. IsPermutation xs (at_most_one told (part other))) (shows mine)
+      sym (one_listed _ _ (few_of told (part mine)) (subst (λ xs. IsPermutation xs (at_most_one told (part other))) (shows mine)
       (subst (IsPermutation (map cells (rows_at mine (f b)))) (shows other) (IsPermutation-map cells _ _ same))))
 
   entries_same : entries_of mine ≡ entries_of other

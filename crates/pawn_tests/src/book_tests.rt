@@ -249,8 +249,16 @@ fn pledges(rt: &impl Abort, alloc: Global, limit: u64) -> Result<ListKeep, Fail>
     let turns = [
         asked(1, make(), Ok(Reply::BookMade(number(7)?))),
         asked(1, put(1, 0), Ok(Reply::TermsPut(1))),
-        asked(33, take_pledge(1, 10_000), Ok(Reply::Opened(receipt(1, 33)?))),
-        asked(44, take_pledge(2, 10_000), Ok(Reply::Opened(receipt(2, 44)?))),
+        asked(
+            33,
+            take_pledge(1, 10_000),
+            Ok(Reply::Opened(receipt(1, 33)?)),
+        ),
+        asked(
+            44,
+            take_pledge(2, 10_000),
+            Ok(Reply::Opened(receipt(2, 44)?)),
+        ),
     ];
     let mut keep = ListKeep::new(alloc, limit.min(1000));
     plays(rt, alloc, &mut keep, &turns)?;
@@ -294,7 +302,11 @@ fn a_repeat_is_told_to_whoever_passes(rt: HostRuntime) -> Result<(), Fail> {
     let amount = Err(Refusal::Pledge(PledgeRefusal::Debt(DebtFault::BadAmount)));
     let declared = told(1, Done::Declared(Secret::of_word(99)))?;
     let turns = [
-        asked(55, take_pledge(1, 10_000), Ok(Reply::Opened(receipt(1, 33)?))),
+        asked(
+            55,
+            take_pledge(1, 10_000),
+            Ok(Reply::Opened(receipt(1, 33)?)),
+        ),
         asked(55, take_pledge(1, 10_001), Err(Refusal::RefTaken)),
         asked(55, take_pledge(3, 0), amount),
         asked(3, bearer(1, 33, REPAY), repaid()?),
