@@ -5,25 +5,25 @@ import contextlib
 import json
 import os
 import re
-import shutil
 import signal
 import subprocess
 import tempfile
 import time
+import zlib
 
 from tests.library.checks import Failed, expect, main, not_tried
 from tests.library.operator.first_day import PAGE, ask, enter, first_day, with_terms
 from tests.library.operator.machines import commands, pack_release
 from tests.library.packages import provide
-from tests.library.paths import TOP
 from tests.library.stores import EMPTY_LOG
 
 NEEDED = {"debootstrap": "debootstrap", "systemd-nspawn": "systemd-container"}
 # What the page installs but certbot, and what makes the Debian one that boots.
 PARTS = "systemd,systemd-sysv,dbus,nginx-light,python3,curl,openssl,age,rsync"
 SOURCE = "http://deb.debian.org/debian"
-# It is made once, and each boot has its own changes in memory.
-DEBIAN = os.path.join(TOP, "build/debian")
+# It is made once of these parts for all checkouts, outside of them, since rt takes none that has links in it. Each boot
+# has its own changes in memory.
+DEBIAN = os.path.expanduser(f"~/.cache/pledge-books/debian-{zlib.crc32(PARTS.encode()):08x}")
 # What reaches the world on the page does nothing here.
 STUBS = ("apt-get", "certbot")
 
@@ -34,18 +34,25 @@ def made():
         return "it needs root"
     if provide(NEEDED):
         return "there is no debootstrap or no systemd-nspawn"
-    if not os.path.exists(os.path.join(DEBIAN, "whole")):
-        shutil.rmtree(DEBIAN, ignore_errors=True)
-        words = ["debootstrap", "--variant=minbase", f"--include={PARTS}", "bookworm", DEBIAN, SOURCE]
+    return None if os.path.exists(DEBIAN) else make()
+
+
+def make():
+    """Makes it, beside its place until it is whole. Why it can't, or None."""
+    os.makedirs(os.path.dirname(DEBIAN), exist_ok=True)
+    with tempfile.TemporaryDirectory(dir=os.path.dirname(DEBIAN), ignore_cleanup_errors=True) as room:
+        root = os.path.join(room, "debian")
+        words = ["debootstrap", "--variant=minbase", f"--include={PARTS}", "bookworm", root, SOURCE]
         try:
             ran = subprocess.run(words, capture_output=True, text=True, stdin=subprocess.DEVNULL, timeout=480)
         except subprocess.TimeoutExpired:
             return "debootstrap did not end within eight minutes"
         if ran.returncode:
             return f"debootstrap fails: {ran.stdout.strip()[-200:]}"
-        with open(os.path.join(DEBIAN, "whole"), "w"):
-            pass
-    return None
+        # Another checkout may have been faster.
+        with contextlib.suppress(OSError):
+            os.rename(root, DEBIAN)
+    return None if os.path.exists(DEBIAN) else "the Debian can't be put into its place"
 
 
 class Booted:
