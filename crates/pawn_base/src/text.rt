@@ -6,7 +6,7 @@ use std::marker::Model;
 
 /// A text of 1 to `MOST` bytes of UTF-8 without a control character of ASCII. A clause sees its
 /// bytes.
-#[derive(Debug, Drop)]
+#[derive(Drop)]
 pub struct Text<const MOST: usize> {
     string: String,
 }

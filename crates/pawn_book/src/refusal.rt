@@ -5,7 +5,7 @@ use pawn_pledge::Refusal as PledgeRefusal;
 use pawn_terms::TermsFault;
 
 /// Why a request is refused.
-#[derive(Clone, Copy, Debug, PartialEq, Eq)]
+#[derive(Clone, Copy, PartialEq, Eq)]
 pub enum Refusal {
     /// A refusal by the rules of a pledge.
     Pledge(PledgeRefusal),

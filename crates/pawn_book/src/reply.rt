@@ -1,7 +1,7 @@
 use pawn_pledge::{Done, Number, Receipt};
 
 /// What is answered to a request that is not refused.
-#[derive(Clone, Copy, Debug, PartialEq, Eq)]
+#[derive(Clone, Copy, PartialEq, Eq)]
 pub enum Reply {
     /// There is now a book of this number as it was asked for.
     BookMade(Number),

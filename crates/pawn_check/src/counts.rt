@@ -1,5 +1,5 @@
 /// What a store holds.
-#[derive(Clone, Copy, Debug, PartialEq, Eq)]
+#[derive(Clone, Copy, PartialEq, Eq)]
 pub struct Counts {
     /// How many books there are.
     pub books: u64,

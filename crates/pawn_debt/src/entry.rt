@@ -5,7 +5,7 @@ use pawn_base::Rows;
 use pawn_terms::Day;
 
 /// The kind of a credit, with its sum or limit in pence.
-#[derive(Clone, Copy, Debug, PartialEq, Eq)]
+#[derive(Clone, Copy, PartialEq, Eq)]
 pub enum Kind {
     /// A fixed sum, lent on the day taken.
     Fixed(u64),
@@ -37,7 +37,7 @@ impl Kind {
 }
 
 /// Whether an entry is a drawing or a repayment.
-#[derive(Clone, Copy, Debug, PartialEq, Eq)]
+#[derive(Clone, Copy, PartialEq, Eq)]
 pub enum Sort {
     Draw,
     Repay,
@@ -56,7 +56,7 @@ impl Sort {
 }
 
 /// A drawing or a repayment: its number among the debt's entries, from 1, its day, and its pence.
-#[derive(Clone, Copy, Debug, PartialEq, Eq)]
+#[derive(Clone, Copy, PartialEq, Eq)]
 pub struct Entry {
     pub seq: u64,
     pub day: Day,

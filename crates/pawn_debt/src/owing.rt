@@ -14,7 +14,7 @@ pub struct Owing {
 }
 
 /// What is owed on a day, with the charges not rounded, so that they can be carried on to later days.
-#[derive(Clone, Copy, Debug, PartialEq, Eq)]
+#[derive(Clone, Copy, PartialEq, Eq)]
 pub struct Totals {
     pub day: Day,
     /// The principal, in pence.

@@ -15,7 +15,7 @@ use pawn_writing::{Writing, send};
 use std::io::{Read, Write};
 
 /// How a session ended.
-#[derive(Clone, Copy, Debug, PartialEq, Eq)]
+#[derive(Clone, Copy, PartialEq, Eq)]
 pub enum SessionEnd {
     /// The stream ended between two requests.
     End,
@@ -34,7 +34,7 @@ pub enum SessionEnd {
 }
 
 /// A session that ended: how it ended, and how many requests were answered.
-#[derive(Clone, Copy, Debug, PartialEq, Eq)]
+#[derive(Clone, Copy, PartialEq, Eq)]
 pub struct Ended {
     pub how: SessionEnd,
     pub acted: u32,

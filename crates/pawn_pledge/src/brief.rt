@@ -13,7 +13,7 @@ use pawn_terms::LAST_STAMP_DAY;
 use std::marker::Model;
 
 /// How many entries, secrets and extensions a pledge has.
-#[derive(Clone, Copy, Debug, PartialEq, Eq)]
+#[derive(Clone, Copy)]
 pub struct Counts {
     pub entries: usize,
     pub secrets: usize,

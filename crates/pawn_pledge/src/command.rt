@@ -15,7 +15,7 @@ pub struct Stamp {
 }
 
 /// The paper that a claimant without the receipt tenders.
-#[derive(Clone, Copy, Debug, PartialEq, Eq)]
+#[derive(Clone, Copy)]
 pub enum Paper {
     /// A statutory declaration.
     Sworn,
@@ -24,14 +24,14 @@ pub enum Paper {
 }
 
 /// A broker's decision on a booking.
-#[derive(Clone, Copy, Debug, PartialEq, Eq)]
+#[derive(Clone, Copy)]
 pub enum Decision {
     Confirm,
     Refuse,
 }
 
 /// A command on a pledge. Sums are in pence; `seq` is the number of the entry, from 1.
-#[derive(Clone, Copy, Debug, PartialEq, Eq)]
+#[derive(Clone, Copy)]
 pub enum Command {
     Draw { seq: u64, pence: u64 },
     Repay { seq: u64, pence: u64 },
@@ -196,7 +196,7 @@ impl BearerCommand {
 }
 
 /// What an accepted command answers. Sums are in pence.
-#[derive(Clone, Copy, Debug, PartialEq, Eq)]
+#[derive(Clone, Copy, PartialEq, Eq)]
 pub enum Done {
     Entered(Entry),
     /// Whether redemption is barred.

@@ -6,7 +6,7 @@ use itoa::Buffer;
 use std::marker::Model;
 
 /// The number of a book or of a pledge, from 1 to 999,999,999.
-#[derive(Clone, Copy, Debug, PartialEq, Eq)]
+#[derive(Clone, Copy, PartialEq, Eq)]
 pub struct Number {
     number: u32,
 }

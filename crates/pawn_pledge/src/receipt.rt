@@ -8,14 +8,14 @@ use std::error::Error;
 use std::fmt;
 
 /// What is handed to whoever may redeem a pledge: the pledge's number and a secret.
-#[derive(Clone, Copy, Debug, PartialEq, Eq)]
+#[derive(Clone, Copy, PartialEq, Eq)]
 pub struct Receipt {
     pub number: Number,
     pub secret: Secret,
 }
 
 /// A text that is not the text of a receipt.
-#[derive(Clone, Copy, Debug, PartialEq, Eq)]
+#[derive(Clone, Copy, Debug)]
 pub struct BadReceipt;
 
 impl BadReceipt {

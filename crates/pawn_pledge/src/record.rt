@@ -16,7 +16,7 @@ pub type Reference = Text<MOST_REFERENCE_BYTES>;
 pub type Article = Text<MOST_ARTICLE_BYTES>;
 
 /// What a request gives for a new pledge: what was pawned, for what credit, and what is agreed on its period.
-#[derive(Debug, Drop)]
+#[derive(Drop)]
 pub struct Opening {
     pub reference: Reference,
     pub article: Article,
@@ -69,7 +69,7 @@ impl Opening {
 }
 
 /// What is fixed once a pledge is taken: what the request gave, with the number, the day and the terms that it got.
-#[derive(Debug, Drop)]
+#[derive(Drop)]
 pub struct Agreement {
     /// The pledge's number in its book.
     pub number: Number,
@@ -110,7 +110,7 @@ impl Agreement {
 }
 
 /// How a secret was issued.
-#[derive(Clone, Copy, Debug, PartialEq, Eq)]
+#[derive(Clone, Copy, PartialEq, Eq)]
 pub enum Issue {
     /// With the pledge.
     Opening,
@@ -121,7 +121,7 @@ pub enum Issue {
 }
 
 /// A secret, and the day and the way in which it was issued.
-#[derive(Clone, Copy, Debug, PartialEq, Eq)]
+#[derive(Clone, Copy, PartialEq, Eq)]
 pub struct Issued {
     pub day: Day,
     pub sort: Issue,
@@ -145,7 +145,7 @@ impl Issued {
 pub type Secrets = Rows<Issued>;
 
 /// The state of a booking.
-#[derive(Clone, Copy, Debug, PartialEq, Eq)]
+#[derive(Clone, Copy, PartialEq, Eq)]
 pub enum BookingState {
     Asked,
     Confirmed,
@@ -168,7 +168,7 @@ impl BookingState {
 }
 
 /// A day and a window of that day, 0 to 15, for which a bearer asked.
-#[derive(Clone, Copy, Debug, PartialEq, Eq)]
+#[derive(Clone, Copy, PartialEq, Eq)]
 pub struct Booking {
     pub day: Day,
     pub window: u64,
@@ -176,7 +176,7 @@ pub struct Booking {
 }
 
 /// A longer period: the day on which it was agreed, and its end.
-#[derive(Clone, Copy, Debug, PartialEq, Eq)]
+#[derive(Clone, Copy, PartialEq, Eq)]
 pub struct Extension {
     pub day: Day,
     pub until: Day,
@@ -186,7 +186,7 @@ pub struct Extension {
 pub type Extensions = Rows<Extension>;
 
 /// Whether a pledge was closed, and how. Sums are in pence.
-#[derive(Clone, Copy, Debug, PartialEq, Eq)]
+#[derive(Clone, Copy)]
 pub enum Closing {
     Open,
     Redeemed { day: Day, paid: u64 },
@@ -195,7 +195,7 @@ pub enum Closing {
 
 /// The part of a pledge's record that later commands replace: the hold, the booking, the day of the last change, and
 /// the closing.
-#[derive(Clone, Copy, Debug, PartialEq, Eq)]
+#[derive(Clone, Copy)]
 pub struct Standing {
     /// Whether redemption is barred.
     pub held: bool,

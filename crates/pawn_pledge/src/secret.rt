@@ -6,7 +6,7 @@ use std::marker::Model;
 use uuid::Uuid;
 
 /// A secret of 128 bits. A clause sees its number.
-#[derive(Clone, Copy, Debug, PartialEq, Eq)]
+#[derive(Clone, Copy, PartialEq, Eq)]
 pub struct Secret {
     word: u128,
 }

@@ -254,7 +254,7 @@ fn ends_as(rt: &impl Abort, alloc: Global, stamps: &[Stamp], wanted: Stream) -> 
     let replies = repeated(alloc, NO_RECEIPT, wanted.acted, wanted.last)?;
     let all = answered(rt, alloc, stream.as_slice(), stamps, SOUND);
     let (how, acted) = (wanted.how, wanted.acted);
-    assert_eq!(rt; all.came, Ok(Ended { how, acted }));
+    assert!(rt; all.came == Ok(Ended { how, acted }));
     assert!(rt;
         all.written.as_slice() == replies.as_slice(),
         "the replies to {acted}"
@@ -337,7 +337,7 @@ fn two_answered(rt: &impl Abort, alloc: Global, behaviour: Behaviour) -> Result<
 
 // Checks that a session broke off for that cause after so many requests, and that so many bytes were written.
 fn breaks_off(rt: &impl Abort, all: &Came, cause: Cause, acted: u32, sent: u128) {
-    assert_eq!(rt; all.came, Err(IoFault { cause, acted, sent }));
+    assert!(rt; all.came == Err(IoFault { cause, acted, sent }));
     assert_eq!(rt; all.written.len() as u128, sent);
 }
 

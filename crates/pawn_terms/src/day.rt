@@ -44,7 +44,7 @@ impl fmt::Display for BadDay {
 impl Error for BadDay {}
 
 /// A day from 2000-01-01 to 2299-12-31. A clause sees its number, counted from 1970-01-01.
-#[derive(Clone, Copy, Debug, PartialEq, Eq, PartialOrd, Ord)]
+#[derive(Clone, Copy, PartialEq, Eq, PartialOrd, Ord)]
 pub struct Day {
     number: u32,
 }

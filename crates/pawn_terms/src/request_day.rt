@@ -7,7 +7,7 @@ use std::marker::Model;
 
 /// A day that a request, a stamp or a record may name, from 2000-01-01 to 2199-12-31. A clause sees
 /// its number, counted from 1970-01-01.
-#[derive(Clone, Copy, Debug, PartialEq, Eq)]
+#[derive(Clone, Copy, PartialEq, Eq)]
 pub struct RequestDay {
     day: Day,
 }

@@ -57,7 +57,7 @@ impl fmt::Display for TermsFault {
 impl Error for TermsFault {}
 
 /// The three numbers of terms, checked or not.
-#[derive(Clone, Copy, Debug, PartialEq, Eq)]
+#[derive(Clone, Copy, PartialEq, Eq)]
 pub struct Rates {
     /// The rate of interest, in millionths per day.
     pub rate: u64,
@@ -91,7 +91,7 @@ impl Rates {
 /// Checked terms of an agreement. The rate is at most 20,000 millionths per day, and each charge for safe keeping at
 /// most 10,000,000 millionths of a penny per day. Safe keeping is not dearer after the end of the period than before
 /// it. A clause sees their three numbers.
-#[derive(Clone, Copy, Debug, PartialEq, Eq)]
+#[derive(Clone, Copy)]
 pub struct Terms {
     rates: Rates,
 }

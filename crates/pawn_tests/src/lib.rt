@@ -15,7 +15,7 @@ macro_rules! book_text {
 }
 
 #[cfg(test)]
-mod asking;
+mod acting;
 #[cfg(test)]
 mod book_tests;
 #[cfg(test)]

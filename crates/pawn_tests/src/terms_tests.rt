@@ -15,7 +15,7 @@ fn six_months_are_cut_to_the_months_last_day(rt: HostRuntime) {
 
 #[test]
 fn days_that_are_none(rt: HostRuntime) {
-    assert_eq!(rt; Day::of_text(b"2024-02-30"), Err(BadDay));
-    assert_eq!(rt; Day::of_text(b"2200-01-01"), Err(BadDay));
-    assert_eq!(rt; Day::of_text(b"2024-2-3"), Err(BadDay));
+    assert!(rt; Day::of_text(b"2024-02-30") == Err(BadDay));
+    assert!(rt; Day::of_text(b"2200-01-01") == Err(BadDay));
+    assert!(rt; Day::of_text(b"2024-2-3") == Err(BadDay));
 }

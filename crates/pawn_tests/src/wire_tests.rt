@@ -40,7 +40,7 @@ fn a_request_takes_a_pledge(rt: HostRuntime) -> Result<(), Fail> {
         ) => {
             assert_eq!(rt; opening.reference.as_str(), "A1");
             assert_eq!(rt; opening.article.as_str(), "Gold ring");
-            assert_eq!(rt; opening.kind, Kind::Fixed(10_000));
+            assert!(rt; opening.kind == Kind::Fixed(10_000));
         }
         _ => panic!(rt; "no opening"),
     }

@@ -1,7 +1,7 @@
 //! The targets of the service, and what they ask for.
 
 /// What targets of one form ask for.
-#[derive(Clone, Copy, Debug, PartialEq, Eq)]
+#[derive(Clone, Copy)]
 pub enum Endpoint {
     /// To make a book.
     Create,
@@ -26,7 +26,7 @@ pub enum Endpoint {
 }
 
 /// What a broker commands of a pledge.
-#[derive(Clone, Copy, Debug, PartialEq, Eq)]
+#[derive(Clone, Copy)]
 pub enum BrokerAction {
     Draw,
     Repay,
@@ -39,7 +39,7 @@ pub enum BrokerAction {
 }
 
 /// What a bearer commands of the pledge of a receipt.
-#[derive(Clone, Copy, Debug, PartialEq, Eq)]
+#[derive(Clone, Copy)]
 pub enum BearerAction {
     Repay,
     Ask,

@@ -96,7 +96,7 @@ fn states<K: Keep>(
 fn whole_of<K: Keep>(rt: &impl Abort, alloc: Global, keep: &mut K) -> Result<Flaky, Fail> {
     let mut writer = failing_at(alloc, 0, Failure::Error);
     let came = states(rt, keep, &mut writer)?;
-    assert_eq!(rt; came, Ok(()));
+    assert!(rt; came == Ok(()));
     Ok(writer.into_inner())
 }
 
@@ -114,7 +114,10 @@ fn stops_at<K: Keep>(
     let failed = writer.has_failed();
     let end = writer.into_inner();
     let is_front = end.taken.len() < whole.len() && whole.starts_with(end.taken.as_slice());
-    assert_eq!(rt; (came, failed), (Err(ViewFault::Write), true), "call {at}");
+    assert!(rt;
+        (came, failed) == (Err(ViewFault::Write), true),
+        "call {at}"
+    );
     assert!(rt; end.calls == at && is_front, "call {at}");
     Ok(())
 }
