@@ -1,11 +1,13 @@
 -- Rows that were taken to their end are those of the book.
 use Rattle.pawn_csv.proofs.Basics.{◌≡◌, ◌∙◌, ◌+◌, ℕ, Bool, true, false, List, [], ◌∷◌, ◌++◌, length, map, Option, Some, None, Result, Ok, Err, refl, sym, ap}
-use Rattle.pawn_csv.proofs.Basics.{subst, append_assoc, arith, cond, nat_lt, nat_le, ◌==◌, ◌&&◌, ◌||◌, IfOk, IfSome, Each-push, and_parts, append-nil}
-use Rattle.pawn_csv.{proofs.Basics.nat_tests, specs.Common.{AreRecords, BookRows, Each, PledgeValue, Rates, default_config, flat_map, most_pledges, most_terms}}
-use Rattle.pawn_csv.specs.{Common.{strip_bom, State}, Reading.{AreTaken, IsHeldBy, IsReadAs, IsTextOf}, Order.{Begun, hand, is_whole, may_end, on_hand}}
+use Rattle.pawn_csv.proofs.Basics.{subst, append_assoc, arith, cond, nat_lt, nat_le, ◌==◌, ◌&&◌, ◌||◌, IfOk, IfSome, Each-push, and_parts}
+use Rattle.pawn_csv.{proofs.Basics.{append-nil, nat_tests, option_map}, specs.Common.{AreRecords, BookRows, Each, PledgeValue, Rates, default_config}}
+use Rattle.pawn_csv.specs.Common.{State, flat_map, most_pledges, most_terms, strip_bom}
+use Rattle.pawn_csv.specs.{Reading.{AreTaken, IsHeldBy, IsReadAs, IsTextOf}, Order.{Begun, hand, is_whole, may_end, on_hand}}
 use Rattle.pawn_csv.specs.Order.{on_second, place, place_booking, place_entry, place_extension, place_pledge, place_secret, place_terms, pledges_begun}
 use Rattle.pawn_csv.specs.{Order.{put_hand, raw_pledge, run, then_run}, Types.{Cause, PledgeColumns, RawPledge, Row, Version}, Rows.{FitsColumns, Knows}}
 use Rattle.pawn_csv.specs.{Rows.{header, pledge_csv_rows, row_fields, rows_of_csv, terms_rows, version_rows}, Finishing.{IsFinishedAs, raw_of}, Layout.raw_rows}
+use Rattle.pawn_csv.proofs.ReadLemmas.{EndsAt}
 use Rattle.pawn_csv.proofs.OrderLemmas.{Shows, booking_shown, entry_shown, extension_shown, guard_err, guard_ok, ok_same, secret_shown}
 
 -- the rows that were taken
@@ -215,8 +217,8 @@ read_is text k (records, rows, s, are, taken, done) =
     let (v, same, held) = taken_is records rows s k taken done in
     (v, subst (λ (rs : List (List (List ℕ))). AreRecords default_config State.StartRecord text rs) same are, held)
 
-pub text_is : {E : Type 0} (o : Option (List ℕ)) (res : Result BookRows E) → IfOk res (λ k. IfSome o (λ text. IsReadAs (strip_bom text) k))
-    → IfOk res (λ k. IfSome o (λ text. IsTextOf (strip_bom text) k))
-text_is None (Ok k) h = tt
-text_is (Some text) (Ok k) h = read_is (strip_bom text) k h
-text_is o (Err e) h = tt
+pub text_is : {E : Type 0} (o : Option (List ℕ)) (s : Option Begun) (row : ℕ) (res : Result BookRows E)
+    → IfSome (option_map strip_bom o) (λ text. EndsAt text s row) → IfOk res (IsFinishedAs s) → IfOk res (λ k. IfSome o (λ text. IsTextOf (strip_bom text) k))
+text_is None s row (Ok k) ends done = tt
+text_is (Some text) s row (Ok k) (records, rows, are, taken, place) done = read_is (strip_bom text) k (records, rows, s, are, taken, done)
+text_is o s row (Err e) ends done = tt

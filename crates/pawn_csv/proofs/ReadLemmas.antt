@@ -1,10 +1,11 @@
 -- The records so far, and what they make.
-use Rattle.pawn_csv.proofs.Basics.{◌≡◌, ◌≢◌, ◌∙◌, ◌+◌, ℕ, Bool, true, false, List, [], ◌∷◌, ◌++◌, length, map, Option, Some, None, Result, Ok, Err, refl, sym}
-use Rattle.pawn_csv.{proofs.Basics.{ap, subst, arith, nat_eq, inl, inr, IfSome, Each-push, length-append, nat_tests}, specs.Common.{BookRows, ErrorKind}}
-use Rattle.pawn_csv.specs.Common.{ExplainsRead, NextIs, Reached, Read, ReadRecord, ReadsNext, State, default_config, next_record, pending_of, source_of}
-use Rattle.pawn_csv.specs.{Answers.{AnswersBegun, Fails}, Reading.{AreTaken, AreTakenBefore, CauseOf, EndsReadingAs, IsFaultOf, IsFirstCause, IsReadAs}}
-use Rattle.pawn_csv.specs.{Reading.{IsSpelled, RefusesRow, Taking}, Order.{Begun, place, run, then_run}, Types.{Cause, Row}, Finishing.{Ends, IsFinishedAs}}
+use Rattle.pawn_csv.proofs.Basics.{◌≡◌, ◌∙◌, ◌+◌, ℕ, Bool, true, false, List, [], ◌∷◌, ◌++◌, length, map, Option, Some, None, Result, Ok, Err, refl, sym}
+use Rattle.pawn_csv.proofs.Basics.{ap, subst, arith, nat_eq, inl, inr, IfErr, IfSome, option_map, Each-push, length-append, nat_tests}
+use Rattle.pawn_csv.specs.Common.{ErrorKind, ExplainsRead, NextIs, Reached, Read, ReadRecord, ReadsNext, State, default_config, next_record}
+use Rattle.pawn_csv.specs.{Answers.{AnswersBegun, Fails}, Reading.{AreTaken, AreTakenBefore, CauseOf, EndsReadingAs, IsFaultOf, IsFirstCause}}
+use Rattle.pawn_csv.specs.{Reading.{IsSpelled, RefusesRow, Taking}, Order.{Begun, place, run, then_run}, Types.{Cause, Row}}
 use Rattle.{pawn_csv.specs.Rows.{FitsColumns, row_fields}, std.proofs.lemmas.List.map-append, csv.specs.declared.reader.Reader.Reader}
+use Rattle.pawn_csv.specs.{Common.{AreRecords, pending_of, source_of, strip_bom}, declared.fault.CsvFault.CsvFault}
 use Rattle.csv.proofs.ReadFacts.{rows-end, rows-more}
 
 pub record SoFar {R : Type 0} (rem : R → Option (List ℕ)) (text : List ℕ) (reader : Reader R) (index : ℕ) (raw : Option Begun) : Type 0 where
@@ -61,15 +62,24 @@ so_far_more u rem text a b i f raw new config so read step =
     }
 
 -- the end of the text
-pub so_far_end : {R : Type 0} (rem : R → Option (List ℕ)) (text : List ℕ) (a b : Reader R) (i : ℕ) (f : List (List ℕ)) (raw : Option Begun) (k : BookRows)
-    → a.config ≡ default_config → SoFar rem text a i raw → ReadRecord rem a b false f → IsFinishedAs raw k → IsReadAs text k
-so_far_end rem text a b i f raw k config so read done =
-    (so.records, so.rows, raw, (a.state, so.rest, so.reached, rows-end rem a b f default_config so.rest config so.source read), so.taken, done)
+abbrev pub EndsAt : List ℕ → Option Begun → ℕ → Type 0
+EndsAt text s row = (records : List (List (List ℕ))) × (rows : List Row) × AreRecords default_config State.StartRecord text records
+    × AreTaken records rows s × (length records + 1 ≡ row)
+
+pub so_far_end : {R : Type 0} (rem : R → Option (List ℕ)) (text : List ℕ) (a b : Reader R) (i : ℕ) (f : List (List ℕ)) (raw : Option Begun)
+    → a.config ≡ default_config → SoFar rem text a i raw → ReadRecord rem a b false f → EndsAt text raw (i + 1)
+so_far_end rem text a b i f raw config so read =
+    (so.records, so.rows, (a.state, so.rest, so.reached, rows-end rem a b f default_config so.rest config so.source read), so.taken, ap (λ n. n + 1) so.count)
 
 -- of the bytes, where they are told
 pub where_told : {A : Type 0} (o : Option A) (P : A → Type 0) → ((x : A) → o ≡ Some x → P x) → IfSome o P
 where_told None P h = tt
 where_told (Some x) P h = h x refl
+
+-- what holds of the text after a byte order mark
+pub bom_passed : (o : Option (List ℕ)) (P : List ℕ → Type 0) → IfSome (option_map strip_bom o) P → IfSome o (λ text. P (strip_bom text))
+bom_passed None P h = tt
+bom_passed (Some text) P h = h
 
 -- a first fault is the text's, whatever its cause
 pub first_is : (text : List ℕ) (c : Cause) (row : ℕ) → IsFirstCause text c row → IsFaultOf text c row
@@ -119,16 +129,6 @@ refused_as : (first : Bool) (f : List (List ℕ)) (raw new other : Option Begun)
 refused_as true f raw new other c h = h
 refused_as false f raw new other c h = h
 
-end_refused : (records : List (List (List ℕ))) (raw : Option Begun) (c : Cause) → length records ≢ 0 → (let r : Result BookRows Cause = Err c in Ends raw r)
-    → EndsReadingAs records raw c
-end_refused [] raw c some h = absurd (some refl)
-end_refused (h ∷ rs) raw Cause.Memory some is = tt
-end_refused (h ∷ rs) raw c some is = is
-
-end_empty : (records : List (List (List ℕ))) (raw : Option Begun) → length records ≡ 0 → EndsReadingAs records raw Cause.Columns
-end_empty [] raw none = refl
-end_empty (h ∷ rs) raw none = absurd (omega (arith, none))
-
 -- the row that was read is refused
 pub so_far_refused : {R : Type 0} (rem : R → Option (List ℕ)) (text : List ℕ) (a b : Reader R) (i : ℕ) (f : List (List ℕ)) (raw new : Option Begun) (c : Cause)
     → a.config ≡ default_config → SoFar rem text a i raw → ReadRecord rem a b true f
@@ -146,21 +146,17 @@ so_far_refused rem text a b i f raw new c config so read step =
     })
 
 -- the end is refused
-pub so_far_unfinished : {R : Type 0} (rem : R → Option (List ℕ)) (text : List ℕ) (a b : Reader R) (i : ℕ) (f : List (List ℕ)) (raw : Option Begun) (c : Cause)
-    → a.config ≡ default_config → SoFar rem text a i raw → ReadRecord rem a b false f → i ≢ 0 → (let r : Result BookRows Cause = Err c in Ends raw r)
-    → IsFaultOf text c (i + 1)
-so_far_unfinished rem text a b i f raw c config so read some refused = first_is text c (i + 1) (record {
-  at = so_far_before rem text a i raw so;
-  why = inr (rows-end rem a b f default_config so.rest config so.source read, end_refused so.records raw c (λ e. some (sym so.count ∙ e)) refused);
-})
-
--- a text without records is refused
-pub so_far_empty : {R : Type 0} (rem : R → Option (List ℕ)) (text : List ℕ) (a b : Reader R) (i : ℕ) (f : List (List ℕ)) (raw : Option Begun)
-    → a.config ≡ default_config → SoFar rem text a i raw → ReadRecord rem a b false f → i ≡ 0 → IsFaultOf text Cause.Columns 1
-so_far_empty rem text a b i f raw config so read none = subst (λ (n : ℕ). IsFirstCause text Cause.Columns (n + 1)) none (record {
-  at = so_far_before rem text a i raw so;
-  why = inr (rows-end rem a b f default_config so.rest config so.source read, end_empty so.records raw (so.count ∙ none));
-})
+pub end_fault : {A : Type 0} (o : Option (List ℕ)) (s : Option Begun) (row : ℕ) (res : Result A CsvFault)
+    → IfSome (option_map strip_bom o) (λ text. EndsAt text s row)
+    → IfErr res (λ f. (f.row ≡ row) × ((records : List (List (List ℕ))) → length records + 1 ≡ row → EndsReadingAs records s f.cause))
+    → IfErr res (λ f. IfSome o (λ text. IsFaultOf (strip_bom text) f.cause f.row))
+end_fault None s row (Err f) ends h = tt
+end_fault (Some text) s row (Err f) (records, rows, (state, rest, reached, last), taken, place) (same, why) =
+    subst (IsFaultOf (strip_bom text) f.cause) (sym same) (first_is (strip_bom text) f.cause row (record {
+      at = record { before = records; rows = rows; state = state; rest = rest; begun = s; reached = reached; taken = taken; place = place };
+      why = inr (last, why records place);
+    }))
+end_fault o s row (Ok k) ends h = tt
 
 refused_for : (fs : List (List ℕ)) (s : Option Begun) (r : Row) (c : Cause) → IsSpelled fs r → Fails (place s r) c → RefusesRow fs s c
 refused_for fs s r Cause.Memory spelled h = inl refl

@@ -81,13 +81,20 @@ pub(crate) fn read_version(field: &[u8]) -> Option<Version>
     }
 }
 
+// Whether a column is this word.
+fn is_word(field: &[u8], word: &[u8]) -> bool
+    ensures answer { IsTrue result ↔ (field.now ≡ word.now) }
+{
+    field == word
+}
+
 // True for `yes`, false for `no`.
 pub(crate) fn read_yes(field: &[u8]) -> Option<bool>
     ensures value { ReadsAs yes_text IsAny field.now result }
 {
     match field {
-        b"yes" => Some(true),
-        b"no" => Some(false),
+        _ if is_word(field, b"yes") => Some(true),
+        _ if is_word(field, b"no") => Some(false),
         _ => None,
     }
 }
@@ -97,9 +104,9 @@ pub(crate) fn read_closing(field: &[u8]) -> Option<ClosingWord>
     ensures value { ReadsAs closing_text IsAny field.now result }
 {
     match field {
-        b"open" => Some(ClosingWord::Open),
-        b"redeemed" => Some(ClosingWord::Redeemed),
-        b"sold" => Some(ClosingWord::Sold),
+        _ if is_word(field, b"open") => Some(ClosingWord::Open),
+        _ if is_word(field, b"redeemed") => Some(ClosingWord::Redeemed),
+        _ if is_word(field, b"sold") => Some(ClosingWord::Sold),
         _ => None,
     }
 }
@@ -109,9 +116,9 @@ pub(crate) fn read_issue(field: &[u8]) -> Option<Issue>
     ensures value { ReadsAs issue_text IsAny field.now result }
 {
     match field {
-        b"opening" => Some(Issue::Opening),
-        b"sworn" => Some(Issue::Sworn),
-        b"written" => Some(Issue::Written),
+        _ if is_word(field, b"opening") => Some(Issue::Opening),
+        _ if is_word(field, b"sworn") => Some(Issue::Sworn),
+        _ if is_word(field, b"written") => Some(Issue::Written),
         _ => None,
     }
 }
@@ -121,8 +128,8 @@ pub(crate) fn read_sort(field: &[u8]) -> Option<Sort>
     ensures value { ReadsAs sort_text IsAny field.now result }
 {
     match field {
-        b"draw" => Some(Sort::Draw),
-        b"repay" => Some(Sort::Repay),
+        _ if is_word(field, b"draw") => Some(Sort::Draw),
+        _ if is_word(field, b"repay") => Some(Sort::Repay),
         _ => None,
     }
 }
@@ -132,10 +139,10 @@ pub(crate) fn read_state(field: &[u8]) -> Option<BookingState>
     ensures value { ReadsAs state_text IsAny field.now result }
 {
     match field {
-        b"asked" => Some(BookingState::Asked),
-        b"confirmed" => Some(BookingState::Confirmed),
-        b"refused" => Some(BookingState::Refused),
-        b"cancelled" => Some(BookingState::Cancelled),
+        _ if is_word(field, b"asked") => Some(BookingState::Asked),
+        _ if is_word(field, b"confirmed") => Some(BookingState::Confirmed),
+        _ if is_word(field, b"refused") => Some(BookingState::Refused),
+        _ if is_word(field, b"cancelled") => Some(BookingState::Cancelled),
         _ => None,
     }
 }
@@ -201,8 +208,8 @@ pub(crate) fn read_kind(word: &[u8], amount: &[u8]) -> Option<Kind>
         return None;
     };
     match word {
-        b"fixed" => Some(Kind::Fixed(amount)),
-        b"running" => Some(Kind::Running(amount)),
+        _ if is_word(word, b"fixed") => Some(Kind::Fixed(amount)),
+        _ if is_word(word, b"running") => Some(Kind::Running(amount)),
         _ => None,
     }
 }

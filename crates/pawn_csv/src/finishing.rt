@@ -57,6 +57,13 @@ fn parts_of(raw: RawPledge, terms: &[Rates]) -> Option<Parts>
     ensures found { IfSome result (IsRawOf terms.now raw) }
     ensures none { IfNone result ((p : PledgeValue) → IsRawOf terms.now raw p → ⊥) }
 {
+    let (Some(number), Some(rates), Some(closing)) = (
+        Number::new(raw.columns.number),
+        find_terms(terms, raw.columns.version),
+        closing_of(&raw.columns),
+    ) else {
+        return None;
+    };
     let RawPledge {
         columns,
         secrets,
@@ -64,9 +71,6 @@ fn parts_of(raw: RawPledge, terms: &[Rates]) -> Option<Parts>
         extensions,
         booking,
     } = raw;
-    let number = Number::new(columns.number)?;
-    let rates = find_terms(terms, columns.version)?;
-    let closing = closing_of(&columns)?;
     let standing = Standing {
         held: columns.held,
         booking,

@@ -1,5 +1,5 @@
 //! The order of a book's rows.
-ghost use Rattle.std.specs.Prelude.{◌≡◌, Some, length};
+ghost use Rattle.std.specs.Prelude.{◌≡◌, IfOk, Some, length};
 ghost use Rattle.pawn_csv.specs.{Answers.{AnswersBegun, GivesAs, Places}, Order.{begun_of, has_secret, is_whole, may_end, on_hand, on_second, place}};
 ghost use Rattle.pawn_csv.specs.Order.{place_after, place_before, place_booking, place_entry, place_extension, place_pledge, place_secret, place_terms};
 ghost use Rattle.pawn_csv.specs.Order.{pledges_begun, raw_pledge, view_begun};
@@ -12,7 +12,7 @@ use pawn_book::{
 };
 use pawn_debt::MOST_ENTRIES;
 use pawn_pledge::{MOST_EXTENSIONS, MOST_SECRETS};
-use std::alloc::Global;
+use std::alloc::{AllocError, Global};
 
 /// A pledge as its rows so far give it. It need not be one that can have come about.
 #[derive(Drop)]
@@ -126,14 +126,14 @@ pub(crate) struct BegunBook {
 }
 
 // The book that a first row begins. It is an error if the row is not that of a book.
-fn begin(alloc: Global, row: &Row) -> Result<BegunBook, Cause>
-    ensures answer { GivesAs view_begun (place_before row.now) result }
+fn begin(alloc: Global, row: Row) -> Result<BegunBook, Cause>
+    ensures answer { GivesAs view_begun (place_before row) result }
 {
     let Row::Book {
         version,
         terms,
         pledges,
-    } = row
+    } = &row
     else {
         return Err(Cause::Order);
     };
@@ -189,6 +189,17 @@ impl BegunBook {
         }
     }
 
+    // Begins the pledge of these columns. The one at hand before, if any, goes with those whose rows are over.
+    fn begin_pledge(&mut self, alloc: Global, columns: PledgeColumns) -> Result<(), AllocError>
+        ensures begun { IfOk result (λ u. view_begun self.new
+            ≡ (record (view_begun self.old) { pledges = pledges_begun (view_begun self.old); at_hand = Some (raw_pledge columns) })) }
+    {
+        if let Some(pledge) = self.at_hand.replace(RawPledge::new(alloc, columns)) {
+            self.pledges.push(pledge)?;
+        }
+        Ok(())
+    }
+
     // Takes the row of a pledge.
     fn place_pledge(&mut self, alloc: Global, columns: PledgeColumns) -> Result<(), Cause>
         ensures answer { Places (place_pledge (view_begun self.old) columns) result (view_begun self.new) }
@@ -199,13 +210,10 @@ impl BegunBook {
         if columns.number != self.count_pledges() + 1 || columns.number > self.pledges_due {
             return Err(Cause::Order);
         }
-        if let Some(pledge) = self.at_hand.take() {
-            if self.pledges.push(pledge).is_err() {
-                return Err(Cause::Memory);
-            }
+        match self.begin_pledge(alloc, columns) {
+            Ok(()) => Ok(()),
+            Err(_) => Err(Cause::Memory),
         }
-        self.at_hand = Some(RawPledge::new(alloc, columns));
-        Ok(())
     }
 
     // Takes the row of a secret of the pledge at hand.
@@ -330,7 +338,7 @@ impl RawBook {
         match &mut self.begun {
             Some(begun) => begun.place(alloc, row),
             None => {
-                self.begun = Some(begin(alloc, &row)?);
+                self.begun = Some(begin(alloc, row)?);
                 Ok(())
             }
         }

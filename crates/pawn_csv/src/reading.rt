@@ -1,19 +1,22 @@
 //! Reading a book's text.
-ghost use Rattle.pawn_csv.specs.{Common.{IfErr, IfOk, IfSome, error_kind, fields_of, strip_bom}, Reading.{CauseOf, IsFaultOf, IsReadAs, IsTextOf, Taking}};
-ghost use Rattle.pawn_csv.specs.Order.{begun_of};
+ghost use Rattle.std.specs.Prelude.{◌≡◌, ◌+◌, ℕ, List, None, length, true};
+ghost use Rattle.csv.specs.Reading.{Ready, is_flexible, reader_config, reader_state, reader_trim};
+ghost use Rattle.pawn_csv.specs.Common.{AreRecords, IfErr, IfOk, IfSome, State, default_config, error_kind, fields_of, source_of, strip_bom};
+ghost use Rattle.pawn_csv.specs.{Reading.{AreTaken, CauseOf, EndsReadingAs, IsFaultOf, IsTextOf, Taking}, Types.Row, Finishing.IsFinishedAs, Order.begun_of};
+ghost use Rattle.csv.specs.declared.reader.Trim.TheVariants as trim;
 
 use crate::fault::{Cause, CsvFault};
 use crate::order::RawBook;
 use crate::row::COLUMNS;
 use crate::spelling::{is_header, read_row};
-use csv::{ByteRecord, Error, ErrorKind, ReaderBuilder};
+use csv::{ByteRecord, Error, ErrorKind, Reader, ReaderBuilder};
 use pawn_book::ReplayableRows;
 use std::alloc::Global;
 use std::io::Read;
 
 // The cause for an error of the CSV reader.
-fn cause_of(error: &Error) -> Cause
-    ensures cause { CauseOf (error_kind error.now) result }
+fn cause_of(error: Error) -> Cause
+    ensures cause { CauseOf (error_kind error) result }
 {
     match error.kind() {
         ErrorKind::Io(_) => Cause::Read,
@@ -50,52 +53,54 @@ fn take_record(
     }
 }
 
-// Takes the records of a text one after another, and makes the book at their end.
-fn take_records<R: Read + Drop>(alloc: Global, reader: R) -> Result<ReplayableRows, CsvFault>
-    ensures found { IfOk result (λ k. IfSome (R.remaining reader) (λ text. IsReadAs (strip_bom text) k)) }
-    ensures fault { IfErr result (λ f. IfSome (R.remaining reader) (λ text. IsFaultOf (strip_bom text) f.cause f.row)) }
+// The book at the end of a text, where this row would come next. A text without a record lacks the header.
+fn finish_text(alloc: Global, raw: RawBook, row: u64) -> Result<ReplayableRows, CsvFault>
+    ensures found { IfOk result (IsFinishedAs (begun_of raw)) }
+    ensures fault { IfErr result (λ f. (f.row ≡ row)
+        × ((records : List (List (List ℕ))) → length records + 1 ≡ row → EndsReadingAs records (begun_of raw) f.cause)) }
 {
-    let mut csv_reader = ReaderBuilder::new()
-        .has_headers(false)
-        .flexible(true)
-        .from_reader(alloc, reader);
-    let mut raw = RawBook { begun: None };
+    if row == 1 {
+        return Err(CsvFault {
+            cause: Cause::Columns,
+            row,
+        });
+    }
+    match raw.finish(alloc) {
+        Ok(book) => Ok(book),
+        Err(cause) => Err(CsvFault { cause, row }),
+    }
+}
+
+// Takes the records of a text one after another. The row that would come next is the result.
+fn take_records<R: Read>(
+    alloc: Global,
+    csv_reader: &mut Reader<R>,
+    raw: &mut RawBook,
+) -> Result<u64, CsvFault>
+    requires trim { reader_trim csv_reader.old ≡ trim.None }
+    requires ready { Ready csv_reader.old }
+    requires config { reader_config csv_reader.old ≡ default_config }
+    requires flexible { is_flexible csv_reader.old ≡ true }
+    requires state { reader_state csv_reader.old ≡ State.StartRecord }
+    requires begun { begun_of raw.old ≡ None }
+    ensures taken { IfOk result (λ row. IfSome (source_of R.remaining csv_reader.old) (λ text. (records : List (List (List ℕ))) × (rows : List Row)
+        × AreRecords default_config State.StartRecord text records × AreTaken records rows (begun_of raw.new) × (length records + 1 ≡ row))) }
+    ensures fault { IfErr result (λ f. IfSome (source_of R.remaining csv_reader.old) (λ text. IsFaultOf text f.cause f.row)) }
+{
     let mut record = ByteRecord::new(alloc);
     for index in 0..u64::MAX - 1 {
+        let row = index + 1;
         match csv_reader.read_byte_record(&mut record) {
             Err(error) => {
-                return Err(CsvFault {
-                    cause: cause_of(&error),
-                    row: index + 1,
-                });
+                let cause = cause_of(error);
+                return Err(CsvFault { cause, row });
             }
-            Ok(false) => {
-                if index == 0 {
-                    return Err(CsvFault {
-                        cause: Cause::Columns,
-                        row: 1,
-                    });
-                }
-                match raw.finish(alloc) {
-                    Ok(book) => return Ok(book),
-                    Err(cause) => {
-                        return Err(CsvFault {
-                            cause,
-                            row: index + 1,
-                        });
-                    }
-                }
-            }
+            Ok(false) => return Ok(row),
             Ok(true) => {}
         }
-        match take_record(alloc, &mut raw, &record, index == 0) {
+        match take_record(alloc, raw, &record, index == 0) {
             Ok(()) => {}
-            Err(cause) => {
-                return Err(CsvFault {
-                    cause,
-                    row: index + 1,
-                });
-            }
+            Err(cause) => return Err(CsvFault { cause, row }),
         }
     }
     Err(CsvFault {
@@ -111,5 +116,13 @@ pub fn read_book<R: Read + Drop>(alloc: Global, reader: R) -> Result<ReplayableR
     ensures found { IfOk result (λ k. IfSome (R.remaining reader) (λ text. IsTextOf (strip_bom text) k)) }
     ensures fault { IfErr result (λ f. IfSome (R.remaining reader) (λ text. IsFaultOf (strip_bom text) f.cause f.row)) }
 {
-    take_records(alloc, reader)
+    let mut csv_reader = ReaderBuilder::new()
+        .has_headers(false)
+        .flexible(true)
+        .from_reader(alloc, reader);
+    let mut raw = RawBook { begun: None };
+    match take_records(alloc, &mut csv_reader, &mut raw) {
+        Ok(row) => finish_text(alloc, raw, row),
+        Err(fault) => Err(fault),
+    }
 }

@@ -61,10 +61,14 @@ fn read_secret_row(columns: &ByteRecord) -> Option<Row>
     requires letter { column_at (fields_of columns.now) 0 ≡ codes "S" }
     ensures value { ReadsAs row_fields FitsColumns (fields_of columns.now) result }
 {
-    let number = read_number(column(columns, 1))?;
-    let place = read_number(column(columns, 2))?;
-    let day = read_day(column(columns, 3))?;
-    let sort = read_issue(column(columns, 4))?;
+    let (Some(number), Some(place), Some(day), Some(sort)) = (
+        read_number(column(columns, 1)),
+        read_number(column(columns, 2)),
+        read_day(column(columns, 3)),
+        read_issue(column(columns, 4)),
+    ) else {
+        return None;
+    };
     let secret = read_secret(column(columns, 5))?;
     if !are_blank(columns, 6) {
         return None;
@@ -82,11 +86,15 @@ fn read_entry_row(columns: &ByteRecord) -> Option<Row>
     requires letter { column_at (fields_of columns.now) 0 ≡ codes "E" }
     ensures value { ReadsAs row_fields FitsColumns (fields_of columns.now) result }
 {
-    let number = read_number(column(columns, 1))?;
-    let seq = read_number(column(columns, 2))?;
-    let day = read_day(column(columns, 3))?;
-    let sort = read_sort(column(columns, 4))?;
-    let pence = read_number(column(columns, 5))?;
+    let (Some(number), Some(seq), Some(day), Some(sort), Some(pence)) = (
+        read_number(column(columns, 1)),
+        read_number(column(columns, 2)),
+        read_day(column(columns, 3)),
+        read_sort(column(columns, 4)),
+        read_number(column(columns, 5)),
+    ) else {
+        return None;
+    };
     if !are_blank(columns, 6) {
         return None;
     }
@@ -176,14 +184,22 @@ fn with_opening(columns: &ByteRecord, opening: Opening) -> Option<PledgeColumns>
     requires opening { IsOpeningOf (fields_of columns.now) opening }
     ensures value { ReadsAs pledge_fields AreColumns (fields_of columns.now) result }
 {
-    let number = read_number(column(columns, 1))?;
-    let taken = read_day(column(columns, 6))?;
-    let version = read_number(column(columns, 9))?;
-    let held = read_yes(column(columns, 10))?;
-    let last = read_day(column(columns, 11))?;
-    let closing = read_closing(column(columns, 12))?;
-    let closing_day = read_day_if_any(column(columns, 13))?;
-    let amount = read_number_if_any(column(columns, 14))?;
+    let (Some(number), Some(taken), Some(version), Some(held)) = (
+        read_number(column(columns, 1)),
+        read_day(column(columns, 6)),
+        read_number(column(columns, 9)),
+        read_yes(column(columns, 10)),
+    ) else {
+        return None;
+    };
+    let (Some(last), Some(closing), Some(closing_day), Some(amount)) = (
+        read_day(column(columns, 11)),
+        read_closing(column(columns, 12)),
+        read_day_if_any(column(columns, 13)),
+        read_number_if_any(column(columns, 14)),
+    ) else {
+        return None;
+    };
     Some(PledgeColumns {
         number,
         opening,

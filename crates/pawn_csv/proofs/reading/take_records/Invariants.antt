@@ -1,4 +1,4 @@
-use Rattle.pawn_csv.{proofs.{Basics.{◌≡◌, List, ℕ, Some, true}, ReadLemmas.SoFar}, specs.{Common.{default_config, strip_bom}, Order.begun_of}}
+use Rattle.pawn_csv.{proofs.{Basics.{◌≡◌, List, ℕ, Some, true}, ReadLemmas.SoFar}, specs.{Common.{default_config, source_of}, Order.begun_of}}
 use Rattle.csv.specs.Reading.{Ready}
 use Rattle.csv.specs.declared.reader.Trim.TheVariants as trim
 use Rattle.pawn_csv.proofs.reading.take_records.Given as goal
@@ -9,5 +9,5 @@ invariant-loop-index g l = record {
   ready : Ready l.csv_reader;
   config : l.csv_reader.config ≡ default_config;
   flexible : l.csv_reader.flexible ≡ true;
-  so_far : (text : List ℕ) → g.R.Read.remaining l.fn.reader ≡ Some text → SoFar g.R.Read.remaining (strip_bom text) l.csv_reader l.index (begun_of l.raw);
+  so_far : (text : List ℕ) → source_of g.R.Read.remaining l.fn.csv_reader ≡ Some text → SoFar g.R.Read.remaining text l.csv_reader l.index (begun_of l.raw);
 }

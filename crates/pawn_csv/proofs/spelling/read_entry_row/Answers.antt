@@ -2,12 +2,14 @@ use Rattle.{pawn_csv.{proofs.{Basics.{◌∙◌, arith, refl, sym}, RowLemmas.{b
 use Rattle.pawn_csv.proofs.spelling.read_entry_row.Goals as goal
 
 pub returns : goal.returns
-returns c = record {
-  value = (
-    (c.in_ok-number.ensures.value.0, c.in_ok-seq.ensures.value.0, c.in_ok-day.ensures.value.0, c.in_ok-pence.ensures.value.0),
-    columns_are c.requires.wide (c.requires.letter & sym c.column.ensures.value ∙ c.in_ok-number.ensures.value.1
-        & sym c.column-2.ensures.value ∙ c.in_ok-seq.ensures.value.1 & sym c.column-3.ensures.value ∙ c.in_ok-day.ensures.value.1
-        & sym c.column-4.ensures.value ∙ c.in_ok-sort.ensures.value.1 & sym c.column-5.ensures.value ∙ c.in_ok-pence.ensures.value.1
-        & blank_follow (fields_of c.args.columns.now) 6 9 (c.if-not-are_blank.ensures.answer.0 refl) (omega arith)),
-  );
-}
+returns c =
+    let a = c.in-Some-Some-Some-Some-Some in
+    record {
+      value = (
+        (a.ensures.value.0, a.ensures'.value.0, a.ensures''.value.0, a.ensures''''.value.0),
+        columns_are c.requires.wide (c.requires.letter & sym c.column.ensures.value ∙ a.ensures.value.1 & sym c.column-2.ensures.value ∙ a.ensures'.value.1
+            & sym c.column-3.ensures.value ∙ a.ensures''.value.1 & sym c.column-4.ensures.value ∙ a.ensures'''.value.1
+            & sym c.column-5.ensures.value ∙ a.ensures''''.value.1
+            & blank_follow (fields_of c.args.columns.now) 6 9 (c.if-not-are_blank.ensures.answer.0 refl) (omega arith)),
+      );
+    }

@@ -10,17 +10,19 @@ no_secret fs is none r fits spelled = absurd (omega (arith, ap (λ (l : List ℕ
 
 pub returns-in_err-secret : goal.returns-in_err-secret
 returns-in_err-secret c = record {
-  value = rw c.from_residual-in_err-secret.ensures (no_secret (fields_of c.args.columns.now) c.requires.letter
+  value = rw c.from_residual.ensures (no_secret (fields_of c.args.columns.now) c.requires.letter
       (λ number place issued fits is. c.in_err-secret.ensures.value issued.secret fits.3 (c.column-5.ensures.value ∙ ap (λ f. column_at f 5) is)));
 }
 
 pub returns : goal.returns
-returns c = record {
-  value = (
-    (c.in_ok-number.ensures.value.0, c.in_ok-place.ensures.value.0, c.in_ok-day.ensures.value.0, c.in_ok-secret.ensures.value.0),
-    columns_are c.requires.wide (c.requires.letter & sym c.column.ensures.value ∙ c.in_ok-number.ensures.value.1
-        & sym c.column-2.ensures.value ∙ c.in_ok-place.ensures.value.1 & sym c.column-3.ensures.value ∙ c.in_ok-day.ensures.value.1
-        & sym c.column-4.ensures.value ∙ c.in_ok-sort.ensures.value.1 & sym c.column-5.ensures.value ∙ c.in_ok-secret.ensures.value.1
-        & blank_follow (fields_of c.args.columns.now) 6 9 (c.if-not-are_blank.ensures.answer.0 refl) (omega arith)),
-  );
-}
+returns c =
+    let a = c.in-Some-Some-Some-Some in
+    record {
+      value = (
+        (a.ensures.value.0, a.ensures'.value.0, a.ensures''.value.0, c.in_ok-secret.ensures.value.0),
+        columns_are c.requires.wide (c.requires.letter & sym c.column.ensures.value ∙ a.ensures.value.1 & sym c.column-2.ensures.value ∙ a.ensures'.value.1
+            & sym c.column-3.ensures.value ∙ a.ensures''.value.1 & sym c.column-4.ensures.value ∙ a.ensures'''.value.1
+            & sym c.column-5.ensures.value ∙ c.in_ok-secret.ensures.value.1
+            & blank_follow (fields_of c.args.columns.now) 6 9 (c.if-not-are_blank.ensures.answer.0 refl) (omega arith)),
+      );
+    }
