@@ -1,5 +1,5 @@
 -- Where each table stands in the schema.
-use Rattle.std.proofs.{Common.{◌≡◌, inl, inr, ℕ, ◌==◌, List, [], ◌∷◌, length, false, refl, arith, true, sym, ◌∙◌, ◌⊎◌, Some, slice_get}, lemmas.Bool.false≢true}
+use Rattle.std.proofs.{Common.{◌≡◌, inl, inr, ℕ, ◌==◌, List, [], ◌∷◌, length, false, refl, arith, sym, ◌∙◌, ◌⊎◌, Some, slice_get}, lemmas.Bool.false≢true}
 use Rattle.{std.proofs.lemmas.Bool.Decides.nat_tests, pawn_tables.specs.{Common.{Index, Row, Table}, Ours.with_indexes, Schema.{books, terms, pledges}}}
 use Rattle.pawn_tables.specs.Schema.{secrets, bookings, meta, totals, extensions, bookings_tree, books_tree, entries_tree, extensions_tree, meta_tree}
 use Rattle.{pawn_tables.specs.Schema.{pledges_tree, secrets_tree, terms_tree, totals_tree, entries}, pawn_saving.{specs.Common.Enforced, proofs.Basics.IsPlace}}

@@ -8,7 +8,7 @@ use Rattle.{pawn_saving.proofs.Differing.{all_equal, same_number, same_optional}
 use Rattle.pawn_saving.proofs.WriteTexts as text
 
 -- what can change of a row
-abbrev changing : PledgeValue → Row
+abbrev pub changing : PledgeValue → Row
 changing p = number (end_of p) ∷ flag p.standing.held ∷ number p.standing.last ∷ number (closed_number p.standing.closing)
     ∷ or_null number (closed_day p.standing.closing) ∷ or_null number (closed_amount p.standing.closing) ∷ []
 
@@ -26,12 +26,10 @@ row_with b n a more = let o = a.opening in
     number b ∷ number n ∷ Text o.reference ∷ Text o.article ∷ number (kind_number o.kind) ∷ number (credit_of o.kind) ∷ number a.taken ∷ or_null number o.agreed
     ∷ flag o.five_days ∷ number a.version ∷ more
 
-pub row_set : (old new : State) (listed : Listed) (st : ListsOurs old.now listed) (count b n e h l x : ℕ) (y z : Value) (before p : PledgeValue)
-    (rest : List Row) → before.agreement ≡ p.agreement → e ≡ end_of p → h ≡ flag_number p.standing.held → l ≡ p.standing.last
-    → x ≡ closed_number p.standing.closing → y ≡ or_null number (closed_day p.standing.closing) → z ≡ or_null number (closed_amount p.standing.closing)
-    → IsOnly (at_pledge b n) (listed pledges_tree) (under b n (pledge_cells before)) rest → Executes text.SET_PLEDGE.now (number b ∷ number n ∷ number e
-    ∷ number h ∷ number l ∷ number x ∷ y ∷ z ∷ []) old new (Ok count) → ListsOurs new.now (with_rows listed pledges_tree (under b n (pledge_cells p) ∷ rest))
-row_set old new listed st count b n e h l x y z before p rest agreed es hs ls xs ys zs only ran = let o = p.agreement.opening in
+pub row_set : (old new : State) (listed : Listed) (st : ListsOurs old.now listed) (count b n : ℕ) (before p : PledgeValue) (rest : List Row) {vs : Row}
+    → before.agreement ≡ p.agreement → vs ≡ under b n (changing p) → IsOnly (at_pledge b n) (listed pledges_tree) (under b n (pledge_cells before)) rest
+    → Executes text.SET_PLEDGE.now vs old new (Ok count) → ListsOurs new.now (with_rows listed pledges_tree (under b n (pledge_cells p) ∷ rest))
+row_set old new listed st count b n before p rest agreed is only ran = let o = p.agreement.opening in
     let after : Row = under b n (pledge_cells p) in
     row_set_where 2 (record pledges { tree = pledges_tree }) pledges_place (λ _. refl) text.change_tests text.change_shows text.SET_PLEDGE.now
     (λ more. (text.texts more).change_is)
@@ -57,4 +55,4 @@ row_set old new listed st count b n e h l x y z before p rest agreed es hs ls xs
           ∷ cast_int (end_of p) i ∷ cast_int (flag_number p.standing.held) i ∷ cast_int p.standing.last i ∷ cast_int (closed_number p.standing.closing) i
           ∷ cast_optional (closed_day p.standing.closing) i ∷ cast_optional (closed_amount p.standing.closing) i ∷ []),
       refl,
-    )) (rw (es, hs, ls, xs, ys, zs) at ran)
+    )) (rw is at ran)

@@ -1,6 +1,6 @@
 -- What the statements of a change write.
 use Rattle.std.proofs.Common.{◌≡◌, ◌/◌, inl, inr, ℕ, ℤ, pos, List, [], ◌∷◌, ◌++◌, length, Bool, true, false, ◌&&◌, ◌||◌, ◌==◌, Option, Some, None, Ok}
-use Rattle.{std.proofs.Common.{refl, subst, arith, ◌∙◌, IsPermutation, filter, option_map}, pawn_debt.specs.Due.credit_of}
+use Rattle.{std.proofs.Common.{ap, refl, subst, arith, ◌∙◌, IsPermutation, filter, option_map}, pawn_debt.specs.Due.credit_of}
 use Rattle.pawn_saving.{proofs.Basics.{IsPlace, Puts, cast_int, cast_null, cast_whole, plainly, equals}, specs.Common.{cast, cast_row, Chosen, Integer}}
 use Rattle.pawn_saving.{specs.{Common.{value_rows, with_rowid, with_rows, AreLoose, ListsOurs}, Writing.IsOnly}, proofs.Differing.{differ, all_equal}}
 use Rattle.pawn_saving.proofs.{Differing.same_number, OurTables.{meets_same, row_joins, row_set_where, under_same}, Places.{terms_place, entries_place}}
@@ -13,6 +13,7 @@ use Rattle.pawn_tables.{proofs.Basics.nat_tests, specs.Schema.{terms, pledges, s
 use Rattle.pawn_tables.{specs.Schema.{extensions_tree, pledges_tree, secrets_tree, terms_tree, totals_tree, entries}, proofs.PlacedRows.regroup}
 use Rattle.{sqlite_rules.specs.Keys.conflicts, sqlite_value.specs.Keys.first_key, one_table.proofs.Upsertion.{upserted, Splits}}
 pub use Rattle.pawn_tables.proofs.Lent.{on_ran}
+pub use Rattle.sqlite.specs.Values.{bound_value}
 use Rattle.pawn_saving.proofs.WriteTexts as text
 
 -- a row of the pledge passes the test
@@ -36,6 +37,14 @@ others_in t v = differ (column v 2, number t.day) (beside t v)
 pub cast_optional : (o : Option ℕ) → cast Integer (or_null number o) ≡ or_null number o
 cast_optional None = cast_null
 cast_optional (Some n) = cast_int n
+
+-- a number is bound as it is
+pub bound_number : {v : Value} {m n : ℕ} → v ≡ number m → m ≡ n → bound_value v ≡ number n
+bound_number is same = ap bound_value is ∙ ap number same
+
+pub bound_optional : {v : Value} (o : Option ℕ) → v ≡ or_null number o → bound_value v ≡ or_null number o
+bound_optional None is = ap bound_value is
+bound_optional (Some n) is = ap bound_value is
 
 -- ---- rows that join
 
@@ -80,22 +89,16 @@ module _ (old new : State) (listed : Listed) (st : ListsOurs old.now listed) (co
       (under b n (totals_cells t)) refl (λ i. cast_null i ∷ cast_int b i ∷ cast_int n i ∷ cast_int t.day i ∷ cast_int t.principal i ∷ cast_int t.millionths i
       ∷ []) (λ rows. refl) (rw charges at h)
 
-  pub row_wrote : (b n : ℕ) (reference article : List ℕ) (kind credit taken : ℕ) (agreed : Value) (five_days version ends held last closed : ℕ)
-      (closed_on amount : Value) (p : PledgeValue) → reference ≡ p.agreement.opening.reference → article ≡ p.agreement.opening.article → kind ≡ kind_number
-      p.agreement.opening.kind → credit ≡ credit_of p.agreement.opening.kind → taken ≡ p.agreement.taken → agreed ≡ or_null number p.agreement.opening.agreed
-      → five_days ≡ flag_number p.agreement.opening.five_days → version ≡ p.agreement.version → ends ≡ end_of p → held ≡ flag_number p.standing.held
-      → last ≡ p.standing.last → closed ≡ closed_number p.standing.closing → closed_on ≡ or_null number (closed_day p.standing.closing)
-      → amount ≡ or_null number (closed_amount p.standing.closing) → Executes text.PUT_PLEDGE.now (number b ∷ number n ∷ Text reference ∷ Text article
-      ∷ number kind ∷ number credit ∷ number taken ∷ agreed ∷ number five_days ∷ number version ∷ number ends ∷ number held ∷ number last ∷ number closed
-      ∷ closed_on ∷ amount ∷ []) old new (Ok count) → ListsOurs new.now (with_rows listed pledges_tree (under b n (pledge_cells p) ∷ listed pledges_tree))
-  row_wrote b n _ _ _ _ _ _ _ _ _ _ _ _ _ _ p reference article kind credit taken agreed five_days version ends held last closed closed_on amount ran =
+  pub row_wrote : (b n : ℕ) (p : PledgeValue) {vs : Row} → vs ≡ under b n (pledge_cells p) → Executes text.PUT_PLEDGE.now vs old new (Ok count)
+      → ListsOurs new.now (with_rows listed pledges_tree (under b n (pledge_cells p) ∷ listed pledges_tree))
+  row_wrote b n p is ran =
       let o = p.agreement.opening in
       put 2 (record pledges { tree = pledges_tree }) text.sixteen_values 17 text.PUT_PLEDGE.now pledges_place (λ more. (text.texts more).pledge_is)
       (under b n (pledge_cells p)) refl (λ i. cast_null i ∷ cast_int b i ∷ cast_int n i ∷ Text o.reference ∷ Text o.article ∷ cast_int (kind_number o.kind) i
       ∷ cast_int (credit_of o.kind) i ∷ cast_int p.agreement.taken i ∷ cast_optional o.agreed i ∷ cast_int (flag_number o.five_days) i
       ∷ cast_int p.agreement.version i ∷ cast_int (end_of p) i ∷ cast_int (flag_number p.standing.held) i ∷ cast_int p.standing.last i ∷ cast_int
       (closed_number p.standing.closing) i ∷ cast_optional (closed_day p.standing.closing) i ∷ cast_optional (closed_amount p.standing.closing) i ∷ [])
-      (λ rows. refl) (rw (reference, article, kind, credit, taken, agreed, five_days, version, ends, held, last, closed, closed_on, amount) at ran)
+      (λ rows. refl) (rw is at ran)
 
   -- ---- rows that take the place of others
 

@@ -23,20 +23,20 @@ pub(crate) fn put_row<S: Alter>(
 {
     let agreement = pledge.agreement();
     let standing = pledge.standing();
+    let credit = in_32_bits(agreement.opening.kind.credit())?;
+    let version = in_32_bits(agreement.version)?;
+    let amount = closed_amount(standing.closing)?;
     let reference = agreement.opening.reference.as_str();
     let article = agreement.opening.article.as_str();
     let kind = kind_number(agreement.opening.kind);
-    let credit = in_32_bits(agreement.opening.kind.credit())?;
     let taken = agreement.taken.count();
     let agreed = agreed_value(agreement.opening.agreed);
     let five = flag_number(agreement.opening.five_days);
-    let version = in_32_bits(agreement.version)?;
     let ends = pledge.ends().count();
     let held = flag_number(standing.held);
     let last = standing.last.count();
     let closed = closed_number(standing.closing);
     let closed_on = closed_day(standing.closing);
-    let amount = closed_amount(standing.closing)?;
     write(
         tx,
         PUT_PLEDGE,
@@ -60,12 +60,12 @@ pub(crate) fn set_row<S: Alter>(
     ensures lent { Lends S.Store tx.old.conn tx.new.conn (is_ok result) }
 {
     let standing = pledge.standing();
+    let amount = closed_amount(standing.closing)?;
     let ends = pledge.ends().count();
     let held = flag_number(standing.held);
     let last = standing.last.count();
     let closed = closed_number(standing.closing);
     let closed_on = closed_day(standing.closing);
-    let amount = closed_amount(standing.closing)?;
     write(
         tx,
         SET_PLEDGE,

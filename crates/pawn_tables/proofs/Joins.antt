@@ -1,6 +1,6 @@
 -- A pledge of what was read of it.
 use Rattle.std.proofs.Common.{◌≡◌, ◌≤◌, ◌<◌, ◌^◌, ℕ, zero, suc, List, [], ◌∷◌, length, Option, Some, None, Result, Ok, Err, refl, sym, ap, subst, ◌∙◌, arith}
-use Rattle.{std.proofs.Common.{IfSome, is_ok, option_map}, pawn_tables.specs.Common.{get, State, Rates, totals_of, Totals, PledgeValue, debt_of, end_of}}
+use Rattle.{std.proofs.Common.{IfSome, is_ok, option_map}, pawn_tables.specs.Common.{get, State, Rates, PledgeValue}}
 use Rattle.pawn_tables.specs.Common.{BookValue, pledge_in, Host, entries_of, extensions_of, secrets_of, terms_of, terms_at, IsUnsoundAt, KeepError, IsLent}
 use Rattle.pawn_tables.specs.{Common.Rests, Finding.{FindsIn, IsRead}, PledgeRows.{AreLists, AreSides, AreTold, booking_of, row_of, totals_in}}
 use Rattle.pawn_tables.specs.{StandsFor.{AreBooksOrdered, AreStorable}, declared.joining.{Lists.Lists, RowsBeside.RowsBeside, StoredPledge.StoredPledge}}
@@ -20,16 +20,6 @@ version_fits h b n p ordered storable is = inside (get h.books b) refl (under_in
   inside None e at = let low = under_length [] p.agreement.version p.agreement.terms at in omega (arith, low)
   inside (Some k) e at = let low = under_length k.terms p.agreement.version p.agreement.terms at in let few = (storable b k e).versions in
       omega (arith, low, few)
-
--- what the sides have, where they are of a pledge
-pub joined : (s : RowsBeside) (terms : Rates) (totals : Totals) (p : PledgeValue) → s.terms ≡ Some terms → s.totals ≡ Some totals → AreSides s p
-    → (terms ≡ p.agreement.terms) × (s.booking ≡ p.standing.booking) × (totals ≡ totals_of (debt_of p))
-joined s terms totals p has owed sides = let a : Some terms ≡ Some p.agreement.terms = sym has ∙ sides.terms in
-    let b : Some totals ≡ Some (totals_of (debt_of p)) = sym owed ∙ sides.totals in
-    ((let e = a in cc), sides.booking, (let e = b in cc))
-
-pub ends_joined : (row : PledgeRow) (p q : PledgeValue) (ends : ℕ) → ends ≡ row.ends → row ≡ row_of p → q ≡ p → ends ≡ end_of q
-ends_joined row p q ends is of same = is ∙ ap (λ (r : PledgeRow). r.ends) of ∙ ap end_of (sym same)
 
 pub sides_told : (h : Host) (b n v : ℕ) (s : RowsBeside) → AreBooksOrdered h → s.terms ≡ terms_at (terms_of (get h.books b)) v
     → s.booking ≡ booking_of (pledge_in (get h.books b) n) → s.totals ≡ totals_in (pledge_in (get h.books b) n)

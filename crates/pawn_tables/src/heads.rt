@@ -33,11 +33,11 @@ fn head_of(alloc: Global, row: &Row) -> Result<BookHead, KeepError>
     ensures read { (k : BookValue) → HasKeys k → row.now ≡ head_cells k → IsRead result (book_head k) (IsHeadTold k) }
 {
     let key = word_at(row, 0)?;
-    let name = text_at(alloc, row, 1)?;
     let capacity = capacity_of(number_at(row, 2)?)?;
     let terms = number_at(row, 3)?;
     let pledges = number_at(row, 4)?;
     let imported = imported_of(optional_word_at(row, 5)?, optional_at(row, 6)?)?;
+    let name = text_at(alloc, row, 1)?;
     Ok(BookHead {
         key,
         name,

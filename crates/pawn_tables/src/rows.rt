@@ -12,13 +12,13 @@ use std::alloc::Global;
 fn opening_at(alloc: Global, row: &Row) -> Result<Opening, KeepError>
     ensures read { (p : PledgeValue) → row.now ≡ pledge_cells p → IsRead result p.agreement.opening (IsTold p.agreement.opening) }
 {
-    let reference = text_at(alloc, row, 0)?;
-    let article = text_at(alloc, row, 1)?;
     let number = number_at(row, 2)?;
     let credit = number_at(row, 3)?;
     let kind = kind_of(number, credit)?;
     let agreed = request_day(optional_at(row, 5)?)?;
     let five_days = flag_at(row, 6)?;
+    let reference = text_at(alloc, row, 0)?;
+    let article = text_at(alloc, row, 1)?;
     Ok(Opening {
         reference,
         article,
@@ -42,13 +42,13 @@ fn closing_at(row: &Row) -> Result<Closing, KeepError>
 fn pledge_row(alloc: Global, row: &Row) -> Result<PledgeRow, KeepError>
     ensures read { (p : PledgeValue) → row.now ≡ pledge_cells p → IsRead result (row_of p) (IsRowTold p) }
 {
-    let opening = opening_at(alloc, row)?;
     let taken = day_at(row, 4)?;
     let version = number_at(row, 7)?;
     let ends = number_at(row, 8)?;
     let held = flag_at(row, 9)?;
     let last = day_at(row, 10)?;
     let closing = closing_at(row)?;
+    let opening = opening_at(alloc, row)?;
     Ok(PledgeRow {
         opening,
         taken,

@@ -2,7 +2,7 @@ ghost use Rattle.std.specs.Prelude.{◌≡◌, List, length};
 ghost use Rattle.pawn_tables.specs.{Common.{IsDayNumber, brief_of, PledgeValue, end_of, last_secret, live_under, Issued}, Finding.IsRead, ListEnds.AreListEnds};
 ghost use Rattle.pawn_tables.specs.{ListEnds.last_issued, PledgeRows.{AreSides, HasSecret, IsBriefTold, row_of}};
 
-use super::pledges::{ends_of, record_of};
+use super::pledges::{ends_of, parts_beside, record_of};
 use crate::cells::{NO_RECORD, day_of};
 use crate::joining::{LastSecret, ListEnds, RowsBeside};
 use crate::records::PledgeRow;
@@ -61,15 +61,7 @@ fn fields_of(
     ensures read { (p : PledgeValue) → number ≡ p.agreement.number → row ≡ row_of p
         → AreSides sides p → AreListEnds list_ends p → IsRead result (brief_of p) (HasSecret p × IsDayNumber (end_of p)) }
 {
-    let RowsBeside {
-        terms,
-        booking,
-        totals,
-    } = sides;
-    let Some(terms) = terms else {
-        return Err(NO_RECORD);
-    };
-    let Some(totals) = totals else {
+    let Some((terms, booking, totals)) = parts_beside(sides) else {
         return Err(NO_RECORD);
     };
     if list_ends.last.is_none() {

@@ -1,4 +1,4 @@
-ghost use Rattle.std.specs.Prelude.{◌≡◌, ◌↔◌, IfOk, IsTrue, Some};
+ghost use Rattle.std.specs.Prelude.{◌≡◌, ◌↔◌, IfOk, IfSome, IsTrue, Some};
 ghost use Rattle.pawn_tables.specs.{Common.{totals_of, PledgeValue, debt_of, end_of, IsStanding}, Finding.IsRead, PledgeRows.{AreLists, AreSides, row_of}};
 
 use crate::cells::NO_RECORD;
@@ -84,6 +84,29 @@ fn parts_of(
     }
 }
 
+// The terms, the booking and the totals of a pledge. It must have terms and totals.
+pub(super) fn parts_beside(sides: RowsBeside) -> Option<(Terms, Option<Booking>, Totals)>
+    ensures value { (p : PledgeValue) → AreSides sides p → result ≡ Some (p.agreement.terms, p.standing.booking, totals_of (debt_of p)) }
+    ensures totals { IfSome result (λ parts. sides.totals ≡ Some parts.2) }
+{
+    match (sides.terms, sides.totals) {
+        (Some(terms), Some(totals)) => Some((terms, sides.booking, totals)),
+        _ => None,
+    }
+}
+
+// The pledge, if what is stored of it agrees.
+fn agreeing(pledge: Pledge, ends: u64, totals: Totals) -> Result<Pledge, KeepError>
+    ensures read { IsRead result pledge ((ends ≡ end_of pledge) × (totals ≡ totals_of (debt_of pledge))) }
+    ensures agrees { IfOk result (λ p. (ends ≡ end_of p) × (totals ≡ totals_of (debt_of p))) }
+{
+    if agrees(&pledge, ends, totals) {
+        Ok(pledge)
+    } else {
+        Err(NO_RECORD)
+    }
+}
+
 /// The pledge of what was read of it. `NoRecord` if no pledge can have this record, or if the stored end or totals are
 /// not those that follow from it.
 pub(crate) fn join(
@@ -96,15 +119,7 @@ pub(crate) fn join(
     ensures ends { IfOk result (λ p. row.ends ≡ end_of p) }
     ensures totals { IfOk result (λ p. sides.totals ≡ Some (totals_of (debt_of p))) }
 {
-    let RowsBeside {
-        terms,
-        booking,
-        totals,
-    } = sides;
-    let Some(terms) = terms else {
-        return Err(NO_RECORD);
-    };
-    let Some(totals) = totals else {
+    let Some((terms, booking, totals)) = parts_beside(sides) else {
         return Err(NO_RECORD);
     };
     let ends = ends_of(&row);
@@ -112,8 +127,5 @@ pub(crate) fn join(
     let Ok(pledge) = Pledge::of_parts(parts) else {
         return Err(NO_RECORD);
     };
-    if !agrees(&pledge, ends, totals) {
-        return Err(NO_RECORD);
-    }
-    Ok(pledge)
+    agreeing(pledge, ends, totals)
 }
