@@ -1,6 +1,6 @@
 //! Statements on one table of a database at a time, whatever its schema is.
 #![tactic(auto)]
 
-mod asking;
+mod statements;
 
-pub use asking::{ask, know_settled, run};
+pub use statements::{ask, know_settled, run};

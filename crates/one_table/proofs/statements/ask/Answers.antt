@@ -1,5 +1,5 @@
 use Rattle.one_table.proofs.Parts.{shown_kept, shown_open, kept_by_failing}
-use Rattle.one_table.proofs.asking.ask.Goals as goal
+use Rattle.one_table.proofs.statements.ask.Goals as goal
 
 pub returns-in-Ok-clause-lent : goal.returns-in-Ok-clause-lent
 returns-in-Ok-clause-lent g c = record {

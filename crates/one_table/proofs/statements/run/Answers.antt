@@ -1,5 +1,5 @@
 use Rattle.one_table.proofs.Parts.{kept_inside}
-use Rattle.one_table.proofs.asking.run.Goals as goal
+use Rattle.one_table.proofs.statements.run.Goals as goal
 
 pub returns-in-Ok-clause-ran : goal.returns-in-Ok-clause-ran
 returns-in-Ok-clause-ran g c clean within = (c.in-Ok.field-0, (c.in-Ok.ensures.runs clean within).0)
