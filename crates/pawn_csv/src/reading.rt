@@ -121,8 +121,6 @@ pub fn read_book<R: Read + Drop>(alloc: Global, reader: R) -> Result<ReplayableR
         .flexible(true)
         .from_reader(alloc, reader);
     let mut raw = RawBook { begun: None };
-    match take_records(alloc, &mut csv_reader, &mut raw) {
-        Ok(row) => finish_text(alloc, raw, row),
-        Err(fault) => Err(fault),
-    }
+    let row = take_records(alloc, &mut csv_reader, &mut raw)?;
+    finish_text(alloc, raw, row)
 }
