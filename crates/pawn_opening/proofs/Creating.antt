@@ -1,13 +1,12 @@
 -- What CREATE TABLE makes of empty tables.
-use Rattle.std.proofs.Common.{◌≡◌, ℕ, List, [], ◌∷◌, map, Bool, true, false, None, Ok, Err, Result, OnOk, IsTrue, refl, sym, ap, subst, ◌∙◌, IsPermutation}
-use Rattle.{std.proofs.lemmas.List.Sorted.IsPermutation-refl, pawn_opening.specs.Common.{AllByRecursion, KeepsRows, CreateTable, Tally, Database, IsDatabase}}
-use Rattle.pawn_opening.specs.Common.{Schema, Executes, HasCleanDisk, State, Table, Trees, IsLent, Holds, IsNumbered, Listed, Lists, columns_of, with_rows}
-use Rattle.pawn_opening.{specs.{Common.{Error, no_schema}, Laying.{AddsTable, AreEmpty, Makes}}, proofs.Basics.{went, same_value, clean_before, lent_then}}
-use Rattle.pawn_opening.{specs.Laying.no_rows, proofs.TableTexts.{AreCreations, IsCreation, are_creations, extensions_is, later_texts, totals_is}}
-use Rattle.{sqlite.{specs.{Change.{created, next_tree}, Does.lacks_sequence, State.Writes}, proofs.Callers.runs_as}, pawn_tables.specs.Schema.extensions}
-use Rattle.pawn_tables.specs.Schema.{extensions_tree, first_schema, keep_schema, second_schema, totals, totals_tree, books}
-use Rattle.{pawn_tables.specs.declared.texts.TheConstants.{MAKE_BOOKS, MAKE_EXTENSIONS, MAKE_TOTALS}, sqlite_trees.proofs.ListLemmas.all-append}
-use Rattle.pawn_opening.proofs.Gained.{kept_tables}
+use Rattle.pawn_opening.proofs.{Basics.{went, same_value, clean_before, lent_then}, Gained.kept_tables, TableTexts.{AreCreations, IsCreation, are_creations}}
+use Rattle.pawn_opening.{proofs.TableTexts.{extensions_is, later_texts, totals_is}, specs.Common.{AllByRecursion, KeepsRows, CreateTable, Tally, Database}}
+use Rattle.pawn_opening.specs.Common.{IsDatabase, Schema, Executes, HasCleanDisk, State, Table, Trees, IsLent, Holds, IsNumbered, Listed, Lists, columns_of}
+use Rattle.{pawn_opening.specs.{Common.{with_rows, Error, no_schema}, Laying.{AddsTable, AreEmpty, Makes, no_rows}}, sqlite.proofs.Callers.runs_as}
+use Rattle.{sqlite.specs.{Change.{created, next_tree}, Does.lacks_sequence, State.Writes}, sqlite_trees.proofs.ListLemmas.all-append, std.proofs.Common.◌≡◌}
+use Rattle.std.proofs.Common.{ℕ, List, [], ◌∷◌, map, Bool, true, false, None, Ok, Err, Result, OnOk, IsTrue, refl, sym, ap, subst, ◌∙◌, IsPermutation}
+use Rattle.{std.proofs.lemmas.List.Sorted.IsPermutation-refl, pawn_tables.specs.Schema.{extensions, extensions_tree, first_schema, keep_schema, second_schema}}
+use Rattle.pawn_tables.specs.{Schema.{totals, totals_tree, books}, declared.texts.TheConstants.{MAKE_BOOKS, MAKE_EXTENSIONS, MAKE_TOTALS}}
 
 -- a tree without rows
 empty_tree : (db : Trees) (tree : ℕ) (table : Table) → db tree ≡ [] → Holds db tree table []
@@ -103,3 +102,13 @@ pub adds_extensions : {E : Type 0} (old new : State) (r : Result (Unit {0}) E) �
     → AddsTable old new r second_schema keep_schema 17
 adds_extensions = adds_table second_schema MAKE_EXTENSIONS.now extensions extensions_is (λ db listed others empty. all-append (λ (t : Table). Holds db t.tree t
     (with_rows listed extensions_tree [] t.tree)) second_schema.tables (record extensions { tree = extensions_tree } ∷ []) others (empty, tt))
+
+-- tables without rows stay so, where one is added: those of the last schema were made
+pub all_made : {E : Type 0} {ok : Bool} {a b c d : State} (r : Result (Unit {0}) E) → IsLent a b true → IsLent b c true → IsLent c d ok
+    → Makes {E = Error} a b (Ok tt) no_schema first_schema → AddsTable {E = Error} b c (Ok tt) first_schema second_schema totals_tree
+    → AddsTable c d r second_schema keep_schema extensions_tree → Makes a d r no_schema keep_schema
+all_made (Err e) one two three made more last clean within st = tt
+all_made {ok = ok} {a} {b} {c} {d} (Ok done) one two three made more last clean within st =
+    let third = clean_before c d ok three clean in let second = clean_before b c true two third in let inside = one.inside second within refl in
+    let l = last clean (two.inside third inside refl) _ (more third inside no_rows (made second within st)) in
+    record { schema_is = l.schema_is; sound = l.sound; tables = l.tables }

@@ -8,10 +8,10 @@ use pawn_tables::texts::{
 };
 use sqlite::{Alter, Error, Transaction};
 
-/// Makes all tables of the program's schema, without rows.
+// Makes the tables of the first schema, without rows.
 #[tactic(auto, using(crate::proofs::Basics::lent_then))]
-pub(crate) fn make_tables<S: Alter>(tx: &mut Transaction<'_, S>) -> Result<(), Error>
-    ensures made { Makes (state S.Store tx.old.conn.now) (state S.Store tx.new.conn.now) result no_schema keep_schema }
+fn make_first_tables<S: Alter>(tx: &mut Transaction<'_, S>) -> Result<(), Error>
+    ensures made { Makes (state S.Store tx.old.conn.now) (state S.Store tx.new.conn.now) result no_schema first_schema }
     ensures lent { Lends S.Store tx.old.conn tx.new.conn (is_ok result) }
 {
     run(tx, MAKE_BOOKS, &[])?;
@@ -20,9 +20,18 @@ pub(crate) fn make_tables<S: Alter>(tx: &mut Transaction<'_, S>) -> Result<(), E
     run(tx, MAKE_ENTRIES, &[])?;
     run(tx, MAKE_SECRETS, &[])?;
     run(tx, MAKE_BOOKINGS, &[])?;
-    run(tx, MAKE_META, &[])?;
-    run(tx, MAKE_TOTALS, &[])?;
-    run(tx, MAKE_EXTENSIONS, &[])
+    run(tx, MAKE_META, &[])
+}
+
+/// Makes all tables of the program's schema, without rows.
+#[tactic(auto, using(crate::proofs::Basics::lent_then))]
+pub(crate) fn make_tables<S: Alter>(tx: &mut Transaction<'_, S>) -> Result<(), Error>
+    ensures made { Makes (state S.Store tx.old.conn.now) (state S.Store tx.new.conn.now) result no_schema keep_schema }
+    ensures lent { Lends S.Store tx.old.conn tx.new.conn (is_ok result) }
+{
+    make_first_tables(tx)?;
+    make_totals(tx)?;
+    make_extensions(tx)
 }
 
 /// Adds the table of totals to those of the first schema, within a transaction. It has no rows.
