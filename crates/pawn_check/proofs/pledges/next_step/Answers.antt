@@ -58,3 +58,6 @@ returns-clause-reads g c =
       refl,
       c.rows_of-rows.ensures.value,
     ))
+
+pub rows_of-rows-requires : goal.rows_of-rows-requires
+rows_of-rows-requires g c = search rules
