@@ -1,8 +1,7 @@
 -- An empty store, table by table, note by note, and then its indexes.
-use Rattle.{std.proofs.Common.{ℕ, true, [], ◌∷◌, codes, Result, OnOk, Ok, Err, refl, is_ok}, pawn_opening.specs.Common.{State, Error, no_schema, IsLent}}
-use Rattle.pawn_opening.{specs.{Common.{with_rows, meta_row, StandsFor}, Indexing.{AddsIndexes, GainsIndexes}, Laying.Makes}, proofs.Basics.clean_before}
-use Rattle.pawn_opening.{specs.{Laying.{Notes, no_rows}, Opened.{Fills, empty_host}}, proofs.{EmptyHost.stands_empty, Gained.gains_stands}}
-use Rattle.pawn_tables.specs.Schema.{keep_schema}
+use Rattle.pawn_opening.{proofs.{Basics.clean_before, EmptyHost.stands_empty, Gained.gains_stands}, specs.Common.{State, Error, no_schema, IsLent, with_rows}}
+use Rattle.pawn_opening.specs.{Common.{meta_row, StandsFor}, Indexing.{AddsIndexes, GainsIndexes}, Laying.{Makes, Notes, no_rows}, Opened.{Fills, empty_host}}
+use Rattle.{pawn_tables.specs.Schema.keep_schema, std.proofs.Common.{ℕ, true, [], ◌∷◌, codes, Result, OnOk, Ok, Err, refl, is_ok}}
 
 module _ (a b c d e f : State) (limit : ℕ) (r : Result (Unit {0}) Error) where
   pub filled : Makes {E = Error} a b (Ok tt) no_schema keep_schema → IsLent a b true → Notes {E = Error} b c (Ok tt) (meta_row (codes "limit") limit)

@@ -1,14 +1,13 @@
 -- What an open finds in files.
+use Rattle.pawn_opening.{proofs.Begun.held, specs.{Closed.{AreClosedFor, HasCommitted, IsLeftUnclosed, StandsAlone}, Common.{MoreFaults, Files, faults}}}
+use Rattle.pawn_opening.specs.Common.{is_shielded, recovers, view, FileStore, catalog_tree, IsClean, IsQuiet, doubt, Image, Database, IsDatabase, Held, Schema}
+use Rattle.pawn_opening.specs.{Common.{HasCleanDisk, State, Trees, Error, SqliteFailure, Host, no_schema, HoldHost, StandsFor, Ghosts}, FilesStand.HoldsIn}
+use Rattle.pawn_opening.specs.{FilesStand.{IsBlank, IsRefusedStore, OpensFound, StandsIn}, Indexing.GainsIndexes, Opened.{AreMadeOf, IsOpenable, Prepares}}
+use Rattle.pawn_opening.specs.{Refusing.{IsEmptyStore, IsRefusedFor, IsStoreFault, NotesSchema}, declared.fault.OpenFault.OpenFault}
+use Rattle.sqlite.{proofs.ListingLemmas.empty_is_sound, specs.{Closing.{HoldsAlone, IsCopied}, Files.{ExcusesClose, FailsToClose, Finds, IsCleanLeft}}}
+use Rattle.{sqlite.specs.{Files.{IsClosed, file_state, image_of}, Start.FindsIn, State.{IsLive, Opens, store_error}}, sqlite_trees.proofs.Doubt.no_doubt}
+use Rattle.{sqlite_trees.specs.{Props.Trees-set, declared.error.StoreError.StoreError}, sqlite_catalog.{proofs.ReadLemmas.lists_once, specs.Listing.IsSound}}
 use Rattle.std.proofs.{Common.{◌≡◌, ◌⊎◌, ℕ, inl, inr, false, [], Err, refl, sym, ap, subst, ◌∙◌, arith}, Math.Logic.∥∥₁_elim}
-use Rattle.pawn_opening.specs.Common.{MoreFaults, Files, faults, is_shielded, recovers, view, FileStore, catalog_tree, IsClean, IsQuiet, doubt, Image, Database}
-use Rattle.pawn_opening.specs.Common.{IsDatabase, Held, Schema, HasCleanDisk, State, Trees, Error, SqliteFailure, Host, no_schema, HoldHost, StandsFor, Ghosts}
-use Rattle.pawn_opening.specs.{Closed.{AreClosedFor, HasCommitted, IsLeftUnclosed, StandsAlone}, FilesStand.{HoldsIn, IsBlank, IsRefusedStore, OpensFound}}
-use Rattle.pawn_opening.specs.{FilesStand.StandsIn, Indexing.GainsIndexes, Opened.{AreMadeOf, IsOpenable, Prepares}, Refusing.{IsEmptyStore, IsRefusedFor}}
-use Rattle.pawn_opening.{specs.{Refusing.{IsStoreFault, NotesSchema}, declared.fault.OpenFault.OpenFault}, proofs.Begun.held}
-use Rattle.{sqlite_trees.{specs.{declared.error.StoreError.StoreError, Props.Trees-set}, proofs.Doubt.no_doubt}, sqlite.specs.Files.ExcusesClose}
-use Rattle.sqlite.specs.{Files.{FailsToClose, Finds, IsCleanLeft, IsClosed, file_state, image_of}, State.{IsLive, Opens, store_error}}
-use Rattle.{sqlite.{proofs.ListingLemmas.empty_is_sound, specs.{Start.FindsIn, Closing.{HoldsAlone, IsCopied}}}, sqlite_catalog.specs.Listing.IsSound}
-use Rattle.sqlite_catalog.proofs.ReadLemmas.{lists_once}
 use Rattle.sqlite_trees.specs.declared.error.StoreError.TheVariants as stored
 use Rattle.sqlite.specs.declared.file.Leftover.TheVariants as left
 use Rattle.sqlite.specs.declared.error.ErrorCode.TheVariants as code

@@ -1,9 +1,8 @@
 -- A row of what the store notes.
-use Rattle.std.proofs.Common.{◌≡◌, inl, inr, ℕ, pos, ◌==◌, List, [], ◌∷◌, length, false, Ok, refl, arith}
-use Rattle.pawn_opening.specs.Common.{everything, understood, Row, Executes, State, Term, col, lit, Int, Null, Text, Listed, Lists, with_rows, meta_row}
-use Rattle.{pawn_opening.{specs.Common.PUT_NOTE, proofs.Basics.{IsPlace, inserted}}, pawn_tables.specs.Schema.{keep_schema, meta, meta_tree}}
-use Rattle.{one_table.proofs.{Texts.Puts, Rowed.{cast_null, cast_int}}, sqlite_schema.specs.declared.schema.Keys.TheVariants.Enforced}
-use Rattle.sqlite_rules.specs.Action.{works}
+use Rattle.{one_table.proofs.{Rowed.{cast_null, cast_int}, Texts.Puts}, pawn_opening.{proofs.Basics.{IsPlace, inserted}, specs.Common.{everything, understood}}}
+use Rattle.pawn_opening.specs.Common.{Row, Executes, State, Term, col, lit, Int, Null, Text, Listed, Lists, with_rows, meta_row, PUT_NOTE}
+use Rattle.{pawn_tables.specs.Schema.{keep_schema, meta, meta_tree}, sqlite_rules.specs.Action.works, std.proofs.Common.{◌≡◌, inl, inr, ℕ, pos, ◌==◌, List, []}}
+use Rattle.{std.proofs.Common.{◌∷◌, length, false, Ok, refl, arith}, sqlite_schema.specs.declared.schema.Keys.TheVariants.Enforced}
 pub use Rattle.pawn_tables.proofs.Lent.{on_ran}
 
 abbrev pub note_values : List Term

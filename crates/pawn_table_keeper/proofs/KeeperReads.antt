@@ -1,11 +1,9 @@
 -- A read of a keeper: a transaction that is lent, and rolled back.
-use Rattle.std.{proofs.Common.{◌≡◌, true, false, Result, Ok, Err, IsTrue, refl, sym, subst, ◌∙◌, arith, IfOk, is_ok, ℕ}, specs.Borrow.MutBor}
+use Rattle.{one_table.{proofs.{Lent.clean_before, Parts.{rests_open, committed_rests}}, specs.Lending.{IsLent, Lends, Rests}}, pawn_saving.proofs.Saved.no_more}
 use Rattle.pawn_table_keeper.specs.Common.{Held, state, HasCleanDisk, State, Host, Errs, Reads, KeepError, NoRecord, StandsFor, IsUnsoundAt}
-use Rattle.{pawn_table_keeper.specs.{Handing.{keeping_of, ReadsOfBook}, declared.keeper.TableKeep.TableKeep}, pawn_tables.specs.Keeps.{IsWhole, Keeps}}
-use Rattle.{pawn_tables.specs.{Keeps.keeping_by, Finding.{Finds, FindsBy, FindsIn}}, sqlite.specs.State.{IsRolledBack, KeepsCommit, Survives}}
-use Rattle.{sqlite_trees.specs.declared.store.Store.Ghosts, one_table.{specs.Lending.{IsLent, Lends, Rests}, proofs.{Lent.clean_before, Parts.rests_open}}}
-use Rattle.one_table.proofs.Parts.{committed_rests}
-use Rattle.pawn_saving.proofs.Saved.{no_more}
+use Rattle.{pawn_table_keeper.specs.{Handing.{keeping_of, ReadsOfBook}, declared.keeper.TableKeep.TableKeep}, sqlite_trees.specs.declared.store.Store.Ghosts}
+use Rattle.{pawn_tables.specs.{Finding.{Finds, FindsBy, FindsIn}, Keeps.{IsWhole, Keeps, keeping_by}}, sqlite.specs.State.{IsRolledBack, KeepsCommit, Survives}}
+use Rattle.std.{proofs.Common.{◌≡◌, true, false, Result, Ok, Err, IsTrue, refl, sym, subst, ◌∙◌, arith, IfOk, is_ok, ℕ}, specs.Borrow.MutBor}
 use Rattle.pawn_book.specs.declared.fault.KeepError.TheVariants as Keeper
 
 -- what was found, alone

@@ -1,18 +1,17 @@
 -- Tables stand for one host at most.
-use Rattle.std.proofs.Common.{◌≡◌, ◌==◌, ℕ, suc, ◌+◌, ◌≤◌, List, [], ◌∷◌, map, filter, codes, Bool, true, false, Option, Some, None, refl, sym, ap, subst, ◌∙◌}
-use Rattle.{std.proofs.Common.{arith, IsPermutation, slice_get, IfSome, if◌then◌else◌}, pawn_tables.specs.Common.{nat_cmp_total, get, nat_cmp-IsAntisymmetric}}
-use Rattle.pawn_tables.specs.Common.{same_map, list_all, binary, Row, column, value_cmp, State, Table, Trees, Text, Rates, PledgeValue, BookValue, pledge_from}
-use Rattle.pawn_tables.specs.Common.{pledge_in, Host, rows, WholeIsSound, entries_of, extensions_of, secrets_of, terms_of, terms_at, IsSound, IsWord}
-use Rattle.pawn_tables.specs.{At.{at_book, at_pledge, is_at}, Meta.{meta_row, meta_rows}, PledgeRows.booking_of, Rows.{at_most_one, booking_cells}}
-use Rattle.pawn_tables.specs.Rows.{booking_listed, entry_cells, extension_cells, head_cells, pledge_cells, pledge_listed, secret_cells, terms_cells, under}
-use Rattle.pawn_tables.{specs.{Schema.{books_tree, meta_tree, terms_tree}, StandsFor.{HoldHost, StandsFor, of_pledges}}, proofs.Basics.nat_tests}
-use Rattle.pawn_tables.{proofs.{Basics.{IsPermutation-map, IsPermutation-filter}, RowsUnderKey.{of_one_pledge, rows_at}}, specs.Keeps.keeping_by}
-use Rattle.pawn_tables.proofs.{ListsOfRows.{mapped, each_any}, Lent.debts_of, PledgeReads.{ListsRows, booking_told, bookings_list, entries_list, entries_told}}
+use Rattle.{pawn_book.proofs.SoundLists.some_is, pawn_tables.proofs.{Basics.{nat_tests, IsPermutation-map, IsPermutation-filter}, BookReads.one_book}}
+use Rattle.pawn_tables.proofs.{Lent.debts_of, ListsOfRows.{mapped, each_any}, PledgeReads.{ListsRows, booking_told, bookings_list, entries_list, entries_told}}
 use Rattle.pawn_tables.proofs.PledgeReads.{entries_up, extensions_list, extensions_told, extensions_up, few_of, four, fourteen, number_in, one_listed, one_told}
-use Rattle.pawn_tables.proofs.{PledgeReads.{one_version, pledges_list, secrets_list, secrets_told, secrets_up, three, under_in}, BookReads.one_book}
-use Rattle.{pawn_tables.proofs.SoundReads.words_in, sqlite.{proofs.Callers.one_permutation, specs.Effect.Database}, sqlite_trees.specs.Objects.catalog_tree}
-use Rattle.sqlite_catalog.proofs.ReadLemmas.{lists_once}
-use Rattle.pawn_book.proofs.SoundLists.{some_is}
+use Rattle.pawn_tables.proofs.{PledgeReads.{one_version, pledges_list, secrets_list, secrets_told, secrets_up, three, under_in}, RowsUnderKey.of_one_pledge}
+use Rattle.pawn_tables.{proofs.{RowsUnderKey.rows_at, SoundReads.words_in}, specs.{At.{at_book, at_pledge, is_at}, Common.{nat_cmp_total, get}}}
+use Rattle.pawn_tables.specs.Common.{nat_cmp-IsAntisymmetric, same_map, list_all, binary, Row, column, value_cmp, State, Table, Trees, Text, Rates, PledgeValue}
+use Rattle.pawn_tables.specs.Common.{BookValue, pledge_from, pledge_in, Host, rows, WholeIsSound, entries_of, extensions_of, secrets_of, terms_of, terms_at}
+use Rattle.pawn_tables.specs.{Common.{IsSound, IsWord}, Keeps.keeping_by, Meta.{meta_row, meta_rows}, PledgeRows.booking_of, Rows.{at_most_one, booking_cells}}
+use Rattle.pawn_tables.specs.Rows.{booking_listed, entry_cells, extension_cells, head_cells, pledge_cells, pledge_listed, secret_cells, terms_cells, under}
+use Rattle.{pawn_tables.specs.{Schema.{books_tree, meta_tree, terms_tree}, StandsFor.{HoldHost, StandsFor, of_pledges}}, sqlite.proofs.Callers.one_permutation}
+use Rattle.{sqlite.specs.Effect.Database, sqlite_catalog.proofs.ReadLemmas.lists_once, sqlite_trees.specs.Objects.catalog_tree, std.proofs.Common.{◌≡◌, ◌==◌}}
+use Rattle.std.proofs.Common.{ℕ, suc, ◌+◌, ◌≤◌, List, [], ◌∷◌, map, filter, codes, Bool, true, false, Option, Some, None, refl, sym, ap, subst, ◌∙◌, arith}
+use Rattle.std.proofs.Common.{IsPermutation, slice_get, IfSome, if◌then◌else◌}
 use Rattle.pawn_tables.proofs.SameRows as SameRows
 
 -- ---- what stands of a pledge, by the rows of two hosts

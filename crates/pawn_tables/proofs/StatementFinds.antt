@@ -1,8 +1,7 @@
 -- What a statement that is asked within a transaction finds.
-use Rattle.{std.proofs.Common.{◌≡◌, List, ℕ, true, Result, Ok, Err, refl, sym, subst}, pawn_tables.specs.Common.{Index, Tables, understood, Row, Schema}}
-use Rattle.pawn_tables.specs.{Common.{HasCleanDisk, Shown, State, Host, KeepError, Database, NoRecord, IsLent, Rests}, Finding.{Finds, FindsIn, FindsOf}}
-use Rattle.{pawn_tables.specs.{Finding.IsRead, Ours.{HasOurTables, with_indexes}, StandsFor.{ListDebts, StandsFor}}, sqlite.proofs.Callers.IsPlain}
-use Rattle.one_table.proofs.Parts.{plain_rests}
+use Rattle.{one_table.proofs.Parts.plain_rests, sqlite.proofs.Callers.IsPlain, std.proofs.Common.{◌≡◌, List, ℕ, true, Result, Ok, Err, refl, sym, subst}}
+use Rattle.pawn_tables.specs.Common.{Index, Tables, understood, Row, Schema, HasCleanDisk, Shown, State, Host, KeepError, Database, NoRecord, IsLent, Rests}
+use Rattle.pawn_tables.specs.{Finding.{Finds, FindsIn, FindsOf, IsRead}, Ours.{HasOurTables, with_indexes}, StandsFor.{ListDebts, StandsFor}}
 use Rattle.pawn_book.specs.declared.fault.KeepError.TheVariants as Keeper
 
 -- what was read has what holds of what stands, and what can't be kept is of a host that is not sound

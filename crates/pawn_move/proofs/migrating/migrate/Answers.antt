@@ -40,9 +40,3 @@ pub returns-in-Ok-clause-judges : goal.returns-in-Ok-clause-judges
 returns-in-Ok-clause-judges g c =
     went_owed (state g.S.Store c.args.conn.now) (state g.S.Store c.schema_of.new.conn) (λ now trees left. g.met.S.Store.settled _ trees now left)
     (state g.S.Store c.move_store.new.conn) c.in_ok-from.from c.in_ok-from.ensures.tells c.in-Ok.ensures.moves c.in-Ok.ensures.judges
-
-pub move_store-requires-clause-rests : goal.move_store-requires-clause-rests
-move_store-requires-clause-rests g c = search rules
-
-pub add_indexes-requires : goal.add_indexes-requires
-add_indexes-requires g c = search rules

@@ -1,6 +1,5 @@
-use Rattle.pawn_saving.{proofs.{Writing.{Some, ap, refl, sym, ◌∙◌, ◌≡◌, state, pledge_in, rows}, Hosting.as_lists, RowsInOrder.was_clean}}
-use Rattle.pawn_saving.{specs.{Counted.listed_as, Putting.with_sides}, proofs.{PledgeChanges.stood, PledgeWrites.{continues_it, old_sides, others}}}
-use Rattle.pawn_saving.proofs.PledgeWrites.{renewed_written}
+use Rattle.pawn_saving.proofs.{Hosting.as_lists, PledgeChanges.stood, PledgeWrites.{continues_it, old_sides, others, renewed_written}, RowsInOrder.was_clean}
+use Rattle.pawn_saving.{proofs.Writing.{Some, ap, refl, sym, ◌∙◌, ◌≡◌, state, pledge_in, rows}, specs.{Counted.listed_as, Putting.with_sides}}
 use Rattle.pawn_saving.proofs.renewing.renew_pledge.Goals as goal
 
 pub returns-clause-wrote : goal.returns-clause-wrote
