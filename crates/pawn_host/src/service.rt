@@ -3,10 +3,11 @@ ghost use Rattle.std.specs.Prelude.{◌≡◌, IfOk, OnErr, map};
 ghost use Rattle.pawn_host.specs.{Common.{Bearer, Present, Viewer, out_text}, Keeps.{IsActed, IsRun, Serves, StaysOpen, Tells}};
 ghost use Rattle.pawn_host.specs.{Keeps.{answer_bytes, service_keep, service_operator}, Headline.IsRunOfSlots, Views.{ServesHolder, ServesRequest, TellsView}};
 ghost use Rattle.pawn_book.specs.{Plans.IsWritten, declared.request.View.TheVariants.{Pledge, Rows, Sheet}};
+ghost use Rattle.pawn_wire.specs.declared.reply.Out.TheVariants as wire;
 
 use pawn_book::{
-    BearerRequest, Caller, Keep, Number, Receipts, Refusal, Request, RequestDay, Secret, Stamp,
-    View, commit, gate, plan,
+    BearerRequest, Caller, Keep, Number, Receipts, Refusal, Reply, Request, RequestDay, Secret,
+    Stamp, View, commit, gate, plan,
 };
 use pawn_csv::{RowWriter, export};
 use pawn_view::{show_day_sheet, show_presented, show_statement};
@@ -41,6 +42,20 @@ fn tell(alloc: Global, out: &Out) -> Answer
     }
 }
 
+// The answer to a request that is refused.
+fn refuse(alloc: Global, refusal: Refusal) -> Answer
+    ensures tells { Tells result (out_text (wire.Refused refusal)) }
+{
+    tell(alloc, &Out::Refused(refusal))
+}
+
+// The reply to a request that was done.
+fn done_reply(alloc: Global, reply: Reply) -> Result<Vec<u8>, AllocError>
+    ensures text { IfOk result (λ v. v.items ≡ out_text (wire.Done reply)) }
+{
+    write_reply(alloc, &Out::Done(reply))
+}
+
 // The answer to a view. It is the text if that was written whole, and this refusal if there is nothing to show.
 // Otherwise it says that memory was refused, or that the store failed.
 fn tell_view(alloc: Global, shown: Result<(), ViewFault>, text: &Out, unknown: Refusal) -> Answer
@@ -48,8 +63,8 @@ fn tell_view(alloc: Global, shown: Result<(), ViewFault>, text: &Out, unknown: R
 {
     match shown {
         Ok(()) => tell(alloc, text),
-        Err(ViewFault::Unknown) => tell(alloc, &Out::Refused(unknown)),
-        Err(ViewFault::Store) => tell(alloc, &Out::Refused(Refusal::Store)),
+        Err(ViewFault::Unknown) => refuse(alloc, unknown),
+        Err(ViewFault::Store) => refuse(alloc, Refusal::Store),
         // The text is built in memory, so a failed write means that memory was refused.
         Err(ViewFault::Memory) => Answer::Memory,
         Err(ViewFault::Write) => Answer::Memory,
@@ -100,7 +115,7 @@ impl<K: Keep> Service<K> {
         ensures acted { ServesRequest K.keeping self.old self.new stamp.now (record { book = book; caller = Viewer key view }) result }
     {
         match gate(&mut self.keep, book, key) {
-            Err(refusal) => return tell(self.alloc, &Out::Refused(refusal)),
+            Err(refusal) => return refuse(self.alloc, refusal),
             Ok(_) => {}
         }
         self.show_past_gate(stamp, book, key, view)
@@ -170,15 +185,16 @@ impl<K: Keep> Service<K> {
         ensures stays { StaysOpen K.keeping self.old self.new }
         ensures acted { ServesRequest K.keeping self.old self.new stamp.now request.now result }
     {
-        match plan(self.alloc, &mut self.keep, self.operator, stamp, request) {
-            Err(refusal) => tell(self.alloc, &Out::Refused(refusal)),
-            Ok(planned) => match write_reply(self.alloc, &Out::Done(planned.reply)) {
-                Err(_) => Answer::Memory,
-                Ok(reply) => match commit(&mut self.keep, &planned) {
-                    Ok(()) => Answer::Bytes(reply),
-                    Err(refusal) => tell(self.alloc, &Out::Refused(refusal)),
-                },
-            },
+        let planned = match plan(self.alloc, &mut self.keep, self.operator, stamp, request) {
+            Ok(planned) => planned,
+            Err(refusal) => return refuse(self.alloc, refusal),
+        };
+        let Ok(reply) = done_reply(self.alloc, planned.reply) else {
+            return Answer::Memory;
+        };
+        match commit(&mut self.keep, &planned) {
+            Ok(()) => Answer::Bytes(reply),
+            Err(refusal) => refuse(self.alloc, refusal),
         }
     }
 

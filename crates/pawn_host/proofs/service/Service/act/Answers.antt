@@ -9,7 +9,7 @@ returns-in-Err-clause-acted g c = λ honest h sound at bytes read.
     let why = c.in-Err.refusal in
     let plans = rw c.in-Err.is at (c.plan.ensures.reads.tells honest h at sound) in
     let acts = refused_acts h operator c.args.stamp.now c.args.request.now stands why plans (c.plan.ensures.reads.same honest h at) in
-    acted_refused (start_of g.K.Keep.keeping c.args.self.now h) c.args.stamp.now bytes c.tell.result _ c.args.request.now why read c.tell.ensures.tells
+    acted_refused (start_of g.K.Keep.keeping c.args.self.now h) c.args.stamp.now bytes c.refuse.result _ c.args.request.now why read c.refuse.ensures.tells
     (goes_read c.plan.ensures.reads honest h at sound) acts.1 (λ steady store. c.plan.ensures.steady steady (err_is c.plan.result why c.in-Err.is store))
 
 pub returns-in-Ok-commit-clause-acted : goal.returns-in-Ok-commit-clause-acted
@@ -23,8 +23,8 @@ returns-in-Ok-commit-clause-acted g c = λ honest h sound at bytes read.
     let stood = c.plan.ensures.reads.same before h at in
     let commits = rw c.in-Ok-commit.is at (c.commit.ensures.commits honest h sound stood) in
     let acts = made_acts h operator c.args.stamp.now c.args.request.now stands made.change made.reply sound plans commits in
-    acted_done (start_of g.K.Keep.keeping c.args.self.now h) c.args.stamp.now bytes c.in-Ok-write_reply.reply.items _ c.args.request.now made.reply read
-    (rw c.in-Ok-write_reply.is at c.write_reply.ensures.text) acts
+    acted_done (start_of g.K.Keep.keeping c.args.self.now h) c.args.stamp.now bytes c.in-Ok-done_reply.reply.items _ c.args.request.now made.reply read
+    (rw c.in-Ok-done_reply.is at c.done_reply.ensures.text) acts
     (λ left by. made_left h operator c.args.stamp.now c.args.request.now made.change made.reply stands (leaves c.args.self.now.keep) (leaves c.plan.new.keep)
     left plans commits (c.plan.ensures.reads.crash before) (rw c.in-Ok-commit.is at (c.commit.ensures.crash honest h sound stood left by)))
 
@@ -44,5 +44,5 @@ returns-clause-acted g c = λ honest h sound at bytes read.
     let goes = goes_unmade start c.args.stamp.now c.args.request.now _ made.change why sound commits acts
     (λ left by. unmade_left h operator c.args.stamp.now c.args.request.now made.change made.reply why (leaves c.args.self.now.keep) (leaves c.plan.new.keep)
     left plans (c.plan.ensures.reads.crash before) (rw c.in-Err-commit.is at (c.commit.ensures.crash honest h sound stood left by))) in
-    acted_unmade start c.args.stamp.now bytes c.tell-in-Err-commit.result _ c.args.request.now why read c.tell-in-Err-commit.ensures.tells goes
+    acted_unmade start c.args.stamp.now bytes c.refuse-in-Err-commit.result _ c.args.request.now why read c.refuse-in-Err-commit.ensures.tells goes
     (λ steady store. c.commit.ensures.steady (c.plan.ensures.reads.on.stays steady) (err_is c.commit.result why c.in-Err-commit.is store))

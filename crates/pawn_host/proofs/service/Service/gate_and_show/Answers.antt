@@ -15,6 +15,6 @@ returns-in-Err-clause-acted g c = λ honest h sound at bytes read.
     let operator = service_operator c.args.self.now in
     let why = c.in-Err.refusal in
     let gates = rw c.in-Err.is at (c.gate.ensures.reads.tells honest h at) in
-    acted_refused (start_of g.K.Keep.keeping c.args.self.now h) c.args.stamp.now bytes c.tell.result _ (view_request c.args.book c.args.key
-    c.args.view) why read c.tell.ensures.tells (goes_read c.gate.ensures.reads honest h at sound) (gate_refused h operator c.args.stamp.now
+    acted_refused (start_of g.K.Keep.keeping c.args.self.now h) c.args.stamp.now bytes c.refuse.result _ (view_request c.args.book c.args.key
+    c.args.view) why read c.refuse.ensures.tells (goes_read c.gate.ensures.reads honest h at sound) (gate_refused h operator c.args.stamp.now
     c.args.book c.args.key c.args.view why gates) (λ steady store. c.gate.ensures.steady steady (err_is c.gate.result why c.in-Err.is store))
