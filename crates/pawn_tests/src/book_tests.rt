@@ -11,6 +11,7 @@ use pawn_book::{
 use pawn_check::{Counts, check};
 use pawn_debt::DebtFault;
 use pawn_list_keeper::ListKeep;
+use pawn_terms::Day;
 use std::alloc::Global;
 use std::process::Abort;
 use std::test::Fail;
@@ -375,13 +376,20 @@ fn a_window_is_counted_over_all_pledges(rt: HostRuntime) -> Result<(), Fail> {
     ];
     let mut keep = pledges(&rt, rt.alloc(), 1000)?;
     plays(&rt, rt.alloc(), &mut keep, &turns)?;
-    let count = keep.confirmed_count(book, wanted.day(), 3)?;
-    let books = (keep.next_book(None)?, keep.next_book(Some(book))?);
-    let sums = (sum_of(&mut keep, 9)?, sum_of(&mut keep, 1)?);
-    assert_eq!(rt; count, 1);
-    assert!(rt; books == (Some(book), None));
-    assert_eq!(rt; sums, (3, 1));
+    assert!(rt; counted(&mut keep, book, wanted.day())? == (1, 3, 1));
+    assert!(rt; listed(&mut keep, book)? == (Some(book), None));
     Ok(())
+}
+
+// The confirmed bookings of the third window, and the sums of the first nine pledges' numbers and of the first one's.
+fn counted(keep: &mut ListKeep, book: Number, day: Day) -> Result<(u64, u32, u32), Fail> {
+    let count = keep.confirmed_count(book, day, 3)?;
+    Ok((count, sum_of(keep, 9)?, sum_of(keep, 1)?))
+}
+
+// The first book, and the one that follows this one.
+fn listed(keep: &mut ListKeep, book: Number) -> Result<(Option<Number>, Option<Number>), Fail> {
+    Ok((keep.next_book(None)?, keep.next_book(Some(book))?))
 }
 
 // The answer to a request that is planned and then committed. `None` if the plan is refused.

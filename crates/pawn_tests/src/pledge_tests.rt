@@ -88,8 +88,9 @@ fn a_declaration_issues_the_live_secret(rt: HostRuntime) -> Result<(), Fail> {
 
 #[test]
 fn an_extension_puts_the_end_off(rt: HostRuntime) -> Result<(), Fail> {
+    let ends = day(b"2024-09-30")?;
     let pledge = used(rt.alloc())?;
-    assert!(rt; pledge.ends() == day(b"2024-09-30")?);
+    assert!(rt; pledge.ends() == ends);
     assert_eq!(rt; pledge.totals().principal, 9000);
     Ok(())
 }
@@ -107,13 +108,13 @@ fn a_brief_tells_of_its_pledge(rt: HostRuntime) -> Result<(), Fail> {
 // Whether a copy, a brief, and a pledge made of the parts are like the pledge.
 fn is_same_again(pledge: &Pledge, day: Day) -> Result<bool, Fail> {
     let status = pledge.status(day);
-    if pledge.copy()?.status(day) != status || pledge.brief()?.status(day) != status {
-        return Ok(false);
-    }
-    match Pledge::of_parts(pledge.parts()?) {
-        Ok(again) => Ok(again.status(day) == status && has_same_lists(&again, pledge)),
-        Err(_) => Ok(false),
-    }
+    let copied = pledge.copy()?.status(day);
+    let told = pledge.brief()?.status(day);
+    let is_again = match Pledge::of_parts(pledge.parts()?) {
+        Ok(again) => again.status(day) == status && has_same_lists(&again, pledge),
+        Err(_) => false,
+    };
+    Ok(copied == status && told == status && is_again)
 }
 
 // Whether two pledges have the same entries, secrets and extensions, and their periods the same end.
