@@ -9,7 +9,7 @@ use Rattle.pawn_wire.specs.Types.{Present, PutTerms, Show, ShowDay, TakePledge, 
 use Rattle.pawn_wire.specs.{Types.{NewBooking, NewEntry, Place, Target}, Request.{HoldsRows, IsAsked, IsOutlined, SaysRequest, framing_faults, outline_by}}
 use Rattle.pawn_wire.specs.{Laws.{IsBodyNumber, IsCallerWithin, IsCommandWithin}, Fields.Pair, Chain.{after, and_then, or_fault}, Receipts.all_said}
 use Rattle.pawn_wire.specs.{Receipts.{is_hyphen, one_said, receipt_faults, receipt_said, receipt_values, receipts_said}, Commands.{asked_booking, asked_entry}}
-use Rattle.pawn_wire.specs.{Commands.{bearers_command_said, brokers_command_said, decision_of, paper_of}, Asking.{asks_said, key_given, key_of}}
+use Rattle.pawn_wire.specs.{Commands.{bearers_command_said, brokers_command_said, decision_of, paper_of}, Callers.{asks_said, key_given, key_of}}
 use Rattle.pawn_wire.specs.{Member.{body_said, day_at, flag_at, if_text, in_range, json_of, key_at, number_at, string_at, text_at}, Body.day_if_any}
 use Rattle.pawn_wire.specs.{Body.{day_or_null, kind_of, new_book_of, new_terms_of, opening_of, optional_day_at}, Named.{day_said, number_said}, Head.fields_of}
 use Rattle.pawn_wire.{specs.{Place.{is_ascii_text, method_of, place_asked, place_of, target_said}, Limits.max_number}, proofs.NamedLemmas.number_said-is}

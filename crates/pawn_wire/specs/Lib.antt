@@ -1,8 +1,8 @@
 pub mod Types
 pub mod Asked
-pub mod Asking
 pub mod Bodies
 pub mod Body
+pub mod Callers
 pub mod Chain
 pub mod Commands
 pub mod Done

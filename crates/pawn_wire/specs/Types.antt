@@ -1,5 +1,5 @@
 -- This crate's own declared types, handed on from one place.
-pub use Rattle.pawn_wire.specs.declared.{asking.Asks.Asks, commands.{NewBooking.NewBooking, NewEntry.NewEntry}, detail.Detail.{Detail, TheVariants.Row}}
+pub use Rattle.pawn_wire.specs.declared.{callers.Asks.Asks, commands.{NewBooking.NewBooking, NewEntry.NewEntry}, detail.Detail.{Detail, TheVariants.Row}}
 pub use Rattle.pawn_wire.specs.declared.{detail.Detail.TheVariants.Total, fault.{HeadFault.HeadFault, WireFault.{WireFault, TheVariants.{BadBody, BadKey}}}}
 pub use Rattle.pawn_wire.specs.declared.fault.WireFault.TheVariants.{BadReceipt, Csv, Memory, NoReceipt, NoRoute, TooManyReceipts, WrongMethod}
 pub use Rattle.pawn_wire.specs.declared.{fields.{Fields.Fields, Found.{Found, TheVariants.{Missing, One, Several}}}, head.HeadFacts.HeadFacts}

@@ -2,7 +2,7 @@
 use Rattle.std.specs.Prelude.{◌≡◌, ℕ, List, [], ◌∷◌, codes, replicate, false, true, Option, Some, None, Ok, Err}
 use Rattle.pawn_wire.specs.{Common.{Bearer, Broker, Command, Confirm, Fixed, Receipt, Running, Sworn, Viewer}, Body.{new_book_of, new_terms_of, opening_of}}
 use Rattle.pawn_wire.specs.{Commands.{brokers_command_said, bearers_command_said}, Fields.Pair, Limits.{max_head, max_fields, max_body, max_digits, max_number}}
-use Rattle.pawn_wire.specs.{Member.body_said, Named.{number_said, day_said}, Receipts.{receipt_values, receipt_said, receipts_said, one_said}, Asking.key_of}
+use Rattle.pawn_wire.specs.{Member.body_said, Named.{number_said, day_said}, Receipts.{receipt_values, receipt_said, receipts_said, one_said}, Callers.key_of}
 use Rattle.pawn_wire.specs.{Place.place_of, Request.outline_by, WorkedHeads.{chunked_coding, tells_length}, Types.{Asks, BadBody, BadKey, BadReceipt}}
 use Rattle.pawn_wire.specs.Types.{BearerAction, BrokerAction, Create, Export, Import, NoReceipt, NoRoute, OnPledge, OnReceipt, Place, Present, PutTerms, Show}
 use Rattle.{pawn_wire.specs.Types.{ShowDay, TakePledge, Target, TooManyReceipts, WireFault, WrongMethod}, pawn_terms.specs.Worked.date}

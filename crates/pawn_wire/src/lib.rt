@@ -1,9 +1,9 @@
 //! The HTTP interface: requests from bytes, and replies to bytes.
 #![tactic(auto)]
 
-mod asking;
 mod bodies;
 mod body;
+mod callers;
 mod commands;
 mod detail;
 mod done;

@@ -3,7 +3,7 @@ ghost use Rattle.std.specs.Prelude.{◌≡◌};
 ghost use Rattle.pawn_wire.specs.{Common.{Broker, Import}, Request.{HoldsRows, IsAsked, IsOutlined, IsRequestRead, outline_by}, Chain.{OrMemory, Says}};
 ghost use Rattle.pawn_wire.specs.Fields.{pairs_of};
 
-use crate::asking::{Asks, Sent, who_asks};
+use crate::callers::{Asks, Sent, who_asks};
 use crate::fault::WireFault;
 use crate::fields::Fields;
 use crate::head::body_length;

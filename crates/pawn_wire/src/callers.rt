@@ -1,7 +1,7 @@
 //! Who asks at a target, and what for.
 ghost use Rattle.std.specs.Prelude.{◌≡◌, codes};
 ghost use Rattle.pawn_wire.specs.{Types.{Create, Export, Import, OnPledge, OnReceipt, Present, PutTerms, Show, ShowDay, TakePledge}, Chain.Says};
-ghost use Rattle.pawn_wire.specs.{Asking.{asks_said, key_given}, Fields.pairs_of};
+ghost use Rattle.pawn_wire.specs.{Callers.{asks_said, key_given}, Fields.pairs_of};
 
 use crate::fault::WireFault;
 use crate::fields::{Fields, Found};
