@@ -50,7 +50,7 @@ fn refuse(alloc: Global, refusal: Refusal) -> Answer
 }
 
 // The reply to a request that was done.
-fn done_reply(alloc: Global, reply: Reply) -> Result<Vec<u8>, AllocError>
+fn write_done(alloc: Global, reply: Reply) -> Result<Vec<u8>, AllocError>
     ensures text { IfOk result (λ v. v.items ≡ out_text (wire.Done reply)) }
 {
     write_reply(alloc, &Out::Done(reply))
@@ -189,7 +189,7 @@ impl<K: Keep> Service<K> {
             Ok(planned) => planned,
             Err(refusal) => return refuse(self.alloc, refusal),
         };
-        let Ok(reply) = done_reply(self.alloc, planned.reply) else {
+        let Ok(reply) = write_done(self.alloc, planned.reply) else {
             return Answer::Memory;
         };
         match commit(&mut self.keep, &planned) {

@@ -30,8 +30,7 @@ pub fn open_memory(alloc: Global, limit: u32) -> Result<Connection<MemStore>, Op
 
 /// Opens the store in two files, a log and a database. An empty one gets the program's tables, and this limit on
 /// counted rows, 1 to 10,000,000. One that notes the program's schema keeps its stored limit, and gets the indexes that
-/// it lacks. Whether its rows make sense is not judged. If the store is refused, what is left of the files comes back
-/// with the reason.
+/// it lacks. Whether its rows make sense is not judged. A refusal hands back what is left of the files.
 pub fn open_files<D: Disk + Drop>(
     alloc: Global,
     files: Files<D>,

@@ -93,6 +93,15 @@ fn store_on(alloc: Global, disks: Disks) -> Result<Connection<FileStore<Fuse<Mem
     }
 }
 
+// Visits a store of disks. It stands alone, since each function that calls something at a store's whole kind is dear to
+// prove.
+fn visit_on<V: Visit>(
+    conn: Connection<FileStore<Fuse<Memory>>>,
+    visit: &V,
+) -> Option<(V::Found, FileStore<Fuse<Memory>>)> {
+    visit.visit(conn)
+}
+
 /// Opens the store on the disks, which is made if there is none, visits it and closes it. Returns what was found, if the
 /// store was opened and has a keeper, and the disks that are left. None if it has none.
 pub fn visited<V: Visit>(
@@ -103,7 +112,7 @@ pub fn visited<V: Visit>(
     match store_on(alloc, disks) {
         Err(left) => Some((None, left)),
         Ok(conn) => {
-            let (found, store) = visit.visit(conn)?;
+            let (found, store) = visit_on(conn, visit)?;
             Some((Some(found), store.close()))
         }
     }
@@ -118,6 +127,6 @@ pub fn looked_at<V: Visit>(alloc: Global, disks: Disks, visit: &V) -> Option<V::
         return None;
     }
     let conn = Connection::open_files(alloc, disks, SMALL).ok()?;
-    let (found, _) = visit.visit(conn)?;
+    let (found, _) = visit_on(conn, visit)?;
     Some(found)
 }

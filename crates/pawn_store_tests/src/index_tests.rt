@@ -2,9 +2,8 @@
 //! there, or neither is, and every row is there. Each call of either file is such a stop in turn, until an opening
 //! meets none.
 use crate::disks::{Disks, Failing, Visit, crashed, disks, go_on, looked_at, until_whole, visited};
-use crate::move_tests::{BARE, COUNTS, INDEXES};
-use pawn_check::{CheckFault, Counts, check};
-use pawn_table_keeper::TableKeep;
+use crate::move_tests::{BARE, COUNTS, INDEXES, judged};
+use pawn_check::{CheckFault, Counts};
 use sqlite::{Alter, Connection};
 use std::alloc::Global;
 use std::process::Abort;
@@ -70,10 +69,8 @@ impl Visit for Judging {
         &self,
         conn: Connection<S>,
     ) -> Option<((usize, Result<Counts, CheckFault>), S)> {
-        let indexes = conn.schema().indexes.as_slice().len();
-        let mut keep = TableKeep::over(self.alloc, conn).ok()?;
-        let judged = check(&mut keep);
-        Some(((indexes, judged), keep.into_connection().into_store()))
+        let (indexes, judged, store) = judged(self.alloc, conn)?;
+        Some(((indexes, judged), store))
     }
 }
 
@@ -82,8 +79,9 @@ fn stops(rt: &impl Abort, alloc: Global, failing: Failing, calls: u64) -> Result
     let Some(run) = run_on(alloc, disks(alloc, failing, calls)) else {
         return Ok(false);
     };
+    let (is_opened, is_whole) = (run.is_opened, run.is_whole);
     let (indexes, judged) = looked_at(alloc, run.left, &Judging { alloc }).ok_or("opened again")?;
-    if run.is_opened {
+    if is_opened {
         assert_eq!(rt; indexes, INDEXES, "{calls} calls of {failing:?}");
     } else {
         assert!(rt;
@@ -92,7 +90,7 @@ fn stops(rt: &impl Abort, alloc: Global, failing: Failing, calls: u64) -> Result
         );
     }
     assert!(rt; judged == Ok(COUNTS), "{calls} calls of {failing:?}");
-    Ok(run.is_whole)
+    Ok(is_whole)
 }
 
 // Makes a file stop at its first call, at its second, and so on, until an opening meets no stop.

@@ -107,8 +107,19 @@ fn run_on(alloc: Global, disks: Disks, older: Older) -> Option<Run> {
 // How many indexes a store of the program has: ten of keys, and two by which a day is read.
 pub const INDEXES: usize = 12;
 
+/// How many indexes a store has, how it is judged, and the store. None if it has no keeper.
+pub fn judged<S: Alter + Drop>(
+    alloc: Global,
+    conn: Connection<S>,
+) -> Option<(usize, Result<Counts, CheckFault>, S)> {
+    let indexes = conn.schema().indexes.as_slice().len();
+    let mut keep = TableKeep::over(alloc, conn).ok()?;
+    let judged = check(&mut keep);
+    Some((indexes, judged, keep.into_connection().into_store()))
+}
+
 // What is found on the disks: the number of the schema, how they are moved then, how many indexes they have, and how they are judged.
-#[derive(Drop)]
+#[derive(Clone, Copy)]
 struct Found {
     number: u32,
     again: Moved,
@@ -131,34 +142,22 @@ impl Visit for Judging {
         }
         let number = schema_of(&mut conn).ok()?;
         let again = migrate(self.alloc, &mut conn);
-        let indexes = conn.schema().indexes.as_slice().len();
-        let mut keep = TableKeep::over(self.alloc, conn).ok()?;
-        let judged = check(&mut keep);
+        let (indexes, judged, store) = judged(self.alloc, conn)?;
         let found = Found {
             number,
             again,
             indexes,
             judged,
         };
-        Some((found, keep.into_connection().into_store()))
+        Some((found, store))
     }
 }
 
-// Makes a file stop at that call. Then the old tables are there, or the new ones, and they are moved and judged.
-// Returns whether no call failed.
-fn stops(
-    rt: &impl Abort,
-    alloc: Global,
-    older: Older,
-    failing: Failing,
-    calls: u64,
-) -> Result<bool, Fail> {
-    let Some(run) = run_on(alloc, disks(alloc, failing, calls), older) else {
-        return Ok(false);
-    };
-    let found = looked_at(alloc, run.left, &Judging { alloc }).ok_or("opened again")?;
+// Checks what is found after a migration that ended so: the old tables are there, or the new ones, and they are moved
+// and judged.
+fn agrees(rt: &impl Abort, older: Older, end: Moved, found: Found, failing: Failing, calls: u64) {
     let number = found.number;
-    match run.end {
+    match end {
         Ok(numbers) => {
             assert_eq!(rt; numbers, (older.number, 3));
             assert_eq!(rt; number, 3, "{calls} calls of {failing:?}");
@@ -177,7 +176,23 @@ fn stops(
     );
     assert_eq!(rt; found.indexes, INDEXES, "{calls} calls of {failing:?}");
     assert!(rt; found.judged == Ok(COUNTS), "{calls} calls of {failing:?}");
-    Ok(run.is_whole)
+}
+
+// Makes a file stop at that call, and checks what is found. Returns whether no call failed.
+fn stops(
+    rt: &impl Abort,
+    alloc: Global,
+    older: Older,
+    failing: Failing,
+    calls: u64,
+) -> Result<bool, Fail> {
+    let Some(run) = run_on(alloc, disks(alloc, failing, calls), older) else {
+        return Ok(false);
+    };
+    let (end, is_whole) = (run.end, run.is_whole);
+    let found = looked_at(alloc, run.left, &Judging { alloc }).ok_or("opened again")?;
+    agrees(rt, older, end, found, failing, calls);
+    Ok(is_whole)
 }
 
 // Makes a file stop at its first call, at its second, and so on, until a migration meets no stop.

@@ -1,10 +1,11 @@
 //! Each call that takes memory is run once, and its answer is checked. What the rules answer is proved, and worked out
 //! in `specs/Worked.antt`. The script `tests/answers/limits.py` reaches each limit once.
 use pawn_pledge::{
-    Article, Command, Day, Done, Kind, Number, Opening, Paper, Pledge, Receipt, Reference,
+    Article, Brief, Command, Day, Done, Kind, Number, Opening, Paper, Pledge, Receipt, Reference,
     RequestDay, Secret, Stamp, Terms,
 };
 use std::alloc::Global;
+use std::process::Abort;
 use std::test::Fail;
 
 fn request_day(text: &[u8]) -> Result<RequestDay, Fail> {
@@ -62,19 +63,20 @@ fn used(alloc: Global) -> Result<Pledge, Fail> {
     }
 }
 
+// Whether a drawing of so many pence is the only entry of a pledge that had none.
+fn draws(pledge: &mut Pledge, pence: u64) -> Result<bool, Fail> {
+    match answer(pledge, b"2024-01-31", Command::Draw { seq: 1, pence })? {
+        Done::Entered(entry) => {
+            Ok(entry.pence == pence && pledge.entries() == [entry].as_slice())
+        }
+        _ => Err("no entry".into()),
+    }
+}
+
 #[test]
 fn a_drawing_is_entered(rt: HostRuntime) -> Result<(), Fail> {
     let mut pledge = pledge(rt.alloc(), Kind::Running(8000))?;
-    let draw = Command::Draw {
-        seq: 1,
-        pence: 3000,
-    };
-    let done = answer(&mut pledge, b"2024-01-31", draw)?;
-    let Done::Entered(entry) = done else {
-        return Err("no entry".into());
-    };
-    assert_eq!(rt; entry.pence, 3000);
-    assert!(rt; pledge.entries() == [entry].as_slice());
+    assert!(rt; draws(&mut pledge, 3000)?);
     Ok(())
 }
 
@@ -95,26 +97,35 @@ fn an_extension_puts_the_end_off(rt: HostRuntime) -> Result<(), Fail> {
     Ok(())
 }
 
-#[test]
-fn a_brief_tells_of_its_pledge(rt: HostRuntime) -> Result<(), Fail> {
-    let brief = used(rt.alloc())?.brief()?;
+// Checks that a brief has the article, the live secret and the count of the entries.
+fn tells_of_its_pledge(rt: &impl Abort, brief: &Brief) {
     let fields = brief.fields();
     assert_eq!(rt; fields.agreement.opening.article.as_str(), "Gold ring");
     assert!(rt; fields.live == Some(Secret::of_word(2)));
     assert_eq!(rt; fields.counts.entries, 1);
+}
+
+#[test]
+fn a_brief_tells_of_its_pledge(rt: HostRuntime) -> Result<(), Fail> {
+    let pledge = used(rt.alloc())?;
+    tells_of_its_pledge(&rt, &pledge.brief()?);
     Ok(())
+}
+
+// Whether a pledge made of the parts is like the pledge.
+fn is_made_again(pledge: &Pledge, day: Day) -> Result<bool, Fail> {
+    match Pledge::of_parts(pledge.parts()?) {
+        Ok(again) => Ok(again.status(day) == pledge.status(day) && has_same_lists(&again, pledge)),
+        Err(_) => Ok(false),
+    }
 }
 
 // Whether a copy, a brief, and a pledge made of the parts are like the pledge.
 fn is_same_again(pledge: &Pledge, day: Day) -> Result<bool, Fail> {
-    let status = pledge.status(day);
     let copied = pledge.copy()?.status(day);
     let told = pledge.brief()?.status(day);
-    let is_again = match Pledge::of_parts(pledge.parts()?) {
-        Ok(again) => again.status(day) == status && has_same_lists(&again, pledge),
-        Err(_) => false,
-    };
-    Ok(copied == status && told == status && is_again)
+    let is_again = is_made_again(pledge, day)?;
+    Ok(copied == pledge.status(day) && told == copied && is_again)
 }
 
 // Whether two pledges have the same entries, secrets and extensions, and their periods the same end.

@@ -6,7 +6,7 @@ use crate::stop::Stop;
 use crate::store::is_memory;
 use pawn_move::{MoveFault, migrate};
 use pawn_opening::{OpenFault, close_files, connect_path};
-use sqlite::{Connection, FileFrom, FileStore};
+use sqlite::{Alter, Connection, FileFrom, FileStore};
 use sqlite_disk::Wary;
 use std::io::ErrorKind;
 use std::{fmt, fs};
@@ -60,23 +60,29 @@ fn close(conn: FileConnection) -> Result<(), Stop> {
     }
 }
 
-// Lets go of a store that was not moved. Its file stays as it was.
-fn leave(conn: FileConnection, why: MoveFault) -> Stop {
-    let _store = conn.into_store();
-    unmoved(why)
-}
-
-// Moves the store of a connection at rest, and closes its file.
-fn move_over(rt: &HostRuntime, mut conn: FileConnection) -> Result<Schemas, Stop>
+// Moves the store of a connection at rest. One that is not moved is let go of, and its file stays as it was.
+fn moved<S: Alter + Drop>(
+    rt: &HostRuntime,
+    mut conn: Connection<S>,
+) -> Result<(Connection<S>, Schemas), Stop>
     requires rests { conn.in_transaction ≡ false }
 {
     match migrate(rt.alloc(), &mut conn) {
-        Ok((found, program)) => {
-            close(conn)?;
-            Ok(Schemas { found, program })
+        Ok((found, program)) => Ok((conn, Schemas { found, program })),
+        Err(why) => {
+            let _store = conn.into_store();
+            Err(unmoved(why))
         }
-        Err(why) => Err(leave(conn, why)),
     }
+}
+
+// Moves the store of a connection to a file, which is at rest, and closes its file.
+fn move_over(rt: &HostRuntime, conn: FileConnection) -> Result<Schemas, Stop>
+    requires rests { conn.in_transaction ≡ false }
+{
+    let (conn, schemas) = moved(rt, conn)?;
+    close(conn)?;
+    Ok(schemas)
 }
 
 /// Moves the store in the file at a path to the program's schema, and closes it. If there is no file, none is made, and

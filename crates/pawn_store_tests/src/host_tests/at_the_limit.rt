@@ -309,10 +309,16 @@ fn plays(
 
 // Fills a service that has room for twelve rows, and then asks it for everything else.
 fn fills_up(rt: &impl Abort, service: &mut Service<ListKeep>, alloc: Global) -> Result<(), Fail> {
-    plays(rt, service, alloc, "2024-01-31", &FILLING, DONE)?;
-    plays(rt, service, alloc, "2024-01-31", &ADDING, REFUSED)?;
-    plays(rt, service, alloc, "2024-01-31", &OTHERS, DONE)?;
-    plays(rt, service, alloc, "2024-08-01", &LATER, DONE)
+    let (first, later) = ("2024-01-31", "2024-08-01");
+    for (day, lines, status) in [
+        (first, FILLING.as_slice(), DONE),
+        (first, ADDING.as_slice(), REFUSED),
+        (first, OTHERS.as_slice(), DONE),
+        (later, LATER.as_slice(), DONE),
+    ] {
+        plays(rt, service, alloc, day, lines, status)?;
+    }
+    Ok(())
 }
 
 #[test]

@@ -122,12 +122,17 @@ fn stops_at<K: Keep>(
     Ok(())
 }
 
-// Makes each call fail in turn, in both ways.
-fn stops_at_each<K: Keep>(rt: &impl Abort, alloc: Global, keep: &mut K) -> Result<(), Fail> {
+// Checks the whole statement. Returns how many calls it takes.
+fn calls_of<K: Keep>(rt: &impl Abort, alloc: Global, keep: &mut K) -> Result<usize, Fail> {
     let whole = whole_of(rt, alloc, keep)?;
     assert_eq!(rt; whole.taken.as_slice(), STATEMENT);
     assert!(rt; whole.calls > 20);
-    for at in 1..=whole.calls {
+    Ok(whole.calls)
+}
+
+// Makes each call fail in turn, in both ways.
+fn stops_at_each<K: Keep>(rt: &impl Abort, alloc: Global, keep: &mut K) -> Result<(), Fail> {
+    for at in 1..=calls_of(rt, alloc, keep)? {
         stops_at(rt, alloc, keep, STATEMENT, at, Failure::Error)?;
         stops_at(rt, alloc, keep, STATEMENT, at, Failure::Nothing)?;
     }
@@ -141,6 +146,13 @@ fn no_failed_write_is_tried_again(rt: HostRuntime) -> Result<(), Fail> {
     stops_at_each(&rt, rt.alloc(), &mut service.keep)
 }
 
+// The request that enters the repayment of a penny with this number.
+fn repayment(alloc: Global, seq: u32) -> Result<String, Fail> {
+    let body = format!(in alloc; "{{\"pence\":1,\"seq\":{seq}}}")?;
+    let (to, by, length) = (REPAY, BROKER, body.len());
+    Ok(format!(in alloc; "{to}\r\n{by}\r\nContent-Length: {length}\r\n\r\n{body}")?)
+}
+
 // Enters so many repayments of a penny, each by a request.
 fn repays<K: Keep>(
     rt: &impl Abort,
@@ -149,9 +161,7 @@ fn repays<K: Keep>(
     times: u32,
 ) -> Result<(), Fail> {
     for seq in 1..=times {
-        let body = format!(in alloc; "{{\"pence\":1,\"seq\":{seq}}}")?;
-        let (to, by, length) = (REPAY, BROKER, body.len());
-        let request = format!(in alloc; "{to}\r\n{by}\r\nContent-Length: {length}\r\n\r\n{body}")?;
+        let request = repayment(alloc, seq)?;
         let answer = service.answer_one(&stamp(rt, 9), request.as_bytes());
         assert!(rt;
             bytes_of(&answer).starts_with(b"HTTP/1.1 200 OK"),
@@ -161,16 +171,32 @@ fn repays<K: Keep>(
     Ok(())
 }
 
+// Checks that the whole statement has this text.
+fn has_text<K: Keep>(
+    rt: &impl Abort,
+    alloc: Global,
+    keep: &mut K,
+    text: &[u8],
+) -> Result<(), Fail> {
+    let whole = whole_of(rt, alloc, keep)?;
+    assert!(rt; whole.taken.as_slice() == text, "the next statement");
+    Ok(())
+}
+
 // Makes a write fail among the last lines of a statement, which come from the second page of its entries. After that
-// the same statement is written whole, and a change is made.
+// the same statement is written whole.
+fn states_again<K: Keep>(rt: &impl Abort, alloc: Global, keep: &mut K) -> Result<(), Fail> {
+    let whole = whole_of(rt, alloc, keep)?;
+    let (text, at) = (whole.taken.as_slice(), whole.calls.saturating_sub(10));
+    stops_at(rt, alloc, keep, text, at, Failure::Error)?;
+    has_text(rt, alloc, keep, text)
+}
+
+// Makes a write fail and the statement be written again. After that a change is made.
 fn goes_on<K: Keep>(rt: &impl Abort, alloc: Global, service: &mut Service<K>) -> Result<(), Fail> {
     takes_ring(rt, service);
     repays(rt, alloc, service, 70)?;
-    let whole = whole_of(rt, alloc, &mut service.keep)?;
-    let (text, at) = (whole.taken.as_slice(), whole.calls.saturating_sub(10));
-    stops_at(rt, alloc, &mut service.keep, text, at, Failure::Error)?;
-    let again = whole_of(rt, alloc, &mut service.keep)?;
-    assert!(rt; again.taken.as_slice() == text, "the next statement");
+    states_again(rt, alloc, &mut service.keep)?;
     let declare = TURNS[4];
     let answer = service.answer_one(&stamp(rt, declare.word), declare.request.as_bytes());
     assert_eq!(rt; bytes_of(&answer), declare.reply.as_bytes());
@@ -191,6 +217,21 @@ fn answer_of(answer: io::Result<usize>) -> Result<usize, ErrorKind> {
     }
 }
 
+// Writes to a writer that takes seven bytes a call, and whose second call answers so.
+fn writes_once(rt: &impl Abort, writer: &mut Writing<Flaky>, second: Result<usize, ErrorKind>) {
+    let first = (answer_of(writer.write(b"Pledge 12")), writer.has_failed());
+    assert_eq!(rt; first, (Ok(7), false));
+    assert_eq!(rt;
+        (answer_of(writer.write(b"12")), writer.has_failed()),
+        (second, true)
+    );
+    put(writer, b"12");
+    assert_eq!(rt;
+        (answer_of(writer.write(b"12")), writer.has_failed()),
+        (Ok(2), true)
+    );
+}
+
 #[test]
 fn each_write_is_one_call(rt: HostRuntime) {
     for (failure, second) in [
@@ -198,17 +239,7 @@ fn each_write_is_one_call(rt: HostRuntime) {
         (Failure::Nothing, Ok(0usize)),
     ] {
         let mut writer = failing_at(rt.alloc(), 2, failure);
-        let first = (answer_of(writer.write(b"Pledge 12")), writer.has_failed());
-        assert_eq!(rt; first, (Ok(7), false));
-        assert_eq!(rt;
-            (answer_of(writer.write(b"12")), writer.has_failed()),
-            (second, true)
-        );
-        put(&mut writer, b"12");
-        assert_eq!(rt;
-            (answer_of(writer.write(b"12")), writer.has_failed()),
-            (Ok(2), true)
-        );
+        writes_once(&rt, &mut writer, second);
         let end = writer.into_inner();
         assert_eq!(rt;
             (end.calls, end.taken.as_slice()),

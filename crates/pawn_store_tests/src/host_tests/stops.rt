@@ -42,14 +42,23 @@ fn are_same(one: &Shown, other: &Shown) -> bool {
 
 // What a list shows after none of the turns, after the first, and so on to all of them.
 fn shown_after_each(rt: &impl Abort, alloc: Global) -> Result<Vec<Shown>, Fail> {
-    let mut service = service_of(rt, alloc, ROWS);
-    let mut all = Vec::new(alloc);
-    all.push(show_all(rt, &mut service))?;
+    let (mut service, mut all) = (service_of(rt, alloc, ROWS), Vec::new(alloc));
+    show_each(rt, &mut service, &mut all)?;
+    Ok(all)
+}
+
+// Adds what the service shows before the turns and after each.
+fn show_each<K: Keep>(
+    rt: &impl Abort,
+    service: &mut Service<K>,
+    all: &mut Vec<Shown>,
+) -> Result<(), Fail> {
+    all.push(show_all(rt, service))?;
     for turn in TURNS {
         service.answer_one(&stamp(rt, turn.word), turn.request.as_bytes());
-        all.push(show_all(rt, &mut service))?;
+        all.push(show_all(rt, service))?;
     }
-    Ok(all)
+    Ok(())
 }
 
 // How many turns a service answers before the first that it does not.
@@ -65,21 +74,53 @@ fn played<K: Keep>(rt: &impl Abort, service: &mut Service<K>) -> usize {
     answered
 }
 
-// Plays the turns over a store. What is found is how many are answered before the first that is not.
-#[derive(Drop)]
-struct Playing<'a, R: Abort> {
-    rt: &'a R,
-    alloc: Global,
+// What is done with a service, over whatever keeper.
+trait Task {
+    type Found;
+
+    fn run<K: Keep>(&self, rt: &impl Abort, service: &mut Service<K>) -> Self::Found;
 }
 
-impl<R: Abort> Visit for Playing<'_, R> {
+// Plays the turns. What is found is how many are answered before the first that is not.
+#[derive(Drop)]
+struct Playing;
+
+impl Task for Playing {
     type Found = usize;
 
-    fn visit<S: Alter + Drop>(&self, conn: Connection<S>) -> Option<(usize, S)> {
+    fn run<K: Keep>(&self, rt: &impl Abort, service: &mut Service<K>) -> usize {
+        played(rt, service)
+    }
+}
+
+// Looks at what the service shows.
+#[derive(Drop)]
+struct Looking;
+
+impl Task for Looking {
+    type Found = Shown;
+
+    fn run<K: Keep>(&self, rt: &impl Abort, service: &mut Service<K>) -> Shown {
+        show_all(rt, service)
+    }
+}
+
+// Does a task with a service over a store.
+#[derive(Drop)]
+struct Serving<'a, R: Abort, T: Task> {
+    rt: &'a R,
+    alloc: Global,
+    task: &'a T,
+}
+
+impl<R: Abort, T: Task> Visit for Serving<'_, R, T> {
+    type Found = T::Found;
+
+    fn visit<S: Alter + Drop>(&self, conn: Connection<S>) -> Option<(T::Found, S)> {
         let keep = TableKeep::over(self.alloc, conn).ok()?;
         let mut service = service_over(self.rt, self.alloc, keep);
-        let answered = played(self.rt, &mut service);
-        Some((answered, service.into_keep().into_connection().into_store()))
+        let found = self.task.run(self.rt, &mut service);
+        Some((found, service.into_keep().into_connection().into_store()))
     }
 }
 
@@ -93,7 +134,8 @@ struct Run {
 }
 
 fn run_on(rt: &impl Abort, alloc: Global, disks: Disks) -> Option<Run> {
-    let (answered, mut left) = visited(alloc, disks, &Playing { rt, alloc })?;
+    let task = &Playing;
+    let (answered, mut left) = visited(alloc, disks, &Serving { rt, alloc, task })?;
     Some(Run {
         answered,
         is_whole: answered.is_some() && go_on(&mut left),
@@ -101,22 +143,13 @@ fn run_on(rt: &impl Abort, alloc: Global, disks: Disks) -> Option<Run> {
     })
 }
 
-// Looks at what a store shows.
-#[derive(Drop)]
-struct Looking<'a, R: Abort> {
-    rt: &'a R,
-    alloc: Global,
-}
-
-impl<R: Abort> Visit for Looking<'_, R> {
-    type Found = Shown;
-
-    fn visit<S: Alter + Drop>(&self, conn: Connection<S>) -> Option<(Shown, S)> {
-        let keep = TableKeep::over(self.alloc, conn).ok()?;
-        let mut service = service_over(self.rt, self.alloc, keep);
-        let shown = show_all(self.rt, &mut service);
-        Some((shown, service.into_keep().into_connection().into_store()))
+// Whether what is shown is what the list shows after one of these turns.
+fn is_among(wanted: &[Shown], first: usize, last: usize, found: &Shown) -> bool {
+    let mut stands = false;
+    for (turns, shown) in wanted.iter().enumerate() {
+        stands = stands || (first <= turns && turns <= last && are_same(found, shown));
     }
+    stands
 }
 
 // Makes a file stop at that call. Then what was answered is there, with or without the turn in hand, or no book if the
@@ -129,21 +162,20 @@ fn stops(
     calls: u64,
 ) -> Result<bool, Fail> {
     let run = run_on(rt, alloc, disks(alloc, failing, calls)).ok_or("a keeper")?;
-    let (found, _) = visited(alloc, run.left, &Looking { rt, alloc }).ok_or("a keeper")?;
+    let (answered, is_whole) = (run.answered, run.is_whole);
+    let task = &Looking;
+    let (found, _) = visited(alloc, run.left, &Serving { rt, alloc, task }).ok_or("a keeper")?;
     let found = found.ok_or("opened again")?;
-    let (first, last) = match run.answered {
+    let (first, last) = match answered {
         Some(answered) => (answered, answered.saturating_add(1)),
         None => (0, 0),
     };
-    let mut stands = false;
-    for (turns, shown) in wanted.iter().enumerate() {
-        stands = stands || (first <= turns && turns <= last && are_same(&found, shown));
-    }
+    let stands = is_among(wanted, first, last, &found);
     assert!(rt; stands, "{first} answered, {calls} calls of {failing:?}");
-    if run.is_whole {
+    if is_whole {
         assert_eq!(rt; first, TURNS.len());
     }
-    Ok(run.is_whole)
+    Ok(is_whole)
 }
 
 // Makes a file stop at its first call, at its second, and so on, until a run meets no stop.

@@ -2,12 +2,13 @@
 use super::{KEY, OPERATOR, answer_to, asked, day, make, number};
 use crate::acting::acted;
 use pawn_book::{
-    BrokerRequest, Caller, Day, Imported, Keep, Reference, Refusal, ReplayableRows, Reply, Request,
-    Secret, SheetItem, Stamp, day_sheet, replayable,
+    BookRows, BrokerRequest, Caller, Day, Imported, Keep, Reference, Refusal, ReplayableRows,
+    Reply, Request, Secret, SheetItem, Stamp, day_sheet, replayable,
 };
 use pawn_csv::{import, read_book};
 use pawn_list_keeper::ListKeep;
 use std::alloc::Global;
+use std::process::Abort;
 use std::test::Fail;
 
 const IMPORT: u128 = 77;
@@ -25,15 +26,11 @@ fn rows(alloc: Global) -> Result<ReplayableRows, Fail> {
     Ok(read_book(alloc, ROWS.as_bytes()).ok().ok_or("no book")?)
 }
 
-// The answer to an import into book 7 under a key.
-fn imports(
-    alloc: Global,
-    keep: &mut ListKeep,
-    key: u128,
-    rows: ReplayableRows,
-) -> Result<Result<Reply, Refusal>, Fail> {
+// The answer to an import of the rows into book 7 under a key.
+fn imports(alloc: Global, keep: &mut ListKeep, key: u128) -> Result<Result<Reply, Refusal>, Fail> {
     let (book, day) = (number(7)?, day()?);
     let (key, operator) = (Secret::of_word(key), Secret::of_word(OPERATOR));
+    let rows = rows(alloc)?;
     let caller = Caller::Broker {
         key: Secret::of_word(KEY),
         asked: BrokerRequest::Import { key, rows },
@@ -77,36 +74,28 @@ fn an_import_fills_a_book_once(rt: HostRuntime) -> Result<(), Fail> {
     let alloc = rt.alloc();
     let mut keep = made(alloc, 7)?;
     for _ in 0..2u32 {
-        let answer = imports(alloc, &mut keep, IMPORT, rows(alloc)?)?;
+        let answer = imports(alloc, &mut keep, IMPORT)?;
         assert!(rt; answer == Ok(Reply::BookFilled(1)));
         assert!(rt; is_read(alloc, &mut keep)?);
     }
-    let answer = imports(alloc, &mut keep, ANOTHER, rows(alloc)?)?;
+    let answer = imports(alloc, &mut keep, ANOTHER)?;
     assert!(rt; answer == Err(Refusal::BookNotEmpty));
     let mut small = made(alloc, 6)?;
-    let answer = imports(alloc, &mut small, IMPORT, rows(alloc)?)?;
+    let answer = imports(alloc, &mut small, IMPORT)?;
     assert!(rt; answer == Err(Refusal::Full));
     Ok(())
 }
 
-#[test]
-fn rows_are_put_by_the_books_key_alone(rt: HostRuntime) -> Result<(), Fail> {
-    let alloc = rt.alloc();
-    let mut keep = made(alloc, 100)?;
-    let stamp = Stamp {
-        day: day()?,
-        word: 1,
-    };
-    for (key, told) in [
-        (ANOTHER, Err(Refusal::NoSuchBook)),
-        (KEY, Ok(Reply::BookFilled(1))),
-    ] {
-        let (book, rows) = (number(7)?, rows(alloc)?);
-        let (key, own) = (Secret::of_word(key), Secret::of_word(IMPORT));
-        let came = import(alloc, &mut keep, &stamp, book, key, own, rows);
-        assert!(rt; came == told);
-    }
-    let items = day_sheet(alloc, &mut keep, number(7)?, Day::from_ymd(2024, 2, 10)?)?;
+// What putting the rows into book 7 by this key comes to.
+fn put_by(alloc: Global, keep: &mut ListKeep, key: u128) -> Result<Result<Reply, Refusal>, Fail> {
+    let (book, day) = (number(7)?, day()?);
+    let (key, own) = (Secret::of_word(key), Secret::of_word(IMPORT));
+    let (stamp, rows) = (Stamp { day, word: 1 }, rows(alloc)?);
+    Ok(import(alloc, keep, &stamp, book, key, own, rows))
+}
+
+// Whether the day sheet of the booking's day has the booking.
+fn is_on_its_sheet(alloc: Global, keep: &mut ListKeep) -> Result<bool, Fail> {
     let (window, count) = (3, 1);
     let sheet = [
         SheetItem::Window { window, count },
@@ -114,20 +103,41 @@ fn rows_are_put_by_the_books_key_alone(rt: HostRuntime) -> Result<(), Fail> {
         SheetItem::AskedHead(0),
         SheetItem::EndsHead(0),
     ];
-    assert!(rt; items.as_slice() == sheet.as_slice());
-    Ok(())
+    let (book, day) = (number(7)?, Day::from_ymd(2024, 2, 10)?);
+    Ok(day_sheet(alloc, keep, book, day)?.as_slice() == sheet.as_slice())
 }
 
 #[test]
-fn rows_are_copied_and_judged(rt: HostRuntime) -> Result<(), Fail> {
-    let copy = rows(rt.alloc())?.rows().copy()?;
-    assert!(rt; replayable(&copy));
+fn rows_are_put_by_the_books_key_alone(rt: HostRuntime) -> Result<(), Fail> {
+    let alloc = rt.alloc();
+    let mut keep = made(alloc, 100)?;
+    for (key, told) in [
+        (ANOTHER, Err(Refusal::NoSuchBook)),
+        (KEY, Ok(Reply::BookFilled(1))),
+    ] {
+        assert!(rt; put_by(alloc, &mut keep, key)? == told);
+    }
+    assert!(rt; is_on_its_sheet(alloc, &mut keep)?);
+    Ok(())
+}
+
+// Checks that a copy of the rows has their terms and their pledge.
+fn is_whole(rt: &impl Abort, copy: &BookRows) -> Result<(), Fail> {
+    assert!(rt; replayable(copy));
     assert!(rt; !copy.terms.is_empty());
     assert_eq!(rt; copy.terms.as_slice().len(), 1);
     match copy.pledges.as_slice() {
         [pledge] => assert_eq!(rt; pledge.agreement.opening.reference.as_str(), "A1"),
         _ => return Err(Fail::from("other pledges")),
     }
+    Ok(())
+}
+
+#[test]
+fn rows_are_copied_and_judged(rt: HostRuntime) -> Result<(), Fail> {
+    let rows = rows(rt.alloc())?;
+    let copy = rows.rows().copy()?;
+    is_whole(&rt, &copy)?;
     assert!(rt; ReplayableRows::of_rows(copy).is_ok());
     Ok(())
 }

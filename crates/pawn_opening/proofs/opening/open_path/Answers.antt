@@ -1,6 +1,9 @@
-use Rattle.{std.proofs.Common.{inl, inr, subst, sym}, sqlite.specs.Files.file_state, pawn_opening.specs.FilesStand.{IsBlank, IsRefusedStore, OpensFound}}
+use Rattle.{std.proofs.Common.{inl, inr, rules, subst, sym}, sqlite.specs.Files.file_state, pawn_opening.specs.FilesStand.{IsBlank, IsRefusedStore, OpensFound}}
 use Rattle.pawn_opening.{specs.FilesStand.StandsIn, proofs.Seen.untouched}
 use Rattle.pawn_opening.proofs.opening.open_path.Goals as goal
+
+pub returns-in-Ok-open_files-clause-refuses : goal.returns-in-Ok-open_files-clause-refuses
+returns-in-Ok-open_files-clause-refuses g c = search rules
 
 pub returns-in-Ok-open_files-clause-blank : goal.returns-in-Ok-open_files-clause-blank
 returns-in-Ok-open_files-clause-blank g c clean blank = let fresh = c.in-Ok.ensures.fresh in

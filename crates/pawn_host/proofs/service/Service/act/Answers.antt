@@ -23,8 +23,8 @@ returns-in-Ok-commit-clause-acted g c = λ honest h sound at bytes read.
     let stood = c.plan.ensures.reads.same before h at in
     let commits = rw c.in-Ok-commit.is at (c.commit.ensures.commits honest h sound stood) in
     let acts = made_acts h operator c.args.stamp.now c.args.request.now stands made.change made.reply sound plans commits in
-    acted_done (start_of g.K.Keep.keeping c.args.self.now h) c.args.stamp.now bytes c.in-Ok-done_reply.reply.items _ c.args.request.now made.reply read
-    (rw c.in-Ok-done_reply.is at c.done_reply.ensures.text) acts
+    acted_done (start_of g.K.Keep.keeping c.args.self.now h) c.args.stamp.now bytes c.in-Ok-write_done.reply.items _ c.args.request.now made.reply read
+    (rw c.in-Ok-write_done.is at c.write_done.ensures.text) acts
     (λ left by. made_left h operator c.args.stamp.now c.args.request.now made.change made.reply stands (leaves c.args.self.now.keep) (leaves c.plan.new.keep)
     left plans commits (c.plan.ensures.reads.crash before) (rw c.in-Ok-commit.is at (c.commit.ensures.crash honest h sound stood left by)))
 
