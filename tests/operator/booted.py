@@ -172,6 +172,8 @@ def the_first_day_and_what_may_happen():
             for step in (
                 what_systemd_says,
                 killed_and_stopped,
+                stopped_before_it_listens,
+                ended_before_it_listens,
                 copies_by_their_unit,
                 copies_each_minute,
                 on_the_second_machine,
@@ -224,6 +226,40 @@ def killed_and_stopped(one):
     size = one.run("stat -c %s /var/lib/pawnd/1/books.db-wal 2>/dev/null || echo 0").strip()
     expect(f"the log, of {size} bytes, has no page", int(size) <= EMPTY_LOG, True)
     one.run("systemctl start pawnd.target")
+    answers_again(one)
+
+
+def stopped_before_it_listens(one):
+    """A stop that is asked for while a shard is started is no failure: in the step before its start, which here waits
+    for another command, and while it reads its store."""
+    one.run(
+        "systemctl stop pawnd@1; flock /var/lib/pawnd/1 sleep 4 & sleep 0.5; systemctl start --no-block pawnd@1; "
+        "until grep -qx python3 /proc/$(systemctl show -P ControlPID pawnd@1)/comm; do sleep 0.1; done; sleep 0.5; "
+        "systemctl stop pawnd@1"
+    )
+    expect("in the step before", one.state("pawnd@1", "ActiveState", "Result"), ("inactive", "success"))
+    slow = "/run/systemd/system/pawnd@1.service.d"
+    one.run(
+        f"mkdir -p {slow}; printf '[Service]\\nExecStart=\\nExecStart=/bin/sleep infinity\\n' >{slow}/slow.conf; "
+        "systemctl daemon-reload; systemctl stop pawnd@1; systemctl start --no-block pawnd@1; "
+        "until [ $(systemctl show -P SubState pawnd@1) = start-post ]; do sleep 0.1; done; systemctl stop pawnd@1"
+    )
+    expect("while it reads", one.state("pawnd@1", "ActiveState", "Result"), ("inactive", "success"))
+    one.run(f"rm -r {slow}; systemctl daemon-reload; systemctl start pawnd@1")
+    answers_again(one)
+
+
+def ended_before_it_listens(one):
+    """A shard whose file is no store is known as failed at once."""
+    one.run(
+        "systemctl stop pawnd@1; mkdir /root/good; mv /var/lib/pawnd/1/books.db* /root/good; "
+        "seq 2000 | install -o pawnd-1 -g pawnd-1 -m 600 /dev/stdin /var/lib/pawnd/1/books.db"
+    )
+    begun = time.monotonic()
+    one.run("systemctl start pawnd@1", wanted=1)
+    expect("within a minute", time.monotonic() - begun < 60, True)
+    one.run("systemctl stop pawnd@1; rm /var/lib/pawnd/1/books.db*; mv /root/good/* /var/lib/pawnd/1/")
+    one.run("systemctl reset-failed pawnd@1; systemctl start pawnd@1")
     answers_again(one)
 
 

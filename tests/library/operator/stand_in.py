@@ -48,7 +48,7 @@ def run_step(line, instance, told):
     signs = re.match(r"[-+]*", line)[0]
     words = filled(line[len(signs) :], instance).replace("%n", told["UNIT"]).replace("$$", "$")
     # Here the mounts of the unit are those of the machine.
-    words = words.removeprefix("/usr/bin/nsenter --target 1 --mount ")
+    words = words.replace("/usr/bin/nsenter --target 1 --mount ", "")
     ran = subprocess.run(
         ["bash", "-c", words if words.startswith("/bin/sh") else "exec " + words], env=told, stdin=subprocess.DEVNULL
     )
@@ -87,6 +87,7 @@ def start(word):
     os.makedirs(ROOM, exist_ok=True)
     with open(f"{ROOM}/{name}", "w") as it:
         it.write(str(program.pid))
+    told["MAINPID"] = str(program.pid)
     return all(run_step(line, instance, told) for line in values(text, "ExecStartPost"))
 
 
