@@ -115,7 +115,9 @@ class Cheapening(Relay):
     """Has the first redemption pay a penny less than was asked for, as if another day had begun."""
 
     def reply(self, asked, is_new):
-        return self.hand_on(asked.replace(b"9000", b"8999") if is_new and b"/redeem" in asked else asked)
+        # In the body alone: a receipt may have these digits, too.
+        cheaper = re.sub(rb'("paid": ?)9000', rb"\g<1>8999", asked)
+        return self.hand_on(cheaper if is_new and b"/redeem" in asked else asked)
 
 
 class Leaving(Relay):
