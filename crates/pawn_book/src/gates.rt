@@ -1,13 +1,13 @@
 //! Who is let in, and to what.
-ghost use Rattle.std.specs.{Prelude.{◌≡◌, IfOk}, FinMap.get};
-ghost use Rattle.pawn_terms.specs.Calendar.{IsStampDay};
+ghost use Rattle.std.specs.{Prelude.{◌≡◌, IfOk, option_map}, FinMap.get};
+ghost use Rattle.{pawn_terms.specs.Calendar.{IsStampDay}, pawn_pledge.specs.Brief.brief_of};
 ghost use Rattle.pawn_book.specs.{Plans.{Gates, IsUnwell}, Keeping.{IsQuiet, IsSteady, Reads}, Sound.IsWord, BookStep.{live_at, pledge_in}};
 
 use crate::change::BookHead;
 use crate::fault::KeepError;
 use crate::keep::Keep;
 use crate::refusal::Refusal;
-use pawn_pledge::{Number, Pledge, Receipt, Secret, Stamp};
+use pawn_pledge::{Brief, Number, Pledge, Receipt, Secret, Stamp};
 
 /// The head of a book, for the holder of its key. Refused as `NoSuchBook` if there is no such book, or the key is not
 /// the book's.
@@ -41,6 +41,22 @@ pub fn find_live<K: Keep>(
         Ok(Some(pledge)) if pledge.is_live(&receipt.secret) => Ok(Some(pledge)),
         Ok(_) => Ok(None),
         Err(error) => Err(error),
+    }
+}
+
+/// The brief of a receipt's pledge, if the receipt is live in the book.
+pub fn live_brief<K: Keep>(
+    keep: &mut K,
+    book: Number,
+    receipt: &Receipt,
+) -> Result<Option<Brief>, KeepError>
+    ensures reads { Reads K.keeping keep.old keep.new
+        (λ h. IfOk result (λ brief. brief ≡ option_map brief_of (live_at (pledge_in (get h.books book)) receipt.now))) }
+    ensures steady { IsSteady K.keeping keep.old result }
+{
+    match keep.brief(book, receipt.number)? {
+        Some(brief) if brief.fields().live == Some(receipt.secret) => Ok(Some(brief)),
+        _ => Ok(None),
     }
 }
 

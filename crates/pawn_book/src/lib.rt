@@ -29,7 +29,7 @@ pub use acting::{act, commit};
 pub use capacity::Capacity;
 pub use change::{BookHead, Change, Imported, Planned};
 pub use fault::{KeepError, SaveError, StoreFault};
-pub use gates::{find_live, gate};
+pub use gates::{find_live, gate, live_brief};
 pub use gather::{Gathering, day_sheet};
 pub use importing::ReplayableRows;
 pub use keep::Keep;

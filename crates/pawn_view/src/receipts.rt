@@ -1,31 +1,15 @@
 //! The statements of the receipts that a bearer presents.
-ghost use Rattle.std.specs.Prelude.{◌≡◌, ◌++◌, ◌∷◌, false, true, not, option_map, Some, None, IfOk, IsErrOf};
+ghost use Rattle.std.specs.Prelude.{◌≡◌, ◌++◌, ◌∷◌, false, true, not, Some, None, IfOk, IsErrOf};
 ghost use Rattle.pawn_view.specs.Common.{IsQuietView, IsSound, IsSteady, PledgeValue, PutsShare, Reads, are_unknown, brief_of, call_end, get, live_at};
 ghost use Rattle.pawn_view.specs.{Common.{pledge_in, write_failed}, Shown.{Shows, live_pledges, pledge_at, presentation_of, shown_of}, Text.further_texts};
 ghost use Rattle.pawn_view.specs.Text.{shown_text, statement_text};
 
 use crate::statements::{ending, put_statement};
-use pawn_book::{Brief, Day, Keep, KeepError, Number, Receipt};
+use pawn_book::{Brief, Day, Keep, KeepError, Number, Receipt, live_brief};
 use pawn_writing::{ViewFault, Writing, put};
 use std::io::Write;
 
 const UNKNOWN: &[u8] = b"Unknown receipt\n";
-
-// The brief of a receipt's pledge, if the receipt is live.
-fn live_brief<K: Keep>(
-    keep: &mut K,
-    book: Number,
-    receipt: &Receipt,
-) -> Result<Option<Brief>, KeepError>
-    ensures reads { Reads K.keeping keep.old keep.new
-        (λ h. IfOk result (λ brief. brief ≡ option_map brief_of (live_at (pledge_in (get h.books book)) receipt.now))) }
-    ensures steady { IsSteady K.keeping keep.old result }
-{
-    match keep.brief(book, receipt.number)? {
-        Some(brief) if brief.fields().live == Some(receipt.secret) => Ok(Some(brief)),
-        _ => Ok(None),
-    }
-}
 
 // Whether one of the receipts is live.
 fn is_any_live<K: Keep>(keep: &mut K, book: Number, receipts: &[Receipt]) -> Result<bool, KeepError>
