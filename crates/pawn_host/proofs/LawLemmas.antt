@@ -1,7 +1,8 @@
 -- A stream has one split.
 use Rattle.std.proofs.Common.{◌≡◌, ℕ, ◌+◌, ◌<◌, ◌≤◌, Bool, true, false, List, [], ◌∷◌, ◌++◌, length, take, map, ◌⊎◌, inl, inr, refl, arith, sym, ◌∙◌, ap, subst}
 use Rattle.std.proofs.{Common.{append_assoc, append-nil, length-append, Result, Ok, Err, All, nat_le, take_all}, lemmas.List.Elements.{All-head, All-tail}}
-use Rattle.{std.proofs.lemmas.{List.{append_cancel_left, take-append-le}, Bool.Decides.nat_tests}, pawn_wire.specs.declared.fault.HeadFault.TheVariants.BadHead}
+use Rattle.std.proofs.lemmas.{List.{append_cancel_left, take-append-le}, Bool.Decides.nat_tests}
+use Rattle.pawn_reply.specs.declared.fault.HeadFault.TheVariants.{BadHead}
 use Rattle.pawn_wire.proofs.{StreamLemmas.{bad_head_never, head_some, nil_is_no_bad_head, reads_more}, RequestLemmas.reads_unique}
 use Rattle.pawn_host.specs.Common.{EndsInTarget, Event, HasNoRequest, HeadFault, Host, IsBadHead, Mark, ReadsHead, ReadsRequest, RequestHead, Stamp, WireFault}
 use Rattle.pawn_host.specs.Common.{body_length, closes_by, concat, fields_of, max_fields, max_head, no_memory, no_store, print_request, read_as, run_host}

@@ -12,7 +12,7 @@ use Rattle.pawn_host.proofs.CrashLemmas.{goes_wider}
 use Rattle.pawn_view.specs.{Text.{presented_text, statement_text}, Shown.{live_pledges, presentation_of, pledge_at, statement_of}}
 use Rattle.pawn_pledge.specs.Pledge.{PledgeValue}
 use Rattle.pawn_view.proofs.StatementLemmas.{some_same}
-use Rattle.pawn_wire.specs.declared.reply.Out.TheVariants as wire
+use Rattle.pawn_reply.specs.declared.reply.Out.TheVariants as wire
 
 -- memory was wanting, and nothing changed
 pub acted_memory : (start : Start) (stamp : Stamp) (bytes reply : List ℕ) (kept : Kept) → reply ≡ memory_text → GoesTo kept start.host start.leaves

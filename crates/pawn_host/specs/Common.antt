@@ -10,6 +10,7 @@ pub use Rattle.pawn_book.specs.{Runs.{host_after_mark, is_settled, mark_reply, n
 pub use Rattle.pawn_book.specs.{Traces.{book_trace, slot_trace}, declared.{refusal.Refusal.Refusal, request.BearerRequest.{BearerRequest, TheVariants.Present}}}
 pub use Rattle.pawn_book.specs.declared.request.{View.View, Caller.TheVariants.{Bearer, Viewer}}
 pub use Rattle.{pawn_book.specs.declared.request.Request.Request, pawn_writing.specs.{Ends.{write_failed, written_bytes}, declared.fault.ViewFault.ViewFault}}
-pub use Rattle.{pawn_csv.specs.Rows.csv_of, pawn_wire.specs.{Fault.wire_fault, Head.{IsBadHead, IsHead, IsHeadRead, ReadsHead, body_length, closes_by}}}
-pub use Rattle.pawn_wire.specs.{Head.fields_of, Limits.{max_fields, max_head}, Reply.{fault_text, memory_text, out_text, reply_text}, Request.SaysRequest}
-pub use Rattle.pawn_wire.specs.declared.{fault.{HeadFault.HeadFault, WireFault.WireFault}, head.{HeadFacts.HeadFacts, HeadRead.TheVariants.{Fault, Partial}}}
+pub use Rattle.{pawn_csv.specs.Rows.csv_of, pawn_reply.specs.{Fault.wire_fault, Reply.{fault_text, memory_text, out_text, reply_text}}}
+pub use Rattle.{pawn_reply.specs.declared.fault.{HeadFault.HeadFault, WireFault.WireFault}, pawn_wire.specs.declared.head.HeadFacts.HeadFacts}
+pub use Rattle.pawn_wire.specs.{Head.{IsBadHead, IsHead, IsHeadRead, ReadsHead, body_length, closes_by, fields_of}, Limits.{max_fields, max_head}}
+pub use Rattle.pawn_wire.specs.{Request.SaysRequest, declared.head.HeadRead.TheVariants.{Fault, Partial}}

@@ -1,6 +1,6 @@
 -- Laws of the split, of runs, and of the slots in them.
 use Rattle.std.specs.Prelude.{◌≡◌, ℕ, ◌<◌, ◌≤◌, ◌⊎◌, All, Bool, true, List, [], ◌∷◌, ◌++◌, Some, Ok, length, map, slice_get, take}
-use Rattle.{pawn_wire.specs.declared.fault.HeadFault.TheVariants.BadHead, pawn_host.specs.Common.{BearerRequest, EndsInTarget, HasNoRequest, HeadFault, Host}}
+use Rattle.{pawn_reply.specs.declared.fault.HeadFault.TheVariants.BadHead, pawn_host.specs.Common.{BearerRequest, EndsInTarget, HasNoRequest, HeadFault, Host}}
 use Rattle.pawn_host.specs.Common.{Mark, ReadsRequest, Receipt, Request, RequestHead, SaysRequest, WireFault, book_trace, concat, get, is_slots, max_fields}
 use Rattle.pawn_host.specs.{Common.{max_head, no_memory, no_store, read_as, slot_trace}, Split.{Ending, cut, faulted, most_requests, IsCutHead, IsRequest}}
 use Rattle.pawn_host.specs.{Split.{HasFault, PassesOver, ClosesAfter, StopsAt, Splits, Begins, BeginsAndGoesOn, IsWanting}, Run.{Item, IsMarked, input_of}}

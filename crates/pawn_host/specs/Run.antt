@@ -2,8 +2,8 @@
 use Rattle.std.specs.Prelude.{◌≢◌, ℕ, List, map, codes, Err}
 use Rattle.pawn_host.specs.Common.{Answered, Denied, Event, Exported, Faulted, Host, Listed, Mark, Said, SaysRequest, Shown, Stamp, Replied, WireFault, csv_of}
 use Rattle.{pawn_host.specs.Common.{fault_text, no_memory, no_store, out_text, read_as, reply_text, run_host, run_replies}, pawn_view.specs.Text.presented_text}
-use Rattle.{pawn_view.specs.Sheets.sheet_text, pawn_wire.specs.declared.fault.WireFault.TheVariants.Memory}
-use Rattle.pawn_wire.specs.declared.reply.Out.TheVariants as wire
+use Rattle.{pawn_view.specs.Sheets.sheet_text, pawn_reply.specs.declared.fault.WireFault.TheVariants.Memory}
+use Rattle.pawn_reply.specs.declared.reply.Out.TheVariants as wire
 
 -- an item of a run: when it came, its bytes, and how it was answered
 pub record Item : Type 0 where

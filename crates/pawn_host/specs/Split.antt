@@ -1,7 +1,7 @@
 -- A stream as whole requests and a rest: a relation, since the grammar of heads is one.
 pub use Rattle.pawn_host.specs.Limits.{most_requests}
 use Rattle.std.specs.Prelude.{◌≡◌, ◌≢◌, ℕ, ◌<◌, ◌≤◌, ◌⊎◌, Bool, true, false, List, [], ◌∷◌, ◌++◌, length, Ok, Err}
-use Rattle.{pawn_wire.specs.declared.fault.HeadFault.TheVariants.BadHead, pawn_host.specs.Common.{HasNoRequest, HeadFault, IsBadHead, MayBecomeRequest}}
+use Rattle.{pawn_reply.specs.declared.fault.HeadFault.TheVariants.BadHead, pawn_host.specs.Common.{HasNoRequest, HeadFault, IsBadHead, MayBecomeRequest}}
 use Rattle.pawn_host.specs.Common.{ReadsHead, RequestHead, body_length, closes_by, fields_of, max_head}
 
 -- how a stream ends

@@ -3,7 +3,7 @@ use Rattle.std.specs.Prelude.{◌≡◌, ℕ, List, Result, Ok, Err}
 use Rattle.pawn_host.specs.{Common.{Keeping, Refusal, Request, Stamp, View, ViewFault, Viewer, out_text}, declared.service.Answer.Answer}
 use Rattle.pawn_host.specs.{declared.service.Service.Service, Keeps.{Answers, IsKeyOf, Serves, Tells}}
 use Rattle.pawn_host.specs.Keeps.{answer_bytes}
-use Rattle.pawn_wire.specs.declared.reply.Out.TheVariants as wire
+use Rattle.pawn_reply.specs.declared.reply.Out.TheVariants as wire
 
 -- a call of the service answers this request
 abbrev pub ServesRequest : {K : Type 0} → Keeping K → Service K → Service K → Stamp → Request → Answer → Type 0

@@ -3,15 +3,16 @@ ghost use Rattle.std.specs.Prelude.{◌≡◌, IfOk, OnErr, map};
 ghost use Rattle.pawn_host.specs.{Common.{Bearer, Present, Viewer, out_text}, Keeps.{IsActed, IsRun, Serves, StaysOpen, Tells}};
 ghost use Rattle.pawn_host.specs.{Keeps.{answer_bytes, service_keep, service_operator}, Headline.IsRunOfSlots, Views.{ServesHolder, ServesRequest, TellsView}};
 ghost use Rattle.pawn_book.specs.{Plans.IsWritten, declared.request.View.TheVariants.{Pledge, Rows, Sheet}};
-ghost use Rattle.pawn_wire.specs.declared.reply.Out.TheVariants as wire;
+ghost use Rattle.pawn_reply.specs.declared.reply.Out.TheVariants as wire;
 
 use pawn_book::{
     BearerRequest, Caller, Keep, Number, Receipts, Refusal, Reply, Request, RequestDay, Secret,
     Stamp, View, commit, gate, plan,
 };
 use pawn_csv::{RowWriter, export};
+use pawn_reply::{Out, write_reply};
 use pawn_view::{show_day_sheet, show_presented, show_statement};
-use pawn_wire::{Out, Router, read_request, write_reply};
+use pawn_wire::{Router, read_request};
 use pawn_writing::{ViewFault, Writing};
 use std::alloc::{AllocError, Global};
 

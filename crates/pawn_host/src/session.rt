@@ -10,7 +10,8 @@ use crate::limits::{MOST_READS, MOST_REQUESTS};
 use crate::reading::Reading;
 use crate::service::{Answer, Service};
 use pawn_book::{Keep, Stamp};
-use pawn_wire::{HeadFacts, HeadFault, HeadRead, fault_reply, memory_reply, read_head};
+use pawn_reply::{HeadFault, fault_reply, memory_reply};
+use pawn_wire::{HeadFacts, HeadRead, read_head};
 use pawn_writing::{Writing, send};
 use std::io::{Read, Write};
 

@@ -4,7 +4,8 @@
 use pawn_book::{
     BrokerRequest, Caller, Kind, Number, PledgeRefusal, Receipt, Refusal, Reply, Request, Secret,
 };
-use pawn_wire::{Out, Router, WireFault, read_request, write_reply};
+use pawn_reply::{Out, WireFault, write_reply};
+use pawn_wire::{Router, read_request};
 use std::alloc::{AllocError, Global};
 use std::process::Abort;
 use std::test::Fail;

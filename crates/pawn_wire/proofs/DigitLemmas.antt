@@ -2,14 +2,11 @@
 use Rattle.std.proofs.Common.{◌≡◌, ℕ, zero, suc, ◌+◌, ◌*◌, ◌-◌, ◌^◌, ◌<◌, ◌≤◌, List, [], ◌∷◌, length, take, get_or, refl, arith, Bool, true, false, length-take}
 use Rattle.std.proofs.{Common.{lit<, IsTrue, ◌&&◌, nat_lt, nat_le}, lemmas.{Grind.common_steps, Str.Parse.digit_at, Int.Digits.digits_value-lt}}
 use Rattle.{std.proofs.{lemmas.{Int.Digits.digits_value_push, List.take_more}, Math.Nat.pow-le-pow_right}, pawn_wire.specs.Common.{AllDigits, digit_value}}
+use Rattle.pawn_reply.proofs.DayLemmas.{both_true}
 use Rattle.pawn_wire.specs.{Common.{digits_value, is_ascii_digit, list_all}, Numeral.is_short_numeral, Limits.max_digits}
 
 pub digit_small : (c : ℕ) → IsTrue (is_ascii_digit c) → (digit_value c ≡ c - 48) × (48 ≤ c) × (c < 58)
 digit_small c h = grind (arith, common_steps)
-
-pub both_true : (a b : Bool) → IsTrue (a && b) → IsTrue a × IsTrue b
-both_true true b h = (refl, h)
-both_true false b h = absurd (cc)
 
 pub all_digits : (v : List ℕ) → IsTrue (list_all is_ascii_digit v) → AllDigits 10 v
 all_digits [] h = tt

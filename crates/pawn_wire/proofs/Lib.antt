@@ -1,7 +1,4 @@
-pub mod BodyLemmas
-pub mod DayLemmas
 pub mod DigitLemmas
-pub mod DoneLemmas
 pub mod FieldLemmas
 pub mod HeadLemmas
 pub mod NamedLemmas

@@ -6,7 +6,8 @@ use Rattle.std.proofs.lemmas.{Fmt.{decimal_digit, decimal_is_IsNumeral, first_de
 use Rattle.{std.proofs.{lemmas.{Bool.Decides.nat_tests, Slice.Eq.bytes_eq-Decides}, Math.Nat.pow-le-pow_right}, pawn_wire.specs.Common.{AllDigits, Civil}}
 use Rattle.pawn_wire.specs.Common.{IsNumber, IsStampDay, IsWritable, civil_of, civil_text, day_number, day_text, digit, digit_value, digits_value, first_day}
 use Rattle.pawn_wire.specs.{Common.{is_ascii_digit, last_stamp_day, list_all}, Named.{number_said, day_said, is_numeral, civil_said, is_text_of_day}}
-use Rattle.{pawn_wire.proofs.DigitLemmas.{both_true, all_digits}, pawn_terms.proofs.{AgreementLemmas.day_number-of, TextLemmas.civil_of-stamp}}
+use Rattle.{pawn_reply.proofs.DayLemmas.both_true, pawn_wire.proofs.DigitLemmas.all_digits}
+use Rattle.pawn_terms.proofs.{AgreementLemmas.day_number-of, TextLemmas.civil_of-stamp}
 
 -- ---- numbers of books and pledges
 

@@ -7,7 +7,8 @@ use Rattle.{std.{specs.Option.ok_or, proofs.lemmas.{Bool.{cases_lt, false≢true
 use Rattle.pawn_wire.specs.Common.{HeaderSpan, IsReceiptText, MOST_RECEIPTS, Receipt, after_first, before_first, header_bytes, list_all, position_or_len}
 use Rattle.pawn_wire.specs.{Common.{secret_of_text, str_eq_ignore_ascii_case}, Types.{BadReceipt, WireFault}, Chain.{Says, and_then}, Receipts.all_said}
 use Rattle.pawn_wire.specs.{Receipts.{is_hyphen, receipt_said, receipt_values, receipts_said}, Named.number_said, Fields.{value_under, values_of}}
-use Rattle.pawn_wire.proofs.{FieldLemmas.{values_hit, values_other}, DigitLemmas.both_true, NamedLemmas.{none_said, number_said-is, number_said-some}}
+use Rattle.pawn_reply.proofs.DayLemmas.{both_true}
+use Rattle.pawn_wire.proofs.{FieldLemmas.{values_hit, values_other}, NamedLemmas.{none_said, number_said-is, number_said-some}}
 use Rattle.uuid.proofs.OnLiterals.{uuid_on_literals}
 
 -- ---- a text is cut at its first hyphen

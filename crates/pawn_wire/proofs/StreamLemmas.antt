@@ -4,7 +4,7 @@ use Rattle.std.proofs.{Common.{inl, inr, true, false, Bool, IsTrue, nat_lt, unwr
 use Rattle.{std.proofs.Math.Seq.take-append-add, httparse.specs.Grammar.{IsRequestHead, RequestHead, is_token_byte, is_uri_byte, lf, print_request}}
 use Rattle.{httparse.proofs.GrammarLemmas.{ReadsRequest-append, print_request-append}, pawn_wire.specs.{Common.{RequestOverflows, first_of}, Head.IsBadHead}}
 use Rattle.pawn_wire.specs.{Head.{IsHead, NeverHasHead, ReadsHead, body_length, fields_of, length_by}, Fields.Pair, Limits.{max_body, max_fields, max_head}}
-use Rattle.pawn_wire.specs.{declared.fault.HeadFault.TheVariants.{Transfer, BadLength, BodyTooLong}, Types.HeadFacts}
+use Rattle.{pawn_reply.specs.declared.fault.HeadFault.TheVariants.{Transfer, BadLength, BodyTooLong}, pawn_wire.specs.Types.HeadFacts}
 
 -- a head stays one, whatever follows
 pub reads_more : (s more : List ℕ) (h : RequestHead) (rest : List ℕ) → ReadsHead s h rest → ReadsHead (s ++ more) h (rest ++ more)

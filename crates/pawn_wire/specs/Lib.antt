@@ -1,12 +1,9 @@
 pub mod Types
 pub mod Asked
-pub mod Bodies
 pub mod Body
 pub mod Callers
 pub mod Chain
 pub mod Commands
-pub mod Done
-pub mod Fault
 pub mod Fields
 pub mod Head
 pub mod Laws
@@ -16,11 +13,8 @@ pub mod Named
 pub mod Numeral
 pub mod Place
 pub mod Receipts
-pub mod Reply
 pub mod Request
 pub mod Route
-pub mod Status
 pub mod WorkedHeads
-pub mod WorkedReplies
 pub mod WorkedRequests
 pub mod Common

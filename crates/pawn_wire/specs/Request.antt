@@ -1,7 +1,8 @@
 -- Requests.
 use Rattle.std.specs.Prelude.{◌≡◌, ◌≢◌, ℕ, ◌⊎◌, ◌==◌, Bool, not, List, [], ◌∷◌, ◌++◌, map, length, bytes_eq, unwrap_or, Result, Ok, Err}
 use Rattle.pawn_wire.specs.{Common.{BookRows, Broker, CsvFault, Import, Request, first_of, Cause}, Callers.asks_said, Chain.{OrMemory, after, or_fault}}
-use Rattle.pawn_wire.specs.{Fault.wire_fault, Fields.Pair, Head.{ReadsHead, fields_of, length_by, field_faults}, Place.{method_of, place_of}, Types.{Asks, Csv}}
+use Rattle.pawn_reply.specs.Fault.{wire_fault}
+use Rattle.pawn_wire.specs.{Fields.Pair, Head.{ReadsHead, fields_of, length_by, field_faults}, Place.{method_of, place_of}, Types.{Asks, Csv}}
 use Rattle.{pawn_wire.specs.Types.{NoRoute, Outline, WireFault, WrongMethod}, csv.specs.Reading.strip_bom, pawn_csv.specs.Reading.{IsFirstCause, IsTextOf}}
 use Rattle.httparse.specs.Grammar.{RequestHead}
 

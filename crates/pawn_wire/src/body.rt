@@ -3,9 +3,9 @@ ghost use Rattle.std.specs.Prelude.{◌≡◌};
 ghost use Rattle.pawn_wire.specs.{Common.{MOST_BOOKINGS, view}, Types.BadBody, Chain.GivesPart, Body.{day_or_null, kind_named, kind_of, new_book_of}};
 ghost use Rattle.pawn_wire.specs.{Body.{new_terms_of, opening_of, optional_day_at}, Member.in_range};
 
-use crate::fault::WireFault;
 use crate::member;
 use pawn_book::{Capacity, Kind, NewBook, NewTerms, Opening, Rates, RequestDay};
+use pawn_reply::WireFault;
 use serde_json::Value;
 use std::alloc::Global;
 

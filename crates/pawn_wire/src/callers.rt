@@ -3,12 +3,12 @@ ghost use Rattle.std.specs.Prelude.{◌≡◌, codes};
 ghost use Rattle.pawn_wire.specs.{Types.{Create, Export, Import, OnPledge, OnReceipt, Present, PutTerms, Show, ShowDay, TakePledge}, Chain.Says};
 ghost use Rattle.pawn_wire.specs.{Callers.{asks_said, key_given}, Fields.pairs_of};
 
-use crate::fault::WireFault;
 use crate::fields::{Fields, Found};
 use crate::place::Target;
 use crate::route::{BearerAction, BrokerAction};
 use crate::{body, commands, member, receipts};
 use pawn_book::{BearerRequest, BrokerRequest, Caller, Number, RequestDay, Secret, View};
+use pawn_reply::WireFault;
 use std::alloc::Global;
 
 /// What a request has besides its method and target.

@@ -4,10 +4,10 @@ ghost use Rattle.{pawn_pledge.specs.Commands.{is_brokers, is_bearers}, pawn_wire
 ghost use Rattle.pawn_wire.specs.{Commands.{bearers_command_said, brokers_command_said, decision_by, decision_of, paper_named, paper_of}, Member.body_said};
 ghost use Rattle.pawn_wire.specs.Member.{day_at, number_at};
 
-use crate::fault::WireFault;
 use crate::member;
 use crate::route::{BearerAction, BrokerAction};
 use pawn_book::{BearerCommand, BrokerCommand, Command, Decision, Paper, RequestDay};
+use pawn_reply::WireFault;
 use std::alloc::Global;
 
 /// An entry to be made: its number in the pledge, and its sum in pence.

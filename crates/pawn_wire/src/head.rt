@@ -2,12 +2,12 @@
 ghost use Rattle.std.specs.Prelude.{◌≡◌, ◌+◌, ◌≤◌};
 ghost use Rattle.pawn_wire.specs.{Head.{IfWhole, IsHeadRead, body_length, closes_by}, Limits.{max_body, max_head}, Fields.pairs_of};
 
-use crate::fault::HeadFault;
 use crate::fields::{Fields, Found};
 use crate::limits::{MAX_BODY, MAX_FIELDS, MAX_HEAD};
 use crate::numeral::decimal;
 use httparse::Status;
 use httparse::spans::{EMPTY_HEADER_SPAN, RequestSpans, parse_request};
+use pawn_reply::HeadFault;
 
 /// What is known of a request from its whole head.
 #[derive(Clone, Copy)]

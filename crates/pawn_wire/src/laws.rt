@@ -1,10 +1,5 @@
 //! Laws of the definitions.
-ghost use Rattle.pawn_wire.specs.Laws.{BodiesAreJson, RequestsAreWithin, ReadingIsUnique, NumbersAreSaid, DaysAreSaid, TargetsAreFound};
-
-/// The bodies of replies are compact JSON, with their members in the order of their names.
-pub fn bodies_are_json()
-    ensures law { BodiesAreJson }
-{}
+ghost use Rattle.pawn_wire.specs.Laws.{RequestsAreWithin, ReadingIsUnique, NumbersAreSaid, DaysAreSaid, TargetsAreFound};
 
 /// Bytes can be read in one way only, as one request or one fault, and each part of a request is within its limits.
 pub fn laws_of_readings()

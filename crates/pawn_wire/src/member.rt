@@ -3,9 +3,9 @@ ghost use Rattle.std.specs.Prelude.{◌≡◌, option_copied};
 ghost use Rattle.{serde_json.specs.View.view, pawn_wire.specs.{Types.BadBody, Chain.GivesPart, Member.{JsonOf, day_at, flag_at, key_at, number_at, string_at}}};
 ghost use Rattle.pawn_wire.specs.{Member.text_at, Named.day_said};
 
-use crate::fault::WireFault;
 use crate::limits::MAX_NUMBER;
 use pawn_book::{Day, RequestDay, Secret, Text};
+use pawn_reply::WireFault;
 use serde_json::Value;
 use std::alloc::Global;
 

@@ -3,9 +3,9 @@ ghost use Rattle.std.specs.Prelude.{◌≡◌, ◌⊎◌, Some, None, MatchResul
 ghost use Rattle.pawn_wire.specs.{Types.{BadReceipt, Memory}, Chain.Says, Receipts.{all_said, one_said, receipt_said, receipt_values, receipts_said}};
 ghost use Rattle.pawn_wire.specs.Fields.{pairs_of};
 
-use crate::fault::WireFault;
 use crate::fields::{Fields, Found};
 use pawn_book::{MOST_RECEIPTS, Receipt, Receipts};
+use pawn_reply::WireFault;
 use std::alloc::Global;
 
 const FIELD: &[u8] = b"pledge-receipt";

@@ -4,7 +4,6 @@ ghost use Rattle.pawn_wire.specs.{Common.{Broker, Import}, Request.{HoldsRows, I
 ghost use Rattle.pawn_wire.specs.Fields.{pairs_of};
 
 use crate::callers::{Asks, Sent, who_asks};
-use crate::fault::WireFault;
 use crate::fields::Fields;
 use crate::head::body_length;
 use crate::limits::{MAX_FIELDS, MAX_HEAD};
@@ -14,6 +13,7 @@ use httparse::Status;
 use httparse::spans::{EMPTY_HEADER_SPAN, parse_request};
 use pawn_book::{BrokerRequest, Caller, Number, Request, Secret};
 use pawn_csv::{ReplayableRows, read_book};
+use pawn_reply::WireFault;
 use std::alloc::Global;
 
 /// A request as read so far: its book, and who asks what. The rows of an import are still to be read.

@@ -1,5 +1,4 @@
-ghost use Rattle.pawn_wire.specs.{WorkedHeads.{WorkedHeads, WorkedLengths, WorkedConnections}, WorkedReplies.{WorkedReplyStatuses, WorkedRefusals}};
-ghost use Rattle.pawn_wire.specs.{WorkedReplies.{WorkedFaults, WorkedAnswers}, WorkedRequests.{WorkedLimits, WorkedTargets, WorkedNoTargets}};
+ghost use Rattle.pawn_wire.specs.{WorkedHeads.{WorkedHeads, WorkedLengths, WorkedConnections}, WorkedRequests.{WorkedLimits, WorkedTargets, WorkedNoTargets}};
 ghost use Rattle.pawn_wire.specs.WorkedRequests.{WorkedPathNumbers, WorkedDayTexts, WorkedKeys, WorkedReceiptLists, WorkedBodies, WorkedCommands, WorkedOrder};
 ghost use Rattle.pawn_wire.specs.WorkedRequests.{WorkedRequests};
 
@@ -43,12 +42,4 @@ pub fn worked_bodies()
 pub fn worked_requests()
     ensures requests { WorkedRequests }
     ensures order { WorkedOrder }
-{}
-
-/// Examples of statuses and of whole replies.
-pub fn worked_replies()
-    ensures statuses { WorkedReplyStatuses }
-    ensures refusals { WorkedRefusals }
-    ensures faults { WorkedFaults }
-    ensures answers { WorkedAnswers }
 {}

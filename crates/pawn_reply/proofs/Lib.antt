@@ -1,0 +1,3 @@
+pub mod BodyLemmas
+pub mod DayLemmas
+pub mod DoneLemmas

@@ -1,0 +1,9 @@
+pub mod Types
+pub mod Bodies
+pub mod Done
+pub mod Fault
+pub mod Laws
+pub mod Reply
+pub mod Status
+pub mod WorkedReplies
+pub mod Common

@@ -1,0 +1,7 @@
+//! Laws of the definitions.
+ghost use Rattle.pawn_reply.specs.Laws.{BodiesAreJson};
+
+/// The bodies of replies are compact JSON, with their members in the order of their names.
+pub fn bodies_are_json()
+    ensures law { BodiesAreJson }
+{}

@@ -1,0 +1,164 @@
+//! Replies to bytes.
+ghost use Rattle.std.specs.Prelude.{◌≡◌, IfOk, string_bytes};
+ghost use Rattle.{pawn_pledge.specs.Receipt.receipt_text, pawn_reply.specs.{Bodies.{book_text, filled_text, opened_text, version_text}, Done.commanded_text}};
+ghost use Rattle.pawn_reply.specs.{Reply.{done_text, fault_text, head_text, json_text, memory_text, out_text, refused_text, reply_text}, Fault.wire_fault};
+
+use crate::detail::Detail;
+use crate::fault::{HeadFault, WireFault};
+use crate::status::status_of;
+use crate::{bodies, done};
+use http::StatusCode;
+use pawn_book::{Done, Number, Receipt, Refusal, Reply};
+use std::alloc::{AllocError, Global};
+
+/// What a reply is to say.
+#[derive(Drop)]
+pub enum Out {
+    /// The request was done, and this is the reply to it.
+    Done(Reply),
+    /// The request was refused.
+    Refused(Refusal),
+    /// The bytes are no request.
+    Fault(WireFault),
+    /// Lines of text, as `text/plain`.
+    Plain(Vec<u8>),
+    /// The rows of a book as comma-separated columns, as `text/csv`.
+    Csv(Vec<u8>),
+}
+
+/// The bytes of the reply when memory is refused: status 503, with the number 491. Being a constant, it takes no
+/// memory.
+pub const MEMORY_REPLY: &[u8] =
+    b"HTTP/1.1 503 Service Unavailable\r\nContent-Length: 28\r\nContent-Type: application/json\r\n\r\n{\"code\":491,\"name\":\"Memory\"}";
+
+const BAD_HEAD_REPLY: &[u8] =
+    b"HTTP/1.1 400 Bad Request\r\nContent-Length: 29\r\nContent-Type: application/json\r\n\r\n{\"code\":701,\"name\":\"BadHead\"}";
+
+const TRANSFER_REPLY: &[u8] =
+    b"HTTP/1.1 400 Bad Request\r\nContent-Length: 30\r\nContent-Type: application/json\r\n\r\n{\"code\":703,\"name\":\"Transfer\"}";
+
+const BAD_LENGTH_REPLY: &[u8] =
+    b"HTTP/1.1 400 Bad Request\r\nContent-Length: 31\r\nContent-Type: application/json\r\n\r\n{\"code\":704,\"name\":\"BadLength\"}";
+
+const BODY_TOO_LONG_REPLY: &[u8] =
+    b"HTTP/1.1 400 Bad Request\r\nContent-Length: 33\r\nContent-Type: application/json\r\n\r\n{\"code\":705,\"name\":\"BodyTooLong\"}";
+
+/// The reply when memory is refused: `MEMORY_REPLY`.
+pub fn memory_reply() -> &'static [u8]
+    ensures text { result.now ≡ memory_text }
+{
+    MEMORY_REPLY
+}
+
+/// The reply to a head that can't begin a request. It takes no memory.
+pub fn fault_reply(fault: HeadFault) -> &'static [u8]
+    ensures text { result.now ≡ fault_text (wire_fault fault) }
+{
+    match fault {
+        HeadFault::BadHead => BAD_HEAD_REPLY,
+        HeadFault::Transfer => TRANSFER_REPLY,
+        HeadFault::BadLength => BAD_LENGTH_REPLY,
+        HeadFault::BodyTooLong => BODY_TOO_LONG_REPLY,
+    }
+}
+
+fn head(alloc: Global, status: StatusCode, length: usize, kind: &str) -> Result<String, AllocError>
+    ensures text { IfOk result (λ s. string_bytes s ≡ head_text status length kind.now) }
+{
+    format!(in alloc;
+        "HTTP/1.1 {status}\r\nContent-Length: {length}\r\nContent-Type: {kind}\r\n\r\n"
+    )
+}
+
+fn reply(alloc: Global, status: StatusCode, kind: &str, body: &[u8]) -> Result<Vec<u8>, AllocError>
+    ensures text { IfOk result (λ v. v.items ≡ reply_text status kind.now body.now) }
+{
+    let head = head(alloc, status, body.len(), kind)?;
+    let mut bytes = Vec::from_slice(alloc, head.as_bytes())?;
+    bytes.extend_from_slice(body)?;
+    Ok(bytes)
+}
+
+fn json_reply(alloc: Global, status: StatusCode, body: &str) -> Result<Vec<u8>, AllocError>
+    ensures text { IfOk result (λ v. v.items ≡ json_text status body.now) }
+{
+    reply(alloc, status, "application/json", body.as_bytes())
+}
+
+fn refusal_reply(
+    alloc: Global,
+    code: u16,
+    name: &str,
+    detail: Option<Detail>,
+) -> Result<Vec<u8>, AllocError>
+    ensures text { IfOk result (λ v. v.items ≡ refused_text code name.now detail) }
+{
+    let body = bodies::refusal(alloc, code, name, detail)?;
+    json_reply(alloc, status_of(code), body.as_str())
+}
+
+fn book_reply(alloc: Global, book: Number) -> Result<Vec<u8>, AllocError>
+    ensures text { IfOk result (λ v. v.items ≡ json_text 200 (book_text book)) }
+{
+    let body = bodies::book(alloc, book.get())?;
+    json_reply(alloc, StatusCode::OK, body.as_str())
+}
+
+fn version_reply(alloc: Global, version: u64) -> Result<Vec<u8>, AllocError>
+    ensures text { IfOk result (λ v. v.items ≡ json_text 200 (version_text version)) }
+{
+    let body = bodies::version(alloc, version)?;
+    json_reply(alloc, StatusCode::OK, body.as_str())
+}
+
+fn filled_reply(alloc: Global, pledges: u64) -> Result<Vec<u8>, AllocError>
+    ensures text { IfOk result (λ v. v.items ≡ json_text 200 (filled_text pledges)) }
+{
+    let body = bodies::filled(alloc, pledges)?;
+    json_reply(alloc, StatusCode::OK, body.as_str())
+}
+
+fn opening_reply(alloc: Global, receipt: Receipt) -> Result<Vec<u8>, AllocError>
+    ensures text { IfOk result (λ v. v.items ≡ json_text 200 (opened_text receipt.number (receipt_text receipt))) }
+{
+    let number = receipt.number.get();
+    let text = receipt.text(alloc)?;
+    let body = bodies::opening(alloc, number, text.as_str())?;
+    json_reply(alloc, StatusCode::OK, body.as_str())
+}
+
+fn command_reply(alloc: Global, number: Number, done: Done) -> Result<Vec<u8>, AllocError>
+    ensures text { IfOk result (λ v. v.items ≡ json_text 200 (commanded_text number done)) }
+{
+    let body = done::tell_done(alloc, number, done)?;
+    json_reply(alloc, StatusCode::OK, body.as_str())
+}
+
+fn done_reply(alloc: Global, reply: Reply) -> Result<Vec<u8>, AllocError>
+    ensures text { IfOk result (λ v. v.items ≡ json_text 200 (done_text reply)) }
+{
+    match reply {
+        Reply::BookMade(book) => book_reply(alloc, book),
+        Reply::TermsPut(version) => version_reply(alloc, version),
+        Reply::BookFilled(pledges) => filled_reply(alloc, pledges),
+        Reply::Opened(receipt) => opening_reply(alloc, receipt),
+        Reply::Commanded { number, done } => command_reply(alloc, number, done),
+    }
+}
+
+/// The bytes of a reply: a head with its status and its body's length and type, and then the body. Fails only if memory
+/// is refused.
+pub fn write_reply(alloc: Global, out: &Out) -> Result<Vec<u8>, AllocError>
+    ensures text { IfOk result (λ v. v.items ≡ out_text out.now) }
+{
+    match out {
+        Out::Done(reply) => done_reply(alloc, *reply),
+        Out::Refused(refusal) => {
+            let total = refusal.total().map(Detail::Total);
+            refusal_reply(alloc, refusal.code(), refusal.name(), total)
+        }
+        Out::Fault(fault) => refusal_reply(alloc, fault.code(), fault.name(), fault.detail()),
+        Out::Plain(text) => reply(alloc, StatusCode::OK, "text/plain; charset=utf-8", text),
+        Out::Csv(text) => reply(alloc, StatusCode::OK, "text/csv; charset=utf-8", text),
+    }
+}

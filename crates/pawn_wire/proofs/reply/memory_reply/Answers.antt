@@ -1,6 +1,0 @@
-use Rattle.std.{proofs.Common.refl, specs.Fmt.digits}
-use Rattle.pawn_wire.proofs.reply.memory_reply.Goals as goal
-
-pub returns : goal.returns
-unfolding digits
-returns c = record { text = refl }
