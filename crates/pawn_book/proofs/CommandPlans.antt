@@ -1,11 +1,11 @@
 -- A plan of a command is the book's step.
 use Rattle.std.proofs.Common.{◌≡◌, ℕ, Some, None, Ok, Err, refl, ◌∙◌, ap, sym, subst, arith, inl, inr, if◌then◌else◌, Option, Result, Bool, true, false, IfSome}
-use Rattle.{std.{proofs.Common.IfOk, specs.FinMap.get}, pawn_book.specs.Common.{Agreement, Answered, Changed, Command, Done, IsStanding, IsUtf8, Judged}}
+use Rattle.{std.specs.FinMap.get, pawn_book.specs.Common.{Agreement, Answered, Changed, Command, Done, IsStanding, IsUtf8, Judged}}
 use Rattle.pawn_book.specs.{Common.{PledgeValue, Receipt, Refused, Stamp, pledge_step}, Rows.{AreDistinct, IsUnder, terms_at}, Sound.{AreSound, AreWords}}
 use Rattle.pawn_book.specs.{Sound.{HasTextsAndWords, IsSound, IsSoundBook, IsWord}, BookStep.{BookValue, Makes, Outcome, Refuses, Says, bearer_commands}}
 use Rattle.pawn_book.specs.BookStep.{broker_commands, changed_book, is_live, judged_outcome, live_at, only_live, pledge_from, pledge_in, put_from}
 use Rattle.pawn_book.specs.{BookStep.within_window, Changes.{CanSave, Continues, book_number, with_change}, Books.{Change, Planned, PutPledge, Refusal, Reply}}
-use Rattle.pawn_book.{specs.{HostStep.{Host, with_book}, Plans.{IsOutcome, Plans, outcome_of}}, proofs.{KeptLemmas.kept_moved, Places.pledge_within}}
+use Rattle.pawn_book.{specs.{HostStep.{Host, with_book}, Plans.{FindsRoom, IsOutcome, Plans, outcome_of}}, proofs.{KeptLemmas.kept_moved, Places.pledge_within}}
 use Rattle.pawn_book.proofs.{Words.words_moved, SoundLists.{map-put, versions_put}, Plans.changed_is, Sounds.{absurd_none, each_at, each_put, length-put}}
 use Rattle.{pawn_book.proofs.Sounds.{numbered_at, numbered_put, sound_with}, pawn_pledge.{specs.Commands.IsCommand, proofs.Steps.stays_standing}}
 use Rattle.pawn_terms.specs.Calendar.{IsDayNumber, IsStampDay}
@@ -107,24 +107,29 @@ receipt_plans h b r p stamp command (Ok planned) sound live day word given is =
 receipt_plans h b r p stamp command (Err why) sound live day word given (inl unwell) = inl unwell
 receipt_plans h b r p stamp command (Err why) sound live day word given (inr is) = inr (ap (bearer_commands b r.number stamp command) (sym live) ∙ is)
 
--- a broker's command, once its window was looked at
-pub number_plans : (h : Host) (b n : ℕ) (at : BookValue) (p : PledgeValue) (stamp : Stamp) (command : Command) (planned : Planned) (result : Result Planned
-    Refusal) → IsSound h → get h.books b ≡ Some at → Some p ≡ pledge_in (get h.books b) n → IsStampDay stamp.day → IsWord stamp.word → IsCommand command
-    → judged_outcome b n (pledge_step p stamp command) ≡ outcome_of planned.change planned.reply → IsOutcome (within_window at (outcome_of planned.change
-    planned.reply)) result → IfOk result (λ q. q ≡ planned) → Plans h b (broker_commands at b n stamp command (pledge_from 1 at.pledges n)) result
-number_plans h b n at p stamp command planned result sound is stands day word given judged roomed same = from result roomed same where
-  there : pledge_from 1 at.pledges n ≡ Some p
-  there = ap (λ o. pledge_in o n) (sym is) ∙ sym stands
+-- what a broker's command comes to is the window's say on what was planned
+room_steps : (h : Host) (b n : ℕ) (at : BookValue) (p : PledgeValue) (stamp : Stamp) (command : Command) (planned : Planned) → get h.books b ≡ Some at
+    → Some p ≡ pledge_in (get h.books b) n → judged_outcome b n (pledge_step p stamp command) ≡ outcome_of planned.change planned.reply
+    → broker_commands at b n stamp command (pledge_from 1 at.pledges n) ≡ within_window at (outcome_of planned.change planned.reply)
+room_steps h b n at p stamp command planned is stands judged =
+    ap (broker_commands at b n stamp command) (ap (λ o. pledge_in o n) (sym is) ∙ sym stands) ∙ ap (within_window at) judged
 
-  steps : broker_commands at b n stamp command (pledge_from 1 at.pledges n) ≡ within_window at (outcome_of planned.change planned.reply)
-  steps = ap (broker_commands at b n stamp command) there ∙ ap (within_window at) judged
+-- a broker's command for which there is room
+pub number_plans : (h : Host) (b n : ℕ) (at : BookValue) (p : PledgeValue) (stamp : Stamp) (command : Command) (planned : Planned) → IsSound h
+    → get h.books b ≡ Some at → Some p ≡ pledge_in (get h.books b) n → IsStampDay stamp.day → IsWord stamp.word → IsCommand command
+    → judged_outcome b n (pledge_step p stamp command) ≡ outcome_of planned.change planned.reply
+    → FindsRoom at (outcome_of planned.change planned.reply) (Ok tt)
+    → Plans h b (broker_commands at b n stamp command (pledge_from 1 at.pledges n)) (Ok planned)
+number_plans h b n at p stamp command planned sound is stands day word given judged roomed = (
+  room_steps h b n at p stamp command planned is stands judged ∙ roomed,
+  command_saves h b n p stamp command planned.change planned.reply sound (sym stands) day word given judged,
+)
 
-  from : (r : Result Planned Refusal) → IsOutcome (within_window at (outcome_of planned.change planned.reply)) r → IfOk r (λ q. q ≡ planned)
-      → Plans h b (broker_commands at b n stamp command (pledge_from 1 at.pledges n)) r
-  from (Ok q) told as_planned = (
-    steps ∙ told,
-    subst (λ (x : Planned). IfSome x.change (λ c. (book_number c ≡ b) × CanSave h c)) (sym as_planned)
-        (command_saves h b n p stamp command planned.change planned.reply sound (sym stands) day word given judged),
-  )
-  from (Err why) (inl unwell) as_planned = inl unwell
-  from (Err why) (inr told) as_planned = inr (steps ∙ told)
+-- a broker's command for which there is none
+pub number_refused : (h : Host) (b n : ℕ) (at : BookValue) (p : PledgeValue) (stamp : Stamp) (command : Command) (planned : Planned) (why : Refusal)
+    → get h.books b ≡ Some at → Some p ≡ pledge_in (get h.books b) n
+    → judged_outcome b n (pledge_step p stamp command) ≡ outcome_of planned.change planned.reply
+    → FindsRoom at (outcome_of planned.change planned.reply) (Err why)
+    → Plans h b (broker_commands at b n stamp command (pledge_from 1 at.pledges n)) (Err why)
+number_refused h b n at p stamp command planned why is stands judged (inl unwell) = inl unwell
+number_refused h b n at p stamp command planned why is stands judged (inr told) = inr (room_steps h b n at p stamp command planned is stands judged ∙ told)

@@ -3,7 +3,8 @@ use Rattle.std.specs.Prelude.{◌≡◌, ◌⊎◌, ℕ, ◌≤◌, ◌<◌, Opt
 use Rattle.{pawn_pledge.specs.declared.command.Stamp.Stamp, pawn_book.specs.declared.request.Caller.{Caller, TheVariants.{Operator, Broker, Viewer, Bearer}}}
 use Rattle.pawn_book.specs.declared.{request.{BearerRequest.BearerRequest, Request.Request}, reply.Reply.Reply}
 use Rattle.pawn_book.specs.{declared.{refusal.Refusal.Refusal, change.{BookHead.BookHead, Change.Change, Planned.Planned}}, BookStep.{BookValue, Outcome}}
-use Rattle.pawn_book.specs.{BookStep.{Replied, Refuses, Says, Makes, out_of, gate_step, book_head}, HostStep.{Host, rows, host_step, host_after}, Sound.IsSound}
+use Rattle.pawn_book.specs.BookStep.{Replied, Refuses, Says, Makes, out_of, gate_step, book_head, within_window}
+use Rattle.pawn_book.specs.{HostStep.{Host, rows, host_step, host_after}, Sound.IsSound}
 use Rattle.pawn_book.specs.{Changes.{CanSave, book_number, with_change}, Keeping.IsFitting}
 use Rattle.pawn_book.specs.declared.request.BearerRequest.TheVariants as bearer
 use Rattle.pawn_book.specs.declared.refusal.Refusal.TheVariants as No
@@ -31,6 +32,11 @@ Plans h b outcome (Err why) = IsRefused outcome why
 abbrev pub IsOutcome : Outcome → Result Planned Refusal → Type 0
 IsOutcome outcome (Ok planned) = outcome ≡ outcome_of planned.change planned.reply
 IsOutcome outcome (Err why) = IsRefused outcome why
+
+-- an outcome has room in its window, or is refused for it, or a keeper did not answer
+abbrev pub FindsRoom : BookValue → Outcome → Result (Unit {0}) Refusal → Type 0
+FindsRoom book outcome (Ok done) = within_window book outcome ≡ outcome
+FindsRoom book outcome (Err why) = IsRefused (within_window book outcome) why
 
 -- the gate lets the holder of the book's key in; whatever is asked behind it is refused to anyone else
 abbrev pub Gates : Option BookValue → ℕ → Result BookHead Refusal → Type 0

@@ -47,7 +47,10 @@ pub fn act<K: Keep>(
         (λ h. (left : Host) → K.keeping.leaves keep.new left → IsLeftByAct h operator stamp.now request.now (K.keeping.leaves keep.old) result left) }
     ensures steady { IsQuiet K.keeping keep.old result }
 {
-    let planned = plan(alloc, keep, operator, stamp, request)?;
-    commit(keep, &planned)?;
-    Ok(planned.reply)
+    let (done, reply) = {
+        let planned = plan(alloc, keep, operator, stamp, request)?;
+        (commit(keep, &planned), planned.reply)
+    };
+    done?;
+    Ok(reply)
 }

@@ -2,7 +2,7 @@
 ghost use Rattle.std.specs.{Prelude.{◌≡◌, Err, IfOk}, FinMap.get};
 ghost use Rattle.{pawn_pledge.specs.Commands.IsCommand, pawn_terms.specs.Calendar.IsStampDay, pawn_book.specs.{Common.pledge_step, BookStep.BookValue}};
 ghost use Rattle.pawn_book.specs.BookStep.{bearer_commands, book_head, broker_commands, confirmed_booking, judged_outcome, live_at, pledge_from, pledge_in};
-ghost use Rattle.pawn_book.specs.{BookStep.within_window, Plans.{IsOutcome, Plans, outcome_of}, Keeping.{IsQuiet, Reads}, Sound.{IsSound, IsWord}};
+ghost use Rattle.pawn_book.specs.{Plans.{FindsRoom, IsOutcome, Plans, outcome_of}, Keeping.{IsQuiet, Reads}, Sound.{IsSound, IsWord}};
 
 use crate::change::{BookHead, Change, Planned};
 use crate::gates::{find_live, know_stamp, unwell_refusal};
@@ -33,7 +33,8 @@ pub(crate) fn plan_number<K: Keep>(
         Ok(Some(pledge)) => pledge,
     };
     let planned = plan_command(book, number, pledge, stamp, command)?;
-    find_room(keep, book, head, planned)
+    find_room(keep, book, head, &planned)?;
+    Ok(planned)
 }
 
 // A bearer's command on the pledge of a receipt, if the receipt is live.
@@ -96,16 +97,15 @@ fn plan_command(
     }
 }
 
-// What was planned, unless it confirms a booking whose window is full.
+// Whether there is room for what was planned. Refused as `WindowFull` if it confirms a booking whose window is full.
 fn find_room<K: Keep>(
     keep: &mut K,
     book: Number,
     head: &BookHead,
-    planned: Planned,
-) -> Result<Planned, Refusal>
+    planned: &Planned,
+) -> Result<(), Refusal>
     ensures reads { Reads K.keeping keep.old keep.new (λ h. (at : BookValue) → get h.books book ≡ Some at → head.now ≡ book_head at
-        → IsOutcome (within_window at (outcome_of planned.change planned.reply)) result) }
-    ensures same { IfOk result (λ p. p ≡ planned) }
+        → FindsRoom at (outcome_of planned.now.change planned.now.reply) result) }
     ensures steady { IsQuiet K.keeping keep.old result }
 {
     let booking = match planned.change {
@@ -113,7 +113,7 @@ fn find_room<K: Keep>(
         Some(_) => confirmed_booking(planned.reply),
     };
     let Some(booking) = booking else {
-        return Ok(planned);
+        return Ok(());
     };
     match keep.confirmed_count(book, booking.day, booking.window) {
         Err(error) => Err(unwell_refusal(error)),
@@ -121,7 +121,7 @@ fn find_room<K: Keep>(
             if confirmed >= u64::from(head.capacity.get()) {
                 return Err(Refusal::WindowFull);
             }
-            Ok(planned)
+            Ok(())
         }
     }
 }

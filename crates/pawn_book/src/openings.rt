@@ -1,8 +1,9 @@
 //! Plans of new pledges.
-ghost use Rattle.std.specs.{Prelude.{◌≡◌, Err, IfOk, Some}, FinMap.get};
+ghost use Rattle.std.specs.{Prelude.{◌≡◌, ℕ, Err, IfOk, Some}, FinMap.get};
 ghost use Rattle.{pawn_terms.specs.Calendar.IsDayNumber, pawn_book.specs.{Common.{IsSaid, IsStanding, IsUtf8}, BookStep.{BookValue, book_head, first_receipt}}};
 ghost use Rattle.pawn_book.specs.{BookStep.{is_same_opening, newest, next_pledge, take_pledge, with_reference}, Keeping.{IsQuiet, IsSteady, Reads, pledges_of}};
-ghost use Rattle.pawn_book.specs.{Sound.{IsSound, IsWord}, Plans.{IsUnwell, Plans}};
+ghost use Rattle.pawn_book.specs.{HostStep.Host, Sound.{IsSound, IsWord}, Plans.{IsUnwell, Plans}};
+ghost use Rattle.pawn_pledge.specs.declared.command.Stamp.{Stamp as StampValue};
 
 use crate::change::{BookHead, Change, Planned};
 use crate::fault::KeepError;
@@ -33,15 +34,7 @@ pub(crate) fn plan_pledge<K: Keep>(
     know_given(opening, stamp);
     match find_reference(keep, book, &opening.reference) {
         Err(error) => Err(unwell_refusal(error)),
-        Ok(Some(pledge)) => {
-            if !is_same_opening(&pledge.agreement().opening, opening) {
-                return Err(Refusal::RefTaken);
-            }
-            Ok(Planned {
-                change: None,
-                reply: Reply::Opened(first_receipt(&pledge)),
-            })
-        }
+        Ok(Some(pledge)) => plan_again(&pledge, opening),
         Ok(None) => match new_pledge(alloc, keep, book, head, opening, stamp) {
             Err(refusal) => Err(refusal),
             Ok(pledge) => {
@@ -58,6 +51,20 @@ pub(crate) fn plan_pledge<K: Keep>(
             }
         },
     }
+}
+
+// What an opening comes to if the pledge has its reference already.
+fn plan_again(pledge: &Pledge, opening: &Opening) -> Result<Planned, Refusal>
+    ensures told { (h : Host) (b : ℕ) (at : BookValue) (stamp : StampValue) → Plans h b (take_pledge at b opening.now stamp (Some pledge.now)) result }
+    ensures store { result ≡ Err Refusal.Store → ⊥ }
+{
+    if !is_same_opening(&pledge.agreement().opening, opening) {
+        return Err(Refusal::RefTaken);
+    }
+    Ok(Planned {
+        change: None,
+        reply: Reply::Opened(first_receipt(pledge)),
+    })
 }
 
 // Gives a proof of what a request gives for a new pledge: texts that are UTF-8, a word of 128 bits, and a day of the

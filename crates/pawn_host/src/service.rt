@@ -186,16 +186,32 @@ impl<K: Keep> Service<K> {
         ensures stays { StaysOpen K.keeping self.old self.new }
         ensures acted { ServesRequest K.keeping self.old self.new stamp.now request.now result }
     {
-        let planned = match plan(self.alloc, &mut self.keep, self.operator, stamp, request) {
-            Ok(planned) => planned,
-            Err(refusal) => return refuse(self.alloc, refusal),
+        let (reply, done) = {
+            let planned = match plan(self.alloc, &mut self.keep, self.operator, stamp, request) {
+                Ok(planned) => planned,
+                Err(refusal) => return refuse(self.alloc, refusal),
+            };
+            let Ok(reply) = write_done(self.alloc, planned.reply) else {
+                return Answer::Memory;
+            };
+            (reply, commit(&mut self.keep, &planned))
         };
-        let Ok(reply) = write_done(self.alloc, planned.reply) else {
-            return Answer::Memory;
-        };
-        match commit(&mut self.keep, &planned) {
+        match done {
             Ok(()) => Answer::Bytes(reply),
             Err(refusal) => refuse(self.alloc, refusal),
+        }
+    }
+
+    // Answers a request.
+    fn answer_request(&mut self, stamp: &Stamp, request: &Request) -> Answer
+        ensures stays { StaysOpen K.keeping self.old self.new }
+        ensures acted { ServesRequest K.keeping self.old self.new stamp.now request.now result }
+    {
+        match &request.caller {
+            Caller::Operator { .. } => self.act(stamp, request),
+            Caller::Broker { .. } => self.act(stamp, request),
+            Caller::Viewer { key, view } => self.gate_and_show(stamp, request.book, *key, *view),
+            Caller::Bearer(asked) => self.answer_bearer(stamp, request, asked),
         }
     }
 
@@ -208,12 +224,7 @@ impl<K: Keep> Service<K> {
             Ok(request) => request,
             Err(fault) => return tell(self.alloc, &Out::Fault(fault)),
         };
-        match &request.caller {
-            Caller::Operator { .. } => self.act(stamp, &request),
-            Caller::Broker { .. } => self.act(stamp, &request),
-            Caller::Viewer { key, view } => self.gate_and_show(stamp, request.book, *key, *view),
-            Caller::Bearer(asked) => self.answer_bearer(stamp, &request, asked),
-        }
+        self.answer_request(stamp, &request)
     }
 
     /// Answers these requests, each with its stamp, in their order. If there is no memory to list the answers, it fails

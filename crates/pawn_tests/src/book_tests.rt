@@ -404,10 +404,7 @@ fn made_of(
     }
     match plan(alloc, keep, Secret::of_word(OPERATOR), stamp, request) {
         Err(_) => None,
-        Ok(planned) => match commit(keep, &planned) {
-            Err(refusal) => Some(Err(refusal)),
-            Ok(()) => Some(Ok(planned.reply)),
-        },
+        Ok(planned) => Some(commit(keep, &planned).map(|()| planned.reply)),
     }
 }
 
@@ -437,10 +434,12 @@ fn the_row_limit_comes_last(rt: HostRuntime) -> Result<(), Fail> {
 
 // Whether a receipt of pledge 2 is live in a book.
 fn is_live(keep: &mut ListKeep, book: u64, word: u128) -> Result<bool, Fail> {
-    match find_live(keep, number(book)?, &receipt(2, word)?) {
-        Ok(Some(pledge)) => Ok(pledge.agreement().number.get() == 2),
-        _ => Ok(false),
-    }
+    let found = find_live(keep, number(book)?, &receipt(2, word)?);
+    let is_second = match &found {
+        Ok(Some(pledge)) => pledge.agreement().number.get() == 2,
+        _ => false,
+    };
+    Ok(is_second)
 }
 
 // Whether this key opens the book, with its name and two pledges.

@@ -107,8 +107,11 @@ fn tells_of_its_pledge(rt: &impl Abort, brief: &Brief) {
 
 #[test]
 fn a_brief_tells_of_its_pledge(rt: HostRuntime) -> Result<(), Fail> {
-    let pledge = used(rt.alloc())?;
-    tells_of_its_pledge(&rt, &pledge.brief()?);
+    let told = {
+        let pledge = used(rt.alloc())?;
+        pledge.brief()
+    };
+    tells_of_its_pledge(&rt, &told?);
     Ok(())
 }
 

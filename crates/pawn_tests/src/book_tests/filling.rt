@@ -54,18 +54,20 @@ fn made(alloc: Global, limit: u64) -> Result<ListKeep, Fail> {
 
 // Whether what was imported can be read again as it was.
 fn is_read(alloc: Global, keep: &mut ListKeep) -> Result<bool, Fail> {
-    let reference = Reference::of_str(alloc, "A1")?.ok_or("no reference")?;
-    let found = keep.find_ref(number(7)?, &reference)?;
+    let book = number(7)?;
     let imported = Imported {
         key: Secret::of_word(IMPORT),
         pledges: 1,
     };
-    match keep.book_head(number(7)?)? {
-        Some(head) => Ok(
-            head.imported == Some(imported) && found == Some(number(1)?) && keep.rows()? == 7,
-        ),
-        None => Ok(false),
-    }
+    let found = {
+        let reference = Reference::of_str(alloc, "A1")?.ok_or("no reference")?;
+        keep.find_ref(book, &reference)
+    };
+    let is_filled = match keep.book_head(book)? {
+        Some(head) => head.imported == Some(imported),
+        None => false,
+    };
+    Ok(is_filled && found? == Some(number(1)?) && keep.rows()? == 7)
 }
 
 // The book, its terms and its pledge, with an entry, two secrets and a booking, are seven rows.
@@ -135,9 +137,12 @@ fn is_whole(rt: &impl Abort, copy: &BookRows) -> Result<(), Fail> {
 
 #[test]
 fn rows_are_copied_and_judged(rt: HostRuntime) -> Result<(), Fail> {
-    let rows = rows(rt.alloc())?;
-    let copy = rows.rows().copy()?;
-    is_whole(&rt, &copy)?;
+    let copied = {
+        let rows = rows(rt.alloc())?;
+        rows.rows().copy()
+    };
+    let copy = copied?;
+    let is_whole = is_whole(&rt, &copy);
     assert!(rt; ReplayableRows::of_rows(copy).is_ok());
-    Ok(())
+    is_whole
 }

@@ -51,23 +51,35 @@ fn making(alloc: Global, key: Secret) -> Result<Request, Fail> {
     Ok(Request { book, caller })
 }
 
+// Makes book 7.
+fn makes(alloc: Global, keep: &mut ListKeep) -> Result<(), Fail> {
+    let (key, day) = (Secret::of_word(2), RequestDay::of_text(b"2024-01-31")?);
+    let answer = {
+        let request = making(alloc, key)?;
+        acted(alloc, keep, key, &Stamp { day, word: 3 }, &request)
+    };
+    match answer {
+        Some(Ok(_)) => Ok(()),
+        _ => Err(Fail::from("no book")),
+    }
+}
+
 // A keeper of book 7.
 fn one_book(alloc: Global) -> Result<ListKeep, Fail> {
-    let (key, day) = (Secret::of_word(2), RequestDay::of_text(b"2024-01-31")?);
-    let request = making(alloc, key)?;
     let mut keep = ListKeep::new(alloc, 100);
-    match acted(alloc, &mut keep, key, &Stamp { day, word: 3 }, &request) {
-        Some(Ok(_)) => Ok(keep),
-        _ => Err(Fail::from("no book")),
+    match makes(alloc, &mut keep) {
+        Ok(()) => Ok(keep),
+        Err(fail) => Err(fail),
     }
 }
 
 #[test]
 fn a_book_that_stands_is_exported(rt: HostRuntime) -> Result<(), Fail> {
+    let (seven, eight) = (number(7)?, number(8)?);
     let mut keep = one_book(rt.alloc())?;
-    for (book, came, text) in [(7u64, Ok(()), TEXT), (8, Err(ViewFault::Unknown), "")] {
+    for (book, came, text) in [(seven, Ok(()), TEXT), (eight, Err(ViewFault::Unknown), "")] {
         let mut rows = RowWriter::new(rt.alloc(), Vec::new(rt.alloc()));
-        assert!(rt; export(&mut keep, number(book)?, &mut rows) == came);
+        assert!(rt; export(&mut keep, book, &mut rows) == came);
         assert_eq!(rt; rows.into_inner().as_slice(), text.as_bytes());
     }
     Ok(())
@@ -75,10 +87,11 @@ fn a_book_that_stands_is_exported(rt: HostRuntime) -> Result<(), Fail> {
 
 #[test]
 fn what_a_writer_took_before_it_failed_is_a_front(rt: HostRuntime) -> Result<(), Fail> {
+    let book = number(7)?;
     let mut keep = one_book(rt.alloc())?;
     let taken = Vec::new(rt.alloc());
     let mut rows = RowWriter::new(rt.alloc(), OneByte { taken });
-    assert!(rt; export(&mut keep, number(7)?, &mut rows) == Err(ViewFault::Write));
+    assert!(rt; export(&mut keep, book, &mut rows) == Err(ViewFault::Write));
     assert_eq!(rt; rows.into_inner().taken.as_slice(), b"r".as_slice());
     Ok(())
 }
