@@ -39,8 +39,7 @@ module _ (n : ℕ) (old new begun lent : State) (was : IsBegun old begun) (ended
     pub moved_store : StandForOne → (HasCleanDisk new → Shows lent new lent.now lent.now false)
         → (IsTrue new.is_open → (trees : Trees) → new.may_leave trees → trees ≡ new.committed.trees) → MovesStore n old new (Ok tt)
     moved_store one shows settled = record {
-      moved = λ clean h none st.
-          let s = shows clean in
+      moved = λ clean h none st. let s = shows clean in
           opens_as new h one s.is_open ended (s.now_is ∙ sym s.committed_is) (settled s.is_open)
           (subst (λ d. StandsFor d h) (sym s.now_is) (written (clean_past clean) h none st));
       err = λ clean. tt;

@@ -103,8 +103,7 @@ module _ (s0 s1 : State) (last : IsTrue s0.is_open → (trees : Trees) → s0.ma
       → TellsNumber s0 s1 (Ok from) → IndexesStore s1 s2 (Ok tt) → Migrates s0 s2 (Ok (from, 3))
   stays one s2 left from three it added = record {
     found = λ clean. ((it.ok (before s2 from three it (Ok tt) added clean)).0, it.known, refl);
-    moved = λ clean n h schema none st.
-        let was = before s2 from three it (Ok tt) added clean in
+    moved = λ clean n h schema none st. let was = before s2 from three it (Ok tt) added clean in
         let stood = ours s2 from three it (Ok tt) added was n h schema st in let done = added.ok clean (it.ok was).1 in
         (λ i. (stood.0 i, 3), opens_as s2 h one done.0 added.ended done.2 (left done.0) (gains_stands s1.now s2.now h done.1 stood.1));
     refuses = λ clean. tt;

@@ -18,8 +18,8 @@ pub fn connect_path<S: Start>(
     ensures mode { IfOk result (λ conn. conn.in_transaction ≡ false) }
     ensures refuses { IfErr result IsStoreFault }
 {
-    let files = files_at(rt, path, start)?;
     let options = options(rt)?;
+    let files = files_at(rt, path, start)?;
     match Connection::open_files(rt.alloc(), files, options) {
         Ok(conn) => Ok(conn),
         Err((error, _)) => Err(refused(error)),

@@ -77,12 +77,12 @@ pub fn open_path<S: Start>(
     ensures refuses { IfErr result (λ e. IfSome e.1
         (λ rest. (files : _) × IsFresh true files.log × IsFresh false files.db × (IsCleanLeft rest → RefusesHeld (image_at S.Start) files limit e.0 rest))) }
 {
-    let files = match files_at(rt, path, start) {
-        Ok(files) => files,
-        Err(why) => return Err((why, None)),
-    };
     let options = match options(rt) {
         Ok(options) => options,
+        Err(why) => return Err((why, None)),
+    };
+    let files = match files_at(rt, path, start) {
+        Ok(files) => files,
         Err(why) => return Err((why, None)),
     };
     match open_files(rt.alloc(), files, options, limit) {

@@ -42,8 +42,7 @@ pub next_found : {B : Type 0} {s0 s1 s2 : State} {F : Host → Type 0} {q : Resu
     → Found s0 s1 F → q ≡ Ok y → IsLent s1 s2 true → FindsIn U s1 s2 q Q → Found s0 s2 (λ h. F h × Q h y)
 next_found {s0 = s0} {s1 = s1} {s2 = s2} {F = F} {q = q} {y = y} U Q found went l f = record {
   lent = lent_then s0 s1 s2 true found.lent l;
-  is = λ clean within h stood.
-      let one = begun s0 s1 s2 F true found l clean within h stood in
+  is = λ clean within h stood. let one = begun s0 s1 s2 F true found l clean within h stood in
       let two = told q y (λ z. Q h z × Rests s1 s2) (U h) went (f clean one.0.2.inside h (λ _. one.1)) in
       (one.0.0, (one.0.1, two.0), rests_then s0 s1 s2 one.0.2 two.1);
 }

@@ -9,8 +9,7 @@ returns-in_err-issued c = record { read = λ l fits is. let r = c.in_err-issued.
 
 pub returns : goal.returns
 returns c = record {
-  read = λ l fits is.
-      let at = cell_at 0 is (omega arith) refl in let place = c.in_ok-place.ensures.read l.place at.0 at.1 in
+  read = λ l fits is. let at = cell_at 0 is (omega arith) refl in let place = c.in_ok-place.ensures.read l.place at.0 at.1 in
       let issued = c.in_ok-issued.ensures.read l.place l.issued fits is in
       λ i. record { place = place i; issued = issued i };
 }
