@@ -174,6 +174,7 @@ def two_equal_payments_are_two():
         browser.shoot("broker-between")
         browser.press("dialog button", "No, record nothing")
         browser.says("Nothing was recorded.", "#commands")
+        browser.says("£90.00 owed today", "#statement")
         is_told_quietly(".action[open]")
         expect("one entry", len(entries(pages, 1)), 1)
         pages.session.broker("POST", "/books/7/pledges/1/repay", {"pence": 1000, "seq": 2})

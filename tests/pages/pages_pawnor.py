@@ -28,6 +28,7 @@ def two_equal_payments_are_two():
         browser.says(f"Repaid: £10.00, on {in_short(today())}.", "dialog")
         browser.press("dialog button", "Yes, record £10.00 as well")
         browser.says("£80.00 is owed now.", "#cards")
+        browser.says("£80.00 owed today", "#cards")
         expect("two entries", len(entries(pages, 1)), 2)
         pages.session.broker("POST", "/books/7/pledges/1/repay", {"pence": 1000, "seq": 3})
         command("Record a part payment", "Record the payment", amount="10")
