@@ -58,7 +58,8 @@ def newest(kept):
 
 
 def copies_that_are_made_while_it_runs():
-    """Each holds what was acknowledged before it was begun; and no request is refused meanwhile."""
+    """Each holds what was acknowledged before it was begun; and no request is refused meanwhile. One that begins to
+    come in just when the service is stopped may get no reply, and the proxy says so."""
     with Hosted() as it, tempfile.TemporaryDirectory() as kept:
         it.open_books(3)
         stood = 0
@@ -76,11 +77,9 @@ def copies_that_are_made_while_it_runs():
                     all(before[pledge] <= found[pledge] <= after[pledge] for pledge in before),
                     True,
                 )
-            expect(
-                "what the writers noticed",
-                [(writer.not_done, writer.unknown, writer.cut) for writer in running],
-                [(0, 0, 0)] * 3,
-            )
+            expect("what the writers noticed", [(writer.not_done, writer.cut) for writer in running], [(0, 0)] * 3)
+            told = [tuple(said) for writer in running for _, *said in writer.told]
+            expect(f"without a reply: {told}", len(told) <= 2 and set(told) <= {(502, True)}, True)
         expect("the shard was seen to stand still", stood > 0, True)
         expect("how many copies stay", len(os.listdir(kept)), 3)
         longest = max(writer.longest for writer in running)
