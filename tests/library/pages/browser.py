@@ -23,6 +23,19 @@ from tests.library.waiting import answers, wait_for
 SHOTS = os.path.join(TOP, "build/pages")
 WIDTHS = (390, 1280)
 PATIENCE = 10
+# Counts in each page the requests whose replies have not been shown yet: a page draws what a reply says at once.
+COUNTING = """
+const real = window.fetch;
+window.asking = 0;
+window.fetch = async (...request) => {
+  window.asking += 1;
+  try {
+    return await real(...request);
+  } finally {
+    setTimeout(() => { window.asking -= 1; }, 50);
+  }
+};
+"""
 
 
 class Relay:
@@ -137,6 +150,7 @@ class Browser:
         wanted = {"browserName": "chrome", "goog:loggingPrefs": {"browser": "ALL"}, "goog:chromeOptions": options}
         self.path, self.loaded = "", 0
         self.path = "/session/" + self.ask("POST", "/session", {"capabilities": {"alwaysMatch": wanted}})["sessionId"]
+        self.devtools("Page.addScriptToEvaluateOnNewDocument", source=COUNTING)
         self.resize(WIDTHS[0])
         return self
 
@@ -199,6 +213,10 @@ class Browser:
 
     def until(self, script, what, *arguments, patience=PATIENCE):
         return wait_for(lambda: self.run(script, *arguments), what, patience)
+
+    def rests(self):
+        """Waits until the page has shown all that it asked for, as after an act the pledge is read anew."""
+        self.until("return !window.asking", "a page that has shown what it asked for")
 
     def element(self, selector, text=None):
         """A visible element of the page by its selector, and by its text where one is given."""

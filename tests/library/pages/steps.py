@@ -3,7 +3,6 @@ import contextlib
 import datetime
 import os
 import signal
-import time
 
 from tests.library.book_texts import COLUMNS, row
 from tests.library.checks import Failed, expect, main as run_tests
@@ -79,16 +78,14 @@ def unfold(title):
 
 
 def command(title, button, picture=None, **fields):
-    """Unfolds a command, fills its form and sends it; once more where the folds were drawn anew in between."""
-    for last in (False, True):
-        unfold(title)
-        if fields:
-            browser.fill(".action[open] form", **fields)
-        if picture:
-            browser.shoot(picture)
-        time.sleep(0.1)
-        if last or browser.run("return document.querySelector('.action[open]') !== null"):
-            return browser.press(".action[open] button", button)
+    """Unfolds a command, fills its form and sends it, once what came of the act before it is shown."""
+    browser.rests()
+    unfold(title)
+    if fields:
+        browser.fill(".action[open] form", **fields)
+    if picture:
+        browser.shoot(picture)
+    browser.press(".action[open] button", button)
 
 
 def entries(pages, number, book=7):
