@@ -185,7 +185,7 @@ def the_link_names_the_shop():
 
 
 main(
-    115, (),
+    300, (),
     (
         two_equal_payments_are_two, what_the_page_says_of_links, without_a_line, a_payment_whose_reply_is_lost_for_good,
         a_visit_after_the_end, receipts_as_people_write_them, forty_receipts_at_once, the_link_names_the_shop,
