@@ -1,14 +1,26 @@
 -- UPDATE of one row, and the upsert of one, told by the rows that the tables hold.
-use Rattle.std.proofs.Common.{◌≡◌, ◌≢◌, ℕ, ℤ, List, [], ◌∷◌, map, filter, Bool, true, false, cond, not, Option, None, Ok, refl, sym, ap, subst, ◌∙◌}
-use Rattle.std.proofs.{Common.{IsPermutation, IsTrue}, lemmas.List.Sorted.{IsPermutation-cons, IsPermutation-map, IsPermutation-sym, IsPermutation-trans}}
-use Rattle.{std.{specs.List.AllByRecursion, proofs.lemmas.List.Elements.filter_agree}, sqlite_rules.specs.{Edit.taken_by, Calls.ids_of}}
-use Rattle.one_table.specs.Common.{Enforced, Update, Does, Tally, Database, Row, overlay, Given, Schema, Table, Term, Trees, has_rowid, put_row, rowid}
-use Rattle.one_table.specs.{Common.{without_rowid, is_int, Int, Null}, Listing.{Holds, Lists, Listed, with_rows, columns_of, IsNumbered}}
-use Rattle.one_table.proofs.{OneTable.{over_table, passes, shows_of, found}, Rowed.{plainly, carried, at_place, put_new, first_fresh, without_one, one_of_map}}
-use Rattle.{one_table.proofs.{Rowed.int_at, Insertion.{IsPlace, went, same_value}}, sqlite.specs.{Cast.cast_row, Edit.{Applies, are_fresh, edit_of, is_taken}}}
-use Rattle.sqlite.specs.{Edit.put_all, Listing.understood, Query.{IsAnswer, Query}, Rows.{Task, Updates, Written}, State.{Executes, State, mode_of}}
-use Rattle.{sqlite.proofs.Callers.{IsPlain, command_of, one_permutation, one_step, runs_as, statement_of}, sqlite_trees.proofs.ListLemmas.IsPermutation-filter}
-use Rattle.sqlite_trees.proofs.{ListLemmas.{all-filter, filter-map}, TreeLemmas.{IsShaped-filter, IsShaped-put_row}}
+use Rattle.one_table.proofs.Insertion.{IsPlace, went, same_value}
+use Rattle.one_table.proofs.OneTable.{over_table, passes, shows_of, found}
+use Rattle.one_table.proofs.Rowed.{plainly, carried, at_place, put_new, first_fresh, without_one, one_of_map, int_at}
+use Rattle.one_table.specs.Common.{Enforced, Update, Does, Tally, Database, Row, overlay, Given, Schema, Table, Term}
+use Rattle.one_table.specs.Common.{Trees, has_rowid, put_row, rowid, without_rowid, is_int, Int, Null}
+use Rattle.one_table.specs.Listing.{Holds, Lists, Listed, with_rows, columns_of, IsNumbered}
+use Rattle.sqlite.proofs.Callers.{IsPlain, command_of, one_permutation, one_step, runs_as, statement_of}
+use Rattle.sqlite.specs.Cast.{cast_row}
+use Rattle.sqlite.specs.Edit.{Applies, are_fresh, edit_of, is_taken, put_all}
+use Rattle.sqlite.specs.Listing.{understood}
+use Rattle.sqlite.specs.Query.{IsAnswer, Query}
+use Rattle.sqlite.specs.Rows.{Task, Updates, Written}
+use Rattle.sqlite.specs.State.{Executes, State, mode_of}
+use Rattle.sqlite_rules.specs.Calls.{ids_of}
+use Rattle.sqlite_rules.specs.Edit.{taken_by}
+use Rattle.sqlite_trees.proofs.ListLemmas.{IsPermutation-filter, all-filter, filter-map}
+use Rattle.sqlite_trees.proofs.TreeLemmas.{IsShaped-filter, IsShaped-put_row}
+use Rattle.std.proofs.Common.{◌≡◌, ◌≢◌, ℕ, ℤ, List, [], ◌∷◌, map, filter, Bool, true, false, cond, not, Option, None}
+use Rattle.std.proofs.Common.{Ok, refl, sym, ap, subst, ◌∙◌, IsPermutation, IsTrue}
+use Rattle.std.proofs.lemmas.List.Elements.{filter_agree}
+use Rattle.std.proofs.lemmas.List.Sorted.{IsPermutation-cons, IsPermutation-map, IsPermutation-sym, IsPermutation-trans}
+use Rattle.std.specs.List.{AllByRecursion}
 use Rattle.sqlite_trees.specs.declared.store.Shape.TheVariants as shape
 
 module _ (schema : Schema) (at : ℕ) (t : Table) (there : IsPlace schema at t) (is_tree : (db : Trees) → overlay db [] t.tree ≡ db t.tree)

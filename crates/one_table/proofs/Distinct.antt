@@ -1,12 +1,26 @@
 -- A query on one table that shows each row once.
-use Rattle.std.proofs.Common.{◌≡◌, ◌≢◌, ◌++◌, ℕ, List, [], ◌∷◌, map, filter, flat_map, Bool, true, false, refl, sym, ap, subst, ◌∙◌, IsPermutation}
-use Rattle.std.{specs.{List.{AllByRecursion, IsDistinct}, Ordering.{eq_by_cmp, is_eq}}, proofs.lemmas.{Cmp.eq_by_cmp_equiv, List.Sorted.IsPermutation-map}}
-use Rattle.{std.proofs.lemmas.{List.Sorted.IsPermutation-sym, Map.Keys.IsDistinct-IsPermutation}, one_table.specs.Common.{Ordering, Equal, Greater, Less, Row}}
-use Rattle.one_table.{specs.{Common.{overlay, Schema, Table, Term, Trees, Null}, Listing.{Holds, columns_of}}, proofs.{Found.by_columns, OneTable.over_table}}
-use Rattle.{one_table.proofs.{OneTable.{around, passes, shows_of, gathered}, Texts.Asks}, sqlite_trees.specs.Tree.IsAscending}
-use Rattle.sqlite_trees.proofs.ListLemmas.{IsPermutation-filter, all-flat_map, all-map, all-permutation, all_both, all_from_map, all_weaker, map-map}
-use Rattle.sqlite.{specs.{Query.{IsAnswer, Output, Query, output}, State.{Shown, State}}, proofs.Callers.reads_as}
-use Rattle.{sqlite_value.{specs.{declared.keys.Collation.Collation, Keys.collated_cmp}, proofs.KeyLemmas.collated_cmp_total}, sqlite_sql.specs.Group.members}
+use Rattle.one_table.proofs.Found.{by_columns}
+use Rattle.one_table.proofs.OneTable.{over_table, around, passes, shows_of, gathered}
+use Rattle.one_table.proofs.Texts.{Asks}
+use Rattle.one_table.specs.Common.{Ordering, Equal, Greater, Less, Row, overlay, Schema, Table, Term, Trees, Null}
+use Rattle.one_table.specs.Listing.{Holds, columns_of}
+use Rattle.sqlite.proofs.Callers.{reads_as}
+use Rattle.sqlite.specs.Query.{IsAnswer, Output, Query, output}
+use Rattle.sqlite.specs.State.{Shown, State}
+use Rattle.sqlite_sql.specs.Group.{members}
+use Rattle.sqlite_trees.proofs.ListLemmas.{IsPermutation-filter, all-flat_map, all-map, all-permutation, all_both}
+use Rattle.sqlite_trees.proofs.ListLemmas.{all_from_map, all_weaker, map-map}
+use Rattle.sqlite_trees.specs.Tree.{IsAscending}
+use Rattle.sqlite_value.proofs.KeyLemmas.{collated_cmp_total}
+use Rattle.sqlite_value.specs.Keys.{collated_cmp}
+use Rattle.sqlite_value.specs.declared.keys.Collation.{Collation}
+use Rattle.std.proofs.Common.{◌≡◌, ◌≢◌, ◌++◌, ℕ, List, [], ◌∷◌, map, filter, flat_map, Bool, true, false, refl, sym, ap}
+use Rattle.std.proofs.Common.{subst, ◌∙◌, IsPermutation}
+use Rattle.std.proofs.lemmas.Cmp.{eq_by_cmp_equiv}
+use Rattle.std.proofs.lemmas.List.Sorted.{IsPermutation-map, IsPermutation-sym}
+use Rattle.std.proofs.lemmas.Map.Keys.{IsDistinct-IsPermutation}
+use Rattle.std.specs.List.{AllByRecursion, IsDistinct}
+use Rattle.std.specs.Ordering.{eq_by_cmp, is_eq}
 
 not_tied : (o : Ordering) → o ≢ Equal → is_eq o ≡ false
 not_tied Less other = refl

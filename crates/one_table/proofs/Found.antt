@@ -1,12 +1,25 @@
 -- What a query on one table shows, told by the rows that the table holds.
-use Rattle.std.proofs.Common.{◌≡◌, ℕ, List, [], ◌∷◌, map, filter, take, Bool, refl, sym, ap, subst, ◌∙◌, IsPermutation, reverse, ◌++◌}
-use Rattle.std.proofs.lemmas.List.{Elements.filter_agree, Sorted.{IsPermutation-map, IsPermutation-reverse, IsPermutation-sym, IsPermutation-trans}}
-use Rattle.{std.{proofs.lemmas.List.reverse-append, specs.List.AllByRecursion}, one_table.specs.Common.{Less, Key, Row, column, value_cmp, overlay, Schema}}
-use Rattle.one_table.{specs.{Common.{Table, Term, Value, Null, Trees}, Listing.{Holds, columns_of}}, proofs.OneTable.{over_table, few_of_table, first_of_table}}
-use Rattle.one_table.proofs.{OneTable.{around, passes, shows_of, found, found_few, found_all}, Texts.{Asks, by_column, by_column_down}}
-use Rattle.sqlite.{specs.{Query.{IsAnswer, Output, Query, output, output_cmp}, State.{Shown, State}, Tree.IsAscending, Term.eval_all}, proofs.Callers.reads_as}
-use Rattle.{sqlite.specs.Term.col, sqlite_trees.proofs.ListLemmas.{IsPermutation-filter, all-append, ascending-append, ascending-map, ascending_weaker}}
-use Rattle.{sqlite_trees.proofs.ListLemmas.{filter-map, map-map}, sqlite_value.proofs.OrderLemmas.then-Equal, sqlite_sql.specs.Query.key_cmp}
+use Rattle.one_table.proofs.OneTable.{over_table, few_of_table, first_of_table, around, passes, shows_of, found}
+use Rattle.one_table.proofs.OneTable.{found_few, found_all}
+use Rattle.one_table.proofs.Texts.{Asks, by_column, by_column_down}
+use Rattle.one_table.specs.Common.{Less, Key, Row, column, value_cmp, overlay, Schema, Table, Term, Value, Null, Trees}
+use Rattle.one_table.specs.Listing.{Holds, columns_of}
+use Rattle.sqlite.proofs.Callers.{reads_as}
+use Rattle.sqlite.specs.Query.{IsAnswer, Output, Query, output, output_cmp}
+use Rattle.sqlite.specs.State.{Shown, State}
+use Rattle.sqlite.specs.Term.{eval_all, col}
+use Rattle.sqlite.specs.Tree.{IsAscending}
+use Rattle.sqlite_sql.specs.Query.{key_cmp}
+use Rattle.sqlite_trees.proofs.ListLemmas.{IsPermutation-filter, all-append, ascending-append, ascending-map}
+use Rattle.sqlite_trees.proofs.ListLemmas.{ascending_weaker, filter-map, map-map}
+use Rattle.sqlite_value.proofs.OrderLemmas.{then-Equal}
+use Rattle.std.proofs.Common.{◌≡◌, ℕ, List, [], ◌∷◌, map, filter, take, Bool, refl, sym, ap, subst, ◌∙◌, IsPermutation}
+use Rattle.std.proofs.Common.{reverse, ◌++◌}
+use Rattle.std.proofs.lemmas.List.{reverse-append}
+use Rattle.std.proofs.lemmas.List.Elements.{filter_agree}
+use Rattle.std.proofs.lemmas.List.Sorted.{IsPermutation-map, IsPermutation-reverse, IsPermutation-sym}
+use Rattle.std.proofs.lemmas.List.Sorted.{IsPermutation-trans}
+use Rattle.std.specs.List.{AllByRecursion}
 
 -- the last of a list alone
 abbrev pub last_of : {A : Type 0} → List A → List A

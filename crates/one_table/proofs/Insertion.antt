@@ -1,10 +1,18 @@
 -- INSERT of one row, told by the rows that the tables hold.
-use Rattle.std.proofs.Common.{◌≡◌, ◌⊎◌, inl, inr, ℕ, ◌/◌, List, [], ◌∷◌, map, length, Some, None, Result, Ok, Err, sym, ap, subst, ◌∙◌, IsPermutation}
-use Rattle.std.proofs.{Common.{slice_get, append-nil}, lemmas.List.Sorted.{IsPermutation-cons, IsPermutation-map, IsPermutation-trans}}
-use Rattle.sqlite.{proofs.Callers.{IsPlain, command_of, one_step, runs_as, statement_of}, specs.{Cast.cast_row, Edit.{Applies, edit_of, with_rowid}}}
-use Rattle.{sqlite.specs.{Listing.understood, Rows.Written, State.{Executes, State, mode_of}}, one_table.specs.Common.{Enforced, Insert, Does, Tally, Database}}
-use Rattle.one_table.specs.{Common.{IsDatabase, value_rows, Row, Chosen, Schema, Values, Table, Term}, Listing.{Holds, Lists, Listed, with_rows, columns_of}}
-use Rattle.{one_table.proofs.Rowed.{plainly, put_one, carried, at_place, IsAlone}, sqlite_rules.specs.Action.works}
+use Rattle.one_table.proofs.Rowed.{plainly, put_one, carried, at_place, IsAlone}
+use Rattle.one_table.specs.Common.{Enforced, Insert, Does, Tally, Database, IsDatabase, value_rows, Row, Chosen, Schema}
+use Rattle.one_table.specs.Common.{Values, Table, Term}
+use Rattle.one_table.specs.Listing.{Holds, Lists, Listed, with_rows, columns_of}
+use Rattle.sqlite.proofs.Callers.{IsPlain, command_of, one_step, runs_as, statement_of}
+use Rattle.sqlite.specs.Cast.{cast_row}
+use Rattle.sqlite.specs.Edit.{Applies, edit_of, with_rowid}
+use Rattle.sqlite.specs.Listing.{understood}
+use Rattle.sqlite.specs.Rows.{Written}
+use Rattle.sqlite.specs.State.{Executes, State, mode_of}
+use Rattle.sqlite_rules.specs.Action.{works}
+use Rattle.std.proofs.Common.{◌≡◌, ◌⊎◌, inl, inr, ℕ, ◌/◌, List, [], ◌∷◌, map, length, Some, None, Result, Ok, Err, sym}
+use Rattle.std.proofs.Common.{ap, subst, ◌∙◌, IsPermutation, slice_get, append-nil}
+use Rattle.std.proofs.lemmas.List.Sorted.{IsPermutation-cons, IsPermutation-map, IsPermutation-trans}
 
 -- a part that gave a value did not stop on the way
 pub went : {B E R : Type 0} {b : B} {Stops : E → Type 0} → ((stop : E) × Stops stop × (Ok b ≡ Err stop)) ⊎ R → R

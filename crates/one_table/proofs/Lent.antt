@@ -1,6 +1,9 @@
 -- One part of a transaction after another.
-use Rattle.{std.proofs.Common.{Bool, true, refl, arith, ◌∙◌}, sqlite.{specs.State.{State, HasCleanDisk}, proofs.StateLemmas.survives_then}}
-use Rattle.one_table.{specs.Lending.{IsLent, Rests}, proofs.Parts.kept_then}
+use Rattle.one_table.proofs.Parts.{kept_then}
+use Rattle.one_table.specs.Lending.{IsLent, Rests}
+use Rattle.sqlite.proofs.StateLemmas.{survives_then}
+use Rattle.sqlite.specs.State.{State, HasCleanDisk}
+use Rattle.std.proofs.Common.{Bool, true, refl, arith, ◌∙◌}
 
 pub clean_before : (a b : State) (ok : Bool) → IsLent a b ok → HasCleanDisk b → HasCleanDisk a
 clean_before a b ok l clean = let up = l.survives.clean in omega (arith, clean, up)

@@ -1,8 +1,14 @@
 -- What the parts of a transaction leave of the last commit.
-use Rattle.std.proofs.Common.{◌≡◌, ◌⊎◌, inl, inr, ℕ, List, [], Some, None, Result, Ok, Err, OnOk, IsTrue, subst, ◌∙◌, if◌then◌else◌}
-use Rattle.sqlite.specs.{Listing.understood, State.{ExecutesInside, Fails, FailsToQuery, FailsToShow, IsNotRun, IsRolledBack, IsTooLate, KeepsCommit}}
-use Rattle.sqlite.{specs.{State.{QueriesRow, QueriesRowInside, Shown, Shows, ShowsRows, State, Writes}, declared.error.Error.Error}, proofs.Callers.IsPlain}
-use Rattle.{sqlite.specs.Clock.timed, one_table.specs.{Common.Row, Lending.Rests}}
+use Rattle.one_table.specs.Common.{Row}
+use Rattle.one_table.specs.Lending.{Rests}
+use Rattle.sqlite.proofs.Callers.{IsPlain}
+use Rattle.sqlite.specs.Clock.{timed}
+use Rattle.sqlite.specs.Listing.{understood}
+use Rattle.sqlite.specs.State.{ExecutesInside, Fails, FailsToQuery, FailsToShow, IsNotRun, IsRolledBack, IsTooLate}
+use Rattle.sqlite.specs.State.{KeepsCommit, QueriesRow, QueriesRowInside, Shown, Shows, ShowsRows, State, Writes}
+use Rattle.sqlite.specs.declared.error.Error.{Error}
+use Rattle.std.proofs.Common.{◌≡◌, ◌⊎◌, inl, inr, ℕ, List, [], Some, None, Result, Ok, Err, OnOk, IsTrue, subst, ◌∙◌}
+use Rattle.std.proofs.Common.{if◌then◌else◌}
 
 by_shows : (old new : State) (now : _) (mode : _) → Shows old new now old.committed mode → KeepsCommit old new
 by_shows old new now mode s = record { was_open = λ _. s.was_open; committed = λ _. s.committed_is }

@@ -1,8 +1,12 @@
 -- A text that is a query writes nothing, whatever the schema is.
-use Rattle.{std.proofs.Common.{◌≡◌, ℕ, ◌+◌, List, true, false, None, Result, Ok, Err, [], refl, if◌then◌else◌}, one_table.specs.Common.{Compiled, CompileError}}
-use Rattle.{one_table.specs.Common.Schema, sqlite.specs.Listing.{if_select, is_select, listing_schema, reads_listing, understood}}
-use Rattle.sqlite_resolve.specs.{Compile.{compiled, planned, meaning, first, returning, timed, command, small, with_command}, Lowering.and_then}
-use Rattle.{sqlite_resolve.specs.declared.error.CompileError.TheVariants.NoSuchTable, sqlite_syntax.specs.declared.statement.Parsed.Parsed}
+use Rattle.one_table.specs.Common.{Compiled, CompileError, Schema}
+use Rattle.sqlite.specs.Listing.{if_select, is_select, listing_schema, reads_listing, understood}
+use Rattle.sqlite_resolve.specs.Compile.{compiled, planned, meaning, first, returning, timed, command, small}
+use Rattle.sqlite_resolve.specs.Compile.{with_command}
+use Rattle.sqlite_resolve.specs.Lowering.{and_then}
+use Rattle.sqlite_resolve.specs.declared.error.CompileError.TheVariants.{NoSuchTable}
+use Rattle.sqlite_syntax.specs.declared.statement.Parsed.{Parsed}
+use Rattle.std.proofs.Common.{◌≡◌, ℕ, ◌+◌, List, true, false, None, Result, Ok, Err, [], refl, if◌then◌else◌}
 
 -- the statement shows no rows of a write, and reads no clock
 abbrev pub IsQuery : Result Parsed CompileError → Type 0

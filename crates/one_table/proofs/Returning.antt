@@ -1,7 +1,11 @@
 -- A write with RETURNING.
-use Rattle.{std.proofs.Common.{◌≡◌, inl, inr, ℕ, List, [], Some, Ok, sym, ap, subst₂, ◌∙◌, append-nil, slice_get}, one_table.specs.Common.{Returning, Row}}
-use Rattle.{one_table.{specs.Common.Schema, proofs.Texts.{returning_of, formats_of}}, sqlite.specs.{Listing.understood, State.{Begins, QueriesRow, Shown}}}
-use Rattle.sqlite.{specs.{State.{State, Writes}, Command.Command}, proofs.Callers.{command_of, statement_of}}
+use Rattle.one_table.proofs.Texts.{returning_of, formats_of}
+use Rattle.one_table.specs.Common.{Returning, Row, Schema}
+use Rattle.sqlite.proofs.Callers.{command_of, statement_of}
+use Rattle.sqlite.specs.Command.{Command}
+use Rattle.sqlite.specs.Listing.{understood}
+use Rattle.sqlite.specs.State.{Begins, QueriesRow, Shown, State, Writes}
+use Rattle.std.proofs.Common.{◌≡◌, inl, inr, ℕ, List, [], Some, Ok, sym, ap, subst₂, ◌∙◌, append-nil, slice_get}
 
 module _ (sql : List ℕ) (params : Row) (old new : State) (schema : Schema) (has : old.now.schema ≡ schema) (command : Command) (what : Returning)
     (is : command_of (understood schema sql) ≡ command) (returns : returning_of (understood schema sql) ≡ Some what)

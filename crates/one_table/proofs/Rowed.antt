@@ -1,13 +1,25 @@
 -- One row is put into a table, or takes the place of one that is there.
-use Rattle.std.proofs.Common.{◌≡◌, ◌≢◌, ◌⊎◌, ◌==◌, inl, inr, ℕ, zero, suc, ℤ, pos, List, [], ◌∷◌, map, filter, length, Bool, true, false, cond, not, ◌&&◌, ◌||◌}
-use Rattle.std.{proofs.Common.{Some, refl, sym, ap, subst, ◌∙◌, arith, IsPermutation, slice_get, true≢false, IsTrue}, specs.List.AllByRecursion}
-use Rattle.std.{specs.Ordering.{is_eq, is_lt, match_ordering}, proofs.lemmas.{Cmp.tied_itself, List.Sorted.{IsPermutation-cons, IsPermutation-refl}}}
-use Rattle.{std.proofs.lemmas.{List.Sorted.{IsPermutation-trans, IsPermutation-middle}, Bool.Decides.nat_tests}, one_table.specs.Common.{Ordering, Equal}}
-use Rattle.one_table.specs.Common.{Greater, Less, Enforced, Row, value_cmp, Chosen, Schema, Table, IsTable, Trees, has_rowid, put_row, rowid, without_rowid}
-use Rattle.one_table.specs.{Common.{is_int, Value, Blob, Int, Null, Real, Text}, Listing.{IsNumbered, Holds, Listed, with_rows, columns_of}, Columns.no_stamps}
-use Rattle.sqlite.specs.{Cast.{cast, cast_row}, Edit.{Applies, are_fresh, edit_of, is_taken, with_rowid}, Ops.unary, Kind.TheVariants.Integer}
-use Rattle.sqlite_trees.proofs.{ListLemmas.{all-filter, all_weaker, filter_all}, TreeLemmas.{IsShaped-put_row, later_rowids}}
+use Rattle.one_table.specs.Columns.{no_stamps}
+use Rattle.one_table.specs.Common.{Ordering, Equal, Greater, Less, Enforced, Row, value_cmp, Chosen, Schema, Table}
+use Rattle.one_table.specs.Common.{IsTable, Trees, has_rowid, put_row, rowid, without_rowid, is_int, Value, Blob, Int}
+use Rattle.one_table.specs.Common.{Null, Real, Text}
+use Rattle.one_table.specs.Listing.{IsNumbered, Holds, Listed, with_rows, columns_of}
+use Rattle.sqlite.specs.Cast.{cast, cast_row}
+use Rattle.sqlite.specs.Edit.{Applies, are_fresh, edit_of, is_taken, with_rowid}
+use Rattle.sqlite.specs.Kind.TheVariants.{Integer}
+use Rattle.sqlite.specs.Ops.{unary}
+use Rattle.sqlite_trees.proofs.ListLemmas.{all-filter, all_weaker, filter_all}
+use Rattle.sqlite_trees.proofs.TreeLemmas.{IsShaped-put_row, later_rowids}
 use Rattle.sqlite_value.proofs.OrderLemmas.{value_cmp_total}
+use Rattle.std.proofs.Common.{◌≡◌, ◌≢◌, ◌⊎◌, ◌==◌, inl, inr, ℕ, zero, suc, ℤ, pos, List, [], ◌∷◌, map, filter, length}
+use Rattle.std.proofs.Common.{Bool, true, false, cond, not, ◌&&◌, ◌||◌, Some, refl, sym, ap, subst, ◌∙◌, arith}
+use Rattle.std.proofs.Common.{IsPermutation, slice_get, true≢false, IsTrue}
+use Rattle.std.proofs.lemmas.Bool.Decides.{nat_tests}
+use Rattle.std.proofs.lemmas.Cmp.{tied_itself}
+use Rattle.std.proofs.lemmas.List.Sorted.{IsPermutation-cons, IsPermutation-refl, IsPermutation-trans}
+use Rattle.std.proofs.lemmas.List.Sorted.{IsPermutation-middle}
+use Rattle.std.specs.List.{AllByRecursion}
+use Rattle.std.specs.Ordering.{is_eq, is_lt, match_ordering}
 
 -- ---- a row that has a new number
 

@@ -1,7 +1,10 @@
 -- What a text means under a schema.
-use Rattle.{std.proofs.Common.{Err, List, None, Ok, Option, Result, Some, [], false, true, ℕ, ◌∷◌, ◌≡◌}, one_table.specs.Common.{Compiled, CompileError}}
-use Rattle.one_table.specs.Common.{Returning, Compare, Eq, Key, Binary, Insert, Select, Update, Schema, Values, Term, col, op2}
-use Rattle.sqlite.{specs.{Listing.{reads_listing, understood}, Query.Query}, proofs.Callers.{IsPlain, command_of}}
+use Rattle.one_table.specs.Common.{Compiled, CompileError, Returning, Compare, Eq, Key, Binary, Insert, Select, Update}
+use Rattle.one_table.specs.Common.{Schema, Values, Term, col, op2}
+use Rattle.sqlite.proofs.Callers.{IsPlain, command_of}
+use Rattle.sqlite.specs.Listing.{reads_listing, understood}
+use Rattle.sqlite.specs.Query.{Query}
+use Rattle.std.proofs.Common.{Err, List, None, Ok, Option, Result, Some, [], false, true, ℕ, ◌∷◌, ◌≡◌}
 
 -- the text is this query, which shows columns of these names, and nothing else
 abbrev pub Asks : Schema → List ℕ → Query → List (List ℕ) → Type 0

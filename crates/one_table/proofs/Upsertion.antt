@@ -1,18 +1,38 @@
 -- The upsert of one row, told by the rows that the tables hold.
-use Rattle.std.proofs.Common.{◌≡◌, ◌⊎◌, ◌++◌, inl, inr, ℕ, suc, ◌/◌, ℤ, List, [], ◌∷◌, map, filter, length, Bool, true, false, cond, Option, Some, None, Ok}
-use Rattle.std.{proofs.Common.{refl, sym, ap, subst, ◌∙◌, arith, IsPermutation, append-nil, true≢false, IsTrue}, specs.{List.AllByRecursion, Ordering.is_eq}}
-use Rattle.std.{specs.Ordering.is_lt, proofs.lemmas.{Cmp.tied_itself, List.{Elements.filter_agree, Sorted.{IsPermutation-cons, IsPermutation-map}}}}
-use Rattle.{std.proofs.lemmas.List.Sorted.{IsPermutation-sym, IsPermutation-trans, length_permutation}, one_table.specs.Common.{Equal, Less}}
-use Rattle.one_table.specs.Common.{Enforced, Compare, Eq, Binary, InsertOr, Does, Tally, Database, value_rows, Row, value_cmp, overlay, Chosen, Given, Schema}
-use Rattle.one_table.specs.{Common.{Values, Table, Term, IsTable, Trees, has_rowid, put_row, rowid, Value, Int, Null}, Listing.{Holds, Lists, Listed}}
-use Rattle.one_table.{specs.Listing.{with_rows, columns_of, IsNumbered}, proofs.{OneTable.{over_table, passes, shows_of}, Rowed.{plainly, carried, at_place}}}
-use Rattle.{one_table.proofs.{Rowed.{put_new, first_fresh, int_at}, Insertion.{IsPlace, went, same_value}}, sqlite_rules.specs.Edit.{at_least, next_rowid}}
-use Rattle.{sqlite_rules.specs.{Keys.{conflicts, AreConflicts}, Lists.Has, declared.error.Refusal.Refusal}, sqlite.specs.{Cast.cast_row, Edit.Applies}}
-use Rattle.sqlite.specs.{Edit.{are_fresh, edit_of, is_taken, put_all, with_rowid}, Listing.understood, Ops.{binary, from_truth, is_true}, Rows.{Clears, Judged}}
-use Rattle.sqlite.specs.{Rows.{Puts, Task, Tries, TriesEach, Updates, Upserts, Written, nothing, shown, Meets, count_of}, State.{Executes, State, mode_of}}
-use Rattle.sqlite.{proofs.Callers.{IsPlain, command_of, one_step, runs_as, statement_of}, specs.View.is_int}
-use Rattle.sqlite_trees.proofs.{ListLemmas.{IsPermutation-filter, filter-map}, TreeLemmas.{IsShaped-put_row, later_rowids}}
-use Rattle.{sqlite_value.proofs.OrderLemmas.value_cmp_total, sqlite_schema.specs.declared.command.{Conflict.TheVariants.Abort, Upsert.Upsert}}
+use Rattle.one_table.proofs.Insertion.{IsPlace, went, same_value}
+use Rattle.one_table.proofs.OneTable.{over_table, passes, shows_of}
+use Rattle.one_table.proofs.Rowed.{plainly, carried, at_place, put_new, first_fresh, int_at}
+use Rattle.one_table.specs.Common.{Equal, Less, Enforced, Compare, Eq, Binary, InsertOr, Does, Tally, Database}
+use Rattle.one_table.specs.Common.{value_rows, Row, value_cmp, overlay, Chosen, Given, Schema, Values, Table, Term}
+use Rattle.one_table.specs.Common.{IsTable, Trees, has_rowid, put_row, rowid, Value, Int, Null}
+use Rattle.one_table.specs.Listing.{Holds, Lists, Listed, with_rows, columns_of, IsNumbered}
+use Rattle.sqlite.proofs.Callers.{IsPlain, command_of, one_step, runs_as, statement_of}
+use Rattle.sqlite.specs.Cast.{cast_row}
+use Rattle.sqlite.specs.Edit.{Applies, are_fresh, edit_of, is_taken, put_all, with_rowid}
+use Rattle.sqlite.specs.Listing.{understood}
+use Rattle.sqlite.specs.Ops.{binary, from_truth, is_true}
+use Rattle.sqlite.specs.Rows.{Clears, Judged, Puts, Task, Tries, TriesEach, Updates, Upserts, Written, nothing, shown}
+use Rattle.sqlite.specs.Rows.{Meets, count_of}
+use Rattle.sqlite.specs.State.{Executes, State, mode_of}
+use Rattle.sqlite.specs.View.{is_int}
+use Rattle.sqlite_rules.specs.Edit.{at_least, next_rowid}
+use Rattle.sqlite_rules.specs.Keys.{conflicts, AreConflicts}
+use Rattle.sqlite_rules.specs.Lists.{Has}
+use Rattle.sqlite_rules.specs.declared.error.Refusal.{Refusal}
+use Rattle.sqlite_schema.specs.declared.command.Conflict.TheVariants.{Abort}
+use Rattle.sqlite_schema.specs.declared.command.Upsert.{Upsert}
+use Rattle.sqlite_trees.proofs.ListLemmas.{IsPermutation-filter, filter-map}
+use Rattle.sqlite_trees.proofs.TreeLemmas.{IsShaped-put_row, later_rowids}
+use Rattle.sqlite_value.proofs.OrderLemmas.{value_cmp_total}
+use Rattle.std.proofs.Common.{◌≡◌, ◌⊎◌, ◌++◌, inl, inr, ℕ, suc, ◌/◌, ℤ, List, [], ◌∷◌, map, filter, length, Bool, true}
+use Rattle.std.proofs.Common.{false, cond, Option, Some, None, Ok, refl, sym, ap, subst, ◌∙◌, arith, IsPermutation}
+use Rattle.std.proofs.Common.{append-nil, true≢false, IsTrue}
+use Rattle.std.proofs.lemmas.Cmp.{tied_itself}
+use Rattle.std.proofs.lemmas.List.Elements.{filter_agree}
+use Rattle.std.proofs.lemmas.List.Sorted.{IsPermutation-cons, IsPermutation-map, IsPermutation-sym, IsPermutation-trans}
+use Rattle.std.proofs.lemmas.List.Sorted.{length_permutation}
+use Rattle.std.specs.List.{AllByRecursion}
+use Rattle.std.specs.Ordering.{is_eq, is_lt}
 use Rattle.one_table.proofs.Alteration as alter
 
 -- ---- membership and tests

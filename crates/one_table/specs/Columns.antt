@@ -1,25 +1,30 @@
--- The columns, keys and references of a table, as its text gives them.
+-- Columns, keys and references, as the library reads them from a CREATE TABLE statement.
+use Rattle.one_table.specs.Common.{Binary, Schema, Table, Null}
+use Rattle.sqlite.specs.Kind.{Kind}
+use Rattle.sqlite_schema.specs.declared.schema.Action.TheVariants.{NoAction}
+use Rattle.sqlite_schema.specs.declared.schema.Column.{Column}
+use Rattle.sqlite_schema.specs.declared.schema.Reference.{Reference}
+use Rattle.sqlite_schema.specs.declared.schema.Stamps.{Stamps}
 use Rattle.std.specs.Prelude.{true, false, [], None, List, ℕ}
-use Rattle.{one_table.specs.Common.{Binary, Schema, Table, Null}, sqlite.specs.Kind.Kind, sqlite_schema.specs.declared.schema.Column.Column}
-use Rattle.sqlite_schema.specs.declared.schema.{Reference.Reference, Stamps.Stamps, Action.TheVariants.NoAction}
 
--- a column that always has a value
+-- a NOT NULL column with a strict type
 abbrev pub filled : List ℕ → Kind → Column
 filled name kind = record { name = name; kind = kind; is_strict = true; not_null = true; default = Null; collation = Binary }
 
--- a column that may have none
+-- a column with a strict type that may be NULL
 abbrev pub blank : List ℕ → Kind → Column
 blank name kind = record { name = name; kind = kind; is_strict = true; not_null = false; default = Null; collation = Binary }
 
--- no default reads the time
+-- no column has a default that reads the time
 abbrev pub no_stamps : Stamps
 no_stamps = record { places = []; terms = []; formats = [] }
 
--- columns that name a row of another table by its key
+-- a foreign key: columns that refer to the primary key of the table `parent`
 abbrev pub refers : List ℕ → List ℕ → Reference
 refers columns parent = record { columns = columns; parent = parent; parent_columns = []; on_delete = NoAction; on_update = NoAction; is_deferred = false }
 
--- a table with a primary key, lists of columns that must be unique, and references; its columns count from 1
+-- A table with a primary key, lists of columns that must be unique, and foreign keys. A column is named by its
+-- place, the first place being 1.
 abbrev pub keyed : List ℕ → List Column → List ℕ → List (List ℕ) → List Reference → Table
 keyed name columns primary uniques references = record {
   name = name;

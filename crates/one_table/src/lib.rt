@@ -1,4 +1,5 @@
-//! Statements on one table of a database at a time, whatever its schema is.
+//! SQL statements on one table at a time, run in a borrowed transaction, for any schema. `specs/` and `proofs/` say
+//! what such statements show and change in terms of the rows of the table.
 #![tactic(auto)]
 
 mod statements;

@@ -1,11 +1,15 @@
+//! Runs a query or another statement in a borrowed transaction.
+ghost use Rattle.one_table.specs.Lending.{Lends};
+ghost use Rattle.sqlite.specs.Held.{state};
+ghost use Rattle.sqlite.specs.State.{Executes, HasCleanDisk, Shown, IsLive};
+ghost use Rattle.sqlite.specs.Values.{bound};
 ghost use Rattle.std.specs.Prelude.{◌≡◌, ℕ, IfOk, IsTrue, OnOk, Ok, false, is_ok};
-ghost use Rattle.{sqlite.specs.{Values.bound, Held.state, State.{Executes, HasCleanDisk, Shown, IsLive}}, one_table.specs.Lending.Lends};
 
 use sqlite::{Alter, Connection, Error, Row, Transaction};
 use sqlite_value::value::ValueRef;
 
-/// Runs a query in a transaction that it is lent, and gives the rows. If the query fails, the transaction may be over;
-/// otherwise it goes on.
+/// Runs a query in a borrowed transaction, and returns the rows. If the query succeeds, the transaction is still open;
+/// if it fails, the transaction may have ended. The error is the database's.
 pub fn ask<S: Alter>(
     tx: &mut Transaction<'_, S>,
     sql: &str,
@@ -21,8 +25,8 @@ pub fn ask<S: Alter>(
     }
 }
 
-/// Runs a statement that shows no rows, in a transaction that it is lent. If the statement fails, the transaction may
-/// be over; otherwise it goes on.
+/// Runs a statement that returns no rows in a borrowed transaction. If the statement succeeds, the transaction is still
+/// open; if it fails, the transaction may have ended. The error is the database's.
 pub fn run<S: Alter>(
     tx: &mut Transaction<'_, S>,
     sql: &str,
@@ -38,8 +42,9 @@ pub fn run<S: Alter>(
     }
 }
 
-/// Gives a proof that an open connection shows, outside a transaction, what it has committed, and that it is live. The
-/// library promises this only along with the answers of `is_autocommit` and `schema`, so both are asked, and dropped.
+/// Proves that a connection is live and that, if it is open and outside a transaction, its content is what it has
+/// committed. The library promises this only in the contracts of `is_autocommit` and `schema`; the body calls both and
+/// drops their answers.
 pub fn know_settled<S: Alter>(conn: &Connection<S>)
     ensures settled { (state S.Store conn.now).in_transaction ≡ false → IsTrue (state S.Store conn.now).is_open
         → (state S.Store conn.now).now ≡ (state S.Store conn.now).committed }

@@ -1,9 +1,10 @@
--- Properties of each element of a list, and lists along which a number does not fall.
-use Rattle.std.proofs.Common.{◌≡◌, ◌∙◌, ℕ, zero, suc, ◌≤◌, List, [], ◌∷◌, ◌++◌, length, length-append, take, slice_get, Some, None, refl, ap, arith}
+-- Properties of every element of a list, and lists along which a number does not decrease.
 use Rattle.pawn_base.specs.Lists.{DoNotFall, Each, last_by}
+use Rattle.std.proofs.Common.{◌≡◌, ◌∙◌, ℕ, zero, suc, ◌≤◌, List, [], ◌∷◌, ◌++◌, length, length-append, take, slice_get}
+use Rattle.std.proofs.Common.{Some, None, refl, ap, arith}
 
 infixr 5 ◌&◌
--- what holds of an element, and then of those after it
+-- a property of the first element and of all elements after it
 pub ◌&◌ : {A B : Type 0} → A → B → A × B
 a & b = (a, b)
 
@@ -27,12 +28,12 @@ pub Each-map : {A : Type 0} (P Q : A → Type 0) (xs : List A) → ((x : A) → 
 Each-map P Q [] f h = tt
 Each-map P Q (x ∷ xs) f h = (f x h.0, Each-map P Q xs f h.1)
 
--- what holds of all, holds of each
+-- a property of all elements is one of each element
 pub Each-all : {A : Type 0} (P : A → Type 0) (xs : List A) → ((x : A) → P x) → Each P xs
 Each-all P [] f = tt
 Each-all P (x ∷ xs) f = (f x, Each-all P xs f)
 
--- what does not fall lies between the first and the last
+-- a number that does not decrease lies between that of the first and that of the last element
 pub DoNotFall-each : {A : Type 0} (f : A → ℕ) (low n high : ℕ) (xs : List A) → low ≤ n → DoNotFall f n xs → last_by f n xs ≤ high
     → Each (λ x. (low ≤ f x) × (f x ≤ high)) xs
 DoNotFall-each f low n high [] after h before = tt

@@ -1,6 +1,8 @@
--- What tests of numbers and of truth values tell.
-use Rattle.std.{proofs.Common.{◌≡◌, ℕ, ◌<◌, ◌≤◌, ◌==◌, ◌&&◌, Bool, true, false, refl, arith}, specs.Prelude.{T, nat_le, nat_lt}}
-use Rattle.std.{proofs.lemmas.Bool.Decides.nat_tests, specs.Ordering.{is_eq, is_lt, nat_cmp}}
+-- What the results of tests on numbers and Booleans prove.
+use Rattle.std.proofs.Common.{◌≡◌, ℕ, ◌<◌, ◌≤◌, ◌==◌, ◌&&◌, Bool, true, false, refl, arith}
+use Rattle.std.proofs.lemmas.Bool.Decides.{nat_tests}
+use Rattle.std.specs.Ordering.{is_eq, is_lt, nat_cmp}
+use Rattle.std.specs.Prelude.{T, nat_le, nat_lt}
 
 pub equal : (n m : ℕ) → n ≡ m → (n == m) ≡ true
 equal n m e = grind (arith, nat_tests, e)

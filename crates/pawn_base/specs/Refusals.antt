@@ -1,7 +1,7 @@
 -- Refusals in order: the first condition that holds decides.
 use Rattle.std.specs.Prelude.{◌≡◌, ◌⊎◌, Bool, false, if◌then◌else◌, List, [], ◌∷◌, Result, Ok, Err, IsOk}
 
--- the first refusal whose condition holds, or else the answer
+-- the first refusal whose condition holds; if none holds, the answer
 abbrev pub first_of : {V E : Type 0} → List (Bool × E) → Result V E → Result V E
 first_of [] answer = answer
 first_of (row ∷ rows) answer = if row.0 then Err row.1 else first_of rows answer
@@ -11,11 +11,11 @@ abbrev pub NoneApplies : {E : Type 0} → List (Bool × E) → Type 0
 NoneApplies [] = Unit {0}
 NoneApplies (row ∷ rows) = (row.0 ≡ false) × NoneApplies rows
 
--- the answer is what the rules say, or an error that has an excuse: memory was refused, or a keeper did not answer
+-- the result is the one that the rules state, or an error that `excuse` admits: out of memory, or a keeper that failed
 abbrev pub IsSaid : {V E : Type 0} → (E → Type 0) → Result V E → Result V E → Type 0
 IsSaid excuse said (Ok value) = said ≡ Ok value
 IsSaid excuse said (Err why) = excuse why ⊎ (said ≡ Err why)
 
--- memory was refused where the rules would have accepted
+-- the error is `memory`, and the rules would have accepted
 abbrev pub IsWant : {V E : Type 0} → E → Result V E → E → Type 0
 IsWant memory said why = (why ≡ memory) × IsOk said

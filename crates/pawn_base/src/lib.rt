@@ -1,4 +1,4 @@
-//! What the crates above share: rows in order, texts within limits, and refusals in the order of the rules.
+//! Definitions that the other crates share: rows in order, texts within limits, and refusals in the order of the rules.
 #![tactic(auto)]
 
 mod rows;

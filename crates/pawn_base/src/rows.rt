@@ -1,9 +1,11 @@
+//! `Rows`, an ordered list of records such as the entries of a debt.
+
 ghost use Rattle.std.specs.Prelude.{◌≡◌, ◌↔◌, [], ◌∷◌, ◌++◌, length, OnOk, OnErr, IfOk, IsTrue};
 
 use std::alloc::{AllocError, Global};
 use std::marker::Model;
 
-/// The rows of a record, in order: its entries, secrets or extensions. A clause sees their list.
+/// The rows of a record, in order: its entries, secrets or extensions. In contracts the value is the list of the rows.
 #[derive(Drop)]
 pub struct Rows<T> {
     items: Vec<T>,
@@ -27,7 +29,7 @@ impl<T: Copy> Rows<T> {
         }
     }
 
-    /// The rows that a vector holds, in its order.
+    /// The rows of a vector, in its order.
     pub fn from_vec(items: Vec<T>) -> Rows<T>
         ensures value { result ≡ items.items }
     {
@@ -55,7 +57,7 @@ impl<T: Copy> Rows<T> {
         self.items.is_empty()
     }
 
-    /// Adds a row at the end. If memory is refused, the rows are unchanged.
+    /// Adds a row at the end. If memory runs out, it returns `AllocError` and the rows are unchanged.
     pub fn push(&mut self, row: T) -> Result<(), AllocError>
         ensures ok { OnOk result (self.new ≡ self.old ++ row ∷ []) }
         ensures err { OnErr result (self.new ≡ self.old) }
@@ -64,7 +66,7 @@ impl<T: Copy> Rows<T> {
         Ok(())
     }
 
-    /// A copy of the rows. The only error is that memory is refused.
+    /// A copy of the rows. Fails only if memory runs out.
     pub fn copy(&self) -> Result<Rows<T>, AllocError>
         ensures ok { IfOk result (λ rows. rows ≡ self.now) }
     {

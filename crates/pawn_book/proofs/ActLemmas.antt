@@ -1,10 +1,17 @@
--- What is planned and made is the host's step.
-use Rattle.std.proofs.Common.{◌≡◌, ℕ, ◌<◌, ◌≤◌, Some, None, Ok, Err, refl, ◌∙◌, ap, sym, subst, arith, inl, inr, Result, if◌then◌else◌, Option, true, false}
-use Rattle.{std.{proofs.{Common.{nat_lt, ◌⊎◌}, lemmas.Bool.Decides.nat_tests}, specs.FinMap.get}, pawn_book.specs.{Common.Stamp, Plans.{Acts, Commits}}}
-use Rattle.pawn_book.specs.{Plans.{IsLeftByAct, IsLeftByCommit, IsLeftByStep, IsUnwell, Plans, next_host}, BookStep.{BookValue, Makes, Outcome, Refuses, Says}}
-use Rattle.pawn_book.specs.{BookStep.{Replied, book_step, changed_book, out_of}, Books.{Change, Full, Refusal, Reply, Request}, HostStep.{Host, host_after}}
-use Rattle.pawn_book.specs.{HostStep.{host_step, rows, with_book, within_limit}, Keeping.IsLeftBy, Sound.IsSound, Changes.{book_number, with_change}}
+-- A plan whose change is saved is the host's step.
+use Rattle.pawn_book.specs.BookStep.{BookValue, Makes, Outcome, Refuses, Says, Replied, book_step, changed_book, out_of}
+use Rattle.pawn_book.specs.Books.{Change, Full, Refusal, Reply, Request}
+use Rattle.pawn_book.specs.Changes.{book_number, with_change}
+use Rattle.pawn_book.specs.Common.{Stamp}
+use Rattle.pawn_book.specs.HostStep.{Host, host_after, host_step, rows, with_book, within_limit}
+use Rattle.pawn_book.specs.Keeping.{IsLeftBy}
+use Rattle.pawn_book.specs.Plans.{Acts, Commits, IsLeftByAct, IsLeftByCommit, IsLeftByStep, IsUnwell, Plans, next_host}
+use Rattle.pawn_book.specs.Sound.{IsSound}
 use Rattle.pawn_book.specs.declared.fault.SaveError.{SaveError}
+use Rattle.std.proofs.Common.{◌≡◌, ℕ, ◌<◌, ◌≤◌, Some, None, Ok, Err, refl, ◌∙◌, ap, sym, subst, arith, inl, inr, Result}
+use Rattle.std.proofs.Common.{if◌then◌else◌, Option, true, false, nat_lt, ◌⊎◌}
+use Rattle.std.proofs.lemmas.Bool.Decides.{nat_tests}
+use Rattle.std.specs.FinMap.{get}
 use Rattle.pawn_book.specs.declared.fault.SaveError.TheVariants as Save
 
 -- the step of the request's book
@@ -42,7 +49,7 @@ crowding h b change reply is over =
     let yes : nat_lt h.limit (rows (with_book h b (changed_book (get h.books b) change))) ≡ true = grind (arith, nat_tests, more) in
     ap (λ v. if v then Refuses Full else Makes change reply) yes
 
--- a plan that was made is the step
+-- a plan whose change was saved is the step
 pub made_acts : (h : Host) (operator : ℕ) (stamp : Stamp) (request : Request) (stands : Host → Type 0) (change : Option Change) (reply : Reply)
     → IsSound h → Plans h request.book (step_of h operator stamp request) (Ok (record { change = change; reply = reply })) → Commits h change (Ok tt) stands
     → Acts h operator stamp request (Ok reply) stands
@@ -59,7 +66,7 @@ made_acts h operator stamp request stands (Some change) reply sound plans made =
     (sym (same_limit h (book_number change) (changed_book (get h.books (book_number change)) change))) made.1 in
     (ap out_of is, subst stands (sym after) made.0, subst IsSound (sym after) (record { books = plans.1.1.sound; fits = fits }))
 
--- a plan that was not made
+-- a plan whose change was not saved
 pub unmade_acts : (h : Host) (operator : ℕ) (stamp : Stamp) (request : Request) (stands : Host → Type 0) (change : Option Change) (reply : Reply)
     (why : Refusal) → Plans h request.book (step_of h operator stamp request) (Ok (record { change = change; reply = reply }))
     → Commits h change (Err why) stands → Acts h operator stamp request (Err why) stands
@@ -78,13 +85,13 @@ saved_left h change c before result done left is ok by =
     let after : left ≡ with_change h c = subst (λ (r : Result (Unit {0}) SaveError). IsLeftBy h c before r left) ok by in
     subst (λ o. IsLeftByCommit h o before (Ok tt) left) (sym is) after
 
--- how a save's error is told
+-- how the error of a save is reported
 abbrev pub IsRefusalOf : SaveError → Refusal → Type 0
 IsRefusalOf Save.Full why = why ≡ Full
 IsRefusalOf Save.Memory why = IsUnwell why
 IsRefusalOf (Save.Store fault) why = IsUnwell why
 
--- after one that was not: for want of rows, of memory, or by a fault of the store
+-- after a change that was not saved: the rows are full, memory ran out, or the store failed
 unsaved_left : (h : Host) (c : Change) (before : Host → Type 0) (error : SaveError) (why : Refusal) (left : Host)
     → IsRefusalOf error why → IsLeftBy {T = Unit {0}} h c before (Err error) left → IsLeftByCommit h (Some c) before (Err why) left
 unsaved_left h c before Save.Full why left full by = inl by
@@ -100,7 +107,7 @@ refused_left h change c before result error why left is err refusal by =
     subst (λ o. IsLeftByCommit h o before (Err why) left) (sym is)
     (unsaved_left h c before error why left refusal (subst (λ (r : Result (Unit {0}) SaveError). IsLeftBy h c before r left) err by))
 
--- after the step of a plan that was made
+-- after the step of a plan whose change was saved
 pub made_left : (h : Host) (operator : ℕ) (stamp : Stamp) (request : Request) (change : Option Change) (reply : Reply) (stands before mid : Host → Type 0)
     (left : Host) → Plans h request.book (step_of h operator stamp request) (Ok (record { change = change; reply = reply })) → Commits h change (Ok tt) stands
     → ((g : Host) → mid g → before g) → IsLeftByCommit h change mid (Ok tt) left → IsLeftByAct h operator stamp request before (Ok reply) left
@@ -112,7 +119,7 @@ made_left h operator stamp request (Some change) reply stands before mid left pl
     ∙ fitting h request.book change reply plans.1.0 made.1 in
     subst (λ o. IsLeftByStep h request.book o before left) (sym is) (by ∙ sym (same_change h request.book change plans.1.0))
 
--- and of one that was not
+-- after the step of a plan whose change was not saved
 pub unmade_left : (h : Host) (operator : ℕ) (stamp : Stamp) (request : Request) (change : Option Change) (reply : Reply) (why : Refusal)
     (before mid : Host → Type 0) (left : Host) → Plans h request.book (step_of h operator stamp request) (Ok (record { change = change; reply = reply }))
     → ((g : Host) → mid g → before g) → IsLeftByCommit h change mid (Err why) left → IsLeftByAct h operator stamp request before (Err why) left

@@ -1,17 +1,30 @@
 -- A plan of a command is the book's step.
-use Rattle.std.proofs.Common.{◌≡◌, ℕ, Some, None, Ok, Err, refl, ◌∙◌, ap, sym, subst, arith, inl, inr, if◌then◌else◌, Option, Result, Bool, true, false, IfSome}
-use Rattle.{std.specs.FinMap.get, pawn_book.specs.Common.{Agreement, Answered, Changed, Command, Done, IsStanding, IsUtf8, Judged}}
-use Rattle.pawn_book.specs.{Common.{PledgeValue, Receipt, Refused, Stamp, pledge_step}, Rows.{AreDistinct, IsUnder, terms_at}, Sound.{AreSound, AreWords}}
-use Rattle.pawn_book.specs.{Sound.{HasTextsAndWords, IsSound, IsSoundBook, IsWord}, BookStep.{BookValue, Makes, Outcome, Refuses, Says, bearer_commands}}
-use Rattle.pawn_book.specs.BookStep.{broker_commands, changed_book, is_live, judged_outcome, live_at, only_live, pledge_from, pledge_in, put_from}
-use Rattle.pawn_book.specs.{BookStep.within_window, Changes.{CanSave, Continues, book_number, with_change}, Books.{Change, Planned, PutPledge, Refusal, Reply}}
-use Rattle.pawn_book.{specs.{HostStep.{Host, with_book}, Plans.{FindsRoom, IsOutcome, Plans, outcome_of}}, proofs.{KeptLemmas.kept_moved, Places.pledge_within}}
-use Rattle.pawn_book.proofs.{Words.words_moved, SoundLists.{map-put, versions_put}, Plans.changed_is, Sounds.{absurd_none, each_at, each_put, length-put}}
-use Rattle.{pawn_book.proofs.Sounds.{numbered_at, numbered_put, sound_with}, pawn_pledge.{specs.Commands.IsCommand, proofs.Steps.stays_standing}}
+use Rattle.pawn_book.proofs.KeptLemmas.{kept_moved}
+use Rattle.pawn_book.proofs.Places.{pledge_within}
+use Rattle.pawn_book.proofs.Plans.{changed_is}
+use Rattle.pawn_book.proofs.SoundLists.{map-put, versions_put}
+use Rattle.pawn_book.proofs.Sounds.{absurd_none, each_at, each_put, length-put, numbered_at, numbered_put, sound_with}
+use Rattle.pawn_book.proofs.Words.{words_moved}
+use Rattle.pawn_book.specs.BookStep.{BookValue, Makes, Outcome, Refuses, Says, bearer_commands, broker_commands}
+use Rattle.pawn_book.specs.BookStep.{changed_book, is_live, judged_outcome, live_at, only_live, pledge_from, pledge_in}
+use Rattle.pawn_book.specs.BookStep.{put_from, within_window}
+use Rattle.pawn_book.specs.Books.{Change, Planned, PutPledge, Refusal, Reply}
+use Rattle.pawn_book.specs.Changes.{CanSave, Continues, book_number, with_change}
+use Rattle.pawn_book.specs.Common.{Agreement, Answered, Changed, Command, Done, IsReachable, IsUtf8, Judged}
+use Rattle.pawn_book.specs.Common.{PledgeValue, Receipt, Refused, Stamp, pledge_step}
+use Rattle.pawn_book.specs.HostStep.{Host, with_book}
+use Rattle.pawn_book.specs.Plans.{FindsRoom, IsOutcome, Plans, outcome_of}
+use Rattle.pawn_book.specs.Rows.{AreDistinct, IsUnder, terms_at}
+use Rattle.pawn_book.specs.Sound.{AreSound, AreWords, HasTextsAndWords, IsSound, IsSoundBook, IsWord}
+use Rattle.pawn_pledge.proofs.Steps.{stays_reachable}
+use Rattle.pawn_pledge.specs.Commands.{IsCommand}
 use Rattle.pawn_terms.specs.Calendar.{IsDayNumber, IsStampDay}
+use Rattle.std.proofs.Common.{◌≡◌, ℕ, Some, None, Ok, Err, refl, ◌∙◌, ap, sym, subst, arith, inl, inr, if◌then◌else◌}
+use Rattle.std.proofs.Common.{Option, Result, Bool, true, false, IfSome}
+use Rattle.std.specs.FinMap.{get}
 
--- a book with a pledge in place of one that stood
-sound_put : (book : BookValue) (n : ℕ) (p q : PledgeValue) → IsSoundBook book → pledge_from 1 book.pledges n ≡ Some p → Continues p q → IsStanding q
+-- a book with a pledge in place of an earlier one
+sound_put : (book : BookValue) (n : ℕ) (p q : PledgeValue) → IsSoundBook book → pledge_from 1 book.pledges n ≡ Some p → Continues p q → IsReachable q
     → AreWords q.secrets → IsSoundBook (record book { pledges = put_from 1 book.pledges n q })
 sound_put book n p q sound is kept standing words =
     let within = pledge_within 1 book.pledges n p is in
@@ -29,7 +42,7 @@ sound_put book n p q sound is kept standing words =
       capacity = sound.capacity;
       rows = record {
         numbered = numbered_put 1 book.pledges n q sound.rows.numbered number low (omega (arith, high));
-        standing = each_put IsStanding 1 book.pledges n q sound.rows.standing standing;
+        reachable = each_put IsReachable 1 book.pledges n q sound.rows.reachable standing;
         references = subst AreDistinct (sym (map-put (λ p. p.agreement.opening.reference) 1 book.pledges n p q is
             (ap (λ (a : Agreement). a.opening.reference) kept.agreement))) sound.rows.references;
         under = each_put (IsUnder book.terms) 1 book.pledges n q sound.rows.under (subst (λ (a : Agreement). terms_at book.terms a.version ≡ Some a.terms)
@@ -54,7 +67,7 @@ put_saves : (h : Host) (b n : ℕ) (at : BookValue) (p q : PledgeValue) (stamp :
 put_saves h b n at p q stamp command done sound is stands day word given step =
     let one = (sound.books b at is).1 in
     let kept = kept_moved p q stamp command done step in
-    let standing = stays_standing p q stamp command done day given (each_at IsStanding 1 at.pledges n p one.rows.standing stands) step in
+    let standing = stays_reachable p q stamp command done day given (each_at IsReachable 1 at.pledges n p one.rows.reachable stands) step in
     let words = words_moved p q stamp command done word (each_at HasTextsAndWords 1 at.pledges n p one.written stands).secrets step in
     let book : BookValue = record at { pledges = put_from 1 at.pledges n q } in
     let same : with_change h (PutPledge b n q) ≡ with_book h b (Some book) =
@@ -69,7 +82,7 @@ change_of (Refuses why) other = other
 change_of (Says out) other = other
 change_of (Makes change reply) other = change
 
--- what a command's outcome changes may be saved
+-- the change of a command's outcome may be saved
 pub command_saves : (h : Host) (b n : ℕ) (p : PledgeValue) (stamp : Stamp) (command : Command) (change : Option Change) (reply : Reply) → IsSound h
     → pledge_in (get h.books b) n ≡ Some p → IsStampDay stamp.day → IsWord stamp.word → IsCommand command
     → judged_outcome b n (pledge_step p stamp command) ≡ outcome_of change reply → IfSome change (λ c. (book_number c ≡ b) × CanSave h c)
@@ -107,7 +120,7 @@ receipt_plans h b r p stamp command (Ok planned) sound live day word given is =
 receipt_plans h b r p stamp command (Err why) sound live day word given (inl unwell) = inl unwell
 receipt_plans h b r p stamp command (Err why) sound live day word given (inr is) = inr (ap (bearer_commands b r.number stamp command) (sym live) ∙ is)
 
--- what a broker's command comes to is the window's say on what was planned
+-- the outcome of a broker's command is that of the plan, unless the window is full
 room_steps : (h : Host) (b n : ℕ) (at : BookValue) (p : PledgeValue) (stamp : Stamp) (command : Command) (planned : Planned) → get h.books b ≡ Some at
     → Some p ≡ pledge_in (get h.books b) n → judged_outcome b n (pledge_step p stamp command) ≡ outcome_of planned.change planned.reply
     → broker_commands at b n stamp command (pledge_from 1 at.pledges n) ≡ within_window at (outcome_of planned.change planned.reply)

@@ -1,18 +1,27 @@
 -- A book grows with each request.
-use Rattle.std.proofs.Common.{◌≡◌, ℕ, List, [], ◌∷◌, ◌++◌, length, Some, None, Ok, Err, refl, ◌∙◌, ap, sym, subst, arith, append_assoc, if◌then◌else◌, Option}
-use Rattle.{std.proofs.Common.{Result, ◌==◌, Bool, true, false, map, append-nil}, pawn_book.specs.Common.{Answered, Changed, Command, Done, Judged, Opening}}
-use Rattle.pawn_book.specs.{Common.{PledgeValue, Rates, Receipt, Refused, Stamp, pledge_step}, Books.{AddTerms, Bearer, BookFilled, BookNotEmpty, BookRows}}
-use Rattle.pawn_book.specs.Books.{Broker, Caller, Import, ImportBook, Imported, NewTerms, NoSuchReceipt, OnPledge, OnReceipt, Opened, Operator, Present}
-use Rattle.pawn_book.specs.{Books.{PutPledge, PutTerms, Refusal, TakePledge, TermsPut, Viewer, WindowFull}, BookStep.{BookValue, Makes, Outcome}}
-use Rattle.pawn_book.specs.BookStep.{Refuses, Says, Shown, are_same_rates, are_unknown, bearer_commands, book_after, book_head, book_step, broker_commands}
-use Rattle.pawn_book.specs.BookStep.{confirmed_booking, filled_book, first_receipt, import_rows, is_empty, is_same_book, is_same_opening, is_window_full}
-use Rattle.pawn_book.specs.BookStep.{judged_outcome, live_at, make_or_refuse, newest, next_pledge, next_terms, pledge_from, pledge_in, present_receipts}
-use Rattle.pawn_book.specs.{BookStep.{put_from, put_terms, show_pledge, take_pledge, with_reference, within_window}, Laws.book_run, Rows.terms_at}
-use Rattle.pawn_book.proofs.{Sounds.{absurd_none, put_next}, KeptLemmas.{AreKept, are_kept_on, are_kept_push, are_kept_put, are_kept_same, kept_moved}}
-use Rattle.pawn_book.proofs.{CommandPlans.live_is, Plans.{empty_lists, taken_is, without_lists}}
+use Rattle.pawn_book.proofs.CommandPlans.{live_is}
+use Rattle.pawn_book.proofs.KeptLemmas.{AreKept, are_kept_on, are_kept_push, are_kept_put, are_kept_same, kept_moved}
+use Rattle.pawn_book.proofs.Plans.{empty_lists, taken_is, without_lists}
+use Rattle.pawn_book.proofs.Sounds.{absurd_none, put_next}
+use Rattle.pawn_book.specs.BookStep.{BookValue, Makes, Outcome, Refuses, Says, Shown, are_same_rates, are_unknown}
+use Rattle.pawn_book.specs.BookStep.{bearer_commands, book_after, book_head, book_step, broker_commands}
+use Rattle.pawn_book.specs.BookStep.{confirmed_booking, filled_book, first_receipt, import_rows, is_empty, is_same_book}
+use Rattle.pawn_book.specs.BookStep.{is_same_opening, is_window_full, judged_outcome, live_at, make_or_refuse, newest}
+use Rattle.pawn_book.specs.BookStep.{next_pledge, next_terms, pledge_from, pledge_in, present_receipts, put_from}
+use Rattle.pawn_book.specs.BookStep.{put_terms, show_pledge, take_pledge, with_reference, within_window}
+use Rattle.pawn_book.specs.Books.{AddTerms, Bearer, BookFilled, BookNotEmpty, BookRows, Broker, Caller, Import}
+use Rattle.pawn_book.specs.Books.{ImportBook, Imported, NewTerms, NoSuchReceipt, OnPledge, OnReceipt, Opened, Operator}
+use Rattle.pawn_book.specs.Books.{Present, PutPledge, PutTerms, Refusal, TakePledge, TermsPut, Viewer, WindowFull}
+use Rattle.pawn_book.specs.Common.{Answered, Changed, Command, Done, Judged, Opening, PledgeValue, Rates, Receipt}
+use Rattle.pawn_book.specs.Common.{Refused, Stamp, pledge_step}
+use Rattle.pawn_book.specs.Laws.{book_run}
+use Rattle.pawn_book.specs.Rows.{terms_at}
+use Rattle.std.proofs.Common.{◌≡◌, ℕ, List, [], ◌∷◌, ◌++◌, length, Some, None, Ok, Err, refl, ◌∙◌, ap, sym, subst}
+use Rattle.std.proofs.Common.{arith, append_assoc, if◌then◌else◌, Option, Result, ◌==◌, Bool, true, false, map}
+use Rattle.std.proofs.Common.{append-nil}
 use Rattle.pawn_book.specs.declared.request.View.TheVariants as seen
 
--- what stays and what grows in a book
+-- the parts of a book that stay the same and those that grow
 pub record Grown (old new : BookValue) : Type 0 where
   pub key : new.key ≡ old.key
   pub name : new.name ≡ old.name
@@ -88,7 +97,7 @@ take_pledge_grows book b opening stamp None = from (next_pledge (book_head book)
 present_stays : (book : BookValue) (stamp : Stamp) (shown : List (Option PledgeValue)) → GrowsTo book (book_after (Some book) (present_receipts stamp shown))
 present_stays book stamp shown = grows_by book (are_unknown shown) (Refuses NoSuchReceipt) (Says (Shown stamp.day shown)) (stays book) (stays book)
 
--- a book with what a command made of a pledge
+-- a book with a pledge after a command
 put_grows : (book : BookValue) (n : ℕ) (p q : PledgeValue) (stamp : Stamp) (command : Command) (done : Done) → pledge_from 1 book.pledges n ≡ Some p
     → pledge_step p stamp command ≡ Changed q done → Grown book (record book { pledges = put_from 1 book.pledges n q })
 put_grows book n p q stamp command done at step = record {

@@ -1,8 +1,13 @@
--- What every change keeps of the pledges that stand.
-use Rattle.std.proofs.Common.{◌≡◌, ℕ, ◌+◌, List, [], ◌∷◌, ◌++◌, Some, refl, ◌∙◌, ap, sym, subst, if◌then◌else◌, true, false, ◌==◌}
-use Rattle.pawn_book.specs.{Common.{Agreement, Changed, Command, Done, PledgeValue, Stamp, pledge_step}, Changes.Continues, Rows.is_same_text}
-use Rattle.{pawn_book.{specs.BookStep.{pledge_from, put_from, with_reference}, proofs.Sounds.{absurd_none, some_is}}, pawn_pledge.proofs.Steps.agreement_stays}
-use Rattle.pawn_pledge.proofs.{Steps.lists_of_step, Growth.{grows-moved, grows-same, grows-then}}
+-- What every change preserves of the pledges of a book.
+use Rattle.pawn_book.proofs.Sounds.{absurd_none, some_is}
+use Rattle.pawn_book.specs.BookStep.{pledge_from, put_from, with_reference}
+use Rattle.pawn_book.specs.Changes.{Continues}
+use Rattle.pawn_book.specs.Common.{Agreement, Changed, Command, Done, PledgeValue, Stamp, pledge_step}
+use Rattle.pawn_book.specs.Rows.{is_same_text}
+use Rattle.pawn_pledge.proofs.Growth.{grows-moved, grows-same, grows-then}
+use Rattle.pawn_pledge.proofs.Steps.{agreement_stays, lists_of_step}
+use Rattle.std.proofs.Common.{◌≡◌, ℕ, ◌+◌, List, [], ◌∷◌, ◌++◌, Some, refl, ◌∙◌, ap, sym, subst, if◌then◌else◌, true}
+use Rattle.std.proofs.Common.{false, ◌==◌}
 
 pub kept_same : (p : PledgeValue) → Continues p p
 kept_same p = record { agreement = refl; lists = grows-same p }
@@ -10,7 +15,7 @@ kept_same p = record { agreement = refl; lists = grows-same p }
 pub kept_on : (p q r : PledgeValue) → Continues p q → Continues q r → Continues p r
 kept_on p q r f s = record { agreement = s.agreement ∙ f.agreement; lists = grows-then p q r f.lists s.lists }
 
--- no command takes any of it away
+-- every command preserves it
 pub kept_moved : (p q : PledgeValue) (stamp : Stamp) (c : Command) (d : Done) → pledge_step p stamp c ≡ Changed q d → Continues p q
 kept_moved p q stamp c d h = record {
   agreement = agreement_stays p q stamp c d h;
@@ -37,7 +42,7 @@ pub are_kept_push : (ps more : List PledgeValue) → AreKept ps (ps ++ more)
 are_kept_push [] more = tt
 are_kept_push (p ∷ ps) more = (kept_same p, are_kept_push ps more)
 
--- with one that is kept put in its place
+-- the same with one pledge replaced by one that preserves it
 pub are_kept_put : (k : ℕ) (ps : List PledgeValue) (n : ℕ) (p q : PledgeValue) → pledge_from k ps n ≡ Some p → Continues p q → AreKept ps (put_from k ps n q)
 are_kept_put k [] n p q is kept = tt
 are_kept_put k (r ∷ ps) n p q is kept =
@@ -58,7 +63,7 @@ number_kept k (r ∷ ps) (s ∷ qs) n p all is =
       | false ↦ λ there. number_kept (k + 1) ps qs n p all.1 there
     ] is
 
--- .. and so is the pledge of a reference
+-- the pledge of a reference is kept
 pub reference_kept : (ps qs : List PledgeValue) (reference : List ℕ) (p : PledgeValue) → AreKept ps qs → with_reference ps reference ≡ Some p
     → (q : PledgeValue) × (with_reference qs reference ≡ Some q) × Continues p q
 reference_kept [] qs reference p all is = absurd_none is

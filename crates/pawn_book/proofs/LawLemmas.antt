@@ -1,19 +1,37 @@
 -- The laws of books.
-use Rattle.std.proofs.Common.{◌≡◌, ℕ, ◌+◌, zero, suc, List, [], ◌∷◌, ◌++◌, length, Some, None, Ok, Err, refl, ◌∙◌, ap, sym, subst, arith, if◌then◌else◌}
-use Rattle.std.proofs.{Common.{is_some, Option, Result, ◌==◌, ◌&&◌, ◌||◌, Bool, true, false, nat_lt, nat_le, unwrap_or, slice_get}, lemmas.Bool.and_from}
-use Rattle.{std.proofs.lemmas.Bool.Decides.nat_tests, pawn_book.specs.Common.{Agreement, AreNumbered, Command, Fixed, IsStanding, Issued, Kind, Opening}}
-use Rattle.pawn_book.specs.{Common.{PledgeValue, Rates, Receipt, Running, Stamp, TermsFault, result_unwrap_or, terms_answer}, Books.{AddTerms, Bearer}}
-use Rattle.pawn_book.specs.Books.{BookFilled, BookMade, BookNotEmpty, BookTaken, Broker, Caller, Change, Import, ImportBook, NewTerms, NoSuchBook}
-use Rattle.pawn_book.specs.Books.{NotOperator, OnPledge, Opened, Operator, PutPledge, PutTerms, RefTaken, Refusal, Reply, TakePledge, TermsFull, Viewer}
-use Rattle.pawn_book.specs.{Books.{TermsPut, TermsSeq}, Laws.{Asks, BookChangesDiffer, IsMaking, RepeatsActOnce, book_run}, BookStep.{BookValue, Refuses, Says}}
-use Rattle.pawn_book.specs.BookStep.{Replied, are_same_rates, book_head, book_step, changed_book, filled_book, first_receipt, first_secret, import_rows}
-use Rattle.pawn_book.specs.BookStep.{is_live, is_same_book, is_same_end, is_same_flag, is_same_kind, is_same_opening, made_book, make_book, newest, next_terms}
-use Rattle.pawn_book.specs.{BookStep.{only_live, pledge_from, put_from, put_terms, take_pledge, under_terms, with_reference}, Changes.Continues}
-use Rattle.pawn_book.{specs.{Sound.IsSoundBook, Rows.{is_same_text, terms_at}, Limits.most_terms}, proofs.Sounds.{absurd_none, each_at, some_is}}
-use Rattle.pawn_book.proofs.{KeptLemmas.{number_kept, put_there, reference_kept}, Plans.{next_is, not_standing, taken_is}, GrowLemmas.{Grown, grown_same}}
-use Rattle.pawn_book.proofs.{GrowLemmas.{next_pledges, run_grows}, MadeLemmas.{BookIs, CommandIs, DidOn, MadeBy, PledgeIs, RowsAre, TermsAre, made_by}}
-use Rattle.pawn_terms.specs.{Limits.{most_keep, most_rate}, declared.terms.TermsFault.TheVariants.{KeepTooHigh, KeepingRate, RateTooHigh}}
-use Rattle.{pawn_pledge.proofs.Steps.changes_differ, pawn_base.proofs.{TestLemmas.equal_itself, ListLemmas.grown, RefusalLemmas.past_row-ok}}
+use Rattle.pawn_base.proofs.ListLemmas.{grown}
+use Rattle.pawn_base.proofs.RefusalLemmas.{past_row-ok}
+use Rattle.pawn_base.proofs.TestLemmas.{equal_itself}
+use Rattle.pawn_book.proofs.GrowLemmas.{Grown, grown_same, next_pledges, run_grows}
+use Rattle.pawn_book.proofs.KeptLemmas.{number_kept, put_there, reference_kept}
+use Rattle.pawn_book.proofs.MadeLemmas.{BookIs, CommandIs, DidOn, MadeBy, PledgeIs, RowsAre, TermsAre, made_by}
+use Rattle.pawn_book.proofs.Plans.{next_is, absent_is_past, taken_is}
+use Rattle.pawn_book.proofs.Sounds.{absurd_none, each_at, some_is}
+use Rattle.pawn_book.specs.BookStep.{BookValue, Refuses, Says, Replied, are_same_rates, book_head, book_step}
+use Rattle.pawn_book.specs.BookStep.{changed_book, filled_book, first_receipt, first_secret, import_rows, is_live}
+use Rattle.pawn_book.specs.BookStep.{is_same_book, is_same_end, is_same_flag, is_same_kind, is_same_opening, made_book}
+use Rattle.pawn_book.specs.BookStep.{make_book, newest, next_terms, only_live, pledge_from, put_from, put_terms}
+use Rattle.pawn_book.specs.BookStep.{take_pledge, under_terms, with_reference}
+use Rattle.pawn_book.specs.Books.{AddTerms, Bearer, BookFilled, BookMade, BookNotEmpty, BookTaken, Broker, Caller}
+use Rattle.pawn_book.specs.Books.{Change, Import, ImportBook, NewTerms, NoSuchBook, NotOperator, OnPledge, Opened}
+use Rattle.pawn_book.specs.Books.{Operator, PutPledge, PutTerms, RefTaken, Refusal, Reply, TakePledge, TermsFull}
+use Rattle.pawn_book.specs.Books.{Viewer, TermsPut, TermsSeq}
+use Rattle.pawn_book.specs.Changes.{Continues}
+use Rattle.pawn_book.specs.Common.{Agreement, AreNumbered, Command, Fixed, IsReachable, Issued, Kind, Opening}
+use Rattle.pawn_book.specs.Common.{PledgeValue, Rates, Receipt, Running, Stamp, TermsFault, result_unwrap_or}
+use Rattle.pawn_book.specs.Common.{terms_answer}
+use Rattle.pawn_book.specs.Laws.{Asks, BookChangesDiffer, IsMaking, RepeatsActOnce, book_run}
+use Rattle.pawn_book.specs.Limits.{most_terms}
+use Rattle.pawn_book.specs.Rows.{is_same_text, terms_at}
+use Rattle.pawn_book.specs.Sound.{IsSoundBook}
+use Rattle.pawn_pledge.proofs.Steps.{changes_differ}
+use Rattle.pawn_terms.specs.Limits.{most_keep, most_rate}
+use Rattle.pawn_terms.specs.declared.terms.TermsFault.TheVariants.{KeepTooHigh, KeepingRate, RateTooHigh}
+use Rattle.std.proofs.Common.{◌≡◌, ℕ, ◌+◌, zero, suc, List, [], ◌∷◌, ◌++◌, length, Some, None, Ok, Err, refl, ◌∙◌, ap}
+use Rattle.std.proofs.Common.{sym, subst, arith, if◌then◌else◌, is_some, Option, Result, ◌==◌, ◌&&◌, ◌||◌, Bool, true}
+use Rattle.std.proofs.Common.{false, nat_lt, nat_le, unwrap_or, slice_get}
+use Rattle.std.proofs.lemmas.Bool.{and_from}
+use Rattle.std.proofs.lemmas.Bool.Decides.{nat_tests}
 
 -- a text is itself
 pub text_same : (xs : List ℕ) → is_same_text xs xs ≡ true
@@ -46,7 +64,7 @@ change_differs before operator b stamp caller change reply is same = from (made_
       sym (put_there 1 book.pledges n did.old did.next did.stands) ∙ ap (λ ps. pledge_from 1 ps n) list ∙ did.stands in
       changes_differ did.old did.next stamp command did.done did.step (some_is did.next did.old there)
 
--- the terms that were added stand under their version
+-- the terms that were added are found under their version
 added_at : (ts : List Rates) (n : ℕ) (t : Rates) (more : List Rates) → n ≡ length ts → slice_get ((ts ++ t ∷ []) ++ more) n ≡ Some t
 added_at [] zero t more is = refl
 added_at [] (suc n) t more is = absurd (omega (arith, is))
@@ -67,7 +85,7 @@ rates_same rates t at =
     subst (λ (x : Rates). are_same_rates x rates ≡ true) same
     (and_from _ _ (and_from _ _ (equal_itself rates.rate) (equal_itself rates.keep_before)) (equal_itself rates.keep_after))
 
--- .. and the terms that were added are those that were asked for
+-- the terms that were added are those that were requested
 terms_asked : (standing : ℕ) (new : NewTerms) (t : Rates) → next_terms standing new ≡ Ok t → are_same_rates t new.rates ≡ true
 terms_asked standing new t is =
     let one = past_row-ok (new.version == 0) TermsSeq _ t is in
@@ -105,12 +123,12 @@ reference_added (q ∷ ps) p reference none same =
       | false ↦ λ at. reference_added ps p reference at same
     ] none
 
--- what was agreed is told of a pledge that is kept
+-- a pledge that continues another has the same opening
 opening_kept : (p q : PledgeValue) (opening : Opening) → Continues p q
     → is_same_opening q.agreement.opening opening ≡ is_same_opening p.agreement.opening opening
 opening_kept p q opening kept = ap (λ (a : Agreement). is_same_opening a.opening opening) kept.agreement
 
--- .. and its first receipt
+-- it also has the same first receipt
 first_kept : (p q : PledgeValue) (issued : Issued) → p.secrets ≡ issued ∷ [] → Continues p q → first_receipt q ≡ first_receipt p
 first_kept p q issued one kept =
     let secrets : first_secret q.secrets ≡ first_secret p.secrets =
@@ -118,7 +136,7 @@ first_kept p q issued one kept =
     ap (λ n. let r : Receipt = record { number = n; secret = first_secret q.secrets } in r) (ap (λ (a : Agreement). a.number) kept.agreement)
     ∙ ap (λ s. let r : Receipt = record { number = p.agreement.number; secret = s } in r) secrets
 
--- who commands a pledge makes none
+-- a caller that commands a pledge makes none
 asks_not_making : (caller : Caller) (n : ℕ) (command : Command) → Asks caller n command → IsMaking caller → ⊥
 asks_not_making (Operator key new) n command asks making = asks
 asks_not_making (Broker key (PutTerms new)) n command asks making = asks
@@ -128,7 +146,7 @@ asks_not_making (Broker key (Import importing rows)) n command asks making = ask
 asks_not_making (Viewer key view) n command asks making = asks
 asks_not_making (Bearer asked) n command asks making = making
 
--- a request that made a change is told the same again, and makes none
+-- a repeated request that made a change gets the same answer, and makes none
 pub repeat_told : RepeatsActOnce
 repeat_told before operator b stamp again caller change reply later making is = from (made_by before operator b stamp caller change reply is) where
   told : (book : BookValue) → changed_book before change ≡ Some book
@@ -154,7 +172,7 @@ repeat_told before operator b stamp again caller change reply later making is = 
       told (record book { terms = book.terms ++ terms ∷ [] }) (ap (changed_book before) makes ∙ ap (λ o. changed_book o (AddTerms b new.version terms)) stands)
       (λ next grown.
       let bounds = next_is (length book.terms) new terms answer in
-      let past = not_standing book.terms new.version absent bounds.0 in
+      let past = absent_is_past book.terms new.version absent bounds.0 in
       let high = bounds.1 in
       let version : new.version ≡ length book.terms + 1 = omega (arith, past, high) in
       let at : terms_at next.terms new.version ≡ Some terms =
@@ -186,7 +204,7 @@ repeat_told before operator b stamp again caller change reply later making is = 
       (Replied (BookFilled (length rows.pledges))) else Refuses BookNotEmpty) (equal_itself importing) ∙ ap (λ r. Says (Replied r)) (sym says))
   from (CommandIs book n command stands asks did) = absurd (asks_not_making caller n command asks making)
 
--- the pledge that a command changed stands at its number after any run
+-- the pledge that a command changed is found at its number after any run
 pub stands_after : (book : BookValue) (operator b n : ℕ) (stamp : Stamp) (command : Command) (change : Change) (reply : Reply) (later : List (Stamp × Caller))
     (did : DidOn book b n stamp command change reply) → (after : BookValue) × (book_run (changed_book (Some book) change) operator b later ≡ Some after)
     × (after.key ≡ book.key) × ((q : PledgeValue) × (pledge_from 1 after.pledges n ≡ Some q) × Continues did.next q)
@@ -200,7 +218,7 @@ stands_after book operator b n stamp command change reply later did =
 
 -- the entries of a sound book's pledges are numbered
 pub numbered_in : (book : BookValue) (n : ℕ) (p : PledgeValue) → IsSoundBook book → pledge_from 1 book.pledges n ≡ Some p → AreNumbered 1 p.entries
-numbered_in book n p sound at = (each_at IsStanding 1 book.pledges n p sound.rows.standing at).replayable.entered.numbered
+numbered_in book n p sound at = (each_at IsReachable 1 book.pledges n p sound.rows.reachable at).replayable.entered.numbered
 
 -- a live receipt's pledge is the one at its number
 pub live_found : (s : ℕ) (q : PledgeValue) → is_some (only_live s (Some q)) ≡ true → only_live s (Some q) ≡ Some q

@@ -1,14 +1,23 @@
--- How a change came about.
-use Rattle.std.proofs.Common.{◌≡◌, ℕ, List, length, Some, None, Ok, Err, refl, ap, sym, if◌then◌else◌, Option, Result, ◌==◌, Bool, true, false, map}
-use Rattle.pawn_book.specs.Common.{Answered, Changed, Command, Done, Judged, Opening, PledgeValue, Rates, Receipt, Refused, Stamp, pledge_step}
-use Rattle.pawn_book.specs.Books.{AddTerms, Bearer, BookFilled, BookMade, BookRows, Broker, Caller, Change, Commanded, Import, ImportBook, Imported}
-use Rattle.pawn_book.specs.Books.{MakeBook, NewBook, NewTerms, NoSuchReceipt, OnPledge, OnReceipt, Opened, Operator, Present, PutPledge, PutTerms, Refusal}
-use Rattle.pawn_book.specs.{Books.{Reply, TakePledge, TermsPut, Viewer, WindowFull}, Laws.Asks, BookStep.{BookValue, Makes, Out, Outcome, Refuses, Says}}
-use Rattle.pawn_book.specs.BookStep.{Shown, are_same_rates, are_unknown, bearer_commands, book_head, book_step, broker_commands, confirmed_booking}
-use Rattle.pawn_book.specs.BookStep.{first_receipt, import_rows, is_empty, is_same_book, is_same_opening, is_window_full, judged_outcome, live_at}
-use Rattle.pawn_book.specs.BookStep.{make_or_refuse, newest, next_pledge, next_terms, pledge_from, pledge_in, present_receipts, put_terms, show_pledge}
-use Rattle.pawn_book.{specs.{BookStep.{take_pledge, with_reference, within_window}, Changes.IsUnfilled, Rows.terms_at}, proofs.CommandPlans.live_is}
+-- Which kinds of request make a change.
+use Rattle.pawn_book.proofs.CommandPlans.{live_is}
 use Rattle.pawn_book.proofs.Plans.{empty_lists}
+use Rattle.pawn_book.specs.BookStep.{BookValue, Makes, Out, Outcome, Refuses, Says, Shown, are_same_rates, are_unknown}
+use Rattle.pawn_book.specs.BookStep.{bearer_commands, book_head, book_step, broker_commands, confirmed_booking}
+use Rattle.pawn_book.specs.BookStep.{first_receipt, import_rows, is_empty, is_same_book, is_same_opening}
+use Rattle.pawn_book.specs.BookStep.{is_window_full, judged_outcome, live_at, make_or_refuse, newest, next_pledge}
+use Rattle.pawn_book.specs.BookStep.{next_terms, pledge_from, pledge_in, present_receipts, put_terms, show_pledge}
+use Rattle.pawn_book.specs.BookStep.{take_pledge, with_reference, within_window}
+use Rattle.pawn_book.specs.Books.{AddTerms, Bearer, BookFilled, BookMade, BookRows, Broker, Caller, Change, Commanded}
+use Rattle.pawn_book.specs.Books.{Import, ImportBook, Imported, MakeBook, NewBook, NewTerms, NoSuchReceipt, OnPledge}
+use Rattle.pawn_book.specs.Books.{OnReceipt, Opened, Operator, Present, PutPledge, PutTerms, Refusal, Reply, TakePledge}
+use Rattle.pawn_book.specs.Books.{TermsPut, Viewer, WindowFull}
+use Rattle.pawn_book.specs.Changes.{IsUnfilled}
+use Rattle.pawn_book.specs.Common.{Answered, Changed, Command, Done, Judged, Opening, PledgeValue, Rates, Receipt}
+use Rattle.pawn_book.specs.Common.{Refused, Stamp, pledge_step}
+use Rattle.pawn_book.specs.Laws.{Asks}
+use Rattle.pawn_book.specs.Rows.{terms_at}
+use Rattle.std.proofs.Common.{◌≡◌, ℕ, List, length, Some, None, Ok, Err, refl, ap, sym, if◌then◌else◌, Option, Result}
+use Rattle.std.proofs.Common.{◌==◌, Bool, true, false, map}
 use Rattle.pawn_book.specs.declared.request.View.TheVariants as seen
 
 -- what an outcome makes
@@ -32,7 +41,7 @@ pub record DidOn (book : BookValue) (b n : ℕ) (stamp : Stamp) (command : Comma
   pub makes : change ≡ PutPledge b n next
   pub says : reply ≡ Commanded n done
 
--- how a change came about
+-- the kinds of request that make a change
 pub data MadeBy (before : Option BookValue) (operator b : ℕ) (stamp : Stamp) (caller : Caller) (change : Change) (reply : Reply) : Type 0 where
   BookIs : (key : ℕ) (new : NewBook) → caller ≡ Operator key new → (key == operator) ≡ true → before ≡ None
       → change ≡ MakeBook b new → reply ≡ BookMade b → MadeBy before operator b stamp caller change reply
@@ -69,7 +78,7 @@ made_ok : {V : Type 0} (r : Result V Refusal) (makes : V → Outcome) (change : 
 made_ok (Err why) makes change reply is = cc is
 made_ok (Ok v) makes change reply is = (v, refl, is)
 
--- what came of a command
+-- a command on the pledge made the change of a command's outcome
 judged_made : (book : BookValue) (b n : ℕ) (p : PledgeValue) (stamp : Stamp) (command : Command) (change : Change) (reply : Reply)
     → pledge_from 1 book.pledges n ≡ Some p → judged_outcome b n (pledge_step p stamp command) ≡ Makes change reply → DidOn book b n stamp command change reply
 judged_made book b n p stamp command change reply at is = from (pledge_step p stamp command) refl is where

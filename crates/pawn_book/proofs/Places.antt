@@ -1,7 +1,11 @@
--- Where a book's pledges and terms stand in its lists.
-use Rattle.std.proofs.Common.{◌≡◌, ◌≢◌, ◌∙◌, ℕ, zero, suc, ◌+◌, ◌<◌, ◌≤◌, List, [], ◌∷◌, length, Option, Some, None, eqb, refl, ap, arith, if◌then◌else◌, ◌==◌}
-use Rattle.{std.proofs.{Common.{true, false, slice_get}, lemmas.Bool.Decides.nat_tests}, pawn_book.specs.{Common.{PledgeValue, Rates}, BookStep.BookValue}}
-use Rattle.pawn_book.specs.{BookStep.{pledge_from, pledge_in, put_from}, Keeping.pledges_of, Rows.terms_at}
+-- The places of a book's pledges and terms in its lists.
+use Rattle.pawn_book.specs.BookStep.{BookValue, pledge_from, pledge_in, put_from}
+use Rattle.pawn_book.specs.Common.{PledgeValue, Rates}
+use Rattle.pawn_book.specs.Keeping.{pledges_of}
+use Rattle.pawn_book.specs.Rows.{terms_at}
+use Rattle.std.proofs.Common.{◌≡◌, ◌≢◌, ◌∙◌, ℕ, zero, suc, ◌+◌, ◌<◌, ◌≤◌, List, [], ◌∷◌, length, Option, Some, None}
+use Rattle.std.proofs.Common.{eqb, refl, ap, arith, if◌then◌else◌, ◌==◌, true, false, slice_get}
+use Rattle.std.proofs.lemmas.Bool.Decides.{nat_tests}
 
 pub pledge_below : (k : ℕ) (ps : List PledgeValue) (n : ℕ) → n < k → pledge_from k ps n ≡ None
 pledge_below k [] n lt = refl

@@ -1,24 +1,40 @@
 -- A plan by a keeper's answers is the book's step.
-use Rattle.std.proofs.Common.{◌≡◌, ◌≢◌, ℕ, ◌+◌, ◌<◌, ◌≤◌, zero, suc, List, [], ◌∷◌, ◌++◌, length, Some, None, Ok, Err, refl, ◌∙◌, ap, sym, subst, arith, inl}
-use Rattle.std.proofs.{Common.{if◌then◌else◌, Option, Result, ◌==◌, true, false, nat_lt, nat_le, option_map, IfErr, IfOk}, lemmas.Bool.and_parts}
-use Rattle.{std.{proofs.lemmas.Bool.Decides.nat_tests, specs.FinMap.get}, pawn_book.specs.Common.{Each, IsChecked, IsNumber, IsStanding, IsText, IsUtf8}}
-use Rattle.pawn_book.specs.{Common.{Issued, Opening, PledgeRefusal, PledgeValue, Rates, Stamp, pledge_start, result_unwrap_or}, Books.{AddTerms, BookFilled}}
-use Rattle.pawn_book.specs.Books.{BookMade, BookNotEmpty, BookRows, Change, ImportBook, MakeBook, Memory, NewBook, NewTerms, Opened, Planned, PledgesFull}
-use Rattle.pawn_book.specs.{Books.{PutPledge, Refusal, TermsFull, TermsPut, TermsSeq}, HostStep.{Host, with_book}, Rows.{AreNumberedFrom, AreReplayable}}
-use Rattle.pawn_book.specs.{Rows.{is_same_text, terms_at}, Sound.{AreSound, AreWords, HasTextsAndWords, IsSound, IsWord}, BookStep.{BookValue, Makes, Outcome}}
-use Rattle.pawn_book.specs.BookStep.{Refuses, book_head, changed_book, filled_book, first_receipt, import_rows, is_empty, made_book, make_book, make_or_refuse}
-use Rattle.pawn_book.specs.BookStep.{newest, next_pledge, next_terms, pledge_from, pledge_in, put_from, put_terms, take_pledge, under_pledge, with_reference}
-use Rattle.pawn_book.specs.{BookStep.with_room, Changes.{CanSave, IsUnfilled, book_number, with_change}, Limits.{IsCapacity, most_name_bytes, most_pledges}}
-use Rattle.pawn_book.specs.{Limits.most_terms, Plans.Plans, Keeping.{number_of, pledges_of, terms_of}, declared.change.BookHead.BookHead}
-use Rattle.pawn_book.proofs.Sounds.{IsNext, absurd_none, some_is, sound_filled, sound_made, sound_next, sound_terms, sound_with}
-use Rattle.{pawn_terms.specs.Calendar.IsDayNumber, pawn_debt.specs.{Due.credit_of, Answers.is_bad_amount}, pawn_base.proofs.RefusalLemmas.past_row-ok}
+use Rattle.pawn_base.proofs.RefusalLemmas.{past_row-ok}
+use Rattle.pawn_book.proofs.Sounds.{IsNext, absurd_none, some_is, sound_filled, sound_made, sound_next, sound_terms}
+use Rattle.pawn_book.proofs.Sounds.{sound_with}
+use Rattle.pawn_book.specs.BookStep.{BookValue, Makes, Outcome, Refuses, book_head, changed_book, filled_book}
+use Rattle.pawn_book.specs.BookStep.{first_receipt, import_rows, is_empty, made_book, make_book, make_or_refuse, newest}
+use Rattle.pawn_book.specs.BookStep.{next_pledge, next_terms, pledge_from, pledge_in, put_from, put_terms, take_pledge}
+use Rattle.pawn_book.specs.BookStep.{under_pledge, with_reference, with_room}
+use Rattle.pawn_book.specs.Books.{AddTerms, BookFilled, BookMade, BookNotEmpty, BookRows, Change, ImportBook, MakeBook}
+use Rattle.pawn_book.specs.Books.{Memory, NewBook, NewTerms, Opened, Planned, PledgesFull, PutPledge, Refusal}
+use Rattle.pawn_book.specs.Books.{TermsFull, TermsPut, TermsSeq}
+use Rattle.pawn_book.specs.Changes.{CanSave, IsUnfilled, book_number, with_change}
+use Rattle.pawn_book.specs.Common.{Each, IsChecked, IsNumber, IsReachable, IsText, IsUtf8, Issued, Opening}
+use Rattle.pawn_book.specs.Common.{PledgeRefusal, PledgeValue, Rates, Stamp, pledge_start, result_unwrap_or}
+use Rattle.pawn_book.specs.HostStep.{Host, with_book}
+use Rattle.pawn_book.specs.Keeping.{number_of, pledges_of, terms_of}
+use Rattle.pawn_book.specs.Limits.{IsCapacity, most_name_bytes, most_pledges, most_terms}
+use Rattle.pawn_book.specs.Plans.{Plans}
+use Rattle.pawn_book.specs.Rows.{AreNumberedFrom, AreReplayable, is_same_text, terms_at}
+use Rattle.pawn_book.specs.Sound.{AreSound, AreWords, HasTextsAndWords, IsSound, IsWord}
+use Rattle.pawn_book.specs.declared.change.BookHead.{BookHead}
+use Rattle.pawn_debt.specs.Answers.{is_bad_amount}
+use Rattle.pawn_debt.specs.Due.{credit_of}
+use Rattle.pawn_terms.specs.Calendar.{IsDayNumber}
+use Rattle.std.proofs.Common.{◌≡◌, ◌≢◌, ℕ, ◌+◌, ◌<◌, ◌≤◌, zero, suc, List, [], ◌∷◌, ◌++◌, length, Some, None, Ok, Err}
+use Rattle.std.proofs.Common.{refl, ◌∙◌, ap, sym, subst, arith, inl, if◌then◌else◌, Option, Result, ◌==◌, true, false}
+use Rattle.std.proofs.Common.{nat_lt, nat_le, option_map, IfErr, IfOk}
+use Rattle.std.proofs.lemmas.Bool.{and_parts}
+use Rattle.std.proofs.lemmas.Bool.Decides.{nat_tests}
+use Rattle.std.specs.FinMap.{get}
 
 -- the book of a change, set in the host
 pub changed_is : (h : Host) (b : ℕ) (change : Change) (book : BookValue) → book_number change ≡ b → changed_book (get h.books b) change ≡ Some book
     → with_change h change ≡ with_book h b (Some book)
 changed_is h b change book named is = ap (λ (c : ℕ). with_book h c (changed_book (get h.books c) change)) named ∙ ap (with_book h b) is
 
--- a book that doesn't stand is made
+-- a book that does not exist is made
 pub book_plans : (h : Host) (b : ℕ) (new : NewBook) → IsNumber b → IsWord new.key → IsUtf8 new.name → IsText most_name_bytes new.name → IsCapacity new.capacity
     → IsSound h → get h.books b ≡ None → Plans h b (make_book (get h.books b) b new) (Ok (record { change = Some (MakeBook b new); reply = BookMade b }))
 book_plans h b new number key utf8 name capacity sound none = (
@@ -64,7 +80,7 @@ import_plans h b key at head rows sound is heads none empty word replayable writ
       (refl, rows_plans h b key at rows sound is (record { terms = lists.0; pledges = lists.1; imported = imported }) word replayable written),
     )
 
--- what is planned unless memory is wanting
+-- the plan, unless memory runs out
 pub planned_so : (h : Host) (b : ℕ) (o : Outcome) (planned : Planned) (r : Result Planned Refusal) → IfOk r (λ p. p ≡ planned) → IfErr r (λ why. why ≡ Memory)
     → Plans h b o (Ok planned) → Plans h b o r
 planned_so h b o planned (Ok p) ok err plans = subst (λ q. Plans h b o (Ok q)) (sym ok) plans
@@ -92,7 +108,7 @@ terms_plans h b at new terms sound is none answer version few checked =
 -- the next pledge is taken
 pub pledge_plans : (h : Host) (b : ℕ) (at : BookValue) (opening : Opening) (stamp : Stamp) (p : PledgeValue) → IsSound h → get h.books b ≡ Some at
     → with_reference at.pledges opening.reference ≡ None → next_pledge (book_head at) opening stamp (newest at.terms) ≡ Ok p
-    → IsNext at p → IsStanding p → HasTextsAndWords p → Plans h b (take_pledge at b opening stamp (with_reference at.pledges opening.reference))
+    → IsNext at p → IsReachable p → HasTextsAndWords p → Plans h b (take_pledge at b opening stamp (with_reference at.pledges opening.reference))
     (Ok (record { change = Some (PutPledge b p.agreement.number p); reply = Opened (first_receipt p) }))
 pledge_plans h b at opening stamp p sound is none answer next standing written =
     let book : BookValue = record at { pledges = put_from 1 at.pledges p.agreement.number p } in
@@ -109,7 +125,7 @@ pledge_plans h b at opening stamp p sound is none answer next standing written =
       ),
     )
 
--- a pledge that is found by its reference stands under its number
+-- a pledge that is found by its reference is also found by its number
 reference_from : (k : ℕ) (ps : List PledgeValue) (reference : List ℕ) (p : PledgeValue) → AreNumberedFrom k ps → with_reference ps reference ≡ Some p
     → (k ≤ p.agreement.number) × (pledge_from k ps p.agreement.number ≡ Some p)
 reference_from k [] reference p numbered is = absurd_none is
@@ -153,14 +169,14 @@ next_is standing new terms is =
     let not_full = past_row-ok (nat_le most_terms standing) TermsFull _ terms not_ahead.1 in
     (grind (arith, nat_tests, zero_free.0), grind (arith, nat_tests, not_ahead.0), grind (arith, nat_tests, not_full.0))
 
--- a version that doesn't stand is past those that do
-pub not_standing : (terms : List Rates) (version : ℕ) → terms_at terms version ≡ None → 1 ≤ version → length terms < version
-not_standing terms zero none low = absurd (omega (arith, low))
-not_standing [] (suc n) none low = omega arith
-not_standing (t ∷ ts) (suc zero) none low = absurd_none (sym none)
-not_standing (t ∷ ts) (suc (suc n)) none low = let rest = not_standing ts (suc n) none (omega arith) in omega (arith, rest)
+-- a version that the book does not have is above those that it has
+pub absent_is_past : (terms : List Rates) (version : ℕ) → terms_at terms version ≡ None → 1 ≤ version → length terms < version
+absent_is_past terms zero none low = absurd (omega (arith, low))
+absent_is_past [] (suc n) none low = omega arith
+absent_is_past (t ∷ ts) (suc zero) none low = absurd_none (sym none)
+absent_is_past (t ∷ ts) (suc (suc n)) none low = let rest = absent_is_past ts (suc n) none (omega arith) in omega (arith, rest)
 
--- the next version of terms, as a keeper tells of them
+-- the next version of terms, by the answers of a keeper
 pub next_plans : (h : Host) (b : ℕ) (at : BookValue) (head : BookHead) (new : NewTerms) (terms : Rates) → IsSound h → get h.books b ≡ Some at
     → head ≡ book_head at → None ≡ terms_at (terms_of (get h.books b)) new.version → next_terms head.terms new ≡ Ok terms → IsChecked terms → Plans h b
     (put_terms at b new (terms_at at.terms new.version)) (Ok (record { change = Some (AddTerms b new.version terms); reply = TermsPut new.version }))
@@ -168,16 +184,16 @@ next_plans h b at head new terms sound is heads none answer checked =
     let absent : terms_at at.terms new.version ≡ None = sym (none ∙ ap (λ o. terms_at (terms_of o) new.version) is) in
     let next : next_terms (length at.terms) new ≡ Ok terms = ap (λ (q : BookHead). next_terms q.terms new) (sym heads) ∙ answer in
     let bounds = next_is (length at.terms) new terms next in
-    let past = not_standing at.terms new.version absent bounds.0 in
+    let past = absent_is_past at.terms new.version absent bounds.0 in
     let high = bounds.1 in
     terms_plans h b at new terms sound is absent next (omega (arith, past, high)) bounds.2 checked
 
--- where a keeper tells of no head, there is no book
+-- if a keeper returns no head, there is no book
 pub no_head : (book : Option BookValue) → None ≡ option_map book_head book → book ≡ None
 no_head None is = refl
 no_head (Some book) is = absurd_none is
 
--- a pledge as it is taken: the next of its book, for what was asked, under the newest terms, with the stamp's word
+-- a new pledge: the next of its book, for the requested opening, under the newest terms, with the stamp's word
 pub record IsTakenAs (head : BookHead) (opening : Opening) (stamp : Stamp) (newest : Option Rates) (p : PledgeValue) : Type 0 where
   pub number : p.agreement.number ≡ head.pledges + 1
   pub asked : p.agreement.opening ≡ opening
@@ -202,10 +218,10 @@ taken_is head opening stamp (Some terms) p is = from (pledge_start (head.pledges
       subst (IsTakenAs head opening stamp (Some terms)) (ap (λ (r : Result PledgeValue PledgeRefusal). result_unwrap_or r q) start.1 ∙ same)
       (record { number = refl; asked = refl; version = refl; under = refl; first = (_, refl, refl); day = refl; few = few })
 
--- the next pledge, as a keeper tells of the book
+-- the next pledge, by the answers of a keeper
 pub taken_plans : (h : Host) (b : ℕ) (at : BookValue) (head : BookHead) (opening : Opening) (stamp : Stamp) (p : PledgeValue) → IsSound h → get h.books b
     ≡ Some at → head ≡ book_head at → None ≡ with_reference (pledges_of (get h.books b)) opening.reference → next_pledge head opening stamp (newest at.terms)
-    ≡ Ok p → IsStanding p → IsUtf8 opening.reference → IsUtf8 opening.article → IsWord stamp.word → IsDayNumber stamp.day → Plans h b (take_pledge at b opening
+    ≡ Ok p → IsReachable p → IsUtf8 opening.reference → IsUtf8 opening.article → IsWord stamp.word → IsDayNumber stamp.day → Plans h b (take_pledge at b opening
     stamp (with_reference at.pledges opening.reference)) (Ok (record { change = Some (PutPledge b p.agreement.number p); reply = Opened (first_receipt p) }))
 taken_plans h b at head opening stamp p sound is heads none answer standing reference article word day =
     let absent : with_reference at.pledges opening.reference ≡ None = sym (none ∙ ap (λ o. with_reference (pledges_of o) opening.reference) is) in

@@ -1,7 +1,9 @@
 -- One read of a keeper after another.
-use Rattle.{std.proofs.Common.{◌≡◌, subst, Ok, Result, IfOk}, pawn_book.specs.{Keeping.{GoesOn, Keeping, Reads}, HostStep.Host}}
+use Rattle.pawn_book.specs.HostStep.{Host}
+use Rattle.pawn_book.specs.Keeping.{GoesOn, Keeping, Reads}
+use Rattle.std.proofs.Common.{◌≡◌, subst, Ok, Result, IfOk}
 
--- a keeper goes on after one call, and after another
+-- `GoesOn` of one call and of the next give `GoesOn` of both together
 pub on_then : {K : Type 0} {k : Keeping K} {a b c : K} → GoesOn k a b → GoesOn k b c → GoesOn k a c
 on_then f s = record {
   was_honest = λ honest. f.was_honest (s.was_honest honest);
@@ -20,7 +22,7 @@ reads_none k s P all = record {
   crash = λ honest left at. at;
 }
 
--- what two reads tell, told by both together
+-- the facts of two reads hold of both together
 pub reads_then : {K : Type 0} {k : Keeping K} {a b c : K} {P Q R : Host → Type 0}
     → Reads k a b P → Reads k b c Q → ((h : Host) → P h → Q h → R h) → Reads k a c R
 reads_then f s both = record {
@@ -31,11 +33,11 @@ reads_then f s both = record {
   crash = λ honest h left. f.crash (s.on.was_honest honest) h (s.crash honest h left);
 }
 
--- what a read tells, in other words
+-- a fact of a read, replaced by one that follows from it
 pub reads_as : {K : Type 0} {k : Keeping K} {a b : K} {P Q : Host → Type 0} → Reads k a b P → ((h : Host) → P h → Q h) → Reads k a b Q
 reads_as f as_q = record { on = f.on; same = f.same; back = f.back; tells = λ honest h at. as_q h (f.tells honest h at); crash = f.crash }
 
--- what an Ok holds is what was told of it
+-- the value of an `Ok` is the one that was stated of it
 pub ok_is : {T E : Type 0} {r : Result T E} {v x : T} → r ≡ Ok v → IfOk r (λ p. p ≡ x) → v ≡ x
 ok_is {T = T} {E = E} {v = v} {x = x} is told = let P : Result T E → Type 0 = λ r. IfOk r (λ p. p ≡ x) in subst P is told
 

@@ -1,9 +1,15 @@
 -- a sum over a map's values, after an insertion
-use Rattle.std.proofs.Common.{◌≡◌, ℕ, ◌+◌, ◌<◌, List, [], ◌∷◌, map, Some, None, refl, ◌∙◌, ap, sym, arith, T, Ordering, if◌then◌else◌, Option, false}
-use Rattle.std.{proofs.{Common.sum_by, lemmas.Cmp.nat_cmp_total}, specs.{Ordering.{eq_by_cmp, is_eq, is_lt, nat_cmp}, Cmp.ranked}}
-use Rattle.std.{specs.{declared.cmp.Ordering.TheVariants.{Less, Equal, Greater}, FinMap.{entries, entries-insert}}, proofs.lemmas.List.Sums.sum_by-cons}
-use Rattle.{std.specs.FinMap.{entries_sorted, find, get, get-entries, is_sorted, put}, pawn_book.specs.{BookStep.BookValue, HostStep.{Host, book_rows, rows}}}
-use Rattle.{pawn_book.specs.HostStep.with_book, pawn_base.proofs.TestLemmas.{below, both_told}}
+use Rattle.pawn_base.proofs.TestLemmas.{below, both_told}
+use Rattle.pawn_book.specs.BookStep.{BookValue}
+use Rattle.pawn_book.specs.HostStep.{Host, book_rows, rows, with_book}
+use Rattle.std.proofs.Common.{◌≡◌, ℕ, ◌+◌, ◌<◌, List, [], ◌∷◌, map, Some, None, refl, ◌∙◌, ap, sym, arith, T, Ordering}
+use Rattle.std.proofs.Common.{if◌then◌else◌, Option, false, sum_by}
+use Rattle.std.proofs.lemmas.Cmp.{nat_cmp_total}
+use Rattle.std.proofs.lemmas.List.Sums.{sum_by-cons}
+use Rattle.std.specs.Cmp.{ranked}
+use Rattle.std.specs.FinMap.{entries, entries-insert, entries_sorted, find, get, get-entries, is_sorted, put}
+use Rattle.std.specs.Ordering.{eq_by_cmp, is_eq, is_lt, nat_cmp}
+use Rattle.std.specs.declared.cmp.Ordering.TheVariants.{Less, Equal, Greater}
 
 -- f of the value, if there is one
 abbrev pub part : {X : Type 0} → (X → ℕ) → Option X → ℕ

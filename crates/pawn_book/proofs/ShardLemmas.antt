@@ -1,10 +1,17 @@
 -- The law of shards.
-use Rattle.std.proofs.Common.{◌≡◌, ℕ, List, [], ◌∷◌, ◌++◌, refl, ◌∙◌, ap, sym, arith, ◌≢◌, ◌==◌, Bool, true, false, if◌then◌else◌, cond}
-use Rattle.{std.{proofs.lemmas.Bool.Decides.nat_tests, specs.FinMap.get}, pawn_book.specs.{Common.Stamp, Shards.{HandedOutAnswersAsOne, HandsAll}}}
-use Rattle.pawn_book.specs.{Shards.{ShardsAnswerAsOne, by_callers, handed, on_book, taken}, Books.Request, Laws.book_run, Traces.book_trace}
 use Rattle.pawn_book.proofs.SlotRuns.{book_is_alone, equal_book_traces_answer_alike}
+use Rattle.pawn_book.specs.Books.{Request}
+use Rattle.pawn_book.specs.Common.{Stamp}
+use Rattle.pawn_book.specs.Laws.{book_run}
+use Rattle.pawn_book.specs.Shards.{HandedOutAnswersAsOne, HandsAll, ShardsAnswerAsOne, by_callers, handed, on_book}
+use Rattle.pawn_book.specs.Shards.{taken}
+use Rattle.pawn_book.specs.Traces.{book_trace}
+use Rattle.std.proofs.Common.{◌≡◌, ℕ, List, [], ◌∷◌, ◌++◌, refl, ◌∙◌, ap, sym, arith, ◌≢◌, ◌==◌, Bool, true, false}
+use Rattle.std.proofs.Common.{if◌then◌else◌, cond}
+use Rattle.std.proofs.lemmas.Bool.Decides.{nat_tests}
+use Rattle.std.specs.FinMap.{get}
 
--- what is handed, where it is known whether the first goes to the shard and whether it is on the book
+-- the requests that a shard gets, if it is known whether the first goes to the shard and whether it is on the book
 handed_first : (shard : ℕ → ℕ) (k b : ℕ) (a : Stamp × Request) (asked : List (Stamp × Request)) → shard b ≡ k
     → on_book b (handed shard k asked) ≡ on_book b asked → (v : Bool) → shard a.1.book == k ≡ v → (w : Bool) → a.1.book == b ≡ w
     → on_book b (cond v (a ∷ handed shard k asked) (handed shard k asked)) ≡ on_book b (a ∷ asked)
@@ -31,7 +38,7 @@ handed_none shard k b a asked is rest true mine true at =
 handed_none shard k b a asked is rest true mine false at =
     ap (λ v. (if v then (a.0, a.1.caller) ∷ [] else []) ++ on_book b (handed shard k asked)) at ∙ rest
 
--- and none on another's
+-- no request on another shard's book goes to the shard
 others : (shard : ℕ → ℕ) (k b : ℕ) (asked : List (Stamp × Request)) → shard b ≢ k → on_book b (handed shard k asked) ≡ []
 others shard k b [] is = refl
 others shard k b (a ∷ asked) is = handed_none shard k b a asked is (others shard k b asked is) (shard a.1.book == k) refl (a.1.book == b) refl

@@ -1,13 +1,26 @@
--- Each command of a slot's trace is accepted where its turn comes.
-use Rattle.std.proofs.Common.{◌≡◌, ℕ, ◌+◌, List, [], ◌∷◌, ◌++◌, Some, None, Ok, Err, refl, ◌∙◌, ap, sym, subst, arith, if◌then◌else◌, Option, ◌==◌, Bool, true}
-use Rattle.{std.{proofs.{Common.{false, is_some, nat_lt}, lemmas.Bool.Decides.nat_tests}, specs.FinMap.get}, pawn_book.specs.Common.{PledgeValue, Receipt}}
-use Rattle.pawn_book.specs.{Common.{Stamp, flat_map}, Slots.{AreAccepted, IsAccepted, TracesAreAccepted}, BookStep.{BookValue, Makes, Outcome, Refuses, Says}}
-use Rattle.pawn_book.specs.{BookStep.{book_head, book_step, changed_book, pledge_from}, Books.{Caller, Change, Full, ImportBook, PutPledge, Reply}}
-use Rattle.pawn_book.specs.{HostStep.{Host, host_step, rows, with_book, within_limit}, Traces.{Did, Entered, SlotEvent, did, enters, is_live_in, slot_events}}
-use Rattle.pawn_book.specs.{Traces.{slot_of, within_slot}, Runs.{Event, Mark, host_after_event, no_memory, no_store, read_as, request_in}, Laws.command_of}
-use Rattle.pawn_book.{specs.{Machines.{no_pledge, solo_from, solo_step}, Changes.numbered_pledges, Keeping.pledges_of}, proofs.SlotMoments.{run_slot, slot_on}}
-use Rattle.pawn_book.proofs.{SlotMoments.slot_step, MadeLemmas.{BookIs, CommandIs, MadeBy, PledgeIs, RowsAre, TermsAre, made_by}, Places.pledge_past}
-use Rattle.pawn_book.proofs.{Plans.{taken_is, without_lists}, SlotMachine.does_asked, SlotRuns.{entered_start, event_follows}}
+-- Each command of a slot's trace is accepted in its turn.
+use Rattle.pawn_book.proofs.MadeLemmas.{BookIs, CommandIs, MadeBy, PledgeIs, RowsAre, TermsAre, made_by}
+use Rattle.pawn_book.proofs.Places.{pledge_past}
+use Rattle.pawn_book.proofs.Plans.{taken_is, without_lists}
+use Rattle.pawn_book.proofs.SlotMachine.{does_asked}
+use Rattle.pawn_book.proofs.SlotMoments.{run_slot, slot_on, slot_step}
+use Rattle.pawn_book.proofs.SlotRuns.{entered_start, event_follows}
+use Rattle.pawn_book.specs.BookStep.{BookValue, Makes, Outcome, Refuses, Says, book_head, book_step, changed_book}
+use Rattle.pawn_book.specs.BookStep.{pledge_from}
+use Rattle.pawn_book.specs.Books.{Caller, Change, Full, ImportBook, PutPledge, Reply}
+use Rattle.pawn_book.specs.Changes.{numbered_pledges}
+use Rattle.pawn_book.specs.Common.{PledgeValue, Receipt, Stamp, flat_map}
+use Rattle.pawn_book.specs.HostStep.{Host, host_step, rows, with_book, within_limit}
+use Rattle.pawn_book.specs.Keeping.{pledges_of}
+use Rattle.pawn_book.specs.Laws.{command_of}
+use Rattle.pawn_book.specs.Machines.{no_pledge, solo_from, solo_step}
+use Rattle.pawn_book.specs.Runs.{Event, Mark, host_after_event, no_memory, no_store, read_as, request_in}
+use Rattle.pawn_book.specs.Slots.{AreAccepted, IsAccepted, TracesAreAccepted}
+use Rattle.pawn_book.specs.Traces.{Did, Entered, SlotEvent, did, enters, is_live_in, slot_events, slot_of, within_slot}
+use Rattle.std.proofs.Common.{◌≡◌, ℕ, ◌+◌, List, [], ◌∷◌, ◌++◌, Some, None, Ok, Err, refl, ◌∙◌, ap, sym, subst, arith}
+use Rattle.std.proofs.Common.{if◌then◌else◌, Option, ◌==◌, Bool, true, false, is_some, nat_lt}
+use Rattle.std.proofs.lemmas.Bool.Decides.{nat_tests}
+use Rattle.std.specs.FinMap.{get}
 
 accepted-append : (slot : List Receipt) (m : ℕ → Option PledgeValue) (es fs : List SlotEvent) → AreAccepted slot m es
     → AreAccepted slot (solo_from slot m es) fs → AreAccepted slot m (es ++ fs)

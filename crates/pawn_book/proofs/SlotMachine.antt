@@ -1,19 +1,27 @@
 -- What one step of a book does to the machine of a slot.
-use Rattle.std.proofs.Common.{◌≡◌, ℕ, ◌+◌, ◌<◌, ◌≤◌, List, [], ◌∷◌, ◌++◌, length, Some, None, refl, ◌∙◌, ap, sym, subst, arith, if◌then◌else◌, Option, ◌==◌}
-use Rattle.{std.proofs.{Common.{true, false, is_some, nat_lt}, lemmas.Bool.Decides.nat_tests}, pawn_book.specs.Common.{Command, PledgeValue, Receipt, Stamp}}
-use Rattle.pawn_book.specs.{Common.flat_map, Laws.{Asks, command_of}, Books.{Bearer, Broker, Caller, Change, Import, ImportBook, OnPledge, OnReceipt}}
-use Rattle.pawn_book.specs.{Books.{Operator, Present, PutPledge, PutTerms, Reply, TakePledge, Viewer}, BookStep.{BookValue, Makes, Outcome, Refuses}}
-use Rattle.pawn_book.specs.{BookStep.{Says, book_after, book_head, book_step, pledge_from}, Traces.{Did, Entered, SlotEvent, did, enters, is_live_in}}
-use Rattle.pawn_book.specs.{Traces.{slot_events, slot_of, touches, within_slot}, Machines.{after_command, after_judgement, no_pledge, solo_from, solo_step}}
-use Rattle.pawn_book.{specs.{Machines.with_pledge, Changes.numbered_pledges}, proofs.MadeLemmas.{BookIs, CommandIs, MadeBy, PledgeIs, RowsAre, TermsAre}}
-use Rattle.pawn_book.proofs.{MadeLemmas.made_by, Places.{pledge_below, pledge_from-put, pledge_past, pledge_within}, Plans.{taken_is, without_lists}}
+use Rattle.pawn_book.proofs.MadeLemmas.{BookIs, CommandIs, MadeBy, PledgeIs, RowsAre, TermsAre, made_by}
+use Rattle.pawn_book.proofs.Places.{pledge_below, pledge_from-put, pledge_past, pledge_within}
+use Rattle.pawn_book.proofs.Plans.{taken_is, without_lists}
+use Rattle.pawn_book.specs.BookStep.{BookValue, Makes, Outcome, Refuses, Says, book_after, book_head, book_step}
+use Rattle.pawn_book.specs.BookStep.{pledge_from}
+use Rattle.pawn_book.specs.Books.{Bearer, Broker, Caller, Change, Import, ImportBook, OnPledge, OnReceipt, Operator}
+use Rattle.pawn_book.specs.Books.{Present, PutPledge, PutTerms, Reply, TakePledge, Viewer}
+use Rattle.pawn_book.specs.Changes.{numbered_pledges}
+use Rattle.pawn_book.specs.Common.{Command, PledgeValue, Receipt, Stamp, flat_map}
+use Rattle.pawn_book.specs.Laws.{Asks, command_of}
+use Rattle.pawn_book.specs.Machines.{after_command, after_judgement, no_pledge, solo_from, solo_step, with_pledge}
+use Rattle.pawn_book.specs.Traces.{Did, Entered, SlotEvent, did, enters, is_live_in, slot_events, slot_of, touches}
+use Rattle.pawn_book.specs.Traces.{within_slot}
+use Rattle.std.proofs.Common.{◌≡◌, ℕ, ◌+◌, ◌<◌, ◌≤◌, List, [], ◌∷◌, ◌++◌, length, Some, None, refl, ◌∙◌, ap, sym, subst}
+use Rattle.std.proofs.Common.{arith, if◌then◌else◌, Option, ◌==◌, true, false, is_some, nat_lt}
+use Rattle.std.proofs.lemmas.Bool.Decides.{nat_tests}
 
 pub solo_from-append : (slot : List Receipt) (m : ℕ → Option PledgeValue) (es fs : List SlotEvent)
     → solo_from slot m (es ++ fs) ≡ solo_from slot (solo_from slot m es) fs
 solo_from-append slot m [] fs = refl
 solo_from-append slot m (e ∷ es) fs = solo_from-append slot (solo_step slot e m) es fs
 
--- a pledge enters or not: the machine has it exactly where it is in the slot
+-- a pledge enters or not: the machine has it exactly if it is in the slot
 pub enter_one : (slot : List Receipt) (m : ℕ → Option PledgeValue) (n : ℕ) (p : PledgeValue) (q : ℕ) → m n ≡ None
     → solo_from slot m (enters slot (n, p)) q ≡ (if q == n then within_slot slot n (Some p) else m q)
 enter_one slot m n p q none =
@@ -23,7 +31,7 @@ enter_one slot m n p q none =
       | false ↦ λ e. grind (arith, nat_tests, none)
     ] refl
 
--- a pledge is put at n, where another stood or none: the machine follows
+-- a pledge is set at n, with or without an earlier one there: the machine changes accordingly
 pub put_one : (slot : List Receipt) (m : ℕ → Option PledgeValue) (n : ℕ) (p : PledgeValue) (old : Option PledgeValue) (did : List SlotEvent) (q : ℕ)
     → m n ≡ within_slot slot n old → ((o : PledgeValue) → old ≡ Some o → m n ≡ Some o → solo_from slot m did ≡ with_pledge slot n p m)
     → solo_from slot m (if is_some (within_slot slot n old) then did else enters slot (n, p)) q ≡ (if q == n then within_slot slot n (Some p) else m q)
@@ -35,7 +43,7 @@ put_one slot m n p (Some o) did q at step =
       | false ↦ λ e. enter_one slot m n p q e
     ] at
 
--- a whole list enters, where none of it stood
+-- a whole list enters, none of which was there before
 enter_all : (slot : List Receipt) (k : ℕ) (ps : List PledgeValue) (m : ℕ → Option PledgeValue) (q : ℕ) → ((n : ℕ) → k ≤ n → m n ≡ None)
     → solo_from slot m (flat_map (enters slot) (numbered_pledges k ps)) q ≡ (if nat_lt q k then m q else within_slot slot q (pledge_from k ps q))
 enter_all slot k [] m q none = grind (arith, nat_tests, none q)
@@ -58,7 +66,7 @@ enter_book slot ps m q none = enter_all slot 1 ps m q (λ n le. none n) ∙ firs
   first : (if nat_lt q 1 then m q else within_slot slot q (pledge_from 1 ps q)) ≡ within_slot slot q (pledge_from 1 ps q)
   first = let below : q < 1 → pledge_from 1 ps q ≡ None = pledge_below 1 ps q in grind (arith, nat_tests, none q)
 
--- the machine goes on to what is in the slot after the outcome
+-- after the events of an outcome the machine has what is in the slot after the outcome
 abbrev pub Follows : List Receipt → Option BookValue → Stamp → Caller → Outcome → Type 0
 Follows slot before stamp caller o = (q : ℕ)
     → solo_from slot (slot_of slot before) (slot_events slot before stamp caller o) q ≡ slot_of slot (book_after before o) q
@@ -89,7 +97,7 @@ does_asked (Viewer key view) n stamp command asks = absurd asks
 does_asked (Bearer (Present receipts)) n stamp command asks = absurd asks
 does_asked (Bearer (OnReceipt r own)) n stamp command asks = ap (λ (c : Command). Did n stamp c ∷ []) asks.1
 
--- a change, by how it came about
+-- a change, by the kind of request that made it
 made_follows : (slot : List Receipt) (before : Option BookValue) (operator b : ℕ) (stamp : Stamp) (caller : Caller) (change : Change) (reply : Reply)
     → MadeBy before operator b stamp caller change reply → Follows slot before stamp caller (Makes change reply)
 made_follows slot before operator b stamp caller change reply (BookIs key new asks passes none makes says) =

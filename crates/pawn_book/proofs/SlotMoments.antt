@@ -1,14 +1,17 @@
 -- Runs request by request.
-use Rattle.{std.proofs.Common.{◌≡◌, ℕ, List, [], ◌∷◌, ◌++◌, Option, None, Some, refl}, pawn_book.specs.{Common.{Receipt, Stamp, flat_map}, Books.Caller}}
-use Rattle.pawn_book.specs.{Books.Request, HostStep.Host, Runs.{Event, Moment, host_after_event, moment_of, moments, request_in}, Traces.{SlotEvent, asked_of}}
-use Rattle.pawn_book.specs.Traces.{seen_by}
+use Rattle.pawn_book.specs.Books.{Caller, Request}
+use Rattle.pawn_book.specs.Common.{Receipt, Stamp, flat_map}
+use Rattle.pawn_book.specs.HostStep.{Host}
+use Rattle.pawn_book.specs.Runs.{Event, Moment, host_after_event, moment_of, moments, request_in}
+use Rattle.pawn_book.specs.Traces.{SlotEvent, asked_of, seen_by}
+use Rattle.std.proofs.Common.{◌≡◌, ℕ, List, [], ◌∷◌, ◌++◌, Option, None, Some, refl}
 
--- what a request is to a slot, if there is one
+-- the events of a slot by a request, if there is one
 abbrev pub slot_on : ℕ → List Receipt → Host → ℕ → Stamp → Option Request → List SlotEvent
 slot_on b slot h operator stamp None = []
 slot_on b slot h operator stamp (Some request) = seen_by b slot operator (record { host = h; stamp = stamp; request = request })
 
--- and to the book
+-- the part of a book's trace for a request
 abbrev pub request_on : ℕ → Host → ℕ → Stamp → Option Request → List (Stamp × Caller)
 request_on b h operator stamp None = []
 request_on b h operator stamp (Some request) = asked_of b operator (record { host = h; stamp = stamp; request = request })

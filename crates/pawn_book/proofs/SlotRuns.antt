@@ -1,16 +1,29 @@
 -- What a run does to each book, and to the machine of a slot.
-use Rattle.std.proofs.Common.{◌≡◌, ℕ, List, [], ◌∷◌, ◌++◌, Some, None, Ok, Err, refl, ◌∙◌, ap, sym, subst, arith, if◌then◌else◌, Option, ◌==◌, Bool, true}
-use Rattle.{std.{proofs.{Common.{false, nat_lt, ◌&&◌, map}, lemmas.Bool.{and_parts, Decides.nat_tests}}, specs.FinMap.get}, pawn_book.specs.Common.Answered}
-use Rattle.pawn_book.specs.{Common.{Changed, Command, Judged, PledgeValue, Receipt, Refused, Stamp, flat_map, list_all, pledge_step}, Books.{AddTerms, Bearer}}
-use Rattle.pawn_book.specs.{Books.{BearerRequest, Caller, Change, Full, ImportBook, MakeBook, OnReceipt, Present, PutPledge, Request}, HostStep.Host}
-use Rattle.pawn_book.specs.{HostStep.{host_after, host_step, rows, with_book, within_limit}, Slots.{BearersJoin, BooksAnswerAlone, EqualBookTracesAnswerAlike}}
-use Rattle.pawn_book.specs.{Slots.{EqualTracesAnswerAlike, OtherBooksStay, SlotsAnswerAlone, SlotsAreHeld, joins}, BookStep.{BookValue, Makes, Outcome}}
-use Rattle.pawn_book.specs.BookStep.{Refuses, Says, bearer_commands, bearer_step, book_after, book_step, changed_book, is_live, judged_outcome, live_at}
-use Rattle.pawn_book.specs.{BookStep.{only_live, out_of, pledge_in, present_receipts}, Runs.{Event, Mark, host_after_event, host_after_mark, is_settled}}
-use Rattle.pawn_book.specs.{Runs.{no_memory, no_store, read_as, request_in, run_host}, Laws.book_run, Traces.{book_trace, enters, is_live_in, slot_events}}
-use Rattle.pawn_book.specs.{Traces.{slot_of, slot_trace, within_slot}, Machines.{is_in, is_slots, no_pledge, reply_alone, solo, solo_from, solo_reply}}
-use Rattle.pawn_book.{specs.{Changes.numbered_pledges, Keeping.pledges_of}, proofs.SlotMoments.{book_trace_step, request_on, run_slot, slot_on, slot_step}}
-use Rattle.pawn_book.proofs.{Sounds.get-with_book, SlotMachine.{Follows, enter_book, solo_from-append, step_follows}}
+use Rattle.pawn_book.proofs.SlotMachine.{Follows, enter_book, solo_from-append, step_follows}
+use Rattle.pawn_book.proofs.SlotMoments.{book_trace_step, request_on, run_slot, slot_on, slot_step}
+use Rattle.pawn_book.proofs.Sounds.{get-with_book}
+use Rattle.pawn_book.specs.BookStep.{BookValue, Makes, Outcome, Refuses, Says, bearer_commands, bearer_step, book_after}
+use Rattle.pawn_book.specs.BookStep.{book_step, changed_book, is_live, judged_outcome, live_at, only_live, out_of}
+use Rattle.pawn_book.specs.BookStep.{pledge_in, present_receipts}
+use Rattle.pawn_book.specs.Books.{AddTerms, Bearer, BearerRequest, Caller, Change, Full, ImportBook, MakeBook}
+use Rattle.pawn_book.specs.Books.{OnReceipt, Present, PutPledge, Request}
+use Rattle.pawn_book.specs.Changes.{numbered_pledges}
+use Rattle.pawn_book.specs.Common.{Answered, Changed, Command, Judged, PledgeValue, Receipt, Refused, Stamp, flat_map}
+use Rattle.pawn_book.specs.Common.{list_all, pledge_step}
+use Rattle.pawn_book.specs.HostStep.{Host, host_after, host_step, rows, with_book, within_limit}
+use Rattle.pawn_book.specs.Keeping.{pledges_of}
+use Rattle.pawn_book.specs.Laws.{book_run}
+use Rattle.pawn_book.specs.Machines.{is_in, is_slots, no_pledge, reply_alone, solo, solo_from, solo_reply}
+use Rattle.pawn_book.specs.Runs.{Event, Mark, host_after_event, host_after_mark, is_settled, no_memory, no_store}
+use Rattle.pawn_book.specs.Runs.{read_as, request_in, run_host}
+use Rattle.pawn_book.specs.Slots.{BearersJoin, BooksAnswerAlone, EqualBookTracesAnswerAlike, EqualTracesAnswerAlike}
+use Rattle.pawn_book.specs.Slots.{OtherBooksStay, SlotsAnswerAlone, SlotsAreHeld, joins}
+use Rattle.pawn_book.specs.Traces.{book_trace, enters, is_live_in, slot_events, slot_of, slot_trace, within_slot}
+use Rattle.std.proofs.Common.{◌≡◌, ℕ, List, [], ◌∷◌, ◌++◌, Some, None, Ok, Err, refl, ◌∙◌, ap, sym, subst, arith}
+use Rattle.std.proofs.Common.{if◌then◌else◌, Option, ◌==◌, Bool, true, false, nat_lt, ◌&&◌, map}
+use Rattle.std.proofs.lemmas.Bool.{and_parts}
+use Rattle.std.proofs.lemmas.Bool.Decides.{nat_tests}
+use Rattle.std.specs.FinMap.{get}
 
 -- where a book is set
 set_get : (h : Host) (c b : ℕ) (book : Option BookValue) → (book ≡ None → get h.books c ≡ None)
@@ -38,7 +51,7 @@ other_books_stay h operator b stamp request other =
     host_get h request.book b (host_step h operator stamp request)
     ∙ ap (λ v. if v then book_after (get h.books request.book) (host_step h operator stamp request) else get h.books b) no
 
--- where the rows are full the machine stays
+-- if the rows are full, the machine stays the same
 limited_follows : (slot : List Receipt) (h : Host) (b : ℕ) (stamp : Stamp) (caller : Caller) (o : Outcome) → Follows slot (get h.books b) stamp caller o
     → Follows slot (get h.books b) stamp caller (within_limit h b o)
 limited_follows slot h b stamp caller (Refuses why) follows = follows
@@ -103,7 +116,7 @@ pub entered_start : (slot : List Receipt) (book : Option BookValue)
     → solo_from slot no_pledge (flat_map (enters slot) (numbered_pledges 1 (pledges_of book))) ≡ slot_of slot book
 entered_start slot book = λ i q. enter_start slot book q i
 
--- a slot's machine holds what is in the slot
+-- a slot's machine has exactly the pledges in the slot
 pub slot_is_held : {F : Type 0} (h : Host) (operator b : ℕ) (slot : List Receipt) (events : List (Event F))
     → solo slot (slot_trace b slot h operator events) ≡ slot_of slot (get (run_host h operator events).books b)
 slot_is_held h operator b slot events =
@@ -143,7 +156,7 @@ pub bearer_in_slot : (slot : List Receipt) (before : Option BookValue) (b : ℕ)
 bearer_in_slot slot before b stamp (OnReceipt r command) e = ap (bearer_commands b r.number stamp command) (live_in_slot slot r (pledge_in before r.number) e)
 bearer_in_slot slot before b stamp (Present rs) e = ap (present_receipts stamp) (all_live_in_slot slot before rs e)
 
--- where the reply is settled, the step is the book's
+-- if the reply is settled, the step is that of the book
 limited_settled : (h : Host) (b : ℕ) (o : Outcome) → is_settled (out_of (within_limit h b o)) ≡ true → within_limit h b o ≡ o
 limited_settled h b (Refuses why) e = refl
 limited_settled h b (Says out) e = refl
@@ -159,20 +172,20 @@ pub settled_step : (h : Host) (operator : ℕ) (stamp : Stamp) (request : Reques
 settled_step h operator stamp request settled =
     limited_settled h request.book (book_step (get h.books request.book) operator request.book stamp request.caller) settled
 
--- each settled reply to a slot's request is that of the slot alone
+-- each settled reply to a slot's request is the reply of the slot's machine alone
 pub slots_answer_alone : {F : Type 0} → SlotsAnswerAlone F
 slots_answer_alone h operator b slot before stamp asked mine settled =
     let now = run_host h operator before in
     ap out_of (settled_step now operator stamp (record { book = b; caller = Bearer asked }) settled
     ∙ bearer_in_slot slot (get now.books b) b stamp asked mine ∙ ap (λ m. bearer_step m b stamp asked) (sym (slot_is_held h operator b slot before)))
 
--- and so equal traces are answered alike
+-- equal traces get equal replies
 pub equal_traces_answer_alike : {F : Type 0} → EqualTracesAnswerAlike F
 equal_traces_answer_alike h g operator b slot before others stamp asked mine settled other same =
     slots_answer_alone h operator b slot before stamp asked mine settled
     ∙ ap (λ trace. solo_reply slot trace b stamp asked) same ∙ sym (slots_answer_alone g operator b slot others stamp asked mine other)
 
--- a bearer's command joins the trace where the slot's machine accepts it
+-- a bearer's command is added to the trace if the slot's machine accepts it
 
 joins_live : (slot : List Receipt) (before : Option BookValue) (b : ℕ) (stamp : Stamp) (r : Receipt) (command : Command) (p : PledgeValue)
     → pledge_in before r.number ≡ Some p → is_live_in slot r.number p ≡ true → (j : Judged)

@@ -1,16 +1,27 @@
--- A receipt that was declared away or surrendered stays so.
-use Rattle.std.proofs.Common.{◌≡◌, ℕ, ◌+◌, ◌≤◌, List, [], ◌∷◌, length, Some, None, Ok, Err, refl, ◌∙◌, ap, sym, subst, arith, if◌then◌else◌, Option, ◌==◌, Bool}
-use Rattle.{std.{proofs.{Common.{true, false, nat_lt, map}, lemmas.Bool.Decides.nat_tests}, specs.FinMap.get}, pawn_book.specs.Common.{Each, IsSpent}}
-use Rattle.pawn_book.specs.{Common.{PledgeValue, Receipt, Stamp, list_any, live_of}, Books.{BearerRequest, Caller, Change, Full, NoSuchReceipt, OnReceipt}}
-use Rattle.pawn_book.specs.{Books.{Present, Reply}, HostStep.{Host, host_after, host_step, rows, with_book, within_limit}, BookStep.{BookValue, Makes, Outcome}}
-use Rattle.pawn_book.specs.BookStep.{Refuses, Says, Shown, are_unknown, bearer_commands, bearer_step, book_after, book_head, book_step, changed_book, is_secret}
-use Rattle.pawn_book.specs.{BookStep.{live_at, only_live, out_of, pledge_from, pledge_in, put_from}, Slots.{EarlierReceiptsAreSpent, IsSpentReceipt}}
-use Rattle.pawn_book.specs.{Slots.{PresentsSpent, SpentIsUnknown, SpentReceiptsStaySpent}, Runs.{Mark, host_after_event, host_after_mark, is_settled}}
-use Rattle.pawn_book.{specs.Runs.{no_memory, no_store, read_as}, proofs.{KeptLemmas.put_there, MadeLemmas.{BookIs, CommandIs, MadeBy, PledgeIs, RowsAre}}}
-use Rattle.pawn_book.proofs.{MadeLemmas.{TermsAre, made_by}, Places.{pledge_from-put, pledge_within}, Plans.taken_is, RepeatLemmas.did_on, Sounds.absurd_none}
-use Rattle.{pawn_book.proofs.{Sounds.some_is, SlotRuns.{host_get, settled_step}}, pawn_pledge.proofs.Receipts.{earlier_are_spent, spent-changed}}
+-- A spent receipt (replaced by a declaration, or surrendered) stays spent.
+use Rattle.pawn_book.proofs.KeptLemmas.{put_there}
+use Rattle.pawn_book.proofs.MadeLemmas.{BookIs, CommandIs, MadeBy, PledgeIs, RowsAre, TermsAre, made_by}
+use Rattle.pawn_book.proofs.Places.{pledge_from-put, pledge_within}
+use Rattle.pawn_book.proofs.Plans.{taken_is}
+use Rattle.pawn_book.proofs.RepeatLemmas.{did_on}
+use Rattle.pawn_book.proofs.SlotRuns.{host_get, settled_step}
+use Rattle.pawn_book.proofs.Sounds.{absurd_none, some_is}
+use Rattle.pawn_book.specs.BookStep.{BookValue, Makes, Outcome, Refuses, Says, Shown, are_unknown, bearer_commands}
+use Rattle.pawn_book.specs.BookStep.{bearer_step, book_after, book_head, book_step, changed_book, is_secret, live_at}
+use Rattle.pawn_book.specs.BookStep.{only_live, out_of, pledge_from, pledge_in, put_from}
+use Rattle.pawn_book.specs.Books.{BearerRequest, Caller, Change, Full, NoSuchReceipt, OnReceipt, Present, Reply}
+use Rattle.pawn_book.specs.Common.{Each, IsSpent, PledgeValue, Receipt, Stamp, list_any, live_of}
+use Rattle.pawn_book.specs.HostStep.{Host, host_after, host_step, rows, with_book, within_limit}
+use Rattle.pawn_book.specs.Runs.{Mark, host_after_event, host_after_mark, is_settled, no_memory, no_store, read_as}
+use Rattle.pawn_book.specs.Slots.{EarlierReceiptsAreSpent, IsSpentReceipt, PresentsSpent, SpentIsUnknown}
+use Rattle.pawn_book.specs.Slots.{SpentReceiptsStaySpent}
+use Rattle.pawn_pledge.proofs.Receipts.{earlier_are_spent, spent-changed}
+use Rattle.std.proofs.Common.{◌≡◌, ℕ, ◌+◌, ◌≤◌, List, [], ◌∷◌, length, Some, None, Ok, Err, refl, ◌∙◌, ap, sym, subst}
+use Rattle.std.proofs.Common.{arith, if◌then◌else◌, Option, ◌==◌, Bool, true, false, nat_lt, map}
+use Rattle.std.proofs.lemmas.Bool.Decides.{nat_tests}
+use Rattle.std.specs.FinMap.{get}
 
--- a pledge is put at k
+-- a pledge is set at k
 spent_put : (book : BookValue) (b k : ℕ) (new : PledgeValue) (r : Receipt) → 1 ≤ k → k ≤ 1 + length book.pledges → (r.number ≡ k → IsSpent new r.secret)
     → IsSpentReceipt (Some book) r → IsSpentReceipt (Some (record book { pledges = put_from 1 book.pledges k new })) r
 spent_put book b k new r low high now spent = from (r.number == k) refl where

@@ -1,14 +1,24 @@
--- A host stays sound with a book that is.
-use Rattle.std.proofs.Common.{◌≡◌, ◌≢◌, ℕ, ◌+◌, ◌<◌, ◌≤◌, List, [], ◌∷◌, ◌++◌, length, Some, None, suc, refl, ◌∙◌, ap, sym, subst, arith, length-append}
-use Rattle.std.{proofs.{Common.{if◌then◌else◌, Option, Bool, true, false, ◌==◌}, lemmas.{Cmp.nat_cmp_total, Bool.Decides.nat_tests}}, specs.Cmp.unsigned_tied}
-use Rattle.{std.specs.FinMap.{get, get-insert}, pawn_book.specs.Common.{DoNotFall, Each, IsChecked, IsNumber, IsStanding, IsText, IsUtf8, PledgeValue, Rates}}
-use Rattle.pawn_book.specs.{Rows.{AreDistinct, AreNumberedFrom, AreReplayable, IsUnder, references_of, version_of}, Sound.{AreSound, HasTextsAndWords, IsSound}}
-use Rattle.pawn_book.specs.{Sound.{IsSoundAt, IsSoundBook, IsWord}, Books.{BookRows, NewBook}, HostStep.{Host, with_book}, BookStep.{BookValue, filled_book}}
-use Rattle.pawn_book.specs.{BookStep.{made_book, pledge_from, pledge_in, put_from, with_reference}, Limits.{IsCapacity, most_name_bytes, most_pledges}}
-use Rattle.{pawn_book.{specs.Limits.most_terms, proofs.SoundLists.{each_under_more, references_push, versions_push}}, pawn_base.proofs.ListLemmas.Each-push}
+-- A sound host stays sound when a sound book is set in it.
 pub use Rattle.pawn_book.proofs.SoundLists.{absurd_none, some_is}
+use Rattle.pawn_base.proofs.ListLemmas.{Each-push}
+use Rattle.pawn_book.proofs.SoundLists.{each_under_more, references_push, versions_push}
+use Rattle.pawn_book.specs.BookStep.{BookValue, filled_book, made_book, pledge_from, pledge_in, put_from}
+use Rattle.pawn_book.specs.BookStep.{with_reference}
+use Rattle.pawn_book.specs.Books.{BookRows, NewBook}
+use Rattle.pawn_book.specs.Common.{DoNotFall, Each, IsChecked, IsNumber, IsReachable, IsText, IsUtf8, PledgeValue}
+use Rattle.pawn_book.specs.Common.{Rates}
+use Rattle.pawn_book.specs.HostStep.{Host, with_book}
+use Rattle.pawn_book.specs.Limits.{IsCapacity, most_name_bytes, most_pledges, most_terms}
+use Rattle.pawn_book.specs.Rows.{AreDistinct, AreNumberedFrom, AreReplayable, IsUnder, references_of, version_of}
+use Rattle.pawn_book.specs.Sound.{AreSound, HasTextsAndWords, IsSound, IsSoundAt, IsSoundBook, IsWord}
+use Rattle.std.proofs.Common.{◌≡◌, ◌≢◌, ℕ, ◌+◌, ◌<◌, ◌≤◌, List, [], ◌∷◌, ◌++◌, length, Some, None, suc, refl, ◌∙◌, ap}
+use Rattle.std.proofs.Common.{sym, subst, arith, length-append, if◌then◌else◌, Option, Bool, true, false, ◌==◌}
+use Rattle.std.proofs.lemmas.Bool.Decides.{nat_tests}
+use Rattle.std.proofs.lemmas.Cmp.{nat_cmp_total}
+use Rattle.std.specs.Cmp.{unsigned_tied}
+use Rattle.std.specs.FinMap.{get, get-insert}
 
--- the book at a number, once a book is set
+-- the book at a number, after a book is set
 pub get-with_book : (h : Host) (b : ℕ) (book : BookValue) (q : ℕ) → get (with_book h b (Some book)).books q ≡ (if q == b then Some book else get h.books q)
 get-with_book h b book q = get-insert nat_cmp_total h.books b book q ∙ ap (λ v. if v then Some book else get h.books q) (unsigned_tied q b)
 
@@ -29,7 +39,7 @@ sound_made new key utf8 name capacity = record {
   capacity = capacity;
   rows = record {
     numbered = tt;
-    standing = tt;
+    reachable = tt;
     references = tt;
     under = tt;
     versions = tt;
@@ -40,7 +50,7 @@ sound_made new key utf8 name capacity = record {
   written = tt;
 }
 
--- a sound book that is filled with rows that can have come about is sound
+-- a sound book that is filled with replayable rows is sound
 pub sound_filled : (book : BookValue) (key : ℕ) (rows : BookRows) → IsSoundBook book → IsWord key → Each HasTextsAndWords rows.pledges
     → AreReplayable rows.terms rows.pledges → IsSoundBook (filled_book book key rows)
 sound_filled book key rows sound word written replayable = record {
@@ -63,7 +73,7 @@ sound_terms book terms sound checked few = record {
   capacity = sound.capacity;
   rows = record {
     numbered = sound.rows.numbered;
-    standing = sound.rows.standing;
+    reachable = sound.rows.reachable;
     references = sound.rows.references;
     under = each_under_more book.terms terms book.pledges sound.rows.under;
     versions = sound.rows.versions;
@@ -90,7 +100,7 @@ each_put P k (r ∷ ps) n p all one =
     elim (n == k) as
     (λ v. Each P (if v then p ∷ ps else r ∷ put_from (k + 1) ps n p)) [ true ↦ (one, all.1) | false ↦ (all.0, each_put P (k + 1) ps n p all.1 one) ]
 
--- the next pledge comes to the end
+-- the next pledge is added at the end
 pub put_next : (k : ℕ) (ps : List PledgeValue) (n : ℕ) (p : PledgeValue) → n ≡ k + length ps → put_from k ps n p ≡ ps ++ p ∷ []
 put_next k [] n p is = refl
 put_next k (r ∷ ps) n p is =
@@ -99,7 +109,7 @@ put_next k (r ∷ ps) n p is =
     let rest : n ≡ (k + 1) + length ps = omega (arith, is) in
     ap (λ v. if v then p ∷ ps else r ∷ put_from (k + 1) ps n p) no ∙ ap (λ qs. r ∷ qs) (put_next (k + 1) ps n p rest)
 
--- one that stands keeps their number
+-- a changed pledge of the book keeps the number of pledges
 pub length-put : (k : ℕ) (ps : List PledgeValue) (n : ℕ) (p : PledgeValue) → k ≤ n → n < k + length ps → length (put_from k ps n p) ≡ length ps
 length-put k [] n p low high = absurd (omega arith)
 length-put k (r ∷ ps) n p low high =
@@ -117,8 +127,8 @@ pub record IsNext (book : BookValue) (p : PledgeValue) : Type 0 where
   pub under : IsUnder book.terms p
   pub few : length book.pledges < most_pledges
 
--- a book with one pledge more
-pub sound_next : (book : BookValue) (p : PledgeValue) → IsSoundBook book → IsNext book p → IsStanding p → HasTextsAndWords p
+-- a book with one more pledge
+pub sound_next : (book : BookValue) (p : PledgeValue) → IsSoundBook book → IsNext book p → IsReachable p → HasTextsAndWords p
     → IsSoundBook (record book { pledges = put_from 1 book.pledges p.agreement.number p })
 sound_next book p sound is_next standing written =
     let named = is_next.number in
@@ -135,7 +145,7 @@ sound_next book p sound is_next standing written =
       capacity = sound.capacity;
       rows = record {
         numbered = numbered_put 1 book.pledges p.agreement.number p sound.rows.numbered refl low high;
-        standing = each_put IsStanding 1 book.pledges p.agreement.number p sound.rows.standing standing;
+        reachable = each_put IsReachable 1 book.pledges p.agreement.number p sound.rows.reachable standing;
         references = subst (λ ps. AreDistinct (references_of ps)) (sym pushed) (references_push book.pledges p sound.rows.references is_next.reference);
         under = each_put (IsUnder book.terms) 1 book.pledges p.agreement.number p sound.rows.under is_next.under;
         versions = subst (λ ps. DoNotFall version_of 0 ps) (sym pushed)
@@ -163,11 +173,11 @@ numbered_at k (r ∷ ps) n p all is =
       | false ↦ λ other there. numbered_at (k + 1) ps n p all.1 there
     ] refl is
 
--- a pledge of a sound host stands, under its number
-pub standing_at : (h : Host) (b n : ℕ) (p : PledgeValue) → IsSound h → pledge_in (get h.books b) n ≡ Some p → IsStanding p × (p.agreement.number ≡ n)
-standing_at h b n p sound is = from (get h.books b) refl is where
-  from : (o : Option BookValue) → get h.books b ≡ o → pledge_in o n ≡ Some p → IsStanding p × (p.agreement.number ≡ n)
+-- a pledge of a sound host is reachable, and has its number
+pub reachable_at : (h : Host) (b n : ℕ) (p : PledgeValue) → IsSound h → pledge_in (get h.books b) n ≡ Some p → IsReachable p × (p.agreement.number ≡ n)
+reachable_at h b n p sound is = from (get h.books b) refl is where
+  from : (o : Option BookValue) → get h.books b ≡ o → pledge_in o n ≡ Some p → IsReachable p × (p.agreement.number ≡ n)
   from None e is = absurd_none is
   from (Some book) e is =
       let one = (sound.books b book e).1 in
-      (each_at IsStanding 1 book.pledges n p one.rows.standing is, numbered_at 1 book.pledges n p one.rows.numbered is)
+      (each_at IsReachable 1 book.pledges n p one.rows.reachable is, numbered_at 1 book.pledges n p one.rows.numbered is)

@@ -1,7 +1,10 @@
 -- The secrets of a pledge stay words.
-use Rattle.{std.proofs.Common.{◌≡◌, ℕ, ◌==◌, List, false, subst, sym, inl, inr}, pawn_book.specs.Common.{Changed, Command, Done, Issued, PledgeValue, Stamp}}
-use Rattle.{pawn_book.specs.{Common.{StaysOrGrows, list_any, pledge_step}, Sound.{AreWords, IsWord}}, pawn_base.proofs.ListLemmas.Each-push}
+use Rattle.pawn_base.proofs.ListLemmas.{Each-push}
+use Rattle.pawn_book.specs.Common.{Changed, Command, Done, Issued, PledgeValue, Stamp, StaysOrGrows, list_any}
+use Rattle.pawn_book.specs.Common.{pledge_step}
+use Rattle.pawn_book.specs.Sound.{AreWords, IsWord}
 use Rattle.pawn_pledge.proofs.Steps.{lists_of_step}
+use Rattle.std.proofs.Common.{◌≡◌, ℕ, ◌==◌, List, false, subst, sym, inl, inr}
 
 -- a secret that is added is the stamp's word
 grown_words : (old new : List Issued) (word : ℕ) → IsWord word → AreWords old

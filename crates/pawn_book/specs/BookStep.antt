@@ -1,20 +1,37 @@
--- One step of a book: what comes of a request.
-use Rattle.std.specs.Prelude.{ℕ, ◌+◌, List, [], ◌∷◌, ◌++◌, Bool, true, false, ◌&&◌, Option, Some, None, Result, Ok, Err, if◌then◌else◌, ◌==◌, nat_le, nat_lt}
-use Rattle.std.specs.Prelude.{length, map, find}
-use Rattle.pawn_book.specs.Common.{Answered, Booking, Changed, Command, Done, Fixed, Issued, Judged, Kind, Opening, PledgeRefusal, PledgeValue, Rates, Receipt}
-use Rattle.pawn_book.specs.Common.{Refused, Running, Stamp, TermsFault, first_of, live_of, pledge_start, pledge_step, terms_answer}
-use Rattle.pawn_book.specs.declared.refusal.Refusal.{Refusal, TheVariants.{Pledge, Terms, NoSuchBook, NoSuchReceipt, NoSuchPledge, BookTaken, NoTerms}}
-use Rattle.pawn_book.specs.declared.refusal.Refusal.TheVariants.{TermsSeq, RefTaken, WindowFull, BookNotEmpty, NotOperator, TermsFull, PledgesFull}
-use Rattle.pawn_book.specs.declared.{reply.Reply.{Reply, TheVariants.{BookMade, TermsPut, BookFilled, Opened, Commanded}}, request.NewBook.NewBook}
-use Rattle.pawn_book.specs.declared.request.{NewTerms.NewTerms, Caller.{Caller, TheVariants.{Operator, Broker, Viewer, Bearer}}, View.View}
-use Rattle.pawn_book.specs.declared.request.BrokerRequest.{BrokerRequest, TheVariants.{PutTerms, TakePledge, OnPledge, Import}}
-use Rattle.pawn_book.specs.declared.{request.BearerRequest.{BearerRequest, TheVariants.{Present, OnPledge as OnReceipt}}, change.Imported.Imported}
-use Rattle.pawn_book.specs.declared.change.{BookHead.BookHead, Change.{Change, TheVariants.{MakeBook, AddTerms, PutPledge, ImportBook}}}
-use Rattle.pawn_book.specs.{declared.{rows.BookRows.BookRows, sheet.SheetItem.SheetItem}, Bookings.{confirmed_count, is_confirmed}, Limits.most_terms}
-use Rattle.pawn_book.specs.{Limits.most_pledges, Rows.{is_same_text, terms_at}, Sheet.day_sheet}
+-- One step of a book: the outcome of a request.
+use Rattle.pawn_book.specs.Bookings.{confirmed_count, is_confirmed}
+use Rattle.pawn_book.specs.Common.{Answered, Booking, Changed, Command, Done, Fixed, Issued, Judged, Kind, Opening}
+use Rattle.pawn_book.specs.Common.{PledgeRefusal, PledgeValue, Rates, Receipt, Refused, Running, Stamp, TermsFault}
+use Rattle.pawn_book.specs.Common.{first_of, live_of, pledge_start, pledge_step, terms_answer}
+use Rattle.pawn_book.specs.Limits.{most_terms, most_pledges}
+use Rattle.pawn_book.specs.Rows.{is_same_text, terms_at}
+use Rattle.pawn_book.specs.Sheet.{day_sheet}
+use Rattle.pawn_book.specs.declared.change.BookHead.{BookHead}
+use Rattle.pawn_book.specs.declared.change.Change.{Change}
+use Rattle.pawn_book.specs.declared.change.Change.TheVariants.{MakeBook, AddTerms, PutPledge, ImportBook}
+use Rattle.pawn_book.specs.declared.change.Imported.{Imported}
+use Rattle.pawn_book.specs.declared.refusal.Refusal.{Refusal}
+use Rattle.pawn_book.specs.declared.refusal.Refusal.TheVariants.{Pledge, Terms, NoSuchBook, NoSuchReceipt, NoSuchPledge}
+use Rattle.pawn_book.specs.declared.refusal.Refusal.TheVariants.{BookTaken, NoTerms, TermsSeq, RefTaken, WindowFull}
+use Rattle.pawn_book.specs.declared.refusal.Refusal.TheVariants.{BookNotEmpty, NotOperator, TermsFull, PledgesFull}
+use Rattle.pawn_book.specs.declared.reply.Reply.{Reply}
+use Rattle.pawn_book.specs.declared.reply.Reply.TheVariants.{BookMade, TermsPut, BookFilled, Opened, Commanded}
+use Rattle.pawn_book.specs.declared.request.BearerRequest.{BearerRequest}
+use Rattle.pawn_book.specs.declared.request.BearerRequest.TheVariants.{Present, OnPledge as OnReceipt}
+use Rattle.pawn_book.specs.declared.request.BrokerRequest.{BrokerRequest}
+use Rattle.pawn_book.specs.declared.request.BrokerRequest.TheVariants.{PutTerms, TakePledge, OnPledge, Import}
+use Rattle.pawn_book.specs.declared.request.Caller.{Caller}
+use Rattle.pawn_book.specs.declared.request.Caller.TheVariants.{Operator, Broker, Viewer, Bearer}
+use Rattle.pawn_book.specs.declared.request.NewBook.{NewBook}
+use Rattle.pawn_book.specs.declared.request.NewTerms.{NewTerms}
+use Rattle.pawn_book.specs.declared.request.View.{View}
+use Rattle.pawn_book.specs.declared.rows.BookRows.{BookRows}
+use Rattle.pawn_book.specs.declared.sheet.SheetItem.{SheetItem}
+use Rattle.std.specs.Prelude.{ℕ, ◌+◌, List, [], ◌∷◌, ◌++◌, Bool, true, false, ◌&&◌, Option, Some, None, Result, Ok, Err}
+use Rattle.std.specs.Prelude.{if◌then◌else◌, ◌==◌, nat_le, nat_lt, length, map, find}
 use Rattle.pawn_book.specs.declared.request.View.TheVariants as seen
 
--- a book: its key, name and capacity, and what was put into it
+-- a book: its key, name and capacity, and its terms, pledges and import
 pub record BookValue : Type 0 where
   pub key : ℕ
   pub name : List ℕ
@@ -23,27 +40,28 @@ pub record BookValue : Type 0 where
   pub terms : List Rates
   -- pledges 1, 2, .. in order
   pub pledges : List PledgeValue
-  -- the import key, with the number of pledges that came with it
+  -- the key of the import that filled it, with the number of pledges that it brought
   pub imported : Option Imported
 
--- what is answered, before it is written as text
+-- an answer, before it is written as text
 pub data Out : Type 0 where
   Replied : (reply : Reply) → Out
   Denied : (why : Refusal) → Out
   -- on a day, a statement or the unknown line for each receipt
   Shown : (day : ℕ) (pledges : List (Option PledgeValue)) → Out
-  -- the sheet of a day, in a book that confirms so many bookings of a window
+  -- the sheet of a day, with the capacity of the book
   Listed : (day : ℕ) (capacity : ℕ) (items : List SheetItem) → Out
   -- a book's terms and pledges
   Exported : (rows : BookRows) → Out
 
--- what comes of a request
+-- the outcome of a request
 pub data Outcome : Type 0 where
   Refuses : (why : Refusal) → Outcome
   -- answered without a change
   Says : (out : Out) → Outcome
   Makes : (change : Change) (reply : Reply) → Outcome
 
+-- the answer of an outcome
 abbrev pub out_of : Outcome → Out
 out_of (Refuses why) = Denied why
 out_of (Says out) = out
@@ -58,11 +76,12 @@ abbrev pub pledge_from : ℕ → List PledgeValue → ℕ → Option PledgeValue
 pledge_from k [] n = None
 pledge_from k (p ∷ ps) n = if n == k then Some p else pledge_from (k + 1) ps n
 
+-- the pledge of number n in a book, if there is one
 abbrev pub pledge_in : Option BookValue → ℕ → Option PledgeValue
 pledge_in None n = None
 pledge_in (Some book) n = pledge_from 1 book.pledges n
 
--- the list with pledge p at number n: in place of the one there, or else at the end
+-- the list with pledge p at number n: it replaces the pledge there, or else is added at the end
 abbrev pub put_from : ℕ → List PledgeValue → ℕ → PledgeValue → List PledgeValue
 put_from k [] n p = p ∷ []
 put_from k (q ∷ ps) n p = if n == k then p ∷ ps else q ∷ put_from (k + 1) ps n p
@@ -71,15 +90,16 @@ put_from k (q ∷ ps) n p = if n == k then p ∷ ps else q ∷ put_from (k + 1) 
 abbrev pub with_reference : List PledgeValue → List ℕ → Option PledgeValue
 with_reference pledges reference = find (λ p. is_same_text p.agreement.opening.reference reference) pledges
 
--- the book that a change makes
+-- a new book
 abbrev pub made_book : NewBook → BookValue
 made_book new = record { key = new.key; name = new.name; capacity = new.capacity; terms = []; pledges = []; imported = None }
 
--- the book that an import makes of one without terms and pledges
+-- the book after an import has filled it
 abbrev pub filled_book : BookValue → ℕ → BookRows → BookValue
 filled_book book key rows =
     record book { terms = rows.terms; pledges = rows.pledges; imported = Some (record { key = key; pledges = length rows.pledges }) }
 
+-- the book after a change
 abbrev pub changed_book : Option BookValue → Change → Option BookValue
 changed_book before (MakeBook b new) = Some (made_book new)
 changed_book None (AddTerms b version terms) = None
@@ -100,7 +120,7 @@ abbrev pub make_or_refuse : {V : Type 0} → Result V Refusal → (V → Outcome
 make_or_refuse (Ok v) makes = makes v
 make_or_refuse (Err why) makes = Refuses why
 
--- what a book has beside its terms and pledges
+-- the head of a book: its data without terms and pledges, of which it has only the numbers
 abbrev pub book_head : BookValue → BookHead
 book_head book = record {
   key = book.key;
@@ -115,7 +135,7 @@ book_head book = record {
 abbrev pub is_same_book : BookHead → NewBook → Bool
 is_same_book head new = (head.key == new.key) && is_same_text head.name new.name && (head.capacity == new.capacity)
 
--- to make a book: if there is an equal one, the same is answered again
+-- making a book; if there is an equal one, the answer is the same and nothing changes
 abbrev pub make_book : Option BookValue → ℕ → NewBook → Outcome
 make_book None b new = Makes (MakeBook b new) (BookMade b)
 make_book (Some book) b new = if is_same_book (book_head book) new then Says (Replied (BookMade b)) else Refuses BookTaken
@@ -128,11 +148,12 @@ operator_step operator key step = if key == operator then step else Refuses NotO
 abbrev pub are_same_rates : Rates → Rates → Bool
 are_same_rates a b = (a.rate == b.rate) && (a.keep_before == b.keep_before) && (a.keep_after == b.keep_after)
 
+-- the terms, or the refusal for their fault
 abbrev pub under_terms : Result Rates TermsFault → Result Rates Refusal
 under_terms (Ok terms) = Ok terms
 under_terms (Err fault) = Err (Terms fault)
 
--- the terms of a version that a book of so many versions does not have yet
+-- the terms of a version that a book with `standing` versions does not have yet, or their refusal
 abbrev pub next_terms : ℕ → NewTerms → Result Rates Refusal
 next_terms standing new =
     first_of
@@ -142,7 +163,7 @@ next_terms standing new =
     ∷ [])
     (under_terms (terms_answer new.rates))
 
--- PutTerms: equal terms that the book has are answered again
+-- `PutTerms`: if the book already has equal terms under the version, the answer is the same and nothing changes
 abbrev pub put_terms : BookValue → ℕ → NewTerms → Option Rates → Outcome
 put_terms book b new (Some terms) = if are_same_rates terms new.rates then Says (Replied (TermsPut new.version)) else Refuses TermsSeq
 put_terms book b new None = make_or_refuse (next_terms (length book.terms) new) (λ terms. Makes (AddTerms b new.version terms) (TermsPut new.version))
@@ -152,46 +173,51 @@ abbrev pub first_secret : List Issued → ℕ
 first_secret [] = 0
 first_secret (i ∷ is) = i.secret
 
+-- the receipt with which a pledge was taken
 abbrev pub first_receipt : PledgeValue → Receipt
 first_receipt p = record { number = p.agreement.number; secret = first_secret p.secrets }
 
+-- the kinds of credit are the same
 abbrev pub is_same_kind : Kind → Kind → Bool
 is_same_kind (Fixed a) (Fixed b) = a == b
 is_same_kind (Running a) (Running b) = a == b
 is_same_kind (Fixed a) (Running b) = false
 is_same_kind (Running a) (Fixed b) = false
 
+-- the agreed ends are the same
 abbrev pub is_same_end : Option ℕ → Option ℕ → Bool
 is_same_end None None = true
 is_same_end (Some a) (Some b) = a == b
 is_same_end None (Some b) = false
 is_same_end (Some a) None = false
 
+-- the flags are the same
 abbrev pub is_same_flag : Bool → Bool → Bool
 is_same_flag true b = b
 is_same_flag false true = false
 is_same_flag false false = true
 
--- the same opening, its reference aside
+-- the openings are the same except for their references
 abbrev pub is_same_opening : Opening → Opening → Bool
 is_same_opening a b = is_same_text a.article b.article && is_same_kind a.kind b.kind && is_same_end a.agreed b.agreed && is_same_flag a.five_days b.five_days
 
+-- the pledge, or the refusal by its own rules
 abbrev pub under_pledge : Result PledgeValue PledgeRefusal → Result PledgeValue Refusal
 under_pledge (Ok p) = Ok p
 under_pledge (Err refusal) = Err (Pledge refusal)
 
--- a pledge, if a book of so many pledges has room for it
+-- the pledge, if a book with `standing` pledges has room for it
 abbrev pub with_room : ℕ → Result PledgeValue Refusal → Result PledgeValue Refusal
 with_room standing (Ok p) = first_of ((nat_le most_pledges standing, PledgesFull) ∷ []) (Ok p)
 with_room standing (Err why) = Err why
 
--- a pledge under the newest terms, one past the book's last
+-- a new pledge, with the next number of the book and under its newest terms
 abbrev pub next_pledge : BookHead → Opening → Stamp → Option Rates → Result PledgeValue Refusal
 next_pledge head opening stamp None = Err NoTerms
 next_pledge head opening stamp (Some terms) =
     with_room head.pledges (under_pledge (pledge_start (head.pledges + 1) opening head.terms terms stamp))
 
--- TakePledge: an equal opening is answered as the first time
+-- `TakePledge`: an equal opening gets the answer of the first time
 abbrev pub take_pledge : BookValue → ℕ → Opening → Stamp → Option PledgeValue → Outcome
 take_pledge book b opening stamp (Some p) = if is_same_opening p.agreement.opening opening then Says (Replied (Opened (first_receipt p))) else Refuses RefTaken
 take_pledge book b opening stamp None =
@@ -224,24 +250,24 @@ is_window_full book (Some booking) = nat_le book.capacity (confirmed_count book.
 
 -- commands
 
--- what came of a command on pledge n
+-- the outcome of a command on pledge n
 abbrev pub judged_outcome : ℕ → ℕ → Judged → Outcome
 judged_outcome b n (Refused why) = Refuses (Pledge why)
 judged_outcome b n (Answered done) = Says (Replied (Commanded n done))
 judged_outcome b n (Changed next done) = Makes (PutPledge b n next) (Commanded n done)
 
--- a booking is confirmed only where its window has room
+-- the outcome, unless it confirms a booking whose window is full
 abbrev pub within_window : BookValue → Outcome → Outcome
 within_window book (Refuses why) = Refuses why
 within_window book (Says out) = Says out
 within_window book (Makes change reply) = if is_window_full book (confirmed_booking reply) then Refuses WindowFull else Makes change reply
 
--- a broker's command on pledge n
+-- the outcome of a broker's command on pledge n
 abbrev pub broker_commands : BookValue → ℕ → ℕ → Stamp → Command → Option PledgeValue → Outcome
 broker_commands book b n stamp command None = Refuses NoSuchPledge
 broker_commands book b n stamp command (Some p) = within_window book (judged_outcome b n (pledge_step p stamp command))
 
--- a bearer's command, on the pledge of a live receipt
+-- the outcome of a bearer's command, given the pledge of the receipt if the receipt is live
 abbrev pub bearer_commands : ℕ → ℕ → Stamp → Command → Option PledgeValue → Outcome
 bearer_commands b n stamp command None = Refuses NoSuchReceipt
 bearer_commands b n stamp command (Some p) = judged_outcome b n (pledge_step p stamp command)
@@ -255,7 +281,8 @@ show_pledge stamp (Some p) = Says (Shown stamp.day (Some p ∷ []))
 abbrev pub is_empty : BookHead → Bool
 is_empty head = (head.terms == 0) && (head.pledges == 0)
 
--- Import: the rows become an empty book's, once; the book's own import is answered again, whatever rows come
+-- `Import`: the rows fill an empty book, once; a repeat under the key of that import gets the answer of the first time,
+-- whatever its rows
 abbrev pub import_rows : BookHead → ℕ → ℕ → BookRows → Option Imported → Outcome
 import_rows head b key rows None = if is_empty head then Makes (ImportBook b key rows) (BookFilled (length rows.pledges)) else Refuses BookNotEmpty
 import_rows head b key rows (Some imported) = if imported.key == key then Says (Replied (BookFilled imported.pledges)) else Refuses BookNotEmpty
@@ -272,32 +299,34 @@ rows_of_book book = record { terms = book.terms; pledges = book.pledges }
 abbrev pub export_rows : BookValue → Outcome
 export_rows book = Says (Exported (rows_of_book book))
 
--- what a broker asks to be done
+-- the outcome of a broker's request
 abbrev pub broker_step : BookValue → ℕ → Stamp → BrokerRequest → Outcome
 broker_step book b stamp (PutTerms new) = put_terms book b new (terms_at book.terms new.version)
 broker_step book b stamp (TakePledge opening) = take_pledge book b opening stamp (with_reference book.pledges opening.reference)
 broker_step book b stamp (OnPledge n command) = broker_commands book b n stamp command (pledge_from 1 book.pledges n)
 broker_step book b stamp (Import key rows) = import_rows (book_head book) b key rows book.imported
 
--- what the holder of the book's key asks to see
+-- the outcome of a request for a view
 abbrev pub view_step : BookValue → Stamp → View → Outcome
 view_step book stamp (seen.Pledge n) = show_pledge stamp (pledge_from 1 book.pledges n)
 view_step book stamp (seen.Sheet day) = show_sheet book day
 view_step book stamp seen.Rows = export_rows book
 
--- refused unless there is such a book, and the key is its own
+-- refused unless there is such a book and the key is its key
 abbrev pub gate_step : Option BookValue → ℕ → (BookValue → Outcome) → Outcome
 gate_step None key step = Refuses NoSuchBook
 gate_step (Some book) key step = if book.key == key then step book else Refuses NoSuchBook
 
+-- the optional secret is s
 abbrev pub is_secret : ℕ → Option ℕ → Bool
 is_secret s None = false
 is_secret s (Some t) = t == s
 
--- the secret is the pledge's live one
+-- s is the live secret of the pledge
 abbrev pub is_live : ℕ → PledgeValue → Bool
 is_live s p = is_secret s (live_of p)
 
+-- the pledge, if s is its live secret
 abbrev pub only_live : ℕ → Option PledgeValue → Option PledgeValue
 only_live s None = None
 only_live s (Some p) = if is_live s p then Some p else None
@@ -306,20 +335,22 @@ only_live s (Some p) = if is_live s p then Some p else None
 abbrev pub live_at : (ℕ → Option PledgeValue) → Receipt → Option PledgeValue
 live_at pledges r = only_live r.secret (pledges r.number)
 
+-- none of the receipts was found live
 abbrev pub are_unknown : List (Option PledgeValue) → Bool
 are_unknown [] = true
 are_unknown (None ∷ ps) = are_unknown ps
 are_unknown (Some p ∷ ps) = false
 
--- Present: refused where none of the receipts is live
+-- `Present`: refused if none of the receipts is live
 abbrev pub present_receipts : Stamp → List (Option PledgeValue) → Outcome
 present_receipts stamp pledges = if are_unknown pledges then Refuses NoSuchReceipt else Says (Shown stamp.day pledges)
 
--- what a bearer asks, where pledges are looked up so
+-- the outcome of a bearer's request, given the pledge of each number
 abbrev pub bearer_step : (ℕ → Option PledgeValue) → ℕ → Stamp → BearerRequest → Outcome
 bearer_step pledges b stamp (Present receipts) = present_receipts stamp (map (live_at pledges) receipts)
 bearer_step pledges b stamp (OnReceipt r command) = bearer_commands b r.number stamp command (live_at pledges r)
 
+-- the outcome of a request on book b
 abbrev pub book_step : Option BookValue → ℕ → ℕ → Stamp → Caller → Outcome
 book_step before operator b stamp (Operator key new) = operator_step operator key (make_book before b new)
 book_step before operator b stamp (Broker key asked) = gate_step before key (λ book. broker_step book b stamp asked)

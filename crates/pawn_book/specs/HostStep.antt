@@ -1,8 +1,13 @@
 -- One step of a host: many books, and a limit on their rows.
-use Rattle.std.specs.{Prelude.{ℕ, ◌+◌, Option, Some, None, if◌then◌else◌, nat_lt, length, sum_by}, Ordering.nat_cmp, FinMap.{FinMap, get, insert, values}}
-use Rattle.pawn_book.specs.{Common.{Booking, PledgeValue, Stamp}, declared.{request.Request.Request, refusal.Refusal.TheVariants.Full}, BookStep.BookValue}
-use Rattle.pawn_book.specs.BookStep.{Outcome, Refuses, Says, Makes, changed_book, book_step}
+use Rattle.pawn_book.specs.BookStep.{BookValue, Outcome, Refuses, Says, Makes, changed_book, book_step}
+use Rattle.pawn_book.specs.Common.{Booking, PledgeValue, Stamp}
+use Rattle.pawn_book.specs.declared.refusal.Refusal.TheVariants.{Full}
+use Rattle.pawn_book.specs.declared.request.Request.{Request}
+use Rattle.std.specs.FinMap.{FinMap, get, insert, values}
+use Rattle.std.specs.Ordering.{nat_cmp}
+use Rattle.std.specs.Prelude.{ℕ, ◌+◌, Option, Some, None, if◌then◌else◌, nat_lt, length, sum_by}
 
+-- a host: its books by their numbers, and the limit on its rows
 pub record Host : Type 0 where
   pub books : FinMap nat_cmp BookValue
   pub limit : ℕ
@@ -20,10 +25,11 @@ pledge_rows p = 1 + length p.entries + length p.secrets + booking_rows p.standin
 abbrev pub book_rows : BookValue → ℕ
 book_rows book = 1 + length book.terms + sum_by pledge_rows book.pledges
 
+-- the rows of all books of a host
 abbrev pub rows : Host → ℕ
 rows h = sum_by book_rows (values h.books)
 
--- the host with that book at a number
+-- the host with this book under number b
 abbrev pub with_book : Host → ℕ → Option BookValue → Host
 with_book h b None = h
 with_book h b (Some book) = record h { books = insert h.books b book }
@@ -34,14 +40,14 @@ host_after h b (Refuses why) = h
 host_after h b (Says out) = h
 host_after h b (Makes change reply) = with_book h b (changed_book (get h.books b) change)
 
--- a change that would bring the rows above the limit is refused, after everything else
+-- a change that would bring the rows above the limit is refused, if nothing else refuses it
 abbrev pub within_limit : Host → ℕ → Outcome → Outcome
 within_limit h b (Refuses why) = Refuses why
 within_limit h b (Says out) = Says out
 within_limit h b (Makes change reply) =
     if nat_lt h.limit (rows (with_book h b (changed_book (get h.books b) change))) then Refuses Full else Makes change reply
 
--- the book's step, within the limit
+-- the outcome of a request: the step of its book, within the limit on rows
 abbrev pub host_step : Host → ℕ → Stamp → Request → Outcome
 host_step h operator stamp request =
     within_limit h request.book (book_step (get h.books request.book) operator request.book stamp request.caller)

@@ -24,3 +24,4 @@ pub mod WorkedShards
 pub mod WorkedImports
 pub mod Common
 pub mod Books
+pub mod WorkedLimits

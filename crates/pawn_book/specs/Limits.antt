@@ -1,11 +1,12 @@
 -- The limits of books.
-use Rattle.std.specs.Prelude.{ℕ, ◌≤◌, List, length}
 use Rattle.pawn_pledge.specs.declared.receipt.Receipt.{Receipt}
+use Rattle.std.specs.Prelude.{ℕ, ◌≤◌, List, length}
 
--- the highest number of bookings of one window that a book may be made to confirm
+-- the highest capacity of a book: the most bookings that it confirms in one window of a day
 abbrev pub most_bookings : ℕ
 most_bookings = 1000
 
+-- a capacity that a book can have
 abbrev pub IsCapacity : ℕ → Type 0
 IsCapacity n = (1 ≤ n) × (n ≤ most_bookings)
 
@@ -17,6 +18,7 @@ most_name_bytes = 60
 abbrev pub most_receipts : ℕ
 most_receipts = 32
 
+-- as many receipts as may be presented at once: 1 to 32
 abbrev pub AreFew : List Receipt → Type 0
 AreFew receipts = (1 ≤ length receipts) × (length receipts ≤ most_receipts)
 

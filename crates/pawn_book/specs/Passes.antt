@@ -1,8 +1,18 @@
--- The laws of slots pass by pass: first of slots of one receipt, and of runs that have only some sorts of requests.
-use Rattle.std.specs.{Prelude.{◌≡◌, ℕ, List, [], ◌∷◌, true, Ok}, FinMap.get}
-use Rattle.pawn_book.specs.{Common.{Command, IsReplacing, Receipt, Stamp}, declared.request.{Request.Request, Caller.{Caller, TheVariants.{Broker, Bearer}}}}
-use Rattle.pawn_book.specs.{declared.request.{BrokerRequest.TheVariants.{TakePledge, Import}, BearerRequest.BearerRequest}, HostStep.Host, Laws.Asks}
-use Rattle.pawn_book.specs.{Machines.{is_slots, solo, solo_reply}, Runs.{Event, read_as, run_host, is_settled}, Slots.reply_after, Traces.{slot_of, slot_trace}}
+-- The laws of slots pass by pass: first for slots of one receipt and for runs that have only some kinds of requests.
+use Rattle.pawn_book.specs.Common.{Command, IsReplacing, Receipt, Stamp}
+use Rattle.pawn_book.specs.HostStep.{Host}
+use Rattle.pawn_book.specs.Laws.{Asks}
+use Rattle.pawn_book.specs.Machines.{is_slots, solo, solo_reply}
+use Rattle.pawn_book.specs.Runs.{Event, read_as, run_host, is_settled}
+use Rattle.pawn_book.specs.Slots.{reply_after}
+use Rattle.pawn_book.specs.Traces.{slot_of, slot_trace}
+use Rattle.pawn_book.specs.declared.request.BearerRequest.{BearerRequest}
+use Rattle.pawn_book.specs.declared.request.BrokerRequest.TheVariants.{TakePledge, Import}
+use Rattle.pawn_book.specs.declared.request.Caller.{Caller}
+use Rattle.pawn_book.specs.declared.request.Caller.TheVariants.{Broker, Bearer}
+use Rattle.pawn_book.specs.declared.request.Request.{Request}
+use Rattle.std.specs.FinMap.{get}
+use Rattle.std.specs.Prelude.{◌≡◌, ℕ, List, [], ◌∷◌, true, Ok}
 
 -- the request opens no pledge and imports none
 abbrev pub BringsNone : Caller → Type 0
@@ -10,14 +20,15 @@ BringsNone (Broker key (TakePledge opening)) = ⊥
 BringsNone (Broker key (Import importing rows)) = ⊥
 BringsNone other = Unit {0}
 
--- it neither declares nor redeems
+-- the request is neither a declaration nor a redemption
 abbrev pub ReplacesNone : Caller → Type 0
 ReplacesNone caller = (n : ℕ) (command : Command) → Asks caller n command → IsReplacing command → ⊥
 
+-- the request keeps every receipt as it is
 abbrev pub KeepsReceipts : Caller → Type 0
 KeepsReceipts caller = BringsNone caller × ReplacesNone caller
 
--- each request of a run is of a sort
+-- the caller of each request of a run has the property `Is`
 abbrev pub AreAll : {F : Type 0} → (Caller → Type 0) → List (Event F) → Type 0
 AreAll Is [] = Unit {0}
 AreAll Is (event ∷ events) = ((request : Request) → event.mark ≡ read_as (Ok request) → Is request.caller) × AreAll Is events
@@ -26,8 +37,8 @@ AreAll Is (event ∷ events) = ((request : Request) → event.mark ≡ read_as (
 abbrev pub IsOne : List Receipt → Type 0
 IsOne slot = (r : Receipt) × (slot ≡ r ∷ [])
 
--- Of slots of a sort, and runs whose requests are of a sort. A slot's machine holds the pledges of the book that are in
--- the slot. Each settled reply to a slot's request is that of the slot alone.
+-- The laws for slots with `IsSlot`, and runs whose requests have `IsAsked`. A slot's machine has exactly the pledges of
+-- the book that are in the slot, and each settled reply to a slot's request is the reply of the slot's machine alone.
 pub record Pass (F : Type 0) (IsAsked : Caller → Type 0) (IsSlot : List Receipt → Type 0) : Type 0 where
   pub held : (h : Host) (operator b : ℕ) (slot : List Receipt) (events : List (Event F)) (n : ℕ) → IsSlot slot → AreAll IsAsked events
       → solo slot (slot_trace b slot h operator events) n ≡ slot_of slot (get (run_host h operator events).books b) n

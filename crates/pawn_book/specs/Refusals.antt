@@ -1,11 +1,14 @@
--- Why a request is refused.
-use Rattle.{std.specs.Prelude.{ℕ, List, Option, None, codes}, pawn_book.specs.declared.refusal.Refusal.{Refusal, TheVariants.{Pledge, Terms, NoSuchBook}}}
-use Rattle.pawn_book.specs.declared.refusal.Refusal.TheVariants.{NoSuchReceipt, NoSuchPledge, BookTaken, NoTerms, TermsSeq, RefTaken, WindowFull, BookNotEmpty}
-use Rattle.pawn_book.specs.declared.refusal.Refusal.TheVariants.{NotOperator, TermsFull, PledgesFull, Full, Memory, Store}
+-- The reasons why a request is refused.
+use Rattle.pawn_book.specs.declared.refusal.Refusal.{Refusal}
+use Rattle.pawn_book.specs.declared.refusal.Refusal.TheVariants.{Pledge, Terms, NoSuchBook, NoSuchReceipt, NoSuchPledge}
+use Rattle.pawn_book.specs.declared.refusal.Refusal.TheVariants.{BookTaken, NoTerms, TermsSeq, RefTaken, WindowFull}
+use Rattle.pawn_book.specs.declared.refusal.Refusal.TheVariants.{BookNotEmpty, NotOperator, TermsFull, PledgesFull}
+use Rattle.pawn_book.specs.declared.refusal.Refusal.TheVariants.{Full, Memory, Store}
+use Rattle.std.specs.Prelude.{ℕ, List, Option, None, codes}
 use Rattle.pawn_terms.specs.TermsFault as terms
 use Rattle.pawn_pledge.specs.Refusal as pledge
 
--- the refusal's number
+-- the code of the refusal in replies
 abbrev pub book_refusal_code : Refusal → ℕ
 book_refusal_code (Pledge refusal) = pledge.pledge_refusal_code refusal
 book_refusal_code (Terms fault) = terms.terms_fault_code fault
@@ -25,7 +28,7 @@ book_refusal_code Full = 490
 book_refusal_code Memory = 491
 book_refusal_code Store = 492
 
--- its name
+-- the name of the refusal in replies
 abbrev pub book_refusal_name : Refusal → List ℕ
 book_refusal_name (Pledge refusal) = pledge.pledge_refusal_name refusal
 book_refusal_name (Terms fault) = terms.terms_fault_name fault
@@ -45,7 +48,7 @@ book_refusal_name Full = codes "Full"
 book_refusal_name Memory = codes "Memory"
 book_refusal_name Store = codes "Store"
 
--- what is owing, where the refusal reports it
+-- the sum owed, if the refusal reports it
 abbrev pub total_told : Refusal → Option ℕ
 total_told (Pledge refusal) = pledge.refusal_total refusal
 total_told (Terms fault) = None

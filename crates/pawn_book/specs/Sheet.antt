@@ -1,17 +1,22 @@
--- A book's day: who comes in which window, who asked to, and whose period ends.
-use Rattle.std.specs.Prelude.{ℕ, zero, suc, ◌+◌, List, [], ◌∷◌, ◌++◌, ◌&&◌, Option, Some, None, if◌then◌else◌, ◌==◌, length, filter_map}
-use Rattle.pawn_book.specs.{Common.{Booking, PledgeValue, end_of, flat_map}, declared.sheet.{Part.Part, SheetItem.{SheetItem, TheVariants.{Window, Confirmed}}}}
-use Rattle.pawn_book.specs.{declared.sheet.SheetItem.TheVariants.{AskedHead, Asked, EndsHead, Ends}, Bookings.{is_asked, is_confirmed_for}}
-use Rattle.pawn_pledge.specs.{Limits.last_window, Words.is_open}
+-- The sheet of a day: its confirmed bookings by window, the bookings that are asked for, the pledges whose period ends.
+use Rattle.pawn_book.specs.Bookings.{is_asked, is_confirmed_for}
+use Rattle.pawn_book.specs.Common.{Booking, PledgeValue, end_of, flat_map}
+use Rattle.pawn_book.specs.declared.sheet.Part.{Part}
+use Rattle.pawn_book.specs.declared.sheet.SheetItem.{SheetItem}
+use Rattle.pawn_book.specs.declared.sheet.SheetItem.TheVariants.{Window, Confirmed, AskedHead, Asked, EndsHead, Ends}
+use Rattle.pawn_pledge.specs.Limits.{last_window}
+use Rattle.pawn_pledge.specs.Words.{is_open}
+use Rattle.std.specs.Prelude.{ℕ, zero, suc, ◌+◌, List, [], ◌∷◌, ◌++◌, ◌&&◌, Option, Some, None, if◌then◌else◌, ◌==◌}
+use Rattle.std.specs.Prelude.{length, filter_map}
 use Rattle.pawn_book.specs.declared.sheet.Part.TheVariants as part
 
--- the item of a booking that is asked for a day
+-- the item of a booking, if it is asked for the day
 abbrev pub asked_item : ℕ → ℕ → Option Booking → Option SheetItem
 asked_item number day None = None
 asked_item number day (Some booking) = if (booking.day == day) && is_asked booking.state then Some (Asked number booking.window) else None
 
--- The item that a part has for a pledge, if it has one. The pledge has a confirmed booking for the day and window, or
--- one that is asked for the day. Or its period ends on the day, and it is neither redeemed nor sold.
+-- The item that a part has for a pledge, if it has one: the pledge has a confirmed booking for the day and window; or
+-- it has a booking that is asked for the day; or its period ends on the day, and it is neither redeemed nor sold.
 abbrev pub part_item : Part → ℕ → PledgeValue → Option SheetItem
 part_item (part.Confirmed window) day p = if is_confirmed_for day window p.standing.booking then Some (Confirmed p.agreement.number) else None
 part_item part.Asked day p = asked_item p.agreement.number day p.standing.booking
@@ -21,16 +26,17 @@ part_item part.Ends day p = if is_open p.standing.closing && (end_of p == day) t
 abbrev pub part_items : Part → ℕ → List PledgeValue → List SheetItem
 part_items part day pledges = filter_map (part_item part day) pledges
 
--- the item that heads a part, with how many items follow
+-- the first item of a part, with the number of items that follow it
 abbrev pub part_head : Part → ℕ → SheetItem
 part_head (part.Confirmed window) count = Window window count
 part_head part.Asked count = AskedHead count
 part_head part.Ends count = EndsHead count
 
+-- the items of a part after their head
 abbrev pub with_head : Part → List SheetItem → List SheetItem
 with_head part items = part_head part (length items) ∷ items
 
--- a window is headed only if it has items
+-- the items of a window after their head, or nothing if the window has no items
 abbrev pub window_items : Part → List SheetItem → List SheetItem
 window_items part [] = []
 window_items part items = with_head part items
@@ -44,14 +50,16 @@ windows_below (suc n) = windows_below n ++ n ∷ []
 abbrev pub windows : List ℕ
 windows = windows_below (last_window + 1)
 
--- a window's items
+-- the items of one window
 abbrev pub window_sheet : List PledgeValue → ℕ → ℕ → List SheetItem
 window_sheet pledges day window = window_items (part.Confirmed window) (part_items (part.Confirmed window) day pledges)
 
+-- the items of all windows of a day
 abbrev pub windows_sheet : List PledgeValue → ℕ → List SheetItem
 windows_sheet pledges day = flat_map (window_sheet pledges day) windows
 
--- a day's sheet: window by window who comes, then who asked to, then whose period ends
+-- a day's sheet: the confirmed bookings window by window, then the bookings that are asked for, then the pledges whose
+-- period ends
 abbrev pub day_sheet : List PledgeValue → ℕ → List SheetItem
 day_sheet pledges day =
     windows_sheet pledges day

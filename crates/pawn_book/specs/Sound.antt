@@ -1,10 +1,14 @@
--- Hosts that can have come about.
-use Rattle.std.specs.{Prelude.{◌≡◌, ℕ, ◌≤◌, Some, IfSome}, FinMap.get}
-use Rattle.pawn_book.specs.{Common.{Each, IsNumber, IsText, IsUtf8}, BookStep.BookValue, HostStep.{Host, rows}, Limits.{IsCapacity, most_name_bytes}}
-use Rattle.pawn_book.specs.Rows.{AreReplayable}
+-- Sound books and hosts.
 pub use Rattle.pawn_book.specs.Written.{IsWord, AreWords, HasTextsAndWords}
+use Rattle.pawn_book.specs.BookStep.{BookValue}
+use Rattle.pawn_book.specs.Common.{Each, IsNumber, IsText, IsUtf8}
+use Rattle.pawn_book.specs.HostStep.{Host, rows}
+use Rattle.pawn_book.specs.Limits.{IsCapacity, most_name_bytes}
+use Rattle.pawn_book.specs.Rows.{AreReplayable}
+use Rattle.std.specs.FinMap.{get}
+use Rattle.std.specs.Prelude.{◌≡◌, ℕ, ◌≤◌, Some, IfSome}
 
--- a book within the limits, whose rows can have come about; its keys are words, and its texts UTF-8
+-- a sound book: its rows are replayable and within the limits, its keys are words of 128 bits, and its texts are UTF-8
 pub record IsSoundBook (book : BookValue) : Type 0 where
   pub key : IsWord book.key
   pub imported : IfSome book.imported (λ imported. IsWord imported.key)

@@ -1,5 +1,10 @@
-ghost use Rattle.{std.specs.Prelude.IfSome, pawn_book.specs.{Plans.{Acts, Commits, IsLeftByAct, IsLeftByCommit, IsWritten}, Changes.CanSave, Keeping.GoesOn}};
-ghost use Rattle.pawn_book.specs.{Keeping.{IsQuiet, OfHost}, HostStep.Host};
+//! Carries out requests: plans a request and saves its change.
+
+ghost use Rattle.pawn_book.specs.Changes.{CanSave};
+ghost use Rattle.pawn_book.specs.HostStep.{Host};
+ghost use Rattle.pawn_book.specs.Keeping.{GoesOn, IsQuiet, OfHost};
+ghost use Rattle.pawn_book.specs.Plans.{Acts, Commits, IsLeftByAct, IsLeftByCommit, IsWritten};
+ghost use Rattle.std.specs.Prelude.{IfSome};
 
 use crate::change::Planned;
 use crate::fault::SaveError;
@@ -11,8 +16,8 @@ use crate::request::Request;
 use pawn_pledge::{Secret, Stamp};
 use std::alloc::Global;
 
-/// Makes the change of a plan, if it has one. Refused as `Full` if the rows would be above the limit, and as `Memory`
-/// or `Store` if the keeper does not save it.
+/// Saves the change of a plan, if it has one. Refused as `Full` if the rows would be above the limit of the host, and
+/// as `Memory` or `Store` if the keeper fails. After a refusal the books are as before.
 pub fn commit<K: Keep>(keep: &mut K, planned: &Planned) -> Result<(), Refusal>
     requires saves { K.keeping.serves keep.old → OfHost K.keeping keep.old keep.old (λ h. IfSome planned.now.change (CanSave h)) }
     ensures on { GoesOn K.keeping keep.old keep.new }
@@ -32,7 +37,7 @@ pub fn commit<K: Keep>(keep: &mut K, planned: &Planned) -> Result<(), Refusal>
     }
 }
 
-/// Plans a request and makes its change: one step of the host. The request is one that may change its book.
+/// Plans a request and saves its change: one step of the host. The request must be one that may change its book.
 pub fn act<K: Keep>(
     alloc: Global,
     keep: &mut K,

@@ -1,10 +1,12 @@
-ghost use Rattle.std.specs.Prelude.{◌≡◌, ℕ, IfSome, IsSome, ◌↔◌};
+//! `Capacity`, the most confirmed bookings in one window of a day.
+
 ghost use Rattle.pawn_book.specs.Limits.{IsCapacity};
+ghost use Rattle.std.specs.Prelude.{◌≡◌, ℕ, IfSome, IsSome, ◌↔◌};
 
 use crate::limits::MOST_BOOKINGS;
 use std::marker::Model;
 
-/// The most bookings of one window that a book confirms: 1 to 1,000. A contract sees the number.
+/// The most bookings that a book confirms in one window of a day: 1 to 1,000. In contracts the value is that number.
 #[derive(Clone, Copy, PartialEq, Eq)]
 pub struct Capacity {
     bookings: u32,
@@ -21,7 +23,7 @@ impl Model for Capacity {
 }
 
 impl Capacity {
-    /// The capacity of that many bookings, if it is 1 to 1,000.
+    /// The capacity for this number of bookings, or `None` if the number is not 1 to 1,000.
     pub fn new(bookings: u64) -> Option<Capacity>
         ensures value { IfSome result (λ c. c ≡ bookings) }
         ensures some { IsSome result ↔ IsCapacity bookings }

@@ -1,17 +1,19 @@
+//! The changes of a book, and the plan of a request.
+
 use crate::capacity::Capacity;
 use crate::reply::Reply;
 use crate::request::{Name, NewBook};
 use crate::rows::BookRows;
 use pawn_pledge::{Number, Pledge, Secret, Terms};
 
-/// The key of the import that filled a book, and how many pledges came with it.
+/// The key of the import that filled a book, and the number of pledges that it brought.
 #[derive(Clone, Copy, PartialEq, Eq)]
 pub struct Imported {
     pub key: Secret,
     pub pledges: u64,
 }
 
-/// What a book has beside its terms and pledges, with their counts.
+/// The data of a book without its terms and pledges, of which it has only the numbers.
 #[derive(Drop)]
 pub struct BookHead {
     pub key: Secret,
@@ -36,7 +38,8 @@ pub enum Change {
         version: u64,
         terms: Terms,
     },
-    /// The pledge of this number as it is after the change. It is new, with the next number, or one that the book has.
+    /// The pledge with this number as it is after the change: a new pledge under the next number, or a changed pledge
+    /// of the book.
     PutPledge {
         book: Number,
         number: Number,
@@ -50,7 +53,7 @@ pub enum Change {
     },
 }
 
-/// What a request would do, and the reply to it. Without a change, nothing is to be done.
+/// The plan of a request: the change that it makes, if it makes one, and the reply to it.
 #[derive(Drop)]
 pub struct Planned {
     pub change: Option<Change>,

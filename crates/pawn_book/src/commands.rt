@@ -1,8 +1,14 @@
-//! Plans of commands on a pledge that the book has.
-ghost use Rattle.std.specs.{Prelude.{◌≡◌, Err, IfOk}, FinMap.get};
-ghost use Rattle.{pawn_pledge.specs.Commands.IsCommand, pawn_terms.specs.Calendar.IsStampDay, pawn_book.specs.{Common.pledge_step, BookStep.BookValue}};
-ghost use Rattle.pawn_book.specs.BookStep.{bearer_commands, book_head, broker_commands, confirmed_booking, judged_outcome, live_at, pledge_from, pledge_in};
-ghost use Rattle.pawn_book.specs.{Plans.{FindsRoom, IsOutcome, Plans, outcome_of}, Keeping.{IsQuiet, Reads}, Sound.{IsSound, IsWord}};
+//! Plans of commands on a pledge.
+ghost use Rattle.pawn_book.specs.BookStep.{BookValue, bearer_commands, book_head, broker_commands, confirmed_booking};
+ghost use Rattle.pawn_book.specs.BookStep.{judged_outcome, live_at, pledge_from, pledge_in};
+ghost use Rattle.pawn_book.specs.Common.{pledge_step};
+ghost use Rattle.pawn_book.specs.Keeping.{IsQuiet, Reads};
+ghost use Rattle.pawn_book.specs.Plans.{FindsRoom, IsOutcome, Plans, outcome_of};
+ghost use Rattle.pawn_book.specs.Sound.{IsSound, IsWord};
+ghost use Rattle.pawn_pledge.specs.Commands.{IsCommand};
+ghost use Rattle.pawn_terms.specs.Calendar.{IsStampDay};
+ghost use Rattle.std.specs.FinMap.{get};
+ghost use Rattle.std.specs.Prelude.{◌≡◌, Err, IfOk};
 
 use crate::change::{BookHead, Change, Planned};
 use crate::gates::{find_live, know_stamp, unwell_refusal};
@@ -13,7 +19,7 @@ use pawn_pledge::{
     Booking, BookingState, Command, Done, Number, Pledge, Receipt, Refusal as PledgeRefusal, Stamp,
 };
 
-// A broker's command on the pledge of a number.
+/// Plans a broker's command on the pledge with this number.
 pub(crate) fn plan_number<K: Keep>(
     keep: &mut K,
     book: Number,
@@ -37,7 +43,7 @@ pub(crate) fn plan_number<K: Keep>(
     Ok(planned)
 }
 
-// A bearer's command on the pledge of a receipt, if the receipt is live.
+/// Plans a bearer's command on the pledge of a receipt. Refused as `NoSuchReceipt` if the receipt is not live.
 pub(crate) fn plan_receipt<K: Keep>(
     keep: &mut K,
     book: Number,
@@ -57,7 +63,7 @@ pub(crate) fn plan_receipt<K: Keep>(
     }
 }
 
-// What comes of a command on a pledge.
+/// Applies a command to a pledge, and plans to save the pledge if the command changed it.
 fn plan_command(
     book: Number,
     number: Number,
@@ -97,7 +103,8 @@ fn plan_command(
     }
 }
 
-// Whether there is room for what was planned. Refused as `WindowFull` if it confirms a booking whose window is full.
+/// Checks that there is room for the booking that a plan confirms, if it confirms one. Refused as `WindowFull` if its
+/// window is full.
 fn find_room<K: Keep>(
     keep: &mut K,
     book: Number,
@@ -126,7 +133,7 @@ fn find_room<K: Keep>(
     }
 }
 
-// The booking that a reply reports as confirmed, if it reports one.
+/// The booking that a reply reports as confirmed, if it reports one.
 fn confirmed_booking(reply: Reply) -> Option<Booking>
     ensures value { result ≡ confirmed_booking reply }
 {

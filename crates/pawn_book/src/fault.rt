@@ -1,24 +1,30 @@
-/// Why a store failed.
+//! The errors of a keeper.
+
+/// The reason why a store failed.
 #[derive(Clone, Copy, Debug)]
 pub enum StoreFault {
-    /// A stored row does not read as a record.
+    /// A stored row cannot be decoded.
     NoRecord,
     /// The database refused or failed.
     Database,
 }
 
-/// Why a keeper did not answer.
+/// The error of a keeper's call that reads.
 #[derive(Clone, Copy, Debug)]
 pub enum KeepError {
+    /// Out of memory.
     Memory,
+    /// The store failed.
     Store(StoreFault),
 }
 
-/// Why a keeper did not save a change.
+/// The error of a keeper's `save`.
 #[derive(Clone, Copy)]
 pub enum SaveError {
-    /// The rows would be above the limit.
+    /// The rows would be above the limit of the host.
     Full,
+    /// Out of memory.
     Memory,
+    /// The store failed.
     Store(StoreFault),
 }

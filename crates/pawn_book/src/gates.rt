@@ -1,7 +1,12 @@
-//! Who is let in, and to what.
-ghost use Rattle.std.specs.{Prelude.{◌≡◌, IfOk, option_map}, FinMap.get};
-ghost use Rattle.{pawn_terms.specs.Calendar.{IsStampDay}, pawn_pledge.specs.Brief.brief_of};
-ghost use Rattle.pawn_book.specs.{Plans.{Gates, IsUnwell}, Keeping.{IsQuiet, IsSteady, Reads}, Sound.IsWord, BookStep.{live_at, pledge_in}};
+//! The checks of access: by a book's key, and by a live receipt.
+ghost use Rattle.pawn_book.specs.BookStep.{live_at, pledge_in};
+ghost use Rattle.pawn_book.specs.Keeping.{IsQuiet, IsSteady, Reads};
+ghost use Rattle.pawn_book.specs.Plans.{Gates, IsUnwell};
+ghost use Rattle.pawn_book.specs.Sound.{IsWord};
+ghost use Rattle.pawn_pledge.specs.Brief.{brief_of};
+ghost use Rattle.pawn_terms.specs.Calendar.{IsStampDay};
+ghost use Rattle.std.specs.FinMap.{get};
+ghost use Rattle.std.specs.Prelude.{◌≡◌, IfOk, option_map};
 
 use crate::change::BookHead;
 use crate::fault::KeepError;
@@ -60,7 +65,7 @@ pub fn live_brief<K: Keep>(
     }
 }
 
-// The refusal for a keeper that did not answer.
+/// The refusal for an error of the keeper.
 pub(crate) fn unwell_refusal(error: KeepError) -> Refusal
     ensures unwell { IsUnwell result }
     ensures memory { error ≡ KeepError.Memory → result ≡ Refusal.Memory }
@@ -71,7 +76,7 @@ pub(crate) fn unwell_refusal(error: KeepError) -> Refusal
     }
 }
 
-// Gives a proof that the word of a stamp has 128 bits, and that a stamp may have its day.
+/// Gives a proof that the word of a stamp has 128 bits, and that a request may name its day.
 pub(crate) fn know_stamp(stamp: &Stamp)
     ensures word { IsWord stamp.now.word }
     ensures day { IsStampDay stamp.now.day }

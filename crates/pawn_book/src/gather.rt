@@ -1,6 +1,10 @@
-//! Gathers in a list what a keeper hands out one at a time.
-ghost use Rattle.std.specs.{Prelude.{◌≡◌, IfOk}, FinMap.get};
-ghost use Rattle.pawn_book.specs.{Gathering.Gathers, Keeping.{Errs, Reads, pledges_of}, Sheet.day_sheet, Sound.IsUnsoundAt};
+//! Collects in a list the items that a keeper passes to a visitor one by one.
+ghost use Rattle.pawn_book.specs.Gathering.{Gathers};
+ghost use Rattle.pawn_book.specs.Keeping.{Errs, Reads, pledges_of};
+ghost use Rattle.pawn_book.specs.Sheet.{day_sheet};
+ghost use Rattle.pawn_book.specs.Sound.{IsUnsoundAt};
+ghost use Rattle.std.specs.FinMap.{get};
+ghost use Rattle.std.specs.Prelude.{◌≡◌, IfOk};
 
 use crate::fault::KeepError;
 use crate::keep::Keep;
@@ -9,7 +13,7 @@ use crate::visit::{Flow, Visitor};
 use pawn_pledge::{Day, Number};
 use std::alloc::Global;
 
-/// A visitor that gathers the items that it is handed. Once memory is refused, it notes that it is full and stops.
+/// A visitor that collects the items that it gets. When memory runs out, it sets `is_full` and stops.
 #[derive(Drop)]
 pub struct Gathering<T> {
     items: Vec<T>,
@@ -30,7 +34,7 @@ impl<T: Copy> Visitor<T> for Gathering<T> {
     }
 }
 
-/// The items of a day's sheet in a book, in order; none if there is no such book.
+/// The items of a day's sheet in a book, in order. The list is that of a book without pledges if there is no such book.
 pub fn day_sheet<K: Keep>(
     alloc: Global,
     keep: &mut K,

@@ -1,7 +1,12 @@
 //! Plans of imports.
-ghost use Rattle.std.specs.{Prelude.{◌≡◌, IfErr, IfOk, Err, Some, length}, FinMap.get};
-ghost use Rattle.pawn_book.specs.{Common.Each, BookStep.{BookValue, book_head, import_rows, is_empty}, HostStep.Host, Plans.Plans, Rows.AreReplayable};
+ghost use Rattle.pawn_book.specs.BookStep.{BookValue, book_head, import_rows, is_empty};
+ghost use Rattle.pawn_book.specs.Common.{Each};
+ghost use Rattle.pawn_book.specs.HostStep.{Host};
+ghost use Rattle.pawn_book.specs.Plans.{Plans};
+ghost use Rattle.pawn_book.specs.Rows.{AreReplayable};
 ghost use Rattle.pawn_book.specs.Sound.{HasTextsAndWords, IsSound, IsWord};
+ghost use Rattle.std.specs.FinMap.{get};
+ghost use Rattle.std.specs.Prelude.{◌≡◌, IfErr, IfOk, Err, Some, length};
 
 use crate::change::{BookHead, Change, Planned};
 use crate::refusal::Refusal;
@@ -11,16 +16,16 @@ use crate::rows::BookRows;
 use pawn_pledge::{Number, Secret};
 use std::marker::Model;
 
-/// Rows that can fill a book: `replayable` was true of them, so `plan` need not judge them again. A contract sees the
-/// rows.
+/// Rows that can fill a book. `replayable` accepted them, so that `plan` does not check them again. In contracts the
+/// value is the rows.
 #[derive(Drop)]
 pub struct ReplayableRows {
     rows: BookRows,
 }
 
 impl Model for ReplayableRows {
-    ghost use Rattle.pawn_book.specs.declared.rows.BookRows.{BookRows};
     ghost use Rattle.pawn_book.specs.Rows.{AreReplayable};
+    ghost use Rattle.pawn_book.specs.declared.rows.BookRows.{BookRows};
 
     ghost Value = { BookRows };
 
@@ -30,7 +35,7 @@ impl Model for ReplayableRows {
 }
 
 impl ReplayableRows {
-    /// The rows, if `replayable` is true of them; otherwise they are handed back.
+    /// The rows, if `replayable` accepts them; otherwise the rows are returned as the error.
     pub fn of_rows(rows: BookRows) -> Result<ReplayableRows, BookRows>
         ensures same { IfOk result (λ replayable. replayable ≡ rows) }
         ensures replayable { IfOk result (λ replayable. AreReplayable replayable.terms replayable.pledges) }
@@ -53,14 +58,15 @@ impl ReplayableRows {
     }
 }
 
-// Whether the book has neither terms nor pledges.
+/// Whether the book has neither terms nor pledges.
 fn is_empty(head: &BookHead) -> bool
     ensures value { result ≡ is_empty head.now }
 {
     head.terms == 0 && head.pledges == 0
 }
 
-// Plans an import. A book is filled once; the import that filled it is answered again, and any other is refused.
+/// Plans an import. A book is filled once: a repeat of the import that filled it gets the answer of the first time, and
+/// any other import is refused as `BookNotEmpty`.
 pub(crate) fn plan_import(
     book: Number,
     head: &BookHead,
@@ -90,7 +96,7 @@ pub(crate) fn plan_import(
     }
 }
 
-// The plan that fills an empty book with these rows.
+/// The plan that fills an empty book with these rows.
 fn fill_book(book: Number, key: Secret, rows: &ReplayableRows) -> Result<Planned, Refusal>
     ensures planned { IfOk result (λ planned. planned ≡ record {
       change = Some (Change.ImportBook book key rows.now);

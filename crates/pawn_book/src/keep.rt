@@ -1,8 +1,18 @@
-ghost use Rattle.std.specs.{Prelude.{◌≡◌, IfOk, option_map, unwrap_or}, FinMap.get};
-ghost use Rattle.{pawn_pledge.specs.Brief.brief_of, pawn_book.specs.{Bookings.confirmed_count, BookStep.{book_head, pledge_in}, Rows.terms_at, HostStep.rows}};
-ghost use Rattle.pawn_book.specs.{Changes.CanSave, Keeping.{Errs, IsNextBook, Keeping, OfHost, Reads, Saves, WholeIsSound, entries_of, extensions_of}};
-ghost use Rattle.pawn_book.specs.{Keeping.{number_of, pledges_of, secrets_of, terms_of}, Sheet.day_sheet, Sound.{HasUnsoundBook, IsUnsoundAt}, Visits.IsShare};
-ghost use Rattle.pawn_book.specs.Visits.{Visits, call_end};
+//! `Keep`, the trait of keepers: how the books of a host are read and changed.
+
+ghost use Rattle.pawn_book.specs.BookStep.{book_head, pledge_in};
+ghost use Rattle.pawn_book.specs.Bookings.{confirmed_count};
+ghost use Rattle.pawn_book.specs.Changes.{CanSave};
+ghost use Rattle.pawn_book.specs.HostStep.{rows};
+ghost use Rattle.pawn_book.specs.Keeping.{Errs, IsNextBook, Keeping, OfHost, Reads, Saves, WholeIsSound, entries_of};
+ghost use Rattle.pawn_book.specs.Keeping.{extensions_of, number_of, pledges_of, secrets_of, terms_of};
+ghost use Rattle.pawn_book.specs.Rows.{terms_at};
+ghost use Rattle.pawn_book.specs.Sheet.{day_sheet};
+ghost use Rattle.pawn_book.specs.Sound.{HasUnsoundBook, IsUnsoundAt};
+ghost use Rattle.pawn_book.specs.Visits.{IsShare, Visits, call_end};
+ghost use Rattle.pawn_pledge.specs.Brief.{brief_of};
+ghost use Rattle.std.specs.FinMap.{get};
+ghost use Rattle.std.specs.Prelude.{◌≡◌, IfOk, option_map, unwrap_or};
 
 use crate::change::{BookHead, Change};
 use crate::fault::{KeepError, SaveError};
@@ -10,10 +20,11 @@ use crate::sheet::SheetItem;
 use crate::visit::Visitor;
 use pawn_pledge::{Brief, Day, Entry, Extension, Issued, Number, Pledge, Reference, Terms};
 
-/// A keeper: whatever keeps a host, in a list or in tables. Only `save` changes the host.
+/// A keeper: a value that keeps a host, in a list or in tables. Only `save` changes the host.
 pub trait Keep {
-    /// What a proof knows of a keeper, field by field as `Keeping` has it: the hosts that it stands for, and whether
-    /// its store is honest, serves and is steady. Then the hosts that a crash now may leave, and whether it is whole.
+    /// The predicates by which contracts describe a keeper, in the order of the fields of `Keeping`: the hosts that it
+    /// stands for (represents); whether its store is honest, serves and is steady; the hosts that a crash now may
+    /// leave; and whether the keeper is whole.
     ghost keeping: { Keeping Self };
 
     /// The head of a book, if there is such a book.
@@ -41,15 +52,15 @@ pub trait Keep {
         ensures reads { Reads keeping self.old self.new (λ h. IfOk result (λ count. count ≡ confirmed_count (pledges_of (get h.books book)) day window)) }
         ensures errs { Errs keeping self.old self.new (IsUnsoundAt book) result };
 
-    /// Hands the visitor the pledges of a book in order of their numbers, until it wants no more. If the call fails, it
-    /// may have been handed only the first of them.
+    /// Passes the pledges of a book in order of their numbers to the visitor, until it returns `Stop`. If the call
+    /// fails, the visitor may have got only a prefix of them.
     fn walk<V: Visitor<Pledge>>(&mut self, book: Number, visitor: &mut V) -> Result<(), KeepError>
         ensures reads { Visits V.step visitor.old visitor.new (λ given flow. Reads keeping self.old self.new
             (λ h. IsShare given flow (call_end result) (pledges_of (get h.books book)))) }
         ensures errs { Errs keeping self.old self.new (IsUnsoundAt book) result };
 
-    /// The next book number above `after`, or the first if `after` is none. The result is none if there is no such
-    /// book.
+    /// The lowest number of a book above `after`, or of any book if `after` is `None`. Returns `None` if there is no
+    /// such book.
     fn next_book(&mut self, after: Option<Number>) -> Result<Option<Number>, KeepError>
         ensures reads { Reads keeping self.old self.new (λ h. IfOk result (λ next. IsNextBook h (unwrap_or after 0) next)) }
         ensures errs { Errs keeping self.old self.new HasUnsoundBook result };
@@ -59,8 +70,8 @@ pub trait Keep {
         ensures reads { Reads keeping self.old self.new (λ h. IfOk result (λ brief. brief ≡ option_map brief_of (pledge_in (get h.books book) number))) }
         ensures errs { Errs keeping self.old self.new (IsUnsoundAt book) result };
 
-    /// Hands the visitor the entries of a pledge in order, until it wants no more. If the call fails, it may have been
-    /// handed only the first of them.
+    /// Passes the entries of a pledge in order to the visitor, until it returns `Stop`. If the call fails, the visitor
+    /// may have got only a prefix of them.
     fn entries<V: Visitor<Entry>>(
         &mut self,
         book: Number,
@@ -71,8 +82,8 @@ pub trait Keep {
             (λ h. IsShare given flow (call_end result) (entries_of (pledge_in (get h.books book) number)))) }
         ensures errs { Errs keeping self.old self.new (IsUnsoundAt book) result };
 
-    /// Hands the visitor the secrets of a pledge in order, until it wants no more. If the call fails, it may have been
-    /// handed only the first of them.
+    /// Passes the secrets of a pledge in order to the visitor, until it returns `Stop`. If the call fails, the visitor
+    /// may have got only a prefix of them.
     fn secrets<V: Visitor<Issued>>(
         &mut self,
         book: Number,
@@ -83,8 +94,8 @@ pub trait Keep {
             (λ h. IsShare given flow (call_end result) (secrets_of (pledge_in (get h.books book) number)))) }
         ensures errs { Errs keeping self.old self.new (IsUnsoundAt book) result };
 
-    /// Hands the visitor the extensions of a pledge in order, until it wants no more. If the call fails, it may have
-    /// been handed only the first of them.
+    /// Passes the extensions of a pledge in order to the visitor, until it returns `Stop`. If the call fails, the
+    /// visitor may have got only a prefix of them.
     fn extensions<V: Visitor<Extension>>(
         &mut self,
         book: Number,
@@ -95,8 +106,8 @@ pub trait Keep {
             (λ h. IsShare given flow (call_end result) (extensions_of (pledge_in (get h.books book) number)))) }
         ensures errs { Errs keeping self.old self.new (IsUnsoundAt book) result };
 
-    /// Hands the visitor the items of a day's sheet in order, until it wants no more. If the call fails, it may have
-    /// been handed only the first of them.
+    /// Passes the items of a day's sheet in order to the visitor, until it returns `Stop`. If the call fails, the
+    /// visitor may have got only a prefix of them.
     fn sheet_each<V: Visitor<SheetItem>>(
         &mut self,
         book: Number,
@@ -112,8 +123,8 @@ pub trait Keep {
         ensures reads { Reads keeping self.old self.new (λ h. IfOk result (λ count. count ≡ rows h)) }
         ensures errs { Errs keeping self.old self.new HasUnsoundBook result };
 
-    /// Makes a change, or answers `Full` if the rows would be above the limit. After any error the books are as before,
-    /// though a crash may then leave the change made, unless the error is `Full`.
+    /// Saves a change, or returns `Full` if the rows would be above the limit of the host. After an error the books are
+    /// as before. If the error is not `Full`, a crash after it may still leave the changed book.
     fn save(&mut self, change: &Change) -> Result<(), SaveError>
         requires can_save { keeping.serves self.old → OfHost keeping self.old self.old (λ h. CanSave h change.now) }
         ensures saves { Saves keeping self.old self.new change.now result };

@@ -1,4 +1,4 @@
-//! The books of many brokers: what may be asked of a book, what comes of it, and what keeps the books.
+//! The books of many brokers: requests on a book, the rules for them, and the trait of the keepers that keep the books.
 #![tactic(auto)]
 
 mod acting;
@@ -30,7 +30,7 @@ pub use capacity::Capacity;
 pub use change::{BookHead, Change, Imported, Planned};
 pub use fault::{KeepError, SaveError, StoreFault};
 pub use gates::{find_live, gate, live_brief};
-pub use gather::{Gathering, day_sheet};
+pub use gather::day_sheet;
 pub use importing::ReplayableRows;
 pub use keep::Keep;
 pub use laws::{
@@ -58,4 +58,4 @@ pub use request::{BearerRequest, BrokerRequest, Caller, Name, NewBook, NewTerms,
 pub use rows::{BookRows, PledgeRows, know_written};
 pub use sheet::{Part, SheetItem};
 pub use visit::{Flow, Visitor};
-pub use worked::{worked_imports, worked_shards, worked_slots};
+pub use worked::{worked_imports, worked_limits, worked_shards, worked_slots};

@@ -1,6 +1,6 @@
 //! The limits of books.
 
-/// The highest number of bookings of one window that a book may be made to confirm.
+/// The highest capacity of a book: the most bookings that it confirms in one window of a day.
 pub const MOST_BOOKINGS: u32 = 1_000;
 
 /// The most bytes that a book's name may have.

@@ -1,9 +1,15 @@
 //! Plans of new pledges.
-ghost use Rattle.std.specs.{Prelude.{◌≡◌, ℕ, Err, IfOk, Some}, FinMap.get};
-ghost use Rattle.{pawn_terms.specs.Calendar.IsDayNumber, pawn_book.specs.{Common.{IsSaid, IsStanding, IsUtf8}, BookStep.{BookValue, book_head, first_receipt}}};
-ghost use Rattle.pawn_book.specs.{BookStep.{is_same_opening, newest, next_pledge, take_pledge, with_reference}, Keeping.{IsQuiet, IsSteady, Reads, pledges_of}};
-ghost use Rattle.pawn_book.specs.{HostStep.Host, Sound.{IsSound, IsWord}, Plans.{IsUnwell, Plans}};
+ghost use Rattle.pawn_book.specs.BookStep.{BookValue, book_head, first_receipt, is_same_opening, newest, next_pledge};
+ghost use Rattle.pawn_book.specs.BookStep.{take_pledge, with_reference};
+ghost use Rattle.pawn_book.specs.Common.{IsSaid, IsReachable, IsUtf8};
+ghost use Rattle.pawn_book.specs.HostStep.{Host};
+ghost use Rattle.pawn_book.specs.Keeping.{IsQuiet, IsSteady, Reads, pledges_of};
+ghost use Rattle.pawn_book.specs.Plans.{IsUnwell, Plans};
+ghost use Rattle.pawn_book.specs.Sound.{IsSound, IsWord};
 ghost use Rattle.pawn_pledge.specs.declared.command.Stamp.{Stamp as StampValue};
+ghost use Rattle.pawn_terms.specs.Calendar.{IsDayNumber};
+ghost use Rattle.std.specs.FinMap.{get};
+ghost use Rattle.std.specs.Prelude.{◌≡◌, ℕ, Err, IfOk, Some};
 
 use crate::change::{BookHead, Change, Planned};
 use crate::fault::KeepError;
@@ -17,8 +23,8 @@ use pawn_pledge::{
 };
 use std::alloc::Global;
 
-// Plans a new pledge. If a pledge has the reference already, an equal opening is answered with its first receipt, and
-// any other is refused.
+/// Plans a new pledge. If a pledge already has the reference, an equal opening is answered with the first receipt of
+/// that pledge, and any other opening is refused as `RefTaken`.
 pub(crate) fn plan_pledge<K: Keep>(
     alloc: Global,
     keep: &mut K,
@@ -53,7 +59,7 @@ pub(crate) fn plan_pledge<K: Keep>(
     }
 }
 
-// What an opening comes to if the pledge has its reference already.
+/// Plans an opening whose reference `pledge` already has.
 fn plan_again(pledge: &Pledge, opening: &Opening) -> Result<Planned, Refusal>
     ensures told { (h : Host) (b : ℕ) (at : BookValue) (stamp : StampValue) → Plans h b (take_pledge at b opening.now stamp (Some pledge.now)) result }
     ensures store { result ≡ Err Refusal.Store → ⊥ }
@@ -67,8 +73,8 @@ fn plan_again(pledge: &Pledge, opening: &Opening) -> Result<Planned, Refusal>
     })
 }
 
-// Gives a proof of what a request gives for a new pledge: texts that are UTF-8, a word of 128 bits, and a day of the
-// calendar.
+/// Gives a proof that the texts of an opening are UTF-8, that the word of a stamp has 128 bits, and that its day is in
+/// range.
 fn know_given(opening: &Opening, stamp: &Stamp)
     ensures reference { IsUtf8 opening.now.reference }
     ensures article { IsUtf8 opening.now.article }
@@ -80,7 +86,7 @@ fn know_given(opening: &Opening, stamp: &Stamp)
     know_stamp(stamp);
 }
 
-// The pledge with this reference in a book, if there is one.
+/// The pledge with this reference in a book, if there is one.
 fn find_reference<K: Keep>(
     keep: &mut K,
     book: Number,
@@ -97,7 +103,7 @@ fn find_reference<K: Keep>(
     }
 }
 
-// A new pledge, one past the book's last, under its newest terms.
+/// A new pledge, with the next number of the book and under its newest terms.
 fn new_pledge<K: Keep>(
     alloc: Global,
     keep: &mut K,
@@ -108,7 +114,7 @@ fn new_pledge<K: Keep>(
 ) -> Result<Pledge, Refusal>
     ensures reads { Reads K.keeping keep.old keep.new (λ h. (at : BookValue) → get h.books book ≡ Some at → head.now ≡ book_head at
         → IsSaid IsUnwell (next_pledge head.now opening.now stamp.now (newest at.terms)) result) }
-    ensures standing { IfOk result IsStanding }
+    ensures reachable { IfOk result IsReachable }
     ensures steady { IsQuiet K.keeping keep.old result }
 {
     match keep.terms(book, head.terms) {
@@ -118,7 +124,7 @@ fn new_pledge<K: Keep>(
     }
 }
 
-// A new pledge under these terms, one past the last of a book with that head.
+/// A new pledge under these terms, with the next number of a book that has this head.
 fn start(
     alloc: Global,
     head: &BookHead,
@@ -127,7 +133,7 @@ fn start(
     stamp: &Stamp,
 ) -> Result<Pledge, Refusal>
     ensures taken { IsSaid IsUnwell (next_pledge head.now opening.now stamp.now (Some terms)) result }
-    ensures standing { IfOk result IsStanding }
+    ensures reachable { IfOk result IsReachable }
     ensures store { result ≡ Err Refusal.Store → ⊥ }
 {
     let Some(number) = Number::new(head.pledges.min(MOST_PLEDGES) + 1) else {
@@ -149,7 +155,7 @@ fn start(
     }
 }
 
-// Whether two openings are the same, their references aside.
+/// Whether two openings are the same except for their references.
 fn is_same_opening(a: &Opening, b: &Opening) -> bool
     ensures value { result ≡ is_same_opening a.now b.now }
 {
@@ -159,7 +165,7 @@ fn is_same_opening(a: &Opening, b: &Opening) -> bool
         && a.five_days == b.five_days
 }
 
-// The receipt that was issued when the pledge was taken.
+/// The receipt that was issued when the pledge was taken.
 fn first_receipt(pledge: &Pledge) -> Receipt
     ensures value { result ≡ first_receipt pledge.now }
 {

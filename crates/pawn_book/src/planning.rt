@@ -1,5 +1,9 @@
 //! Plans of requests.
-ghost use Rattle.{std.specs.FinMap.get, pawn_book.specs.{Keeping.{IsQuiet, Reads}, Sound.IsSound, Plans.{IsWritten, Plans}, BookStep.book_step}};
+ghost use Rattle.pawn_book.specs.BookStep.{book_step};
+ghost use Rattle.pawn_book.specs.Keeping.{IsQuiet, Reads};
+ghost use Rattle.pawn_book.specs.Plans.{IsWritten, Plans};
+ghost use Rattle.pawn_book.specs.Sound.{IsSound};
+ghost use Rattle.std.specs.FinMap.{get};
 
 use crate::change::Planned;
 use crate::commands::{plan_number, plan_receipt};
@@ -13,8 +17,8 @@ use crate::set_up::{plan_book, plan_terms};
 use pawn_pledge::{Secret, Stamp};
 use std::alloc::Global;
 
-/// What a request would do, and the reply to it; planning changes nothing itself. There is no change in the plan
-/// exactly if nothing would change. The request is one that may change its book.
+/// Plans a request: its reply, and the change that it makes, if it makes one. Planning itself changes nothing. The plan
+/// has no change exactly if the request would change nothing. The request must be one that may change its book.
 pub fn plan<K: Keep>(
     alloc: Global,
     keep: &mut K,
@@ -55,7 +59,7 @@ pub fn plan<K: Keep>(
             let command = command.command();
             plan_receipt(keep, request.book, receipt, stamp, &command)
         }
-        // Whoever only asks to see something has nothing planned.
+        // The contract excludes requests that only show something.
         Caller::Viewer { .. } | Caller::Bearer(BearerRequest::Present(_)) => unreachable!(),
     }
 }

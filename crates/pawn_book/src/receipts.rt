@@ -1,20 +1,22 @@
-ghost use Rattle.std.specs.Prelude.{◌≡◌, ◌↔◌, IfSome, IsSome};
+//! `Receipts`, the receipts that a bearer presents in one request.
+
 ghost use Rattle.pawn_book.specs.Limits.{AreFew};
+ghost use Rattle.std.specs.Prelude.{◌≡◌, ◌↔◌, IfSome, IsSome};
 
 use crate::limits::MOST_RECEIPTS;
 use pawn_pledge::Receipt;
 use std::marker::Model;
 
-/// The receipts that a bearer presents, in that order: 1 to 32 of them. A contract sees their list.
+/// The receipts that a bearer presents, in order: 1 to 32 of them. In contracts the value is their list.
 #[derive(Drop)]
 pub struct Receipts {
     items: Vec<Receipt>,
 }
 
 impl Model for Receipts {
-    ghost use Rattle.std.specs.Prelude.{List};
-    ghost use Rattle.pawn_pledge.specs.declared.receipt.Receipt.{Receipt};
     ghost use Rattle.pawn_book.specs.Limits.{AreFew};
+    ghost use Rattle.pawn_pledge.specs.declared.receipt.Receipt.{Receipt};
+    ghost use Rattle.std.specs.Prelude.{List};
 
     ghost Value = { List Receipt };
 
@@ -24,7 +26,7 @@ impl Model for Receipts {
 }
 
 impl Receipts {
-    /// These receipts, if they are 1 to 32.
+    /// These receipts, or `None` if their number is not 1 to 32.
     pub fn new(items: Vec<Receipt>) -> Option<Receipts>
         ensures list { IfSome result (λ r. r ≡ items.items) }
         ensures some { IsSome result ↔ AreFew items.items }

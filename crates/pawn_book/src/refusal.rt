@@ -1,10 +1,12 @@
-ghost use Rattle.std.specs.Prelude.{◌≡◌};
+//! `Refusal`, the reasons why a request is refused.
+
 ghost use Rattle.pawn_book.specs.Refusals.{book_refusal_code, book_refusal_name, total_told};
+ghost use Rattle.std.specs.Prelude.{◌≡◌};
 
 use pawn_pledge::Refusal as PledgeRefusal;
 use pawn_terms::TermsFault;
 
-/// Why a request is refused.
+/// The reason why a request is refused.
 #[derive(Clone, Copy, PartialEq, Eq)]
 pub enum Refusal {
     /// A refusal by the rules of a pledge.
@@ -21,13 +23,13 @@ pub enum Refusal {
     BookTaken,
     /// The book has no terms yet.
     NoTerms,
-    /// The version is neither the next nor one with these terms.
+    /// The version is not the next one, and the book does not have these terms under it.
     TermsSeq,
     /// A pledge of the book has this reference already, with another opening.
     RefTaken,
     /// The book has confirmed as many bookings of the window as its capacity allows.
     WindowFull,
-    /// The book has terms, pledges, or another import's key.
+    /// The book has terms or pledges, or another import has filled it.
     BookNotEmpty,
     /// The key is not the operator's.
     NotOperator,
@@ -35,16 +37,16 @@ pub enum Refusal {
     TermsFull,
     /// The book has 1,000,000 pledges.
     PledgesFull,
-    /// The rows would be above the limit.
+    /// The rows would be above the limit of the host.
     Full,
-    /// Memory was refused.
+    /// Out of memory.
     Memory,
     /// The store failed.
     Store,
 }
 
 impl Refusal {
-    /// The number of the refusal, as replies carry it.
+    /// The code of the refusal in replies.
     pub fn code(self) -> u16
         ensures code { result ≡ book_refusal_code self }
     {
@@ -69,7 +71,7 @@ impl Refusal {
         }
     }
 
-    /// The name of the refusal, as replies carry it.
+    /// The name of the refusal in replies.
     pub fn name(self) -> &'static str
         ensures name { result.now ≡ book_refusal_name self }
     {
@@ -94,7 +96,7 @@ impl Refusal {
         }
     }
 
-    /// What is owing, in pence, if the refusal reports it.
+    /// The sum owed in pence, if the refusal reports it.
     pub fn total(self) -> Option<u64>
         ensures total { result ≡ total_told self }
     {

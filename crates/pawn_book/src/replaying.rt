@@ -1,15 +1,18 @@
-//! Which rows make a book.
-ghost use Rattle.std.specs.Prelude.{◌≡◌, ◌≤◌, ◌↔◌, ℕ, IsTrue, length};
-ghost use Rattle.pawn_book.specs.{Common.{DoNotFall, Each, IsChecked, IsStanding, list_any}, Rows.{AreDistinct, AreNumberedFrom, AreReplayable, IsUnder}};
-ghost use Rattle.pawn_book.specs.{Rows.{is_same_text, references_of, version_of}, BookStep.{BookValue, filled_book}, Sound.{IsSoundBook, IsWord}};
+//! The checks whether rows are those of a reachable book.
+ghost use Rattle.pawn_book.specs.BookStep.{BookValue, filled_book};
+ghost use Rattle.pawn_book.specs.Common.{DoNotFall, Each, IsChecked, IsReachable, list_any};
 ghost use Rattle.pawn_book.specs.Limits.{most_pledges, most_terms};
+ghost use Rattle.pawn_book.specs.Rows.{AreDistinct, AreNumberedFrom, AreReplayable, IsUnder, is_same_text};
+ghost use Rattle.pawn_book.specs.Rows.{references_of, version_of};
+ghost use Rattle.pawn_book.specs.Sound.{IsSoundBook, IsWord};
+ghost use Rattle.std.specs.Prelude.{◌≡◌, ◌≤◌, ◌↔◌, ℕ, IsTrue, length};
 
 use crate::limits::{MOST_PLEDGES, MOST_TERMS};
 use crate::rows::BookRows;
 use pawn_pledge::{Parts, Rates, Reference};
 
-/// Whether rows are those of a book that can have come about, so that a sound book that is filled with them is sound.
-/// References are compared pairwise, so the time grows with the square of the number of pledges.
+/// Whether rows are those of a reachable book, so that a sound book is still sound after it is filled with them.
+/// References are compared in pairs, so the time grows with the square of the number of pledges.
 pub fn replayable(rows: &BookRows) -> bool
     ensures answer { IsTrue result ↔ AreReplayable rows.now.terms rows.now.pledges }
     ensures sound { (book : BookValue) (key : ℕ) → IsSoundBook book → IsWord key → (IsTrue result ↔ IsSoundBook (filled_book book key rows.now)) }
@@ -17,6 +20,7 @@ pub fn replayable(rows: &BookRows) -> bool
     are_replayable(rows.terms.as_slice(), rows.pledges.as_slice())
 }
 
+/// The same as `replayable`, for terms and pledges as slices.
 fn are_replayable(terms: &[Rates], pledges: &[Parts]) -> bool
     ensures answer { IsTrue result ↔ AreReplayable terms.now pledges.now }
 {
@@ -29,14 +33,14 @@ fn are_replayable(terms: &[Rates], pledges: &[Parts]) -> bool
         && are_distinct(pledges)
 }
 
-// Whether a book may have as many terms and pledges.
+/// Whether a book may have this many versions of terms and pledges.
 fn are_few(terms: &[Rates], pledges: &[Parts]) -> bool
     ensures answer { IsTrue result ↔ ((length terms.now ≤ most_terms) × (length pledges.now ≤ most_pledges)) }
 {
     terms.len() as u64 <= MOST_TERMS && pledges.len() as u64 <= MOST_PLEDGES
 }
 
-// Whether all terms are within the limits.
+/// Whether all terms are within the limits.
 fn are_checked(terms: &[Rates]) -> bool
     ensures answer { IsTrue result ↔ Each IsChecked terms.now }
 {
@@ -48,7 +52,7 @@ fn are_checked(terms: &[Rates]) -> bool
     true
 }
 
-// Whether pledges are numbered 1, 2, ..
+/// Whether pledges are numbered 1, 2, ..
 fn are_numbered(pledges: &[Parts]) -> bool
     ensures answer { IsTrue result ↔ AreNumberedFrom 1 pledges.now }
 {
@@ -60,7 +64,7 @@ fn are_numbered(pledges: &[Parts]) -> bool
     true
 }
 
-// Whether no pledge is under an earlier version of terms than one before it.
+/// Whether the versions of terms do not decrease from one pledge to the next.
 fn do_not_fall(pledges: &[Parts]) -> bool
     ensures answer { IsTrue result ↔ DoNotFall version_of 0 pledges.now }
 {
@@ -74,7 +78,7 @@ fn do_not_fall(pledges: &[Parts]) -> bool
     true
 }
 
-// Whether the terms of a pledge are those of its version.
+/// Whether the terms of a pledge are those of its version.
 fn is_under(terms: &[Rates], parts: &Parts) -> bool
     ensures answer { IsTrue result ↔ IsUnder terms.now parts.now }
 {
@@ -85,6 +89,7 @@ fn is_under(terms: &[Rates], parts: &Parts) -> bool
     terms[version as usize - 1] == parts.agreement.terms
 }
 
+/// Whether the terms of each pledge are those of its version.
 fn are_under(terms: &[Rates], pledges: &[Parts]) -> bool
     ensures answer { IsTrue result ↔ Each (IsUnder terms.now) pledges.now }
 {
@@ -96,9 +101,9 @@ fn are_under(terms: &[Rates], pledges: &[Parts]) -> bool
     true
 }
 
-// Whether each pledge can have come about, within its limits.
+/// Whether each pledge is reachable and within its limits.
 fn can_stand(pledges: &[Parts]) -> bool
-    ensures answer { IsTrue result ↔ Each IsStanding pledges.now }
+    ensures answer { IsTrue result ↔ Each IsReachable pledges.now }
 {
     for parts in pledges {
         if !parts.can_stand() {
@@ -108,7 +113,7 @@ fn can_stand(pledges: &[Parts]) -> bool
     true
 }
 
-// Whether a reference is among those of pledges.
+/// Whether one of the pledges has this reference.
 fn has_reference(pledges: &[Parts], reference: &Reference) -> bool
     ensures value { result ≡ list_any (is_same_text reference.now) (references_of pledges.now) }
 {
@@ -120,7 +125,7 @@ fn has_reference(pledges: &[Parts], reference: &Reference) -> bool
     false
 }
 
-// Whether no two pledges have the same reference.
+/// Whether no two pledges have the same reference.
 fn are_distinct(pledges: &[Parts]) -> bool
     ensures answer { IsTrue result ↔ AreDistinct (references_of pledges.now) }
 {

@@ -1,16 +1,18 @@
+//! `Reply`, the answers to requests that are not refused.
+
 use pawn_pledge::{Done, Number, Receipt};
 
-/// What is answered to a request that is not refused.
+/// The answer to a request that is not refused.
 #[derive(Clone, Copy, PartialEq, Eq)]
 pub enum Reply {
-    /// There is now a book of this number as it was asked for.
+    /// The book with this number exists, with the requested key, name and capacity.
     BookMade(Number),
-    /// The book now has the terms under this version.
+    /// The book has the terms under this version.
     TermsPut(u64),
-    /// The book was filled by its import, with so many pledges.
+    /// The import has filled the book, with this number of pledges.
     BookFilled(u64),
-    /// The pledge was taken, now or before, and this is its first receipt.
+    /// The pledge was taken, now or by an equal request before. This is its first receipt.
     Opened(Receipt),
-    /// What a command on the pledge of this number did.
+    /// The answer to a command on the pledge with this number.
     Commanded { number: Number, done: Done },
 }

@@ -1,5 +1,10 @@
+//! Requests, by the caller that may send them.
+
+ghost use Rattle.pawn_book.specs.Common.{IsText, IsUtf8};
+ghost use Rattle.pawn_book.specs.Limits.{IsCapacity};
+ghost use Rattle.pawn_book.specs.Plans.{IsBearerWrite, IsWritten};
+ghost use Rattle.pawn_book.specs.Sound.{IsWord};
 ghost use Rattle.std.specs.Prelude.{◌≡◌, ◌↔◌, IfOk, IsTrue};
-ghost use Rattle.pawn_book.specs.{Common.{IsText, IsUtf8}, Plans.{IsBearerWrite, IsWritten}, Limits.IsCapacity, Sound.IsWord};
 
 use crate::capacity::Capacity;
 use crate::importing::ReplayableRows;
@@ -20,21 +25,21 @@ pub struct Request {
     pub caller: Caller,
 }
 
-/// Who asks, and what for. Each sort of caller has requests of its own.
+/// The caller and the request. Each kind of caller has requests of its own.
 #[derive(Drop)]
 pub enum Caller {
-    /// Makes books, by the operator's key.
+    /// The operator, who makes books. The key must be the operator's.
     Operator { key: Secret, new_book: NewBook },
-    /// Runs one book, by its key.
+    /// The broker, who runs a book. The key must be the book's.
     Broker { key: Secret, asked: BrokerRequest },
-    /// Sees something of one book, by its key.
+    /// The broker, who only asks for a view of the book. The key must be the book's.
     Viewer { key: Secret, view: View },
-    /// Presents receipts of one book.
+    /// A bearer, who presents receipts of the book.
     Bearer(BearerRequest),
 }
 
 impl Caller {
-    /// Whether the request may change its book. One that only asks to see something may not.
+    /// Whether the request may change its book. A request that only shows something may not.
     pub fn writes(&self) -> bool
         ensures writes { IsTrue result ↔ IsWritten self.now }
     {
@@ -47,8 +52,7 @@ impl Caller {
     }
 }
 
-/// A book to be made: the key by which its broker will run it, its name, and how many bookings of a
-/// window it confirms.
+/// A book to be made: the key of its broker, its name, and the most bookings that it confirms in one window of a day.
 #[derive(Drop)]
 pub struct NewBook {
     pub key: Secret,
@@ -57,7 +61,7 @@ pub struct NewBook {
 }
 
 impl NewBook {
-    // Gives a proof that the name, the capacity and the key are within their limits.
+    /// Gives a proof that the name, the capacity and the key are within their limits.
     fn know_limits(&self)
         ensures name { IsText MOST_NAME_BYTES self.now.name }
         ensures capacity { IsCapacity self.now.capacity }
@@ -69,7 +73,7 @@ impl NewBook {
         let _ = self.key.word();
     }
 
-    /// A copy of the new book. The only error is that memory is refused.
+    /// A copy of the new book. Fails only if memory runs out.
     pub fn copy(&self) -> Result<NewBook, AllocError>
         ensures same { IfOk result (λ new_book. new_book ≡ self.now) }
         ensures name { IsText MOST_NAME_BYTES self.now.name }
@@ -87,27 +91,27 @@ impl NewBook {
     }
 }
 
-/// What a broker asks to be done.
+/// The requests of a broker that may change the book.
 #[derive(Drop)]
 pub enum BrokerRequest {
     PutTerms(NewTerms),
     TakePledge(Opening),
-    /// To command a pledge of the book.
+    /// A command on the pledge with this number.
     OnPledge {
         number: Number,
         command: BrokerCommand,
     },
-    /// To make these rows the terms and pledges of the book, under a key of their own.
+    /// Fills the empty book with these rows. The key identifies the import, so that a repeat is recognised.
     Import {
         key: Secret,
         rows: ReplayableRows,
     },
 }
 
-/// What the holder of a book's key asks to see.
+/// The views that a broker may ask for.
 #[derive(Clone, Copy)]
 pub enum View {
-    /// The pledge of this number.
+    /// The statement of the pledge with this number.
     Pledge(Number),
     /// The sheet of this day.
     Sheet(RequestDay),
@@ -115,19 +119,19 @@ pub enum View {
     Rows,
 }
 
-/// Terms to be put under a version. They are checked by the book.
+/// Terms for a version. `plan` checks them against their limits.
 #[derive(Clone, Copy)]
 pub struct NewTerms {
     pub version: u64,
     pub rates: Rates,
 }
 
-/// What a bearer asks.
+/// The requests of a bearer.
 #[derive(Drop)]
 pub enum BearerRequest {
-    /// To see the pledges of these receipts.
+    /// Shows the pledges of these receipts.
     Present(Receipts),
-    /// To command the pledge of a receipt.
+    /// A command on the pledge of this receipt.
     OnPledge {
         receipt: Receipt,
         command: BearerCommand,
@@ -135,7 +139,7 @@ pub enum BearerRequest {
 }
 
 impl BearerRequest {
-    // Whether it may change the book.
+    /// Whether the request may change the book.
     fn writes(&self) -> bool
         ensures writes { IsTrue result ↔ IsBearerWrite self.now }
     {

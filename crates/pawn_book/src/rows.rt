@@ -1,22 +1,24 @@
 //! The rows of a book.
+ghost use Rattle.pawn_base.specs.Lists.{Each};
+ghost use Rattle.pawn_book.specs.Written.{HasTextsAndWords};
 ghost use Rattle.std.specs.Prelude.{◌≡◌, IfOk};
-ghost use Rattle.{pawn_base.specs.Lists.Each, pawn_book.specs.Written.HasTextsAndWords};
 
 use pawn_pledge::{Parts, Rates, Rows};
 use std::alloc::AllocError;
 use std::marker::Model;
 
-/// The records of a book's pledges, in order. Whether pledges can have them is not checked. A clause sees their list.
+/// The records of a book's pledges, in order. They need not be records that pledges can have; `replayable` checks that.
+/// In contracts the value is their list.
 #[derive(Drop)]
 pub struct PledgeRows {
     items: Vec<Parts>,
 }
 
 impl Model for PledgeRows {
-    ghost use Rattle.std.specs.Prelude.{List};
-    ghost use Rattle.pawn_pledge.specs.Pledge.{PledgeValue};
     ghost use Rattle.pawn_base.specs.Lists.{Each};
     ghost use Rattle.pawn_book.specs.Written.{HasTextsAndWords};
+    ghost use Rattle.pawn_pledge.specs.Pledge.{PledgeValue};
+    ghost use Rattle.std.specs.Prelude.{List};
 
     ghost Value = { List PledgeValue };
 
@@ -26,7 +28,7 @@ impl Model for PledgeRows {
 }
 
 impl PledgeRows {
-    /// The records that a vector holds, in its order.
+    /// The records of a vector, in its order.
     pub fn from_vec(items: Vec<Parts>) -> PledgeRows
         ensures value { result ≡ items.items }
     {
@@ -42,7 +44,7 @@ impl PledgeRows {
         self.items.as_slice()
     }
 
-    /// A copy of the records. The only error is that memory is refused.
+    /// A copy of the records. Fails only if memory runs out.
     pub fn copy(&self) -> Result<PledgeRows, AllocError>
         ensures same { IfOk result (λ rows. rows ≡ self.now) }
     {
@@ -55,7 +57,7 @@ impl PledgeRows {
     }
 }
 
-// Gives the proof of `know_written` for each record.
+/// Gives the proof of `know_written` for each record.
 fn know_records(records: &[Parts])
     ensures written { Each HasTextsAndWords records.now }
 {
@@ -65,7 +67,7 @@ fn know_records(records: &[Parts])
 }
 
 /// Reads the texts, the secrets and the day of a record, which gives a proof that the texts are UTF-8, that the secrets
-/// have 128 bits, and that the day is one of the calendar.
+/// have 128 bits, and that the day is in range.
 pub fn know_written(parts: &Parts)
     ensures written { HasTextsAndWords parts.now }
 {
@@ -77,8 +79,8 @@ pub fn know_written(parts: &Parts)
     }
 }
 
-/// The rows of a book: the three numbers of each version of its terms, version 1 first, and its pledges. Whether a book
-/// can have them is not checked.
+/// The rows of a book: the three numbers of each version of its terms, version 1 first, and its pledges. They need not
+/// be rows that a book can have; `replayable` checks that.
 #[derive(Drop)]
 pub struct BookRows {
     pub terms: Rows<Rates>,
@@ -86,7 +88,7 @@ pub struct BookRows {
 }
 
 impl BookRows {
-    /// A copy of the rows. The only error is that memory is refused.
+    /// A copy of the rows. Fails only if memory runs out.
     pub fn copy(&self) -> Result<BookRows, AllocError>
         ensures same { IfOk result (λ rows. rows ≡ self.now) }
     {

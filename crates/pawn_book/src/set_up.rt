@@ -1,7 +1,13 @@
 //! Plans of books and of their terms.
-ghost use Rattle.std.specs.{Prelude.{◌≡◌, IfOk}, FinMap.get};
-ghost use Rattle.pawn_book.specs.{Common.IsChecked, BookStep.{BookValue, are_same_rates, book_head, is_same_book, make_book, next_terms, put_terms}};
-ghost use Rattle.pawn_book.specs.{Keeping.{IsQuiet, Reads}, Sound.IsSound, Plans.Plans, Rows.terms_at};
+ghost use Rattle.pawn_book.specs.BookStep.{BookValue, are_same_rates, book_head, is_same_book, make_book, next_terms};
+ghost use Rattle.pawn_book.specs.BookStep.{put_terms};
+ghost use Rattle.pawn_book.specs.Common.{IsChecked};
+ghost use Rattle.pawn_book.specs.Keeping.{IsQuiet, Reads};
+ghost use Rattle.pawn_book.specs.Plans.{Plans};
+ghost use Rattle.pawn_book.specs.Rows.{terms_at};
+ghost use Rattle.pawn_book.specs.Sound.{IsSound};
+ghost use Rattle.std.specs.FinMap.{get};
+ghost use Rattle.std.specs.Prelude.{◌≡◌, IfOk};
 
 use crate::change::{BookHead, Change, Planned};
 use crate::gates::unwell_refusal;
@@ -12,8 +18,8 @@ use crate::reply::Reply;
 use crate::request::{NewBook, NewTerms};
 use pawn_pledge::{Number, Rates, Terms};
 
-// Plans a new book. If there is one of this number, it is answered again if it has the same key, name and capacity, and
-// refused otherwise.
+/// Plans a new book. If there already is a book with this number, a repeat with the same key, name and capacity gets
+/// the answer of the first time, and any other request is refused as `BookTaken`.
 pub(crate) fn plan_book<K: Keep>(
     keep: &mut K,
     book: Number,
@@ -47,7 +53,7 @@ pub(crate) fn plan_book<K: Keep>(
     }
 }
 
-// Whether a book has this key, name and capacity.
+/// Whether a book has this key, name and capacity.
 fn is_same_book(head: &BookHead, new_book: &NewBook) -> bool
     ensures value { result ≡ is_same_book head.now new_book.now }
 {
@@ -56,7 +62,8 @@ fn is_same_book(head: &BookHead, new_book: &NewBook) -> bool
         && head.capacity == new_book.capacity
 }
 
-// Plans terms under a version. If the book has terms there, the same ones are answered again, and others are refused.
+/// Plans terms under a version. If the book already has terms under it, a repeat with the same terms gets the answer of
+/// the first time, and other terms are refused as `TermsSeq`.
 pub(crate) fn plan_terms<K: Keep>(
     keep: &mut K,
     book: Number,
@@ -94,14 +101,14 @@ pub(crate) fn plan_terms<K: Keep>(
     }
 }
 
-// Whether these are the same three numbers.
+/// Whether these are the same three numbers.
 fn are_same_rates(a: Rates, b: Rates) -> bool
     ensures value { result ≡ are_same_rates a b }
 {
     a.rate == b.rate && a.keep_before == b.keep_before && a.keep_after == b.keep_after
 }
 
-// The terms, if they may be the next version of a book that has so many.
+/// The terms, if they may be the next version of a book that has `standing` versions and does not have this one.
 fn next_terms(standing: u64, new_terms: &NewTerms) -> Result<Terms, Refusal>
     ensures value { result ≡ next_terms standing new_terms.now }
     ensures checked { IfOk result IsChecked }

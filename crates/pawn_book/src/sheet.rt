@@ -1,27 +1,28 @@
-//! What a book's broker is to know of a day.
-ghost use Rattle.std.specs.Prelude.{◌≡◌};
+//! The items of a day's sheet: the visits of the day, and the pledges whose period ends on it.
 ghost use Rattle.pawn_book.specs.Sheet.{part_head};
+ghost use Rattle.std.specs.Prelude.{◌≡◌};
 
 use pawn_pledge::Number;
 
-/// A line of a day's sheet, below its heading.
+/// A line of a day's sheet, after its heading.
 #[derive(Clone, Copy, PartialEq, Eq)]
 pub enum SheetItem {
-    /// A window with confirmed bookings, and their number. Each of them follows.
+    /// A window with confirmed bookings, and their number. The bookings follow.
     Window { window: u64, count: u64 },
     /// The pledge of a confirmed booking.
     Confirmed(Number),
-    /// How many bookings are asked for the day. Each of them follows.
+    /// The number of bookings that are asked for the day. The bookings follow.
     AskedHead(u64),
     /// The pledge of a booking that is asked for, and its window.
     Asked { number: Number, window: u64 },
-    /// How many pledges have the end of their period on the day, the redeemed and the sold aside. Each of them follows.
+    /// The number of pledges whose period ends on the day, except those that are redeemed or sold. The pledges follow.
     EndsHead(u64),
     /// A pledge whose period ends on the day.
     Ends(Number),
 }
 
-/// A part of a day's sheet: whose bookings for a window are confirmed, whose are asked for, whose period ends.
+/// A part of a day's sheet: the confirmed bookings of a window, the bookings that are asked for, or the pledges whose
+/// period ends.
 #[derive(Clone, Copy)]
 pub enum Part {
     Confirmed { window: u64 },
@@ -30,7 +31,7 @@ pub enum Part {
 }
 
 impl Part {
-    /// The item that heads the part, and says how many items follow.
+    /// The first item of the part, with the number of items that follow it.
     pub fn heading(self, count: u64) -> SheetItem
         ensures value { result ≡ part_head self count }
     {

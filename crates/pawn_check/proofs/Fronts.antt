@@ -1,15 +1,33 @@
 -- The terms and the pledges of a book, judged one after the other.
-use Rattle.std.proofs.Common.{◌≡◌, ◌∙◌, ℕ, ◌+◌, ◌<◌, ◌≤◌, zero, suc, true, false, List, [], ◌∷◌, ◌++◌, length, take, Some, None, refl, sym, ap, subst, arith}
-use Rattle.std.{proofs.Common.{◌==◌, ◌||◌, if◌then◌else◌, Bool, Option, option_map, slice_get, Err, IfSome, IsTrue, Result}, specs.{Str.IsUtf8, FinMap.get}}
-use Rattle.{std.{proofs.lemmas.{Bool.Decides.nat_tests, List.Sums.sum_by_push}, specs.List.list_any}, pawn_book.specs.Rows.{AreDistinct, AreNumberedFrom}}
-use Rattle.pawn_book.specs.{Rows.{IsUnder, is_same_text, references_of, terms_at, version_of}, BookStep.{BookValue, book_head, pledge_from, pledge_in}}
-use Rattle.pawn_book.specs.{BookStep.with_reference, Sound.{HasTextsAndWords, HasUnsoundBook, IsSoundBook, IsWord}, HostStep.{Host, pledge_rows}}
-use Rattle.pawn_book.{specs.{Limits.{IsCapacity, most_name_bytes, most_pledges, most_terms}, Keeping.terms_of}, proofs.SoundLists.absurd_none}
-use Rattle.pawn_book.{proofs.{SoundLists.{references_push, some_is}, LawLemmas.text_same, Sounds.each_at}, specs.declared.change.BookHead.BookHead}
-use Rattle.{pawn_book.proofs.{Sounds.numbered_at, Places.terms_at_place}, pawn_base.specs.{Lists.{DoNotFall, Each, last_by}, Text.IsText}}
-use Rattle.{pawn_base.proofs.ListLemmas.{Each-push, take_each}, pawn_terms.specs.{Terms.IsChecked, declared.terms.Rates.Rates}}
-use Rattle.{pawn_pledge.specs.{Replayable.IsStanding, Pledge.PledgeValue}, pawn_check.specs.Judging.{AreOfBook, Blames, FindsSound, FitsAt, IsFront}}
+use Rattle.pawn_base.proofs.ListLemmas.{Each-push, take_each}
+use Rattle.pawn_base.specs.Lists.{DoNotFall, Each, last_by}
+use Rattle.pawn_base.specs.Text.{IsText}
+use Rattle.pawn_book.proofs.LawLemmas.{text_same}
+use Rattle.pawn_book.proofs.Places.{terms_at_place}
+use Rattle.pawn_book.proofs.SoundLists.{absurd_none, references_push, some_is}
+use Rattle.pawn_book.proofs.Sounds.{each_at, numbered_at}
+use Rattle.pawn_book.specs.BookStep.{BookValue, book_head, pledge_from, pledge_in, with_reference}
+use Rattle.pawn_book.specs.HostStep.{Host, pledge_rows}
+use Rattle.pawn_book.specs.Keeping.{terms_of}
+use Rattle.pawn_book.specs.Limits.{IsCapacity, most_name_bytes, most_pledges, most_terms}
+use Rattle.pawn_book.specs.Rows.{AreDistinct, AreNumberedFrom, IsUnder, is_same_text, references_of, terms_at}
+use Rattle.pawn_book.specs.Rows.{version_of}
+use Rattle.pawn_book.specs.Sound.{HasTextsAndWords, HasUnsoundBook, IsSoundBook, IsWord}
+use Rattle.pawn_book.specs.declared.change.BookHead.{BookHead}
+use Rattle.pawn_check.specs.Judging.{AreOfBook, Blames, FindsSound, FitsAt, IsFront}
 use Rattle.pawn_check.specs.declared.fault.CheckFault.{CheckFault}
+use Rattle.pawn_pledge.specs.Pledge.{PledgeValue}
+use Rattle.pawn_pledge.specs.Replayable.{IsReachable}
+use Rattle.pawn_terms.specs.Terms.{IsChecked}
+use Rattle.pawn_terms.specs.declared.terms.Rates.{Rates}
+use Rattle.std.proofs.Common.{◌≡◌, ◌∙◌, ℕ, ◌+◌, ◌<◌, ◌≤◌, zero, suc, true, false, List, [], ◌∷◌, ◌++◌, length, take}
+use Rattle.std.proofs.Common.{Some, None, refl, sym, ap, subst, arith, ◌==◌, ◌||◌, if◌then◌else◌, Bool, Option}
+use Rattle.std.proofs.Common.{option_map, slice_get, Err, IfSome, IsTrue, Result}
+use Rattle.std.proofs.lemmas.Bool.Decides.{nat_tests}
+use Rattle.std.proofs.lemmas.List.Sums.{sum_by_push}
+use Rattle.std.specs.FinMap.{get}
+use Rattle.std.specs.List.{list_any}
+use Rattle.std.specs.Str.{IsUtf8}
 
 -- ---- terms
 
@@ -139,7 +157,7 @@ front_more k i version rows next more p less at fits rise is few front =
     let none = none_before 1 (take i k.pledges) rest.0 p.agreement.opening.reference first.0 front.numbered found far in
     subst (λ qs. IsFront k qs next (rows + more)) (sym (ap (λ n. take n k.pledges) one_more ∙ take_pledge 1 k.pledges i p at)) (record {
       numbered = numbered_push 1 (take i k.pledges) p front.numbered (omega (arith, fits.number, long));
-      standing = Each-push IsStanding (take i k.pledges) p front.standing fits.standing;
+      reachable = Each-push IsReachable (take i k.pledges) p front.reachable fits.reachable;
       references = references_push (take i k.pledges) p front.references none;
       under = Each-push (IsUnder k.terms) (take i k.pledges) p front.under fits.under;
       versions = falls_push 0 (take i k.pledges) p front.versions (omega (arith, front.last, rise, is));
@@ -186,7 +204,7 @@ pub sound_fits : (k : BookValue) (n : ℕ) (p : PledgeValue) → IsSoundBook k �
 sound_fits k n p sound is =
     let number = numbered_at 1 k.pledges n p sound.rows.numbered is in record {
       number = number;
-      standing = each_at IsStanding 1 k.pledges n p sound.rows.standing is;
+      reachable = each_at IsReachable 1 k.pledges n p sound.rows.reachable is;
       under = each_at (IsUnder k.terms) 1 k.pledges n p sound.rows.under is;
       reference = ap (λ (o : Option PledgeValue). option_map (λ (q : PledgeValue). q.agreement.number) o) (first_is 1 k.pledges n p sound.rows.references is)
           ∙ ap (λ m. Some m) number;
@@ -251,7 +269,7 @@ module _ (k : BookValue) (head : BookHead) (is : head ≡ book_head k) (rows : �
     capacity = subst (λ (x : BookHead). IsCapacity x.capacity) is capacity;
     rows = record {
       numbered = front.1.numbered;
-      standing = front.1.standing;
+      reachable = front.1.reachable;
       references = front.1.references;
       under = front.1.under;
       versions = front.1.versions;

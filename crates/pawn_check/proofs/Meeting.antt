@@ -1,11 +1,22 @@
 -- Books that are met one after the other, in order of their numbers from 1 on.
-use Rattle.std.proofs.Common.{◌≡◌, ◌∙◌, ℕ, ◌+◌, ◌<◌, ◌≤◌, zero, suc, List, [], ◌∷◌, length, map, ◌-◌, Some, None, T, cond, refl, sym, ap, subst, arith}
-use Rattle.std.{proofs.Common.{Ordering, if◌then◌else◌, Bool, true, false, ◌&&◌, Option, nat_lt, nat_le, sum_by}, specs.FinMap.{entries, entries_sorted, find}}
-use Rattle.std.{specs.FinMap.{get, get-entries, is_sorted}, proofs.lemmas.{Bool.Decides.nat_tests, List.Sums.sum_by-cons}}
-use Rattle.std.specs.{declared.cmp.Ordering.TheVariants.{Less, Equal, Greater}, Cmp.ranked, Ordering.{nat_cmp, is_eq}, FinMap.Entries.below_all}
-use Rattle.pawn_book.specs.{Sound.{AreSound, HasUnsoundBook, IsSoundAt}, BookStep.BookValue, HostStep.{Host, book_rows, rows}, Keeping.IsNextBook}
-use Rattle.{pawn_book.proofs.SoundLists.{absurd_none, some_is}, pawn_check.specs.{Judging.{AreCounted, AreOfBook}, declared.counts.BookCounts.BookCounts}}
 use Rattle.pawn_base.proofs.TestLemmas.{both_told, below}
+use Rattle.pawn_book.proofs.SoundLists.{absurd_none, some_is}
+use Rattle.pawn_book.specs.BookStep.{BookValue}
+use Rattle.pawn_book.specs.HostStep.{Host, book_rows, rows}
+use Rattle.pawn_book.specs.Keeping.{IsNextBook}
+use Rattle.pawn_book.specs.Sound.{AreSound, HasUnsoundBook, IsSoundAt}
+use Rattle.pawn_check.specs.Judging.{AreCounted, AreOfBook}
+use Rattle.pawn_check.specs.declared.counts.BookCounts.{BookCounts}
+use Rattle.std.proofs.Common.{◌≡◌, ◌∙◌, ℕ, ◌+◌, ◌<◌, ◌≤◌, zero, suc, List, [], ◌∷◌, length, map, ◌-◌, Some, None, T}
+use Rattle.std.proofs.Common.{cond, refl, sym, ap, subst, arith, Ordering, if◌then◌else◌, Bool, true, false, ◌&&◌}
+use Rattle.std.proofs.Common.{Option, nat_lt, nat_le, sum_by}
+use Rattle.std.proofs.lemmas.Bool.Decides.{nat_tests}
+use Rattle.std.proofs.lemmas.List.Sums.{sum_by-cons}
+use Rattle.std.specs.Cmp.{ranked}
+use Rattle.std.specs.FinMap.{entries, entries_sorted, find, get, get-entries, is_sorted}
+use Rattle.std.specs.FinMap.Entries.{below_all}
+use Rattle.std.specs.Ordering.{nat_cmp, is_eq}
+use Rattle.std.specs.declared.cmp.Ordering.TheVariants.{Less, Equal, Greater}
 
 abbrev pub Books : Type 0
 Books = List (ℕ × BookValue)

@@ -1,16 +1,26 @@
-//! The books of a store, judged one after the other.
-ghost use Rattle.std.specs.{Prelude.{◌≡◌, ◌≤◌, IfOk, IfSome, Some, length, unwrap_or}, Str.IsUtf8, FinMap.get};
-ghost use Rattle.pawn_book.specs.{BookStep.{BookValue, book_head}, Limits.{IsCapacity, most_name_bytes, most_pledges}, Keeping.{IsNextBook, Reads, terms_of}};
-ghost use Rattle.{pawn_book.specs.{Sound.IsWord, HostStep.rows, Rows.terms_at}, pawn_base.specs.{Lists.Each, Text.IsText}, pawn_terms.specs.Terms.IsChecked};
-ghost use Rattle.pawn_pledge.specs.Number.{IsNumber};
+//! Checks the books of a store one after the other, and counts them.
+ghost use Rattle.pawn_base.specs.Lists.{Each};
+ghost use Rattle.pawn_base.specs.Text.{IsText};
+ghost use Rattle.pawn_book.specs.BookStep.{BookValue, book_head};
+ghost use Rattle.pawn_book.specs.HostStep.{rows};
+ghost use Rattle.pawn_book.specs.Keeping.{IsNextBook, Reads, terms_of};
+ghost use Rattle.pawn_book.specs.Limits.{IsCapacity, most_name_bytes, most_pledges};
+ghost use Rattle.pawn_book.specs.Rows.{terms_at};
+ghost use Rattle.pawn_book.specs.Sound.{IsWord};
 ghost use Rattle.pawn_check.specs.Judging.{FindsSound, IsQuietCheck, Judges, JudgesBook};
+ghost use Rattle.pawn_pledge.specs.Number.{IsNumber};
+ghost use Rattle.pawn_terms.specs.Terms.{IsChecked};
+ghost use Rattle.std.specs.FinMap.{get};
+ghost use Rattle.std.specs.Prelude.{◌≡◌, ◌≤◌, IfOk, IfSome, Some, length, unwrap_or};
+ghost use Rattle.std.specs.Str.{IsUtf8};
 
 use crate::counts::{BookCounts, Counts};
 use crate::fault::CheckFault;
 use crate::pledges::pledges_rows;
 use pawn_book::{BookHead, Keep, MOST_PLEDGES, MOST_TERMS, Number, Rates};
 
-// Gives a proof that the number, the keys, the name and the capacity of a book are within their limits.
+/// Proves that the number, the keys, the name and the capacity of a book are within their limits. The body only reads
+/// the fields, which makes the invariants of their types known.
 fn know_head(book: Number, head: &BookHead)
     ensures number { IsNumber book }
     ensures key { IsWord head.now.key }
@@ -28,7 +38,7 @@ fn know_head(book: Number, head: &BookHead)
     }
 }
 
-// The three numbers of a version of the terms, if the book has it.
+/// The three numbers of a version of the terms, if the book has it.
 fn rates_under<K: Keep>(
     keep: &mut K,
     book: Number,
@@ -44,7 +54,7 @@ fn rates_under<K: Keep>(
     }
 }
 
-// Checks that a book has its versions of terms 1 to `count`, each within the limits.
+/// Checks that a book has the versions of terms 1 to `count`. It is `Damaged` if one is missing.
 fn find_terms<K: Keep>(keep: &mut K, book: Number, count: u64) -> Result<(), CheckFault>
     ensures reads { Reads K.keeping keep.old keep.new
         (λ h. (k : BookValue) → get h.books book ≡ Some k → count ≡ length k.terms → FindsSound h result (λ _. Each IsChecked k.terms)) }
@@ -58,7 +68,7 @@ fn find_terms<K: Keep>(keep: &mut K, book: Number, count: u64) -> Result<(), Che
     Ok(())
 }
 
-// The head of a book that the keeper has listed. It is `Damaged` if there is none.
+/// The head of a book that the keeper has listed. It is `Damaged` if there is none.
 fn head_of<K: Keep>(keep: &mut K, book: Number) -> Result<BookHead, CheckFault>
     ensures reads { Reads K.keeping keep.old keep.new (λ h. (k : BookValue) → get h.books book ≡ Some k → FindsSound h result (λ head. head ≡ book_head k)) }
     ensures quiet { IsQuietCheck K.keeping keep.old result }
@@ -69,7 +79,7 @@ fn head_of<K: Keep>(keep: &mut K, book: Number) -> Result<BookHead, CheckFault>
     }
 }
 
-// How many pledges and rows a book has, if it is sound.
+/// Checks a book, and counts its pledges and its rows. The error is `Damaged` only if some book is not sound.
 fn book_counts<K: Keep>(keep: &mut K, book: Number) -> Result<BookCounts, CheckFault>
     ensures reads { Reads K.keeping keep.old keep.new (λ h. JudgesBook h book result) }
     ensures few { IfOk result (λ counts. counts.pledges ≤ most_pledges) }
@@ -88,7 +98,7 @@ fn book_counts<K: Keep>(keep: &mut K, book: Number) -> Result<BookCounts, CheckF
     })
 }
 
-// The next book with a number above `after`, if there is one.
+/// The book with the least number that is greater than `after`, if there is one.
 fn book_after<K: Keep>(keep: &mut K, after: Option<Number>) -> Result<Option<Number>, CheckFault>
     ensures reads { Reads K.keeping keep.old keep.new (λ h. FindsSound h result (λ next. IsNextBook h (unwrap_or after 0) next)) }
     ensures quiet { IsQuietCheck K.keeping keep.old result }
@@ -96,24 +106,23 @@ fn book_after<K: Keep>(keep: &mut K, after: Option<Number>) -> Result<Option<Num
     Ok(keep.next_book(after)?)
 }
 
-// How many counted rows all books have, as the keeper says.
-fn rows_of<K: Keep>(keep: &mut K) -> Result<u64, CheckFault>
+/// How many counted rows all books have, as the keeper reports it.
+fn counted_rows<K: Keep>(keep: &mut K) -> Result<u64, CheckFault>
     ensures reads { Reads K.keeping keep.old keep.new (λ h. FindsSound h result (λ count. count ≡ rows h)) }
     ensures quiet { IsQuietCheck K.keeping keep.old result }
 {
     Ok(keep.rows()?)
 }
 
-/// Judges each book of a store, and counts its books, their pledges and its rows. The keeper's content
-/// stays as it is.
+/// Checks that each book of a store is sound, and counts the books, their pledges and their rows. The keeper's content
+/// does not change. One pledge is in memory at a time; its terms and its reference are looked up for each.
 ///
-/// Errors: `Damaged` only if a book is not sound, `Memory` if memory is refused, `Store` if the store fails. It reads
-/// one pledge at a time, and looks up its terms and its reference for each.
+/// Errors: `Damaged` only if a book is not sound, `Memory` if out of memory, `Store` if the store fails.
 pub fn check<K: Keep>(keep: &mut K) -> Result<Counts, CheckFault>
     ensures judges { Reads K.keeping keep.old keep.new (λ h. Judges h result) }
     ensures quiet { IsQuietCheck K.keeping keep.old result }
 {
-    let rows = rows_of(keep)?;
+    let rows = counted_rows(keep)?;
     let mut left = rows;
     let mut above = 0;
     let mut after = None;

@@ -1,15 +1,16 @@
-/// What a store holds.
+//! The counts of a check.
+/// How much a store has.
 #[derive(Clone, Copy, PartialEq, Eq)]
 pub struct Counts {
     /// How many books there are.
     pub books: u64,
     /// How many pledges all books have.
     pub pledges: u64,
-    /// How many rows are counted: one for each book, version of terms, pledge, entry, secret and booking.
+    /// How many counted rows there are: one for each book, version of terms, pledge, entry, secret and booking.
     pub rows: u64,
 }
 
-/// What one book holds: its pledges and its rows, its own among them.
+/// How many pledges and how many counted rows one book has. The book's own row is counted.
 #[derive(Clone, Copy)]
 pub struct BookCounts {
     pub pledges: u64,

@@ -1,17 +1,27 @@
-ghost use Rattle.std.specs.Prelude.{◌≡◌};
+//! The faults of a check.
 ghost use Rattle.pawn_check.specs.Judging.{check_fault_of};
+ghost use Rattle.std.specs.Prelude.{◌≡◌};
 
 use pawn_book::{KeepError, StoreFault};
 
-/// Why a check does not end with counts.
+/// Why a check ends without counts.
 #[derive(Clone, Copy, Debug, PartialEq, Eq)]
 pub enum CheckFault {
-    /// A book is not sound, or a stored row is no record.
+    /// A book is not sound, or a stored row cannot be decoded.
     Damaged,
-    /// Memory was refused.
+    /// Out of memory.
     Memory,
     /// The store failed.
     Store,
+}
+
+/// Why the line of a check is not completely written.
+#[derive(Clone, Copy, Debug, PartialEq, Eq)]
+pub enum LineFault {
+    /// The check ended with this fault; nothing was written.
+    Check(CheckFault),
+    /// The writer failed. The beginning of the line may have been written.
+    Write,
 }
 
 impl From<KeepError> for CheckFault {

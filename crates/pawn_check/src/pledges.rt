@@ -1,23 +1,30 @@
-//! The pledges of a book, judged one after the other.
-ghost use Rattle.std.specs.{Prelude.{◌≡◌, ◌≤◌, ◌+◌, ◌*◌, ◌↔◌, ℕ, Some, IsTrue, IfOk, length, take}, FinMap.get};
-ghost use Rattle.pawn_book.specs.{BookStep.{BookValue, pledge_from}, Rows.{IsUnder, version_of}, Keeping.{Reads, number_of}, Limits.most_pledges};
-ghost use Rattle.{pawn_book.specs.HostStep.pledge_rows, pawn_pledge.specs.{Replayable.IsStanding, Pledge.PledgeValue}, pawn_base.specs.Lists.last_by};
+//! Checks the pledges of a book one after the other, and counts their rows.
+ghost use Rattle.pawn_base.specs.Lists.{last_by};
+ghost use Rattle.pawn_book.specs.BookStep.{BookValue, pledge_from};
+ghost use Rattle.pawn_book.specs.HostStep.{pledge_rows};
+ghost use Rattle.pawn_book.specs.Keeping.{Reads, number_of};
+ghost use Rattle.pawn_book.specs.Limits.{most_pledges};
+ghost use Rattle.pawn_book.specs.Rows.{IsUnder, version_of};
 ghost use Rattle.pawn_check.specs.Judging.{FindsSound, FitsAt, IsFront, IsQuietCheck};
+ghost use Rattle.pawn_pledge.specs.Pledge.{PledgeValue};
+ghost use Rattle.pawn_pledge.specs.Replayable.{IsReachable};
+ghost use Rattle.std.specs.FinMap.{get};
+ghost use Rattle.std.specs.Prelude.{◌≡◌, ◌≤◌, ◌+◌, ◌*◌, ◌↔◌, ℕ, Some, IsTrue, IfOk, length, take};
 
 use crate::fault::CheckFault;
 use pawn_book::{Keep, Number, Reference, know_written};
 use pawn_pledge::Parts;
 
-// What is noted of a pledge that was judged: the version of its terms, and how many rows it has.
+/// What is noted of a pledge that was checked: the version of its terms, and how many counted rows it has.
 #[derive(Clone, Copy)]
 pub struct Step {
     pub version: u64,
     pub rows: u64,
 }
 
-// How many counted rows a pledge has.
-fn rows_of(parts: &Parts) -> u64
-    requires standing { IsStanding parts.now }
+/// How many counted rows a pledge has: at most 10,102.
+fn rows_of_parts(parts: &Parts) -> u64
+    requires reachable { IsReachable parts.now }
     ensures value { result ≡ pledge_rows parts.now }
     ensures few { result ≤ 10102 }
 {
@@ -28,8 +35,8 @@ fn rows_of(parts: &Parts) -> u64
     1 + parts.entries.len() as u64 + parts.secrets.len() as u64 + booking
 }
 
-// The parts of the pledge of this number. It is `Damaged` if there is none.
-fn parts_of<K: Keep>(keep: &mut K, book: Number, number: Number) -> Result<Parts, CheckFault>
+/// The parts of the pledge with this number. It is `Damaged` if there is no such pledge.
+fn read_parts<K: Keep>(keep: &mut K, book: Number, number: Number) -> Result<Parts, CheckFault>
     ensures reads { Reads K.keeping keep.old keep.new (λ h. (k : BookValue) → get h.books book ≡ Some k → number ≤ length k.pledges
         → FindsSound h result (λ parts. pledge_from 1 k.pledges number ≡ Some parts)) }
     ensures quiet { IsQuietCheck K.keeping keep.old result }
@@ -44,7 +51,7 @@ fn parts_of<K: Keep>(keep: &mut K, book: Number, number: Number) -> Result<Parts
     }
 }
 
-// Whether the book's terms of the pledge's version are those that the pledge has.
+/// Whether the book's terms under the pledge's version are those that the pledge has.
 fn is_under<K: Keep>(keep: &mut K, book: Number, parts: &Parts) -> Result<bool, CheckFault>
     ensures reads { Reads K.keeping keep.old keep.new
         (λ h. (k : BookValue) → get h.books book ≡ Some k → FindsSound h result (λ under. IsTrue under ↔ IsUnder k.terms parts.now)) }
@@ -56,7 +63,7 @@ fn is_under<K: Keep>(keep: &mut K, book: Number, parts: &Parts) -> Result<bool, 
     }
 }
 
-// Whether the pledge of this number is the one that the keeper finds by the reference.
+/// Whether the pledge with this number is the one that the keeper finds by the reference.
 fn is_first<K: Keep>(
     keep: &mut K,
     book: Number,
@@ -73,8 +80,8 @@ fn is_first<K: Keep>(
     }
 }
 
-// Judges the next pledge of a book, whose predecessor has terms of this version. A later pledge may not have an earlier
-// version.
+/// Checks the next pledge of a book. `version` is that of the pledge before it, or 0: a later pledge must not have
+/// terms of an earlier version. The error is `Damaged` if the pledge cannot belong to a sound book.
 fn next_step<K: Keep>(
     keep: &mut K,
     book: Number,
@@ -87,13 +94,13 @@ fn next_step<K: Keep>(
     ensures few { IfOk result (λ step. step.rows ≤ 10102) }
     ensures quiet { IsQuietCheck K.keeping keep.old result }
 {
-    let parts = parts_of(keep, book, number)?;
+    let parts = read_parts(keep, book, number)?;
     know_written(&parts);
     let next = parts.agreement.version;
     if parts.agreement.number != number || next < version || !parts.can_stand() {
         return Err(CheckFault::Damaged);
     }
-    let rows = rows_of(&parts);
+    let rows = rows_of_parts(&parts);
     let under = is_under(keep, book, &parts)?;
     let first = is_first(keep, book, number, &parts.agreement.opening.reference)?;
     if !under || !first {
@@ -105,7 +112,7 @@ fn next_step<K: Keep>(
     })
 }
 
-/// Judges pledges 1 to `count` of a book. Returns how many counted rows they have.
+/// Checks the pledges 1 to `count` of a book. Returns how many counted rows they have.
 pub(crate) fn pledges_rows<K: Keep>(
     keep: &mut K,
     book: Number,

@@ -1,14 +1,22 @@
 -- Rows that were taken to their end are those of the book.
-use Rattle.pawn_csv.proofs.Basics.{◌≡◌, ◌∙◌, ◌+◌, ℕ, Bool, true, false, List, [], ◌∷◌, ◌++◌, length, map, Option, Some, None, Result, Ok, Err, refl, sym, ap}
-use Rattle.pawn_csv.proofs.Basics.{subst, append_assoc, arith, cond, nat_lt, nat_le, ◌==◌, ◌&&◌, ◌||◌, IfOk, IfSome, Each-push, and_parts}
-use Rattle.pawn_csv.{proofs.Basics.{append-nil, nat_tests, option_map}, specs.Common.{AreRecords, BookRows, Each, PledgeValue, Rates, default_config}}
-use Rattle.pawn_csv.specs.Common.{State, flat_map, most_pledges, most_terms, strip_bom}
-use Rattle.pawn_csv.specs.{Reading.{AreTaken, IsHeldBy, IsReadAs, IsTextOf}, Order.{Begun, hand, is_whole, may_end, on_hand}}
-use Rattle.pawn_csv.specs.Order.{on_second, place, place_booking, place_entry, place_extension, place_pledge, place_secret, place_terms, pledges_begun}
-use Rattle.pawn_csv.specs.{Order.{put_hand, raw_pledge, run, then_run}, Types.{Cause, PledgeColumns, RawPledge, Row, Version}, Rows.{FitsColumns, Knows}}
-use Rattle.pawn_csv.specs.{Rows.{header, pledge_csv_rows, row_fields, rows_of_csv, terms_rows, version_rows}, Finishing.{IsFinishedAs, raw_of}, Layout.raw_rows}
+use Rattle.pawn_csv.proofs.Basics.{◌≡◌, ◌∙◌, ◌+◌, ℕ, Bool, true, false, List, [], ◌∷◌, ◌++◌, length, map, Option, Some}
+use Rattle.pawn_csv.proofs.Basics.{None, Result, Ok, Err, refl, sym, ap, subst, append_assoc, arith, cond, nat_lt}
+use Rattle.pawn_csv.proofs.Basics.{nat_le, ◌==◌, ◌&&◌, ◌||◌, IfOk, IfSome, Each-push, and_parts, append-nil, nat_tests}
+use Rattle.pawn_csv.proofs.Basics.{option_map}
+use Rattle.pawn_csv.proofs.OrderLemmas.{Shows, booking_shown, entry_shown, extension_shown, guard_err, guard_ok}
+use Rattle.pawn_csv.proofs.OrderLemmas.{ok_same, secret_shown}
 use Rattle.pawn_csv.proofs.ReadLemmas.{EndsAt}
-use Rattle.pawn_csv.proofs.OrderLemmas.{Shows, booking_shown, entry_shown, extension_shown, guard_err, guard_ok, ok_same, secret_shown}
+use Rattle.pawn_csv.specs.Common.{AreRecords, BookRows, Each, PledgeValue, Rates, default_config, State, flat_map}
+use Rattle.pawn_csv.specs.Common.{most_pledges, most_terms, strip_bom}
+use Rattle.pawn_csv.specs.Finishing.{IsFinishedAs, raw_of}
+use Rattle.pawn_csv.specs.Layout.{raw_rows}
+use Rattle.pawn_csv.specs.Order.{Begun, hand, is_whole, may_end, on_hand, on_second, place, place_booking, place_entry}
+use Rattle.pawn_csv.specs.Order.{place_extension, place_pledge, place_secret, place_terms, pledges_begun, put_hand}
+use Rattle.pawn_csv.specs.Order.{raw_pledge, run, then_run}
+use Rattle.pawn_csv.specs.Reading.{AreTaken, IsHeldBy, IsReadAs, IsTextOf}
+use Rattle.pawn_csv.specs.Rows.{FitsColumns, Knows, header, pledge_csv_rows, row_fields, rows_of_csv, terms_rows}
+use Rattle.pawn_csv.specs.Rows.{version_rows}
+use Rattle.pawn_csv.specs.Types.{Cause, PledgeColumns, RawPledge, Row, Version}
 
 -- the rows that were taken
 abbrev pub shown : Option Begun → List Row

@@ -1,5 +1,6 @@
 -- One column.
-use Rattle.pawn_csv.proofs.Basics.{◌≡◌, ◌∙◌, ◌^◌, ◌<◌, ℕ, zero, suc, List, [], ◌∷◌, None, Some, refl, ap, get_or, secret_texts_read_back}
+use Rattle.pawn_csv.proofs.Basics.{◌≡◌, ◌∙◌, ◌^◌, ◌<◌, ℕ, zero, suc, List, [], ◌∷◌, None, Some, refl, ap, get_or}
+use Rattle.pawn_csv.proofs.Basics.{secret_texts_read_back}
 use Rattle.pawn_csv.specs.Common.{field_at, secret_of_text, secret_text}
 
 -- the text of a secret is read as that secret

@@ -1,10 +1,16 @@
 -- Rows that are asked for one by one: the terms and the pledges of a book.
-use Rattle.pawn_csv.proofs.Basics.{◌≡◌, ◌∙◌, ℕ, ◌+◌, ◌<◌, ◌≤◌, zero, suc, true, false, List, [], ◌∷◌, ◌++◌, length, take, Option, Some, None, refl, sym, ap}
-use Rattle.pawn_csv.proofs.Basics.{subst, arith, append_assoc, ◌==◌, if◌then◌else◌, option_map, slice_get, unwrap_or, append-nil, flat_map-append, nat_tests}
-use Rattle.pawn_csv.{proofs.Basics.{share_front, share_more, share_puts, share_then, take_each}, specs.Common.{BookValue, BriefFields, Front, Host, IsNumber}}
-use Rattle.pawn_csv.specs.Common.{IsSound, PledgeValue, Rates, Whole, brief_of, flat_map, get, most_pledges, pledge_from, pledge_in, pledges_of, terms_at}
-use Rattle.pawn_csv.{specs.{Sent.{PutsRow, PutsRowsShare, text_of_row}, Types.{Row, Sink}, Rows.{pledge_csv_rows, terms_rows}}, proofs.ListLemmas.lines_from}
-use Rattle.{pawn_csv.proofs.SentLemmas.rows_in_turn, pawn_book.proofs.Places.terms_at_place}
+use Rattle.pawn_book.proofs.Places.{terms_at_place}
+use Rattle.pawn_csv.proofs.Basics.{◌≡◌, ◌∙◌, ℕ, ◌+◌, ◌<◌, ◌≤◌, zero, suc, true, false, List, [], ◌∷◌, ◌++◌, length}
+use Rattle.pawn_csv.proofs.Basics.{take, Option, Some, None, refl, sym, ap, subst, arith, append_assoc, ◌==◌}
+use Rattle.pawn_csv.proofs.Basics.{if◌then◌else◌, option_map, slice_get, unwrap_or, append-nil, flat_map-append}
+use Rattle.pawn_csv.proofs.Basics.{nat_tests, share_front, share_more, share_puts, share_then, take_each}
+use Rattle.pawn_csv.proofs.ListLemmas.{lines_from}
+use Rattle.pawn_csv.proofs.SentLemmas.{rows_in_turn}
+use Rattle.pawn_csv.specs.Common.{BookValue, BriefFields, Front, Host, IsNumber, IsSound, PledgeValue, Rates, Whole}
+use Rattle.pawn_csv.specs.Common.{brief_of, flat_map, get, most_pledges, pledge_from, pledge_in, pledges_of, terms_at}
+use Rattle.pawn_csv.specs.Rows.{pledge_csv_rows, terms_rows}
+use Rattle.pawn_csv.specs.Sent.{PutsRow, PutsRowsShare, text_of_row}
+use Rattle.pawn_csv.specs.Types.{Row, Sink}
 
 -- ---- as many as are asked for one by one
 
@@ -32,7 +38,7 @@ lines_cut line number place (y ∷ xs) (suc i) =
     let more = lines_cut line number (place + 1) xs i in
     (more.0, append_assoc (line number place y) (lines_from line number (place + 1) (take i xs)) more.0 ∙ ap (λ (t : List ℕ). line number place y ++ t) more.1)
 
--- one that is asked for stands
+-- an element at a place within the list exists
 pub stands_there : {T : Type 0} (xs : List T) (i : ℕ) → i < length xs → slice_get xs i ≡ None → ⊥
 stands_there [] i less none = absurd (omega (arith, less))
 stands_there (x ∷ xs) zero less none = cc
@@ -156,7 +162,7 @@ briefed : (o : Option PledgeValue) (brief : BriefFields) → Some brief ≡ opti
 briefed None brief said = cc
 briefed (Some p) brief said = record { pledge = p; at = refl; is = ap (λ (x : Option BriefFields). unwrap_or x brief) said }
 
--- the pledge stands at its place
+-- the pledge is at its place
 placed : (o : Option BookValue) (i n : ℕ) (p : PledgeValue) → n ≡ i + 1 → pledge_in o n ≡ Some p → slice_get (pledges_of o) i ≡ Some p
 placed o i n p next at = sym (record_there o i) ∙ ap (pledge_in o) (sym next) ∙ at
 

@@ -1,11 +1,17 @@
 -- A book's text, put part by part, and how it ends.
-use Rattle.pawn_csv.proofs.Basics.{◌≡◌, ◌∙◌, ℕ, Bool, true, false, List, [], ◌∷◌, ◌++◌, length, Option, Some, None, Result, Ok, Err, refl, sym, ap, subst, map}
-use Rattle.pawn_csv.{proofs.Basics.{option_map, unwrap_or, flat_map-append, or_from, share_all, share_more, share_puts, share_then}, specs.Common.BookValue}
-use Rattle.pawn_csv.specs.Common.{End, Front, KeepError, ViewFault, Whole, book_head, call_end, default_writer, flat_map, pledges_of, row_text, rows_of_book}
-use Rattle.pawn_csv.specs.{Common.terms_of, Exports.{Exports, ending_by, sink_ending}, Sent.{PutsRow, PutsRowsShare, has_ended, seen, text_of_row}, Types.Row}
-use Rattle.pawn_csv.{specs.{Types.{Sink, Version}, Rows.{csv_of, header, pledge_csv_rows, row_fields, terms_rows}}, proofs.SentLemmas.rows_in_turn}
-use Rattle.pawn_writing.{specs.Ends.{PutFront, Written, end_by, write_failed}, proofs.PutLemmas.{front-more, now_by}}
 use Rattle.pawn_book.specs.declared.change.BookHead.{BookHead}
+use Rattle.pawn_csv.proofs.Basics.{◌≡◌, ◌∙◌, ℕ, Bool, true, false, List, [], ◌∷◌, ◌++◌, length, Option, Some, None}
+use Rattle.pawn_csv.proofs.Basics.{Result, Ok, Err, refl, sym, ap, subst, map, option_map, unwrap_or, flat_map-append}
+use Rattle.pawn_csv.proofs.Basics.{or_from, share_all, share_more, share_puts, share_then}
+use Rattle.pawn_csv.proofs.SentLemmas.{rows_in_turn}
+use Rattle.pawn_csv.specs.Common.{BookValue, End, Front, KeepError, ViewFault, Whole, book_head, call_end}
+use Rattle.pawn_csv.specs.Common.{default_writer, flat_map, pledges_of, row_text, rows_of_book, terms_of}
+use Rattle.pawn_csv.specs.Exports.{Exports, ending_by, sink_ending}
+use Rattle.pawn_csv.specs.Rows.{csv_of, header, pledge_csv_rows, row_fields, terms_rows}
+use Rattle.pawn_csv.specs.Sent.{PutsRow, PutsRowsShare, has_ended, seen, text_of_row}
+use Rattle.pawn_csv.specs.Types.{Row, Sink, Version}
+use Rattle.pawn_writing.proofs.PutLemmas.{front-more, now_by}
+use Rattle.pawn_writing.specs.Ends.{PutFront, Written, end_by, write_failed}
 
 -- the rows below the first
 abbrev pub below_text : BookValue → List ℕ
@@ -74,7 +80,7 @@ exports_by contents a w text (Err (KeepError.Store why)) false false fine now fe
 head_of : (head : BookHead) (at : BookValue) → Some head ≡ Some (book_head at) → head ≡ book_head at
 head_of head at e = ap (λ (x : Option BookHead). unwrap_or x head) e
 
--- the text of a book was put, and the answer says how that ended
+-- after the text of a book was written, the answer states how that ended
 pub book_exported : {W : Type 0} (contents : W → Option (List ℕ)) (a b c w : Sink W) (o : Option BookValue) (head : BookHead) (done : Result
     (Unit {0}) KeepError) (answer : Result (Unit {0}) ViewFault) → has_ended a ≡ false → answer ≡ sink_ending done w → Some head ≡ option_map book_head o
     → PutsRow contents a (row_text default_writer header) b → PutsRow contents b (count_text head.terms head.pledges) c → ((at : BookValue) → o ≡ Some at → head

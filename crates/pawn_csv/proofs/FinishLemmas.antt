@@ -1,8 +1,11 @@
 -- The records of pledges whose rows are read.
-use Rattle.pawn_csv.proofs.Basics.{◌≡◌, ℕ, List, [], ◌∷◌, ◌++◌, map, Option, None, Some, Result, Ok, Err, true, sym, ◌∙◌, subst, refl, ap, IfErr, IfNone, IfOk}
-use Rattle.pawn_csv.{proofs.Basics.IfSome, specs.{Common.{AreReplayable, BookRows, Closing, Each, IsUnder, PledgeValue, Rates, terms_at}, Finishing.AreRawOf}}
-use Rattle.pawn_csv.specs.{Finishing.{Ends, IsBegunOf, IsRawOf, raw_of}, Order.{Begun, is_whole}, Types.{Cause, RawPledge}, Rows.{closing_amount, closing_day}}
-use Rattle.pawn_csv.specs.Rows.{closing_word}
+use Rattle.pawn_csv.proofs.Basics.{◌≡◌, ℕ, List, [], ◌∷◌, ◌++◌, map, Option, None, Some, Result, Ok, Err, true, sym}
+use Rattle.pawn_csv.proofs.Basics.{◌∙◌, subst, refl, ap, IfErr, IfNone, IfOk, IfSome}
+use Rattle.pawn_csv.specs.Common.{AreReplayable, BookRows, Closing, Each, IsUnder, PledgeValue, Rates, terms_at}
+use Rattle.pawn_csv.specs.Finishing.{AreRawOf, Ends, IsBegunOf, IsRawOf, raw_of}
+use Rattle.pawn_csv.specs.Order.{Begun, is_whole}
+use Rattle.pawn_csv.specs.Rows.{closing_amount, closing_day, closing_word}
+use Rattle.pawn_csv.specs.Types.{Cause, RawPledge}
 
 same_first : (x y : RawPledge) (xs ys : List RawPledge) → x ∷ xs ≡ y ∷ ys → x ≡ y
 same_first x y xs ys e = cc
@@ -67,7 +70,7 @@ one_book b j k x y h =
     let pledges = same_pledges b.terms j.pledges k.pledges (sym x.1.0 ∙ y.1.0) x.1.1 y.1.1 in
     subst (λ (ts : List Rates). AreReplayable ts k.pledges) terms (subst (λ (ps : List PledgeValue). AreReplayable j.terms ps) pledges h)
 
--- what the judge says of rows that are whole
+-- the result for rows that are complete
 pub ends : (b : Begun) (rows : Option BookRows) (res : Result BookRows Cause) → is_whole (Some b) ≡ true
     → IfSome rows (IsBegunOf b) → IfNone rows ((k : BookRows) → IsBegunOf b k → ⊥) → IfOk res (λ k. (rows ≡ Some k) × AreReplayable k.terms k.pledges)
     → IfErr res (λ e. (e ≡ Cause.NotReplayable) × IfSome rows (λ k. AreReplayable k.terms k.pledges → ⊥)) → Ends (Some b) res

@@ -1,14 +1,25 @@
--- The rows of a book that can have come about can be spelled.
-use Rattle.pawn_csv.proofs.Basics.{◌≡◌, ◌∙◌, ◌+◌, ◌-◌, ◌*◌, ◌≤◌, ℕ, false, List, [], ◌∷◌, ◌++◌, length, Option, Some, None, IsOk, Ok, sym, ap, subst, arith}
-use Rattle.pawn_csv.{proofs.Basics.{IfSome, last_by-le, nat_tests}, specs.Common.{AreExtended, AreNumbered, AreOrdered, AreWords, Booking, Closing, DebtValue}}
-use Rattle.pawn_csv.specs.Common.{DoNotFall, Draw, Due, Each, Entry, Extension, HasTextsAndWords, IsBooked, IsClosed, IsStanding, IsUnder, Issued, PledgeValue}
-use Rattle.pawn_csv.specs.{Common.{Rates, Repay, Sort, debt_of, due, end_with, flat_map, last_by, last_of, most_pence, total_on}, Rows.AreColumns}
-use Rattle.pawn_csv.specs.Rows.{FitsColumns, IsColumnNumber, booking_csv_rows, closing_amount, closing_day, entry_rows, extension_rows, pledge_columns}
-use Rattle.pawn_csv.specs.{Rows.{pledge_csv_rows, secret_rows, terms_rows}, Laws.{BooksAreHeld, TextsAreRead, TextsOfHostsAreRead}, Types.{Row, Version}}
-use Rattle.{pawn_csv.proofs.RoundLemmas.held_texts_are_read, pawn_terms.specs.{Calendar.{IsStampDay, first_day}, Limits.last_stamp_day, Terms.IsChecked}}
-use Rattle.{pawn_base.proofs.RefusalLemmas.first_of-is_ok, pawn_debt.proofs.{Bounds.{accepted-bounded, after_days-small}, DueLemmas.after_days-principal}}
-use Rattle.pawn_debt.{proofs.EntryLemmas.due-from-last, specs.{Answers.{draw_rows, is_bad_amount, repay_rows, with_entry}, Replay.AreEntriesAccepted}}
-use Rattle.{pawn_debt.specs.Replay.sort_answer, pawn_book.proofs.SoundLists.under_length}
+-- The rows of a replayable book can be spelled.
+use Rattle.pawn_base.proofs.RefusalLemmas.{first_of-is_ok}
+use Rattle.pawn_book.proofs.SoundLists.{under_length}
+use Rattle.pawn_csv.proofs.Basics.{◌≡◌, ◌∙◌, ◌+◌, ◌-◌, ◌*◌, ◌≤◌, ℕ, false, List, [], ◌∷◌, ◌++◌, length, Option, Some}
+use Rattle.pawn_csv.proofs.Basics.{None, IsOk, Ok, sym, ap, subst, arith, IfSome, last_by-le, nat_tests}
+use Rattle.pawn_csv.proofs.RoundLemmas.{held_texts_are_read}
+use Rattle.pawn_csv.specs.Common.{AreExtended, AreNumbered, AreOrdered, AreWords, Booking, Closing, DebtValue}
+use Rattle.pawn_csv.specs.Common.{DoNotFall, Draw, Due, Each, Entry, Extension, HasTextsAndWords, IsBooked, IsClosed}
+use Rattle.pawn_csv.specs.Common.{IsReachable, IsUnder, Issued, PledgeValue, Rates, Repay, Sort, debt_of, due, end_with}
+use Rattle.pawn_csv.specs.Common.{flat_map, last_by, last_of, most_pence, total_on}
+use Rattle.pawn_csv.specs.Laws.{BooksAreHeld, TextsAreRead, TextsOfHostsAreRead}
+use Rattle.pawn_csv.specs.Rows.{AreColumns, FitsColumns, IsColumnNumber, booking_csv_rows, closing_amount, closing_day}
+use Rattle.pawn_csv.specs.Rows.{entry_rows, extension_rows, pledge_columns, pledge_csv_rows, secret_rows, terms_rows}
+use Rattle.pawn_csv.specs.Types.{Row, Version}
+use Rattle.pawn_debt.proofs.Bounds.{accepted-bounded, after_days-small}
+use Rattle.pawn_debt.proofs.DueLemmas.{after_days-principal}
+use Rattle.pawn_debt.proofs.EntryLemmas.{due-from-last}
+use Rattle.pawn_debt.specs.Answers.{draw_rows, is_bad_amount, repay_rows, with_entry}
+use Rattle.pawn_debt.specs.Replay.{AreEntriesAccepted, sort_answer}
+use Rattle.pawn_terms.specs.Calendar.{IsStampDay, first_day}
+use Rattle.pawn_terms.specs.Limits.{last_stamp_day}
+use Rattle.pawn_terms.specs.Terms.{IsChecked}
 
 each_both : (xs ys : List Row) → Each FitsColumns xs → Each FitsColumns ys → Each FitsColumns (xs ++ ys)
 each_both [] ys hx hy = hy
@@ -29,7 +40,7 @@ all_pence d prior [] h = tt
 all_pence d prior (e ∷ es) h = (accepted_pence e.sort (record d { entries = prior }) e.day e.pence h.0.1, all_pence d (prior ++ e ∷ []) es h.1)
 
 -- what is owing on a pledge's last day has twelve digits
-total_fits : (p : PledgeValue) → IsStanding p → IsColumnNumber (total_on p p.standing.last)
+total_fits : (p : PledgeValue) → IsReachable p → IsColumnNumber (total_on p p.standing.last)
 total_fits p h =
     let d = debt_of p in
     let x = p.standing.last in
@@ -103,7 +114,8 @@ fit_amount p Closing.Open h total = tt
 fit_amount p (Closing.Redeemed day paid) h total = subst IsColumnNumber (sym (h.1 ∙ ap (total_on p) h.0)) total
 fit_amount p (Closing.Sold day net) h total = omega (arith, h.2)
 
-fit_columns : (terms : List Rates) (p : PledgeValue) → length terms ≤ 1000 → IsUnder terms p → IsStanding p → HasTextsAndWords p → AreColumns (pledge_columns p)
+fit_columns : (terms : List Rates) (p : PledgeValue) → length terms ≤ 1000 → IsUnder terms p → IsReachable p → HasTextsAndWords p → AreColumns
+    (pledge_columns p)
 fit_columns terms p few under h written =
     let from = written.taken.0 in
     let r = h.replayable in
@@ -122,7 +134,7 @@ fit_columns terms p few under h written =
       amount = fit_amount p p.standing.closing r.closed (total_fits p h);
     }
 
-fit_pledge : (terms : List Rates) (p : PledgeValue) → length terms ≤ 1000 → IsUnder terms p → IsStanding p → HasTextsAndWords p
+fit_pledge : (terms : List Rates) (p : PledgeValue) → length terms ≤ 1000 → IsUnder terms p → IsReachable p → HasTextsAndWords p
     → Each FitsColumns (pledge_csv_rows p)
 fit_pledge terms p few under h written =
     let from = written.taken.0 in
@@ -142,7 +154,7 @@ fit_pledge terms p few under h written =
           (each_both (extension_rows n 1 p.extensions) (booking_csv_rows n p.standing.booking) extensions booking)),
     )
 
-fit_pledges : (terms : List Rates) (ps : List PledgeValue) → length terms ≤ 1000 → Each (IsUnder terms) ps → Each IsStanding ps → Each HasTextsAndWords ps
+fit_pledges : (terms : List Rates) (ps : List PledgeValue) → length terms ≤ 1000 → Each (IsUnder terms) ps → Each IsReachable ps → Each HasTextsAndWords ps
     → Each FitsColumns (flat_map pledge_csv_rows ps)
 fit_pledges terms [] few under h written = tt
 fit_pledges terms (p ∷ ps) few under h written =
@@ -158,7 +170,7 @@ books_are_held v k h knows =
       (
         (omega (arith, r.few_terms), omega (arith, r.few_pledges)),
         each_both (terms_rows 1 k.terms) (flat_map pledge_csv_rows k.pledges) (fit_terms 1 k.terms r.checked (omega (arith, r.few_terms)))
-            (fit_pledges k.terms k.pledges (omega (arith, r.few_terms)) r.under r.standing h.written),
+            (fit_pledges k.terms k.pledges (omega (arith, r.few_terms)) r.under r.reachable h.written),
       ),
     )
 

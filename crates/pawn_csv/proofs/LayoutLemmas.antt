@@ -1,14 +1,21 @@
 -- Only rows that are laid out are taken, and why others are refused.
-use Rattle.pawn_csv.proofs.Basics.{◌≡◌, ◌∙◌, ◌⊎◌, inl, inr, ◌+◌, ◌≤◌, ◌<◌, ℕ, Bool, true, false, List, [], ◌∷◌, ◌++◌, length, map, Option, Some, None, Result}
-use Rattle.pawn_csv.proofs.Basics.{Ok, Err, refl, sym, ap, subst, arith, cond, nat_lt, nat_le, ◌==◌, ◌&&◌, ◌||◌, and_parts, nat_tests}
-use Rattle.pawn_csv.specs.Common.{AreNumbered, BookRows, Booking, Each, Entry, Extension, Issued, PledgeValue, flat_map, most_entries, most_extensions}
-use Rattle.pawn_csv.specs.{Common.{most_pledges, most_secrets, most_terms}, Layout.{AreLaidFrom, IsWithin, NotReplayableIsOfNoBook, RefusedAreNoFront}}
-use Rattle.pawn_csv.specs.{Layout.{TakenAreLaidOut, TooManyIsAboveALimit, laid_rows, raw_rows}, Order.{Begun, hand, has_secret, in_order, is_nil, is_none}}
-use Rattle.pawn_csv.specs.Order.{is_whole, may_end, on_hand, on_second, place, place_book, place_booking, place_entry, place_extension, place_first}
-use Rattle.pawn_csv.specs.{Order.{place_pledge, place_secret, pledges_begun, put_hand, raw_pledge, run, then_run, unless_full}, Types.{Cause, PledgeColumns}}
-use Rattle.pawn_csv.{specs.{Types.{RawPledge, Row, Version}, Finishing.{IsBegunOf, raw_of}, Rows.{Knows, terms_rows}}, proofs.BookLemmas.guard_then}
-use Rattle.pawn_csv.proofs.{BookLemmas.{run_grows, second_only, whole_counts}, OrderLemmas.{guard_err, guard_ok, ok_same}, TakenLemmas.book_rows_are}
-use Rattle.pawn_csv.proofs.TakenLemmas.{layouts_are_taken, longer, run_book}
+use Rattle.pawn_csv.proofs.Basics.{◌≡◌, ◌∙◌, ◌⊎◌, inl, inr, ◌+◌, ◌≤◌, ◌<◌, ℕ, Bool, true, false, List, [], ◌∷◌, ◌++◌}
+use Rattle.pawn_csv.proofs.Basics.{length, map, Option, Some, None, Result, Ok, Err, refl, sym, ap, subst, arith, cond}
+use Rattle.pawn_csv.proofs.Basics.{nat_lt, nat_le, ◌==◌, ◌&&◌, ◌||◌, and_parts, nat_tests}
+use Rattle.pawn_csv.proofs.BookLemmas.{guard_then, run_grows, second_only, whole_counts}
+use Rattle.pawn_csv.proofs.OrderLemmas.{guard_err, guard_ok, ok_same}
+use Rattle.pawn_csv.proofs.TakenLemmas.{book_rows_are, layouts_are_taken, longer, run_book}
+use Rattle.pawn_csv.specs.Common.{AreNumbered, BookRows, Booking, Each, Entry, Extension, Issued, PledgeValue, flat_map}
+use Rattle.pawn_csv.specs.Common.{most_entries, most_extensions, most_pledges, most_secrets, most_terms}
+use Rattle.pawn_csv.specs.Finishing.{IsBegunOf, raw_of}
+use Rattle.pawn_csv.specs.Layout.{AreLaidFrom, IsWithin, NotReplayableIsOfNoBook, RefusedAreNoFront, TakenAreLaidOut}
+use Rattle.pawn_csv.specs.Layout.{TooManyIsAboveALimit, laid_rows, raw_rows}
+use Rattle.pawn_csv.specs.Order.{Begun, hand, has_secret, in_order, is_nil, is_none, is_whole, may_end, on_hand}
+use Rattle.pawn_csv.specs.Order.{on_second, place, place_book, place_booking, place_entry, place_extension, place_first}
+use Rattle.pawn_csv.specs.Order.{place_pledge, place_secret, pledges_begun, put_hand, raw_pledge, run, then_run}
+use Rattle.pawn_csv.specs.Order.{unless_full}
+use Rattle.pawn_csv.specs.Rows.{Knows, terms_rows}
+use Rattle.pawn_csv.specs.Types.{Cause, PledgeColumns, RawPledge, Row, Version}
 
 -- ---- what holds of a book of which some rows were taken
 

@@ -1,9 +1,14 @@
--- The rows of a list that is handed out, put one by one.
-use Rattle.pawn_csv.proofs.Basics.{◌≡◌, ◌∙◌, ℕ, ◌+◌, ◌-◌, ◌^◌, ◌≤◌, suc, Bool, false, List, [], ◌∷◌, ◌++◌, length, Option, Some, None, refl, sym, ap, subst}
-use Rattle.pawn_csv.{proofs.Basics.{inl, inr, arith, length-append, append_assoc, if◌then◌else◌, append-nil, standing_at}, specs.Common.{End, Entry, Extension}}
-use Rattle.pawn_csv.specs.Common.{Flow, Go, Handed, Host, IsShare, IsSound, Issued, PledgeValue, Stop, entries_of, extensions_of, flat_map, get, pledge_in}
-use Rattle.pawn_csv.specs.{Common.secrets_of, Exports.{PutsAt, entry_row_text, extension_line, secret_line}, Sent.{PutsRow, PutsRowsShare, has_ended}}
-use Rattle.pawn_csv.{specs.{Sent.text_of_row, Rows.{entry_rows, extension_rows, secret_rows}, Types.RowWriter}, proofs.SentLemmas.{puts_nil, puts_then}}
+-- The rows of a list whose items are passed to a visitor, written one by one.
+use Rattle.pawn_csv.proofs.Basics.{◌≡◌, ◌∙◌, ℕ, ◌+◌, ◌-◌, ◌^◌, ◌≤◌, suc, Bool, false, List, [], ◌∷◌, ◌++◌, length}
+use Rattle.pawn_csv.proofs.Basics.{Option, Some, None, refl, sym, ap, subst, inl, inr, arith, length-append}
+use Rattle.pawn_csv.proofs.Basics.{append_assoc, if◌then◌else◌, append-nil, reachable_at}
+use Rattle.pawn_csv.proofs.SentLemmas.{puts_nil, puts_then}
+use Rattle.pawn_csv.specs.Common.{End, Entry, Extension, Flow, Go, Handed, Host, IsShare, IsSound, Issued, PledgeValue}
+use Rattle.pawn_csv.specs.Common.{Stop, entries_of, extensions_of, flat_map, get, pledge_in, secrets_of}
+use Rattle.pawn_csv.specs.Exports.{PutsAt, entry_row_text, extension_line, secret_line}
+use Rattle.pawn_csv.specs.Rows.{entry_rows, extension_rows, secret_rows}
+use Rattle.pawn_csv.specs.Sent.{PutsRow, PutsRowsShare, has_ended, text_of_row}
+use Rattle.pawn_csv.specs.Types.{RowWriter}
 
 -- the rows of a list from a place on
 abbrev pub lines_from : {T : Type 0} → (ℕ → ℕ → T → List ℕ) → ℕ → ℕ → List T → List ℕ
@@ -19,7 +24,7 @@ lines_of_append line number place (x ∷ xs) ys =
     (lines_of_append line number (place + 1) xs ys ∙ ap (λ (k : ℕ). lines_from line number (place + 1) xs ++ lines_from line number k ys) next)
     ∙ sym (append_assoc (line number place x) (lines_from line number (place + 1) xs) (lines_from line number (place + suc (length xs)) ys))
 
--- the rows of what was handed were put
+-- the rows of the items that were passed were written
 lines_put : {W T : Type 0} (contents : W → Option (List ℕ)) (line : ℕ → ℕ → T → List ℕ) (v w : RowWriter W) (xs : List T) (flow : Flow)
     → v.place + length xs ≤ 2 ^ 64 - 1 → Handed (PutsAt contents line) v xs flow w → PutsRow contents v.sink (lines_from line v.number v.place xs) w.sink
 lines_put contents line v w [] flow few handed = subst (λ (u : RowWriter _). PutsRow contents v.sink [] u.sink) handed.1 (puts_nil contents v.sink)
@@ -44,7 +49,7 @@ never_stopped contents line v w (x ∷ xs) flow handed fine = elim handed [
   | inr stopped ↦ stopped.0 ∙ stopped.2.flow_is ∙ ap (λ (b : Bool). if b then Stop else Go) fine
 ]
 
--- what was put of the rows of a list that was handed out
+-- which rows were written of a list whose items were passed to the visitor
 lines_share : {W T : Type 0} (contents : W → Option (List ℕ)) (line : ℕ → ℕ → T → List ℕ) (v w : RowWriter W) (given items : List T) (flow : Flow) (end : End)
     → v.place + length items ≤ 2 ^ 64 - 1 → Handed (PutsAt contents line) v given flow w → IsShare given flow end items
     → PutsRowsShare contents v.sink (lines_from line v.number v.place items) end w.sink
@@ -84,10 +89,10 @@ few_of h book number sound = from (pledge_in (get h.books book) number) refl whe
   from : (o : Option PledgeValue) → pledge_in (get h.books book) number ≡ o → AreFew o
   from None at = record { secrets = omega arith; entries = omega arith; extensions = omega arith }
   from (Some p) at =
-      let within = (standing_at h book number p sound at).0.within in
+      let within = (reachable_at h book number p sound at).0.within in
       record { secrets = omega (arith, within.secrets); entries = omega (arith, within.entries); extensions = omega (arith, within.extensions) }
 
--- what was put of the rows of a list that was handed out from its first place on
+-- which rows were written of a list whose items were passed to the visitor, from its first place on
 pub list_share : {W T : Type 0} (contents : W → Option (List ℕ)) (line : ℕ → ℕ → T → List ℕ) (number : ℕ) (items : List T) (text : List ℕ) (v w : RowWriter W)
     (given : List T) (flow : Flow) (end : End) → length items ≤ 2 ^ 64 - 2 → lines_from line number 1 items ≡ text → v.number ≡ number → v.place ≡ 1
     → Handed (PutsAt contents line) v given flow w → IsShare given flow end items → PutsRowsShare contents v.sink text end w.sink

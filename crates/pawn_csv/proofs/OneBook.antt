@@ -1,8 +1,15 @@
 -- A text holds one book.
-use Rattle.pawn_csv.proofs.Basics.{◌≡◌, ◌∙◌, ◌++◌, ◌∷◌, ◌≤◌, ℕ, [], Bool, true, false, List, length, Option, Some, refl, sym, ap, subst, arith, nat_le, map}
-use Rattle.pawn_csv.{proofs.Basics.{append-nil, nat_tests}, specs.Common.{BookRows, Each, IsUnder, PledgeValue, Rates, Standing, default_config, State}}
-use Rattle.pawn_csv.specs.{Reading.{AreTaken, IsReadAs}, Order.Begun, Finishing.{IsBegunOf, IsFinishedAs, raw_of}, Types.RawPledge, Laws.TextsHoldOneBook}
-use Rattle.pawn_csv.proofs.{OneReading.{no_further, reached_on, taken_same}, TakenLemmas.texts_are_read_as, FinishLemmas.{same_closing, same_rates}}
+use Rattle.pawn_csv.proofs.Basics.{◌≡◌, ◌∙◌, ◌++◌, ◌∷◌, ◌≤◌, ℕ, [], Bool, true, false, List, length, Option, Some, refl}
+use Rattle.pawn_csv.proofs.Basics.{sym, ap, subst, arith, nat_le, map, append-nil, nat_tests}
+use Rattle.pawn_csv.proofs.FinishLemmas.{same_closing, same_rates}
+use Rattle.pawn_csv.proofs.OneReading.{no_further, reached_on, taken_same}
+use Rattle.pawn_csv.proofs.TakenLemmas.{texts_are_read_as}
+use Rattle.pawn_csv.specs.Common.{BookRows, Each, IsUnder, PledgeValue, Rates, Standing, default_config, State}
+use Rattle.pawn_csv.specs.Finishing.{IsBegunOf, IsFinishedAs, raw_of}
+use Rattle.pawn_csv.specs.Laws.{TextsHoldOneBook}
+use Rattle.pawn_csv.specs.Order.{Begun}
+use Rattle.pawn_csv.specs.Reading.{AreTaken, IsReadAs}
+use Rattle.pawn_csv.specs.Types.{RawPledge}
 use Rattle.pawn_pledge.specs.declared.record.Agreement.{Agreement}
 
 some_same : (a b : ℕ) → Some a ≡ Some b → a ≡ b
@@ -18,7 +25,7 @@ same_pledge : (p q : PledgeValue) → p.agreement ≡ q.agreement → p.standing
     → p.extensions ≡ q.extensions → p ≡ q
 same_pledge p q e f g h i = rw (e, f, g, h, i) refl
 
--- a pledge is told by its rows, under its book's terms
+-- the rows of a pledge determine the pledge, under its book's terms
 one_pledge : (terms : List Rates) (p q : PledgeValue) → IsUnder terms p → IsUnder terms q → raw_of p ≡ raw_of q → p ≡ q
 one_pledge terms p q hp hq e =
     let columns = λ (r : RawPledge). r.columns in

@@ -1,10 +1,18 @@
 -- A text has one reading.
-use Rattle.pawn_csv.proofs.Basics.{◌≡◌, ◌≢◌, ◌⊎◌, ◌∙◌, ◌++◌, ◌∷◌, ◌+◌, ◌<◌, ◌≤◌, [], ℕ, Bool, true, false, List, length, Option, Some, None, Result, Ok, Err}
-use Rattle.pawn_csv.{proofs.Basics.{refl, sym, ap, subst, inl, inr, arith, nat_le, map, nat_eq, append-nil, nat_tests}, specs.Common.{BookRows, Each, Reached}}
-use Rattle.pawn_csv.specs.{Common.{Read, State, default_config, next_record}, Reading.{AreTaken, EndsReadingAs, IsFirstCause, IsNoRow, IsReadAs, IsRowRefused}}
-use Rattle.pawn_csv.specs.{Reading.{RefusesEnd, RefusesRow, Taking}, Order.{Begun, is_whole, place, run, then_run}, Types.{Cause, Row}, Laws.FirstFaultsAreOne}
-use Rattle.pawn_csv.specs.{Laws.FirstFaultsExcludeBooks, Rows.{FitsColumns, header, row_fields}, Finishing.{IsBegunOf, IsFinishedAs, IsOfNoBook}}
-use Rattle.{pawn_csv.proofs.{OneSpelling.one_row, TakenLemmas.texts_are_read_as}, csv.specs.declared.parser.Config.Config}
+use Rattle.csv.specs.declared.parser.Config.{Config}
+use Rattle.pawn_csv.proofs.Basics.{◌≡◌, ◌≢◌, ◌⊎◌, ◌∙◌, ◌++◌, ◌∷◌, ◌+◌, ◌<◌, ◌≤◌, [], ℕ, Bool, true, false, List, length}
+use Rattle.pawn_csv.proofs.Basics.{Option, Some, None, Result, Ok, Err, refl, sym, ap, subst, inl, inr, arith, nat_le}
+use Rattle.pawn_csv.proofs.Basics.{map, nat_eq, append-nil, nat_tests}
+use Rattle.pawn_csv.proofs.OneSpelling.{one_row}
+use Rattle.pawn_csv.proofs.TakenLemmas.{texts_are_read_as}
+use Rattle.pawn_csv.specs.Common.{BookRows, Each, Reached, Read, State, default_config, next_record}
+use Rattle.pawn_csv.specs.Finishing.{IsBegunOf, IsFinishedAs, IsOfNoBook}
+use Rattle.pawn_csv.specs.Laws.{FirstFaultsAreOne, FirstFaultsExcludeBooks}
+use Rattle.pawn_csv.specs.Order.{Begun, is_whole, place, run, then_run}
+use Rattle.pawn_csv.specs.Reading.{AreTaken, EndsReadingAs, IsFirstCause, IsNoRow, IsReadAs, IsRowRefused, RefusesEnd}
+use Rattle.pawn_csv.specs.Reading.{RefusesRow, Taking}
+use Rattle.pawn_csv.specs.Rows.{FitsColumns, header, row_fields}
+use Rattle.pawn_csv.specs.Types.{Cause, Row}
 
 -- records that were reached
 
@@ -102,7 +110,7 @@ head_is r rs f fs e = cc
 tail_is : (r : Row) (rs : List Row) (f : List (List ℕ)) (fs : List (List (List ℕ))) → map row_fields (r ∷ rs) ≡ f ∷ fs → map row_fields rs ≡ fs
 tail_is r rs f fs e = cc
 
--- a record behind others that were taken, and taken with them, is not refused where they leave off
+-- a record that is accepted together with the records before it is not refused after them
 taken_after : (x : List (List ℕ)) (more fs : List (List (List ℕ))) (front whole : List Row) (from s t : Option Begun) (c : Cause) → c ≢ Cause.Memory
     → map row_fields front ≡ fs → Each FitsColumns front → run from front ≡ Ok s
     → map row_fields whole ≡ fs ++ x ∷ more → Each FitsColumns whole → run from whole ≡ Ok t → RefusesRow x s c → ⊥
@@ -268,7 +276,7 @@ no_fault_in text c m k f records rows s s2 ys hc all none taken finished [] whol
       no_read w.0 _ (rw (states, rests) none) w.1
   from (inr w) = at_end f.at.before same w.1
 
--- nothing goes on behind the end
+-- nothing follows the end
 pub no_further : (state : State) (rest : List ℕ) (more : List (List (List ℕ))) (s2 : State) (ys : List ℕ)
     → next_record default_config state [] [] rest ≡ None → Reached default_config state rest more s2 ys → more ≡ []
 no_further state rest [] s2 ys none on = refl

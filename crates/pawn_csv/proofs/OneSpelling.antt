@@ -1,11 +1,16 @@
 -- A row has one spelling: columns that two rows have are the columns of one row.
-use Rattle.pawn_csv.proofs.Basics.{◌≡◌, ◌∙◌, ◌^◌, ◌<◌, ◌-◌, ℕ, Bool, true, false, List, [], length, Option, None, Some, refl, sym, ap, arith, get_or, IfSome}
-use Rattle.pawn_csv.{proofs.Basics.{decimal, secret_texts_read_back}, specs.Common.{Booking, Draw, Entry, Extension, Fixed, Issue, Issued, Kind, Opening}}
-use Rattle.pawn_csv.specs.{Common.{Rates, Repay, Running, Sort, credit_of, secret_of_text, secret_text, sort_text, state_text}, Rows.{AreColumns, FitsColumns}}
-use Rattle.pawn_csv.specs.{Rows.{IsColumnNumber, pledge_fields, row_fields}, Types.{ClosingWord, PledgeColumns, Row, Version}, Columns.closing_text}
-use Rattle.{pawn_csv.specs.Columns.{form_text, issue_text, kind_text, text_if_any, yes_text}, pawn_terms.specs.Calendar.{IsStampDay, day_text, civil_of}}
-use Rattle.pawn_terms.{specs.Calendar.first_day, proofs.{CalendarLemmas.{civil_after_is, count_of}, TextLemmas.{civil_of-stamp, civil_text-injective}}}
-use Rattle.{std.proofs.lemmas.Fmt.{decimal_injective, decimal_nonempty}, pawn_pledge.specs.declared.record.BookingState.BookingState}
+use Rattle.pawn_csv.proofs.Basics.{◌≡◌, ◌∙◌, ◌^◌, ◌<◌, ◌-◌, ℕ, Bool, true, false, List, [], length, Option, None, Some}
+use Rattle.pawn_csv.proofs.Basics.{refl, sym, ap, arith, get_or, IfSome, decimal, secret_texts_read_back}
+use Rattle.pawn_csv.specs.Columns.{closing_text, form_text, issue_text, kind_text, text_if_any, yes_text}
+use Rattle.pawn_csv.specs.Common.{Booking, Draw, Entry, Extension, Fixed, Issue, Issued, Kind, Opening, Rates, Repay}
+use Rattle.pawn_csv.specs.Common.{Running, Sort, credit_of, secret_of_text, secret_text, sort_text, state_text}
+use Rattle.pawn_csv.specs.Rows.{AreColumns, FitsColumns, IsColumnNumber, pledge_fields, row_fields}
+use Rattle.pawn_csv.specs.Types.{ClosingWord, PledgeColumns, Row, Version}
+use Rattle.pawn_pledge.specs.declared.record.BookingState.{BookingState}
+use Rattle.pawn_terms.proofs.CalendarLemmas.{civil_after_is, count_of}
+use Rattle.pawn_terms.proofs.TextLemmas.{civil_of-stamp, civil_text-injective}
+use Rattle.pawn_terms.specs.Calendar.{IsStampDay, day_text, civil_of, first_day}
+use Rattle.std.proofs.lemmas.Fmt.{decimal_injective, decimal_nonempty}
 
 -- columns
 

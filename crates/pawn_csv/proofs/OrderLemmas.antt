@@ -1,9 +1,13 @@
 -- Rows that were taken are shown by what they made.
-use Rattle.pawn_csv.proofs.Basics.{◌≡◌, ◌∙◌, ◌+◌, ℕ, Bool, true, false, List, [], ◌∷◌, ◌++◌, length, Option, Some, None, Result, Ok, Err, refl, sym, ap, subst}
-use Rattle.pawn_csv.{proofs.Basics.{append_assoc, arith, cond, nat_le, ◌==◌, ◌&&◌, and_parts, append-nil, nat_tests}, specs.Common.{Booking, Entry, Extension}}
-use Rattle.pawn_csv.specs.{Common.{Issued, most_entries, most_extensions, most_secrets}, Types.{Cause, RawPledge, Row}, Rows.{entry_rows, extension_rows}}
-use Rattle.pawn_csv.specs.{Rows.secret_rows, Order.{has_secret, is_nil, is_none, place_booking, place_entry, place_extension, place_secret}, Layout.list_rows}
-use Rattle.{pawn_csv.specs.Layout.raw_rows, std.proofs.lemmas.List.map-append}
+use Rattle.pawn_csv.proofs.Basics.{◌≡◌, ◌∙◌, ◌+◌, ℕ, Bool, true, false, List, [], ◌∷◌, ◌++◌, length, Option, Some, None}
+use Rattle.pawn_csv.proofs.Basics.{Result, Ok, Err, refl, sym, ap, subst, append_assoc, arith, cond, nat_le, ◌==◌, ◌&&◌}
+use Rattle.pawn_csv.proofs.Basics.{and_parts, append-nil, nat_tests}
+use Rattle.pawn_csv.specs.Common.{Booking, Entry, Extension, Issued, most_entries, most_extensions, most_secrets}
+use Rattle.pawn_csv.specs.Layout.{list_rows, raw_rows}
+use Rattle.pawn_csv.specs.Order.{has_secret, is_nil, is_none, place_booking, place_entry, place_extension, place_secret}
+use Rattle.pawn_csv.specs.Rows.{entry_rows, extension_rows, secret_rows}
+use Rattle.pawn_csv.specs.Types.{Cause, RawPledge, Row}
+use Rattle.std.proofs.lemmas.List.{map-append}
 
 pub ok_same : {A : Type 0} (x y : A) → (let r : Result A Cause = Ok x in r ≡ Ok y) → x ≡ y
 ok_same x y h = cc

@@ -1,5 +1,6 @@
--- Columns, and empty ones behind them.
-use Rattle.pawn_csv.proofs.Basics.{◌≡◌, ◌∙◌, ◌≤◌, ◌<◌, ◌+◌, ◌-◌, ℕ, zero, suc, List, [], ◌∷◌, ◌++◌, length, map, take, set, get_or, ap, arith, subst}
+-- Columns, followed by empty ones.
+use Rattle.pawn_csv.proofs.Basics.{◌≡◌, ◌∙◌, ◌≤◌, ◌<◌, ◌+◌, ◌-◌, ℕ, zero, suc, List, [], ◌∷◌, ◌++◌, length, map, take}
+use Rattle.pawn_csv.proofs.Basics.{set, get_or, ap, arith, subst}
 use Rattle.pawn_csv.specs.Rows.{empty_columns}
 
 more_padded : {A : Type 0} (f : A → List ℕ) (row columns : List A) (i n : ℕ) (d : A) → i < length columns

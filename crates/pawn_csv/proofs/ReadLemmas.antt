@@ -1,12 +1,19 @@
 -- The records so far, and what they make.
-use Rattle.pawn_csv.proofs.Basics.{◌≡◌, ◌∙◌, ◌+◌, ℕ, Bool, true, false, List, [], ◌∷◌, ◌++◌, length, map, Option, Some, None, Result, Ok, Err, refl, sym}
-use Rattle.pawn_csv.proofs.Basics.{ap, subst, arith, nat_eq, inl, inr, IfErr, IfSome, option_map, Each-push, length-append, nat_tests}
-use Rattle.pawn_csv.specs.Common.{ErrorKind, ExplainsRead, NextIs, Reached, Read, ReadRecord, ReadsNext, State, default_config, next_record}
-use Rattle.pawn_csv.specs.{Answers.{AnswersBegun, Fails}, Reading.{AreTaken, AreTakenBefore, CauseOf, EndsReadingAs, IsFaultOf, IsFirstCause}}
-use Rattle.pawn_csv.specs.{Reading.{IsSpelled, RefusesRow, Taking}, Order.{Begun, place, run, then_run}, Types.{Cause, Row}}
-use Rattle.{pawn_csv.specs.Rows.{FitsColumns, row_fields}, std.proofs.lemmas.List.map-append, csv.specs.declared.reader.Reader.Reader}
-use Rattle.pawn_csv.specs.{Common.{AreRecords, pending_of, source_of, strip_bom}, declared.fault.CsvFault.CsvFault}
 use Rattle.csv.proofs.ReadFacts.{rows-end, rows-more}
+use Rattle.csv.specs.declared.reader.Reader.{Reader}
+use Rattle.pawn_csv.proofs.Basics.{◌≡◌, ◌∙◌, ◌+◌, ℕ, Bool, true, false, List, [], ◌∷◌, ◌++◌, length, map, Option, Some}
+use Rattle.pawn_csv.proofs.Basics.{None, Result, Ok, Err, refl, sym, ap, subst, arith, nat_eq, inl, inr, IfErr, IfSome}
+use Rattle.pawn_csv.proofs.Basics.{option_map, Each-push, length-append, nat_tests}
+use Rattle.pawn_csv.specs.Answers.{AnswersBegun, Fails}
+use Rattle.pawn_csv.specs.Common.{ErrorKind, ExplainsRead, NextIs, Reached, Read, ReadRecord, ReadsNext, State}
+use Rattle.pawn_csv.specs.Common.{default_config, next_record, AreRecords, pending_of, source_of, strip_bom}
+use Rattle.pawn_csv.specs.Order.{Begun, place, run, then_run}
+use Rattle.pawn_csv.specs.Reading.{AreTaken, AreTakenBefore, CauseOf, EndsReadingAs, IsFaultOf, IsFirstCause, IsSpelled}
+use Rattle.pawn_csv.specs.Reading.{RefusesRow, Taking}
+use Rattle.pawn_csv.specs.Rows.{FitsColumns, row_fields}
+use Rattle.pawn_csv.specs.Types.{Cause, Row}
+use Rattle.pawn_csv.specs.declared.fault.CsvFault.{CsvFault}
+use Rattle.std.proofs.lemmas.List.{map-append}
 
 pub record SoFar {R : Type 0} (rem : R → Option (List ℕ)) (text : List ℕ) (reader : Reader R) (index : ℕ) (raw : Option Begun) : Type 0 where
   pub rest : List ℕ
@@ -71,7 +78,7 @@ pub so_far_end : {R : Type 0} (rem : R → Option (List ℕ)) (text : List ℕ) 
 so_far_end rem text a b i f raw config so read =
     (so.records, so.rows, (a.state, so.rest, so.reached, rows-end rem a b f default_config so.rest config so.source read), so.taken, ap (λ n. n + 1) so.count)
 
--- of the bytes, where they are told
+-- a property of the bytes, if they are known
 pub where_told : {A : Type 0} (o : Option A) (P : A → Type 0) → ((x : A) → o ≡ Some x → P x) → IfSome o P
 where_told None P h = tt
 where_told (Some x) P h = h x refl
@@ -123,7 +130,7 @@ next_was : (f : List (List ℕ)) (s : State) (k : Option (List ℕ)) (xs : List 
 next_was f s None xs state h = absurd h
 next_was f s (Some ys) xs state h = next_is (next_record default_config state [] [] xs) f s ys h
 
--- a refusal says nothing of the state after it
+-- a refusal allows any state after it
 refused_as : (first : Bool) (f : List (List ℕ)) (raw new other : Option Begun) (c : Cause)
     → Taking first f raw (let r : Result (Unit {0}) Cause = Err c in r) new → Taking first f raw (let r : Result (Unit {0}) Cause = Err c in r) other
 refused_as true f raw new other c h = h

@@ -1,8 +1,13 @@
 -- The rows of a pledge, put part by part.
-use Rattle.pawn_csv.proofs.Basics.{◌≡◌, ◌∙◌, ℕ, List, ◌++◌, Option, Some, sym, ap, subst, flat_map-append, share_more, share_puts, share_then, standing_at}
-use Rattle.pawn_csv.specs.Common.{BriefFields, End, Front, Host, IsSound, PledgeValue, Whole, brief_of, entries_of, extensions_of, flat_map, get, pledge_in}
-use Rattle.pawn_csv.specs.{Common.secrets_of, Sent.{PutsRow, PutsRowsShare, brief_columns, text_of_row}, Types.{Row, Sink}, Rows.{booking_csv_rows, entry_rows}}
-use Rattle.pawn_csv.{specs.Rows.{extension_rows, pledge_columns, pledge_csv_rows, secret_rows}, proofs.SentLemmas.rows_in_turn}
+use Rattle.pawn_csv.proofs.Basics.{◌≡◌, ◌∙◌, ℕ, List, ◌++◌, Option, Some, sym, ap, subst, flat_map-append, share_more}
+use Rattle.pawn_csv.proofs.Basics.{share_puts, share_then, reachable_at}
+use Rattle.pawn_csv.proofs.SentLemmas.{rows_in_turn}
+use Rattle.pawn_csv.specs.Common.{BriefFields, End, Front, Host, IsSound, PledgeValue, Whole, brief_of, entries_of}
+use Rattle.pawn_csv.specs.Common.{extensions_of, flat_map, get, pledge_in, secrets_of}
+use Rattle.pawn_csv.specs.Rows.{booking_csv_rows, entry_rows, extension_rows, pledge_columns, pledge_csv_rows}
+use Rattle.pawn_csv.specs.Rows.{secret_rows}
+use Rattle.pawn_csv.specs.Sent.{PutsRow, PutsRowsShare, brief_columns, text_of_row}
+use Rattle.pawn_csv.specs.Types.{Row, Sink}
 
 -- the parts of a pledge's text
 abbrev pub own_text : PledgeValue → List ℕ
@@ -41,7 +46,7 @@ pub record IsBriefAt (o : Option PledgeValue) (number : ℕ) (p : PledgeValue) (
 
 pub brief_at : (h : Host) (book number : ℕ) (p : PledgeValue) (brief : BriefFields) → IsSound h → pledge_in (get h.books book) number ≡ Some p
     → brief ≡ brief_of p → IsBriefAt (pledge_in (get h.books book) number) number p brief
-brief_at h book number p brief sound at is = record { at = at; number_is = (standing_at h book number p sound at).1; is = is }
+brief_at h book number p brief sound at is = record { at = at; number_is = (reachable_at h book number p sound at).1; is = is }
 
 whole_record : {W : Type 0} {contents : W → Option (List ℕ)} {a b : Sink W} {end : End} (o : Option PledgeValue) (number : ℕ) (p : PledgeValue)
     (brief : BriefFields) → IsBriefAt o number p brief

@@ -1,7 +1,11 @@
 -- The text of a book, read back.
-use Rattle.pawn_csv.{proofs.Basics.{◌≡◌, ◌++◌, ◌∷◌, [], List, refl, map, ℕ, None}, specs.Common.{BookRows, Reached, default_config, default_writer, escaped}}
-use Rattle.pawn_csv.specs.{Common.{fields_text, flat_map, is_blank, next_record, read_back, row_text, strip_bom, State}, Reading.{IsHeldBy, IsTextOf}}
-use Rattle.{pawn_csv.specs.{Types.{Row, Version}, Rows.{csv_of, header, row_fields, rows_of_csv}}, csv.proofs.RoundTrip.read-write}
+use Rattle.csv.proofs.RoundTrip.{read-write}
+use Rattle.pawn_csv.proofs.Basics.{◌≡◌, ◌++◌, ◌∷◌, [], List, refl, map, ℕ, None}
+use Rattle.pawn_csv.specs.Common.{BookRows, Reached, default_config, default_writer, escaped, fields_text, flat_map}
+use Rattle.pawn_csv.specs.Common.{is_blank, next_record, read_back, row_text, strip_bom, State}
+use Rattle.pawn_csv.specs.Reading.{IsHeldBy, IsTextOf}
+use Rattle.pawn_csv.specs.Rows.{csv_of, header, row_fields, rows_of_csv}
+use Rattle.pawn_csv.specs.Types.{Row, Version}
 
 -- a record of more than one column is read as it is
 row_back : (r : Row) → read_back (row_fields r) ≡ row_fields r

@@ -1,6 +1,9 @@
 -- Rows from their columns.
-use Rattle.pawn_csv.{proofs.Basics.{◌≡◌, ◌∙◌, ◌≤◌, ◌+◌, ℕ, zero, suc, List, [], ◌∷◌, length, ap, arith, drop, replicate}, specs.Spelling.AreBlankFrom}
-use Rattle.{pawn_csv.specs.{Spelling.column_at, Types.COLUMNS}, std.proofs.{lemmas.List.drop_all, Math.Seq.drop-cons}}
+use Rattle.pawn_csv.proofs.Basics.{◌≡◌, ◌∙◌, ◌≤◌, ◌+◌, ℕ, zero, suc, List, [], ◌∷◌, length, ap, arith, drop, replicate}
+use Rattle.pawn_csv.specs.Spelling.{AreBlankFrom, column_at}
+use Rattle.pawn_csv.specs.Types.{COLUMNS}
+use Rattle.std.proofs.Math.Seq.{drop-cons}
+use Rattle.std.proofs.lemmas.List.{drop_all}
 
 -- the columns from a place on are these
 abbrev pub Follow : List (List ℕ) → ℕ → List (List ℕ) → Type 0
@@ -16,7 +19,7 @@ left_are fs place (x ∷ xs) n follow = drop-cons fs place [] (omega (arith, n))
 pub columns_are : {fs xs : List (List ℕ)} → length fs ≡ length xs → Follow fs 0 xs → fs ≡ xs
 columns_are {fs = fs} {xs = xs} n follow = left_are fs 0 xs (omega (arith, n)) follow
 
--- so many columns from a place on are empty
+-- n columns from a place on are empty
 pub blank_follow : (fs : List (List ℕ)) (place n : ℕ) → AreBlankFrom place fs → place + n ≤ COLUMNS → Follow fs place (replicate n [])
 blank_follow fs place zero blank within = tt
 blank_follow fs place (suc n) blank within =

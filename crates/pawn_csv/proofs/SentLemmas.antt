@@ -1,5 +1,7 @@
 -- Rows put one after the other.
-use Rattle.pawn_csv.{proofs.Basics.{◌∙◌, ℕ, List, [], ◌++◌, Option, refl, ap, PutsInTurn}, specs.{Sent.{PutsRow, has_ended, seen}, Types.Sink}}
+use Rattle.pawn_csv.proofs.Basics.{◌∙◌, ℕ, List, [], ◌++◌, Option, refl, ap, PutsInTurn}
+use Rattle.pawn_csv.specs.Sent.{PutsRow, has_ended, seen}
+use Rattle.pawn_csv.specs.Types.{Sink}
 use Rattle.pawn_writing.specs.Ends as view
 use Rattle.pawn_writing.proofs.PutLemmas as put
 

@@ -1,13 +1,21 @@
 -- The rows of a book are taken to their end.
-use Rattle.pawn_csv.proofs.Basics.{◌≡◌, ◌∙◌, ◌+◌, ◌≤◌, ◌<◌, ℕ, Bool, true, false, List, [], ◌∷◌, ◌++◌, length, map, Option, Some, None, Result, Ok, Err, refl}
-use Rattle.pawn_csv.proofs.Basics.{sym, ap, subst, append_assoc, arith, cond, nat_lt, nat_le, ◌==◌, ◌&&◌, ◌||◌, not, and_from, append-nil, nat_tests}
-use Rattle.pawn_csv.specs.Common.{AreIssued, AreNumbered, AreNumberedFrom, AreReplayable, BookRows, Booking, Each, Entry, Extension, IsNumber, IsStanding}
-use Rattle.pawn_csv.specs.Common.{IsUnder, Issued, PledgeValue, Rates, flat_map, most_entries, most_extensions, most_pledges, most_secrets, most_terms}
-use Rattle.pawn_csv.specs.{Layout.{AreLaidFrom, IsLaidOut, IsWithin, LayoutsAreTaken, laid_rows, list_rows, raw_rows}, Order.{Begun, hand, has_secret}}
-use Rattle.pawn_csv.specs.Order.{in_order, is_nil, is_whole, may_end, on_hand, place, place_booking, place_entry, place_extension, place_secret, put_hand}
-use Rattle.pawn_csv.specs.{Order.{raw_pledge, run, then_run, unless_full}, Types.{Cause, PledgeColumns, RawPledge, Row, Version}, Finishing.{IsBegunOf, raw_of}}
-use Rattle.pawn_csv.specs.{Rows.{Knows, booking_csv_rows, entry_rows, extension_rows, rows_of_csv, secret_rows, terms_rows, version_rows}, Laws.TextsAreReadAs}
-use Rattle.{pawn_csv.proofs.BookLemmas.{flat_map-raw, length-raw}, pawn_base.proofs.TestLemmas.equal}
+use Rattle.pawn_base.proofs.TestLemmas.{equal}
+use Rattle.pawn_csv.proofs.Basics.{◌≡◌, ◌∙◌, ◌+◌, ◌≤◌, ◌<◌, ℕ, Bool, true, false, List, [], ◌∷◌, ◌++◌, length, map}
+use Rattle.pawn_csv.proofs.Basics.{Option, Some, None, Result, Ok, Err, refl, sym, ap, subst, append_assoc, arith, cond}
+use Rattle.pawn_csv.proofs.Basics.{nat_lt, nat_le, ◌==◌, ◌&&◌, ◌||◌, not, and_from, append-nil, nat_tests}
+use Rattle.pawn_csv.proofs.BookLemmas.{flat_map-raw, length-raw}
+use Rattle.pawn_csv.specs.Common.{AreIssued, AreNumbered, AreNumberedFrom, AreReplayable, BookRows, Booking, Each}
+use Rattle.pawn_csv.specs.Common.{Entry, Extension, IsNumber, IsReachable, IsUnder, Issued, PledgeValue, Rates}
+use Rattle.pawn_csv.specs.Common.{flat_map, most_entries, most_extensions, most_pledges, most_secrets, most_terms}
+use Rattle.pawn_csv.specs.Finishing.{IsBegunOf, raw_of}
+use Rattle.pawn_csv.specs.Laws.{TextsAreReadAs}
+use Rattle.pawn_csv.specs.Layout.{AreLaidFrom, IsLaidOut, IsWithin, LayoutsAreTaken, laid_rows, list_rows, raw_rows}
+use Rattle.pawn_csv.specs.Order.{Begun, hand, has_secret, in_order, is_nil, is_whole, may_end, on_hand, place}
+use Rattle.pawn_csv.specs.Order.{place_booking, place_entry, place_extension, place_secret, put_hand, raw_pledge, run}
+use Rattle.pawn_csv.specs.Order.{then_run, unless_full}
+use Rattle.pawn_csv.specs.Rows.{Knows, booking_csv_rows, entry_rows, extension_rows, rows_of_csv, secret_rows}
+use Rattle.pawn_csv.specs.Rows.{terms_rows, version_rows}
+use Rattle.pawn_csv.specs.Types.{Cause, PledgeColumns, RawPledge, Row, Version}
 
 -- ---- tests that hold, and rows one after the other
 
@@ -213,7 +221,7 @@ run_pledges v m n k terms done at_hand (p ∷ ps) all over at due laid =
     follows_first v m n terms done at_hand p ps here
     (run_pledges v m n (k + 1) terms (done ++ hand at_hand) (Some p) ps all laid.1 (omega (arith, at, more)) (omega (arith, due, more)) laid.3)
 
-are_raw : (ps : List PledgeValue) → Each IsStanding ps → Each (λ p. IsNumber p.agreement.number) ps
+are_raw : (ps : List PledgeValue) → Each IsReachable ps → Each (λ p. IsNumber p.agreement.number) ps
 are_raw [] h = tt
 are_raw (p ∷ ps) h = (h.0.within.number, are_raw ps h.1)
 
@@ -239,13 +247,13 @@ layouts_are_taken v terms pledges laid =
       same,
     )
 
--- ---- the rows of a book that can have come about
+-- ---- the rows of a replayable book
 
 begins_with : (is : List Issued) → has_first is → not (is_nil is) ≡ true
 begins_with [] h = absurd h
 begins_with (i ∷ is) h = refl
 
-laid_from : (v : Version) (k : ℕ) (ps : List PledgeValue) → AreNumberedFrom k ps → Each IsStanding ps → (v ≡ Version.One → Each (λ p. p.extensions ≡ []) ps)
+laid_from : (v : Version) (k : ℕ) (ps : List PledgeValue) → AreNumberedFrom k ps → Each IsReachable ps → (v ≡ Version.One → Each (λ p. p.extensions ≡ []) ps)
     → AreLaidFrom k v (map raw_of ps)
 laid_from v k [] numbered stand known = tt
 laid_from v k (p ∷ ps) numbered stand known = (
@@ -269,7 +277,7 @@ laid_book : (v : Version) (k : BookRows) → AreReplayable k.terms k.pledges →
 laid_book v k replayable knows = record {
   few_terms = replayable.few_terms;
   few_pledges = (let count = length-raw k.pledges in let few = replayable.few_pledges in omega (arith, count, few));
-  laid = laid_from v 1 k.pledges replayable.numbered replayable.standing (plain v k knows);
+  laid = laid_from v 1 k.pledges replayable.numbered replayable.reachable (plain v k knows);
 }
 
 -- its rows are laid out
@@ -286,7 +294,7 @@ run_book v k replayable knows =
       b,
       ap (run None) (sym (book_rows_are v k)) ∙ ran,
       whole,
-      (terms, (pledges, subst (λ (ts : List Rates). Each (IsUnder ts) k.pledges) (sym terms) replayable.under, are_raw k.pledges replayable.standing)),
+      (terms, (pledges, subst (λ (ts : List Rates). Each (IsUnder ts) k.pledges) (sym terms) replayable.under, are_raw k.pledges replayable.reachable)),
     )
 
 -- the records of a text that holds a book are taken to their end, and make that book

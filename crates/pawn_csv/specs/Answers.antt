@@ -1,8 +1,9 @@
--- How calls of the code answer, compared with what the order of rows says.
+-- How the answers of the code compare with those of the specification of the order of rows.
+use Rattle.pawn_csv.specs.Order.{Begun}
+use Rattle.pawn_csv.specs.Types.{Cause}
 use Rattle.std.specs.Prelude.{◌≡◌, Option, Some, Result, Ok, Err}
-use Rattle.pawn_csv.specs.{Types.Cause, Order.Begun}
 
--- a refusal is the expected one, unless memory was refused
+-- a refusal is the expected one, unless memory ran out
 abbrev pub Fails : {A : Type 0} → Result A Cause → Cause → Type 0
 Fails said Cause.Memory = Unit {0}
 Fails said e = said ≡ Err e
@@ -12,7 +13,7 @@ abbrev pub Places : {A U : Type 0} → Result A Cause → Result U Cause → A �
 Places said (Ok u) new = said ≡ Ok new
 Places said (Err e) new = Fails said e
 
--- a call gives the expected value, seen in another form
+-- a call returns the expected value, seen in another form
 abbrev pub GivesAs : {A B : Type 0} → (A → B) → Result B Cause → Result A Cause → Type 0
 GivesAs view said (Ok value) = said ≡ Ok (view value)
 GivesAs view said (Err e) = Fails said e

@@ -1,7 +1,8 @@
--- The faults of a text that is no book.
-use Rattle.{std.specs.Prelude.{ℕ, List, codes}, pawn_csv.specs.Types.Cause}
+-- The codes and names of the faults of a text that is not a book.
+use Rattle.pawn_csv.specs.Types.{Cause}
+use Rattle.std.specs.Prelude.{ℕ, List, codes}
 
--- a fault's number and its name
+-- a fault's code and its name
 abbrev pub cause_row : Cause → ℕ × List ℕ
 cause_row Cause.Csv = (601, codes "Csv")
 cause_row Cause.Columns = (602, codes "Columns")

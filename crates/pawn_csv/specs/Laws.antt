@@ -1,9 +1,11 @@
--- Laws of texts and of their rows.
+-- Laws of books' texts and of their rows.
+use Rattle.pawn_csv.specs.Common.{BookRows, BookValue, Host, IsSound, get, rows_of_book, strip_bom}
+use Rattle.pawn_csv.specs.Reading.{CanBeWritten, IsFirstCause, IsHeldBy, IsReadAs, IsTextOf}
+use Rattle.pawn_csv.specs.Rows.{FitsColumns, Knows, csv_of, row_fields}
+use Rattle.pawn_csv.specs.Types.{Cause, Row, Version}
 use Rattle.std.specs.Prelude.{◌≡◌, ◌≢◌, ℕ, List, Some}
-use Rattle.pawn_csv.specs.{Common.{BookRows, BookValue, Host, IsSound, get, rows_of_book, strip_bom}, Types.{Cause, Row, Version}, Reading.CanBeWritten}
-use Rattle.pawn_csv.specs.{Reading.{IsFirstCause, IsHeldBy, IsReadAs, IsTextOf}, Rows.{FitsColumns, Knows, csv_of, row_fields}}
 
--- a book that can be written is one that a text can hold, in each version that has rows for all that it has
+-- a book that can be written is one that a text can hold, in each version whose rows can express all of the book
 abbrev pub BooksAreHeld : Type 0
 BooksAreHeld = (version : Version) (k : BookRows) → CanBeWritten k → Knows version k → IsHeldBy version k
 
@@ -17,7 +19,7 @@ TextsOfHostsAreRead =
     (h : Host) (b : ℕ) (book : BookValue) → IsSound h → get h.books b ≡ Some book
     → IsTextOf (strip_bom (csv_of (rows_of_book book))) (rows_of_book book)
 
--- the records of a text that holds a book are taken to their end, and make that book
+-- the records of a text that holds a book are accepted to their end, and make that book
 abbrev pub TextsAreReadAs : Type 0
 TextsAreReadAs = (text : List ℕ) (k : BookRows) → IsTextOf text k → IsReadAs text k
 

@@ -1,10 +1,14 @@
--- The order of rows: what each row does to what was read so far.
-use Rattle.std.specs.Prelude.{ℕ, ◌+◌, nat_le, nat_lt, Bool, true, false, ◌==◌, ◌&&◌, ◌||◌, not, if◌then◌else◌, List, [], ◌∷◌, ◌++◌, length, Option, None, Some}
-use Rattle.std.specs.Prelude.{Result, Ok, Err}
-use Rattle.pawn_csv.specs.Common.{Booking, Entry, Extension, Issued, Rates, most_entries, most_extensions, most_pledges, most_secrets, most_terms}
-use Rattle.pawn_csv.specs.{declared.order.{BegunBook.BegunBook, RawBook.RawBook}, Types.{Cause, PledgeColumns, RawPledge, Row, Version}}
+-- The order of rows: the effect of each row on what was read so far.
+use Rattle.pawn_csv.specs.Common.{Booking, Entry, Extension, Issued, Rates, most_entries, most_extensions, most_pledges}
+use Rattle.pawn_csv.specs.Common.{most_secrets, most_terms}
+use Rattle.pawn_csv.specs.Types.{Cause, PledgeColumns, RawPledge, Row, Version}
+use Rattle.pawn_csv.specs.declared.order.BegunBook.{BegunBook}
+use Rattle.pawn_csv.specs.declared.order.RawBook.{RawBook}
+use Rattle.std.specs.Prelude.{ℕ, ◌+◌, nat_le, nat_lt, Bool, true, false, ◌==◌, ◌&&◌, ◌||◌, not, if◌then◌else◌, List, []}
+use Rattle.std.specs.Prelude.{◌∷◌, ◌++◌, length, Option, None, Some, Result, Ok, Err}
 
--- a book of which some rows were read: what its first row says, its terms, the pledges whose rows are over, and the one at hand
+-- a book of which some rows were read: the counts of its first row, its terms, the complete pledges, and the one at
+-- hand
 pub record Begun : Type 0 where
   pub version : Version
   pub terms_due : ℕ
@@ -35,11 +39,11 @@ begun_of raw = view_if_any raw.begun
 abbrev pub in_order : {A : Type 0} → Bool → A → Result A Cause
 in_order test answer = if test then Ok answer else Err Cause.Order
 
--- a full list can't grow; this is judged before anything else of the row
+-- a full list can't grow; this is checked before anything else of the row
 abbrev pub unless_full : {A : Type 0} → ℕ → ℕ → Result A Cause → Result A Cause
 unless_full count most answer = if nat_le most count then Err Cause.TooMany else answer
 
--- a pledge whose own row was read
+-- a pledge of which only its own row was read
 abbrev pub raw_pledge : PledgeColumns → RawPledge
 raw_pledge columns = record { columns = columns; secrets = []; entries = []; extensions = []; booking = None }
 
@@ -48,7 +52,7 @@ abbrev pub hand : Option RawPledge → List RawPledge
 hand None = []
 hand (Some p) = p ∷ []
 
--- the pledges so far
+-- the pledges begun so far
 abbrev pub pledges_begun : Begun → List RawPledge
 pledges_begun b = b.pledges ++ hand b.at_hand
 
@@ -60,32 +64,33 @@ abbrev pub is_nil : {A : Type 0} → List A → Bool
 is_nil [] = true
 is_nil (x ∷ xs) = false
 
--- a pledge has a secret, of which the first is that of its opening
+-- the pledge has a secret (its first secret is that of its opening)
 abbrev pub has_secret : RawPledge → Bool
 has_secret p = not (is_nil p.secrets)
 
--- the pledge at hand, if any, may have no further rows
+-- the pledge at hand, if any, needs no further rows
 abbrev pub may_end : Option RawPledge → Bool
 may_end None = true
 may_end (Some p) = has_secret p
 
--- the first row comes once
+-- the first row occurs once
 abbrev pub place_first : Option Begun → Version → ℕ → ℕ → Result Begun Cause
 place_first None version terms pledges =
     Ok (record { version = version; terms_due = terms; pledges_due = pledges; terms = []; pledges = []; at_hand = None })
 place_first (Some b) version terms pledges = Err Cause.Order
 
+-- the first row, whose counts are checked against the limits
 abbrev pub place_book : Option Begun → Version → ℕ → ℕ → Result Begun Cause
 place_book s version terms pledges =
     if nat_lt most_terms terms || nat_lt most_pledges pledges then Err Cause.TooMany else place_first s version terms pledges
 
--- the next version of terms, as long as some are due; the pledges come after all of them
+-- the next version of terms, while the first row states more of them; pledges come after all versions of terms
 abbrev pub place_terms : Begun → ℕ → Rates → Result Begun Cause
 place_terms b version rates =
     in_order ((version == length b.terms + 1) && nat_le version b.terms_due && (length (pledges_begun b) == 0))
     (record b { terms = b.terms ++ rates ∷ [] })
 
--- the next pledge, as long as some are due and the one before it may end
+-- the next pledge, while the first row states more of them and the pledge before it needs no further rows
 abbrev pub place_pledge : Begun → PledgeColumns → Result Begun Cause
 place_pledge b columns =
     in_order ((length b.terms == b.terms_due) && may_end b.at_hand && (columns.number == length (pledges_begun b) + 1) && nat_le columns.number b.pledges_due)
@@ -116,17 +121,17 @@ place_extension p place extension =
 abbrev pub place_booking : RawPledge → Booking → Result RawPledge Cause
 place_booking p booking = in_order (has_secret p && is_none p.booking) (record p { booking = Some booking })
 
--- the pledge at hand, as it now is
+-- the begun book with the pledge at hand replaced
 abbrev pub put_hand : Begun → Result RawPledge Cause → Result Begun Cause
 put_hand b (Ok p) = Ok (record b { at_hand = Some p })
 put_hand b (Err e) = Err e
 
--- a row of the pledge at hand, and of no other
+-- a row must belong to the pledge at hand
 abbrev pub on_hand : Begun → ℕ → Option RawPledge → (RawPledge → Result RawPledge Cause) → Result Begun Cause
 on_hand b number None place = Err Cause.Order
 on_hand b number (Some p) place = if p.columns.number == number then put_hand b (place p) else Err Cause.Order
 
--- an extension is refused in a text of the first version
+-- an extension is refused in a text of version 1
 abbrev pub on_second : Version → Result Begun Cause → Result Begun Cause
 on_second Version.One answer = Err Cause.BadField
 on_second Version.Two answer = answer
@@ -147,21 +152,22 @@ abbrev pub place_before : Row → Result Begun Cause
 place_before (Row.Book version terms pledges) = place_book None version terms pledges
 place_before other = Err Cause.Order
 
--- what a row does to what was read so far
+-- the effect of a row on what was read so far
 abbrev pub place : Option Begun → Row → Result Begun Cause
 place None row = place_before row
 place (Some b) row = place_after b row
 
--- what rows do, one after another, until one is refused
+-- go on after a row, unless it was refused
 abbrev pub then_run : Result Begun Cause → (Option Begun → Result (Option Begun) Cause) → Result (Option Begun) Cause
 then_run (Ok b) more = more (Some b)
 then_run (Err e) more = Err e
 
+-- the effect of rows on what was read so far, or the cause of the first row that is refused
 abbrev pub run : Option Begun → List Row → Result (Option Begun) Cause
 run s [] = Ok s
 run s (r ∷ rs) = then_run (place s r) (λ t. run t rs)
 
--- all that the first row says is there, and the last pledge may end
+-- all that the first row states was read, and the last pledge needs no further rows
 abbrev pub is_whole : Option Begun → Bool
 is_whole None = false
 is_whole (Some b) = (length b.terms == b.terms_due) && (length (pledges_begun b) == b.pledges_due) && may_end b.at_hand

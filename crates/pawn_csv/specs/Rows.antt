@@ -1,9 +1,13 @@
 -- A book as rows, and a row as columns.
-use Rattle.std.specs.Prelude.{◌≡◌, ℕ, ◌+◌, ◌-◌, ◌<◌, List, [], ◌∷◌, ◌++◌, length, map, replicate, Option, Some, None, IfSome, codes, decimal}
-use Rattle.{pawn_pledge.specs.declared.record.Agreement.Agreement, pawn_csv.specs.Common.{BookRows, Booking, Closing, Each, Entry, Extension, IsOpening}}
-use Rattle.pawn_csv.specs.Common.{IsUtf8, IsWord, Issued, PledgeValue, Rates, Standing, credit_of, default_writer, flat_map, row_text, secret_text, sort_text}
-use Rattle.pawn_csv.specs.{Common.state_text, Columns.{form_text, yes_text, kind_text, closing_text, issue_text, text_if_any}, Types.{COLUMNS, ClosingWord}}
-use Rattle.{pawn_csv.specs.Types.{NUMBERS_END, PledgeColumns, Row, Version}, pawn_terms.specs.Calendar.{IsStampDay, day_text}}
+use Rattle.pawn_csv.specs.Columns.{form_text, yes_text, kind_text, closing_text, issue_text, text_if_any}
+use Rattle.pawn_csv.specs.Common.{BookRows, Booking, Closing, Each, Entry, Extension, IsOpening, IsUtf8, IsWord, Issued}
+use Rattle.pawn_csv.specs.Common.{PledgeValue, Rates, Standing, credit_of, default_writer, flat_map, row_text}
+use Rattle.pawn_csv.specs.Common.{secret_text, sort_text, state_text}
+use Rattle.pawn_csv.specs.Types.{COLUMNS, ClosingWord, NUMBERS_END, PledgeColumns, Row, Version}
+use Rattle.pawn_pledge.specs.declared.record.Agreement.{Agreement}
+use Rattle.pawn_terms.specs.Calendar.{IsStampDay, day_text}
+use Rattle.std.specs.Prelude.{◌≡◌, ℕ, ◌+◌, ◌-◌, ◌<◌, List, [], ◌∷◌, ◌++◌, length, map, replicate, Option, Some, None}
+use Rattle.std.specs.Prelude.{IfSome, codes, decimal}
 
 -- the first row: the names of the columns
 abbrev pub header : List (List ℕ)
@@ -11,7 +15,7 @@ header =
     codes "row" ∷ codes "c1" ∷ codes "c2" ∷ codes "c3" ∷ codes "c4" ∷ codes "c5" ∷ codes "c6" ∷ codes "c7" ∷ codes "c8"
     ∷ codes "c9" ∷ codes "c10" ∷ codes "c11" ∷ codes "c12" ∷ codes "c13" ∷ codes "c14" ∷ []
 
--- so many empty columns
+-- this many empty columns
 abbrev pub empty_columns : ℕ → List (List ℕ)
 empty_columns n = replicate n []
 
@@ -19,6 +23,7 @@ empty_columns n = replicate n []
 abbrev pub padded : List (List ℕ) → List (List ℕ)
 padded columns = columns ++ empty_columns (COLUMNS - length columns)
 
+-- the columns of a pledge's own row
 abbrev pub pledge_fields : PledgeColumns → List (List ℕ)
 pledge_fields c =
     codes "P" ∷ decimal c.number ∷ c.opening.reference ∷ c.opening.article
@@ -45,7 +50,7 @@ row_fields (Row.Booking number b) =
 abbrev pub IsColumnNumber : ℕ → Type 0
 IsColumnNumber n = n < NUMBERS_END
 
--- the limits of each column of a pledge's own row, taken by itself
+-- the limits of each column of a pledge's own row, each column taken by itself
 pub record AreColumns (c : PledgeColumns) : Type 0 where
   pub number : IsColumnNumber c.number
   pub opening : IsOpening c.opening
@@ -58,7 +63,7 @@ pub record AreColumns (c : PledgeColumns) : Type 0 where
   pub closing_day : IfSome c.closing_day IsStampDay
   pub amount : IfSome c.amount IsColumnNumber
 
--- the limits of each column of a row, taken by itself
+-- the limits of each column of a row, each column taken by itself
 abbrev pub FitsColumns : Row → Type 0
 FitsColumns (Row.Book version terms pledges) = IsColumnNumber terms × IsColumnNumber pledges
 FitsColumns (Row.Terms version rates) = IsColumnNumber version × IsColumnNumber rates.rate × IsColumnNumber rates.keep_before × IsColumnNumber rates.keep_after
@@ -68,23 +73,25 @@ FitsColumns (Row.Entry number e) = IsColumnNumber number × IsColumnNumber e.seq
 FitsColumns (Row.Extension number place e) = IsColumnNumber number × IsColumnNumber place × IsStampDay e.day × IsStampDay e.until
 FitsColumns (Row.Booking number b) = IsColumnNumber number × IsStampDay b.day × IsColumnNumber b.window
 
+-- the word that states a closing
 abbrev pub closing_word : Closing → ClosingWord
 closing_word Closing.Open = ClosingWord.Open
 closing_word (Closing.Redeemed day paid) = ClosingWord.Redeemed
 closing_word (Closing.Sold day net) = ClosingWord.Sold
 
+-- the day of a closing, if there was one
 abbrev pub closing_day : Closing → Option ℕ
 closing_day Closing.Open = None
 closing_day (Closing.Redeemed day paid) = Some day
 closing_day (Closing.Sold day net) = Some day
 
--- what was paid, or what a sale brought
+-- the sum that was paid, or the net proceeds of the sale
 abbrev pub closing_amount : Closing → Option ℕ
 closing_amount Closing.Open = None
 closing_amount (Closing.Redeemed day paid) = Some paid
 closing_amount (Closing.Sold day net) = Some net
 
--- the columns of a pledge's own row, from what was agreed and how it stands
+-- the columns of a pledge's own row, from what was agreed and its present state
 abbrev pub own_columns : Agreement → Standing → PledgeColumns
 own_columns a s = record {
   number = a.number;
@@ -112,6 +119,7 @@ abbrev pub secret_rows : ℕ → ℕ → List Issued → List Row
 secret_rows number place [] = []
 secret_rows number place (i ∷ is) = Row.Secret number place i ∷ secret_rows number (place + 1) is
 
+-- the rows of a pledge's entries
 abbrev pub entry_rows : ℕ → List Entry → List Row
 entry_rows number entries = map (Row.Entry number) entries
 
@@ -120,6 +128,7 @@ abbrev pub extension_rows : ℕ → ℕ → List Extension → List Row
 extension_rows number place [] = []
 extension_rows number place (e ∷ es) = Row.Extension number place e ∷ extension_rows number (place + 1) es
 
+-- the row of a pledge's booking, if there is one
 abbrev pub booking_csv_rows : ℕ → Option Booking → List Row
 booking_csv_rows number None = []
 booking_csv_rows number (Some b) = Row.Booking number b ∷ []
@@ -152,7 +161,7 @@ csv1_rows k = version_rows Version.One k
 abbrev pub csv_of : BookRows → List ℕ
 csv_of k = flat_map (row_text default_writer) (csv_rows k)
 
--- only the second version has rows for extensions
+-- only version 2 has rows for extensions
 abbrev pub Knows : Version → BookRows → Type 0
 Knows Version.One k = Each (λ p. p.extensions ≡ []) k.pledges
 Knows Version.Two k = Unit {0}

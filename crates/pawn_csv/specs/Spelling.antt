@@ -1,14 +1,19 @@
--- What it means to read a column.
+-- When a column is read as a value.
+use Rattle.pawn_base.specs.Text.{IsText}
+use Rattle.pawn_csv.specs.Columns.{kind_text, text_if_any, yes_text}
+use Rattle.pawn_csv.specs.Common.{IsOpening, IsUtf8, Opening, credit_of}
+use Rattle.pawn_csv.specs.Rows.{IsColumnNumber}
+use Rattle.pawn_csv.specs.Types.{COLUMNS}
+use Rattle.pawn_terms.specs.Calendar.{IsStampDay, day_text}
 use Rattle.std.specs.Prelude.{◌≡◌, ℕ, ◌≤◌, ◌<◌, List, [], Option, None, Some, IfSome, decimal, get_or}
-use Rattle.pawn_csv.specs.{Common.{IsOpening, IsUtf8, Opening, credit_of}, Columns.{kind_text, text_if_any, yes_text}, Types.COLUMNS, Rows.IsColumnNumber}
-use Rattle.{pawn_terms.specs.Calendar.{IsStampDay, day_text}, pawn_base.specs.Text.IsText}
 
--- what a spelling reads as: the value that is spelled so and keeps its rule, or none if there is no such value
+-- the result of reading a column: the value that is spelled like this and satisfies its rule, or `None` if there is no
+-- such value
 abbrev pub ReadsAs : {A B : Type 0} → (A → B) → (A → Type 0) → B → Option A → Type 0
 ReadsAs text Keeps spelled (Some x) = Keeps x × (spelled ≡ text x)
 ReadsAs text Keeps spelled None = (x : _) → Keeps x → spelled ≡ text x → ⊥
 
--- the column at a place, from 0; empty past the last
+-- the column at a place, counted from 0; empty after the last
 abbrev pub column_at : List (List ℕ) → ℕ → List ℕ
 column_at fields place = get_or fields place []
 
@@ -16,7 +21,7 @@ column_at fields place = get_or fields place []
 abbrev pub AreBlankFrom : ℕ → List (List ℕ) → Type 0
 AreBlankFrom first fields = (place : ℕ) → first ≤ place → place < COLUMNS → column_at fields place ≡ []
 
--- a text of 1 to so many bytes, in UTF-8
+-- a text of 1 to `most` bytes, in UTF-8
 abbrev pub IsTextColumn : ℕ → List ℕ → Type 0
 IsTextColumn most text = IsText most text × IsUtf8 text
 

@@ -1,3 +1,10 @@
--- This crate's own declared types, handed on from one place.
-pub use Rattle.pawn_csv.specs.declared.{exporting.RowWriter.RowWriter, fault.Cause.Cause, order.RawPledge.RawPledge, row.ClosingWord.ClosingWord}
-pub use Rattle.pawn_csv.specs.declared.{row.{PledgeColumns.PledgeColumns, Row.Row, TheConstants.{COLUMNS, NUMBERS_END}, Version.Version}, writing.Sink.Sink}
+-- Re-exports the declared types of this crate.
+pub use Rattle.pawn_csv.specs.declared.exporting.RowWriter.{RowWriter}
+pub use Rattle.pawn_csv.specs.declared.fault.Cause.{Cause}
+pub use Rattle.pawn_csv.specs.declared.order.RawPledge.{RawPledge}
+pub use Rattle.pawn_csv.specs.declared.row.ClosingWord.{ClosingWord}
+pub use Rattle.pawn_csv.specs.declared.row.PledgeColumns.{PledgeColumns}
+pub use Rattle.pawn_csv.specs.declared.row.Row.{Row}
+pub use Rattle.pawn_csv.specs.declared.row.TheConstants.{COLUMNS, NUMBERS_END}
+pub use Rattle.pawn_csv.specs.declared.row.Version.{Version}
+pub use Rattle.pawn_csv.specs.declared.writing.Sink.{Sink}

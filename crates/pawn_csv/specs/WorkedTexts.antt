@@ -1,10 +1,15 @@
--- Examples of rows, worked out: which are taken, and for which cause others are refused.
+-- Worked examples of rows: which are accepted, and for which cause others are refused.
+use Rattle.pawn_csv.specs.Common.{BookRows, Issue, PledgeValue, default_writer, row_text}
+use Rattle.pawn_csv.specs.Order.{Begun, is_whole, run}
+use Rattle.pawn_csv.specs.Rows.{pledge_columns, csv1_rows, row_fields, rows_of_csv}
+use Rattle.pawn_csv.specs.Types.{Cause, NUMBERS_END, Row, Version}
+use Rattle.pawn_debt.specs.Worked.{free}
+use Rattle.pawn_pledge.specs.Worked.{ring}
+use Rattle.pawn_pledge.specs.declared.record.BookingState.TheVariants.{Asked}
+use Rattle.pawn_terms.specs.Worked.{date}
 use Rattle.std.specs.Prelude.{◌≡◌, Bool, true, false, ℕ, List, [], ◌∷◌, map, Option, None, Some, Result, Ok, Err, codes}
-use Rattle.pawn_csv.specs.{Common.{BookRows, Issue, PledgeValue, default_writer, row_text}, Types.{Cause, NUMBERS_END, Row, Version}, Order.{Begun, is_whole}}
-use Rattle.{pawn_csv.specs.{Order.run, Rows.{pledge_columns, csv1_rows, row_fields, rows_of_csv}}, pawn_terms.specs.Worked.date, pawn_debt.specs.Worked.free}
-use Rattle.pawn_pledge.specs.{Worked.ring, declared.record.BookingState.TheVariants.Asked}
 
--- a ring whose period was made longer
+-- a ring whose period was extended
 abbrev pub extended_ring : PledgeValue
 extended_ring =
     let p = ring 10000 in
@@ -36,7 +41,7 @@ abbrev pub ended : Result (Option Begun) Cause → Result Bool Cause
 ended (Ok s) = Ok (is_whole s)
 ended (Err e) = Err e
 
--- what rows come to: the cause of the first that is refused, or else whether they may end there
+-- the result of rows: the cause of the first that is refused, or otherwise whether the text may end there
 abbrev pub comes_to : List Row → Result Bool Cause
 comes_to rows = ended (run None rows)
 
@@ -65,20 +70,20 @@ pub record WorkedRowTexts : Type 0 where
       ∷ []
   -- a column with a comma or a quote is quoted
   pub quoted : row_text default_writer (codes "a,b" ∷ codes "\"" ∷ []) ≡ codes "\"a,b\",\"\"\"\"\n"
-  -- the rows of a book may end
+  -- the rows of a book may end there
   pub declared : comes_to (rows_of_csv Version.One declared_book) ≡ Ok true
   pub unbooked : comes_to (rows_of_csv Version.One
       (record { terms = free ∷ []; pledges = record ring_tendered { standing = record ring_tendered.standing { booking = None } } ∷ [] })) ≡ Ok true
   pub whole : comes_to (rows_of_csv Version.Two ring_book) ≡ Ok true
   pub extended : comes_to (rows_of_csv Version.Two extended_book) ≡ Ok true
-  -- the first version has no extensions
+  -- version 1 has no extensions
   pub first_version : comes_to (rows_of_csv Version.One extended_book) ≡ Err Cause.BadField
   -- no row at all, and rows of which one is missing
   pub empty : comes_to [] ≡ Ok false
   pub wanting : comes_to (Row.Book Version.Two 1 1 ∷ Row.Terms 1 free ∷ []) ≡ Ok false
-  -- counts above the limits are judged before the order of the row
+  -- counts above the limits are checked before the order of the row
   pub counts : comes_to (Row.Book Version.Two 0 0 ∷ Row.Book Version.Two 100 0 ∷ []) ≡ Err Cause.TooMany
   pub twice : comes_to (Row.Book Version.Two 0 0 ∷ Row.Book Version.Two 0 0 ∷ []) ≡ Err Cause.Order
-  -- a gap in the versions of terms, and one version more than the first row says
+  -- a gap in the versions of terms, and one more version than the first row states
   pub gap : comes_to (Row.Book Version.Two 2 0 ∷ Row.Terms 2 free ∷ []) ≡ Err Cause.Order
   pub more : comes_to (Row.Book Version.Two 1 0 ∷ Row.Terms 1 free ∷ Row.Terms 2 free ∷ []) ≡ Err Cause.Order

@@ -1,8 +1,11 @@
-//! Reading one column.
+//! Reads single columns: numbers, days, secrets, texts and words. A malformed column reads as `None`.
+ghost use Rattle.pawn_csv.specs.Columns.{IsAny, closing_text, form_text, issue_text, kind_text, text_if_any, yes_text};
+ghost use Rattle.pawn_csv.specs.Common.{IsWord, credit_of, fields_of, secret_text, sort_text, state_text};
+ghost use Rattle.pawn_csv.specs.Rows.{IsColumnNumber};
+ghost use Rattle.pawn_csv.specs.Spelling.{AreBlankFrom, IsColumnNumberIfAny, IsStampDayIfAny, IsTextColumn, ReadsAs};
+ghost use Rattle.pawn_csv.specs.Spelling.{column_at};
+ghost use Rattle.pawn_terms.specs.Calendar.{IsStampDay, day_text};
 ghost use Rattle.std.specs.Prelude.{◌≡◌, ℕ, ◌↔◌, List, IfOk, IfNone, IfSome, IsTrue, decimal};
-ghost use Rattle.{pawn_terms.specs.Calendar.{IsStampDay, day_text}, pawn_csv.specs.Common.{IsWord, credit_of, fields_of, secret_text, sort_text, state_text}};
-ghost use Rattle.pawn_csv.specs.{Spelling.{AreBlankFrom, IsColumnNumberIfAny, IsStampDayIfAny, IsTextColumn, ReadsAs, column_at}, Columns.IsAny};
-ghost use Rattle.pawn_csv.specs.{Columns.{closing_text, form_text, issue_text, kind_text, text_if_any, yes_text}, Rows.IsColumnNumber};
 
 use crate::row::{COLUMNS, ClosingWord, NUMBERS_END, Version};
 use csv::ByteRecord;
@@ -11,7 +14,7 @@ use pawn_book::{BookingState, Day, Issue, Kind, RequestDay, Secret, Sort, Text};
 use std::alloc::{AllocError, Global};
 use uuid::Uuid;
 
-// The column at a place, from 0; empty past the last.
+/// Returns the column at a place, counted from 0. After the last column it returns an empty one.
 pub(crate) fn column(columns: &ByteRecord, place: usize) -> &[u8]
     ensures value { result.now ≡ column_at (fields_of columns.now) place }
 {
@@ -21,7 +24,7 @@ pub(crate) fn column(columns: &ByteRecord, place: usize) -> &[u8]
     }
 }
 
-// The number that a column spells: decimal, at most 12 digits, in its only spelling.
+/// Reads a number: decimal, at most 12 digits, without a sign or leading zeros.
 pub(crate) fn read_number(field: &[u8]) -> Option<u64>
     ensures value { ReadsAs decimal IsColumnNumber field.now result }
 {
@@ -42,7 +45,7 @@ pub(crate) fn read_number(field: &[u8]) -> Option<u64>
     }
 }
 
-// The day that a column spells, as `2024-01-31`.
+/// Reads a day, such as `2024-01-31`.
 pub(crate) fn read_day(field: &[u8]) -> Option<Day>
     ensures value { ReadsAs day_text IsStampDay field.now result }
 {
@@ -52,7 +55,7 @@ pub(crate) fn read_day(field: &[u8]) -> Option<Day>
     }
 }
 
-// The secret that a column spells, hyphenated and with small letters.
+/// Reads a secret, hyphenated and in lower case.
 pub(crate) fn read_secret(field: &[u8]) -> Option<Secret>
     ensures value { ReadsAs secret_text IsWord field.now result }
 {
@@ -70,7 +73,7 @@ pub(crate) fn read_secret(field: &[u8]) -> Option<Secret>
     }
 }
 
-// The version of the text's form that a column spells.
+/// Reads the version of the text's form.
 pub(crate) fn read_version(field: &[u8]) -> Option<Version>
     ensures value { ReadsAs form_text IsAny field.now result }
 {
@@ -81,14 +84,14 @@ pub(crate) fn read_version(field: &[u8]) -> Option<Version>
     }
 }
 
-// Whether a column is this word.
+/// Returns whether a column is this word.
 fn is_word(field: &[u8], word: &[u8]) -> bool
     ensures answer { IsTrue result ↔ (field.now ≡ word.now) }
 {
     field == word
 }
 
-// True for `yes`, false for `no`.
+/// Reads a flag: `yes` is true and `no` is false.
 pub(crate) fn read_yes(field: &[u8]) -> Option<bool>
     ensures value { ReadsAs yes_text IsAny field.now result }
 {
@@ -99,7 +102,7 @@ pub(crate) fn read_yes(field: &[u8]) -> Option<bool>
     }
 }
 
-// `open`, `redeemed` or `sold`.
+/// Reads how a pledge was closed, if it was: `open`, `redeemed` or `sold`.
 pub(crate) fn read_closing(field: &[u8]) -> Option<ClosingWord>
     ensures value { ReadsAs closing_text IsAny field.now result }
 {
@@ -111,7 +114,7 @@ pub(crate) fn read_closing(field: &[u8]) -> Option<ClosingWord>
     }
 }
 
-// Why a secret was issued: `opening`, `sworn` or `written`.
+/// Reads why a secret was issued: `opening`, `sworn` or `written`.
 pub(crate) fn read_issue(field: &[u8]) -> Option<Issue>
     ensures value { ReadsAs issue_text IsAny field.now result }
 {
@@ -123,7 +126,7 @@ pub(crate) fn read_issue(field: &[u8]) -> Option<Issue>
     }
 }
 
-// The sort of an entry that a column names: a drawing or a repayment.
+/// Reads the sort of an entry: `draw` (a drawing) or `repay` (a repayment).
 pub(crate) fn read_sort(field: &[u8]) -> Option<Sort>
     ensures value { ReadsAs sort_text IsAny field.now result }
 {
@@ -134,7 +137,7 @@ pub(crate) fn read_sort(field: &[u8]) -> Option<Sort>
     }
 }
 
-// The state of a booking that a column names.
+/// Reads the state of a booking: `asked`, `confirmed`, `refused` or `cancelled`.
 pub(crate) fn read_state(field: &[u8]) -> Option<BookingState>
     ensures value { ReadsAs state_text IsAny field.now result }
 {
@@ -147,7 +150,7 @@ pub(crate) fn read_state(field: &[u8]) -> Option<BookingState>
     }
 }
 
-// The number that a column spells, or `Some(None)` if the column is empty. `None` if it is malformed.
+/// Reads a number. `Some(None)` if the column is empty; `None` if it is malformed.
 pub(crate) fn read_number_if_any(field: &[u8]) -> Option<Option<u64>>
     ensures value { ReadsAs (text_if_any decimal) IsColumnNumberIfAny field.now result }
 {
@@ -160,7 +163,7 @@ pub(crate) fn read_number_if_any(field: &[u8]) -> Option<Option<u64>>
     }
 }
 
-// The day that a column spells, or `Some(None)` if the column is empty. `None` if it is malformed.
+/// Reads a day. `Some(None)` if the column is empty; `None` if it is malformed.
 pub(crate) fn read_day_if_any(field: &[u8]) -> Option<Option<Day>>
     ensures value { ReadsAs (text_if_any day_text) IsStampDayIfAny field.now result }
 {
@@ -173,7 +176,7 @@ pub(crate) fn read_day_if_any(field: &[u8]) -> Option<Option<Day>>
     }
 }
 
-// The agreed end that a column spells, or `Some(None)` if the column is empty. `None` if it is malformed.
+/// Reads the agreed end of a period. `Some(None)` if the column is empty; `None` if it is malformed.
 pub(crate) fn read_agreed(field: &[u8]) -> Option<Option<RequestDay>>
     ensures value { ReadsAs (text_if_any day_text) IsStampDayIfAny field.now result }
 {
@@ -186,7 +189,7 @@ pub(crate) fn read_agreed(field: &[u8]) -> Option<Option<RequestDay>>
     }
 }
 
-// The text in a column, if it is within the limits of a text of 1 to `MOST` bytes.
+/// Reads a text of 1 to `MOST` bytes of UTF-8. `None` if the column is no such text.
 pub(crate) fn read_text<const MOST: usize>(
     alloc: Global,
     field: &[u8],
@@ -199,7 +202,7 @@ pub(crate) fn read_text<const MOST: usize>(
     Text::of_str(alloc, text)
 }
 
-// The kind of a pledge, with its amount in pence, that two columns spell.
+/// Reads the kind of a pledge from two columns: its word, and its sum or limit in pence.
 pub(crate) fn read_kind(word: &[u8], amount: &[u8]) -> Option<Kind>
     ensures found { IfSome result (λ kind. (word.now ≡ kind_text kind) × IsColumnNumber (credit_of kind) × (amount.now ≡ decimal (credit_of kind))) }
     ensures none { IfNone result ((kind : Kind) → word.now ≡ kind_text kind → IsColumnNumber (credit_of kind) → amount.now ≡ decimal (credit_of kind) → ⊥) }
@@ -214,7 +217,7 @@ pub(crate) fn read_kind(word: &[u8], amount: &[u8]) -> Option<Kind>
     }
 }
 
-// Whether the columns are empty from a place on.
+/// Returns whether the columns are empty from a place on.
 pub(crate) fn are_blank(columns: &ByteRecord, first: usize) -> bool
     ensures answer { IsTrue result ↔ AreBlankFrom first (fields_of columns.now) }
 {

@@ -1,10 +1,15 @@
-//! Writing a book's text.
+//! The export of a book as comma-separated rows.
+ghost use Rattle.pawn_csv.specs.Common.{BookValue, Go, IsSound, IsSteady, PledgeValue, Reads, Stop, book_head};
+ghost use Rattle.pawn_csv.specs.Common.{brief_of, call_end, entries_of, extensions_of, flat_map, get, pledge_in};
+ghost use Rattle.pawn_csv.specs.Common.{pledges_of, secrets_of, terms_of};
+ghost use Rattle.pawn_csv.specs.Exports.{Exports, PutsAt, sink_ending, entry_row_text, extension_line, secret_line};
+ghost use Rattle.pawn_csv.specs.Exports.{text_of};
+ghost use Rattle.pawn_csv.specs.Rows.{booking_csv_rows, entry_rows, extension_rows, pledge_csv_rows, secret_rows};
+ghost use Rattle.pawn_csv.specs.Rows.{terms_rows};
+ghost use Rattle.pawn_csv.specs.Sent.{PutsRow, PutsRowsShare, has_ended, text_of_row};
+ghost use Rattle.pawn_writing.specs.Ends.{write_failed, writing_inner};
+ghost use Rattle.pawn_writing.specs.Fault.{IsQuietView};
 ghost use Rattle.std.specs.Prelude.{◌≡◌, ◌++◌, ◌+◌, ◌-◌, ◌^◌, min, if◌then◌else◌, false, true, Some, length, IsErrOf};
-ghost use Rattle.pawn_csv.specs.Common.{BookValue, Go, IsSound, IsSteady, PledgeValue, Reads, Stop, book_head, brief_of, call_end, entries_of, extensions_of};
-ghost use Rattle.pawn_csv.specs.{Common.{flat_map, get, pledge_in, pledges_of, secrets_of, terms_of}, Rows.{booking_csv_rows, entry_rows, extension_rows}};
-ghost use Rattle.pawn_csv.specs.{Rows.{pledge_csv_rows, secret_rows, terms_rows}, Sent.{PutsRow, PutsRowsShare, has_ended, text_of_row}, Exports.Exports};
-ghost use Rattle.{pawn_csv.specs.Exports.{PutsAt, sink_ending, entry_row_text, extension_line, secret_line, text_of}, pawn_writing.specs.Ends.write_failed};
-ghost use Rattle.pawn_writing.specs.{Ends.writing_inner, Fault.IsQuietView};
 
 use crate::writing::{
     Sink, put_book, put_booking, put_entry, put_extension, put_header, put_pledge, put_secret,
@@ -21,13 +26,14 @@ use std::io::Write;
 #[derive(Drop)]
 pub struct RowWriter<W> {
     sink: Sink<W>,
-    // The pledge whose list is being written, and the place of its next row.
+    /// The number of the pledge whose list is being written.
     number: u64,
+    /// The place of the next row in that list, counted from 1.
     place: u64,
 }
 
 impl<W> RowWriter<W> {
-    /// Wraps a writer. No row has been written yet. Each row takes memory while it is written.
+    /// Wraps a writer. No row has been written yet. Writing a row allocates memory.
     pub fn new(alloc: Global, inner: W) -> RowWriter<W>
         ensures inner { writing_inner result.sink.writer ≡ inner }
         ensures ended { has_ended result.sink ≡ false }
@@ -39,14 +45,14 @@ impl<W> RowWriter<W> {
         }
     }
 
-    /// Gives the inner writer back.
+    /// Returns the inner writer.
     pub fn into_inner(self) -> W
         ensures answer { result ≡ writing_inner self.sink.writer }
     {
         self.sink.into_inner()
     }
 
-    // Goes to the next place after a row, and stops if that row was not written whole.
+    /// Advances to the next place after a row. Stops if that row was not written completely.
     fn go_on(&mut self) -> Flow
         ensures sink { self.new.sink ≡ self.old.sink }
         ensures number { self.new.number ≡ self.old.number }
@@ -89,7 +95,7 @@ impl<W: Write> Visitor<Extension> for RowWriter<W> {
     }
 }
 
-// Writes the rows of a pledge's secrets.
+/// Writes the rows of a pledge's secrets.
 fn put_secrets<K: Keep, W: Write>(
     keep: &mut K,
     book: Number,
@@ -105,7 +111,7 @@ fn put_secrets<K: Keep, W: Write>(
     keep.secrets(book, number, rows)
 }
 
-// Writes the rows of the entries of the pledge that this brief is of.
+/// Writes the rows of the entries of the pledge to which this brief belongs.
 fn put_entries<K: Keep, W: Write>(
     keep: &mut K,
     book: Number,
@@ -123,7 +129,7 @@ fn put_entries<K: Keep, W: Write>(
     visit_entries(keep, book, number, brief, rows)
 }
 
-// Writes the rows of the extensions of the pledge that this brief is of.
+/// Writes the rows of the extensions of the pledge to which this brief belongs.
 fn put_extensions<K: Keep, W: Write>(
     keep: &mut K,
     book: Number,
@@ -141,7 +147,7 @@ fn put_extensions<K: Keep, W: Write>(
     visit_extensions(keep, book, number, brief, rows)
 }
 
-// Writes the row of a pledge's booking, if there is one.
+/// Writes the row of a pledge's booking, if there is one.
 fn put_booked<W: Write>(sink: &mut Sink<W>, number: Number, booking: Option<Booking>)
     ensures puts { PutsRow W.contents sink.old (flat_map text_of_row (booking_csv_rows number booking)) sink.new }
 {
@@ -151,7 +157,7 @@ fn put_booked<W: Write>(sink: &mut Sink<W>, number: Number, booking: Option<Book
     }
 }
 
-// Writes all rows of the pledge that this brief is of.
+/// Writes all rows of the pledge to which this brief belongs.
 fn put_record<K: Keep, W: Write>(
     keep: &mut K,
     book: Number,
@@ -172,7 +178,7 @@ fn put_record<K: Keep, W: Write>(
     Ok(())
 }
 
-// Writes the rows of versions 1 to `count` of a book's terms.
+/// Writes the rows of versions 1 to `count` of a book's terms.
 fn put_versions<K: Keep, W: Write>(
     keep: &mut K,
     book: Number,
@@ -192,7 +198,7 @@ fn put_versions<K: Keep, W: Write>(
     Ok(())
 }
 
-// Writes all rows of pledges 1 to `count` of a book.
+/// Writes all rows of pledges 1 to `count` of a book.
 fn put_pledges<K: Keep, W: Write>(
     keep: &mut K,
     book: Number,
@@ -215,7 +221,7 @@ fn put_pledges<K: Keep, W: Write>(
     Ok(())
 }
 
-// Writes the rows below a book's first row: its terms and its pledges.
+/// Writes the rows after a book's first row: its terms and its pledges.
 fn put_rows<K: Keep, W: Write>(
     keep: &mut K,
     book: Number,
@@ -231,8 +237,8 @@ fn put_rows<K: Keep, W: Write>(
     put_pledges(keep, book, head.pledges, rows)
 }
 
-// The result of an export: `Write` if the writer failed, `Memory` if a row had no memory, else the keeper's error, if
-// any.
+/// Returns the result of an export: `Write` if the writer failed, otherwise `Memory` if memory ran out for a row,
+/// otherwise the keeper's error, if any.
 fn ending<W>(done: Result<(), KeepError>, sink: &Sink<W>) -> Result<(), ViewFault>
     ensures answer { result ≡ sink_ending done sink.now }
 {
@@ -247,9 +253,9 @@ fn ending<W>(done: Result<(), KeepError>, sink: &Sink<W>) -> Result<(), ViewFaul
 
 /// Writes the text of a book, row by row. The keeper's content stays as it is.
 ///
-/// The caller's condition: each row before was written whole. Errors: `Unknown` if there is no such book; `Memory` if
-/// memory is refused; `Store` if the keeper does not answer; `Write` only if the writer failed in the call. After any
-/// error but `Unknown`, only the beginning of the text was written, or nothing.
+/// The caller ensures that no earlier row of this writer is incomplete. Errors: `Unknown` if there is no such book;
+/// `Memory` if memory runs out; `Store` if the keeper does not answer; `Write` only if the writer failed during the
+/// call. After any error but `Unknown`, a prefix of the text was written, possibly none of it.
 pub fn export<K: Keep, W: Write>(
     keep: &mut K,
     book: Number,

@@ -1,41 +1,43 @@
-//! Why a text is no book.
-ghost use Rattle.std.specs.Prelude.{◌≡◌};
+//! The faults of a text that is not a book.
 ghost use Rattle.pawn_csv.specs.Fault.{cause_code, cause_name};
+ghost use Rattle.std.specs.Prelude.{◌≡◌};
 
 use std::error::Error;
 use std::fmt;
 
-/// Why a text is no book.
+/// Why a text is not a book.
 #[derive(Clone, Copy, Debug, PartialEq, Eq)]
 pub enum Cause {
-    /// A record has another number of columns than the header.
+    /// A record has not as many columns as the header has.
     Csv,
     /// The first record is not the header.
     Columns,
-    /// A column is malformed for its kind of row, or a text of the first version has an extension.
+    /// A column is malformed for its kind of row, or a text of version 1 has an extension.
     BadField,
-    /// A row comes out of order, or a row is missing at the end.
+    /// A row is out of order, or a row is missing at the end.
     Order,
-    /// The rows are in order, but no book can have come to have them.
+    /// The rows are in order, but they are not replayable.
     NotReplayable,
-    /// A count in the first row, or the length of a pledge's list, is above its limit.
+    /// A count in the first row, or the length of a pledge's list, exceeds its limit.
     TooMany,
     /// The reader failed.
     Read,
-    /// Memory was refused.
+    /// Memory ran out.
     Memory,
 }
 
-/// Why a text is no book, and at which row; the header is row 1, and the end is one past the last
-/// row.
+/// Why a text is not a book, and at which row. The header is row 1, and the end of the text is the row after the last
+/// one.
 #[derive(Clone, Copy, Debug, PartialEq, Eq)]
 pub struct CsvFault {
+    /// What is wrong with the text.
     pub cause: Cause,
+    /// The row at which it was found.
     pub row: u64,
 }
 
 impl CsvFault {
-    /// The fault's number in replies.
+    /// Returns the fault's code in replies.
     pub fn code(self) -> u16
         ensures value { result ≡ cause_code self.cause }
     {
@@ -51,7 +53,7 @@ impl CsvFault {
         }
     }
 
-    /// The fault's name in replies.
+    /// Returns the fault's name in replies.
     pub fn name(self) -> &'static str
         ensures value { result.now ≡ cause_name self.cause }
     {
@@ -69,8 +71,8 @@ impl CsvFault {
 }
 
 impl fmt::Display for CsvFault {
-    ghost use Rattle.std.specs.Prelude.{Some};
     ghost use Rattle.pawn_csv.specs.Fault.{cause_name};
+    ghost use Rattle.std.specs.Prelude.{Some};
 
     ghost output = { λ fault. Some (cause_name fault.cause) };
 

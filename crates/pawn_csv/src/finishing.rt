@@ -1,7 +1,8 @@
-//! The end of a book's rows.
-ghost use Rattle.std.specs.Prelude.{◌≡◌, ◌++◌, IfErr, IfNone, IfOk, IfSome, Some};
-ghost use Rattle.pawn_csv.specs.{Common.{AreReplayable, BookRows, Closing, PledgeValue, terms_at}, Finishing.{AreRawOf, Ends, IsBegunOf, IsClosingOf, IsRawOf}};
+//! Turns the rows that were read into a book, at the end of a text.
+ghost use Rattle.pawn_csv.specs.Common.{AreReplayable, BookRows, Closing, PledgeValue, terms_at};
+ghost use Rattle.pawn_csv.specs.Finishing.{AreRawOf, Ends, IsBegunOf, IsClosingOf, IsRawOf};
 ghost use Rattle.pawn_csv.specs.Order.{begun_of, hand, view_begun};
+ghost use Rattle.std.specs.Prelude.{◌≡◌, ◌++◌, IfErr, IfNone, IfOk, IfSome, Some};
 ghost use Rattle.pawn_csv.specs.declared.fault.Cause.TheVariants as Cause;
 
 use crate::fault::Cause;
@@ -12,7 +13,7 @@ use pawn_book::{
 };
 use std::alloc::{AllocError, Global};
 
-// The terms of a version. Versions are numbered from 1.
+/// Returns the terms of a version. Versions are numbered from 1.
 fn find_terms(terms: &[Rates], version: u64) -> Option<Rates>
     ensures value { result ≡ terms_at terms.now version }
 {
@@ -22,7 +23,7 @@ fn find_terms(terms: &[Rates], version: u64) -> Option<Rates>
     Some(terms[version as usize - 1])
 }
 
-// The closing in a pledge's columns, if its word, day and amount go together.
+/// Returns the closing in a pledge's columns, if its word, day and amount agree with each other.
 fn closing_of(columns: &PledgeColumns) -> Option<Closing>
     ensures found { IfSome result (IsClosingOf columns.now) }
     ensures none { IfNone result ((closing : Closing) → IsClosingOf columns.now closing → ⊥) }
@@ -52,8 +53,9 @@ fn closing_of(columns: &PledgeColumns) -> Option<Closing>
     }
 }
 
-// The parts of a pledge whose rows are all read, if its columns fit together and the book has its version of terms.
-fn parts_of(raw: RawPledge, terms: &[Rates]) -> Option<Parts>
+/// Returns the parts of a pledge whose rows have all been read, if its columns agree with each other and the book has
+/// its version of terms.
+fn parts_of_rows(raw: RawPledge, terms: &[Rates]) -> Option<Parts>
     ensures found { IfSome result (IsRawOf terms.now raw) }
     ensures none { IfNone result ((p : PledgeValue) → IsRawOf terms.now raw p → ⊥) }
 {
@@ -93,7 +95,7 @@ fn parts_of(raw: RawPledge, terms: &[Rates]) -> Option<Parts>
     })
 }
 
-// The parts of all pledges, if the columns of each fit together.
+/// Returns the parts of all pledges, if the columns of each agree with each other.
 fn all_parts(
     alloc: Global,
     raws: Vec<RawPledge>,
@@ -104,7 +106,7 @@ fn all_parts(
 {
     let mut all = Vec::new(alloc);
     for raw in raws {
-        let Some(parts) = parts_of(raw, terms) else {
+        let Some(parts) = parts_of_rows(raw, terms) else {
             return Ok(None);
         };
         all.push(parts)?;
@@ -112,7 +114,7 @@ fn all_parts(
     Ok(Some(all))
 }
 
-// The pledges whose rows are complete, with the one at hand added.
+/// Returns the complete pledges, followed by the one at hand.
 fn with_hand(
     pledges: Vec<RawPledge>,
     at_hand: Option<RawPledge>,
@@ -130,7 +132,7 @@ fn with_hand(
 }
 
 impl BegunBook {
-    // The book's rows, if the columns of each pledge fit together.
+    /// Returns the book's rows, if the columns of each pledge agree with each other.
     fn into_rows(self, alloc: Global) -> Result<Option<BookRows>, AllocError>
         ensures found { IfOk result (λ rows. IfSome rows (IsBegunOf (view_begun self))) }
         ensures none { IfOk result (λ rows. IfNone rows ((k : BookRows) → IsBegunOf (view_begun self) k → ⊥)) }
@@ -152,8 +154,9 @@ impl BegunBook {
     }
 }
 
-// These rows as replayable ones, if a book can have come to have them; else `NotReplayable`.
-fn judge(rows: Option<BookRows>) -> Result<ReplayableRows, Cause>
+/// Returns these rows if they are replayable. Fails with `NotReplayable` if they are not, or if `rows` is
+/// `None`.
+fn as_replayable(rows: Option<BookRows>) -> Result<ReplayableRows, Cause>
     ensures found { IfOk result (λ k. (rows ≡ Some k) × AreReplayable k.terms k.pledges) }
     ensures refused { IfErr result (λ e. (e ≡ Cause.NotReplayable) × IfSome rows (λ k. AreReplayable k.terms k.pledges → ⊥)) }
 {
@@ -167,7 +170,8 @@ fn judge(rows: Option<BookRows>) -> Result<ReplayableRows, Cause>
 }
 
 impl BegunBook {
-    // The book that the rows make. `Order` if rows are missing, `NotReplayable` if no book can have come to have them.
+    /// Returns the book that the rows make. Fails with `Order` if rows are missing, with `NotReplayable` if the rows
+    /// are not replayable, and with `Memory` if memory runs out.
     fn finish(self, alloc: Global) -> Result<ReplayableRows, Cause>
         ensures value { Ends (Some (view_begun self)) result }
     {
@@ -176,13 +180,14 @@ impl BegunBook {
         }
         match self.into_rows(alloc) {
             Err(_) => Err(Cause::Memory),
-            Ok(rows) => judge(rows),
+            Ok(rows) => as_replayable(rows),
         }
     }
 }
 
 impl RawBook {
-    /// The book that the rows make. `Order` if rows are missing, `NotReplayable` if no book can have come to have them.
+    /// Returns the book that the rows make. Fails with `Order` if rows are missing, with `NotReplayable` if the rows
+    /// are not replayable, and with `Memory` if memory runs out.
     pub(crate) fn finish(self, alloc: Global) -> Result<ReplayableRows, Cause>
         ensures value { Ends (begun_of self) result }
     {

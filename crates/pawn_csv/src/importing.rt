@@ -1,5 +1,7 @@
-//! Filling an empty book with rows.
-ghost use Rattle.{pawn_csv.specs.{Common.{GoesOn, Host, IsQuiet, OfHost, ℕ}, Imports.import_of}, pawn_book.specs.Plans.{Acts, IsLeftByAct}};
+//! The import of rows into an empty book.
+ghost use Rattle.pawn_book.specs.Plans.{Acts, IsLeftByAct};
+ghost use Rattle.pawn_csv.specs.Common.{GoesOn, Host, IsQuiet, OfHost, ℕ};
+ghost use Rattle.pawn_csv.specs.Imports.{import_of};
 
 use pawn_book::{
     BrokerRequest, Caller, Keep, Number, Refusal, ReplayableRows, Reply, Request, Secret, Stamp,
@@ -7,12 +9,12 @@ use pawn_book::{
 };
 use std::alloc::Global;
 
-/// Fills an empty book with these terms and pledges, for the holder of the book's key `broker`. `key` is the import's
-/// own. A second import under that key gets the first one's answer, whatever rows come with it.
+/// Fills an empty book with these terms and pledges. `broker` is the book's key, and `key` is the import's own key. A
+/// second import under the same `key` gets the reply to the first one, whatever its rows are.
 ///
-/// The refusals come in this order. `NoSuchBook` if there is no such book or the key is another's. `BookNotEmpty` if
-/// the book has terms, pledges or another import. `Full` if the rows of all books would be above the limit. `Memory`
-/// and `Store` as the keeper answers. No refusal changes anything.
+/// Refusals, in this order: `NoSuchBook` if there is no such book or `broker` is not its key; `BookNotEmpty` if the
+/// book has terms, pledges or another import; `Full` if the rows of all books would exceed the limit; `Memory` and
+/// `Store` as the keeper answers. After a refusal nothing has changed.
 pub fn import<K: Keep>(
     alloc: Global,
     keep: &mut K,
@@ -31,6 +33,6 @@ pub fn import<K: Keep>(
 {
     let asked = BrokerRequest::Import { key, rows };
     let caller = Caller::Broker { key: broker, asked };
-    // Any key will do for the operator's, since only the book's own key is checked.
+    // Any key will do as the operator's, because only the book's own key is checked.
     act(alloc, keep, broker, stamp, &Request { book, caller })
 }

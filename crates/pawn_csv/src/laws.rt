@@ -1,10 +1,11 @@
-//! Laws of texts and of their rows.
-ghost use Rattle.pawn_csv.specs.Laws.{BooksAreHeld, FirstFaultsAreOne, FirstFaultsExcludeBooks, RowsHaveOneSpelling, TextsAreRead, TextsAreReadAs};
-ghost use Rattle.pawn_csv.specs.{Laws.{TextsHoldOneBook, TextsOfHostsAreRead}, Layout.{LayoutsAreTaken, NotReplayableIsOfNoBook, RefusedAreNoFront}};
-ghost use Rattle.pawn_csv.specs.Layout.{TakenAreLaidOut, TooManyIsAboveALimit};
+//! Laws of books' texts and of their rows.
+ghost use Rattle.pawn_csv.specs.Laws.{BooksAreHeld, FirstFaultsAreOne, FirstFaultsExcludeBooks, RowsHaveOneSpelling};
+ghost use Rattle.pawn_csv.specs.Laws.{TextsAreRead, TextsAreReadAs, TextsHoldOneBook, TextsOfHostsAreRead};
+ghost use Rattle.pawn_csv.specs.Layout.{LayoutsAreTaken, NotReplayableIsOfNoBook, RefusedAreNoFront, TakenAreLaidOut};
+ghost use Rattle.pawn_csv.specs.Layout.{TooManyIsAboveALimit};
 
-/// The text that is written for a book holds that book, and so it is for each book of a sound host. A text that holds a
-/// book is read to its end as that book.
+/// The text that is written for a book holds that book; in particular for each book of a sound host. A text that holds
+/// a book is accepted to its end, and read as that book.
 pub fn laws_of_texts()
     ensures held { BooksAreHeld }
     ensures read { TextsAreRead }
@@ -24,9 +25,9 @@ pub fn texts_have_one_reading()
     ensures one { TextsHoldOneBook }
 {}
 
-/// The rows of a book have one layout. Rows in that layout are taken to their end, and no others are. A row is refused
-/// only if no rows after it can complete a book. `TooMany` means that a limit was passed, and `NotReplayable` that no
-/// replayable book has these rows.
+/// Rows are accepted to their end if and only if they have the layout of a book. A row is refused only if no rows after
+/// it can complete a book. `TooMany` means that a limit was exceeded, and `NotReplayable` that no replayable book has
+/// these rows.
 pub fn rows_have_one_layout()
     ensures taken { LayoutsAreTaken }
     ensures laid { TakenAreLaidOut }

@@ -1,8 +1,9 @@
-//! The order of a book's rows.
+//! Checks the order of a book's rows while they are read, and collects them.
+ghost use Rattle.pawn_csv.specs.Answers.{AnswersBegun, GivesAs, Places};
+ghost use Rattle.pawn_csv.specs.Order.{begun_of, has_secret, is_whole, may_end, on_hand, on_second, place, place_after};
+ghost use Rattle.pawn_csv.specs.Order.{place_before, place_booking, place_entry, place_extension, place_pledge};
+ghost use Rattle.pawn_csv.specs.Order.{place_secret, place_terms, pledges_begun, raw_pledge, view_begun};
 ghost use Rattle.std.specs.Prelude.{◌≡◌, IfOk, Some, length};
-ghost use Rattle.pawn_csv.specs.{Answers.{AnswersBegun, GivesAs, Places}, Order.{begun_of, has_secret, is_whole, may_end, on_hand, on_second, place}};
-ghost use Rattle.pawn_csv.specs.Order.{place_after, place_before, place_booking, place_entry, place_extension, place_pledge, place_secret, place_terms};
-ghost use Rattle.pawn_csv.specs.Order.{pledges_begun, raw_pledge, view_begun};
 
 use crate::fault::Cause;
 use crate::row::{PledgeColumns, Row, Version};
@@ -14,7 +15,7 @@ use pawn_debt::MOST_ENTRIES;
 use pawn_pledge::{MOST_EXTENSIONS, MOST_SECRETS};
 use std::alloc::{AllocError, Global};
 
-/// A pledge as its rows so far give it. It need not be one that can have come about.
+/// A pledge as collected from the rows that have been read so far. Commands need not be able to produce it.
 #[derive(Drop)]
 pub(crate) struct RawPledge {
     pub columns: PledgeColumns,
@@ -25,7 +26,7 @@ pub(crate) struct RawPledge {
 }
 
 impl RawPledge {
-    // A pledge of which only its own row was read.
+    /// Returns a pledge of which only its own row was read.
     fn new(alloc: Global, columns: PledgeColumns) -> RawPledge
         ensures value { result ≡ raw_pledge columns }
     {
@@ -38,14 +39,14 @@ impl RawPledge {
         }
     }
 
-    // Whether it has a secret: the first is that of its opening.
+    /// Returns whether the pledge has a secret. Its first secret is the one of its opening.
     fn has_secret(&self) -> bool
         ensures value { result ≡ has_secret self.now }
     {
         !self.secrets.is_empty()
     }
 
-    // Takes the row of a secret.
+    /// Accepts the row of a secret.
     fn place_secret(&mut self, place: u64, issued: Issued) -> Result<(), Cause>
         ensures answer { Places (place_secret self.old place issued) result self.new }
     {
@@ -64,7 +65,7 @@ impl RawPledge {
         }
     }
 
-    // Takes the row of an entry.
+    /// Accepts the row of an entry.
     fn place_entry(&mut self, entry: Entry) -> Result<(), Cause>
         ensures answer { Places (place_entry self.old entry) result self.new }
     {
@@ -83,7 +84,7 @@ impl RawPledge {
         }
     }
 
-    // Takes the row of an extension.
+    /// Accepts the row of an extension.
     fn place_extension(&mut self, place: u64, extension: Extension) -> Result<(), Cause>
         ensures answer { Places (place_extension self.old place extension) result self.new }
     {
@@ -102,7 +103,7 @@ impl RawPledge {
         }
     }
 
-    // Takes the row of a booking.
+    /// Accepts the row of a booking.
     fn place_booking(&mut self, booking: Booking) -> Result<(), Cause>
         ensures answer { Places (place_booking self.old booking) result self.new }
     {
@@ -114,18 +115,22 @@ impl RawPledge {
     }
 }
 
-/// A book of which the first row was read, and perhaps more. `at_hand` is the pledge whose rows are being read.
+/// A book of which at least the first row was read. `at_hand` is the pledge whose rows are being read.
 #[derive(Drop)]
 pub(crate) struct BegunBook {
     pub version: Version,
+    /// How many versions of terms the first row states.
     pub terms_due: u64,
+    /// How many pledges the first row states.
     pub pledges_due: u64,
     pub terms: Rows<Rates>,
+    /// The pledges before the one at hand; their rows are complete.
     pub pledges: Vec<RawPledge>,
     pub at_hand: Option<RawPledge>,
 }
 
-// The book that a first row begins. It is an error if the row is not that of a book.
+/// Returns the book that a first row begins. Fails with `Order` if the row is not the first row of a book
+/// (`Row::Book`), and with `TooMany` if one of its counts exceeds its limit.
 fn begin(alloc: Global, row: Row) -> Result<BegunBook, Cause>
     ensures answer { GivesAs view_begun (place_before row) result }
 {
@@ -151,7 +156,7 @@ fn begin(alloc: Global, row: Row) -> Result<BegunBook, Cause>
 }
 
 impl BegunBook {
-    // How many pledges there are so far.
+    /// Returns how many pledges have been begun so far.
     fn count_pledges(&self) -> u64
         ensures value { result ≡ length (pledges_begun (view_begun self.now)) }
     {
@@ -163,7 +168,7 @@ impl BegunBook {
         }
     }
 
-    // Whether the pledge at hand, if there is one, may have no further rows.
+    /// Returns whether the pledge at hand, if there is one, needs no further rows.
     fn may_end(&self) -> bool
         ensures value { result ≡ may_end self.now.at_hand }
     {
@@ -173,7 +178,7 @@ impl BegunBook {
         }
     }
 
-    // Takes the row of a version of terms.
+    /// Accepts the row of a version of terms.
     fn place_terms(&mut self, version: u64, rates: Rates) -> Result<(), Cause>
         ensures answer { Places (place_terms (view_begun self.old) version rates) result (view_begun self.new) }
     {
@@ -189,7 +194,7 @@ impl BegunBook {
         }
     }
 
-    // Begins the pledge of these columns. The one at hand before, if any, goes with those whose rows are over.
+    /// Begins the pledge of these columns. The pledge that was at hand before, if any, is added to the complete ones.
     fn begin_pledge(&mut self, alloc: Global, columns: PledgeColumns) -> Result<(), AllocError>
         ensures begun { IfOk result (λ u. view_begun self.new
             ≡ (record (view_begun self.old) { pledges = pledges_begun (view_begun self.old); at_hand = Some (raw_pledge columns) })) }
@@ -200,7 +205,7 @@ impl BegunBook {
         Ok(())
     }
 
-    // Takes the row of a pledge.
+    /// Accepts a pledge's own row.
     fn place_pledge(&mut self, alloc: Global, columns: PledgeColumns) -> Result<(), Cause>
         ensures answer { Places (place_pledge (view_begun self.old) columns) result (view_begun self.new) }
     {
@@ -216,7 +221,7 @@ impl BegunBook {
         }
     }
 
-    // Takes the row of a secret of the pledge at hand.
+    /// Accepts the row of a secret of the pledge at hand.
     fn place_secret(&mut self, number: u64, place: u64, issued: Issued) -> Result<(), Cause>
         ensures answer { Places (on_hand (view_begun self.old) number self.old.at_hand (λ p. place_secret p place issued)) result (view_begun self.new) }
     {
@@ -231,7 +236,7 @@ impl BegunBook {
         }
     }
 
-    // Takes the row of an entry of the pledge at hand.
+    /// Accepts the row of an entry of the pledge at hand.
     fn place_entry(&mut self, number: u64, entry: Entry) -> Result<(), Cause>
         ensures answer { Places (on_hand (view_begun self.old) number self.old.at_hand (λ p. place_entry p entry)) result (view_begun self.new) }
     {
@@ -246,8 +251,8 @@ impl BegunBook {
         }
     }
 
-    // Takes the row of an extension of the pledge at hand. `BadField` if the text is of the first version, which has
-    // none.
+    /// Accepts the row of an extension of the pledge at hand. Fails with `BadField` if the text has version 1, which
+    /// has no extensions.
     fn place_extension(
         &mut self,
         number: u64,
@@ -271,7 +276,7 @@ impl BegunBook {
         }
     }
 
-    // Takes the row of the booking of the pledge at hand.
+    /// Accepts the row of the booking of the pledge at hand.
     fn place_booking(&mut self, number: u64, booking: Booking) -> Result<(), Cause>
         ensures answer { Places (on_hand (view_begun self.old) number self.old.at_hand (λ p. place_booking p booking)) result (view_begun self.new) }
     {
@@ -286,7 +291,7 @@ impl BegunBook {
         }
     }
 
-    // Takes a row after the first.
+    /// Accepts a row after the first.
     fn place(&mut self, alloc: Global, row: Row) -> Result<(), Cause>
         ensures answer { Places (place_after (view_begun self.old) row) result (view_begun self.new) }
     {
@@ -314,7 +319,8 @@ impl BegunBook {
         }
     }
 
-    // Whether there are as many terms and pledges as the first row says, and the last pledge may end.
+    /// Returns whether there are as many versions of terms and pledges as the first row states, and the last pledge
+    /// needs no further rows.
     pub(crate) fn is_whole(&self) -> bool
         ensures value { result ≡ is_whole (Some (view_begun self.now)) }
     {
@@ -324,14 +330,14 @@ impl BegunBook {
     }
 }
 
-/// What the rows so far make. There is nothing before the first row.
+/// The book that the rows so far make. It is empty before the first row.
 #[derive(Drop)]
 pub(crate) struct RawBook {
     pub begun: Option<BegunBook>,
 }
 
 impl RawBook {
-    /// Takes the next row.
+    /// Accepts the next row.
     pub(crate) fn place(&mut self, alloc: Global, row: Row) -> Result<(), Cause>
         ensures answer { AnswersBegun (place (begun_of self.old) row) result (begun_of self.new) }
     {

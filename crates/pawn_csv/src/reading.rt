@@ -1,8 +1,12 @@
-//! Reading a book's text.
-ghost use Rattle.std.specs.Prelude.{◌≡◌, ◌+◌, ℕ, List, None, length, true};
+//! Reads a book's text, record by record.
 ghost use Rattle.csv.specs.Reading.{Ready, is_flexible, reader_config, reader_state, reader_trim};
-ghost use Rattle.pawn_csv.specs.Common.{AreRecords, IfErr, IfOk, IfSome, State, default_config, error_kind, fields_of, source_of, strip_bom};
-ghost use Rattle.pawn_csv.specs.{Reading.{AreTaken, CauseOf, EndsReadingAs, IsFaultOf, IsTextOf, Taking}, Types.Row, Finishing.IsFinishedAs, Order.begun_of};
+ghost use Rattle.pawn_csv.specs.Common.{AreRecords, IfErr, IfOk, IfSome, State, default_config, error_kind, fields_of};
+ghost use Rattle.pawn_csv.specs.Common.{source_of, strip_bom};
+ghost use Rattle.pawn_csv.specs.Finishing.{IsFinishedAs};
+ghost use Rattle.pawn_csv.specs.Order.{begun_of};
+ghost use Rattle.pawn_csv.specs.Reading.{AreTaken, CauseOf, EndsReadingAs, IsFaultOf, IsTextOf, Taking};
+ghost use Rattle.pawn_csv.specs.Types.{Row};
+ghost use Rattle.std.specs.Prelude.{◌≡◌, ◌+◌, ℕ, List, None, length, true};
 ghost use Rattle.csv.specs.declared.reader.Trim.TheVariants as trim;
 
 use crate::fault::{Cause, CsvFault};
@@ -14,7 +18,7 @@ use pawn_book::ReplayableRows;
 use std::alloc::Global;
 use std::io::Read;
 
-// The cause for an error of the CSV reader.
+/// Returns the cause that corresponds to an error of the CSV reader.
 fn cause_of(error: Error) -> Cause
     ensures cause { CauseOf (error_kind error) result }
 {
@@ -25,7 +29,7 @@ fn cause_of(error: Error) -> Cause
     }
 }
 
-// Takes the next record: the header if it is the first, else a row.
+/// Accepts the next record: the header if it is the first record, otherwise a row.
 fn take_record(
     alloc: Global,
     raw: &mut RawBook,
@@ -53,7 +57,8 @@ fn take_record(
     }
 }
 
-// The book at the end of a text, where this row would come next. A text without a record lacks the header.
+/// Returns the book at the end of a text. `row` is the number that the next row would have; a fault reports it. The
+/// fault of a text without any record is `Columns`, because the header is missing.
 fn finish_text(alloc: Global, raw: RawBook, row: u64) -> Result<ReplayableRows, CsvFault>
     ensures found { IfOk result (IsFinishedAs (begun_of raw)) }
     ensures fault { IfErr result (λ f. (f.row ≡ row)
@@ -71,7 +76,7 @@ fn finish_text(alloc: Global, raw: RawBook, row: u64) -> Result<ReplayableRows, 
     }
 }
 
-// Takes the records of a text one after another. The row that would come next is the result.
+/// Accepts the records of a text one after another. Returns the number that the next row would have.
 fn take_records<R: Read>(
     alloc: Global,
     csv_reader: &mut Reader<R>,
@@ -109,9 +114,9 @@ fn take_records<R: Read>(
     })
 }
 
-/// Reads a book from a text. A byte order mark is passed over. The error is the text's first fault, with its row.
-/// `Read` and `Memory` may come at any row, once those before it were taken; they have the row that would have come
-/// next.
+/// Reads a book from a text. A byte order mark at the start is skipped. The error is the first fault of the text, with
+/// its row. `Read` and `Memory` may occur at any row after the rows before it were accepted; they report the row that
+/// would have been next.
 pub fn read_book<R: Read + Drop>(alloc: Global, reader: R) -> Result<ReplayableRows, CsvFault>
     ensures found { IfOk result (λ k. IfSome (R.remaining reader) (λ text. IsTextOf (strip_bom text) k)) }
     ensures fault { IfErr result (λ f. IfSome (R.remaining reader) (λ text. IsFaultOf (strip_bom text) f.cause f.row)) }

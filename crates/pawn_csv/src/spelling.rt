@@ -1,7 +1,8 @@
-//! Rows from their columns.
+//! Reads the rows of a book's text from their columns, one function for each kind of row.
+ghost use Rattle.csv.specs.Records.{fields_of};
+ghost use Rattle.pawn_csv.specs.Rows.{AreColumns, FitsColumns, header, pledge_fields, row_fields};
+ghost use Rattle.pawn_csv.specs.Spelling.{IsOpeningOf, ReadsAs, column_at};
 ghost use Rattle.std.specs.Prelude.{◌≡◌, ◌↔◌, IfOk, IfNone, IfSome, IsTrue, codes, length};
-ghost use Rattle.{csv.specs.Records.fields_of, pawn_csv.specs.{Rows.{AreColumns, FitsColumns, header, pledge_fields, row_fields}, Spelling.IsOpeningOf}};
-ghost use Rattle.pawn_csv.specs.Spelling.{ReadsAs, column_at};
 
 use crate::columns::{
     are_blank, column, read_agreed, read_closing, read_day, read_day_if_any, read_issue, read_kind,
@@ -13,7 +14,8 @@ use csv::ByteRecord;
 use pawn_book::{Booking, Entry, Extension, Issued, Opening, Rates, RequestDay};
 use std::alloc::{AllocError, Global};
 
-// The first row of a book, with its counts.
+/// Reads the first row of a book (`B`): the version of the text's form, and the two counts. `None` if a column is
+/// malformed.
 fn read_book_row(columns: &ByteRecord) -> Option<Row>
     requires wide { length (fields_of columns.now) ≡ COLUMNS }
     requires letter { column_at (fields_of columns.now) 0 ≡ codes "B" }
@@ -32,7 +34,7 @@ fn read_book_row(columns: &ByteRecord) -> Option<Row>
     })
 }
 
-// The row of a version of terms.
+/// Reads the row of a version of terms (`T`). `None` if a column is malformed.
 fn read_terms_row(columns: &ByteRecord) -> Option<Row>
     requires wide { length (fields_of columns.now) ≡ COLUMNS }
     requires letter { column_at (fields_of columns.now) 0 ≡ codes "T" }
@@ -55,7 +57,7 @@ fn read_terms_row(columns: &ByteRecord) -> Option<Row>
     })
 }
 
-// The row of a secret.
+/// Reads the row of a secret (`S`). `None` if a column is malformed.
 fn read_secret_row(columns: &ByteRecord) -> Option<Row>
     requires wide { length (fields_of columns.now) ≡ COLUMNS }
     requires letter { column_at (fields_of columns.now) 0 ≡ codes "S" }
@@ -80,7 +82,7 @@ fn read_secret_row(columns: &ByteRecord) -> Option<Row>
     })
 }
 
-// The row of an entry.
+/// Reads the row of an entry (`E`). `None` if a column is malformed.
 fn read_entry_row(columns: &ByteRecord) -> Option<Row>
     requires wide { length (fields_of columns.now) ≡ COLUMNS }
     requires letter { column_at (fields_of columns.now) 0 ≡ codes "E" }
@@ -109,7 +111,7 @@ fn read_entry_row(columns: &ByteRecord) -> Option<Row>
     })
 }
 
-// The row of an extension.
+/// Reads the row of an extension (`X`). `None` if a column is malformed.
 fn read_extension_row(columns: &ByteRecord) -> Option<Row>
     requires wide { length (fields_of columns.now) ≡ COLUMNS }
     requires letter { column_at (fields_of columns.now) 0 ≡ codes "X" }
@@ -129,7 +131,7 @@ fn read_extension_row(columns: &ByteRecord) -> Option<Row>
     })
 }
 
-// The row of a booking.
+/// Reads the row of a booking (`K`). `None` if a column is malformed.
 fn read_booking_row(columns: &ByteRecord) -> Option<Row>
     requires wide { length (fields_of columns.now) ≡ COLUMNS }
     requires letter { column_at (fields_of columns.now) 0 ≡ codes "K" }
@@ -148,7 +150,7 @@ fn read_booking_row(columns: &ByteRecord) -> Option<Row>
     })
 }
 
-// The opening in the columns of a pledge's own row. `None` if a column is malformed.
+/// Reads the opening from the columns of a pledge's own row. `None` if a column is malformed.
 fn read_opening(alloc: Global, columns: &ByteRecord) -> Result<Option<Opening>, AllocError>
     ensures found { IfOk result (λ opening. IfSome opening (IsOpeningOf (fields_of columns.now))) }
     ensures none { IfOk result (λ opening. IfNone opening ((o : _) → IsOpeningOf (fields_of columns.now) o → ⊥)) }
@@ -177,7 +179,8 @@ fn read_opening(alloc: Global, columns: &ByteRecord) -> Result<Option<Opening>, 
     }))
 }
 
-// All columns of a pledge's own row, once its opening has been read.
+/// Adds the other columns of a pledge's own row to its opening, which has been read already. `None` if a column is
+/// malformed.
 fn with_opening(columns: &ByteRecord, opening: Opening) -> Option<PledgeColumns>
     requires wide { length (fields_of columns.now) ≡ COLUMNS }
     requires letter { column_at (fields_of columns.now) 0 ≡ codes "P" }
@@ -213,7 +216,7 @@ fn with_opening(columns: &ByteRecord, opening: Opening) -> Option<PledgeColumns>
     })
 }
 
-// The row of a pledge.
+/// Reads a pledge's own row (`P`). `None` if a column is malformed.
 fn read_pledge_row(alloc: Global, columns: &ByteRecord) -> Result<Option<Row>, AllocError>
     requires wide { length (fields_of columns.now) ≡ COLUMNS }
     requires letter { column_at (fields_of columns.now) 0 ≡ codes "P" }
@@ -228,7 +231,8 @@ fn read_pledge_row(alloc: Global, columns: &ByteRecord) -> Result<Option<Row>, A
     }
 }
 
-// The row that so many columns spell. `None` if they spell no row.
+/// Reads a row from its `COLUMNS` columns; the first column names the kind of row. `None` if they are the columns of no
+/// row.
 pub(crate) fn read_row(alloc: Global, columns: &ByteRecord) -> Result<Option<Row>, AllocError>
     requires wide { length (fields_of columns.now) ≡ COLUMNS }
     ensures value { IfOk result (λ row. ReadsAs row_fields FitsColumns (fields_of columns.now) row) }
@@ -245,7 +249,7 @@ pub(crate) fn read_row(alloc: Global, columns: &ByteRecord) -> Result<Option<Row
     }
 }
 
-// Whether the columns are the header's.
+/// Returns whether the columns are those of the header.
 pub(crate) fn is_header(columns: &ByteRecord) -> bool
     ensures answer { IsTrue result ↔ (fields_of columns.now ≡ header) }
 {

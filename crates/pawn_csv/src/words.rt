@@ -1,13 +1,15 @@
-//! The words of columns.
-ghost use Rattle.std.specs.Prelude.{◌≡◌, decimal};
-ghost use Rattle.{pawn_terms.specs.Calendar.day_text, pawn_csv.specs.{Common.secret_text, Rows.{closing_amount, closing_day, closing_word}}};
+//! The words and texts that columns are written with.
 ghost use Rattle.pawn_csv.specs.Columns.{closing_text, issue_text, kind_text, text_if_any, yes_text};
+ghost use Rattle.pawn_csv.specs.Common.{secret_text};
+ghost use Rattle.pawn_csv.specs.Rows.{closing_amount, closing_day, closing_word};
+ghost use Rattle.pawn_terms.specs.Calendar.{day_text};
+ghost use Rattle.std.specs.Prelude.{◌≡◌, decimal};
 
 use itoa::Buffer;
 use pawn_book::{Closing, Day, Issue, Kind, Secret};
 use uuid::Uuid;
 
-// `yes` or `no`.
+/// Returns `yes` or `no`.
 pub(crate) fn yes_word(flag: bool) -> &'static [u8]
     ensures value { result.now ≡ yes_text flag }
 {
@@ -17,7 +19,7 @@ pub(crate) fn yes_word(flag: bool) -> &'static [u8]
     }
 }
 
-// `fixed` or `running`.
+/// Returns `fixed` or `running`.
 pub(crate) fn kind_word(kind: Kind) -> &'static [u8]
     ensures value { result.now ≡ kind_text kind }
 {
@@ -27,7 +29,7 @@ pub(crate) fn kind_word(kind: Kind) -> &'static [u8]
     }
 }
 
-// `open`, `redeemed` or `sold`.
+/// Returns `open`, `redeemed` or `sold`.
 pub(crate) fn closing_word(closing: Closing) -> &'static [u8]
     ensures value { result.now ≡ closing_text (closing_word closing) }
 {
@@ -38,7 +40,7 @@ pub(crate) fn closing_word(closing: Closing) -> &'static [u8]
     }
 }
 
-// The day of a closing, if there was one.
+/// Returns the day of a closing, if there was one.
 pub(crate) fn closing_day(closing: Closing) -> Option<Day>
     ensures value { result ≡ closing_day closing }
 {
@@ -49,7 +51,7 @@ pub(crate) fn closing_day(closing: Closing) -> Option<Day>
     }
 }
 
-// What was paid or what a sale brought, in pence, if the pledge was closed.
+/// Returns the sum that was paid or the net proceeds of the sale, in pence, if the pledge was closed.
 pub(crate) fn closing_amount(closing: Closing) -> Option<u64>
     ensures value { result ≡ closing_amount closing }
 {
@@ -60,7 +62,7 @@ pub(crate) fn closing_amount(closing: Closing) -> Option<u64>
     }
 }
 
-// `opening`, `sworn` or `written`.
+/// Returns `opening`, `sworn` or `written`.
 pub(crate) fn issue_word(issue: Issue) -> &'static [u8]
     ensures value { result.now ≡ issue_text issue }
 {
@@ -71,7 +73,7 @@ pub(crate) fn issue_word(issue: Issue) -> &'static [u8]
     }
 }
 
-// A number, or nothing.
+/// Returns a number as text, or an empty text.
 pub(crate) fn number_if_any(number: Option<u64>, buffer: &mut Buffer) -> &[u8]
     ensures value { result.now ≡ text_if_any decimal number }
 {
@@ -81,7 +83,7 @@ pub(crate) fn number_if_any(number: Option<u64>, buffer: &mut Buffer) -> &[u8]
     }
 }
 
-// A day, or nothing.
+/// Returns a day as text, or an empty text.
 pub(crate) fn day_if_any(day: Option<Day>, buffer: &mut [u8; 10]) -> &[u8]
     ensures value { result.now ≡ text_if_any day_text day }
 {
@@ -94,7 +96,7 @@ pub(crate) fn day_if_any(day: Option<Day>, buffer: &mut [u8; 10]) -> &[u8]
     }
 }
 
-// A secret, hyphenated with small letters.
+/// Returns a secret as text, hyphenated and in lower case.
 pub(crate) fn secret_text(secret: Secret, buffer: &mut [u8; 45]) -> &[u8]
     ensures value { result.now ≡ secret_text secret }
 {

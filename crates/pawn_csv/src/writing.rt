@@ -1,7 +1,11 @@
-//! Writing the rows of a book's text.
+//! Writes the rows of a book's text, one function for each kind of row.
+ghost use Rattle.pawn_csv.specs.Common.{credit_of, default_writer, row_text};
+ghost use Rattle.pawn_csv.specs.Rows.{empty_columns, header};
+ghost use Rattle.pawn_csv.specs.Sent.{PutsRow, brief_columns, has_ended, text_of_row};
+ghost use Rattle.pawn_csv.specs.Types.{Row, Version};
+ghost use Rattle.pawn_terms.specs.Calendar.{day_text};
+ghost use Rattle.pawn_writing.specs.Ends.{write_failed, writing_inner};
 ghost use Rattle.std.specs.Prelude.{◌≡◌, ◌≤◌, ◌-◌, ◌∷◌, ◌++◌, [], IfOk, true, false, codes, decimal, length, map};
-ghost use Rattle.pawn_csv.specs.{Common.{credit_of, default_writer, row_text}, Sent.{PutsRow, brief_columns, has_ended, text_of_row}, Types.{Row, Version}};
-ghost use Rattle.{pawn_csv.specs.Rows.{empty_columns, header}, pawn_terms.specs.Calendar.day_text, pawn_writing.specs.Ends.{write_failed, writing_inner}};
 
 use crate::row::{COLUMNS, HEADER};
 use crate::words::{
@@ -16,17 +20,18 @@ use std::alloc::{AllocError, Global};
 use std::io::Write;
 use uuid::Uuid;
 
-/// Where rows go. It remembers whether one of them was not written whole: the writer failed, or there was no memory for
-/// the row.
+/// A writer of rows. It remembers whether some row was not written completely: because the writer failed, or because
+/// memory ran out.
 #[derive(Drop)]
 pub(crate) struct Sink<W> {
     alloc: Global,
     writer: Writing<W>,
+    /// Whether memory ran out for a row.
     is_starved: bool,
 }
 
 impl<W> Sink<W> {
-    // Wraps a writer. No row has been written yet.
+    /// Wraps a writer. No row has been written yet.
     pub(crate) fn new(alloc: Global, inner: W) -> Sink<W>
         ensures inner { writing_inner result.writer ≡ inner }
         ensures ended { has_ended result ≡ false }
@@ -38,21 +43,21 @@ impl<W> Sink<W> {
         }
     }
 
-    // Whether a row was not written whole.
+    /// Returns whether some row was not written completely.
     pub(crate) fn has_ended(&self) -> bool
         ensures answer { result ≡ has_ended self.now }
     {
         self.writer.has_failed() || self.is_starved
     }
 
-    // Whether the writer failed.
+    /// Returns whether the writer failed.
     pub(crate) fn has_failed(&self) -> bool
         ensures answer { result ≡ write_failed self.now.writer }
     {
         self.writer.has_failed()
     }
 
-    // Gives the inner writer back.
+    /// Returns the inner writer.
     pub(crate) fn into_inner(self) -> W
         ensures answer { result ≡ writing_inner self.writer }
     {
@@ -60,8 +65,9 @@ impl<W> Sink<W> {
     }
 }
 
-// The text of a row with these columns. It is made in memory before it is written, since csv's writer does not say what
-// went out before it failed. Each row has a writer of its own, since one gives back what it wrote only at its end.
+/// Returns the text of a row with these columns. The row is built in memory before it is written, because the CSV
+/// writer does not report how much it wrote before it failed. Each row has a CSV writer of its own, because a CSV
+/// writer returns its buffer only when it ends.
 fn row_text(alloc: Global, columns: &[&[u8]]) -> Result<Vec<u8>, AllocError>
     ensures value { IfOk result (λ text. text.items ≡ row_text default_writer (map (λ c. c.now) columns.now)) }
 {
@@ -76,7 +82,7 @@ fn row_text(alloc: Global, columns: &[&[u8]]) -> Result<Vec<u8>, AllocError>
     }
 }
 
-/// Writes a row with these columns, unless a row before it was not written whole.
+/// Writes a row with these columns. Does nothing if an earlier row was not written completely.
 pub(crate) fn put_row<W: Write>(sink: &mut Sink<W>, columns: &[&[u8]])
     ensures puts { PutsRow W.contents sink.old (row_text default_writer (map (λ c. c.now) columns.now)) sink.new }
 {
@@ -89,7 +95,7 @@ pub(crate) fn put_row<W: Write>(sink: &mut Sink<W>, columns: &[&[u8]])
     }
 }
 
-// Writes a row that begins with these columns; the others are empty.
+/// Writes a row that begins with these columns and is filled up with empty ones.
 fn put_padded<W: Write>(sink: &mut Sink<W>, columns: &[&[u8]])
     requires few { length columns.now ≤ COLUMNS }
     ensures puts { PutsRow W.contents sink.old (row_text default_writer
@@ -109,7 +115,8 @@ pub(crate) fn put_header<W: Write>(sink: &mut Sink<W>)
     put_row(sink, &HEADER);
 }
 
-/// `B,2,1,1`: a text of the second version, with so many versions of terms and so many pledges.
+/// Writes the first row of a book, such as `B,2,1,1`: version 2 of the form, the number of versions of terms, and the
+/// number of pledges.
 pub(crate) fn put_book<W: Write>(sink: &mut Sink<W>, terms: u64, pledges: u64)
     ensures puts { PutsRow W.contents sink.old (text_of_row (Row.Book Version.Two terms pledges)) sink.new }
 {
@@ -124,7 +131,8 @@ pub(crate) fn put_book<W: Write>(sink: &mut Sink<W>, terms: u64, pledges: u64)
     );
 }
 
-/// `T,1,0,0,0`: a version of the terms.
+/// Writes a version of the terms, such as `T,1,0,0,0`. The rate of interest is in millionths a day, and the charges for
+/// safe keeping are in millionths of a penny a day.
 pub(crate) fn put_terms<W: Write>(sink: &mut Sink<W>, version: u64, rates: Rates)
     ensures puts { PutsRow W.contents sink.old (text_of_row (Row.Terms version rates)) sink.new }
 {
@@ -140,8 +148,8 @@ pub(crate) fn put_terms<W: Write>(sink: &mut Sink<W>, version: u64, rates: Rates
     );
 }
 
-/// `P,1,A1,Gold ring,fixed,10000,2024-01-31,,no,1,no,2024-02-01,open,,`: what was agreed when a
-/// pledge was taken, and how it stands.
+/// Writes a pledge's own row, such as `P,1,A1,Gold ring,fixed,10000,2024-01-31,,no,1,no,2024-02-01,open,,`: what was
+/// agreed when the pledge was taken, and its present state. Amounts are in pence.
 pub(crate) fn put_pledge<W: Write>(sink: &mut Sink<W>, brief: &BriefFields)
     ensures puts { PutsRow W.contents sink.old (text_of_row (Row.Pledge (brief_columns brief.now))) sink.new }
 {
@@ -162,7 +170,7 @@ pub(crate) fn put_pledge<W: Write>(sink: &mut Sink<W>, brief: &BriefFields)
     );
 }
 
-// Writes a pledge's row from these texts, and from the brief's numbers and days.
+/// Writes a pledge's own row from these texts and from the numbers and days of the brief.
 fn put_columns<'a, W: Write>(
     sink: &mut Sink<W>,
     brief: &BriefFields,
@@ -208,7 +216,7 @@ fn put_columns<'a, W: Write>(
     );
 }
 
-// The agreed end as a day of the calendar.
+/// Returns the agreed end as a day of the calendar.
 fn agreed_end(agreed: Option<RequestDay>) -> Option<Day>
     ensures value { result ≡ agreed }
 {
@@ -218,7 +226,7 @@ fn agreed_end(agreed: Option<RequestDay>) -> Option<Day>
     }
 }
 
-/// `S,1,2,2024-02-01,sworn,00000000-0000-0000-0000-000000000004`: a secret, at its place from 1.
+/// Writes a secret, such as `S,1,2,2024-02-01,sworn,00000000-0000-0000-0000-000000000004`. Its place is counted from 1.
 pub(crate) fn put_secret<W: Write>(sink: &mut Sink<W>, number: u64, place: u64, issued: &Issued)
     ensures puts { PutsRow W.contents sink.old (text_of_row (Row.Secret number place issued.now)) sink.new }
 {
@@ -235,7 +243,7 @@ pub(crate) fn put_secret<W: Write>(sink: &mut Sink<W>, number: u64, place: u64, 
     );
 }
 
-/// `E,1,1,2024-02-01,repay,1000`: an entry.
+/// Writes an entry, such as `E,1,1,2024-02-01,repay,1000`. The amount is in pence.
 pub(crate) fn put_entry<W: Write>(sink: &mut Sink<W>, number: u64, entry: &Entry)
     ensures puts { PutsRow W.contents sink.old (text_of_row (Row.Entry number entry.now)) sink.new }
 {
@@ -252,7 +260,7 @@ pub(crate) fn put_entry<W: Write>(sink: &mut Sink<W>, number: u64, entry: &Entry
     );
 }
 
-/// `X,1,1,2024-02-01,2024-09-30`: an extension, at its place from 1.
+/// Writes an extension, such as `X,1,1,2024-02-01,2024-09-30`. Its place is counted from 1.
 pub(crate) fn put_extension<W: Write>(
     sink: &mut Sink<W>,
     number: u64,
@@ -273,7 +281,7 @@ pub(crate) fn put_extension<W: Write>(
     );
 }
 
-/// `K,1,2024-02-10,3,asked`: a booking.
+/// Writes a booking, such as `K,1,2024-02-10,3,asked`.
 pub(crate) fn put_booking<W: Write>(sink: &mut Sink<W>, number: u64, booking: Booking)
     ensures puts { PutsRow W.contents sink.old (text_of_row (Row.Booking number booking)) sink.new }
 {

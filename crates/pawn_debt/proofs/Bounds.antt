@@ -1,12 +1,24 @@
--- What accepted entries leave owing is within its bounds.
-use Rattle.std.proofs.Common.{◌≡◌, ℕ, zero, suc, ◌+◌, ◌-◌, ◌*◌, ◌≤◌, nat_lt, nat_le, Bool, true, false, if◌then◌else◌, List, [], ◌∷◌, ◌++◌, Ok, IsOk, refl, sym}
-use Rattle.std.proofs.{Common.{ap, subst, ◌∙◌, arith, append_assoc, append-nil}, lemmas.{Bool.Decides.nat_tests, Nat.mul-le}}
-use Rattle.{pawn_base.proofs.{ListLemmas.{DoNotFall-push, last_by-le, last_by-push}, RefusalLemmas.first_of-is_ok}, pawn_terms.specs.Terms.IsChecked}
-use Rattle.{pawn_terms.specs.declared.terms.Rates.Rates, pawn_debt.specs.{Replay.{AreEntriesAccepted, IsEntryAccepted, sort_answer}, Due.AreOrdered}}
-use Rattle.pawn_debt.specs.Due.{DebtValue, Due, after_days, after_sort, credit_of, due, due_after, first_principal, keep_on, last_of}
-use Rattle.pawn_debt.specs.{declared.entry.{Sort.{TheVariants.{Draw, Repay}, Sort}, Entry.Entry}, Answers.{draw_rows, repay_rows, with_entry}}
-use Rattle.pawn_debt.{specs.{Limits.{most_a_day, most_pence}, declared.entry.Kind.{Kind, TheVariants.{Fixed, Running}}}, proofs.DueLemmas.after_days-principal}
+-- The sum owed after accepted entries is within its bounds.
+use Rattle.pawn_base.proofs.ListLemmas.{DoNotFall-push, last_by-le, last_by-push}
+use Rattle.pawn_base.proofs.RefusalLemmas.{first_of-is_ok}
+use Rattle.pawn_debt.proofs.DueLemmas.{after_days-principal}
 use Rattle.pawn_debt.proofs.EntryLemmas.{due-from-last, due-pushed, due-start, pushed}
+use Rattle.pawn_debt.specs.Answers.{draw_rows, repay_rows, with_entry}
+use Rattle.pawn_debt.specs.Due.{AreOrdered, DebtValue, Due, after_days, after_sort, credit_of, due, due_after}
+use Rattle.pawn_debt.specs.Due.{first_principal, keep_on, last_of}
+use Rattle.pawn_debt.specs.Limits.{most_a_day, most_pence}
+use Rattle.pawn_debt.specs.Replay.{AreEntriesAccepted, IsEntryAccepted, sort_answer}
+use Rattle.pawn_debt.specs.declared.entry.Entry.{Entry}
+use Rattle.pawn_debt.specs.declared.entry.Kind.{Kind}
+use Rattle.pawn_debt.specs.declared.entry.Kind.TheVariants.{Fixed, Running}
+use Rattle.pawn_debt.specs.declared.entry.Sort.{Sort}
+use Rattle.pawn_debt.specs.declared.entry.Sort.TheVariants.{Draw, Repay}
+use Rattle.pawn_terms.specs.Terms.{IsChecked}
+use Rattle.pawn_terms.specs.declared.terms.Rates.{Rates}
+use Rattle.std.proofs.Common.{◌≡◌, ℕ, zero, suc, ◌+◌, ◌-◌, ◌*◌, ◌≤◌, nat_lt, nat_le, Bool, true, false, if◌then◌else◌}
+use Rattle.std.proofs.Common.{List, [], ◌∷◌, ◌++◌, Ok, IsOk, refl, sym, ap, subst, ◌∙◌, arith, append_assoc, append-nil}
+use Rattle.std.proofs.lemmas.Bool.Decides.{nat_tests}
+use Rattle.std.proofs.lemmas.Nat.{mul-le}
 
 pub keep-small : (t : Rates) (ends x : ℕ) → IsChecked t → keep_on t ends x ≤ 10000000
 keep-small t ends x h = from (nat_le x ends) where
@@ -14,7 +26,7 @@ keep-small t ends x h = from (nat_le x ends) where
   from true = h.1
   from false = omega (arith, h.1, h.2)
 
--- no day adds more than the most
+-- a day adds at most `most_a_day`
 pub after_days-small : (t : Rates) (ends x n : ℕ) (o : Due) → IsChecked t → o.principal ≤ most_pence
     → (after_days t ends x n o).millionths ≤ o.millionths + n * most_a_day
 unfolding after_days
@@ -26,12 +38,12 @@ after_days-small t ends x (suc n) o h small =
     let keep = keep-small t ends (x + suc n) h in
     omega (arith, less, interest, keep)
 
--- what is owed on the day x is within its bounds
+-- the sum owed on the day x is within its bounds
 pub record IsBounded (p : DebtValue) (x : ℕ) : Type 0 where
   pub principal : (due p x).principal ≤ most_pence
   pub millionths : (due p x).millionths ≤ (x - p.taken) * most_a_day
 
--- what entries in order keep
+-- the bounds that a list of entries preserves
 record IsRunning (p : DebtValue) : Type 0 where
   ordered : AreOrdered p.taken p.entries
   bounded : IsBounded p (last_of p.taken p.entries)
@@ -48,7 +60,7 @@ later-bounded p x h r late =
       millionths = omega (arith, ap (λ (o : Due). o.millionths) e, small, r.bounded.millionths, low, late);
     }
 
--- an accepted entry keeps the bounds of what was owed before it
+-- an accepted entry preserves the bounds of the sum owed before it
 entered-bounded : (p : DebtValue) (s : Sort) (x pence : ℕ) → credit_of p.kind ≤ most_pence → IsBounded p x → IsOk (sort_answer s p x pence)
     → ((after_sort s pence (due p x)).principal ≤ most_pence) × ((after_sort s pence (due p x)).millionths ≤ (x - p.taken) * most_a_day)
     × (last_of p.taken p.entries ≤ x)
@@ -112,7 +124,7 @@ none-running d credit low =
       };
     }
 
--- so a debt whose entries were accepted in turn is within the bounds on the day of the last
+-- a debt whose entries were accepted in turn is within the bounds on the day of the last entry
 pub accepted-bounded : (d : DebtValue) → IsChecked d.terms → credit_of d.kind ≤ most_pence → AreEntriesAccepted d [] d.entries
     → IsBounded d (last_of d.taken d.entries)
 accepted-bounded d h credit ok = (all-running d [] d.entries h credit (none-running d credit (first-low d.kind)) ok).bounded

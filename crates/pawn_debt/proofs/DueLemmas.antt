@@ -1,16 +1,20 @@
 -- How charges grow over days without entries, by one multiplication.
-use Rattle.std.proofs.Common.{◌≡◌, ℕ, zero, suc, ◌+◌, ◌-◌, ◌*◌, ◌<◌, ◌≤◌, inl, inr, nat_le, true, false, min, refl, sym, ◌∙◌, arith}
-use Rattle.{std.proofs.lemmas.Bool.{Decides.nat_tests, cases_lt}, pawn_terms.specs.declared.terms.Rates.Rates, pawn_debt.specs.Due.{Due, after_days, keep_on}}
+use Rattle.pawn_debt.specs.Due.{Due, after_days, keep_on}
+use Rattle.pawn_terms.specs.declared.terms.Rates.{Rates}
+use Rattle.std.proofs.Common.{◌≡◌, ℕ, zero, suc, ◌+◌, ◌-◌, ◌*◌, ◌<◌, ◌≤◌, inl, inr, nat_le, true, false, min, refl, sym}
+use Rattle.std.proofs.Common.{◌∙◌, arith}
+use Rattle.std.proofs.lemmas.Bool.{cases_lt}
+use Rattle.std.proofs.lemmas.Bool.Decides.{nat_tests}
 
--- the days of the n after x that are not past the end
+-- of the n days after x, the number of those that are not after the end
 abbrev pub days_inside : ℕ → ℕ → ℕ → ℕ
 days_inside ends x n = min (x + n) ends - x
 
--- what is owed is its two numbers
+-- a sum owed is determined by its two numbers
 pub due_eq : (a b : Due) → a.principal ≡ b.principal → a.millionths ≡ b.millionths → a ≡ b
 due_eq a b e f = rw (e, f) refl
 
--- the keep of a day in the period, and of one past it
+-- the charge for safe keeping on a day in the period, and on a day after it
 pub keep_on-inside : (t : Rates) (ends x : ℕ) → x ≤ ends → keep_on t ends x ≡ t.keep_before
 keep_on-inside t ends x h = let e : nat_le x ends ≡ true = grind (arith, nat_tests) in rw e refl
 
@@ -34,7 +38,7 @@ after_days-inside t ends x (suc n) o h =
     let p = after_days-principal t ends x n o in
     rw (ih, k, p) (omega arith)
 
--- charges over days that go past it
+-- charges over days that continue after the end
 after_days-past : (t : Rates) (ends x n : ℕ) (o : Due) → ends ≤ x + n
     → (after_days t ends x n o).millionths ≡ o.millionths + n * (o.principal * t.rate) + (ends - x) * t.keep_before + (n - (ends - x)) * t.keep_after
 unfolding after_days
@@ -55,7 +59,7 @@ after_days-past t ends x (suc n) o h =
           rw (ih, k, p, e, m) (omega arith)
     ]
 
--- what n days without entries add, in one multiplication
+-- the charges that n days without entries add, in one multiplication
 pub after_days-millionths : (t : Rates) (ends x n : ℕ) (o : Due) → (after_days t ends x n o).millionths
     ≡ o.millionths + n * (o.principal * t.rate) + days_inside ends x n * t.keep_before + (n - days_inside ends x n) * t.keep_after
 after_days-millionths t ends x n o =
@@ -67,7 +71,7 @@ after_days-millionths t ends x n o =
           rw (e, m) (omega (arith, after_days-inside t ends x n o inside))
     ]
 
--- the same, of the two numbers that are kept
+-- the same for the two numbers that are stored
 pub after_days-is : (t : Rates) (ends x n : ℕ) (o : Due) (charges : ℕ)
     → charges ≡ o.millionths + n * (o.principal * t.rate) + days_inside ends x n * t.keep_before + (n - days_inside ends x n) * t.keep_after
     → record { principal = o.principal; millionths = charges } ≡ after_days t ends x n o

@@ -1,9 +1,17 @@
--- What a debt keeps beside its entries stays true.
-use Rattle.std.proofs.Common.{◌≡◌, ℕ, ◌+◌, ◌-◌, ◌*◌, ◌<◌, ◌≤◌, List, [], ◌∷◌, ◌++◌, length, refl, sym, ap, subst, ◌∙◌, arith, length-append}
-use Rattle.{pawn_terms.specs.Calendar.IsDayNumber, pawn_base.proofs.ListLemmas.{last_by-le, DoNotFall-push, last_by-push}, pawn_debt.specs.Due.{DebtValue, Due}}
-use Rattle.pawn_debt.specs.{Due.{after_days, after_sort, credit_of, due, due_after, first_principal, last_of}, declared.entry.Entry.Entry, Kept.IsDebtKept}
-use Rattle.pawn_debt.specs.{Kept.sums_of, declared.{entry.Sort.Sort, owing.Totals.Totals}, Limits.{most_a_day, most_entries, most_pence}, Answers.with_entry}
+-- The totals that a debt stores next to its entries stay right.
+use Rattle.pawn_base.proofs.ListLemmas.{last_by-le, DoNotFall-push, last_by-push}
 use Rattle.pawn_debt.proofs.EntryLemmas.{due-from-last, due-pushed, due-start, due-extended}
+use Rattle.pawn_debt.specs.Answers.{with_entry}
+use Rattle.pawn_debt.specs.Due.{DebtValue, Due, after_days, after_sort, credit_of, due, due_after, first_principal}
+use Rattle.pawn_debt.specs.Due.{last_of}
+use Rattle.pawn_debt.specs.Kept.{IsDebtKept, sums_of}
+use Rattle.pawn_debt.specs.Limits.{most_a_day, most_entries, most_pence}
+use Rattle.pawn_debt.specs.declared.entry.Entry.{Entry}
+use Rattle.pawn_debt.specs.declared.entry.Sort.{Sort}
+use Rattle.pawn_debt.specs.declared.owing.Totals.{Totals}
+use Rattle.pawn_terms.specs.Calendar.{IsDayNumber}
+use Rattle.std.proofs.Common.{◌≡◌, ℕ, ◌+◌, ◌-◌, ◌*◌, ◌<◌, ◌≤◌, List, [], ◌∷◌, ◌++◌, length, refl, sym, ap, subst, ◌∙◌}
+use Rattle.std.proofs.Common.{arith, length-append}
 
 -- what is owed on a later day; v is the value that a contract sees, and p what the fields hold
 pub owed-later : (p v : DebtValue) (t : Totals) (x : ℕ) → IsDebtKept p t → p ≡ v → last_of v.taken v.entries ≤ x
@@ -14,7 +22,7 @@ owed-later p v t x h is late =
     ap (λ (o : Due). after_days p.terms p.ends t.day (x - t.day) o) h.owed
     ∙ ap (λ (y : ℕ). after_days p.terms p.ends y (x - y) (due p y)) h.day ∙ due-from-last p x h.ordered held ∙ ap (λ (q : DebtValue). due q x) is
 
--- and a bound on its charges
+-- the bound of the charges on a later day
 pub millionths-later : (p v : DebtValue) (t : Totals) (x charges : ℕ) → IsDebtKept p t → p ≡ v → last_of v.taken v.entries ≤ x
     → charges ≤ t.millionths + (x - t.day) * most_a_day → charges ≤ (x - v.taken) * most_a_day
 millionths-later p v t x charges h is late small =
@@ -25,7 +33,7 @@ millionths-later p v t x charges h is late small =
     let bound : Q p = omega (arith, small, h.millionths_in, h.day) in
     subst Q is bound
 
--- one more entry keeps all of it
+-- one more entry preserves all of `IsDebtKept`
 pub IsKept-entry : (p : DebtValue) (t after : Totals) (sort : Sort) (pence : ℕ) → IsDebtKept p t → last_of p.taken p.entries ≤ after.day
     → length p.entries < most_entries → sums_of after ≡ after_sort sort pence (due p after.day) → after.principal ≤ most_pence
     → after.millionths ≤ (after.day - p.taken) * most_a_day → IsDayNumber after.day → IsDebtKept (with_entry p after.day sort pence) after
@@ -44,7 +52,7 @@ IsKept-entry p t after sort pence h late few owed principal charges day =
       few = omega (arith, length-append p.entries (e ∷ []));
     }
 
--- what a call may enter, in the words of its contract
+-- the entry that a call may add, in the terms of its contract
 pub record CanEnter (v : DebtValue) (after : Totals) (sort : Sort) (pence : ℕ) : Type 0 where
   pub later : last_of v.taken v.entries ≤ after.day
   pub few : length v.entries < most_entries
@@ -82,7 +90,7 @@ IsKept-start p principal none first small low day =
       few = rw none (omega arith);
     }
 
--- a longer period keeps what was kept, where the last entry was inside the old one
+-- a longer period preserves `IsDebtKept`, if the last entry was in the old period
 pub IsKept-extended : (p v : DebtValue) (t : Totals) (ends : ℕ) → IsDebtKept p t → p ≡ v → v.ends ≤ ends → last_of v.taken v.entries ≤ v.ends
     → IsDebtKept (record p { ends = ends }) t
 IsKept-extended p v t ends h is later inside =
@@ -101,7 +109,7 @@ IsKept-extended p v t ends h is later inside =
       few = h.few;
     }
 
--- one more entry, as it stands
+-- one more entry, as the code adds it
 pub IsKept-next : (p : DebtValue) (t after : Totals) (e : Entry) (s : Sort) → IsDebtKept p t → t.day ≤ e.day → length p.entries < most_entries → e.sort ≡ s
     → after.day ≡ e.day → sums_of after ≡ after_sort s e.pence (due p e.day) → after.principal ≤ most_pence → after.millionths ≤ (e.day - p.taken) * most_a_day
     → IsDayNumber e.day → IsDebtKept (record p { entries = p.entries ++ e ∷ [] }) after

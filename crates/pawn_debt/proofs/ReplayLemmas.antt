@@ -1,12 +1,21 @@
 -- Entries that the rules accept in turn.
-use Rattle.std.proofs.Common.{◌≡◌, ℕ, ◌+◌, ◌<◌, ◌≤◌, List, [], ◌∷◌, ◌++◌, take, drop, get_or, length, Ok, IsOk, sym, ap, subst, ◌∙◌, arith, false, nat_lt}
-use Rattle.std.proofs.{Common.{append-nil, append_assoc, take-append-drop}, lemmas.List.{drop_more, take_more}}
-use Rattle.pawn_base.proofs.{RefusalLemmas.{first_of-accepts, first_of-is_ok, first_of-ok}, ListLemmas.last_by-le, TestLemmas.{not_below, not_most}}
-use Rattle.pawn_debt.specs.{Replay.{AreEntriesAccepted, IsEntryAccepted, sort_answer}, Due.{AreOrdered, DebtValue, Due, credit_of, due, last_of}}
-use Rattle.pawn_debt.specs.{declared.entry.{Sort.{TheVariants.{Draw, Repay}, Sort}, Entry.Entry}, Answers.{draw_rows, repay_rows, with_entry}}
-use Rattle.pawn_debt.{specs.{Limits.most_entries, Owing.total_of}, proofs.EntryLemmas.due-extended}
+use Rattle.pawn_base.proofs.ListLemmas.{last_by-le}
+use Rattle.pawn_base.proofs.RefusalLemmas.{first_of-accepts, first_of-is_ok, first_of-ok}
+use Rattle.pawn_base.proofs.TestLemmas.{not_below, not_most}
+use Rattle.pawn_debt.proofs.EntryLemmas.{due-extended}
+use Rattle.pawn_debt.specs.Answers.{draw_rows, repay_rows, with_entry}
+use Rattle.pawn_debt.specs.Due.{AreOrdered, DebtValue, Due, credit_of, due, last_of}
+use Rattle.pawn_debt.specs.Limits.{most_entries}
+use Rattle.pawn_debt.specs.Owing.{total_of}
+use Rattle.pawn_debt.specs.Replay.{AreEntriesAccepted, IsEntryAccepted, sort_answer}
+use Rattle.pawn_debt.specs.declared.entry.Entry.{Entry}
+use Rattle.pawn_debt.specs.declared.entry.Sort.{Sort}
+use Rattle.pawn_debt.specs.declared.entry.Sort.TheVariants.{Draw, Repay}
+use Rattle.std.proofs.Common.{◌≡◌, ℕ, ◌+◌, ◌<◌, ◌≤◌, List, [], ◌∷◌, ◌++◌, take, drop, get_or, length, Ok, IsOk, sym, ap}
+use Rattle.std.proofs.Common.{subst, ◌∙◌, arith, false, nat_lt, append-nil, append_assoc, take-append-drop}
+use Rattle.std.proofs.lemmas.List.{drop_more, take_more}
 
--- what the rules accept is one more entry
+-- an accepted entry is added at the end
 pub sort_answer-ok : (s : Sort) (p v : DebtValue) (x pence : ℕ) → sort_answer s p x pence ≡ Ok v
     → (last_of p.taken p.entries ≤ x) × (length p.entries < most_entries) × (v ≡ with_entry p x s pence)
 sort_answer-ok Draw p v x pence h =
@@ -26,7 +35,7 @@ AreAccepted-push d prior (f ∷ es) e h last =
     let P : List Entry → Type 0 = λ l. IsEntryAccepted (record d { entries = l }) e in
     (h.0, AreAccepted-push d (prior ++ f ∷ []) es e h.1 (subst P (sym (append_assoc prior (f ∷ []) es)) last))
 
--- so the entry after some is accepted after them
+-- of entries that are accepted in turn, each is accepted after those before it
 pub AreAccepted-next : (d : DebtValue) (prior es : List Entry) (e : Entry) (rest : List Entry) → AreEntriesAccepted d prior (es ++ e ∷ rest)
     → IsEntryAccepted (record d { entries = prior ++ es }) e
 AreAccepted-next d prior [] e rest h =
@@ -39,14 +48,14 @@ AreAccepted-next d prior (f ∷ es) e rest h =
 split : (es : List Entry) (i : ℕ) (x : Entry) → i < length es → take i es ++ get_or es i x ∷ drop (i + 1) es ≡ es
 split es i x lt = ap (λ (l : List Entry). take i es ++ l) (sym (drop_more es i x lt)) ∙ take-append-drop i es
 
--- one that is refused
+-- if an entry is refused after those before it, the list is not accepted in turn
 pub AreAccepted-not : (d : DebtValue) (es : List Entry) (i : ℕ) (x : Entry) → i < length es
     → (IsEntryAccepted (record d { entries = take i es }) (get_or es i x) → ⊥) → AreEntriesAccepted d [] es → ⊥
 AreAccepted-not d es i x lt refused h =
     let P : List Entry → Type 0 = λ l. AreEntriesAccepted d [] l in
     refused (AreAccepted-next d [] (take i es) (get_or es i x) (drop (i + 1) es) (subst P (sym (split es i x lt)) h))
 
--- the same of an element that was read
+-- the first i entries with the entry that was read at i are the first i + 1 entries
 pub taken-more : (es : List Entry) (i : ℕ) (e : Entry) → i < length es → e ≡ get_or es i e → take i es ++ e ∷ [] ≡ take (i + 1) es
 taken-more es i e lt is = ap (λ (x : Entry). take i es ++ x ∷ []) is ∙ sym (take_more es i e lt)
 
@@ -62,7 +71,7 @@ accepted-not d es i e lt is refused h =
     let P : Entry → Type 0 = λ x. (IsEntryAccepted (record d { entries = take i es }) x → ⊥) in
     AreAccepted-not d es i e lt (subst P is refused) h
 
--- a later end changes no answer on a day inside the old one
+-- a later end changes no answer on a day that is not after the old end
 sort_answer-ended : (s : Sort) (d : DebtValue) (ends x pence : ℕ) → due (record d { ends = ends }) x ≡ due d x → IsOk (sort_answer s d x pence)
     → IsOk (sort_answer s (record d { ends = ends }) x pence)
 sort_answer-ended Draw d ends x pence same h =
@@ -86,7 +95,7 @@ abbrev pub AreInside : DebtValue → List Entry → Type 0
 AreInside d [] = Unit {0}
 AreInside d (e ∷ es) = ((d.taken ≤ e.day) × (e.day ≤ d.ends)) × AreInside d es
 
--- and so the entries stay accepted
+-- with a later end the entries are still accepted
 pub AreAccepted-ended : (d : DebtValue) (ends : ℕ) (prior es : List Entry) → d.ends ≤ ends → AreInside d es → AreEntriesAccepted d prior es
     → AreEntriesAccepted (record d { ends = ends }) prior es
 AreAccepted-ended d ends prior [] later days h = tt

@@ -1,8 +1,10 @@
--- Why a call on a debt is refused.
-use Rattle.{std.specs.Prelude.{ℕ, List, Option, Some, None, codes}, pawn_debt.specs.declared.fault.DebtFault.{DebtFault, TheVariants.{BadAmount, FixedSum}}}
-use Rattle.pawn_debt.specs.declared.fault.DebtFault.TheVariants.{OverLimit, OverOwing, EarlierDay, EntriesFull, Memory}
+-- The reasons why a call on a debt is refused.
+use Rattle.pawn_debt.specs.declared.fault.DebtFault.{DebtFault}
+use Rattle.pawn_debt.specs.declared.fault.DebtFault.TheVariants.{BadAmount, FixedSum, OverLimit, OverOwing, EarlierDay}
+use Rattle.pawn_debt.specs.declared.fault.DebtFault.TheVariants.{EntriesFull, Memory}
+use Rattle.std.specs.Prelude.{ℕ, List, Option, Some, None, codes}
 
--- the fault's number
+-- the code of the fault in replies
 abbrev pub debt_fault_code : DebtFault → ℕ
 debt_fault_code BadAmount = 201
 debt_fault_code FixedSum = 202
@@ -12,7 +14,7 @@ debt_fault_code EarlierDay = 205
 debt_fault_code EntriesFull = 206
 debt_fault_code Memory = 491
 
--- the fault's name
+-- the name of the fault in replies
 abbrev pub debt_fault_name : DebtFault → List ℕ
 debt_fault_name BadAmount = codes "BadAmount"
 debt_fault_name FixedSum = codes "FixedSum"
@@ -22,7 +24,7 @@ debt_fault_name EarlierDay = codes "EarlierDay"
 debt_fault_name EntriesFull = codes "EntriesFull"
 debt_fault_name Memory = codes "Memory"
 
--- what is owing, where a repayment is of more
+-- the sum owed, if the fault is a repayment above it
 abbrev pub fault_total : DebtFault → Option ℕ
 fault_total (OverOwing total) = Some total
 fault_total other = None

@@ -1,13 +1,15 @@
--- What a debt keeps beside its entries: what is owed on the day of the last one.
-use Rattle.std.specs.Prelude.{◌≡◌, ◌-◌, ◌*◌, ◌≤◌, length}
-use Rattle.{pawn_terms.specs.Calendar.IsDayNumber, pawn_debt.specs.{declared.owing.Totals.Totals, Due.{Due, DebtValue, due, last_of, AreOrdered, credit_of}}}
+-- The totals that a debt stores next to its entries: the sum owed on the day of the last entry.
+use Rattle.pawn_debt.specs.Due.{Due, DebtValue, due, last_of, AreOrdered, credit_of}
 use Rattle.pawn_debt.specs.Limits.{most_pence, most_entries, most_a_day}
+use Rattle.pawn_debt.specs.declared.owing.Totals.{Totals}
+use Rattle.pawn_terms.specs.Calendar.{IsDayNumber}
+use Rattle.std.specs.Prelude.{◌≡◌, ◌-◌, ◌*◌, ◌≤◌, length}
 
 -- the principal and the charges of totals
 abbrev pub sums_of : Totals → Due
 sums_of t = record { principal = t.principal; millionths = t.millionths }
 
--- what is owed on the day of the last entry, or else on the day taken
+-- the sum owed on the day of the last entry, or on the day taken if there is no entry
 abbrev pub totals_of : DebtValue → Totals
 totals_of p = record {
   day = last_of p.taken p.entries;
@@ -15,7 +17,7 @@ totals_of p = record {
   millionths = (due p (last_of p.taken p.entries)).millionths;
 }
 
--- the totals are what is owed on the day of the last entry, and all numbers keep their limits
+-- the totals are the sum owed on the day of the last entry, and all numbers are within their limits
 pub record IsDebtKept (p : DebtValue) (t : Totals) : Type 0 where
   pub ordered : AreOrdered p.taken p.entries
   pub day : t.day ≡ last_of p.taken p.entries

@@ -7,3 +7,4 @@ pub mod Answers
 pub mod Kept
 pub mod Replay
 pub mod Worked
+pub mod WorkedLimits

@@ -1,15 +1,26 @@
--- Debts, worked out.
-use Rattle.std.specs.{Prelude.{◌≡◌, ℕ, ◌-◌, [], ◌∷◌, Ok, Err}, List.repeat}
-use Rattle.{pawn_terms.specs.{Calendar.six_months, declared.terms.Rates.Rates, Terms.rates_of, Worked.date}, pawn_debt.specs.declared.entry.Kind.Kind}
-use Rattle.pawn_debt.specs.declared.{entry.{Kind.TheVariants.{Fixed, Running}, Sort.TheVariants.{Draw, Repay}}, owing.Owing.Owing}
-use Rattle.pawn_debt.specs.{declared.fault.DebtFault.TheVariants.{BadAmount, FixedSum, OverLimit, OverOwing, EarlierDay, EntriesFull}, Due.{Due, DebtValue}}
-use Rattle.pawn_debt.specs.{Due.{due, after_days}, Owing.owing_of, Answers.{draw_answer, repay_answer, start_answer, with_entry}, Kept.totals_of}
+-- Worked examples of debts.
+use Rattle.pawn_debt.specs.Answers.{draw_answer, repay_answer, start_answer, with_entry}
+use Rattle.pawn_debt.specs.Due.{Due, DebtValue, due, after_days}
+use Rattle.pawn_debt.specs.Kept.{totals_of}
+use Rattle.pawn_debt.specs.Owing.{owing_of}
+use Rattle.pawn_debt.specs.declared.entry.Kind.{Kind}
+use Rattle.pawn_debt.specs.declared.entry.Kind.TheVariants.{Fixed, Running}
+use Rattle.pawn_debt.specs.declared.entry.Sort.TheVariants.{Draw, Repay}
+use Rattle.pawn_debt.specs.declared.fault.DebtFault.TheVariants.{BadAmount, FixedSum, OverLimit, OverOwing, EarlierDay}
+use Rattle.pawn_debt.specs.declared.fault.DebtFault.TheVariants.{EntriesFull}
+use Rattle.pawn_debt.specs.declared.owing.Owing.{Owing}
+use Rattle.pawn_terms.specs.Calendar.{six_months}
+use Rattle.pawn_terms.specs.Terms.{rates_of}
+use Rattle.pawn_terms.specs.Worked.{date}
+use Rattle.pawn_terms.specs.declared.terms.Rates.{Rates}
+use Rattle.std.specs.List.{repeat}
+use Rattle.std.specs.Prelude.{◌≡◌, ℕ, ◌-◌, [], ◌∷◌, Ok, Err}
 
 -- terms without any charge
 abbrev pub free : Rates
 free = rates_of 0 0 0
 
--- a debt as it is taken, for six months
+-- a new debt for six months, without entries
 abbrev pub six_month_debt : Kind → Rates → ℕ → DebtValue
 six_month_debt kind terms taken = record { kind = kind; terms = terms; taken = taken; ends = six_months taken; entries = [] }
 
@@ -17,7 +28,7 @@ six_month_debt kind terms taken = record { kind = kind; terms = terms; taken = t
 abbrev pub pence_and_millionths : ℕ → ℕ → Due
 pence_and_millionths principal charges = record { principal = principal; millionths = charges }
 
--- what is owed in whole pence, as callers see it
+-- the sum owed in whole pence, as replies show it
 abbrev pub owed : ℕ → ℕ → ℕ → Owing
 owed principal charges total = record { principal = principal; charges = charges; total = total }
 
@@ -25,7 +36,7 @@ owed principal charges total = record { principal = principal; charges = charges
 abbrev pub at_interest : DebtValue
 at_interest = six_month_debt (Fixed 10000) (rates_of 2667 0 0) (date 2024 1 1)
 
--- interest runs from the day after the day taken, and is rounded down to whole pence once, when it is shown
+-- interest runs from the day after the day taken, and is rounded down to whole pence only when it is shown
 abbrev pub WorkedInterest : Type 0
 WorkedInterest =
     (due at_interest (date 2024 1 1) ≡ pence_and_millionths 10000 0)
@@ -34,7 +45,7 @@ WorkedInterest =
     × (owing_of (due at_interest (date 2024 1 2)) ≡ owed 10000 26 10026)
     × (owing_of (due at_interest (date 2024 1 31)) ≡ owed 10000 800 10800)
 
--- the same, once ten pounds were repaid
+-- the same after a repayment of ten pounds
 abbrev pub part_repayment : DebtValue
 part_repayment = with_entry at_interest (date 2024 1 31) Repay 1000
 
@@ -50,7 +61,7 @@ WorkedRepayments =
     × (repay_answer at_interest (date 2024 1 31) 100000001 ≡ Err BadAmount)
     × (repay_answer part_repayment (date 2024 1 30) 0 ≡ Err EarlierDay)
 
--- what is kept on the day of the last entry, and carried on from there
+-- the totals that are stored on the day of the last entry, and carried forward from there
 abbrev pub WorkedTotals : Type 0
 WorkedTotals =
     (totals_of at_interest ≡ record { day = date 2024 1 1; principal = 10000; millionths = 0 })
@@ -58,14 +69,15 @@ WorkedTotals =
     × (owing_of
     (after_days (rates_of 2667 0 0) (date 2024 7 1) (date 2024 1 31) (date 2024 3 1 - date 2024 1 31) (pence_and_millionths 9800 100000)) ≡ owed 9800 784 10584)
 
--- a penny a day for safe keeping up to the end, and half a penny after it
+-- a debt with safe keeping at a penny a day up to the end, and half a penny after it
 abbrev pub in_safe_keeping : DebtValue
 in_safe_keeping = six_month_debt (Fixed 10000) (rates_of 0 1000000 500000) (date 2024 1 31)
 
--- the same, where the period was extended by two months
+-- the same with the period extended to 2024-09-30
 abbrev pub longer_keeping : DebtValue
 longer_keeping = record in_safe_keeping { ends = date 2024 9 30 }
 
+-- the charge for safe keeping changes after the end of the period
 abbrev pub WorkedSafeKeeping : Type 0
 WorkedSafeKeeping =
     (owing_of (due in_safe_keeping (date 2024 7 31)) ≡ owed 10000 182 10182)
@@ -73,24 +85,25 @@ WorkedSafeKeeping =
     × (repay_answer in_safe_keeping (date 2024 8 10) 10188 ≡ Err (OverOwing 10187))
     × (owing_of (due longer_keeping (date 2024 8 10)) ≡ owed 10000 192 10192)
 
--- a running account with a limit of 50 pounds, and one on which 30 were drawn
+-- a running account with a limit of 50 pounds
 abbrev pub account : DebtValue
 account = six_month_debt (Running 5000) free (date 2024 1 31)
 
+-- the account after a drawing of 30 pounds
 abbrev pub drawn_in_part : DebtValue
 drawn_in_part = with_entry account (date 2024 1 31) Draw 3000
 
--- the account with as many entries as there may be
+-- the account with the most entries that a debt may have
 abbrev pub full_account : DebtValue
 full_account = record account { entries = repeat 9999 (record { seq = 1; day = date 2024 1 31; sort = Draw; pence = 1 } ∷ []) }
 
--- a full account takes neither a drawing nor a repayment
+-- a full account accepts neither a drawing nor a repayment
 abbrev pub WorkedFullness : Type 0
 WorkedFullness =
     (draw_answer full_account (date 2024 1 31) 1 ≡ Err EntriesFull)
     × (repay_answer full_account (date 2024 1 31) 1 ≡ Err EntriesFull)
 
--- drawings up to the limit, on a running account alone
+-- drawings are accepted up to the limit, and only on a running account
 abbrev pub WorkedDrawings : Type 0
 WorkedDrawings =
     (draw_answer account (date 2024 1 31) 3000 ≡ Ok drawn_in_part)
@@ -101,7 +114,7 @@ WorkedDrawings =
     × (draw_answer in_safe_keeping (date 2024 1 31) 0 ≡ Err FixedSum)
     × (draw_answer in_safe_keeping (date 2024 1 30) 0 ≡ Err EarlierDay)
 
--- a sum or a limit of at least a penny, and of no more than a million pounds
+-- a sum or a limit is at least a penny, and at most a million pounds
 abbrev pub WorkedStarts : Type 0
 WorkedStarts =
     (start_answer (Fixed 0) free (date 2024 1 31) (date 2024 7 31) ≡ Err BadAmount)

@@ -1,7 +1,13 @@
-ghost use Rattle.std.specs.Prelude.{find, ◌==◌, ◌≡◌, ◌-◌, ◌*◌, ◌≤◌, ◌<◌, length, OnOk, OnErr, IfOk, IfErr};
-ghost use Rattle.{pawn_terms.specs.Calendar.IsDayNumber, pawn_debt.specs.{Due.{due, last_of, credit_of, after_sort}, Owing.owing_of, Answers.start_answer}};
-ghost use Rattle.pawn_debt.specs.{Answers.{draw_answer, repay_answer, with_entry, IsAnswer}, Kept.{IsDebtKept, sums_of, totals_of}, Replay.CanStand};
+//! `Debt`: a credit with its entries, and the sum owed on it.
+
+ghost use Rattle.pawn_debt.specs.Answers.{start_answer, draw_answer, repay_answer, with_entry, IsAnswer};
+ghost use Rattle.pawn_debt.specs.Due.{due, last_of, credit_of, after_sort};
+ghost use Rattle.pawn_debt.specs.Kept.{IsDebtKept, sums_of, totals_of};
 ghost use Rattle.pawn_debt.specs.Limits.{most_pence, most_entries, most_a_day, most_millionths};
+ghost use Rattle.pawn_debt.specs.Owing.{owing_of};
+ghost use Rattle.pawn_debt.specs.Replay.{CanStand};
+ghost use Rattle.pawn_terms.specs.Calendar.{IsDayNumber};
+ghost use Rattle.std.specs.Prelude.{find, ◌==◌, ◌≡◌, ◌-◌, ◌*◌, ◌≤◌, ◌<◌, length, OnOk, OnErr, IfOk, IfErr};
 
 use crate::entry::{Entries, Entry, Kind, Sort, find_entry};
 use crate::fault::DebtFault;
@@ -12,7 +18,7 @@ use pawn_terms::{Day, Terms};
 use std::alloc::{AllocError, Global};
 use std::marker::Model;
 
-/// The debt on a pledge: its credit, terms, period and entries, and what was owed after the last entry.
+/// The debt on a pledge: its credit, terms, period and entries, and the totals after the last entry.
 #[derive(Drop)]
 pub struct Debt {
     kind: Kind,
@@ -66,8 +72,8 @@ impl Debt {
         })
     }
 
-    /// The debt with these entries, given what is owed after them. The contract asks that the entries and the totals
-    /// agree.
+    /// The debt with these entries and with the totals after the last of them. The contract requires that the totals
+    /// follow from the entries, and that all are within their limits.
     pub fn with_totals(
         kind: Kind,
         terms: Terms,
@@ -89,8 +95,8 @@ impl Debt {
         }
     }
 
-    /// The debt with these entries. They are handed back if the rules do not accept each in turn, or if the sum or
-    /// limit is out of range.
+    /// The debt with these entries. Returns the entries as the error if the rules do not accept each of them in turn,
+    /// or if the sum or limit is 0 or above `MOST_PENCE`.
     pub fn of_entries(
         kind: Kind,
         terms: Terms,
@@ -118,7 +124,7 @@ impl Debt {
         }
     }
 
-    // What is owed on a day from the last entry's on.
+    /// The totals on a day that is not before the last entry, nor before the day taken.
     fn owed_on(&self, day: Day) -> Totals
         requires later { last_of self.now.taken self.now.entries ≤ day }
         ensures day { result.day ≡ day }
@@ -130,7 +136,7 @@ impl Debt {
         after_days(&self.totals, self.terms, self.ends, day)
     }
 
-    /// What is owed in whole pence on a day that is not before the last entry, nor before the day taken.
+    /// The sum owed in whole pence on a day that is not before the last entry, nor before the day taken.
     pub fn owing(&self, day: Day) -> Owing
         requires later { last_of self.now.taken self.now.entries ≤ day }
         ensures value { result ≡ owing_of (due self.now day) }
@@ -138,8 +144,8 @@ impl Debt {
         owing_after(&self.owed_on(day))
     }
 
-    /// What is owed on the day of the last entry, or else on the day taken: principal in pence, charges in millionths
-    /// of a penny.
+    /// The totals on the day of the last entry, or on the day taken if there is no entry: principal in pence, charges
+    /// in millionths of a penny.
     pub fn totals(&self) -> Totals
         ensures value { result ≡ totals_of self.now }
         ensures principal_in { result.principal ≤ most_pence }
@@ -148,8 +154,8 @@ impl Debt {
         self.totals
     }
 
-    /// Enters a drawing on a running account, or refuses it and leaves the debt unchanged. The first of these that
-    /// applies refuses it: `EarlierDay`, `FixedSum`, `BadAmount`, `EntriesFull`, `OverLimit`. `Memory` comes last.
+    /// Enters a drawing on a running account, or refuses it and leaves the debt unchanged. The refusals are checked in
+    /// this order: `EarlierDay`, `FixedSum`, `BadAmount`, `EntriesFull`, `OverLimit`, and `Memory` last.
     pub fn draw(&mut self, day: Day, pence: u64) -> Result<(), DebtFault>
         ensures answer { IsAnswer DebtFault.Memory (draw_answer self.old day pence) self.old result self.new }
         ensures entered { OnOk result (self.new ≡ with_entry self.old day Sort.Draw pence) }
@@ -175,9 +181,9 @@ impl Debt {
         self.enter(Sort::Draw, pence, after)
     }
 
-    /// Enters a repayment, which pays whole pence of charges first, then principal; or refuses it and leaves the debt
-    /// unchanged. The first of these that applies refuses it: `EarlierDay`, `BadAmount`, `EntriesFull`, `OverOwing`.
-    /// `Memory` comes last.
+    /// Enters a repayment, which pays whole pence of charges first and then principal, or refuses it and leaves the
+    /// debt unchanged. The refusals are checked in this order: `EarlierDay`, `BadAmount`, `EntriesFull`, `OverOwing`,
+    /// and `Memory` last.
     pub fn repay(&mut self, day: Day, pence: u64) -> Result<(), DebtFault>
         ensures answer { IsAnswer DebtFault.Memory (repay_answer self.old day pence) self.old result self.new }
         ensures entered { OnOk result (self.new ≡ with_entry self.old day Sort.Repay pence) }
@@ -201,7 +207,7 @@ impl Debt {
         self.enter(Sort::Repay, pence, after)
     }
 
-    /// A copy of the debt. The only error is that memory is refused.
+    /// A copy of the debt. Fails only if memory runs out.
     pub fn copy(&self) -> Result<Debt, AllocError>
         ensures ok { IfOk result (λ d. d ≡ self.now) }
     {
@@ -216,8 +222,7 @@ impl Debt {
         })
     }
 
-    /// Sets the end of the period to a day that is not before the present end. No entry may be dated past the present
-    /// end.
+    /// Sets the end of the period to a day that is not before the present end. No entry may be after the present end.
     pub fn extend(&mut self, ends: Day)
         requires later { self.old.ends ≤ ends }
         requires inside { last_of self.old.taken self.old.entries ≤ self.old.ends }
@@ -226,7 +231,7 @@ impl Debt {
         self.ends = ends;
     }
 
-    /// The day of the last entry, or else the day taken.
+    /// The day of the last entry, or the day taken if there is no entry.
     pub fn last(&self) -> Day
         ensures value { result ≡ last_of self.now.taken self.now.entries }
     {
@@ -255,7 +260,7 @@ impl Debt {
         self.entries.as_slice()
     }
 
-    /// A copy of the entries, in order. The only error is that memory is refused.
+    /// A copy of the entries, in order. Fails only if memory runs out.
     pub fn copy_entries(&self) -> Result<Entries, AllocError>
         ensures ok { IfOk result (λ e. e ≡ self.now.entries) }
     {
@@ -284,7 +289,7 @@ impl Debt {
         self.entries.len()
     }
 
-    // Adds an entry at the end, and keeps `after` as what is owed after it.
+    /// Adds an entry at the end, and stores `after` as the totals after it.
     fn enter(&mut self, sort: Sort, pence: u64, after: Totals) -> Result<(), DebtFault>
         requires later { last_of self.old.taken self.old.entries ≤ after.day }
         requires few { length self.old.entries < most_entries }

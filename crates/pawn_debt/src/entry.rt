@@ -1,5 +1,8 @@
+//! Kinds of credit, and entries: drawings and repayments.
+
+ghost use Rattle.pawn_debt.specs.Due.{credit_of, first_principal};
+ghost use Rattle.pawn_debt.specs.Words.{sort_text};
 ghost use Rattle.std.specs.Prelude.{find, ◌==◌, ◌≡◌, ◌≤◌};
-ghost use Rattle.pawn_debt.specs.{Due.{credit_of, first_principal}, Words.sort_text};
 
 use pawn_base::Rows;
 use pawn_terms::Day;
@@ -7,7 +10,7 @@ use pawn_terms::Day;
 /// The kind of a credit, with its sum or limit in pence.
 #[derive(Clone, Copy, PartialEq, Eq)]
 pub enum Kind {
-    /// A fixed sum, lent on the day taken.
+    /// A fixed sum, which was lent on the day taken.
     Fixed(u64),
     /// A running account, with the limit of its principal.
     Running(u64),
@@ -24,7 +27,7 @@ impl Kind {
         }
     }
 
-    // The principal on the day taken: the fixed sum, or 0 on a running account.
+    /// The principal on the day taken: the fixed sum, or 0 on a running account.
     pub(crate) fn first_principal(self) -> u64
         ensures value { result ≡ first_principal self }
         ensures small { result ≤ credit_of self }
@@ -44,7 +47,7 @@ pub enum Sort {
 }
 
 impl Sort {
-    /// The word for it in replies, statements and CSV: `draw` or `repay`.
+    /// The word for the kind of entry in replies, statements and CSV: `draw` or `repay`.
     pub fn word(self) -> &'static str
         ensures word { result.now ≡ sort_text self }
     {
@@ -67,7 +70,7 @@ pub struct Entry {
 /// The entries of a debt, in order.
 pub type Entries = Rows<Entry>;
 
-// The first entry with this number, if there is one.
+/// The first entry with this number, if there is one.
 pub(crate) fn find_entry(entries: &[Entry], seq: u64) -> Option<Entry>
     ensures value { result ≡ find (λ e. e.seq == seq) entries.now }
 {

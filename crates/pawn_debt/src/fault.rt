@@ -1,9 +1,11 @@
+//! `DebtFault`, the reasons why a call on a debt is refused.
+
 ghost use Rattle.std.specs.Prelude.{◌≡◌};
 
 use std::error::Error;
 use std::fmt;
 
-/// Why a call on a debt is refused.
+/// The reason why a call on a debt is refused.
 #[derive(Clone, Copy, Debug, PartialEq, Eq)]
 pub enum DebtFault {
     /// A sum of 0, or above 100,000,000 pence.
@@ -12,20 +14,20 @@ pub enum DebtFault {
     FixedSum,
     /// A drawing that takes the principal above the limit.
     OverLimit,
-    /// A repayment of more than is owing; `total` is what is owing, in pence.
+    /// A repayment above the sum owed; `total` is the sum owed, in pence.
     OverOwing { total: u64 },
-    /// A day before the last entry's, or before the day taken.
+    /// A day before the day of the last entry, or before the day taken.
     EarlierDay,
-    /// The debt has as many entries as it may have.
+    /// The debt has 9,999 entries, the most that it may have.
     EntriesFull,
-    /// Memory for a new entry was refused.
+    /// Out of memory for a new entry.
     Memory,
 }
 
 impl DebtFault {
     ghost use Rattle.pawn_debt.specs.DebtFault.{debt_fault_code, debt_fault_name, fault_total};
 
-    /// The number of the fault, as replies carry it.
+    /// The code of the fault in replies.
     pub fn code(self) -> u16
         ensures value { result ≡ debt_fault_code self }
     {
@@ -40,7 +42,7 @@ impl DebtFault {
         }
     }
 
-    /// The name of the fault, as replies carry it.
+    /// The name of the fault in replies.
     pub fn name(self) -> &'static str
         ensures value { result.now ≡ debt_fault_name self }
     {
@@ -55,7 +57,7 @@ impl DebtFault {
         }
     }
 
-    /// What is owing, in pence, if the fault is `OverOwing`.
+    /// The sum owed in pence, if the fault is `OverOwing`.
     pub fn total(self) -> Option<u64>
         ensures value { result ≡ fault_total self }
     {
@@ -67,8 +69,8 @@ impl DebtFault {
 }
 
 impl fmt::Display for DebtFault {
-    ghost use Rattle.std.specs.Prelude.{Some};
     ghost use Rattle.pawn_debt.specs.DebtFault.{debt_fault_name};
+    ghost use Rattle.std.specs.Prelude.{Some};
 
     ghost output = { λ fault. Some (debt_fault_name fault) };
 

@@ -1,4 +1,4 @@
-//! What is owed on a pledge.
+//! The debt on a pledge: its entries, its charges and the sum owed on a day.
 #![tactic(auto)]
 
 mod debt;
@@ -17,4 +17,4 @@ pub use owing::{Owing, Totals, owing_from};
 pub use pawn_base::Rows;
 pub use pawn_terms::{Day, Rates, Terms};
 pub use replay::{owing_at, replay_entries};
-pub use worked::{worked_debts, worked_entries};
+pub use worked::{worked_debts, worked_entries, worked_limits};

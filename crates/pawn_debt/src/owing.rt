@@ -1,11 +1,17 @@
+//! The sum owed on a day: how it grows over days without entries, and how an entry changes it.
+
+ghost use Rattle.pawn_debt.specs.Due.{after_days, after_sort};
+ghost use Rattle.pawn_debt.specs.Kept.{sums_of};
+ghost use Rattle.pawn_debt.specs.Limits.{most_a_day, most_millionths, most_pence};
+ghost use Rattle.pawn_debt.specs.Owing.{owing_of, total_of};
+ghost use Rattle.pawn_debt.specs.declared.entry.Sort.TheVariants.{Draw, Repay};
+ghost use Rattle.pawn_terms.specs.Calendar.{IsDayNumber};
 ghost use Rattle.std.specs.Prelude.{◌≡◌, ◌+◌, ◌-◌, ◌*◌, ◌≤◌};
-ghost use Rattle.{pawn_terms.specs.Calendar.IsDayNumber, pawn_debt.specs.{declared.entry.Sort.TheVariants.{Draw, Repay}, Due.{after_days, after_sort}}};
-ghost use Rattle.pawn_debt.specs.{Limits.{most_a_day, most_millionths, most_pence}, Owing.{owing_of, total_of}, Kept.sums_of};
 
 use crate::limits::PENNY;
 use pawn_terms::{Day, Terms};
 
-/// What is owed, in whole pence. Charges are rounded down, and the total is principal and charges together.
+/// The sum owed, in whole pence. Charges are rounded down, and the total is principal and charges together.
 #[derive(Clone, Copy)]
 pub struct Owing {
     pub principal: u64,
@@ -13,7 +19,7 @@ pub struct Owing {
     pub total: u64,
 }
 
-/// What is owed on a day, with the charges not rounded, so that they can be carried on to later days.
+/// The sum owed on a day, with the charges not rounded, so that they can be carried forward to later days.
 #[derive(Clone, Copy, PartialEq, Eq)]
 pub struct Totals {
     pub day: Day,
@@ -23,7 +29,8 @@ pub struct Totals {
     pub millionths: u64,
 }
 
-// What is owed on a day, from what was owed on that day or an earlier one. There must be no entries in between.
+/// Carries totals forward to `day`, which must not be before their own day, when no entries come in between. `ends` is
+/// the end of the period.
 pub(crate) fn after_days(totals: &Totals, terms: Terms, ends: Day, day: Day) -> Totals
     requires later { totals.now.day ≤ day }
     requires principal_in { totals.now.principal ≤ most_pence }
@@ -47,8 +54,8 @@ pub(crate) fn after_days(totals: &Totals, terms: Terms, ends: Day, day: Day) -> 
     }
 }
 
-/// What is owed on a day in whole pence, from what was owed on that day or an earlier one. There must be no entries in
-/// between; `ends` is the end of the period.
+/// The sum owed on `day` in whole pence, carried forward from `totals`, when no entries come in between. `day` must not
+/// be before the day of `totals`; `ends` is the end of the period.
 pub fn owing_from(totals: &Totals, terms: &Terms, ends: Day, day: Day) -> Owing
     requires later { totals.now.day ≤ day }
     requires principal_in { totals.now.principal ≤ most_pence }
@@ -58,7 +65,7 @@ pub fn owing_from(totals: &Totals, terms: &Terms, ends: Day, day: Day) -> Owing
     owing_after(&after_days(totals, *terms, ends, day))
 }
 
-// What is owed in whole pence, from the totals of the same day.
+/// The sum owed in whole pence, from the totals of the same day.
 pub(crate) fn owing_after(totals: &Totals) -> Owing
     requires within { totals.now.principal ≤ most_pence }
     ensures value { result ≡ owing_of (sums_of totals.now) }
@@ -71,7 +78,7 @@ pub(crate) fn owing_after(totals: &Totals) -> Owing
     }
 }
 
-// What is owed after a drawing.
+/// The totals after a drawing on the same day. The new principal must not be above `MOST_PENCE`.
 pub(crate) fn after_draw(owed: Totals, pence: u64) -> Totals
     requires within { owed.principal + pence ≤ most_pence }
     ensures day { result.day ≡ owed.day }
@@ -86,7 +93,8 @@ pub(crate) fn after_draw(owed: Totals, pence: u64) -> Totals
     }
 }
 
-// What is owed after a repayment.
+/// The totals after a repayment on the same day, which pays whole pence of charges first and then principal. The
+/// repayment must not be above the sum owed.
 pub(crate) fn after_repay(owed: Totals, pence: u64) -> Totals
     requires total { pence ≤ total_of (sums_of owed) }
     requires principal_in { owed.principal ≤ most_pence }

@@ -1,13 +1,19 @@
+//! Entries of a debt, checked by applying the rules to each of them in turn.
+
+ghost use Rattle.pawn_debt.specs.Due.{credit_of, due};
+ghost use Rattle.pawn_debt.specs.Kept.{IsDebtKept, sums_of};
+ghost use Rattle.pawn_debt.specs.Limits.{most_a_day, most_pence};
+ghost use Rattle.pawn_debt.specs.Owing.{owing_of};
+ghost use Rattle.pawn_debt.specs.Replay.{AreEntriesAccepted, IsEntryAccepted};
+ghost use Rattle.pawn_terms.specs.Calendar.{IsDayNumber};
 ghost use Rattle.std.specs.Prelude.{◌≡◌, ◌-◌, ◌*◌, ◌≤◌, [], ◌∷◌, ◌++◌, IfSome, IfNone};
-ghost use Rattle.{pawn_terms.specs.Calendar.IsDayNumber, pawn_debt.specs.{Replay.{AreEntriesAccepted, IsEntryAccepted}, Kept.{IsDebtKept, sums_of}}};
-ghost use Rattle.pawn_debt.specs.{Due.{credit_of, due}, Limits.{most_a_day, most_pence}, Owing.owing_of};
 
 use crate::entry::{Entry, Kind, Sort};
 use crate::limits::{MOST_ENTRIES, MOST_PENCE};
 use crate::owing::{Owing, Totals, after_days, after_draw, after_repay, owing_after};
 use pawn_terms::{Day, Terms};
 
-// What is owed on a day from the last entry's on.
+/// The totals on a day that is not before that of `totals`, the totals after the entries `prior`.
 fn owed_at(
     kind: Kind,
     terms: Terms,
@@ -29,7 +35,7 @@ fn owed_at(
     after_days(totals, terms, ends, day)
 }
 
-/// What is owed after one more entry, if the rules accept it.
+/// The totals after one more entry, or `None` if the rules do not accept it.
 fn accept(
     kind: Kind,
     terms: Terms,
@@ -76,14 +82,14 @@ fn accept(
     }
 }
 
-// Gives a proof that a day is one of the calendar.
+/// Gives a proof that a day number is in range.
 fn know_day(day: Day)
     ensures in_range { IsDayNumber day }
 {
     let _ = day.count();
 }
 
-// What is owed before there are entries.
+/// The totals of a debt without entries, on the day taken.
 pub(crate) fn first_totals(kind: Kind, terms: Terms, taken: Day, ends: Day) -> Totals
     requires within { credit_of kind ≤ most_pence }
     ensures kept { IsDebtKept (record { kind = kind; terms = terms; taken = taken; ends = ends; entries = [] }) result }
@@ -96,7 +102,8 @@ pub(crate) fn first_totals(kind: Kind, terms: Terms, taken: Day, ends: Day) -> T
     }
 }
 
-/// What is owed after the entries, if the rules accept each in turn.
+/// The totals after the entries, or `None` if the rules do not accept each of them in turn. The sum or limit of `kind`
+/// must not be above `MOST_PENCE`.
 pub fn replay_entries(
     kind: Kind,
     terms: Terms,
@@ -129,8 +136,8 @@ pub fn replay_entries(
     Some(totals)
 }
 
-/// What is owed in whole pence on a day, given as `totals` what is owed after the entries. The day must not be before
-/// that of `totals`.
+/// The sum owed in whole pence on a day. `totals` are the totals after the entries, and the day must not be before
+/// theirs.
 pub fn owing_at(
     kind: Kind,
     terms: Terms,

@@ -1,8 +1,11 @@
 -- What a crash may leave: in wider words, over two runs in turn, and as whole requests.
-use Rattle.{std.proofs.Common.{◌≡◌, ◌∙◌, ◌⊎◌, ℕ, suc, List, [], ◌∷◌, ◌++◌, inl, inr, refl, ap, sym, subst, Ok, Err}, pawn_host.specs.Common.{Host, IsSound}}
-use Rattle.pawn_host.specs.Common.{Keeping, Makes, Mark, Outcome, Refuses, Says, Stamp, WireFault, host_after_event, host_after_mark, host_step, no_memory}
-use Rattle.pawn_host.specs.{Common.{no_store, read_as, Reads}, Keeps.{GoesBy, GoesTo, Kept, Start, start_after}, Crashes.{IsDone, IsLeftByMark, IsLeftByRun}}
-use Rattle.{pawn_host.specs.{Crashes.{IsLeftWhole, IsOneMore}, Run.{Item, event_of, host_after_run}}, pawn_book.specs.Plans.{IsLeftByStep, next_host}}
+use Rattle.pawn_book.specs.Plans.{IsLeftByStep, next_host}
+use Rattle.pawn_host.specs.Common.{Host, IsSound, Keeping, Makes, Mark, Outcome, Refuses, Says, Stamp, WireFault}
+use Rattle.pawn_host.specs.Common.{host_after_event, host_after_mark, host_step, no_memory, no_store, read_as, Reads}
+use Rattle.pawn_host.specs.Crashes.{IsDone, IsLeftByMark, IsLeftByRun, IsLeftWhole, IsOneMore}
+use Rattle.pawn_host.specs.Keeps.{GoesBy, GoesTo, Kept, Start, start_after}
+use Rattle.pawn_host.specs.Run.{Item, event_of, host_after_run}
+use Rattle.std.proofs.Common.{◌≡◌, ◌∙◌, ◌⊎◌, ℕ, suc, List, [], ◌∷◌, ◌++◌, inl, inr, refl, ap, sym, subst, Ok, Err}
 use Rattle.pawn_book.specs.HostStep as book
 
 -- ---- where a crash might have left more before

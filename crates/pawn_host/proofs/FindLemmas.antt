@@ -1,10 +1,17 @@
--- What was found in the buffer stands on the stream.
-use Rattle.std.proofs.Common.{◌≡◌, ◌≢◌, ℕ, ◌+◌, ◌<◌, ◌≤◌, Bool, true, false, List, [], ◌∷◌, ◌++◌, length, inl, inr, refl, arith, Option, Some, None, Ok, sym}
-use Rattle.std.proofs.{Common.{◌∙◌, ap, subst, append_assoc, append-nil, length-append, IfSome, ◌==◌}, lemmas.Bool.Decides.nat_tests}
-use Rattle.{pawn_wire.{proofs.StreamLemmas.{bad_head_stays, reads_more}, specs.declared.head.HeadRead.HeadRead}, pawn_host.specs.Common.{Consumes, Fault}}
-use Rattle.pawn_host.specs.Common.{HeadFacts, HeadFault, IsAtEnd, IsHeadRead, Keeps, Partial, ReadsHead, RequestHead, prepend_known, print_request}
-use Rattle.pawn_host.specs.{declared.session.{Rest.TheVariants.{AtEnd, CutOff, Faulty}, Cause.Cause}, Finding.{FindsHead, FindsRest, HasHead, IsCausedBy}}
-use Rattle.pawn_host.specs.{Split.{HasFault, IsCut}, declared.session.Cause.TheVariants.{Read, Reads, Write}}
+-- What is found in the buffer holds for the stream.
+use Rattle.pawn_host.specs.Common.{Consumes, Fault, HeadFacts, HeadFault, IsAtEnd, IsHeadRead, Keeps, Partial}
+use Rattle.pawn_host.specs.Common.{ReadsHead, RequestHead, prepend_known, print_request}
+use Rattle.pawn_host.specs.Finding.{FindsHead, FindsRest, HasHead, IsCausedBy}
+use Rattle.pawn_host.specs.Split.{HasFault, IsCut}
+use Rattle.pawn_host.specs.declared.session.Cause.{Cause}
+use Rattle.pawn_host.specs.declared.session.Cause.TheVariants.{Read, Reads, Write}
+use Rattle.pawn_host.specs.declared.session.Rest.TheVariants.{AtEnd, CutOff, Faulty}
+use Rattle.pawn_wire.proofs.StreamLemmas.{bad_head_stays, reads_more}
+use Rattle.pawn_wire.specs.declared.head.HeadRead.{HeadRead}
+use Rattle.std.proofs.Common.{◌≡◌, ◌≢◌, ℕ, ◌+◌, ◌<◌, ◌≤◌, Bool, true, false, List, [], ◌∷◌, ◌++◌, length, inl, inr}
+use Rattle.std.proofs.Common.{refl, arith, Option, Some, None, Ok, sym, ◌∙◌, ap, subst, append_assoc, append-nil}
+use Rattle.std.proofs.Common.{length-append, IfSome, ◌==◌}
+use Rattle.std.proofs.lemmas.Bool.Decides.{nat_tests}
 
 -- the buffer grew by what was read
 pub kept_more : (a b c : Option (List ℕ)) (old new piece : List ℕ) → Keeps a (prepend_known old b) → new ≡ old ++ piece → Consumes b c piece

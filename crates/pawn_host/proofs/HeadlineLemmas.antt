@@ -1,13 +1,21 @@
 -- Each answer of a run is that of a machine alone.
-use Rattle.std.proofs.Common.{◌≡◌, ℕ, zero, suc, List, [], ◌∷◌, take, true, Some, Ok, refl, ◌∙◌, ap, sym, subst, All, Result, slice_get}
-use Rattle.{std.proofs.lemmas.List.Elements.{All-head, All-tail}, pawn_host.specs.Common.{Denied, Exported, Host, Listed, Mark, Out, Refusal, Request}}
-use Rattle.pawn_host.specs.Common.{SaysRequest, Shown, Stamp, Replied, WireFault, book_trace, get, host_after_event, host_step, is_settled, mark_reply}
-use Rattle.pawn_host.specs.{Common.{no_memory, no_store, out_of, read_as, reply_alone, slot_trace, solo_reply}, Headline.{AnswerAlone, IsRunOfSlots, IsSettled}}
-use Rattle.pawn_host.specs.{Headline.{by_bearer, reply_bytes}, Laws.{EqualBookTracesReplyAlike, EqualTracesReplyAlike, RunsAnswerAlone}, Run.IsMarkOf}
-use Rattle.pawn_host.{specs.{Run.{IsMarked, Item, event_of, events, host_after_run, replies, said_text}, Keeps.{IsRun, Kept, Start}}, proofs.RunMore.marked_all}
-use Rattle.{pawn_wire.proofs.RequestLemmas.reads_unique, pawn_book.proofs.{Sounds.{absurd_none, some_is}, SlotRuns.{books_answer_alone, slots_answer_alone}}}
+use Rattle.pawn_book.proofs.SlotRuns.{books_answer_alone, slots_answer_alone}
+use Rattle.pawn_book.proofs.Sounds.{absurd_none, some_is}
+use Rattle.pawn_host.proofs.RunMore.{marked_all}
+use Rattle.pawn_host.specs.Common.{Denied, Exported, Host, Listed, Mark, Out, Refusal, Request, SaysRequest, Shown}
+use Rattle.pawn_host.specs.Common.{Stamp, Replied, WireFault, book_trace, get, host_after_event, host_step, is_settled}
+use Rattle.pawn_host.specs.Common.{mark_reply, no_memory, no_store, out_of, read_as, reply_alone, slot_trace}
+use Rattle.pawn_host.specs.Common.{solo_reply}
+use Rattle.pawn_host.specs.Headline.{AnswerAlone, IsRunOfSlots, IsSettled, by_bearer, reply_bytes}
+use Rattle.pawn_host.specs.Keeps.{IsRun, Kept, Start}
+use Rattle.pawn_host.specs.Laws.{EqualBookTracesReplyAlike, EqualTracesReplyAlike, RunsAnswerAlone}
+use Rattle.pawn_host.specs.Run.{IsMarkOf, IsMarked, Item, event_of, events, host_after_run, replies, said_text}
+use Rattle.pawn_wire.proofs.RequestLemmas.{reads_unique}
+use Rattle.std.proofs.Common.{◌≡◌, ℕ, zero, suc, List, [], ◌∷◌, take, true, Some, Ok, refl, ◌∙◌, ap, sym, subst, All}
+use Rattle.std.proofs.Common.{Result, slice_get}
+use Rattle.std.proofs.lemmas.List.Elements.{All-head, All-tail}
 
--- the answer at a place is what its item was told
+-- the answer at a place is the reply to the item at that place
 answer_at : (h : Host) (operator : ℕ) (items : List Item) (i : ℕ) (item : Item) (answer : List ℕ) → slice_get items i ≡ Some item
     → slice_get (replies h operator items) i ≡ Some answer
     → answer ≡ said_text (mark_reply (host_after_run h operator (take i items)) operator item.stamp item.mark)

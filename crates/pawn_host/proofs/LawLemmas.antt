@@ -1,15 +1,23 @@
 -- A stream has one split.
-use Rattle.std.proofs.Common.{◌≡◌, ℕ, ◌+◌, ◌<◌, ◌≤◌, Bool, true, false, List, [], ◌∷◌, ◌++◌, length, take, map, ◌⊎◌, inl, inr, refl, arith, sym, ◌∙◌, ap, subst}
-use Rattle.std.proofs.{Common.{append_assoc, append-nil, length-append, Result, Ok, Err, All, nat_le, take_all}, lemmas.List.Elements.{All-head, All-tail}}
-use Rattle.std.proofs.lemmas.{List.{append_cancel_left, take-append-le}, Bool.Decides.nat_tests}
+use Rattle.httparse.proofs.GrammarLemmas.{request_unique}
+use Rattle.pawn_host.proofs.SplitLemmas.{length_snoc, passes-snoc}
+use Rattle.pawn_host.specs.Common.{EndsInTarget, Event, HasNoRequest, HeadFault, Host, IsBadHead, Mark, ReadsHead}
+use Rattle.pawn_host.specs.Common.{ReadsRequest, RequestHead, Stamp, WireFault, body_length, closes_by, concat}
+use Rattle.pawn_host.specs.Common.{fields_of, most_fields, most_head, no_memory, no_store, print_request, read_as}
+use Rattle.pawn_host.specs.Common.{run_host, run_replies}
+use Rattle.pawn_host.specs.Laws.{AreCutAndFault, IsLeftOpen, IsOpen, MayGoOn, refusal_of_mark, refusals}
+use Rattle.pawn_host.specs.Run.{IsMarkOf, IsMarked, Item, events, host_after_run, input_of, replies, said_text}
+use Rattle.pawn_host.specs.Split.{Begins, BeginsAndGoesOn, ClosesAfter, Ending, HasFault, HasNoWhole, IsCut, IsRequest}
+use Rattle.pawn_host.specs.Split.{IsWanting, PassesOver, Splits, StopsAt, at_end, at_limit, closed, cut, faulted}
 use Rattle.pawn_reply.specs.declared.fault.HeadFault.TheVariants.{BadHead}
-use Rattle.pawn_wire.proofs.{StreamLemmas.{bad_head_never, head_some, nil_is_no_bad_head, reads_more}, RequestLemmas.reads_unique}
-use Rattle.pawn_host.specs.Common.{EndsInTarget, Event, HasNoRequest, HeadFault, Host, IsBadHead, Mark, ReadsHead, ReadsRequest, RequestHead, Stamp, WireFault}
-use Rattle.pawn_host.specs.Common.{body_length, closes_by, concat, fields_of, max_fields, max_head, no_memory, no_store, print_request, read_as, run_host}
-use Rattle.pawn_host.specs.{Common.run_replies, Laws.{AreCutAndFault, IsLeftOpen, IsOpen, MayGoOn, refusal_of_mark, refusals}, Split.{Begins, BeginsAndGoesOn}}
-use Rattle.pawn_host.specs.Split.{ClosesAfter, Ending, HasFault, HasNoWhole, IsCut, IsRequest, IsWanting, PassesOver, Splits, StopsAt, at_end, at_limit, closed}
-use Rattle.pawn_host.specs.{Split.{cut, faulted}, Run.{IsMarkOf, IsMarked, Item, events, host_after_run, input_of, replies, said_text}}
-use Rattle.{pawn_host.proofs.SplitLemmas.{length_snoc, passes-snoc}, httparse.proofs.GrammarLemmas.request_unique}
+use Rattle.pawn_wire.proofs.RequestLemmas.{reads_unique}
+use Rattle.pawn_wire.proofs.StreamLemmas.{bad_head_never, head_some, nil_is_no_bad_head, reads_more}
+use Rattle.std.proofs.Common.{◌≡◌, ℕ, ◌+◌, ◌<◌, ◌≤◌, Bool, true, false, List, [], ◌∷◌, ◌++◌, length, take, map, ◌⊎◌}
+use Rattle.std.proofs.Common.{inl, inr, refl, arith, sym, ◌∙◌, ap, subst, append_assoc, append-nil, length-append}
+use Rattle.std.proofs.Common.{Result, Ok, Err, All, nat_le, take_all}
+use Rattle.std.proofs.lemmas.Bool.Decides.{nat_tests}
+use Rattle.std.proofs.lemmas.List.{append_cancel_left, take-append-le}
+use Rattle.std.proofs.lemmas.List.Elements.{All-head, All-tail}
 
 -- ---- fronts
 
@@ -192,9 +200,9 @@ splits_unique s a b e f (inl x) (inl y) =
       ],
     )
 
-pub open_ends : (rest : List ℕ) → IsOpen rest
-    → ((more : List ℕ) × (h : RequestHead) × ReadsRequest (rest ++ more) h [] × (max_fields < length h.fields)) ⊎ EndsInTarget rest
-open_ends rest x = elim x.0.3 [
+pub ambiguous_ends : (rest : List ℕ) → IsOpen rest
+    → ((more : List ℕ) × (h : RequestHead) × ReadsRequest (rest ++ more) h [] × (most_fields < length h.fields)) ⊎ EndsInTarget rest
+ambiguous_ends rest x = elim x.0.3 [
   | inl y ↦ inl (y.0, y.1, y.2, x.1 y.0 y.1 [] y.2)
   | inr y ↦ inr y
 ]
@@ -216,12 +224,12 @@ begins_close s requests all p x y = elim (aligned s requests y.0 p (y.1 ++ y.2) 
   back ([], is, z) = (y.1 ∷ [], y.6 ∙ ap (λ (l : List (List ℕ)). l ++ y.1 ∷ []) (sym (is ∙ append-nil y.0)))
   back (m ∷ ms, is, z) = absurd (not_both (fronts_same y.1 m y.2 z.0 true false z.1 y.4 z.2).2)
 
-pub split_begins : (s : List ℕ) (requests all : List (List ℕ)) (e : Ending) → Splits s all e → Begins s requests
+pub whole_requests_begin_a_split : (s : List ℕ) (requests all : List (List ℕ)) (e : Ending) → Splits s all e → Begins s requests
     → (more : List (List ℕ)) × (all ≡ requests ++ more)
-split_begins s requests all e (inl y) (inl x) = begins_stop s requests all e x.0 y.0 x.1 x.2 y.1 y.2
-split_begins s requests all e (inr y) (inl x) = begins_close s requests all x.0 x.1 y.0
-split_begins s requests all e (inl y) (inr x) = absurd (closes_or_stops s all requests e y.0 y.1 y.2 x)
-split_begins s requests all e (inr y) (inr x) = ([], closes_same s all requests y.0 x ∙ sym (append-nil requests))
+whole_requests_begin_a_split s requests all e (inl y) (inl x) = begins_stop s requests all e x.0 y.0 x.1 x.2 y.1 y.2
+whole_requests_begin_a_split s requests all e (inr y) (inl x) = begins_close s requests all x.0 x.1 y.0
+whole_requests_begin_a_split s requests all e (inl y) (inr x) = absurd (closes_or_stops s all requests e y.0 y.1 y.2 x)
+whole_requests_begin_a_split s requests all e (inr y) (inr x) = ([], closes_same s all requests y.0 x ∙ sym (append-nil requests))
 
 begins_next : (s : List ℕ) (requests : List (List ℕ)) (next more : List ℕ) (c : Bool) → PassesOver s requests (next ++ more) → IsRequest next c
     → length requests < 1000 → Begins s (requests ++ next ∷ [])
@@ -231,7 +239,7 @@ begins_next s requests next more false p q few = inl (more, passes-snoc s reques
 pub split_goes_on : (s : List ℕ) (requests all : List (List ℕ)) (e : Ending) → Splits s all e → BeginsAndGoesOn s requests
     → (next : List ℕ) × (more : List (List ℕ)) × (all ≡ requests ++ next ∷ more)
 split_goes_on s requests all e y x =
-    let k = split_begins s (requests ++ x.0 ∷ []) all e y (begins_next s requests x.0 x.1 x.2 x.3 x.4 x.5) in
+    let k = whole_requests_begin_a_split s (requests ++ x.0 ∷ []) all e y (begins_next s requests x.0 x.1 x.2 x.3 x.4 x.5) in
     (x.0, k.0, k.1 ∙ append_assoc requests (x.0 ∷ []) k.0)
 
 passes_front : (s : List ℕ) (requests : List (List ℕ)) (rest : List ℕ) → PassesOver s requests rest → s ≡ concat requests ++ rest
@@ -289,19 +297,19 @@ run_events h operator a b e =
     (ap (λ (es : List (Event WireFault)). run_host h operator es) e, ap (λ (es : List (Event WireFault)). map said_text (run_replies h operator es)) e)
 
 pub fault_is_exact : (rest : List ℕ)
-    → (MayGoOn rest → HasNoRequest rest → (f : HeadFault) → HasFault rest f → ⊥) × ((MayGoOn rest → ⊥) → (length rest < max_head) → HasFault rest BadHead)
+    → (MayGoOn rest → HasNoRequest rest → (f : HeadFault) → HasFault rest f → ⊥) × ((MayGoOn rest → ⊥) → (length rest < most_head) → HasFault rest BadHead)
 fault_is_exact rest = (never, bad) where
   never : MayGoOn rest → HasNoRequest rest → (f : HeadFault) → HasFault rest f → ⊥
   never m none f (inl (inl over, e)) = (let k = over m.1.0 m.1.1 m.1.2 m.1.3 in omega (arith, k, m.1.4))
   never m none f (inl (inr full, e)) = omega (arith, m.0, full.0)
   never m none f (inr x) = none x.0 x.1 x.2.0
 
-  cases : (b : Bool) (h : RequestHead) → nat_le (length h.fields) max_fields ≡ b → (length h.fields ≤ max_fields → ⊥) → max_fields < length h.fields
+  cases : (b : Bool) (h : RequestHead) → nat_le (length h.fields) most_fields ≡ b → (length h.fields ≤ most_fields → ⊥) → most_fields < length h.fields
   cases true h t no_room = absurd (no_room (grind (arith, nat_tests, t)))
   cases false h t no_room = grind (arith, nat_tests, t)
 
-  bad : (MayGoOn rest → ⊥) → (length rest < max_head) → HasFault rest BadHead
-  bad stuck short = inl (inl (λ more h r x. cases (nat_le (length h.fields) max_fields) h refl (λ few. stuck (short, (more, h, r, x, few)))), refl)
+  bad : (MayGoOn rest → ⊥) → (length rest < most_head) → HasFault rest BadHead
+  bad stuck short = inl (inl (λ more h r x. cases (nat_le (length h.fields) most_fields) h refl (λ few. stuck (short, (more, h, r, x, few)))), refl)
 
 -- ---- what is wanted
 
@@ -323,7 +331,7 @@ closed_wants_nothing come requests c w =
     let more = wants_no_more come c.0 w.0 c.1 w.1 c.2 true c.3 c.4 w.2 w.4 in
     not_both more.1
 
--- requests that stand are among those behind which more is wanted
+-- the requests that a stream passes over are among those after which more is wanted
 wants_all : (come : List ℕ) (a b : List (List ℕ)) (rest tail : List ℕ) → PassesOver come a tail → PassesOver come b rest → HasNoWhole rest → length a ≤ length b
 wants_all come [] b rest tail p w none = omega arith
 wants_all come (r ∷ rs) [] rest tail p w none = absurd (none r p.0 false (sym w ∙ p.1) p.2)

@@ -1,13 +1,21 @@
 -- What was read while a request was looked for.
-use Rattle.std.proofs.Common.{◌≡◌, ℕ, ◌+◌, ◌<◌, ◌≤◌, Bool, false, List, [], ◌∷◌, ◌++◌, length, take, drop, refl, arith, Option, Some, None, Result, Ok, Err}
-use Rattle.std.proofs.{Common.{sym, ◌∙◌, ap, subst, append_assoc, append-nil, length-append, IfOk, take-append-drop}, KnownBytes.{Consumes-nil, Consumes-trans}}
-use Rattle.{std.proofs.lemmas.List.Folds.concat-append, pawn_host.specs.Common.{Consumes, HeadFacts, IsHeadRead, Keeps, Partial, ReadsHead, body_length}}
-use Rattle.pawn_host.specs.{Common.{concat, fields_of, print_request}, Finding.{AreMissing, FindsHead, HasHead, IsFetched}, Split.{AreWanted, HasNoWhole}}
-use Rattle.pawn_host.specs.{Split.{IsRequest, PassesOver, most_requests}, Session.IsReadWhileWanted, declared.session.Rest.Rest}
-use Rattle.{pawn_host.proofs.{SplitLemmas.{front_request, length_snoc, passes-snoc}, LawLemmas.ok_same}, pawn_wire.proofs.StreamLemmas.reads_more}
 use Rattle.httparse.proofs.GrammarLemmas.{request_unique}
+use Rattle.pawn_host.proofs.LawLemmas.{ok_same}
+use Rattle.pawn_host.proofs.SplitLemmas.{front_request, length_snoc, passes-snoc}
+use Rattle.pawn_host.specs.Common.{Consumes, HeadFacts, IsHeadRead, Keeps, Partial, ReadsHead, body_length, concat}
+use Rattle.pawn_host.specs.Common.{fields_of, print_request}
+use Rattle.pawn_host.specs.Finding.{AreMissing, FindsHead, HasHead, IsFetched}
+use Rattle.pawn_host.specs.Session.{IsReadWhileWanted}
+use Rattle.pawn_host.specs.Split.{AreWanted, HasNoWhole, IsRequest, PassesOver, most_requests}
+use Rattle.pawn_host.specs.declared.session.Rest.{Rest}
+use Rattle.pawn_wire.proofs.StreamLemmas.{reads_more}
+use Rattle.std.proofs.Common.{◌≡◌, ℕ, ◌+◌, ◌<◌, ◌≤◌, Bool, false, List, [], ◌∷◌, ◌++◌, length, take, drop, refl, arith}
+use Rattle.std.proofs.Common.{Option, Some, None, Result, Ok, Err, sym, ◌∙◌, ap, subst, append_assoc, append-nil}
+use Rattle.std.proofs.Common.{length-append, IfOk, take-append-drop}
+use Rattle.std.proofs.KnownBytes.{Consumes-nil, Consumes-trans}
+use Rattle.std.proofs.lemmas.List.Folds.{concat-append}
 
--- ---- no whole request stands in the buffer
+-- ---- the buffer does not begin with a whole request
 
 -- a whole request begins with a head
 front_head : (rest request more : List ℕ) (closes : Bool) → rest ≡ request ++ more → (q : IsRequest request closes) → ReadsHead rest q.head (q.body ++ more)
@@ -108,7 +116,7 @@ passes-append : (s : List ℕ) (requests : List (List ℕ)) (rest more : List �
 passes-append s [] rest more p = ap (λ (l : List ℕ). l ++ more) p
 passes-append s (r ∷ rs) rest more p = (p.0 ++ more, ap (λ (l : List ℕ). l ++ more) p.1 ∙ append_assoc r p.0 more, p.2, passes-append p.0 rs rest more p.3)
 
--- what is missing in the buffer is wanted behind all that has come
+-- pieces that are missing in the buffer are wanted after all bytes that have arrived
 wanted_of : (come : List ℕ) (requests : List (List ℕ)) (buffer : List ℕ) (pieces : List (List ℕ)) → PassesOver come requests buffer
     → length requests < most_requests → AreMissing buffer pieces → AreWanted come pieces
 wanted_of come requests buffer [] passes few missing = tt
@@ -157,7 +165,7 @@ stands_whole buffer f has fits =
     let whole : f.body ≤ length has.1 = omega (arith, len, has.3.len, fits) in
     (has.0, has.1, has.2, has.3, whole)
 
--- the session goes on behind a request
+-- the session goes on after a request
 pub read_more : (head : HeadFacts) (a b c : Option (List ℕ)) (count count' acted : ℕ) (buffer buffer' left : List ℕ) → ReadSoFar a b count acted buffer
     → acted < 1000 → IsFetched (Ok head) buffer buffer' b c count count' → HasHead buffer' head → head.len + head.body ≤ length buffer' → head.closes ≡ false
     → left ≡ drop (head.len + head.body) buffer' → ReadSoFar a c count' (acted + 1) left

@@ -1,9 +1,12 @@
 -- Lemmas on a request for the rows of a book.
-use Rattle.{std.proofs.Common.{◌≡◌, ◌∙◌, ℕ, List, ap, sym, Some, None, Ok, codes, option_map}, pawn_host.specs.Common.{BookValue, Exported, Host, View}}
-use Rattle.pawn_host.specs.{Common.{Request, Says, SaysRequest, Stamp, csv_of, host_step, reply_text, rows_of_book}, declared.service.Answer.Answer}
-use Rattle.pawn_host.{specs.Keeps.{GoesTo, IsActed, IsKeyOf, Kept, Start, Tells, answer_bytes}, proofs.RunLemmas.{acted_text, view_request}}
-use Rattle.{pawn_host.proofs.RunLemmas.step_past_gate, pawn_csv.specs.Exports.text_of}
+use Rattle.pawn_csv.specs.Exports.{text_of}
+use Rattle.pawn_host.proofs.RunLemmas.{acted_text, view_request, step_past_gate}
+use Rattle.pawn_host.specs.Common.{BookValue, Exported, Host, View, Request, Says, SaysRequest, Stamp, csv_of}
+use Rattle.pawn_host.specs.Common.{host_step, reply_text, rows_of_book}
+use Rattle.pawn_host.specs.Keeps.{GoesTo, IsActed, IsKeyOf, Kept, Start, Tells, answer_bytes}
+use Rattle.pawn_host.specs.declared.service.Answer.{Answer}
 use Rattle.pawn_view.proofs.StatementLemmas.{some_same}
+use Rattle.std.proofs.Common.{◌≡◌, ◌∙◌, ℕ, List, ap, sym, Some, None, Ok, codes, option_map}
 
 abbrev pub rows_request : ℕ → ℕ → Request
 rows_request book key = view_request book key View.Rows
@@ -13,15 +16,15 @@ step_rows : (h : Host) (operator : ℕ) (stamp : Stamp) (book key : ℕ) (with_k
     → host_step h operator stamp (rows_request book key) ≡ Says (Exported (rows_of_book with_key.0))
 step_rows h operator stamp book key with_key = step_past_gate h operator stamp book key View.Rows with_key
 
--- the text of a book that stands
+-- the text of a book that the host has
 text_is : (h : Host) (book key : ℕ) (with_key : IsKeyOf h book key) → text_of h book ≡ Some (csv_of (rows_of_book with_key.0))
 text_is h book key with_key = ap (option_map (λ (at : BookValue). csv_of (rows_of_book at))) with_key.1
 
--- a book that stands has one
+-- a book that the host has has a text
 pub no_text : (h : Host) (book key : ℕ) → IsKeyOf h book key → text_of h book ≡ None → ⊥
 no_text h book key with_key none = (let some = sym (text_is h book key with_key) ∙ none in cc)
 
--- the text was told
+-- the answer has the text
 pub acted_rows : (start : Start) (stamp : Stamp) (bytes : List ℕ) (answer : Answer) (kept : Kept) (book key : ℕ) (text out : List ℕ)
     → SaysRequest bytes (Ok (rows_request book key)) → IsKeyOf start.host book key → text_of start.host book ≡ Some text → text ≡ out
     → Tells answer (reply_text 200 (codes "text/csv; charset=utf-8") out) → GoesTo kept start.host start.leaves

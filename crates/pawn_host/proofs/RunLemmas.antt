@@ -1,17 +1,28 @@
 -- Lemmas on one item of a run.
-use Rattle.std.proofs.Common.{◌≡◌, ◌∙◌, ℕ, Bool, true, false, List, [], ◌∷◌, ◌++◌, ◌⊎◌, ◌<◌, arith, inl, inr, refl, ap, sym, subst, Option, Some, None, Result}
-use Rattle.std.proofs.{Common.{Ok, Err, codes, if◌then◌else◌, option_map, ◌==◌, append-nil}, lemmas.Bool.Decides.nat_tests}
-use Rattle.pawn_book.specs.{Plans.{Acts, Commits, Gates, IsLeftByAct, IsLeftByStep, IsRefused, IsUnwell, next_host}, declared.request.Caller.Caller}
-use Rattle.{pawn_book.specs.{declared.{reply.Reply.Reply, change.Change.Change}, Changes.with_change}, pawn_host.specs.Common.{Answered, Bearer, BearerRequest}}
-use Rattle.pawn_host.specs.Common.{BookValue, Denied, Host, IsSound, Out, Outcome, Present, Receipt, Refusal, Refuses, Request, Says}
-use Rattle.pawn_host.specs.Common.{SaysRequest, Shown, Stamp, Replied, View, Viewer, WireFault, are_unknown, fault_text, gate_step, get, host_after}
-use Rattle.pawn_host.specs.Common.{host_step, memory_text, no_memory, no_store, out_of, out_text, pledge_in, read_as, reply_text, rows, show_pledge}
-use Rattle.pawn_host.specs.{Common.{view_step, within_limit}, declared.service.Answer.Answer, Keeps.{GoesTo, IsActed, IsKeyOf, Kept, Start, Tells}}
-use Rattle.pawn_host.{specs.{Crashes.IsDone, Keeps.answer_bytes, Run.said_text, declared.service.Answer.TheVariants.{Bytes, Memory}}}
+use Rattle.pawn_book.specs.Changes.{with_change}
+use Rattle.pawn_book.specs.Plans.{Acts, Commits, Gates, IsLeftByAct, IsLeftByStep, IsRefused, IsUnwell, next_host}
+use Rattle.pawn_book.specs.declared.change.Change.{Change}
+use Rattle.pawn_book.specs.declared.reply.Reply.{Reply}
+use Rattle.pawn_book.specs.declared.request.Caller.{Caller}
 use Rattle.pawn_host.proofs.CrashLemmas.{goes_wider}
-use Rattle.pawn_view.specs.{Text.{presented_text, statement_text}, Shown.{live_pledges, presentation_of, pledge_at, statement_of}}
+use Rattle.pawn_host.specs.Common.{Answered, Bearer, BearerRequest, BookValue, Denied, Host, IsSound, Out, Outcome}
+use Rattle.pawn_host.specs.Common.{Present, Receipt, Refusal, Refuses, Request, Says, SaysRequest, Shown, Stamp}
+use Rattle.pawn_host.specs.Common.{Replied, View, Viewer, WireFault, are_unknown, fault_text, gate_step, get}
+use Rattle.pawn_host.specs.Common.{host_after, host_step, memory_text, no_memory, no_store, out_of, out_text, pledge_in}
+use Rattle.pawn_host.specs.Common.{read_as, reply_text, rows, show_pledge, view_step, within_limit}
+use Rattle.pawn_host.specs.Crashes.{IsDone}
+use Rattle.pawn_host.specs.Keeps.{GoesTo, IsActed, IsKeyOf, Kept, Start, Tells, answer_bytes}
+use Rattle.pawn_host.specs.Run.{said_text}
+use Rattle.pawn_host.specs.declared.service.Answer.{Answer}
+use Rattle.pawn_host.specs.declared.service.Answer.TheVariants.{Bytes, Memory}
 use Rattle.pawn_pledge.specs.Pledge.{PledgeValue}
 use Rattle.pawn_view.proofs.StatementLemmas.{some_same}
+use Rattle.pawn_view.specs.Shown.{live_pledges, presentation_of, pledge_at, statement_of}
+use Rattle.pawn_view.specs.Text.{presented_text, statement_text}
+use Rattle.std.proofs.Common.{◌≡◌, ◌∙◌, ℕ, Bool, true, false, List, [], ◌∷◌, ◌++◌, ◌⊎◌, ◌<◌, arith, inl, inr, refl, ap}
+use Rattle.std.proofs.Common.{sym, subst, Option, Some, None, Result, Ok, Err, codes, if◌then◌else◌, option_map, ◌==◌}
+use Rattle.std.proofs.Common.{append-nil}
+use Rattle.std.proofs.lemmas.Bool.Decides.{nat_tests}
 use Rattle.pawn_reply.specs.declared.reply.Out.TheVariants as wire
 
 -- memory was wanting, and nothing changed
@@ -72,7 +83,7 @@ pub goes_by : (start : Start) (stamp : Stamp) (request : Request) (kept : Kept) 
 goes_by start stamp request kept o is goes =
     subst (λ (o : Outcome). GoesTo kept (host_after start.host request.book o) (IsLeftByStep start.host request.book o start.leaves)) (sym is) goes
 
--- the step of the host was told
+-- the reply is that of the host's step
 pub acted_said : (start : Start) (stamp : Stamp) (bytes reply : List ℕ) (kept : Kept) (request : Request) (out : Out)
     → SaysRequest bytes (Ok request) → out_of (host_step start.host start.operator stamp request) ≡ out → reply ≡ said_text (Answered out)
     → GoesByStep start stamp request kept → IsActed start stamp bytes reply kept
@@ -98,7 +109,7 @@ goes_unwell start stamp bytes request why kept read goes = goes_wider goes from 
   from left (inl same) = inl same
   from left (inr done) = inr (request, read, done.1)
 
--- it was refused, and that was told
+-- the request was refused, and the answer reports that
 pub acted_unmade : (start : Start) (stamp : Stamp) (bytes : List ℕ) (answer : Answer) (kept : Kept) (request : Request) (why : Refusal)
     → SaysRequest bytes (Ok request) → Tells answer (out_text (wire.Refused why)) → GoesUnmade start stamp request why kept
     → (start.Steady → why ≡ Refusal.Store → ⊥) → IsActed start stamp bytes (answer_bytes answer) kept
@@ -131,7 +142,7 @@ acted_refused start stamp bytes answer kept request why read is goes (inl unwell
 acted_refused start stamp bytes answer kept request why read is goes (inr step) calm =
     acted_unmade start stamp bytes answer kept request why read is (inr (step, goes)) calm
 
--- it was acted on, and that was told
+-- the request was done, and the answer reports that
 pub acted_done : (start : Start) (stamp : Stamp) (bytes text : List ℕ) (kept : Kept) (request : Request) (reply : Reply)
     → SaysRequest bytes (Ok request) → text ≡ out_text (wire.Done reply) → Acts start.host start.operator stamp request (Ok reply) kept.stands → ((left : Host)
     → kept.leaves left → IsLeftByAct start.host start.operator stamp request start.leaves (Ok reply) left) → IsActed start stamp bytes text kept
@@ -157,7 +168,7 @@ goes_unmade start stamp request kept (Some change) why sound made (at, inr step)
 pub err_is : {V : Type 0} (r : Result V Refusal) (why : Refusal) → r ≡ Err why → why ≡ Refusal.Store → r ≡ Err Refusal.Store
 err_is r why is store = is ∙ ap (λ (w : Refusal). Err w) store
 
--- a text was told that the step says
+-- the answer has the text of the host's step
 pub acted_text : (start : Start) (stamp : Stamp) (bytes : List ℕ) (answer : Answer) (kept : Kept) (request : Request) (said : Out) (kind out : List ℕ)
     → SaysRequest bytes (Ok request) → host_step start.host start.operator stamp request ≡ Says said → reply_text 200 kind out ≡ said_text (Answered said)
     → Tells answer (reply_text 200 kind out) → GoesTo kept start.host start.leaves → IsActed start stamp bytes (answer_bytes answer) kept
@@ -199,7 +210,7 @@ pub nothing_shown : (h : Host) (operator : ℕ) (stamp : Stamp) (book day : ℕ)
 nothing_shown h operator stamp book day receipts is = step_unknown h operator stamp book receipts
     (text_unknown (are_unknown (live_pledges h book receipts)) (presented_text day (live_pledges h book receipts)) is)
 
--- the text of the receipts was told
+-- the answer has the text of the receipts
 pub acted_shown : (start : Start) (stamp : Stamp) (bytes : List ℕ) (answer : Answer) (kept : Kept) (book day : ℕ) (receipts : List Receipt) (text out : List ℕ)
     → SaysRequest bytes (Ok (present_request book receipts)) → day ≡ stamp.day → presentation_of start.host book receipts day ≡ Some text → text ≡ out
     → Tells answer (reply_text 200 plain out) → GoesTo kept start.host start.leaves → IsActed start stamp bytes (answer_bytes answer) kept
@@ -242,7 +253,7 @@ no_pledge h operator stamp book key number day with_key none = step_key h operat
   from None none = refl
   from (Some p) none = cc none
 
--- the statement of a pledge was told
+-- the answer has the statement of a pledge
 pub acted_statement : (start : Start) (stamp : Stamp) (bytes : List ℕ) (answer : Answer) (kept : Kept) (book key number day : ℕ) (text out : List ℕ)
     → SaysRequest bytes (Ok (show_request book key number)) → IsKeyOf start.host book key → day ≡ stamp.day
     → statement_of start.host book number day ≡ Some text → text ≡ out → Tells answer (reply_text 200 plain out) → GoesTo kept start.host start.leaves

@@ -1,9 +1,14 @@
 -- A run goes on by one item.
-use Rattle.std.proofs.Common.{◌≡◌, ℕ, ◌+◌, ◌<◌, List, [], ◌∷◌, ◌++◌, length, map, take, get_or, refl, ap, sym, ◌∙◌, subst, Vec, Global, All}
-use Rattle.{std.proofs.lemmas.List.{Elements.{All-append, All-cons, All-head, All-nil, All-tail}, map_more}, pawn_host.specs.Common.{Host, Stamp, event_reply}}
-use Rattle.pawn_host.specs.{Common.host_after_event, declared.service.Answer.Answer, Keeps.{IsActed, IsRun, Kept, Start, answer_bytes, replies_by, start_after}}
-use Rattle.pawn_host.{specs.Run.{IsMarked, Item, event_of, host_after_run, input_of, replies, said_text}, proofs.CrashLemmas.goes-append}
+use Rattle.pawn_host.proofs.CrashLemmas.{goes-append}
 use Rattle.pawn_host.proofs.SessionLemmas.{map-snoc, marked_since}
+use Rattle.pawn_host.specs.Common.{Host, Stamp, event_reply, host_after_event}
+use Rattle.pawn_host.specs.Keeps.{IsActed, IsRun, Kept, Start, answer_bytes, replies_by, start_after}
+use Rattle.pawn_host.specs.Run.{IsMarked, Item, event_of, host_after_run, input_of, replies, said_text}
+use Rattle.pawn_host.specs.declared.service.Answer.{Answer}
+use Rattle.std.proofs.Common.{◌≡◌, ℕ, ◌+◌, ◌<◌, List, [], ◌∷◌, ◌++◌, length, map, take, get_or, refl, ap, sym, ◌∙◌}
+use Rattle.std.proofs.Common.{subst, Vec, Global, All}
+use Rattle.std.proofs.lemmas.List.{map_more}
+use Rattle.std.proofs.lemmas.List.Elements.{All-append, All-cons, All-head, All-nil, All-tail}
 
 -- two runs in turn
 pub replies-append : (h : Host) (operator : ℕ) (a b : List Item)

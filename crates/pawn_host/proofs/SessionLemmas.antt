@@ -1,19 +1,36 @@
 -- A session so far, and how it ends.
-use Rattle.std.proofs.Common.{◌≡◌, ◌≢◌, ℕ, suc, ◌+◌, ◌<◌, ◌≤◌, true, false, List, [], ◌∷◌, ◌++◌, length, take, drop, map, inl, inr, refl, arith, Option, Some}
-use Rattle.std.proofs.Common.{None, Result, Ok, Err, sym, ◌∙◌, ap, subst, append_assoc, append-nil, length-append, IfSome, Bool, IfErr, OnOk, take_all}
-use Rattle.std.proofs.{lemmas.List.Elements.{All-append, All-cons, All-nil}, KnownBytes.{Appends-nil, Appends-trans}, Math.Seq.take-append-add}
-use Rattle.pawn_host.specs.Common.{Appends, HeadFacts, Host, Keeping, Keeps, Mark, Stamp, WireFault, Yields, event_reply, fault_text, mark_reply, memory_text}
-use Rattle.pawn_host.specs.{Common.{no_memory, no_store, prepend_known, read_as, wire_fault}, Session.{AreTaken, DueAfter, EndsAs, Given, HadRoom, HasRoom}}
-use Rattle.pawn_host.specs.Session.{IsFinished, IsLeft, IsLeftBy, IsOver, IsServed, IsSession, IsWithinMost, acted_count, answer_text, requests_of, stamps_of}
-use Rattle.pawn_host.specs.{declared.session.Rest.TheVariants.{AtEnd, CutOff, Faulty, NoMemory, Stopped}, Split.{Begins, Ending, IsUnderWay, Splits, StopsAt}}
-use Rattle.pawn_host.specs.{Split.{at_end, at_limit, closed, cut, faulted, most_requests}, declared.session.Cause.Cause, Finding.{FindsHead, FindsRest}}
-use Rattle.pawn_host.specs.{Finding.{IsCausedBy, StopsBy}, Keeps.{GoesTo, IsActed, Kept, Start, StaysOpen, host_by, start_after, start_of}, Run.IsMarkOf}
-use Rattle.pawn_host.specs.{Run.{IsMarked, Item, event_of, said_text}, declared.session.{Cause.TheVariants.{Read, Reads, Write}, Rest.Rest, Ended.Ended}}
-use Rattle.pawn_host.{specs.declared.{session.{IoFault.IoFault, SessionEnd.SessionEnd}, service.Service.Service}, proofs.CrashLemmas.{seen_from, goes_from}}
-use Rattle.pawn_host.{proofs.{CrashLemmas.goes-append, FindLemmas.not_by_writer}, specs.declared.session.SessionEnd.TheVariants.{End, Cut, Closed, Faulted}}
-use Rattle.pawn_host.{specs.declared.session.SessionEnd.TheVariants.{Limit, NoStamp, Memory}, proofs.SplitLemmas.{SplitsOn, splits_start, splits_more}}
-use Rattle.pawn_host.proofs.SplitLemmas.{splits_closed, splits_begun, splits_under_way, splits_goes_on, splits_ending, stops_end, stops_cut, stops_fault}
-use Rattle.{pawn_host.proofs.SplitLemmas.stops_limit, pawn_book.proofs.Reading.on_then}
+use Rattle.pawn_book.proofs.Reading.{on_then}
+use Rattle.pawn_host.proofs.CrashLemmas.{seen_from, goes_from, goes-append}
+use Rattle.pawn_host.proofs.FindLemmas.{not_by_writer}
+use Rattle.pawn_host.proofs.SplitLemmas.{SplitsOn, splits_start, splits_more, splits_closed, splits_begun}
+use Rattle.pawn_host.proofs.SplitLemmas.{splits_under_way, splits_goes_on, splits_ending, stops_end, stops_cut}
+use Rattle.pawn_host.proofs.SplitLemmas.{stops_fault, stops_limit}
+use Rattle.pawn_host.specs.Common.{Appends, HeadFacts, Host, Keeping, Keeps, Mark, Stamp, WireFault, Yields}
+use Rattle.pawn_host.specs.Common.{event_reply, fault_text, mark_reply, memory_text, no_memory, no_store, prepend_known}
+use Rattle.pawn_host.specs.Common.{read_as, wire_fault}
+use Rattle.pawn_host.specs.Finding.{FindsHead, FindsRest, IsCausedBy, StopsBy}
+use Rattle.pawn_host.specs.Keeps.{GoesTo, IsActed, Kept, Start, StaysOpen, host_by, start_after, start_of}
+use Rattle.pawn_host.specs.Run.{IsMarkOf, IsMarked, Item, event_of, said_text}
+use Rattle.pawn_host.specs.Session.{AreTaken, DueAfter, EndsAs, Given, HadRoom, HasRoom, IsFinished, IsLeft, IsLeftBy}
+use Rattle.pawn_host.specs.Session.{IsOver, IsServed, IsSession, IsWithinMost, acted_count, answer_text, requests_of}
+use Rattle.pawn_host.specs.Session.{stamps_of}
+use Rattle.pawn_host.specs.Split.{Begins, Ending, IsUnderWay, Splits, StopsAt, at_end, at_limit, closed, cut, faulted}
+use Rattle.pawn_host.specs.Split.{most_requests}
+use Rattle.pawn_host.specs.declared.service.Service.{Service}
+use Rattle.pawn_host.specs.declared.session.Cause.{Cause}
+use Rattle.pawn_host.specs.declared.session.Cause.TheVariants.{Read, Reads, Write}
+use Rattle.pawn_host.specs.declared.session.Ended.{Ended}
+use Rattle.pawn_host.specs.declared.session.IoFault.{IoFault}
+use Rattle.pawn_host.specs.declared.session.Rest.{Rest}
+use Rattle.pawn_host.specs.declared.session.Rest.TheVariants.{AtEnd, CutOff, Faulty, NoMemory, Stopped}
+use Rattle.pawn_host.specs.declared.session.SessionEnd.{SessionEnd}
+use Rattle.pawn_host.specs.declared.session.SessionEnd.TheVariants.{End, Cut, Closed, Faulted, Limit, NoStamp, Memory}
+use Rattle.std.proofs.Common.{◌≡◌, ◌≢◌, ℕ, suc, ◌+◌, ◌<◌, ◌≤◌, true, false, List, [], ◌∷◌, ◌++◌, length, take, drop}
+use Rattle.std.proofs.Common.{map, inl, inr, refl, arith, Option, Some, None, Result, Ok, Err, sym, ◌∙◌, ap, subst}
+use Rattle.std.proofs.Common.{append_assoc, append-nil, length-append, IfSome, Bool, IfErr, OnOk, take_all}
+use Rattle.std.proofs.KnownBytes.{Appends-nil, Appends-trans}
+use Rattle.std.proofs.Math.Seq.{take-append-add}
+use Rattle.std.proofs.lemmas.List.Elements.{All-append, All-cons, All-nil}
 
 -- ---- one more item
 
@@ -53,7 +70,7 @@ pub are_taken : {S : Type 0} {steps : S → Option Stamp → S → Type 0} {from
     → TakenSoFar steps from to acted → acted ≡ acted_count result → IsLeft steps result to last → AreTaken steps from last result
 are_taken {to = to} last result so count left = record { stamps = so.stamps; to = to; count = so.count ∙ count; taken = so.taken; left = left }
 
--- what a session that is over left, told by its answer
+-- the state that a session leaves when it is over, depending on its result
 pub record Leaves {S : Type 0} (steps : S → Option Stamp → S → Type 0) (to : S) (acted reads : ℕ) (read_failed failed : Bool)
     (result : Result Ended IoFault) : Type 0 where
   pub count : acted ≡ acted_count result
@@ -108,11 +125,11 @@ length-map f (a ∷ xs) = ap (λ (n : ℕ). suc n) (length-map f xs)
 
 -- ---- so far
 
--- what is left behind a request of this length
+-- the rest after a request of this length
 pub left_behind : (left buffer : List ℕ) (needed n : ℕ) → left ≡ drop needed buffer → needed ≡ n → left ≡ drop n buffer
 left_behind left buffer needed n dropped same = dropped ∙ ap (λ (k : ℕ). drop k buffer) same
 
--- what a session over this service is given
+-- the input of a session over this service
 abbrev pub given_by : {K S : Type 0} → Keeping K → Service K → Host → S → Option (List ℕ) → Option (List ℕ) → Given S
 given_by k service h stamps stream written = record { start = start_of k service h; stamps = stamps; stream = stream; written = written }
 

@@ -1,10 +1,15 @@
 -- The law of shards in bytes.
-use Rattle.{std.proofs.Common.{◌≡◌, ℕ, zero, suc, List, [], ◌∷◌, take, inl, inr, refl, ◌∙◌, ap, sym, subst, Ok}, pawn_host.specs.Common.{SaysRequest, Stamp}}
-use Rattle.pawn_host.specs.{Common.concat, Shards.{HandedSplits, HandsToShards, IsFor, IsPlaced, RequestsArePlaced, ShardsReplyAsOne, bytes_of, inputs}}
-use Rattle.pawn_host.{specs.{Run.{Item, input_of}, Split.PassesOver}, proofs.{HeadlineLemmas.equal_book_traces_answer_alike, LawLemmas.{cons_head, cons_tail}}}
 use Rattle.pawn_book.proofs.Sounds.{absurd_none, some_is}
+use Rattle.pawn_host.proofs.HeadlineLemmas.{equal_book_traces_answer_alike}
+use Rattle.pawn_host.proofs.LawLemmas.{cons_head, cons_tail}
+use Rattle.pawn_host.specs.Common.{SaysRequest, Stamp, concat}
+use Rattle.pawn_host.specs.Run.{Item, input_of}
+use Rattle.pawn_host.specs.Shards.{HandedSplits, HandsToShards, IsFor, IsPlaced, RequestsArePlaced, ShardsReplyAsOne}
+use Rattle.pawn_host.specs.Shards.{bytes_of, inputs}
+use Rattle.pawn_host.specs.Split.{PassesOver}
+use Rattle.std.proofs.Common.{◌≡◌, ℕ, zero, suc, List, [], ◌∷◌, take, inl, inr, refl, ◌∙◌, ap, sym, subst, Ok}
 
--- what is handed of whole requests is a stream of whole requests
+-- if whole requests arrive, a shard gets a stream of whole requests
 pub handed_splits : HandedSplits
 handed_splits shard k [] part stream rest passes none = subst (λ (p : List (Stamp × List ℕ)). PassesOver (concat (bytes_of p)) (bytes_of p) []) (sym none) refl
 handed_splits shard k (came ∷ all) part stream rest passes (inl (mine, (more, is, hands))) =
@@ -23,7 +28,7 @@ next shard k x t all part i item mine same placed = record {
   before = inl (mine, (inputs (take placed.place part), (λ j. same j ∷ inputs (take placed.place part)), placed.before));
 }
 
--- each request has a place in what its shard was handed
+-- each request has a place among those that its shard gets
 pub requests_are_placed : RequestsArePlaced
 requests_are_placed shard k [] part hands i item is mine = absurd_none is
 requests_are_placed shard k (x ∷ all) [] (inl (for, (more, is, hands))) i item at mine = absurd cc

@@ -1,9 +1,14 @@
 -- How the split of a stream goes on from what was taken of it.
-use Rattle.std.proofs.Common.{◌≡◌, ℕ, suc, ◌+◌, ◌<◌, ◌≤◌, Bool, true, false, List, [], ◌∷◌, ◌++◌, length, take, drop, inl, inr, refl, arith, Option, Some, None}
-use Rattle.std.proofs.{Common.{sym, ◌∙◌, ap, subst, append_assoc, length-append, length-take, IfSome, Ok, take-append-drop}, lemmas.List.take-append-le}
-use Rattle.{pawn_wire.proofs.StreamLemmas.whole_front, pawn_host.specs.Common.{HeadFacts, HeadFault, Keeps, ReadsHead, prepend_known, print_request}}
-use Rattle.pawn_host.specs.{declared.session.Rest.TheVariants.{AtEnd, CutOff, Faulty}, Split.{Begins, BeginsAndGoesOn, Ending, IsRequest, IsUnderWay}}
-use Rattle.pawn_host.specs.{Split.{PassesOver, Splits, StopsAt, at_end, at_limit, closed, cut, faulted}, Finding.{FindsHead, FindsRest}}
+use Rattle.pawn_host.specs.Common.{HeadFacts, HeadFault, Keeps, ReadsHead, prepend_known, print_request}
+use Rattle.pawn_host.specs.Finding.{FindsHead, FindsRest}
+use Rattle.pawn_host.specs.Split.{Begins, BeginsAndGoesOn, Ending, IsRequest, IsUnderWay, PassesOver, Splits, StopsAt}
+use Rattle.pawn_host.specs.Split.{at_end, at_limit, closed, cut, faulted}
+use Rattle.pawn_host.specs.declared.session.Rest.TheVariants.{AtEnd, CutOff, Faulty}
+use Rattle.pawn_wire.proofs.StreamLemmas.{whole_front}
+use Rattle.std.proofs.Common.{◌≡◌, ℕ, suc, ◌+◌, ◌<◌, ◌≤◌, Bool, true, false, List, [], ◌∷◌, ◌++◌, length, take, drop}
+use Rattle.std.proofs.Common.{inl, inr, refl, arith, Option, Some, None, sym, ◌∙◌, ap, subst, append_assoc}
+use Rattle.std.proofs.Common.{length-append, length-take, IfSome, Ok, take-append-drop}
+use Rattle.std.proofs.lemmas.List.{take-append-le}
 
 pub length_snoc : (requests : List (List ℕ)) (x : List ℕ) → length (requests ++ x ∷ []) ≡ suc (length requests)
 length_snoc requests x = length-append requests (x ∷ []) ∙ (omega arith)
@@ -19,7 +24,7 @@ pub passes-snoc : (s : List ℕ) (requests : List (List ℕ)) (x rest : List ℕ
 passes-snoc s [] x rest p q = (rest, p, q, refl)
 passes-snoc s (r ∷ rs) x rest p q = (p.0, p.1, p.2, passes-snoc p.0 rs x rest p.3 q)
 
--- a head and its body stand by themselves
+-- a head and its body are a request
 pub front_request : (s : List ℕ) (f : HeadFacts) (closes : Bool) → f.closes ≡ closes → FindsHead s (Ok f) → IsRequest (take (f.len + f.body) s) closes
 front_request s f closes c x =
     let front : ReadsHead (take (length (print_request x.0) + f.body) s) x.0 (take f.body x.1) = whole_front s x.0 x.1 f.body x.2 in
@@ -130,7 +135,7 @@ pub stops_limit : (rest : Option (List ℕ)) (n : ℕ) → n ≡ 1000 → IfSome
 stops_limit None n many = tt
 stops_limit (Some r) n many = many
 
--- more may be taken behind the requests that were taken
+-- more may be taken after the requests that were taken
 pub splits_under_way : (s rest : Option (List ℕ)) (requests : List (List ℕ)) → SplitsOn s rest requests → length requests < 1000
     → IfSome s (λ x. IsUnderWay x requests)
 splits_under_way None rest requests on few = tt

@@ -1,7 +1,10 @@
--- A view that was written into memory, and told.
-use Rattle.{std.proofs.Common.{◌≡◌, ℕ, List, Result, Ok, Err, inl, inr, refl, ap}, pawn_host.specs.Common.{Refusal, Refuses, Request, SaysRequest, Stamp}}
-use Rattle.pawn_host.specs.{Common.{ViewFault, host_step}, declared.service.Answer.Answer, Keeps.{GoesTo, IsActed, Kept, Start, Tells, answer_bytes}}
-use Rattle.pawn_host.{specs.Views.TellsView, proofs.RunLemmas.{acted_memory, acted_refused}}
+-- A view that was written into memory, and the answer to it.
+use Rattle.pawn_host.proofs.RunLemmas.{acted_memory, acted_refused}
+use Rattle.pawn_host.specs.Common.{Refusal, Refuses, Request, SaysRequest, Stamp, ViewFault, host_step}
+use Rattle.pawn_host.specs.Keeps.{GoesTo, IsActed, Kept, Start, Tells, answer_bytes}
+use Rattle.pawn_host.specs.Views.{TellsView}
+use Rattle.pawn_host.specs.declared.service.Answer.{Answer}
+use Rattle.std.proofs.Common.{◌≡◌, ℕ, List, Result, Ok, Err, inl, inr, refl, ap}
 
 -- what is answered, if a text that was written whole is the step's, and one of which there is nothing to show is refused
 pub view_acted : (start : Start) (stamp : Stamp) (bytes : List ℕ) (answer : Answer) (kept : Kept) (request : Request) (unknown : Refusal) (told : List ℕ)

@@ -1,10 +1,16 @@
--- What the functions below a session find.
-use Rattle.std.specs.Prelude.{◌≡◌, ℕ, ◌+◌, ◌<◌, ◌≤◌, Bool, true, false, List, [], ◌∷◌, ◌++◌, length, Option, Result, Ok, Err, IfOk}
-use Rattle.pawn_host.specs.{Limits.most_reads, Common.{Consumes, HeadFacts, IsAtEnd, IsHead, Keeps, ReadsHead, RequestHead, concat}, Split.{IsCut, HasFault}}
-use Rattle.pawn_host.specs.{Split.HasNoWhole, declared.session.{Rest.TheVariants.{AtEnd, CutOff, Faulty, NoMemory, Stopped}, Cause.Cause, Filled.Filled}}
-use Rattle.pawn_host.specs.declared.session.{Cause.TheVariants.{Read, Reads, Write}, Rest.Rest}
+-- The results of the functions that a session uses to find the next request.
+use Rattle.pawn_host.specs.Common.{Consumes, HeadFacts, IsAtEnd, IsHead, Keeps, ReadsHead, RequestHead, concat}
+use Rattle.pawn_host.specs.Limits.{most_reads}
+use Rattle.pawn_host.specs.Split.{IsCut, HasFault, HasNoWhole}
+use Rattle.pawn_host.specs.declared.session.Cause.{Cause}
+use Rattle.pawn_host.specs.declared.session.Cause.TheVariants.{Read, Reads, Write}
+use Rattle.pawn_host.specs.declared.session.Filled.{Filled}
+use Rattle.pawn_host.specs.declared.session.Rest.{Rest}
+use Rattle.pawn_host.specs.declared.session.Rest.TheVariants.{AtEnd, CutOff, Faulty, NoMemory, Stopped}
+use Rattle.std.specs.Prelude.{◌≡◌, ℕ, ◌+◌, ◌<◌, ◌≤◌, Bool, true, false, List, [], ◌∷◌, ◌++◌, length, Option, Result, Ok}
+use Rattle.std.specs.Prelude.{Err, IfOk}
 
--- what a read did to the reader and the buffer
+-- the effect of a read on the reader and the buffer
 abbrev pub IsFilled : Filled → Option (List ℕ) → Option (List ℕ) → List ℕ → List ℕ → Type 0
 IsFilled Filled.More a b old new = (piece : List ℕ) × (0 < length piece) × (new ≡ old ++ piece) × Consumes a b piece
 IsFilled Filled.Done a b old new = (new ≡ old) × Keeps a b × IsAtEnd b
@@ -20,7 +26,7 @@ FindsRest s (Faulty f) = HasFault s f
 FindsRest s NoMemory = Unit {0}
 FindsRest s (Stopped cause) = Unit {0}
 
--- the stream begins with a request of this head, or it is as `Rest` says
+-- the stream begins with a request that has this head, or it is as `Rest` says
 abbrev pub FindsHead : List ℕ → Result HeadFacts Rest → Type 0
 FindsHead s (Ok f) = (h : RequestHead) × (rest : List ℕ) × ReadsHead s h rest × IsHead h f × (f.body ≤ length rest)
 FindsHead s (Err rest) = FindsRest s rest
@@ -29,13 +35,13 @@ FindsHead s (Err rest) = FindsRest s rest
 abbrev pub HasHead : List ℕ → HeadFacts → Type 0
 HasHead buffer f = (h : RequestHead) × (rest : List ℕ) × ReadsHead buffer h rest × IsHead h f
 
--- the cause fits what is known of the reader and the writer
+-- the cause agrees with what is known of the reader and the writer
 abbrev pub IsCausedBy : Cause → Bool → ℕ → Bool → Type 0
 IsCausedBy Read read_failed reads write_failed = read_failed ≡ true
 IsCausedBy Write read_failed reads write_failed = write_failed ≡ true
 IsCausedBy Reads read_failed reads write_failed = reads ≡ most_reads
 
--- no read has failed since, unless that is what was found
+-- no read has failed in the meantime, unless the result is that the session stops
 abbrev pub StopsBy : Result HeadFacts Rest → Bool → Bool → ℕ → Type 0
 StopsBy (Ok head) was failed reads = failed ≡ was
 StopsBy (Err AtEnd) was failed reads = failed ≡ was
@@ -52,12 +58,12 @@ FilledBy Filled.Failed was failed old new = (new ≡ old + 1) × (failed ≡ tru
 FilledBy Filled.OutOfReads was failed old new = (new ≡ most_reads) × (new ≡ old)
 FilledBy Filled.NoRoom was failed old new = (new ≡ old + 1) × (failed ≡ was)
 
--- each read gave a piece, and was made while the buffer held no whole request
+-- each read returned a piece, and was made while the buffer did not begin with a whole request
 abbrev pub AreMissing : List ℕ → List (List ℕ) → Type 0
 AreMissing buffer [] = Unit {0}
 AreMissing buffer (piece ∷ pieces) = HasNoWhole buffer × AreMissing (buffer ++ piece) pieces
 
--- what was read while something was looked for
+-- the bytes that were read while something was searched for
 pub record IsFetched (found : Result HeadFacts Rest) (buffer buffer' : List ℕ) (before after : Option (List ℕ)) (reads reads' : ℕ) : Type 0 where
   pub pieces : List (List ℕ)
   pub count : reads' ≡ reads + length pieces

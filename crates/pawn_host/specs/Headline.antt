@@ -1,18 +1,21 @@
--- The headline: each answer is what a plain machine gives that is fed one slot's trace alone.
-use Rattle.std.specs.Prelude.{◌≡◌, ◌≢◌, ℕ, List, true, Some, Ok, slice_get, take}
-use Rattle.pawn_host.specs.Common.{Answered, Bearer, BearerRequest, Denied, Host, Out, Receipt, Request, SaysRequest, Stamp, book_trace, get, is_slots}
-use Rattle.pawn_host.specs.{Common.{reply_alone, slot_trace, solo_reply}, Run.{Item, events, said_text}, Keeps.{Start, Kept, IsRun}}
+-- The headline theorem: each settled answer is the reply of a simple machine that is fed only one slot's trace.
 use Rattle.pawn_book.specs.declared.refusal.Refusal.TheVariants.{Full, Memory, Store}
+use Rattle.pawn_host.specs.Common.{Answered, Bearer, BearerRequest, Denied, Host, Out, Receipt, Request, SaysRequest}
+use Rattle.pawn_host.specs.Common.{Stamp, book_trace, get, is_slots, reply_alone, slot_trace, solo_reply}
+use Rattle.pawn_host.specs.Keeps.{Start, Kept, IsRun}
+use Rattle.pawn_host.specs.Run.{Item, events, said_text}
+use Rattle.std.specs.Prelude.{◌≡◌, ◌≢◌, ℕ, List, true, Some, Ok, slice_get, take}
 
 -- the bytes of a reply
 abbrev pub reply_bytes : Out → List ℕ
 reply_bytes out = said_text (Answered out)
 
--- an answer that is none of these three: no row is left, memory was refused, the store failed
+-- the answer is none of `Full`, `Memory` and `Store`
 abbrev pub IsSettled : List ℕ → Type 0
 IsSettled answer = (answer ≢ reply_bytes (Denied Full)) × (answer ≢ reply_bytes (Denied Memory)) × (answer ≢ reply_bytes (Denied Store))
 
--- the answer to a request on a book is the reply of that book alone to the requests on it before, whoever else was served
+-- the answer to a request on a book is the reply of that book alone after the earlier requests on it, whatever requests
+-- on other books were served
 abbrev pub BookAnswersAlone : Host → ℕ → List Item → Item → List ℕ → Type 0
 BookAnswersAlone h operator before item answer =
     (request : Request)
@@ -24,7 +27,7 @@ BookAnswersAlone h operator before item answer =
 abbrev pub by_bearer : ℕ → BearerRequest → Request
 by_bearer b asked = record { book = b; caller = Bearer asked }
 
--- the answer to a slot's request is the reply of the slot alone to its own trace before, whoever else was served
+-- the answer to a slot's request is the reply of the slot alone after its own earlier trace, whatever else was served
 abbrev pub SlotAnswersAlone : Host → ℕ → List Item → Item → List ℕ → Type 0
 SlotAnswersAlone h operator before item answer =
     (b : ℕ) (slot : List Receipt) (asked : BearerRequest)
@@ -38,7 +41,7 @@ pub record AnswerAlone (h : Host) (operator : ℕ) (items : List Item) (answers 
   pub slots : (i : ℕ) (item : Item) (answer : List ℕ)
       → slice_get items i ≡ Some item → slice_get answers i ≡ Some answer → SlotAnswersAlone h operator (take i items) item answer
 
--- a run of these items led to these answers, each settled one that of its book or slot alone
+-- a run of these items led to these answers, and each settled answer is that of its book or slot alone
 pub record IsRunOfSlots (start : Start) (given : List (Stamp × List ℕ)) (answers : List (List ℕ)) (kept : Kept) : Type 0 where
   pub run : IsRun start given answers kept
   pub alone : AnswerAlone start.host start.operator run.items answers

@@ -1,9 +1,13 @@
--- What contracts say of a service and its answers.
+-- What contracts state about a service and its answers.
+use Rattle.pawn_host.specs.Common.{BookValue, GoesOn, Host, IsSound, Keeping, Mark, OfHost, Request, SaysRequest, Stamp}
+use Rattle.pawn_host.specs.Common.{WireFault, get, host_after_mark, mark_reply, memory_text}
+use Rattle.pawn_host.specs.Crashes.{IsLeftByMark, IsLeftByRun}
+use Rattle.pawn_host.specs.Run.{Item, IsMarkOf, IsMarked, input_of, said_text, host_after_run, replies}
+use Rattle.pawn_host.specs.declared.service.Answer.{Answer}
+use Rattle.pawn_host.specs.declared.service.Service.{Service}
 use Rattle.std.specs.Prelude.{◌≡◌, ℕ, List, Some, Ok, map, All}
-use Rattle.pawn_host.specs.Common.{BookValue, GoesOn, Host, IsSound, Keeping, Mark, OfHost, Request, SaysRequest, Stamp, WireFault, get, host_after_mark}
-use Rattle.pawn_host.specs.{Common.{mark_reply, memory_text}, declared.service.{Answer.Answer, Service.Service}, Run.{Item, IsMarkOf, IsMarked, input_of}}
-use Rattle.pawn_host.specs.{Run.{said_text, host_after_run, replies}, Crashes.{IsLeftByMark, IsLeftByRun}}
 
+-- the keeper of a service
 abbrev pub service_keep : {K : Type 0} → Service K → K
 service_keep s = s.keep
 
@@ -11,7 +15,7 @@ service_keep s = s.keep
 abbrev pub service_operator : {K : Type 0} → Service K → ℕ
 service_operator s = s.operator
 
--- the bytes that are sent for an answer
+-- the bytes to be sent for an answer
 abbrev pub answer_bytes : Answer → List ℕ
 answer_bytes (Answer.Bytes v) = v.items
 answer_bytes Answer.Memory = memory_text
@@ -20,12 +24,12 @@ answer_bytes Answer.Memory = memory_text
 abbrev pub IsKeyOf : Host → ℕ → ℕ → Type 0
 IsKeyOf h book key = (at : BookValue) × (get h.books book ≡ Some at) × (at.key ≡ key)
 
--- an answer with this text, or that memory was refused
+-- the answer has this text, or is `Memory`
 abbrev pub Tells : Answer → List ℕ → Type 0
 Tells (Answer.Bytes v) text = v.items ≡ text
 Tells Answer.Memory text = Unit {0}
 
--- where a call of the service starts: whether its keeper is steady, the operator's key, the host, and which hosts a
+-- the start of a call of the service: whether its keeper is steady, the operator's key, the host, and the hosts that a
 -- crash may leave
 pub record Start : Type 1 where
   pub Steady : Type 0
@@ -33,14 +37,16 @@ pub record Start : Type 1 where
   pub host : Host
   pub leaves : Host → Type 0
 
+-- the start of a call of this service, whose keeper stands for this host
 abbrev pub start_of : {K : Type 0} → Keeping K → Service K → Host → Start
 start_of k s h = record { Steady = k.steady (service_keep s); operator = service_operator s; host = h; leaves = k.leaves (service_keep s) }
 
--- where it ends: the hosts that the keeper stands for, and those that a crash may leave
+-- the keeper after a call: the hosts that it stands for, and those that a crash may leave
 pub record Kept : Type 1 where
   pub stands : Host → Type 0
   pub leaves : Host → Type 0
 
+-- the keeper of this service after a call
 abbrev pub kept_by : {K : Type 0} → Keeping K → Service K → Kept
 kept_by k s = record { stands = k.stands (service_keep s); leaves = k.leaves (service_keep s) }
 
@@ -55,31 +61,33 @@ pub record StaysOpen {K : Type 0} (k : Keeping K) (old new : Service K) : Type 0
   pub on : GoesOn k (service_keep old) (service_keep new)
   pub operator : service_operator new ≡ service_operator old
 
--- for each sound host that the service's keeper stood for, if it is honest now: P holds of where the call started and
--- where it ends
+-- for each sound host that the service's keeper stood for: if the keeper is honest now, P holds of the start of the
+-- call and of the keeper after it
 abbrev pub Serves : {K : Type 0} → Keeping K → Service K → Service K → (Start → Kept → Type 0) → Type 0
 Serves k old new P = OfHost k (service_keep old) (service_keep new) (λ h. P (start_of k old h) (kept_by k new))
 
--- for some mark, one item of a run led to the reply, to the host that the keeper goes on to, and to what a crash may
--- leave
+-- for some mark, one item of a run led to the reply, to the host of the keeper after it, and to the hosts that a crash
+-- may leave
 pub record IsActed (start : Start) (stamp : Stamp) (bytes reply : List ℕ) (kept : Kept) : Type 0 where
   pub mark : Mark WireFault
   pub marked : IsMarkOf start.Steady bytes mark
   pub text : reply ≡ said_text (mark_reply start.host start.operator stamp mark)
   pub goes : GoesTo kept (host_after_mark start.host start.operator stamp mark) (IsLeftByMark start.host start.operator stamp bytes mark start.leaves)
 
--- any bytes of this request would have led to the reply, to the host and to what a crash may leave
+-- with any bytes that encode this request, the call would have had the same reply, host and hosts that a crash may
+-- leave
 abbrev pub Answers : Start → Stamp → Request → List ℕ → Kept → Type 0
 Answers start stamp request reply kept = (bytes : List ℕ) → SaysRequest bytes (Ok request) → IsActed start stamp bytes reply kept
 
--- the host after these items, and their replies
+-- the host after these items
 abbrev pub host_by : Start → List Item → Host
 host_by start items = host_after_run start.host start.operator items
 
+-- the replies to these items
 abbrev pub replies_by : Start → List Item → List (List ℕ)
 replies_by start items = replies start.host start.operator items
 
--- where a call starts after these items
+-- the start of a call that follows these items
 abbrev pub start_after : Start → List Item → Start
 start_after start items =
     record { Steady = start.Steady; operator = start.operator; host = host_by start items; leaves = IsLeftByRun start.host start.operator items start.leaves }
@@ -88,7 +96,7 @@ start_after start items =
 abbrev pub GoesBy : Start → List Item → Kept → Type 0
 GoesBy start items kept = GoesTo kept (host_by start items) (IsLeftByRun start.host start.operator items start.leaves)
 
--- the run of these items, with some marks, led to these answers, and to where the keeper goes on
+-- the run of these items, with some marks, led to these answers, and to the keeper after it
 pub record IsRun (start : Start) (given : List (Stamp × List ℕ)) (answers : List (List ℕ)) (kept : Kept) : Type 0 where
   pub items : List Item
   pub marked : All (IsMarked start.Steady) items

@@ -1,14 +1,19 @@
--- Laws of the split, of runs, and of the slots in them.
-use Rattle.std.specs.Prelude.{◌≡◌, ℕ, ◌<◌, ◌≤◌, ◌⊎◌, All, Bool, true, List, [], ◌∷◌, ◌++◌, Some, Ok, length, map, slice_get, take}
-use Rattle.{pawn_reply.specs.declared.fault.HeadFault.TheVariants.BadHead, pawn_host.specs.Common.{BearerRequest, EndsInTarget, HasNoRequest, HeadFault, Host}}
-use Rattle.pawn_host.specs.Common.{Mark, ReadsRequest, Receipt, Request, RequestHead, SaysRequest, WireFault, book_trace, concat, get, is_slots, max_fields}
-use Rattle.pawn_host.specs.{Common.{max_head, no_memory, no_store, read_as, slot_trace}, Split.{Ending, cut, faulted, most_requests, IsCutHead, IsRequest}}
-use Rattle.pawn_host.specs.{Split.{HasFault, PassesOver, ClosesAfter, StopsAt, Splits, Begins, BeginsAndGoesOn, IsWanting}, Run.{Item, IsMarked, input_of}}
-use Rattle.{pawn_host.specs.{Run.{events, host_after_run, replies}, Headline.{AnswerAlone, IsSettled, by_bearer}}, httparse.specs.Spans.RequestOverflows}
+-- Laws of the split of a stream, of runs, and of the slots in them.
+use Rattle.httparse.specs.Spans.{RequestOverflows}
+use Rattle.pawn_host.specs.Common.{BearerRequest, EndsInTarget, HasNoRequest, HeadFault, Host, Mark, ReadsRequest}
+use Rattle.pawn_host.specs.Common.{Receipt, Request, RequestHead, SaysRequest, WireFault, book_trace, concat, get}
+use Rattle.pawn_host.specs.Common.{is_slots, most_fields, most_head, no_memory, no_store, read_as, slot_trace}
+use Rattle.pawn_host.specs.Headline.{AnswerAlone, IsSettled, by_bearer}
+use Rattle.pawn_host.specs.Run.{Item, IsMarked, input_of, events, host_after_run, replies}
+use Rattle.pawn_host.specs.Split.{Ending, cut, faulted, most_requests, IsCutHead, IsRequest, HasFault, PassesOver}
+use Rattle.pawn_host.specs.Split.{ClosesAfter, StopsAt, Splits, Begins, BeginsAndGoesOn, IsWanting}
+use Rattle.pawn_reply.specs.declared.fault.HeadFault.TheVariants.{BadHead}
+use Rattle.std.specs.Prelude.{◌≡◌, ℕ, ◌<◌, ◌≤◌, ◌⊎◌, All, Bool, true, List, [], ◌∷◌, ◌++◌, Some, Ok, length, map}
+use Rattle.std.specs.Prelude.{slice_get, take}
 
--- the rest is the beginning of a head, but no head with so few fields as are allowed can come of it
+-- the rest is the beginning of a head, but it can't become a head with no more fields than are allowed
 abbrev pub IsOpen : List ℕ → Type 0
-IsOpen rest = IsCutHead rest × RequestOverflows max_fields rest
+IsOpen rest = IsCutHead rest × RequestOverflows most_fields rest
 
 -- one of the two is a cut, and the other the fault of a bad head
 abbrev pub AreCutAndFault : Ending → Ending → Type 0
@@ -18,17 +23,17 @@ AreCutAndFault e f = ((e ≡ cut) × (f ≡ faulted BadHead)) ⊎ ((e ≡ faulte
 abbrev pub IsLeftOpen : List ℕ → List (List ℕ) → Ending → Ending → Type 0
 IsLeftOpen stream requests e f = (rest : List ℕ) × PassesOver stream requests rest × IsOpen rest × AreCutAndFault e f
 
--- a stream has one split; only its ending may be one of two, if the rest is open
+-- a stream has one split; its ending may be one of two only if the rest is open
 abbrev pub SplitIsUnique : Type 0
 SplitIsUnique =
     (stream : List ℕ) (a b : List (List ℕ)) (e f : Ending) → Splits stream a e → Splits stream b f
     → (a ≡ b) × ((e ≡ f) ⊎ IsLeftOpen stream a e f)
 
 -- an open rest ends inside its target, or can become a head with too many fields
-abbrev pub OpenEnds : Type 0
-OpenEnds =
+abbrev pub AmbiguousEnds : Type 0
+AmbiguousEnds =
     (rest : List ℕ) → IsOpen rest
-    → ((more : List ℕ) × (h : RequestHead) × ReadsRequest (rest ++ more) h [] × (max_fields < length h.fields)) ⊎ EndsInTarget rest
+    → ((more : List ℕ) × (h : RequestHead) × ReadsRequest (rest ++ more) h [] × (most_fields < length h.fields)) ⊎ EndsInTarget rest
 
 -- if a split ends before the limit, the rest does not begin with a whole request
 abbrev pub SplitEndsEarly : Type 0
@@ -43,13 +48,13 @@ SplitBegins =
     → (Begins stream requests → (more : List (List ℕ)) × (all ≡ requests ++ more))
     × (BeginsAndGoesOn stream requests → (next : List ℕ) × (more : List (List ℕ)) × (all ≡ requests ++ next ∷ more))
 
--- the requests, joined together, are the beginning of the stream, and are no more than the limit
+-- the requests, joined together, are a prefix of the stream, and do not exceed the limit
 abbrev pub SplitIsFront : Type 0
 SplitIsFront =
     (stream : List ℕ) (requests : List (List ℕ)) (e : Ending) → Splits stream requests e
     → (length requests ≤ most_requests) × ((rest : List ℕ) × (stream ≡ concat requests ++ rest))
 
--- whether an item was refused, and by what
+-- whether an item was refused, because memory ran out or because the store failed
 pub data Refusal : Type 0 where
   unrefused : Refusal
   for_memory : Refusal
@@ -63,7 +68,7 @@ refusal_of_mark no_store = by_store
 abbrev pub refusals : List Item → List Refusal
 refusals items = map (λ i. refusal_of_mark i.mark) items
 
--- what was handed in, and which items were refused, determine the items
+-- the stamps and bytes of the items, and which items were refused, determine the items
 abbrev pub ItemsAreUnique : Type 0
 ItemsAreUnique =
     (a b : List Item) → All (IsMarked ⊥) a → All (IsMarked ⊥) b → map input_of a ≡ map input_of b → refusals a ≡ refusals b → a ≡ b
@@ -81,32 +86,34 @@ RunsJoin =
     → (host_after_run h operator (a ++ b) ≡ host_after_run (host_after_run h operator a) operator b)
     × (replies h operator (a ++ b) ≡ replies h operator a ++ replies (host_after_run h operator a) operator b)
 
--- once a request that closes has come, or as many requests as are answered, nothing more is wanted
+-- after a request that closes the connection, or after as many requests as are answered, nothing more is wanted
 abbrev pub NothingIsWanted : Type 0
 NothingIsWanted =
     (come : List ℕ) (requests : List (List ℕ)) (rest : List ℕ)
     → (ClosesAfter come requests → IsWanting come → ⊥)
     × (PassesOver come requests rest → most_requests ≤ length requests → IsWanting come → ⊥)
 
--- the rest can still become a head with no more fields than allowed, leaving its length aside
+-- the rest can still become a head with no more fields than are allowed, if its length is ignored
 abbrev pub MayGoOn : List ℕ → Type 0
 MayGoOn rest =
-    (length rest < max_head)
-    × ((more : List ℕ) × (h : RequestHead) × (after : List ℕ) × ReadsRequest (rest ++ more) h after × (length h.fields ≤ max_fields))
+    (length rest < most_head)
+    × ((more : List ℕ) × (h : RequestHead) × (after : List ℕ) × ReadsRequest (rest ++ more) h after × (length h.fields ≤ most_fields))
 
--- if the rest can still become a head, and holds none yet, it has no fault; if it can't, it has the fault of a bad head
+-- if the rest can still become a head, and does not hold one yet, it has no fault; if it can't, it has the fault of a
+-- bad head
 abbrev pub FaultIsExact : Type 0
 FaultIsExact =
     (rest : List ℕ)
     → (MayGoOn rest → HasNoRequest rest → (f : HeadFault) → HasFault rest f → ⊥)
-    × ((MayGoOn rest → ⊥) → (length rest < max_head) → HasFault rest BadHead)
+    × ((MayGoOn rest → ⊥) → (length rest < most_head) → HasFault rest BadHead)
 
 -- each settled answer to the items of a run is that of its book or slot alone
 abbrev pub RunsAnswerAlone : Type 0
 RunsAnswerAlone = (h : Host) (operator : ℕ) (items : List Item) → All (IsMarked ⊥) items → AnswerAlone h operator items (replies h operator items)
 
--- Take two runs under one operator's key, from hosts that have the same book of a number, or both have none. If both
--- runs leave that book the same trace, its next request gets the same settled answer.
+-- Take two runs with the same operator's key, from hosts that have the same book under a number, or none. If both runs
+-- have the same trace of that book so far, the same request on it with the same stamp gets the same answer in both,
+-- provided that both answers are settled.
 abbrev pub EqualBookTracesReplyAlike : Type 0
 EqualBookTracesReplyAlike =
     (h g : Host) (operator : ℕ) (items others : List Item) → All (IsMarked ⊥) items → All (IsMarked ⊥) others
@@ -120,8 +127,8 @@ EqualBookTracesReplyAlike =
     → book_trace request.book h operator (events (take i items)) ≡ book_trace request.book g operator (events (take j others))
     → answer ≡ other
 
--- take two runs under one operator's key; if both leave a slot the same trace, its next request gets the same settled
--- answer
+-- Take two runs with the same operator's key. If both have the same trace of a slot so far, the same request of the
+-- slot with the same stamp gets the same answer in both, provided that both answers are settled.
 abbrev pub EqualTracesReplyAlike : Type 0
 EqualTracesReplyAlike =
     (h g : Host) (operator : ℕ) (items others : List Item) → All (IsMarked ⊥) items → All (IsMarked ⊥) others

@@ -1,11 +1,11 @@
 -- The limits of a session.
 use Rattle.std.specs.Prelude.{ℕ}
 
--- the most requests that are answered
+-- the most requests that a session answers
 abbrev pub most_requests : ℕ
 most_requests = 1000
 
--- the most reads that are made
+-- the most reads that a session makes
 abbrev pub most_reads : ℕ
 most_reads = 100000
 

@@ -1,34 +1,39 @@
--- A run of the service: requests as bytes, each with how it was answered.
+-- A run of the service: requests as bytes, each with its mark.
+use Rattle.pawn_host.specs.Common.{Answered, Denied, Event, Exported, Faulted, Host, Listed, Mark, Said, SaysRequest}
+use Rattle.pawn_host.specs.Common.{Shown, Stamp, Replied, WireFault, csv_of, fault_text, no_memory, no_store, out_text}
+use Rattle.pawn_host.specs.Common.{read_as, reply_text, run_host, run_replies}
+use Rattle.pawn_reply.specs.declared.fault.WireFault.TheVariants.{Memory}
+use Rattle.pawn_view.specs.Sheets.{sheet_text}
+use Rattle.pawn_view.specs.Text.{presented_text}
 use Rattle.std.specs.Prelude.{◌≢◌, ℕ, List, map, codes, Err}
-use Rattle.pawn_host.specs.Common.{Answered, Denied, Event, Exported, Faulted, Host, Listed, Mark, Said, SaysRequest, Shown, Stamp, Replied, WireFault, csv_of}
-use Rattle.{pawn_host.specs.Common.{fault_text, no_memory, no_store, out_text, read_as, reply_text, run_host, run_replies}, pawn_view.specs.Text.presented_text}
-use Rattle.{pawn_view.specs.Sheets.sheet_text, pawn_reply.specs.declared.fault.WireFault.TheVariants.Memory}
 use Rattle.pawn_reply.specs.declared.reply.Out.TheVariants as wire
 
--- an item of a run: when it came, its bytes, and how it was answered
+-- an item of a run: its stamp, its bytes, and the mark of its answer
 pub record Item : Type 0 where
   pub stamp : Stamp
   pub bytes : List ℕ
   pub mark : Mark WireFault
 
--- The mark is one that the item can have. If the bytes were read, it says what they ask, which is never that memory was
--- refused. A fault of the store is possible only if the keeper isn't steady.
+-- The mark is one that the item can have. If the bytes were read, the mark is the request or the fault that they
+-- encode, which is never that memory ran out. A fault of the store is possible only if the keeper isn't steady.
 abbrev pub IsMarkOf : Type 0 → List ℕ → Mark WireFault → Type 0
 IsMarkOf Steady bytes (read_as said) = SaysRequest bytes said × (said ≢ Err Memory)
 IsMarkOf Steady bytes no_memory = Unit {0}
 IsMarkOf Steady bytes no_store = Steady → ⊥
 
+-- the mark of the item is one that its bytes can have
 abbrev pub IsMarked : Type 0 → Item → Type 0
 IsMarked Steady item = IsMarkOf Steady item.bytes item.mark
 
--- what was handed in with an item
+-- the part of an item that the caller passes
 abbrev pub input_of : Item → Stamp × List ℕ
 input_of item = (item.stamp, item.bytes)
 
--- an item as the books see it: its stamp and mark, without its bytes
+-- an item without its bytes: its stamp and its mark
 abbrev pub event_of : Item → Event WireFault
 event_of item = record { stamp = item.stamp; mark = item.mark }
 
+-- the items as the books see them
 abbrev pub events : List Item → List (Event WireFault)
 events items = map event_of items
 

@@ -1,9 +1,19 @@
--- What a session over a reader and a writer did.
-use Rattle.std.specs.Prelude.{◌≡◌, ◌≢◌, ℕ, ◌+◌, ◌<◌, ◌≤◌, ◌⊎◌, All, Bool, true, false, List, [], ◌++◌, length, take, map, Option, None, IfSome, Result, Ok, Err}
-use Rattle.pawn_host.specs.{Common.{Appends, Consumes, HeadFault, Stamp, Yields, concat, fault_text, memory_text, wire_fault}, Split.{at_end, cut, closed}}
-use Rattle.pawn_host.specs.{Split.{faulted, at_limit, Splits, Begins, BeginsAndGoesOn, IsUnderWay, AreWanted, most_requests}, Keeps.{Start, Kept, GoesBy}}
-use Rattle.pawn_host.specs.{Keeps.replies_by, declared.session.{Rest.TheVariants.{AtEnd, CutOff, Faulty, NoMemory, Stopped}, Cause.Cause, Ended.Ended}}
-use Rattle.pawn_host.specs.{declared.session.{IoFault.IoFault, Cause.TheVariants.{Read, Reads, Write}, Rest.Rest, SessionEnd.SessionEnd}, Run.{Item, IsMarked}}
+-- The result of a session over a reader and a writer.
+use Rattle.pawn_host.specs.Common.{Appends, Consumes, HeadFault, Stamp, Yields, concat, fault_text, memory_text}
+use Rattle.pawn_host.specs.Common.{wire_fault}
+use Rattle.pawn_host.specs.Keeps.{Start, Kept, GoesBy, replies_by}
+use Rattle.pawn_host.specs.Run.{Item, IsMarked}
+use Rattle.pawn_host.specs.Split.{at_end, cut, closed, faulted, at_limit, Splits, Begins, BeginsAndGoesOn, IsUnderWay}
+use Rattle.pawn_host.specs.Split.{AreWanted, most_requests}
+use Rattle.pawn_host.specs.declared.session.Cause.{Cause}
+use Rattle.pawn_host.specs.declared.session.Cause.TheVariants.{Read, Reads, Write}
+use Rattle.pawn_host.specs.declared.session.Ended.{Ended}
+use Rattle.pawn_host.specs.declared.session.IoFault.{IoFault}
+use Rattle.pawn_host.specs.declared.session.Rest.{Rest}
+use Rattle.pawn_host.specs.declared.session.Rest.TheVariants.{AtEnd, CutOff, Faulty, NoMemory, Stopped}
+use Rattle.pawn_host.specs.declared.session.SessionEnd.{SessionEnd}
+use Rattle.std.specs.Prelude.{◌≡◌, ◌≢◌, ℕ, ◌+◌, ◌<◌, ◌≤◌, ◌⊎◌, All, Bool, true, false, List, [], ◌++◌, length, take}
+use Rattle.std.specs.Prelude.{map, Option, None, IfSome, Result, Ok, Err}
 
 abbrev pub stamps_of : List Item → List Stamp
 stamps_of items = map (λ i. i.stamp) items
@@ -11,15 +21,15 @@ stamps_of items = map (λ i. i.stamp) items
 abbrev pub requests_of : List Item → List (List ℕ)
 requests_of items = map (λ i. i.bytes) items
 
--- all that is answered to these items
+-- the replies to these items, joined together
 abbrev pub answer_text : Start → List Item → List ℕ
 answer_text start items = concat (replies_by start items)
 
--- all that is due: the replies, and a last text after them
+-- all that the session has to write: the replies, and a last text after them
 abbrev pub due_text : Start → List Item → List ℕ → List ℕ
 due_text start items last = answer_text start items ++ last
 
--- what is so of the stream and of the last text, by how the session ended
+-- what holds for the stream and for the last text, depending on how the session ended
 abbrev pub EndsAs : SessionEnd → Option (List ℕ) → List (List ℕ) → List ℕ → Type 0
 EndsAs SessionEnd.End left requests last = (last ≡ []) × IfSome left (λ s. Splits s requests at_end)
 EndsAs SessionEnd.Cut left requests last = (last ≡ []) × IfSome left (λ s. Splits s requests cut)
@@ -29,8 +39,8 @@ EndsAs SessionEnd.Faulted left requests last = (f : HeadFault) × (last ≡ faul
 EndsAs SessionEnd.NoStamp left requests last = (last ≡ []) × IfSome left (λ s. BeginsAndGoesOn s requests)
 EndsAs SessionEnd.Memory left requests last = (last ≡ memory_text) × IfSome left (λ s. IsUnderWay s requests)
 
--- What was still due after the replies when a session was broken off. A failed or missing read came before a further
--- request was found, so the stream was still under way. A write may have failed at a request's reply, or at the last
+-- The text that was still due after the replies when a session was broken off. `Read` and `Reads` occur before a
+-- further request is found, so the stream was still under way. `Write` may occur at a request's reply, or at the last
 -- text.
 abbrev pub DueAfter : Cause → Option (List ℕ) → List (List ℕ) → List ℕ → Type 0
 DueAfter Read left requests last = (last ≡ []) × IfSome left (λ s. IsUnderWay s requests)
@@ -44,8 +54,9 @@ abbrev pub acted_count : Result Ended IoFault → ℕ
 acted_count (Ok ended) = ended.acted
 acted_count (Err fault) = fault.acted
 
--- If a further request was looked for, fewer than the limit were acted on. A session that ended by its limit acted on
--- exactly so many. One that was closed, or broke off over a reply, may have acted on the last of them.
+-- How many requests were acted on, compared with the limit. If the session looked for a further request, they are fewer
+-- than the limit. A session that ended by its limit acted on exactly as many. A session that was closed, or was broken
+-- off at a reply, may have reached the limit.
 abbrev pub HasRoom : SessionEnd → ℕ → Type 0
 HasRoom SessionEnd.End acted = acted < most_requests
 HasRoom SessionEnd.Cut acted = acted < most_requests
@@ -55,16 +66,18 @@ HasRoom SessionEnd.Limit acted = acted ≡ most_requests
 HasRoom SessionEnd.NoStamp acted = acted < most_requests
 HasRoom SessionEnd.Memory acted = acted < most_requests
 
+-- how many requests were acted on, compared with the limit, if the session was broken off
 abbrev pub HadRoom : Cause → ℕ → Type 0
 HadRoom Read acted = acted < most_requests
 HadRoom Write acted = acted ≤ most_requests
 HadRoom Reads acted = acted < most_requests
 
+-- the same for every result of a session
 abbrev pub IsWithinMost : Result Ended IoFault → Type 0
 IsWithinMost (Ok ended) = HasRoom ended.how ended.acted
 IsWithinMost (Err fault) = HadRoom fault.cause fault.acted
 
--- so many reads were made, each while more was wanted; what they read is the beginning of what was left of the stream
+-- this many reads were made, each while more was wanted; the bytes read are a prefix of what was left of the stream
 pub record IsReadWhileWanted (count : ℕ) (before after : Option (List ℕ)) : Type 0 where
   pub pieces : List (List ℕ)
   pub count_is : length pieces ≡ count
@@ -72,7 +85,8 @@ pub record IsReadWhileWanted (count : ℕ) (before after : Option (List ℕ)) : 
   pub gave : Consumes before after (concat pieces)
 
 module _ {S : Type 0} (steps : S → Option Stamp → S → Type 0) where
-  -- the state of the stamps after a session: if it ended for want of a stamp, one further call was made, and gave none
+  -- the state of the stamps after a session: if it ended because there was no stamp, one more call was made, and it
+  -- returned none
   abbrev pub IsLeftBy : SessionEnd → S → S → Type 0
   IsLeftBy SessionEnd.NoStamp to new = steps to None new
   IsLeftBy SessionEnd.End to new = to ≡ new
@@ -94,8 +108,8 @@ module _ {S : Type 0} (steps : S → Option Stamp → S → Type 0) where
     pub taken : Yields steps from stamps to
     pub left : IsLeft result to new
 
--- what a session is given: where the service starts, the stamps, and, if they are known, the bytes of its stream and
--- what was written before
+-- the input of a session: the start of the service, the stamps, and, if they are known, the bytes of its stream and the
+-- bytes that were written before
 pub record Given (S : Type 0) : Type 1 where
   pub start : Start
   pub stamps : S
@@ -103,13 +117,13 @@ pub record Given (S : Type 0) : Type 1 where
   pub written : Option (List ℕ)
 
 module _ {S : Type 0} (steps : S → Option Stamp → S → Type 0) (given : Given S) where
-  -- items with the stamps that the iterator gave; the keeper goes on to the host after them
+  -- these items have the stamps that the iterator returned, and the keeper goes on to the host after them
   pub record IsServed (items : List Item) (to : S) (kept : Kept) : Type 0 where
     pub marked : All (IsMarked given.start.Steady) items
     pub taken : Yields steps given.stamps (stamps_of items) to
     pub goes : GoesBy given.start items kept
 
-  -- the session ended, having acted on its stream's first requests and written their replies
+  -- the session ended after it acted on the first requests of its stream and wrote their replies
   pub record HasEnded (stamps : S) (written : Option (List ℕ)) (ended : Ended) (kept : Kept) : Type 0 where
     pub items : List Item
     pub to : S
@@ -131,8 +145,8 @@ module _ {S : Type 0} (steps : S → Option Stamp → S → Type 0) (given : Giv
     pub wrote : Appends given.written written (take fault.sent (due_text given.start items last))
     pub due : DueAfter fault.cause given.stream (requests_of items) last
 
-  -- what a session did, seen from the stamps that are left, what is written now, its result, and where the keeper goes
-  -- on
+  -- the effect of a session, in terms of the stamps that are left, the bytes written so far, its result, and the keeper
+  -- after it
   abbrev pub IsSession : S → Option (List ℕ) → Result Ended IoFault → Kept → Type 0
   IsSession stamps written (Ok ended) kept = HasEnded stamps written ended kept
   IsSession stamps written (Err fault) kept = IsBrokenOff stamps written fault kept
@@ -144,7 +158,7 @@ IsFinished how acted sent text old new failed (Ok ended) =
 IsFinished how acted sent text old new failed (Err fault) =
     (n : ℕ) × (n < length text) × (fault.cause ≡ Write) × (fault.acted ≡ acted) × (fault.sent ≡ sent + n) × Appends old new (take n text) × (failed ≡ true)
 
--- how a session ends to which no further request came
+-- how a session ends in which no further request was found
 abbrev pub IsOver : Rest → ℕ → ℕ → Option (List ℕ) → Option (List ℕ) → Bool → Result Ended IoFault → Type 0
 IsOver AtEnd acted sent old new failed result = IsFinished SessionEnd.End acted sent [] old new failed result
 IsOver CutOff acted sent old new failed result = IsFinished SessionEnd.Cut acted sent [] old new failed result

@@ -1,13 +1,15 @@
--- Shards in bytes: each request of a stream is handed to the shard of its book, and answered there as by one host.
+-- Shards: each request of a stream is passed to the shard of its book, and answered there as by one host.
+use Rattle.pawn_host.specs.Common.{Host, Request, SaysRequest, Stamp, book_trace, concat, get}
+use Rattle.pawn_host.specs.Headline.{IsSettled}
+use Rattle.pawn_host.specs.Run.{Item, IsMarked, input_of, events, replies}
+use Rattle.pawn_host.specs.Split.{PassesOver}
 use Rattle.std.specs.Prelude.{◌≡◌, ℕ, ◌⊎◌, All, List, [], ◌∷◌, map, Some, Ok, slice_get, take}
-use Rattle.pawn_host.specs.{Common.{Host, Request, SaysRequest, Stamp, book_trace, concat, get}, Split.PassesOver, Run.{Item, IsMarked, input_of, events}}
-use Rattle.pawn_host.specs.{Run.replies, Headline.IsSettled}
 
 -- the bytes are a request on a book of shard k
 abbrev pub IsFor : (ℕ → ℕ) → ℕ → List ℕ → Type 0
 IsFor shard k bytes = (request : Request) × SaysRequest bytes (Ok request) × (shard request.book ≡ k)
 
--- of all that came, shard k is handed the requests on its books, in order, with their bytes and stamps
+-- of all requests that arrived, shard k gets those on its books, in order, with their bytes and stamps
 abbrev pub HandsToShards : (ℕ → ℕ) → ℕ → List (Stamp × List ℕ) → List (Stamp × List ℕ) → Type 0
 HandsToShards shard k [] part = part ≡ []
 HandsToShards shard k (came ∷ all) part =
@@ -20,14 +22,14 @@ inputs items = map input_of items
 abbrev pub bytes_of : List (Stamp × List ℕ) → List (List ℕ)
 bytes_of came = map (λ c. c.1) came
 
--- what a shard is handed of whole requests is again a stream of whole requests, split as it was handed
+-- if whole requests arrive, the requests that a shard gets are again a stream of whole requests, split in the same way
 abbrev pub HandedSplits : Type 0
 HandedSplits =
     (shard : ℕ → ℕ) (k : ℕ) (came part : List (Stamp × List ℕ)) (stream rest : List ℕ)
     → PassesOver stream (bytes_of came) rest → HandsToShards shard k came part → PassesOver (concat (bytes_of part)) (bytes_of part) []
 
--- the place of a request in what its shard was handed: it has the same bytes and stamp, and follows what came for that
--- shard before it
+-- the place of a request among those that its shard gets: it has the same bytes and stamp, and follows the requests
+-- that arrived for that shard before it
 pub record IsPlaced (shard : ℕ → ℕ) (k : ℕ) (all part : List Item) (i : ℕ) (item : Item) : Type 0 where
   pub place : ℕ
   pub twin : Item
@@ -35,14 +37,15 @@ pub record IsPlaced (shard : ℕ → ℕ) (k : ℕ) (all part : List Item) (i : 
   pub same : input_of twin ≡ input_of item
   pub before : HandsToShards shard k (inputs (take i all)) (inputs (take place part))
 
--- each request has a place in what its shard was handed
+-- each request has a place among those that its shard gets
 abbrev pub RequestsArePlaced : Type 0
 RequestsArePlaced =
     (shard : ℕ → ℕ) (k : ℕ) (all part : List Item) → HandsToShards shard k (inputs all) (inputs part)
     → (i : ℕ) (item : Item) → slice_get all i ≡ Some item → IsFor shard k item.bytes → IsPlaced shard k all part i item
 
--- A request's settled answer from its shard is, byte for byte, that of one host that was asked everything. This holds
--- however the books are given out, if the book began alike in both and has the same trace in both.
+-- A request's settled answer from its shard is, byte for byte, the settled answer of one host that gets all requests.
+-- This holds for every distribution of the books, if the book was the same in both at the start and has the same trace
+-- in both.
 abbrev pub ShardsReplyAsOne : Type 0
 ShardsReplyAsOne =
     (shard : ℕ → ℕ) (k : ℕ) (own one : Host) (operator : ℕ) (all part : List Item)

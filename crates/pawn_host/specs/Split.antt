@@ -1,8 +1,9 @@
--- A stream as whole requests and a rest: a relation, since the grammar of heads is one.
+-- A stream as whole requests and a rest. It is a relation, because the grammar of heads is one.
 pub use Rattle.pawn_host.specs.Limits.{most_requests}
+use Rattle.pawn_host.specs.Common.{HasNoRequest, HeadFault, IsBadHead, MayBecomeRequest, ReadsHead, RequestHead}
+use Rattle.pawn_host.specs.Common.{body_length, closes_by, fields_of, most_head}
+use Rattle.pawn_reply.specs.declared.fault.HeadFault.TheVariants.{BadHead}
 use Rattle.std.specs.Prelude.{◌≡◌, ◌≢◌, ℕ, ◌<◌, ◌≤◌, ◌⊎◌, Bool, true, false, List, [], ◌∷◌, ◌++◌, length, Ok, Err}
-use Rattle.{pawn_reply.specs.declared.fault.HeadFault.TheVariants.BadHead, pawn_host.specs.Common.{HasNoRequest, HeadFault, IsBadHead, MayBecomeRequest}}
-use Rattle.pawn_host.specs.Common.{ReadsHead, RequestHead, body_length, closes_by, fields_of, max_head}
 
 -- how a stream ends
 pub data Ending : Type 0 where
@@ -12,7 +13,7 @@ pub data Ending : Type 0 where
   faulted : HeadFault → Ending
   at_limit : Ending
 
--- the bytes are one whole request: a head, and as many bytes as it says
+-- the bytes are one whole request: a head, followed by as many bytes as the head states
 pub record IsRequest (bytes : List ℕ) (closes : Bool) : Type 0 where
   pub head : RequestHead
   pub body : List ℕ
@@ -24,9 +25,9 @@ pub record IsRequest (bytes : List ℕ) (closes : Bool) : Type 0 where
 abbrev pub HasNoWhole : List ℕ → Type 0
 HasNoWhole rest = (request more : List ℕ) (closes : Bool) → rest ≡ request ++ more → IsRequest request closes → ⊥
 
--- the rest is the beginning of a head, which may still go on, leaving its length aside
+-- the rest is a prefix of a head that may still go on, if its length is ignored
 abbrev pub IsCutHead : List ℕ → Type 0
-IsCutHead rest = (rest ≢ []) × (length rest < max_head) × HasNoRequest rest × MayBecomeRequest rest
+IsCutHead rest = (rest ≢ []) × (length rest < most_head) × HasNoRequest rest × MayBecomeRequest rest
 
 -- the rest is a head and a part of its body
 abbrev pub IsCutBody : List ℕ → Type 0
@@ -44,7 +45,7 @@ HasFault rest f =
     (IsBadHead rest × (f ≡ BadHead))
     ⊎ ((h : RequestHead) × (body : List ℕ) × ReadsHead rest h body × (body_length (fields_of h) ≡ Err f))
 
--- the stream is these requests, after none of which the connection closes, and then the rest
+-- the stream consists of these requests, none of which closes the connection, and then the rest
 abbrev pub PassesOver : List ℕ → List (List ℕ) → List ℕ → Type 0
 PassesOver stream [] rest = stream ≡ rest
 PassesOver stream (r ∷ rs) rest = (next : List ℕ) × (stream ≡ r ++ next) × IsRequest r false × PassesOver next rs rest
@@ -57,7 +58,7 @@ StopsAt (faulted f) n rest = (n < most_requests) × HasFault rest f
 StopsAt at_limit n rest = n ≡ most_requests
 StopsAt closed n rest = ⊥
 
--- the stream begins with these requests, after the last of which, and no other, the connection closes
+-- the stream begins with these requests; the last of them, and no other, closes the connection
 abbrev pub ClosesAfter : List ℕ → List (List ℕ) → Type 0
 ClosesAfter stream requests =
     (passed : List (List ℕ)) × (last : List ℕ) × (rest : List ℕ)
@@ -85,11 +86,12 @@ BeginsAndGoesOn stream requests =
 abbrev pub IsUnderWay : List ℕ → List (List ℕ) → Type 0
 IsUnderWay stream requests = (rest : List ℕ) × PassesOver stream requests rest × (length requests < most_requests)
 
--- more bytes are wanted: what has come is some requests, after which more may be taken, and a rest without a whole one
+-- more bytes are wanted: the bytes so far are some requests, after which more may be taken, and a rest that does not
+-- begin with a whole request
 abbrev pub IsWanting : List ℕ → Type 0
 IsWanting come = (requests : List (List ℕ)) × (rest : List ℕ) × PassesOver come requests rest × (length requests < most_requests) × HasNoWhole rest
 
--- each read gave a piece, and was made while more bytes were wanted
+-- each read returned a piece, and was made while more bytes were wanted
 abbrev pub AreWanted : List ℕ → List (List ℕ) → Type 0
 AreWanted come [] = Unit {0}
 AreWanted come (piece ∷ pieces) = IsWanting come × AreWanted (come ++ piece) pieces

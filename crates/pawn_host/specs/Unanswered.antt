@@ -1,5 +1,6 @@
--- What contracts say of the bytes that were read of a stream.
-use Rattle.{std.specs.Prelude.{ℕ, List, drop}, pawn_host.specs.declared.buffer.Buffer.Buffer}
+-- The bytes of a buffer that contracts refer to.
+use Rattle.pawn_host.specs.declared.buffer.Buffer.{Buffer}
+use Rattle.std.specs.Prelude.{ℕ, List, drop}
 
 -- the bytes that were read and are not answered yet
 abbrev pub unanswered : Buffer → List ℕ

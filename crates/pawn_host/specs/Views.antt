@@ -1,22 +1,23 @@
--- How the holder of a book's key is shown what was asked for.
+-- How a view is shown to the holder of a book's key.
+use Rattle.pawn_host.specs.Common.{Keeping, Refusal, Request, Stamp, View, ViewFault, Viewer, out_text}
+use Rattle.pawn_host.specs.Keeps.{Answers, IsKeyOf, Serves, Tells, answer_bytes}
+use Rattle.pawn_host.specs.declared.service.Answer.{Answer}
+use Rattle.pawn_host.specs.declared.service.Service.{Service}
 use Rattle.std.specs.Prelude.{◌≡◌, ℕ, List, Result, Ok, Err}
-use Rattle.pawn_host.specs.{Common.{Keeping, Refusal, Request, Stamp, View, ViewFault, Viewer, out_text}, declared.service.Answer.Answer}
-use Rattle.pawn_host.specs.{declared.service.Service.Service, Keeps.{Answers, IsKeyOf, Serves, Tells}}
-use Rattle.pawn_host.specs.Keeps.{answer_bytes}
 use Rattle.pawn_reply.specs.declared.reply.Out.TheVariants as wire
 
 -- a call of the service answers this request
 abbrev pub ServesRequest : {K : Type 0} → Keeping K → Service K → Service K → Stamp → Request → Answer → Type 0
 ServesRequest k old new stamp request answer = Serves k old new (λ start. Answers start stamp request (answer_bytes answer))
 
--- a call of the service answers what was asked of a book, if its key was given
+-- a call of the service answers a view of a book, if its key was given
 abbrev pub ServesHolder : {K : Type 0} → Keeping K → Service K → Service K → Stamp → ℕ → ℕ → View → Answer → Type 0
 ServesHolder k old new stamp book key view answer =
     Serves k old new
     (λ start kept. IsKeyOf start.host book key → Answers start stamp (record { book = book; caller = Viewer key view }) (answer_bytes answer) kept)
 
--- The answer to a view. It is the text if that was written whole, this refusal if there is nothing to show, or that the
--- store failed. In all other cases, and in place of any of these, it may be that memory was refused.
+-- The answer to a view: the text if it was written completely, the refusal `unknown` if there is nothing to show, or
+-- `Store`. In all other cases, and in place of any of these, it may be `Memory`.
 abbrev pub TellsView : {U : Type 0} → Answer → Result U ViewFault → List ℕ → Refusal → Type 0
 TellsView answer (Ok u) text unknown = Tells answer text
 TellsView answer (Err ViewFault.Unknown) text unknown = Tells answer (out_text (wire.Refused unknown))

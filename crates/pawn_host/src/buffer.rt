@@ -3,11 +3,12 @@ ghost use Rattle.std.specs.Prelude.{◌≡◌, ◌≤◌, ◌++◌, [], drop, le
 
 use std::alloc::{AllocError, Global};
 
-/// The bytes that were read of a stream, and how many of them are answered. Answered bytes are dropped when a new piece
-/// is added, not at each answer. So bytes are not moved once for every request that came with them.
+/// The bytes that were read from a stream, and how many of them are answered. Answered bytes are dropped when the next
+/// piece is added and not after each answer, so that bytes are not moved once for every request that arrived with them.
 #[derive(Drop)]
 pub(crate) struct Buffer {
     bytes: Vec<u8>,
+    /// How many of the bytes are answered.
     start: usize,
     ghost within: { start ≤ vec_len bytes },
 }
@@ -15,7 +16,7 @@ pub(crate) struct Buffer {
 impl Buffer {
     ghost use Rattle.pawn_host.specs.Unanswered.{unanswered};
 
-    /// A buffer for a stream of which nothing was read yet.
+    /// Makes a buffer for a stream from which nothing was read yet.
     pub fn new(alloc: Global) -> Self
         ensures nothing { unanswered result ≡ [] }
     {
@@ -25,7 +26,7 @@ impl Buffer {
         }
     }
 
-    /// The bytes that are not answered yet.
+    /// Returns the bytes that are not answered yet.
     pub fn as_slice(&self) -> &[u8]
         ensures value { result.now ≡ unanswered self.now }
     {
@@ -41,7 +42,7 @@ impl Buffer {
         self.bytes.extend_from_slice(piece)
     }
 
-    /// Notes that the first `n` bytes are answered.
+    /// Marks the first `n` bytes as answered.
     pub fn answer(&mut self, n: usize)
         requires within { n ≤ length (unanswered self.old) }
         ensures rest { unanswered self.new ≡ drop n (unanswered self.old) }

@@ -17,11 +17,12 @@ mod limits;
 mod reading;
 mod service;
 mod session;
+mod worked;
 
 pub use laws::{
-    crash_leaves_whole, fault_is_exact, items_are_unique, nothing_is_wanted, open_ends,
-    run_reads_events, runs_answer_alone, runs_join, shards_answer_as_one, split_begins,
-    split_ends_early, split_is_front, split_is_unique,
+    ambiguous_ends, crash_leaves_whole, fault_is_exact, items_are_unique, nothing_is_wanted,
+    run_reads_events, runs_answer_alone, runs_join, shards_answer_as_one, split_ends_early,
+    split_is_front, split_is_unique, whole_requests_begin_a_split,
 };
 pub use limits::{MOST_READS, MOST_REQUESTS};
 pub use pawn_book::{Day, Keep, Number, RequestDay, Secret, Stamp};
@@ -29,3 +30,4 @@ pub use pawn_writing::Writing;
 pub use reading::Reading;
 pub use service::{Answer, Service};
 pub use session::{Cause, Ended, IoFault, SessionEnd};
+pub use worked::worked_limits;

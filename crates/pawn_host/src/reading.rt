@@ -1,6 +1,8 @@
 //! A reader whose reads are counted.
-ghost use Rattle.std.specs.{Prelude.{◌≡◌, ◌+◌, ◌<◌, ◌≤◌, true, false, is_err, ◌||◌}, Io.{ReadsAtMost, KnownBytes.ReadConsumes}};
 ghost use Rattle.pawn_host.specs.Limits.{most_reads};
+ghost use Rattle.std.specs.Io.{ReadsAtMost};
+ghost use Rattle.std.specs.Io.KnownBytes.{ReadConsumes};
+ghost use Rattle.std.specs.Prelude.{◌≡◌, ◌+◌, ◌<◌, ◌≤◌, true, false, is_err, ◌||◌};
 
 use crate::limits::MOST_READS;
 use std::io;
@@ -19,7 +21,7 @@ pub struct Reading<R> {
 impl<R> Reading<R> {
     ghost use Rattle.pawn_host.specs.Ends.{reading_inner, reads, read_failed, left_of};
 
-    /// Wraps a reader. Nothing was read of it yet.
+    /// Wraps a reader. No read was made yet.
     pub fn new(inner: R) -> Self
         ensures inner { reading_inner result ≡ inner }
         ensures reads { reads result ≡ 0 }
@@ -32,14 +34,14 @@ impl<R> Reading<R> {
         }
     }
 
-    /// How many reads were made, at most 100,000.
+    /// Returns how many reads were made, at most 100,000.
     pub fn reads(&self) -> u32
         ensures answer { result ≡ reads self.now }
     {
         self.count
     }
 
-    /// Whether a read gave an error.
+    /// Returns whether a read returned an error.
     pub fn failed(&self) -> bool
         ensures answer { result ≡ read_failed self.now }
     {
@@ -52,7 +54,7 @@ impl<R: Read> Reading<R> {
 
     /// Makes one read of the inner reader, and counts it.
     ///
-    /// The caller's condition: fewer than 100,000 reads were made.
+    /// The caller ensures that fewer than 100,000 reads were made.
     pub fn read(&mut self, buf: &mut [u8]) -> io::Result<usize>
         requires few { reads self.old < MOST_READS }
         ensures bound { ReadsAtMost result buf.new }

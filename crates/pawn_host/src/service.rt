@@ -1,8 +1,12 @@
-//! The service over a keeper: one request, or a list of them.
+//! The service over a keeper: it answers one request, or a list of them.
+ghost use Rattle.pawn_book.specs.Plans.{IsWritten};
+ghost use Rattle.pawn_book.specs.declared.request.View.TheVariants.{Pledge, Rows, Sheet};
+ghost use Rattle.pawn_host.specs.Common.{Bearer, Present, Viewer, out_text};
+ghost use Rattle.pawn_host.specs.Headline.{IsRunOfSlots};
+ghost use Rattle.pawn_host.specs.Keeps.{IsActed, IsRun, Serves, StaysOpen, Tells, answer_bytes, service_keep};
+ghost use Rattle.pawn_host.specs.Keeps.{service_operator};
+ghost use Rattle.pawn_host.specs.Views.{ServesHolder, ServesRequest, TellsView};
 ghost use Rattle.std.specs.Prelude.{◌≡◌, IfOk, OnErr, map};
-ghost use Rattle.pawn_host.specs.{Common.{Bearer, Present, Viewer, out_text}, Keeps.{IsActed, IsRun, Serves, StaysOpen, Tells}};
-ghost use Rattle.pawn_host.specs.{Keeps.{answer_bytes, service_keep, service_operator}, Headline.IsRunOfSlots, Views.{ServesHolder, ServesRequest, TellsView}};
-ghost use Rattle.pawn_book.specs.{Plans.IsWritten, declared.request.View.TheVariants.{Pledge, Rows, Sheet}};
 ghost use Rattle.pawn_reply.specs.declared.reply.Out.TheVariants as wire;
 
 use pawn_book::{
@@ -16,25 +20,27 @@ use pawn_wire::{Router, read_request};
 use pawn_writing::{ViewFault, Writing};
 use std::alloc::{AllocError, Global};
 
-/// The answer to one request: the bytes of its reply, or `Memory`, for which `MEMORY_REPLY` is to be sent.
+/// The answer to one request: the bytes of its reply, or `Memory`, in which case the caller sends `MEMORY_REPLY`.
 #[derive(Drop)]
 pub enum Answer {
+    /// The bytes of the reply.
     Bytes(Vec<u8>),
+    /// Memory ran out for the reply.
     Memory,
 }
 
-/// The service over a keeper of books. `operator` is the key that may make books.
+/// The service over a keeper of books. `operator` is the operator's key, which is needed to make books.
 #[derive(Drop)]
 pub struct Service<K> {
-    /// The keeper, as the requests so far left it.
+    /// The keeper, in the state after the requests so far.
     pub keep: K,
     pub(crate) operator: Secret,
     router: Router,
     pub(crate) alloc: Global,
 }
 
-// The answer with these contents; `Memory` if there is no memory for its bytes.
-fn tell(alloc: Global, out: &Out) -> Answer
+/// Returns the answer with this content, or `Memory` if memory runs out for its bytes.
+fn contents_answer(alloc: Global, out: &Out) -> Answer
     ensures tells { Tells result (out_text out.now) }
 {
     match write_reply(alloc, out) {
@@ -43,37 +49,37 @@ fn tell(alloc: Global, out: &Out) -> Answer
     }
 }
 
-// The answer to a request that is refused.
+/// Returns the answer to a request that is refused.
 fn refuse(alloc: Global, refusal: Refusal) -> Answer
     ensures tells { Tells result (out_text (wire.Refused refusal)) }
 {
-    tell(alloc, &Out::Refused(refusal))
+    contents_answer(alloc, &Out::Refused(refusal))
 }
 
-// The reply to a request that was done.
+/// Returns the reply to a request that was done.
 fn write_done(alloc: Global, reply: Reply) -> Result<Vec<u8>, AllocError>
     ensures text { IfOk result (λ v. v.items ≡ out_text (wire.Done reply)) }
 {
     write_reply(alloc, &Out::Done(reply))
 }
 
-// The answer to a view. It is the text if that was written whole, and this refusal if there is nothing to show.
-// Otherwise it says that memory was refused, or that the store failed.
-fn tell_view(alloc: Global, shown: Result<(), ViewFault>, text: &Out, unknown: Refusal) -> Answer
+/// Returns the answer to a view: the text if it was written completely, and the refusal `unknown` if there is nothing
+/// to show. Otherwise the answer is `Memory` or the refusal `Store`.
+fn view_answer(alloc: Global, shown: Result<(), ViewFault>, text: &Out, unknown: Refusal) -> Answer
     ensures tells { TellsView result shown (out_text text.now) unknown }
 {
     match shown {
-        Ok(()) => tell(alloc, text),
+        Ok(()) => contents_answer(alloc, text),
         Err(ViewFault::Unknown) => refuse(alloc, unknown),
         Err(ViewFault::Store) => refuse(alloc, Refusal::Store),
-        // The text is built in memory, so a failed write means that memory was refused.
+        // The text is built in memory, so a failed write means that memory ran out.
         Err(ViewFault::Memory) => Answer::Memory,
         Err(ViewFault::Write) => Answer::Memory,
     }
 }
 
 impl<K: Keep> Service<K> {
-    /// Makes a service over this keeper. `operator` is the operator's key. Fails only if memory is refused.
+    /// Makes a service over this keeper. `operator` is the operator's key. Fails only if memory runs out.
     pub fn new(alloc: Global, keep: K, operator: Secret) -> Result<Service<K>, AllocError>
     where
         K: Drop,
@@ -91,14 +97,15 @@ impl<K: Keep> Service<K> {
         }
     }
 
-    /// Gives the keeper back, as the requests so far left it.
+    /// Returns the keeper, in the state after the requests so far.
     pub fn into_keep(self) -> K
         ensures keep { result ≡ service_keep self }
     {
         self.keep
     }
 
-    // Shows a bearer the pledges of these receipts. The text goes into memory first, because its length is in the head.
+    /// Shows the pledges of these receipts to a bearer. The text is built in memory before the reply, because the head
+    /// of the reply has its length.
     fn show_receipts(&mut self, stamp: &Stamp, book: Number, receipts: &Receipts) -> Answer
         ensures stays { StaysOpen K.keeping self.old self.new }
         ensures acted { ServesRequest K.keeping self.old self.new stamp.now (record { book = book; caller = Bearer (Present receipts.now) }) result }
@@ -107,10 +114,10 @@ impl<K: Keep> Service<K> {
         let day = stamp.day.day();
         let shown = show_presented(&mut self.keep, book, receipts.as_slice(), day, &mut writer);
         let text = Out::Plain(writer.into_inner());
-        tell_view(self.alloc, shown, &text, Refusal::NoSuchReceipt)
+        view_answer(self.alloc, shown, &text, Refusal::NoSuchReceipt)
     }
 
-    // Checks the key of a book, and shows its holder what was asked for.
+    /// Checks the key of a book, and shows the view to the holder of the key.
     fn gate_and_show(&mut self, stamp: &Stamp, book: Number, key: Secret, view: View) -> Answer
         ensures stays { StaysOpen K.keeping self.old self.new }
         ensures acted { ServesRequest K.keeping self.old self.new stamp.now (record { book = book; caller = Viewer key view }) result }
@@ -122,7 +129,7 @@ impl<K: Keep> Service<K> {
         self.show_past_gate(stamp, book, key, view)
     }
 
-    // Shows what was asked for of a book whose key was given.
+    /// Shows a view of a book whose key has been checked.
     fn show_past_gate(&mut self, stamp: &Stamp, book: Number, key: Secret, view: View) -> Answer
         ensures stays { StaysOpen K.keeping self.old self.new }
         ensures acted { ServesHolder K.keeping self.old self.new stamp.now book key view result }
@@ -134,7 +141,7 @@ impl<K: Keep> Service<K> {
         }
     }
 
-    // Shows a pledge of a book whose key was given.
+    /// Shows a pledge of a book whose key has been checked.
     fn show_pledge(&mut self, stamp: &Stamp, book: Number, key: Secret, number: Number) -> Answer
         ensures stays { StaysOpen K.keeping self.old self.new }
         ensures acted { ServesHolder K.keeping self.old self.new stamp.now book key (Pledge number) result }
@@ -143,10 +150,10 @@ impl<K: Keep> Service<K> {
         let day = stamp.day.day();
         let shown = show_statement(&mut self.keep, book, number, day, &mut writer);
         let text = Out::Plain(writer.into_inner());
-        tell_view(self.alloc, shown, &text, Refusal::NoSuchPledge)
+        view_answer(self.alloc, shown, &text, Refusal::NoSuchPledge)
     }
 
-    // Shows the sheet of a day of a book whose key was given.
+    /// Shows the sheet of a day of a book whose key has been checked.
     fn show_sheet(&mut self, stamp: &Stamp, book: Number, key: Secret, day: RequestDay) -> Answer
         ensures stays { StaysOpen K.keeping self.old self.new }
         ensures acted { ServesHolder K.keeping self.old self.new stamp.now book key (Sheet day) result }
@@ -154,10 +161,10 @@ impl<K: Keep> Service<K> {
         let mut writer = Writing::new(Vec::new(self.alloc));
         let shown = show_day_sheet(&mut self.keep, book, day.day(), &mut writer);
         let text = Out::Plain(writer.into_inner());
-        tell_view(self.alloc, shown, &text, Refusal::NoSuchBook)
+        view_answer(self.alloc, shown, &text, Refusal::NoSuchBook)
     }
 
-    // Shows the rows of a book whose key was given.
+    /// Exports the rows of a book whose key has been checked.
     fn show_rows(&mut self, stamp: &Stamp, book: Number, key: Secret) -> Answer
         ensures stays { StaysOpen K.keeping self.old self.new }
         ensures acted { ServesHolder K.keeping self.old self.new stamp.now book key Rows result }
@@ -165,10 +172,10 @@ impl<K: Keep> Service<K> {
         let mut rows = RowWriter::new(self.alloc, Vec::new(self.alloc));
         let shown = export(&mut self.keep, book, &mut rows);
         let text = Out::Csv(rows.into_inner());
-        tell_view(self.alloc, shown, &text, Refusal::NoSuchBook)
+        view_answer(self.alloc, shown, &text, Refusal::NoSuchBook)
     }
 
-    // Answers what a bearer asks.
+    /// Answers the request of a bearer.
     fn answer_bearer(&mut self, stamp: &Stamp, request: &Request, asked: &BearerRequest) -> Answer
         requires asks { request.now.caller ≡ Bearer asked.now }
         ensures stays { StaysOpen K.keeping self.old self.new }
@@ -180,7 +187,7 @@ impl<K: Keep> Service<K> {
         }
     }
 
-    // Acts on a request that may change its book. The reply is built before the change is made.
+    /// Acts on a request that may change its book. The reply is built before the change is saved.
     fn act(&mut self, stamp: &Stamp, request: &Request) -> Answer
         requires written { IsWritten request.now.caller }
         ensures stays { StaysOpen K.keeping self.old self.new }
@@ -202,7 +209,7 @@ impl<K: Keep> Service<K> {
         }
     }
 
-    // Answers a request.
+    /// Answers a request.
     fn answer_request(&mut self, stamp: &Stamp, request: &Request) -> Answer
         ensures stays { StaysOpen K.keeping self.old self.new }
         ensures acted { ServesRequest K.keeping self.old self.new stamp.now request.now result }
@@ -215,20 +222,20 @@ impl<K: Keep> Service<K> {
         }
     }
 
-    /// Answers bytes that should be one whole request. If they are not, the answer says which fault they have.
+    /// Answers bytes that should be one whole request. If they are not, the answer reports their fault.
     pub fn answer_one(&mut self, stamp: &Stamp, bytes: &[u8]) -> Answer
         ensures stays { StaysOpen K.keeping self.old self.new }
         ensures acted { Serves K.keeping self.old self.new (λ start. IsActed start stamp.now bytes.now (answer_bytes result)) }
     {
         let request = match read_request(self.alloc, &self.router, bytes) {
             Ok(request) => request,
-            Err(fault) => return tell(self.alloc, &Out::Fault(fault)),
+            Err(fault) => return contents_answer(self.alloc, &Out::Fault(fault)),
         };
         self.answer_request(stamp, &request)
     }
 
-    /// Answers these requests, each with its stamp, in their order. If there is no memory to list the answers, it fails
-    /// before anything is done.
+    /// Answers these requests in their order, each with its stamp. If memory runs out for the list of answers, the call
+    /// fails before anything is done.
     pub fn run(&mut self, items: &[(Stamp, Vec<u8>)]) -> Result<Vec<Answer>, AllocError>
         ensures stays { StaysOpen K.keeping self.old self.new }
         ensures run { IfOk result (λ answers. Serves K.keeping self.old self.new

@@ -1,9 +1,13 @@
-//! One connection: requests are read, answered and their replies written, one after the other.
-ghost use Rattle.std.specs.Prelude.{◌≡◌, ◌+◌, ◌≤◌, IfSome, IfOk, IfErr, OnOk, length, ◌*◌, ◌^◌, false};
-ghost use Rattle.pawn_host.specs.{Common.{Keeps, prepend_known, write_failed, written_bytes}, Limits.most_request_bytes, Session.{AreTaken, IsFinished}};
-ghost use Rattle.pawn_host.specs.{Session.{IsOver, IsReadWhileWanted, IsSession, IsWithinMost}, Finding.{FilledBy, FindsHead, FindsRest, HasHead, IsCausedBy}};
-ghost use Rattle.pawn_host.specs.{Finding.{IsFetched, IsFilled, StopsBy}, Keeps.{Serves, StaysOpen, answer_bytes}, Ends.{left_of, read_failed, reads}};
+//! One session: the service reads the requests of a stream, answers them and writes the replies, one after the other.
+ghost use Rattle.pawn_host.specs.Common.{Keeps, prepend_known, write_failed, written_bytes};
+ghost use Rattle.pawn_host.specs.Ends.{left_of, read_failed, reads};
+ghost use Rattle.pawn_host.specs.Finding.{FilledBy, FindsHead, FindsRest, HasHead, IsCausedBy, IsFetched, IsFilled};
+ghost use Rattle.pawn_host.specs.Finding.{StopsBy};
+ghost use Rattle.pawn_host.specs.Keeps.{Serves, StaysOpen, answer_bytes};
+ghost use Rattle.pawn_host.specs.Limits.{most_request_bytes};
+ghost use Rattle.pawn_host.specs.Session.{AreTaken, IsFinished, IsOver, IsReadWhileWanted, IsSession, IsWithinMost};
 ghost use Rattle.pawn_host.specs.Unanswered.{unanswered};
+ghost use Rattle.std.specs.Prelude.{◌≡◌, ◌+◌, ◌≤◌, IfSome, IfOk, IfErr, OnOk, length, ◌*◌, ◌^◌, false};
 
 use crate::buffer::Buffer;
 use crate::limits::{MOST_READS, MOST_REQUESTS};
@@ -24,20 +28,22 @@ pub enum SessionEnd {
     Cut,
     /// A request asked for the connection to be closed after its reply, or was one of HTTP/1.0.
     Closed,
-    /// The rest can't begin a request, and its fault was sent as the last reply.
+    /// The rest of the stream can't begin a request. Its fault was sent as the last reply.
     Faulted,
     /// 1,000 requests were answered.
     Limit,
-    /// A further request has come, but there is no stamp for it.
+    /// A further request has arrived, but there is no stamp for it.
     NoStamp,
-    /// There is no memory to read a further request, and that was sent as the last reply.
+    /// Memory ran out while a further request was read. `MEMORY_REPLY` was sent as the last reply.
     Memory,
 }
 
-/// A session that ended: how it ended, and how many requests were answered.
+/// A session that ended: how it ended, and how many requests were acted on.
 #[derive(Clone, Copy, PartialEq, Eq)]
 pub struct Ended {
+    /// How the session ended.
     pub how: SessionEnd,
+    /// How many requests were acted on, at most 1,000.
     pub acted: u32,
 }
 
@@ -48,21 +54,24 @@ pub enum Cause {
     Read,
     /// A write failed.
     Write,
-    /// 100,000 reads were made.
+    /// All of the 100,000 reads were made.
     Reads,
 }
 
-/// A session that was broken off: why, how many requests were acted on, and how many bytes of all replies went out,
-/// with a last one for a fault.
+/// A session that was broken off: the cause, how many requests were acted on, and how many bytes of all replies were
+/// written, including a last reply that reports a fault or that memory ran out.
 #[derive(Clone, Copy, Debug, PartialEq, Eq)]
 pub struct IoFault {
+    /// Why the session was broken off.
     pub cause: Cause,
+    /// How many requests were acted on, at most 1,000.
     pub acted: u32,
+    /// How many bytes of all replies were written.
     pub sent: u128,
 }
 
-// What came of one read: bytes were added, the stream is over, the read failed, no reads are left, or there is no
-// memory.
+/// The result of one read: bytes were added to the buffer, the stream is over, the read failed, no reads are left, or
+/// memory ran out.
 #[derive(Clone, Copy)]
 enum Filled {
     More,
@@ -72,8 +81,8 @@ enum Filled {
     NoRoom,
 }
 
-// Why there is no further request: the stream is over, or is cut off in a request, or has a fault; memory was refused;
-// or the session is broken off.
+/// Why there is no further request: the stream is over, is cut off inside a request, or has a fault; memory ran out; or
+/// the session is broken off.
 #[derive(Clone, Copy)]
 enum Rest {
     AtEnd,
@@ -83,8 +92,8 @@ enum Rest {
     Stopped(Cause),
 }
 
-// Makes one read, and adds what came to the buffer. After the last read that is allowed none is made to see whether
-// the stream has ended: only one more would show it.
+/// Makes one read, and adds its bytes to the buffer. When no reads are left, the result is `OutOfReads` even if the
+/// stream is over, because only another read would show that.
 fn fill<R: Read>(reader: &mut Reading<R>, buffer: &mut Buffer) -> Filled
     ensures filled { IsFilled result (left_of R.remaining reader.old) (left_of R.remaining reader.new) (unanswered buffer.old) (unanswered buffer.new) }
     ensures by { FilledBy result (read_failed reader.old) (read_failed reader.new) (reads reader.old) (reads reader.new) }
@@ -105,7 +114,7 @@ fn fill<R: Read>(reader: &mut Reading<R>, buffer: &mut Buffer) -> Filled
     }
 }
 
-// Reads until a whole head is in the buffer.
+/// Reads until a whole head is in the buffer.
 fn await_head<R: Read>(reader: &mut Reading<R>, buffer: &mut Buffer) -> Result<HeadFacts, Rest>
     ensures head { IfOk result (HasHead (unanswered buffer.new)) }
     ensures small { IfOk result (λ h. h.len + h.body ≤ most_request_bytes) }
@@ -138,7 +147,7 @@ fn await_head<R: Read>(reader: &mut Reading<R>, buffer: &mut Buffer) -> Result<H
     }
 }
 
-// How many bytes a request with this head has, with its body.
+/// Returns the length in bytes of a request with this head, including its body.
 fn request_len(head: &HeadFacts) -> usize
     requires small { head.now.len + head.now.body ≤ most_request_bytes }
     ensures answer { result ≡ head.now.len + head.now.body }
@@ -146,7 +155,7 @@ fn request_len(head: &HeadFacts) -> usize
     head.len + head.body
 }
 
-// Reads until the request with this head is in the buffer.
+/// Reads until the request with this head is completely in the buffer.
 fn await_body<R: Read>(
     reader: &mut Reading<R>,
     buffer: &mut Buffer,
@@ -177,7 +186,7 @@ fn await_body<R: Read>(
     Ok(head)
 }
 
-// Reads until the next request is in the buffer.
+/// Reads until the next request is completely in the buffer.
 fn next_request<R: Read>(reader: &mut Reading<R>, buffer: &mut Buffer) -> Result<HeadFacts, Rest>
     ensures head { IfOk result (HasHead (unanswered buffer.new)) }
     ensures small { IfOk result (λ h. h.len + h.body ≤ most_request_bytes) }
@@ -195,7 +204,7 @@ fn next_request<R: Read>(reader: &mut Reading<R>, buffer: &mut Buffer) -> Result
     }
 }
 
-// The bytes to be written for an answer.
+/// Returns the bytes to be written for an answer.
 fn answer_slice(answer: &Answer) -> &[u8]
     ensures bytes { result.now ≡ answer_bytes answer.now }
 {
@@ -205,7 +214,7 @@ fn answer_slice(answer: &Answer) -> &[u8]
     }
 }
 
-// Writes the last text of a session, and ends it so; or breaks it off if the writer fails.
+/// Writes the last text of a session and ends the session. Breaks it off if the writer fails.
 fn write_last<W: Write>(
     writer: &mut Writing<W>,
     text: &[u8],
@@ -229,7 +238,7 @@ fn write_last<W: Write>(
     Ok(Ended { how, acted })
 }
 
-// Ends a session to which no further request came, with a last reply if one is due.
+/// Ends a session in which no further request was found, with a last reply if one is due.
 fn finish<W: Write>(
     writer: &mut Writing<W>,
     rest: Rest,
@@ -256,13 +265,13 @@ fn finish<W: Write>(
 }
 
 impl<K: Keep> Service<K> {
-    /// Answers the requests of a stream in their order, and writes each reply before the next request is read. A stamp
-    /// is taken for each request once its last byte has come, and none for a fault, a cut or an end. At most 1,000
-    /// requests are answered. At most 100,000 reads are made, each only while a further request is wanted and not
-    /// complete. After a request that closes the connection nothing more is read. No failed read or write is tried
-    /// again. If the result is `Ok`, neither the reader nor the writer has failed.
+    /// Answers the requests of a stream in their order, and writes each reply before it reads the next request. A stamp
+    /// is taken for each request after its last byte was read, and none for a fault, a cut or an end. At most 1,000
+    /// requests are answered. At most 100,000 reads are made, and each only while a further request is due and not
+    /// complete. After a request that closes the connection nothing more is read. A failed read or write is not
+    /// retried. If the result is `Ok`, neither the reader nor the writer has failed.
     ///
-    /// The caller's conditions: the reader is new, and the writer has not failed.
+    /// The caller ensures that the reader is new and that the writer has not failed before.
     pub fn answer_all<R: Read, W: Write, I: Iterator<Item = Stamp>>(
         &mut self,
         reader: &mut Reading<R>,

@@ -1,7 +1,10 @@
 -- What a list of books tells of its host.
-use Rattle.{std.{proofs.Common.{◌≡◌, ◌∙◌, ℕ, ap, sym, subst, None, Option, Some}, specs.FinMap.get}, pawn_list_keeper.specs.Common.{BookValue, Host}}
-use Rattle.pawn_list_keeper.specs.{Common.{IsNextBook, Reads}, Books.Books, Listed.{IsLeastAbove, book_at, host_of, list_keeping}}
 use Rattle.pawn_list_keeper.proofs.ListReads.{get-book_at}
+use Rattle.pawn_list_keeper.specs.Books.{Books}
+use Rattle.pawn_list_keeper.specs.Common.{BookValue, Host, IsNextBook, Reads}
+use Rattle.pawn_list_keeper.specs.Listed.{IsLeastAbove, book_at, host_of, list_keeping}
+use Rattle.std.proofs.Common.{◌≡◌, ◌∙◌, ℕ, ap, sym, subst, None, Option, Some}
+use Rattle.std.specs.FinMap.{get}
 
 -- a read tells what is so of the list's host
 pub list_reads : (k : Books) (P : Host → Type 0) → P (host_of k) → Reads list_keeping k k P

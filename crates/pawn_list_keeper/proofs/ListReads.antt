@@ -1,9 +1,16 @@
 -- Reads of books in a list.
-use Rattle.std.proofs.Common.{◌≡◌, ◌≢◌, ℕ, ◌+◌, ◌<◌, ◌≤◌, zero, suc, List, [], ◌∷◌, ◌++◌, length, map, drop, get_or, set, Some, None, refl, ◌∙◌, ap, sym, subst}
-use Rattle.std.{proofs.Common.{arith, if◌then◌else◌, Bool, true, false, ◌==◌}, specs.FinMap.{find, from_entries, from_entries_push, get, get-from_entries}}
-use Rattle.std.{specs.FinMap.{insert, nat_cmp-IsAntisymmetric}, proofs.lemmas.{List.{get_or-map, length-map}, Cmp.nat_cmp_total, Bool.Decides.nat_tests}}
-use Rattle.{std.{specs.Cmp.unsigned_tied, proofs.Math.Seq.map-set_same}, pawn_list_keeper.specs.Common.{BookValue, NewBook, PledgeValue, Rates, made_book}}
-use Rattle.pawn_list_keeper.specs.{Common.{nat_cmp, pledge_from}, declared.kept.Kept.Kept, Listed.{book_at, listed_book, IsPlace}}
+use Rattle.pawn_list_keeper.specs.Common.{BookValue, NewBook, PledgeValue, Rates, made_book, nat_cmp, pledge_from}
+use Rattle.pawn_list_keeper.specs.Listed.{book_at, listed_book, IsPlace}
+use Rattle.pawn_list_keeper.specs.declared.kept.Kept.{Kept}
+use Rattle.std.proofs.Common.{◌≡◌, ◌≢◌, ℕ, ◌+◌, ◌<◌, ◌≤◌, zero, suc, List, [], ◌∷◌, ◌++◌, length, map, drop, get_or}
+use Rattle.std.proofs.Common.{set, Some, None, refl, ◌∙◌, ap, sym, subst, arith, if◌then◌else◌, Bool, true, false, ◌==◌}
+use Rattle.std.proofs.Math.Seq.{map-set_same}
+use Rattle.std.proofs.lemmas.Bool.Decides.{nat_tests}
+use Rattle.std.proofs.lemmas.Cmp.{nat_cmp_total}
+use Rattle.std.proofs.lemmas.List.{get_or-map, length-map}
+use Rattle.std.specs.Cmp.{unsigned_tied}
+use Rattle.std.specs.FinMap.{find, from_entries, from_entries_push, get, get-from_entries, insert}
+use Rattle.std.specs.FinMap.{nat_cmp-IsAntisymmetric}
 
 find_book : (es : List (ℕ × BookValue)) (b : ℕ) → find nat_cmp b es ≡ book_at es b
 find_book [] b = refl

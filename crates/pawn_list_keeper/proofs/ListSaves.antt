@@ -1,15 +1,28 @@
 -- A list of books after a change.
-use Rattle.std.proofs.Common.{◌≡◌, ℕ, ◌+◌, ◌<◌, ◌≤◌, List, [], ◌∷◌, ◌++◌, length, map, set, get_or, Some, None, Ok, Err, refl, ◌∙◌, ap, sym, subst, arith, inl}
-use Rattle.std.{proofs.Common.{inr, length-append, if◌then◌else◌, true, false, ◌==◌, ◌⊎◌, sum_by}, specs.FinMap.{empty, entries, from_entries, get, get-empty}}
-use Rattle.std.{specs.FinMap.{len-empty, len-entries, nat_cmp-IsAntisymmetric, same_map}, proofs.lemmas.{List.map-set, Cmp.nat_cmp_total}}
-use Rattle.{std.proofs.lemmas.{Bool.Decides.nat_tests, List.Sums.sum_by-cons}, pawn_list_keeper.specs.Common.{AddTerms, BookValue, CanSave, Change, Continues}}
-use Rattle.pawn_list_keeper.specs.Common.{Follows, Full, Host, ImportBook, MakeBook, NewBook, PledgeValue, PutPledge, Rates, book_number, book_rows}
-use Rattle.pawn_list_keeper.specs.Common.{changed_book, filled_book, made_book, most_rows, nat_cmp, pledge_from, pledge_in, pledge_rows, put_from, rows}
-use Rattle.pawn_list_keeper.specs.{Common.{with_book, with_change}, Books.Books, Listed.{Fits, HasChange, IsListed, IsPlace, SavesListed, added_rows, book_at}}
-use Rattle.pawn_list_keeper.{specs.{Listed.{listed_book, host_of, replaced_rows, standing_rows}, declared.kept.Kept.Kept}, proofs.ListReads.book_at-set}
-use Rattle.{pawn_list_keeper.proofs.ListReads.{get-book_at, kept_is, kept_number, pushed}, pawn_book.specs.Sound.{AreSound, IsSoundBook}}
-use Rattle.pawn_book.proofs.{Sounds.{absurd_none, get-with_book, some_is}, Places.pledge_within, RowSums.{part, rows-with_book}}
-use Rattle.{pawn_book.specs.declared.rows.BookRows.BookRows, pawn_base.proofs.ListLemmas.no_elements}
+use Rattle.pawn_base.proofs.ListLemmas.{no_elements}
+use Rattle.pawn_book.proofs.Places.{pledge_within}
+use Rattle.pawn_book.proofs.RowSums.{part, rows-with_book}
+use Rattle.pawn_book.proofs.Sounds.{absurd_none, get-with_book, some_is}
+use Rattle.pawn_book.specs.Sound.{AreSound, IsSoundBook}
+use Rattle.pawn_book.specs.declared.rows.BookRows.{BookRows}
+use Rattle.pawn_list_keeper.proofs.ListReads.{book_at-set, get-book_at, kept_is, kept_number, pushed}
+use Rattle.pawn_list_keeper.specs.Books.{Books}
+use Rattle.pawn_list_keeper.specs.Common.{AddTerms, BookValue, CanSave, Change, Continues, Follows, Full, Host}
+use Rattle.pawn_list_keeper.specs.Common.{ImportBook, MakeBook, NewBook, PledgeValue, PutPledge, Rates, book_number}
+use Rattle.pawn_list_keeper.specs.Common.{book_rows, changed_book, filled_book, made_book, most_rows, nat_cmp}
+use Rattle.pawn_list_keeper.specs.Common.{pledge_from, pledge_in, pledge_rows, put_from, rows, with_book, with_change}
+use Rattle.pawn_list_keeper.specs.Listed.{Fits, HasChange, IsListed, IsPlace, SavesListed, added_rows, book_at}
+use Rattle.pawn_list_keeper.specs.Listed.{listed_book, host_of, replaced_rows, rows_now}
+use Rattle.pawn_list_keeper.specs.declared.kept.Kept.{Kept}
+use Rattle.std.proofs.Common.{◌≡◌, ℕ, ◌+◌, ◌<◌, ◌≤◌, List, [], ◌∷◌, ◌++◌, length, map, set, get_or, Some, None, Ok, Err}
+use Rattle.std.proofs.Common.{refl, ◌∙◌, ap, sym, subst, arith, inl, inr, length-append, if◌then◌else◌, true, false}
+use Rattle.std.proofs.Common.{◌==◌, ◌⊎◌, sum_by}
+use Rattle.std.proofs.lemmas.Bool.Decides.{nat_tests}
+use Rattle.std.proofs.lemmas.Cmp.{nat_cmp_total}
+use Rattle.std.proofs.lemmas.List.{map-set}
+use Rattle.std.proofs.lemmas.List.Sums.{sum_by-cons}
+use Rattle.std.specs.FinMap.{empty, entries, from_entries, get, get-empty, len-empty, len-entries}
+use Rattle.std.specs.FinMap.{nat_cmp-IsAntisymmetric, same_map}
 
 -- no books have no rows
 no_rows : (limit : ℕ) → rows (record { books = empty {X = BookValue} {R = nat_cmp}; limit = limit }) ≡ 0
@@ -40,11 +53,11 @@ kept_changed k next count change few same is sound counted fits =
     }
 
 sum_by-put : (k : ℕ) (ps : List PledgeValue) (n : ℕ) (p : PledgeValue) → k ≤ n → n ≤ k + length ps
-    → sum_by pledge_rows (put_from k ps n p) + standing_rows (pledge_from k ps n) ≡ sum_by pledge_rows ps + pledge_rows p
+    → sum_by pledge_rows (put_from k ps n p) + rows_now (pledge_from k ps n) ≡ sum_by pledge_rows ps + pledge_rows p
 sum_by-put k [] n p low high = omega (arith, sum_by-cons pledge_rows p [])
 sum_by-put k (r ∷ ps) n p low high =
     elim (n == k) as (λ v. n == k ≡ v → sum_by pledge_rows (if v then p ∷ ps else r ∷ put_from (k + 1) ps n p)
-    + standing_rows (if v then Some r else pledge_from (k + 1) ps n) ≡ sum_by pledge_rows (r ∷ ps) + pledge_rows p) [
+    + rows_now (if v then Some r else pledge_from (k + 1) ps n) ≡ sum_by pledge_rows (r ∷ ps) + pledge_rows p) [
       | true ↦ λ e. omega (arith, sum_by-cons pledge_rows p ps, sum_by-cons pledge_rows r ps)
       | false ↦ λ e.
           let more : k + 1 ≤ n = grind (arith, nat_tests, e, low) in
@@ -92,8 +105,8 @@ change_rows k (PutPledge b n p) follows =
     let before : part book_rows (get (host_of k).books b) ≡ book_rows at = ap (part book_rows) follows.1 in
     let place = follows_at at n p follows.2 in
     let pledges = sum_by-put 1 at.pledges n p place.0 place.1 in
-    let stood : standing_rows (pledge_in (book_at k.books b) n) ≡ standing_rows (pledge_from 1 at.pledges n) =
-    ap (λ o. standing_rows (pledge_in o n)) (sym (get-book_at k.books b) ∙ follows.1) in
+    let stood : rows_now (pledge_in (book_at k.books b) n) ≡ rows_now (pledge_from 1 at.pledges n) =
+    ap (λ o. rows_now (pledge_in o n)) (sym (get-book_at k.books b) ∙ follows.1) in
     omega (arith, all, sums, before, pledges, stood)
 change_rows k (ImportBook b key imported) follows =
     let at : BookValue = follows.0 in

@@ -1,8 +1,13 @@
 -- The next book number above another.
-use Rattle.std.proofs.Common.{◌≡◌, ℕ, ◌+◌, ◌<◌, ◌≤◌, List, [], ◌∷◌, ◌++◌, length, map, take, get_or, Some, None, refl, ◌∙◌, ap, sym, arith, inl, inr}
-use Rattle.std.proofs.{Common.{if◌then◌else◌, nat_lt, unwrap_or, ◌&&◌, Option, Bool, true, false, ◌==◌, ◌⊎◌, take_all}, lemmas.List.{get_or-map, length-map}}
-use Rattle.{std.proofs.lemmas.{List.take_more, Bool.Decides.nat_tests}, pawn_book.proofs.Sounds.absurd_none, pawn_list_keeper.specs.Common.BookValue}
-use Rattle.pawn_list_keeper.specs.{Listed.{IsLeastAbove, book_at, listed_book}, declared.kept.Kept.Kept}
+use Rattle.pawn_book.proofs.Sounds.{absurd_none}
+use Rattle.pawn_list_keeper.specs.Common.{BookValue}
+use Rattle.pawn_list_keeper.specs.Listed.{IsLeastAbove, book_at, listed_book}
+use Rattle.pawn_list_keeper.specs.declared.kept.Kept.{Kept}
+use Rattle.std.proofs.Common.{◌≡◌, ℕ, ◌+◌, ◌<◌, ◌≤◌, List, [], ◌∷◌, ◌++◌, length, map, take, get_or, Some, None, refl}
+use Rattle.std.proofs.Common.{◌∙◌, ap, sym, arith, inl, inr, if◌then◌else◌, nat_lt, unwrap_or, ◌&&◌, Option, Bool, true}
+use Rattle.std.proofs.Common.{false, ◌==◌, ◌⊎◌, take_all}
+use Rattle.std.proofs.lemmas.Bool.Decides.{nat_tests}
+use Rattle.std.proofs.lemmas.List.{get_or-map, length-map, take_more}
 
 -- a book stands with one more behind it
 stands_before : (es : List (ℕ × BookValue)) (e : ℕ × BookValue) (b : ℕ) (book : BookValue) → book_at es b ≡ Some book → book_at (es ++ e ∷ []) b ≡ Some book

@@ -1,9 +1,14 @@
 -- The items of a day's sheet, part by part and window by window.
-use Rattle.std.proofs.Common.{◌≡◌, ◌≢◌, ◌∙◌, ℕ, ◌+◌, ◌-◌, ◌<◌, ◌≤◌, suc, List, [], ◌∷◌, ◌++◌, Option, None, Some, refl, sym, ap, subst, length, take, drop}
-use Rattle.std.proofs.{Common.{get_or, arith, append-nil, cond, count_by, filter_map, is_some, take-append-drop}, lemmas.List.take_more}
-use Rattle.{std.proofs.lemmas.List.{Recursion.is_count_by, Elements.filter_map-append}, pawn_list_keeper.specs.Common.{Flow, Go, HandsOver, PledgeValue}}
-use Rattle.pawn_list_keeper.specs.Common.{SheetItem, Stop, cons_option, flat_map, part_head, part_item, part_items, window_items, windows_below, with_head}
-use Rattle.pawn_book.{proofs.SheetLemmas.{hands_one, hands_stop, hands_then, windows_begin, windows_more}, specs.declared.sheet.Part.Part}
+use Rattle.pawn_book.proofs.SheetLemmas.{hands_one, hands_stop, hands_then, windows_begin, windows_more}
+use Rattle.pawn_book.specs.declared.sheet.Part.{Part}
+use Rattle.pawn_list_keeper.specs.Common.{Flow, Go, HandsOver, PledgeValue, SheetItem, Stop, cons_option, flat_map}
+use Rattle.pawn_list_keeper.specs.Common.{part_head, part_item, part_items, window_items, windows_below, with_head}
+use Rattle.std.proofs.Common.{◌≡◌, ◌≢◌, ◌∙◌, ℕ, ◌+◌, ◌-◌, ◌<◌, ◌≤◌, suc, List, [], ◌∷◌, ◌++◌, Option, None, Some, refl}
+use Rattle.std.proofs.Common.{sym, ap, subst, length, take, drop, get_or, arith, append-nil, cond, count_by, filter_map}
+use Rattle.std.proofs.Common.{is_some, take-append-drop}
+use Rattle.std.proofs.lemmas.List.{take_more}
+use Rattle.std.proofs.lemmas.List.Elements.{filter_map-append}
+use Rattle.std.proofs.lemmas.List.Recursion.{is_count_by}
 
 -- of one element more
 pub filter_map_more : {X Y : Type 0} (h : X → Option Y) (xs : List X) (i : ℕ) (d : X) (o : Option Y) → i < length xs → h (get_or xs i d) ≡ o

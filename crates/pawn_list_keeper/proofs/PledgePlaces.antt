@@ -1,7 +1,9 @@
 -- Where a pledge stands in a list, and where it is put.
-use Rattle.std.proofs.Common.{◌≡◌, ◌≢◌, ℕ, ◌+◌, ◌<◌, ◌≤◌, zero, suc, List, [], ◌∷◌, length, drop, get_or, set, Some, None, ◌∙◌, ap, sym, arith, if◌then◌else◌}
-use Rattle.{std.proofs.{Common.{◌==◌, true, false}, lemmas.{List.{drop_all, drop_more}, Bool.Decides.nat_tests}}, pawn_list_keeper.specs.Common.PledgeValue}
-use Rattle.pawn_list_keeper.specs.Common.{is_same_text, put_from, with_reference}
+use Rattle.pawn_list_keeper.specs.Common.{PledgeValue, is_same_text, put_from, with_reference}
+use Rattle.std.proofs.Common.{◌≡◌, ◌≢◌, ℕ, ◌+◌, ◌<◌, ◌≤◌, zero, suc, List, [], ◌∷◌, length, drop, get_or, set, Some}
+use Rattle.std.proofs.Common.{None, ◌∙◌, ap, sym, arith, if◌then◌else◌, ◌==◌, true, false}
+use Rattle.std.proofs.lemmas.Bool.Decides.{nat_tests}
+use Rattle.std.proofs.lemmas.List.{drop_all, drop_more}
 
 -- a pledge put at its place
 pub put_from_place : (k : ℕ) (ps : List PledgeValue) (i n : ℕ) (p : PledgeValue) → i < length ps → n ≡ k + i → set ps i p ≡ put_from k ps n p

@@ -1,4 +1,4 @@
--- Books in a list.
+-- The value of a `ListKeep` in contracts.
 use Rattle.pawn_list_keeper.specs.Common.{BookValue, List, ℕ}
 
 -- books with their numbers, and the limit on their rows

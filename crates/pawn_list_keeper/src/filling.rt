@@ -1,14 +1,16 @@
-//! The rows of an import, put into a book of the list.
+//! An import: the rows that it adds, and how they are put into a book of the list.
+ghost use Rattle.pawn_list_keeper.specs.Common.{AreReplayable, BookValue, Each, IsChecked, IsReachable, pledge_rows};
+ghost use Rattle.pawn_list_keeper.specs.Listed.{HasChange, book_at, listed_book};
 ghost use Rattle.std.specs.Prelude.{◌≡◌, ◌+◌, IfOk, OnErr, OnOk, Some, length, map, sum_by};
-ghost use Rattle.pawn_list_keeper.specs.{Common.{AreReplayable, BookValue, Each, IsChecked, IsStanding, pledge_rows}, Listed.{HasChange, book_at, listed_book}};
 
-use crate::kept::{Kept, place_of};
+use crate::kept::{Kept, place_of_book};
 use pawn_book::{BookRows, Change, Imported, Number, Parts, Pledge, Rates, Secret, Terms};
 use std::alloc::{AllocError, Global};
 
-// How many rows a record counts for: one for itself, for each entry and secret, and for a booking.
-fn rows_of(parts: &Parts) -> u64
-    requires standing { IsStanding parts.now }
+/// How many rows an imported pledge counts for: one for itself, one for each entry and secret, and one for its booking
+/// if it has one.
+fn rows_of_parts(parts: &Parts) -> u64
+    requires reachable { IsReachable parts.now }
     ensures value { result ≡ pledge_rows parts.now }
 {
     let booking = match parts.standing.booking {
@@ -18,19 +20,19 @@ fn rows_of(parts: &Parts) -> u64
     1 + parts.entries.len() as u64 + parts.secrets.len() as u64 + booking
 }
 
-// How many rows an import adds.
+/// How many rows an import adds: its versions of terms, and the rows of its pledges.
 pub(crate) fn count_rows(rows: &BookRows) -> u64
     requires replayable { AreReplayable rows.now.terms rows.now.pledges }
     ensures value { result ≡ length rows.now.terms + sum_by pledge_rows rows.now.pledges }
 {
     let mut count = rows.terms.len() as u64;
     for parts in rows.pledges.as_slice() {
-        count += rows_of(parts);
+        count += rows_of_parts(parts);
     }
     count
 }
 
-// The checked terms of these rates.
+/// The terms with these rates, which are all within their limits. The only error is out of memory.
 fn terms_of(alloc: Global, rates: &[Rates]) -> Result<Vec<Terms>, AllocError>
     requires checked { Each IsChecked rates.now }
     ensures same { IfOk result (λ terms. terms.items ≡ rates.now) }
@@ -45,9 +47,9 @@ fn terms_of(alloc: Global, rates: &[Rates]) -> Result<Vec<Terms>, AllocError>
     Ok(terms)
 }
 
-// The pledges with these records.
+/// The pledges with these records, which are all replayable and within their limits. The only error is out of memory.
 fn pledges_of(alloc: Global, records: &[Parts]) -> Result<Vec<Pledge>, AllocError>
-    requires standing { Each IsStanding records.now }
+    requires reachable { Each IsReachable records.now }
     ensures same { IfOk result (λ pledges. pledges.items ≡ records.now) }
 {
     let mut pledges = Vec::new(alloc);
@@ -61,8 +63,8 @@ fn pledges_of(alloc: Global, records: &[Parts]) -> Result<Vec<Pledge>, AllocErro
     Ok(pledges)
 }
 
-// Puts rows into a book without terms and pledges, under the key of their import. Whatever takes
-// memory comes before the book is changed.
+/// Replaces a book's terms and pledges by the rows of an import, and notes the import's key. Everything that allocates
+/// is done before the book is changed, so that the books are as before if out of memory.
 pub(crate) fn fill_book(
     alloc: Global,
     books: &mut Vec<Kept>,
@@ -77,7 +79,7 @@ pub(crate) fn fill_book(
 {
     let terms = terms_of(alloc, rows.terms.as_slice())?;
     let pledges = pledges_of(alloc, rows.pledges.as_slice())?;
-    let Some(place) = place_of(books, book) else {
+    let Some(place) = place_of_book(books, book) else {
         unreachable!();
     };
     let kept = &mut books[place];

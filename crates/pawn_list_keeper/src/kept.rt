@@ -1,10 +1,12 @@
-//! Books in a list, and how one of them or one of its pledges is found.
+//! A book of the list, and the search for a book or for one of its pledges.
+ghost use Rattle.pawn_book.specs.BookStep.{pledge_from, pledge_in};
+ghost use Rattle.pawn_list_keeper.specs.Listed.{IsPlace, book_at, listed_book};
 ghost use Rattle.std.specs.Prelude.{◌≡◌, ◌<◌, IfNone, IfSome, MatchOption, None, Some, length, map};
-ghost use Rattle.{pawn_book.specs.BookStep.{pledge_from, pledge_in}, pawn_list_keeper.specs.Listed.{IsPlace, book_at, listed_book}};
 
 use pawn_book::{Imported, NewBook, Number, Pledge, Terms};
 
-/// A book in the list.
+/// A book in the list: its number, what it was made with, its versions of terms and its pledges in order, and the
+/// import that filled it, if one did.
 #[derive(Drop)]
 pub struct Kept {
     pub(crate) number: Number,
@@ -14,8 +16,8 @@ pub struct Kept {
     pub(crate) imported: Option<Imported>,
 }
 
-// The place of the first book with this number, from 0, if there is one.
-pub(crate) fn place_of(books: &[Kept], book: Number) -> Option<usize>
+/// The place of the first book with this number, counted from 0, if there is one.
+pub(crate) fn place_of_book(books: &[Kept], book: Number) -> Option<usize>
     ensures within { IfSome result (λ place. place < length books.now) }
     ensures some { IfSome result (IsPlace (map listed_book books.now) book) }
     ensures none { IfNone result (book_at (map listed_book books.now) book ≡ None) }
@@ -28,18 +30,18 @@ pub(crate) fn place_of(books: &[Kept], book: Number) -> Option<usize>
     None
 }
 
-// The first book with this number, if there is one.
+/// The first book with this number, if there is one.
 pub(crate) fn kept_at(books: &[Kept], book: Number) -> Option<&Kept>
     ensures found { MatchOption result (book_at (map listed_book books.now) book ≡ None)
         (λ kept. book_at (map listed_book books.now) book ≡ Some (listed_book kept.now).1) }
 {
-    match place_of(books, book) {
+    match place_of_book(books, book) {
         None => None,
         Some(place) => Some(&books[place]),
     }
 }
 
-// The pledge with this number, if there is one. Pledges are numbered from 1 in order.
+/// The pledge with this number, if there is one. Pledges are numbered from 1 in order.
 fn pledge_at(pledges: &[Pledge], number: Number) -> Option<&Pledge>
     ensures found { MatchOption result (pledge_from 1 pledges.now number ≡ None) (λ pledge. pledge_from 1 pledges.now number ≡ Some pledge.now) }
 {
@@ -51,8 +53,8 @@ fn pledge_at(pledges: &[Pledge], number: Number) -> Option<&Pledge>
     }
 }
 
-// The pledge with this number in a book, if there is one.
-pub(crate) fn standing_pledge(books: &[Kept], book: Number, number: Number) -> Option<&Pledge>
+/// The pledge with this number in a book, if there is one.
+pub(crate) fn kept_pledge(books: &[Kept], book: Number, number: Number) -> Option<&Pledge>
     ensures found { MatchOption result (pledge_in (book_at (map listed_book books.now) book) number ≡ None)
         (λ pledge. pledge_in (book_at (map listed_book books.now) book) number ≡ Some pledge.now) }
 {

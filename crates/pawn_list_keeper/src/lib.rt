@@ -1,5 +1,6 @@
-//! The plain keeper of books: a list in memory that looks books up one after the other, and fails only if memory is
-//! refused. It is for tests, and for whoever wants books without a database. The program keeps its books in tables.
+//! The simple keeper of books: a list in memory, which it searches from the front. Its only errors are `Memory` and,
+//! for a save, `Full`. It serves tests, and users of the library who want books without a database. The program keeps
+//! its books in tables (`pawn_table_keeper`).
 #![tactic(auto)]
 
 mod filling;

@@ -1,5 +1,8 @@
+//! The keeper `ListKeep`, and its implementation of `Keep`.
+ghost use Rattle.pawn_book.specs.Sound.{IsSound};
+ghost use Rattle.pawn_list_keeper.specs.Common.{CanSave};
+ghost use Rattle.pawn_list_keeper.specs.Listed.{SavesListed, host_of};
 ghost use Rattle.std.specs.Prelude.{◌≡◌, ◌≤◌, [], map};
-ghost use Rattle.{pawn_list_keeper.specs.{Common.CanSave, Listed.{SavesListed, host_of}}, pawn_book.specs.Sound.IsSound};
 
 use crate::kept::Kept;
 use crate::reading::{
@@ -15,8 +18,8 @@ use pawn_book::{
 use std::alloc::Global;
 use std::marker::Model;
 
-/// Books in a list, in the order in which they were made: the plain keeper, which fails only if memory is refused. A
-/// contract sees the books by number, and the limit on their rows.
+/// A keeper that has its books in a list in memory, in the order in which they were made. Its only errors are `Memory`
+/// and, for a save, `Full`. In contracts its value is the books with their numbers, and the limit on their rows.
 #[derive(Drop)]
 pub struct ListKeep {
     alloc: Global,
@@ -26,8 +29,8 @@ pub struct ListKeep {
 }
 
 impl Model for ListKeep {
-    ghost use Rattle.std.specs.Prelude.{map};
     ghost use Rattle.pawn_list_keeper.specs.Books.{Books};
+    ghost use Rattle.std.specs.Prelude.{map};
 
     ghost Value = { Books };
 
@@ -40,7 +43,8 @@ impl Model for ListKeep {
 }
 
 impl ListKeep {
-    /// A keeper of no books. The limit on rows is at most 10,000,000.
+    /// A keeper without books, whose books may have `limit` rows together. The limit is at most 10,000,000
+    /// (`MOST_ROWS`).
     pub fn new(alloc: Global, limit: u64) -> ListKeep
         requires few { limit ≤ MOST_ROWS }
         ensures empty { result ≡ record { books = []; limit = limit } }
@@ -53,14 +57,15 @@ impl ListKeep {
         }
     }
 
-    // Gives a proof that the host of the list is sound.
+    /// Proves that the host of the list is sound. The body only reads a field, which makes the invariant known.
     fn know_sound(&self)
         ensures sound { IsSound (host_of self.now) }
     {
         let _ = &self.rows;
     }
 
-    // Makes a change, or answers `Full` if the rows would be above the limit. After an error the books are as before.
+    /// Makes a change. Answers `Full` if there would be more rows than the limit, and `Memory` if out of memory. After
+    /// an error the books are as before.
     fn make(&mut self, change: &Change) -> Result<(), SaveError>
         requires can_save { CanSave (host_of self.old) change.now }
         ensures saves { SavesListed self.old change.now result self.new }
@@ -184,9 +189,9 @@ impl Keep for ListKeep {
         self.make(change)
     }
 
-    ghost use Rattle.std.proofs.Common.{refl, subst, sym};
     ghost use Rattle.pawn_book.specs.Sound.{IsSound};
     ghost use Rattle.pawn_list_keeper.specs.Listed.{host_of};
+    ghost use Rattle.std.proofs.Common.{refl, subst, sym};
 
     ghost whole_is_sound = { record { stands = λ k sound. (host_of k, sound, refl); left = λ k sound h is. subst IsSound (sym is) sound } };
 }

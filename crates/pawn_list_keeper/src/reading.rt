@@ -1,16 +1,18 @@
-//! Reads of books in a list.
+//! The reads of the trait `Keep`, over books in a list.
+ghost use Rattle.pawn_list_keeper.specs.Common.{IsShare, Visits, Whole, book_head, brief_of, confirmed_count};
+ghost use Rattle.pawn_list_keeper.specs.Common.{entries_of, extensions_of, number_of, pledge_in, pledges_of};
+ghost use Rattle.pawn_list_keeper.specs.Common.{secrets_of, terms_at, terms_of, with_reference};
+ghost use Rattle.pawn_list_keeper.specs.Listed.{IsLeastAbove, book_at, listed_book};
 ghost use Rattle.std.specs.Prelude.{◌≡◌, ◌+◌, ◌&&◌, if◌then◌else◌, IfOk, Some, map, nat_lt, option_map, unwrap_or};
-ghost use Rattle.pawn_list_keeper.specs.Common.{IsShare, Visits, Whole, book_head, brief_of, confirmed_count, entries_of, extensions_of, number_of, pledge_in};
-ghost use Rattle.pawn_list_keeper.specs.{Common.{pledges_of, secrets_of, terms_at, terms_of, with_reference}, Listed.{IsLeastAbove, book_at, listed_book}};
 
-use crate::kept::{Kept, kept_at, standing_pledge};
+use crate::kept::{Kept, kept_at, kept_pledge};
 use crate::sheet::is_confirmed_for;
 use pawn_book::{
     BookHead, Brief, Day, Entry, Extension, Flow, Issued, Number, Pledge, Reference, Terms, Visitor,
 };
 use std::alloc::AllocError;
 
-// The head of a book, if there is such a book. The only error is that memory is refused.
+/// The head of a book, if there is such a book. The only error is out of memory.
 pub(crate) fn head_in(books: &[Kept], book: Number) -> Result<Option<BookHead>, AllocError>
     ensures value { IfOk result (λ head. head ≡ option_map book_head (book_at (map listed_book books.now) book)) }
 {
@@ -28,8 +30,8 @@ pub(crate) fn head_in(books: &[Kept], book: Number) -> Result<Option<BookHead>, 
     }))
 }
 
-// The terms under a version, counted from 1, if there are any.
-fn standing_terms(terms: &[Terms], version: u64) -> Option<Terms>
+/// The terms under a version, counted from 1, if there are any.
+fn kept_terms(terms: &[Terms], version: u64) -> Option<Terms>
     ensures value { result ≡ terms_at terms.now version }
 {
     if version == 0 || version > terms.len() as u64 {
@@ -38,17 +40,17 @@ fn standing_terms(terms: &[Terms], version: u64) -> Option<Terms>
     Some(terms[version as usize - 1])
 }
 
-// The terms that a book has under a version, if it has any.
+/// The terms that a book has under a version, if it has any.
 pub(crate) fn terms_in(books: &[Kept], book: Number, version: u64) -> Option<Terms>
     ensures value { result ≡ terms_at (terms_of (book_at (map listed_book books.now) book)) version }
 {
     let Some(kept) = kept_at(books, book) else {
         return None;
     };
-    standing_terms(&kept.terms, version)
+    kept_terms(&kept.terms, version)
 }
 
-// The number of the first pledge with this reference, if there is one.
+/// The number of the first pledge with this reference, if there is one.
 fn number_with(pledges: &[Pledge], reference: &Reference) -> Option<Number>
     ensures value { result ≡ option_map (λ p. p.agreement.number) (with_reference pledges.now reference.now) }
 {
@@ -60,7 +62,7 @@ fn number_with(pledges: &[Pledge], reference: &Reference) -> Option<Number>
     None
 }
 
-// The number of the first pledge of a book with this reference, if there is one.
+/// The number of the first pledge of a book with this reference, if there is one.
 pub(crate) fn number_in(books: &[Kept], book: Number, reference: &Reference) -> Option<Number>
     ensures value { result ≡ number_of (book_at (map listed_book books.now) book) reference.now }
 {
@@ -70,7 +72,7 @@ pub(crate) fn number_in(books: &[Kept], book: Number, reference: &Reference) -> 
     number_with(&kept.pledges, reference)
 }
 
-// A copy of the pledge with this number in a book, if there is one. The only error is that memory is refused.
+/// A copy of the pledge with this number in a book, if there is one. The only error is out of memory.
 pub(crate) fn pledge_copy(
     books: &[Kept],
     book: Number,
@@ -78,15 +80,14 @@ pub(crate) fn pledge_copy(
 ) -> Result<Option<Pledge>, AllocError>
     ensures value { IfOk result (λ pledge. pledge ≡ pledge_in (book_at (map listed_book books.now) book) number) }
 {
-    let Some(pledge) = standing_pledge(books, book, number) else {
+    let Some(pledge) = kept_pledge(books, book, number) else {
         return Ok(None);
     };
     let copy = pledge.copy()?;
     Ok(Some(copy))
 }
 
-// The pledge with this number in a book, without its lists, if there is one. The only error is that memory is
-// refused.
+/// The brief of the pledge with this number in a book, if there is one. The only error is out of memory.
 pub(crate) fn brief_in(
     books: &[Kept],
     book: Number,
@@ -94,14 +95,14 @@ pub(crate) fn brief_in(
 ) -> Result<Option<Brief>, AllocError>
     ensures value { IfOk result (λ brief. brief ≡ option_map brief_of (pledge_in (book_at (map listed_book books.now) book) number)) }
 {
-    let Some(pledge) = standing_pledge(books, book, number) else {
+    let Some(pledge) = kept_pledge(books, book, number) else {
         return Ok(None);
     };
     let brief = pledge.brief()?;
     Ok(Some(brief))
 }
 
-// The pledges of a book; none if there is no such book.
+/// The pledges of a book; none if there is no such book.
 pub(crate) fn pledges_in(books: &[Kept], book: Number) -> &[Pledge]
     ensures value { result.now ≡ pledges_of (book_at (map listed_book books.now) book) }
 {
@@ -111,37 +112,37 @@ pub(crate) fn pledges_in(books: &[Kept], book: Number) -> &[Pledge]
     }
 }
 
-// The entries of a pledge in a book.
+/// The entries of a pledge in a book; none if there is no such pledge.
 pub(crate) fn entries_in(books: &[Kept], book: Number, number: Number) -> &[Entry]
     ensures value { result.now ≡ entries_of (pledge_in (book_at (map listed_book books.now) book) number) }
 {
-    match standing_pledge(books, book, number) {
+    match kept_pledge(books, book, number) {
         None => &[],
         Some(pledge) => pledge.entries(),
     }
 }
 
-// The secrets of a pledge in a book.
+/// The secrets of a pledge in a book; none if there is no such pledge.
 pub(crate) fn secrets_in(books: &[Kept], book: Number, number: Number) -> &[Issued]
     ensures value { result.now ≡ secrets_of (pledge_in (book_at (map listed_book books.now) book) number) }
 {
-    match standing_pledge(books, book, number) {
+    match kept_pledge(books, book, number) {
         None => &[],
         Some(pledge) => pledge.secrets(),
     }
 }
 
-// The extensions of a pledge in a book.
+/// The extensions of a pledge in a book; none if there is no such pledge.
 pub(crate) fn extensions_in(books: &[Kept], book: Number, number: Number) -> &[Extension]
     ensures value { result.now ≡ extensions_of (pledge_in (book_at (map listed_book books.now) book) number) }
 {
-    match standing_pledge(books, book, number) {
+    match kept_pledge(books, book, number) {
         None => &[],
         Some(pledge) => pledge.extensions(),
     }
 }
 
-// How many pledges have a confirmed booking for a day and a window.
+/// How many pledges have a confirmed booking for a day and a window.
 pub(crate) fn confirmed_count(pledges: &[Pledge], day: Day, window: u64) -> usize
     ensures value { result ≡ confirmed_count pledges.now day window }
 {
@@ -151,7 +152,7 @@ pub(crate) fn confirmed_count(pledges: &[Pledge], day: Day, window: u64) -> usiz
         .count()
 }
 
-// The number itself, or 0 if there is none.
+/// The number itself, or 0 if there is none.
 pub(crate) fn bound(after: Option<Number>) -> u32
     ensures value { result ≡ unwrap_or after 0 }
 {
@@ -161,7 +162,7 @@ pub(crate) fn bound(after: Option<Number>) -> u32
     }
 }
 
-// The next book number above `after`, if there is one.
+/// The least book number that is greater than `after`, if there is one.
 pub(crate) fn next_number(books: &[Kept], after: u32) -> Option<Number>
     ensures least { IsLeastAbove (map listed_book books.now) after result }
 {
@@ -172,7 +173,7 @@ pub(crate) fn next_number(books: &[Kept], after: u32) -> Option<Number>
     next
 }
 
-// `number`, if it is above `after`, and below `next` if there is one; otherwise `next`.
+/// `number`, if it is greater than `after` and, where there is a `next`, less than `next`; otherwise `next`.
 fn nearer_number(number: Number, after: u32, next: Option<Number>) -> Option<Number>
     ensures value { result ≡ (if nat_lt after number && nat_lt number (unwrap_or next (number + 1)) then Some number else next) }
 {
@@ -186,7 +187,7 @@ fn nearer_number(number: Number, after: u32, next: Option<Number>) -> Option<Num
     next
 }
 
-// Hands the items to the visitor until it wants no more.
+/// Passes the items to the visitor in order, until it answers `Stop`.
 pub(crate) fn hand<T, V: Visitor<T>>(items: &[T], visitor: &mut V)
     ensures visits { Visits V.step visitor.old visitor.new (λ given flow. IsShare given flow Whole items.now) }
 {

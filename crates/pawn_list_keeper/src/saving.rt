@@ -1,14 +1,16 @@
-//! Changes of books in a list.
+//! Changes, made to the books of a list, and how many rows the books have after one.
+ghost use Rattle.pawn_list_keeper.specs.Common.{BookValue, pledge_rows, put_from};
+ghost use Rattle.pawn_list_keeper.specs.Listed.{Fits, HasChange, added_rows, book_at, listed_book, replaced_rows};
 ghost use Rattle.std.specs.Prelude.{◌≡◌, ◌≤◌, ◌+◌, None, OnErr, OnOk, Some, length, map};
-ghost use Rattle.pawn_list_keeper.specs.{Common.{BookValue, pledge_rows, put_from}, Listed.{Fits, HasChange, added_rows, book_at, listed_book, replaced_rows}};
 
 use crate::filling::{count_rows, fill_book};
-use crate::kept::{Kept, place_of, standing_pledge};
+use crate::kept::{Kept, kept_pledge, place_of_book};
 use pawn_book::{Change, NewBook, Number, Pledge, Terms};
 use std::alloc::{AllocError, Global};
 
-// How many rows a pledge counts for: one for itself, for each entry and secret, and for a booking.
-fn rows_of(pledge: &Pledge) -> u64
+/// How many rows a pledge counts for: one for itself, one for each entry and secret, and one for its booking if it has
+/// one.
+fn rows_of_pledge(pledge: &Pledge) -> u64
     ensures value { result ≡ pledge_rows pledge.now }
 {
     let booking = match pledge.standing().booking {
@@ -18,7 +20,7 @@ fn rows_of(pledge: &Pledge) -> u64
     1 + pledge.entries().len() as u64 + pledge.secrets().len() as u64 + booking
 }
 
-// How many rows there are once a change is made, if there are `rows` before it.
+/// How many rows there are after a change, if there are `rows` before it.
 pub(crate) fn rows_with(books: &[Kept], rows: u64, change: &Change) -> u128
     requires counted { replaced_rows (map listed_book books.now) change.now ≤ rows + added_rows change.now }
     requires fits { Fits (map listed_book books.now) change.now }
@@ -32,11 +34,11 @@ pub(crate) fn rows_with(books: &[Kept], rows: u64, change: &Change) -> u128
             number,
             pledge,
         } => {
-            let standing = match standing_pledge(books, *book, *number) {
+            let standing = match kept_pledge(books, *book, *number) {
                 None => 0,
-                Some(standing) => rows_of(standing),
+                Some(standing) => rows_of_pledge(standing),
             };
-            u128::from(rows) + u128::from(rows_of(pledge)) - u128::from(standing)
+            u128::from(rows) + u128::from(rows_of_pledge(pledge)) - u128::from(standing)
         }
         Change::ImportBook { rows: imported, .. } => {
             u128::from(rows) + u128::from(count_rows(imported))
@@ -44,7 +46,7 @@ pub(crate) fn rows_with(books: &[Kept], rows: u64, change: &Change) -> u128
     }
 }
 
-// Makes a change of the books. If memory is refused, the books are as before.
+/// Makes a change to the books. If out of memory, the books are as before.
 pub(crate) fn make_change(
     alloc: Global,
     books: &mut Vec<Kept>,
@@ -70,7 +72,7 @@ pub(crate) fn make_change(
     }
 }
 
-// Adds a book without terms and pledges.
+/// Adds a book without terms and pledges. If out of memory, the books are as before.
 fn push_book(
     alloc: Global,
     books: &mut Vec<Kept>,
@@ -93,7 +95,7 @@ fn push_book(
     Ok(())
 }
 
-// Adds the next version of a book's terms.
+/// Adds the next version of a book's terms. If out of memory, the books are as before.
 fn push_terms(
     books: &mut Vec<Kept>,
     book: Number,
@@ -104,7 +106,7 @@ fn push_terms(
     ensures ok { OnOk result (HasChange (map listed_book books.old.items) (Change.AddTerms book version terms) (map listed_book books.new.items)) }
     ensures err { OnErr result (map listed_book books.new.items ≡ map listed_book books.old.items) }
 {
-    let Some(place) = place_of(books, book) else {
+    let Some(place) = place_of_book(books, book) else {
         unreachable!();
     };
     let kept = &mut books[place];
@@ -114,7 +116,7 @@ fn push_terms(
     }
 }
 
-// Puts a pledge into a book at its number: as the next, or in place of the one that has it.
+/// Puts a pledge into a book at its number: as the next, or in place of the one that has it.
 fn put_pledge(
     books: &mut Vec<Kept>,
     book: Number,
@@ -125,7 +127,7 @@ fn put_pledge(
     ensures ok { OnOk result (HasChange (map listed_book books.old.items) (Change.PutPledge book number pledge.now) (map listed_book books.new.items)) }
     ensures err { OnErr result (map listed_book books.new.items ≡ map listed_book books.old.items) }
 {
-    let Some(place) = place_of(books, book) else {
+    let Some(place) = place_of_book(books, book) else {
         unreachable!();
     };
     let pledge = pledge.copy()?;
@@ -133,7 +135,7 @@ fn put_pledge(
     put(&mut kept.pledges, number, pledge)
 }
 
-// Puts a pledge at its number: as the next, or in place of the one that has it.
+/// Puts a pledge at its number: as the next, or in place of the one that has it.
 fn put(pledges: &mut Vec<Pledge>, number: Number, pledge: Pledge) -> Result<(), AllocError>
     requires within { number ≤ 1 + length pledges.old.items }
     ensures ok { OnOk result (pledges.new.items ≡ put_from 1 pledges.old.items number pledge) }

@@ -1,14 +1,15 @@
-//! A day's sheet of the pledges of a book.
+//! The day's sheet of a book in the list: its items are found among the book's pledges and passed to a visitor.
+ghost use Rattle.pawn_list_keeper.specs.Common.{HandsOver, asked_item, day_sheet, is_confirmed_for, part_item};
+ghost use Rattle.pawn_list_keeper.specs.Common.{part_items, window_sheet, windows_sheet, with_head};
+ghost use Rattle.pawn_pledge.specs.Words.{is_open};
 ghost use Rattle.std.specs.Prelude.{◌≡◌, count_by, is_some};
-ghost use Rattle.{pawn_pledge.specs.Words.is_open, pawn_list_keeper.specs.Common.{HandsOver, asked_item, day_sheet, is_confirmed_for, part_item, part_items}};
-ghost use Rattle.pawn_list_keeper.specs.Common.{window_sheet, windows_sheet, with_head};
 
 use pawn_book::{
     Booking, BookingState, Closing, Day, Flow, Number, Part, Pledge, SheetItem, Visitor,
 };
 use pawn_pledge::LAST_WINDOW;
 
-// Whether a booking for a day and a window is confirmed.
+/// Whether a booking for a day and a window is confirmed.
 pub(crate) fn is_confirmed_for(booking: Option<Booking>, day: Day, window: u64) -> bool
     ensures value { result ≡ is_confirmed_for day window booking }
 {
@@ -22,7 +23,7 @@ pub(crate) fn is_confirmed_for(booking: Option<Booking>, day: Day, window: u64) 
     }
 }
 
-// The item of a booking that is asked for a day.
+/// The sheet's item for a booking, if it is asked, and for this day.
 fn asked_item(number: Number, day: Day, booking: Option<Booking>) -> Option<SheetItem>
     ensures value { result ≡ asked_item number day booking }
 {
@@ -36,7 +37,7 @@ fn asked_item(number: Number, day: Day, booking: Option<Booking>) -> Option<Shee
     None
 }
 
-// Whether a pledge is neither redeemed nor sold.
+/// Whether a pledge is neither redeemed nor sold.
 fn is_open(closing: Closing) -> bool
     ensures value { result ≡ is_open closing }
 {
@@ -46,7 +47,7 @@ fn is_open(closing: Closing) -> bool
     }
 }
 
-// The item that a part has for a pledge, if it has one.
+/// The item of a pledge in a part of the sheet, if it has one there.
 fn item_of(part: Part, day: Day, pledge: &Pledge) -> Option<SheetItem>
     ensures value { result ≡ part_item part day pledge.now }
 {
@@ -69,7 +70,7 @@ fn item_of(part: Part, day: Day, pledge: &Pledge) -> Option<SheetItem>
     }
 }
 
-// How many pledges a part has an item for.
+/// How many pledges have an item in a part of the sheet.
 fn count_of(part: Part, day: Day, pledges: &[Pledge]) -> u64
     ensures value { result ≡ count_by (λ p. is_some (part_item part day p)) pledges.now }
 {
@@ -79,7 +80,7 @@ fn count_of(part: Part, day: Day, pledges: &[Pledge]) -> u64
         .count() as u64
 }
 
-// Hands a part's items to the visitor until it wants no more.
+/// Passes a part's items to the visitor until it answers `Stop`.
 fn hand_part<V: Visitor<SheetItem>>(
     part: Part,
     day: Day,
@@ -99,7 +100,7 @@ fn hand_part<V: Visitor<SheetItem>>(
     Flow::Go
 }
 
-// Hands the part's heading, with the number of its items, and then the items, until the visitor wants no more.
+/// Passes the part's heading, which has the number of its items, and then the items, until the visitor answers `Stop`.
 fn hand_headed<V: Visitor<SheetItem>>(
     part: Part,
     day: Day,
@@ -115,7 +116,8 @@ fn hand_headed<V: Visitor<SheetItem>>(
     }
 }
 
-// Hands a window's items to the visitor until it wants no more; none if the window has no confirmed booking.
+/// Passes a window's heading and items to the visitor until it answers `Stop`; nothing if the window has no confirmed
+/// booking.
 fn hand_window<V: Visitor<SheetItem>>(
     window: u64,
     day: Day,
@@ -131,7 +133,7 @@ fn hand_window<V: Visitor<SheetItem>>(
     hand_headed(part, day, pledges, visitor)
 }
 
-// Hands the windows' items to the visitor until it wants no more.
+/// Passes the headings and items of all windows to the visitor until it answers `Stop`.
 fn hand_windows<V: Visitor<SheetItem>>(day: Day, pledges: &[Pledge], visitor: &mut V) -> Flow
     ensures hands { HandsOver V.step visitor.old (windows_sheet pledges.now day) result visitor.new }
 {
@@ -144,7 +146,8 @@ fn hand_windows<V: Visitor<SheetItem>>(day: Day, pledges: &[Pledge], visitor: &m
     Flow::Go
 }
 
-// Hands the items of a day's sheet to the visitor until it wants no more.
+/// Passes a day's sheet to the visitor until it answers `Stop`: the windows, then the visits that are asked, then the
+/// pledges whose period ends.
 pub(crate) fn hand_sheet<V: Visitor<SheetItem>>(
     day: Day,
     pledges: &[Pledge],

@@ -1,8 +1,14 @@
 -- The books of a host up to a number.
-use Rattle.{pawn_move.proofs.Basics.{both_told, below}, pawn_opening.specs.Common.{Row, Host}, pawn_tables.{proofs.BookReads.below_key, specs.Common.entries}}
-use Rattle.pawn_tables.specs.{Common.{entries_sorted, find_key, get, get-entries, is_sorted, is_eq, nat_cmp, BookValue, IsNextBook}, StandsFor.of_books}
-use Rattle.std.proofs.Common.{◌≡◌, ◌≢◌, ◌==◌, ◌≤◌, ◌<◌, ◌++◌, ℕ, [], ◌∷◌, List, Bool, true, false, cond, Some, None, T, filter, flat_map, nat_le, refl, sym, ap}
-use Rattle.std.{proofs.{Common.{subst, ◌∙◌, arith, append_assoc, append-nil}, lemmas.Bool.Decides.nat_tests}, specs.FinMap.Entries.below_all}
+use Rattle.pawn_move.proofs.Basics.{both_told, below}
+use Rattle.pawn_opening.specs.Common.{Row, Host}
+use Rattle.pawn_tables.proofs.BookReads.{below_key}
+use Rattle.pawn_tables.specs.Common.{entries, entries_sorted, find_key, get, get-entries, is_sorted, is_eq, nat_cmp}
+use Rattle.pawn_tables.specs.Common.{BookValue, IsNextBook}
+use Rattle.pawn_tables.specs.StandsFor.{of_books}
+use Rattle.std.proofs.Common.{◌≡◌, ◌≢◌, ◌==◌, ◌≤◌, ◌<◌, ◌++◌, ℕ, [], ◌∷◌, List, Bool, true, false, cond, Some, None, T}
+use Rattle.std.proofs.Common.{filter, flat_map, nat_le, refl, sym, ap, subst, ◌∙◌, arith, append_assoc, append-nil}
+use Rattle.std.proofs.lemmas.Bool.Decides.{nat_tests}
+use Rattle.std.specs.FinMap.Entries.{below_all}
 
 abbrev pub Entry : Type 0
 Entry = ℕ × BookValue

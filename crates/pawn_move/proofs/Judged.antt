@@ -1,8 +1,13 @@
 -- Debts are judged, pledge by pledge and book by book.
-use Rattle.{std.proofs.Common.{ℕ, Bool, true, Option, Some, Result, Ok, Err, IsTrue, refl, sym, subst}, pawn_opening.specs.Common.{HasCleanDisk, State, Host}}
-use Rattle.{pawn_opening.specs.Common.IsLent, pawn_tables.specs.{Common.{IsNextBook, HasUnsoundBook, IsUnsoundAt, KeepError, Rests}, Finding.{Finds, FindsOf}}}
-use Rattle.{pawn_tables.specs.StandsFor.ListDebts, pawn_saving.specs.Writing.IsCarried, pawn_move.proofs.Basics.{clean_before, rests_then, carried_none}}
-use Rattle.pawn_move.{proofs.{Basics.{carried_then, was_clean}, Reading.{handed, tell_then}}, specs.Moving.{AreOwedIn, IsNextJudged, ListFirstDebts}}
+use Rattle.pawn_move.proofs.Basics.{clean_before, rests_then, carried_none, carried_then, was_clean}
+use Rattle.pawn_move.proofs.Reading.{handed, tell_then}
+use Rattle.pawn_move.specs.Moving.{AreOwedIn, IsNextJudged, ListFirstDebts}
+use Rattle.pawn_opening.specs.Common.{HasCleanDisk, State, Host, IsLent}
+use Rattle.pawn_saving.specs.Writing.{IsCarried}
+use Rattle.pawn_tables.specs.Common.{IsNextBook, HasUnsoundBook, IsUnsoundAt, KeepError, Rests}
+use Rattle.pawn_tables.specs.Finding.{Finds, FindsOf}
+use Rattle.pawn_tables.specs.StandsFor.{ListDebts}
+use Rattle.std.proofs.Common.{ℕ, Bool, true, Option, Some, Result, Ok, Err, IsTrue, refl, sym, subst}
 
 -- ---- a walk that leaves the tables as they are
 

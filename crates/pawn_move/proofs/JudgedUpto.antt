@@ -1,8 +1,12 @@
 -- Which debts were judged so far.
-use Rattle.std.proofs.Common.{◌≡◌, ◌≢◌, ◌+◌, ◌<◌, ◌≤◌, ℕ, suc, Bool, true, false, Option, Some, None, nat_le, take, slice_get, refl, sym}
-use Rattle.{std.proofs.{Common.{ap, subst, ◌∙◌, arith, IfSome, is_some}, lemmas.Bool.Decides.nat_tests}, pawn_move.proofs.Basics.Each-push}
-use Rattle.pawn_move.{proofs.Basics.{take_next, take_past, pledge_at}, specs.Moving.{AreAllOwed, AreOwedIn, AreTotalsAt, CanBeOwed, IsJudgedAt, IsNextJudged}}
-use Rattle.{pawn_tables.specs.{Common.{get, Totals, PledgeValue, Each, BookValue, pledge_in, pledges_of}, PledgeRows.totals_in}, pawn_opening.specs.Common.Host}
+use Rattle.pawn_move.proofs.Basics.{Each-push, take_next, take_past, pledge_at}
+use Rattle.pawn_move.specs.Moving.{AreAllOwed, AreOwedIn, AreTotalsAt, CanBeOwed, IsJudgedAt, IsNextJudged}
+use Rattle.pawn_opening.specs.Common.{Host}
+use Rattle.pawn_tables.specs.Common.{get, Totals, PledgeValue, Each, BookValue, pledge_in, pledges_of}
+use Rattle.pawn_tables.specs.PledgeRows.{totals_in}
+use Rattle.std.proofs.Common.{◌≡◌, ◌≢◌, ◌+◌, ◌<◌, ◌≤◌, ℕ, suc, Bool, true, false, Option, Some, None, nat_le, take}
+use Rattle.std.proofs.Common.{slice_get, refl, sym, ap, subst, ◌∙◌, arith, IfSome, is_some}
+use Rattle.std.proofs.lemmas.Bool.Decides.{nat_tests}
 
 -- ---- the pledges of a book
 

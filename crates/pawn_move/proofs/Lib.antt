@@ -2,6 +2,7 @@ pub mod AllFilled
 pub mod Basics
 pub mod BooksUpTo
 pub mod Filled
+pub mod Indexed
 pub mod Judged
 pub mod JudgedUpto
 pub mod Made

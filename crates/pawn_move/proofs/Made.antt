@@ -1,12 +1,29 @@
 -- Tables that are added beside others, and the number of the schema that is noted anew.
-use Rattle.std.proofs.Common.{◌≡◌, ℕ, pos, List, [], ◌∷◌, filter, codes, Bool, true, Ok, Err, Result, OnOk, IsTrue, refl}
-use Rattle.{std.{proofs.lemmas.List.Sorted.IsPermutation-refl, specs.List.list_all}, pawn_opening.specs.Common.{everything, understood, Row, column, value_cmp}}
-use Rattle.pawn_opening.specs.{Common.{Executes, HasCleanDisk, State, Host, rows, IsLent, meta_row, with_indexes}, Indexing.{AddsIndexes, GainsIndexes}}
-use Rattle.{pawn_opening.proofs.Gained.gains_lists, pawn_tables.specs.{Common.Tables, Schema.{meta, meta_tree}, declared.texts.TheConstants.SET_SCHEMA}}
-use Rattle.pawn_move.{proofs.Basics.{row_set_by, with_tables, clean_before}, specs.Moving.{IsMoving, NotesProgram, listed_with}}
-use Rattle.sqlite.specs.{declared.types.Value.TheVariants.{Int, Text}, Ops.{binary, is_true}, Collation.TheVariants.Binary, Term.{Term, lit, col, op2}}
-use Rattle.{sqlite_sql.specs.declared.ops.{BinaryOp.TheVariants.Compare, CompareOp.TheVariants.Eq}, one_table.proofs.{OneTable.over_table, Rowed.cast_int}}
-use Rattle.{one_table.proofs.{Rowed.cast_whole, Texts.Sets}, pawn_saving.proofs.Places.meta_place, sqlite_schema.specs.declared.schema.Index.Index}
+use Rattle.one_table.proofs.OneTable.{over_table}
+use Rattle.one_table.proofs.Rowed.{cast_int, cast_whole}
+use Rattle.one_table.proofs.Texts.{Sets}
+use Rattle.pawn_move.proofs.Basics.{row_set_by, with_tables, clean_before}
+use Rattle.pawn_move.specs.Moving.{IsMoving, NotesProgram, listed_with}
+use Rattle.pawn_opening.proofs.Gained.{gains_lists}
+use Rattle.pawn_opening.specs.Common.{everything, understood, Row, column, value_cmp, Executes, HasCleanDisk, State}
+use Rattle.pawn_opening.specs.Common.{Host, rows, IsLent, meta_row, with_indexes}
+use Rattle.pawn_opening.specs.Indexing.{AddsIndexes, GainsIndexes}
+use Rattle.pawn_opening.specs.declared.indexing.Lacking.{Lacking}
+use Rattle.pawn_saving.proofs.Places.{meta_place}
+use Rattle.pawn_tables.specs.Common.{Tables}
+use Rattle.pawn_tables.specs.Schema.{meta, meta_tree}
+use Rattle.pawn_tables.specs.declared.texts.TheConstants.{SET_SCHEMA}
+use Rattle.sqlite.specs.Collation.TheVariants.{Binary}
+use Rattle.sqlite.specs.Ops.{binary, is_true}
+use Rattle.sqlite.specs.Term.{Term, lit, col, op2}
+use Rattle.sqlite.specs.declared.types.Value.TheVariants.{Int, Text}
+use Rattle.sqlite_schema.specs.declared.schema.Index.{Index}
+use Rattle.sqlite_sql.specs.declared.ops.BinaryOp.TheVariants.{Compare}
+use Rattle.sqlite_sql.specs.declared.ops.CompareOp.TheVariants.{Eq}
+use Rattle.std.proofs.Common.{◌≡◌, ℕ, pos, List, [], ◌∷◌, filter, codes, Bool, true, Ok, Err, Result, OnOk, IsTrue}
+use Rattle.std.proofs.Common.{refl, Option, Some}
+use Rattle.std.proofs.lemmas.List.Sorted.{IsPermutation-refl}
+use Rattle.std.specs.List.{list_all}
 
 -- ---- the number is noted
 
@@ -40,14 +57,16 @@ program_noted old new count n owed h m ran = let rest : List Row = meta_row (cod
 
 -- ---- and the indexes are made
 
-gains_moving : (n : ℕ) (owed : List Row) (old new : Tables) (h : Host) → GainsIndexes old new → IsMoving n owed old h → IsMoving n owed new h
+gains_moving : {which : Option Lacking} (n : ℕ) (owed : List Row) (old new : Tables) (h : Host) → GainsIndexes which old new
+    → IsMoving n owed old h → IsMoving n owed new h
 gains_moving n owed old new h g m =
     record { lists = gains_lists old new (listed_with n owed h) g m.lists; ordered = m.ordered; storable = m.storable; unextended = m.unextended }
 
-pub noted_then : {E : Type 0} (a b c : State) (r : Result (Unit {0}) E) (ok : Bool) → IsLent a b true → IsLent b c ok → NotesProgram a b (Ok tt) → AddsIndexes b
-    c r → HasCleanDisk c → IsTrue a.in_transaction → (n : ℕ) (owed : List Row) (h : Host) → IsMoving n owed a.now h → OnOk r (IsMoving 3 owed c.now h)
-noted_then {E} a b c r ok first second notes adds clean within n owed h m = let was = clean_before b c ok second clean in
+pub noted_then : {E : Type 0} (which : Lacking) (a b c : State) (r : Result (Unit {0}) E) (ok : Bool) → IsLent a b true → IsLent b c ok
+    → NotesProgram a b (Ok tt) → AddsIndexes which b c r → HasCleanDisk c → IsTrue a.in_transaction → (n : ℕ) (owed : List Row) (h : Host)
+    → IsMoving n owed a.now h → OnOk r (IsMoving 3 owed c.now h)
+noted_then {E} which a b c r ok first second notes adds clean within n owed h m = let was = clean_before b c ok second clean in
     go r (notes was within n owed h m) (adds clean (first.inside was within refl)) where
-      go : (x : Result (Unit {0}) E) → IsMoving 3 owed b.now h → OnOk x (GainsIndexes b.now c.now) → OnOk x (IsMoving 3 owed c.now h)
+      go : (x : Result (Unit {0}) E) → IsMoving 3 owed b.now h → OnOk x (GainsIndexes (Some which) b.now c.now) → OnOk x (IsMoving 3 owed c.now h)
       go (Ok done) moving g = gains_moving 3 owed b.now c.now h g moving
       go (Err e) moving g = tt

@@ -1,9 +1,18 @@
 -- A store is moved: a transaction that moves its tables, and a commit.
-use Rattle.pawn_move.{proofs.{Filled.untold, Reading.handed}, specs.{Migrating.{HoldMoved, MovesStore, MovesStoreOwed}, Moving.{Moves, MovesOwed}}}
-use Rattle.{pawn_move.specs.StandsUnder.StandsUnder, pawn_opening.{proofs.Begun.{IsBegun, held, opens_as, rolled_back, uncommitted}, specs.Common.HasCleanDisk}}
-use Rattle.{pawn_opening.specs.{Common.{State, Trees, Host, IsLent, StandForOne, HoldHost, StandsFor}, Opened.OpensAs}, sqlite.proofs.StateLemmas.survives_then}
-use Rattle.{sqlite.specs.{State.{IsRolledBack, Shows, Survives}, Steps.FailsToCommit, declared.error.Error.Error}, std.proofs.Common.{◌≡◌, ◌≢◌, ℕ, true, false}}
-use Rattle.{std.proofs.Common.{None, Result, Ok, Err, IsTrue, sym, subst, ◌∙◌, arith}, pawn_tables.specs.Common.{get, HasUnsoundBook, KeepError, NoRecord}}
+use Rattle.pawn_move.proofs.Filled.{untold}
+use Rattle.pawn_move.proofs.Reading.{handed}
+use Rattle.pawn_move.specs.Migrating.{HoldMoved, MovesStore, MovesStoreOwed}
+use Rattle.pawn_move.specs.Moving.{Moves, MovesOwed}
+use Rattle.pawn_move.specs.StandsUnder.{StandsUnder}
+use Rattle.pawn_opening.proofs.Begun.{IsBegun, held, opens_as, rolled_back, uncommitted}
+use Rattle.pawn_opening.specs.Common.{HasCleanDisk, State, Trees, Host, IsLent, StandForOne, HoldHost, StandsFor}
+use Rattle.pawn_opening.specs.Opened.{OpensAs}
+use Rattle.pawn_tables.specs.Common.{get, HasUnsoundBook, KeepError, NoRecord}
+use Rattle.sqlite.proofs.StateLemmas.{survives_then}
+use Rattle.sqlite.specs.State.{IsRolledBack, Shows, Survives}
+use Rattle.sqlite.specs.Steps.{FailsToCommit}
+use Rattle.sqlite.specs.declared.error.Error.{Error}
+use Rattle.std.proofs.Common.{◌≡◌, ◌≢◌, ℕ, true, false, None, Result, Ok, Err, IsTrue, sym, subst, ◌∙◌, arith}
 use Rattle.pawn_book.specs.declared.fault.KeepError.TheVariants as Keeper
 
 module _ (n : ℕ) (old new begun lent : State) (was : IsBegun old begun) (ended : new.in_transaction ≡ false) where

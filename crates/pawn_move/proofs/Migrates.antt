@@ -1,12 +1,23 @@
 -- A store tells its schema, and is moved where that is an older one.
-use Rattle.std.proofs.Common.{◌≡◌, ◌==◌, ◌⊎◌, inl, inr, ℕ, Bool, true, false, Option, Some, None, Ok, Err, Result, IsTrue, refl, sym, subst, ◌∙◌, arith}
-use Rattle.{std.proofs.lemmas.Bool.Decides.nat_tests, pawn_move.proofs.Basics.{MoveFault, NotOurs, NewerSchema, Damaged, Store, Memory}}
-use Rattle.pawn_move.specs.Migrating.{HoldMoved, HoldSameHost, IsFailure, IsMoved, IsNotOurs, IsUnmovable, IsUntellable, Migrates, MigratesOwed, MovesStore}
-use Rattle.pawn_move.{specs.{Migrating.{MovesStoreOwed, TellsNumber, move_fault_of}, StandsUnder.{IsSchema, StandsUnder}}, proofs.ToldSchema.third_is_ours}
-use Rattle.pawn_tables.specs.{Common.{get, Tables, BookValue, HasUnsoundBook, KeepError, Database, NoRecord}, Finding.Finds}
-use Rattle.pawn_opening.specs.{Common.{HasCleanDisk, State, Trees, Host, StandForOne, HoldHost, StandsFor}, Indexing.HoldGained, Opened.IndexesStore}
-use Rattle.pawn_opening.{specs.{Opened.{IsAsBefore, OpensAs}, Refusing.NotesSchema, declared.fault.OpenFault.OpenFault}, proofs.Begun.{held, opens_as}}
-use Rattle.{pawn_opening.proofs.Gained.gains_stands, sqlite.{specs.State.Survives, proofs.StateLemmas.{survives_then, survives_weaker}}}
+use Rattle.pawn_move.proofs.Basics.{MoveFault, NotOurs, NewerSchema, Damaged, Store, Memory}
+use Rattle.pawn_move.proofs.ToldSchema.{third_is_ours}
+use Rattle.pawn_move.specs.Migrating.{HoldMoved, HoldSameHost, IsFailure, IsMoved, IsNotOurs, IsUnmovable, IsUntellable}
+use Rattle.pawn_move.specs.Migrating.{Migrates, MigratesOwed, MovesStore, MovesStoreOwed, TellsNumber, move_fault_of}
+use Rattle.pawn_move.specs.StandsUnder.{IsSchema, StandsUnder}
+use Rattle.pawn_opening.proofs.Begun.{held, opens_as}
+use Rattle.pawn_opening.proofs.Gained.{gains_stands}
+use Rattle.pawn_opening.specs.Common.{HasCleanDisk, State, Trees, Host, StandForOne, HoldHost, StandsFor}
+use Rattle.pawn_opening.specs.Indexing.{HoldGained}
+use Rattle.pawn_opening.specs.Opened.{IndexesStore, IsAsBefore, OpensAs}
+use Rattle.pawn_opening.specs.Refusing.{NotesSchema}
+use Rattle.pawn_opening.specs.declared.fault.OpenFault.{OpenFault}
+use Rattle.pawn_tables.specs.Common.{get, Tables, BookValue, HasUnsoundBook, KeepError, Database, NoRecord}
+use Rattle.pawn_tables.specs.Finding.{Finds}
+use Rattle.sqlite.proofs.StateLemmas.{survives_then, survives_weaker}
+use Rattle.sqlite.specs.State.{Survives}
+use Rattle.std.proofs.Common.{◌≡◌, ◌==◌, ◌⊎◌, inl, inr, ℕ, Bool, true, false, Option, Some, None, Ok, Err, Result}
+use Rattle.std.proofs.Common.{IsTrue, refl, sym, subst, ◌∙◌, arith}
+use Rattle.std.proofs.lemmas.Bool.Decides.{nat_tests}
 use Rattle.pawn_book.specs.declared.fault.KeepError.TheVariants as Keeper
 
 -- an older schema is the first or the second

@@ -1,12 +1,23 @@
 -- Tables of an older schema, moved to the program's.
-use Rattle.pawn_move.proofs.{Basics.{both_told, clean_before, was_clean}, BooksUpTo.{Entry, here_found, past_head}, Filled.{firsts, untold}, Reading.handed}
-use Rattle.pawn_move.specs.{Moving.{AreAllOwed, IsMoving, ListFirstDebts, Moves, MovesOwed, NotesProgram, PutsAll, listed_with}, StandsUnder.HasNoExtension}
-use Rattle.{pawn_move.specs.StandsUnder.StandsUnder, pawn_opening.specs.Common.{Row, HasCleanDisk, State, Host, IsLent, Holds, Lists, with_rows, StandsFor}}
-use Rattle.{pawn_opening.specs.Laying.AddsTable, pawn_saving.specs.Writing.IsCarried, pawn_tables.{proofs.BookReads.below_key, specs.Common.entries}}
-use Rattle.pawn_tables.specs.Common.{entries_sorted, find_key, get, get-entries, is_sorted, nat_cmp, Tables, PledgeValue, Each, BookValue, HasUnsoundBook}
-use Rattle.pawn_tables.specs.{Common.{KeepError, NoRecord, Rests}, Finding.{Finds, FindsOf}, Rows.{extension_cells, extensions_listed, number_in_book}}
-use Rattle.pawn_tables.specs.{Rows.{placed_from, totals_listed, under}, Schema.{extensions, extensions_tree, first_schema, keep_schema, second_schema}}
-use Rattle.{pawn_tables.specs.StandsFor.of_pledges, std.proofs.Common.{◌≡◌, ◌++◌, ℕ, List, [], Some, None, Result, Ok, Err, OnOk, Bool, true, false, IsTrue}}
+use Rattle.pawn_move.proofs.Basics.{both_told, clean_before, was_clean}
+use Rattle.pawn_move.proofs.BooksUpTo.{Entry, here_found, past_head}
+use Rattle.pawn_move.proofs.Filled.{firsts, untold}
+use Rattle.pawn_move.proofs.Reading.{handed}
+use Rattle.pawn_move.specs.Moving.{AreAllOwed, IsMoving, ListFirstDebts, Moves, MovesOwed, NotesProgram, PutsAll}
+use Rattle.pawn_move.specs.Moving.{listed_with}
+use Rattle.pawn_move.specs.StandsUnder.{HasNoExtension, StandsUnder}
+use Rattle.pawn_opening.specs.Common.{Row, HasCleanDisk, State, Host, IsLent, Holds, Lists, with_rows, StandsFor}
+use Rattle.pawn_opening.specs.Laying.{AddsTable}
+use Rattle.pawn_saving.specs.Writing.{IsCarried}
+use Rattle.pawn_tables.proofs.BookReads.{below_key}
+use Rattle.pawn_tables.specs.Common.{entries, entries_sorted, find_key, get, get-entries, is_sorted, nat_cmp, Tables}
+use Rattle.pawn_tables.specs.Common.{PledgeValue, Each, BookValue, HasUnsoundBook, KeepError, NoRecord, Rests}
+use Rattle.pawn_tables.specs.Finding.{Finds, FindsOf}
+use Rattle.pawn_tables.specs.Rows.{extension_cells, extensions_listed, number_in_book, placed_from, totals_listed}
+use Rattle.pawn_tables.specs.Rows.{under}
+use Rattle.pawn_tables.specs.Schema.{extensions, extensions_tree, first_schema, keep_schema, second_schema}
+use Rattle.pawn_tables.specs.StandsFor.{of_pledges}
+use Rattle.std.proofs.Common.{◌≡◌, ◌++◌, ℕ, List, [], Some, None, Result, Ok, Err, OnOk, Bool, true, false, IsTrue}
 use Rattle.std.proofs.Common.{refl, sym, ap, subst, ◌∙◌, arith, append-nil, T, flat_map, ◌∷◌, ◌≢◌}
 use Rattle.pawn_book.specs.declared.fault.KeepError.TheVariants as Keeper
 

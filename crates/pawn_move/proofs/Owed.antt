@@ -1,10 +1,19 @@
 -- What was owed on a pledge, by what was read of it.
-use Rattle.{pawn_book.proofs.SoundLists.some_is, pawn_debt.specs.declared.entry.Entry.Entry, pawn_move.proofs.Basics.{Rates, terms_at, clean_before, Credit}}
-use Rattle.{pawn_move.{proofs.Reading.three_find, specs.Moving.{ListFirstDebts, rows_if_any}}, pawn_opening.specs.Common.{HasCleanDisk, State, Host, IsLent}}
-use Rattle.pawn_tables.{proofs.PledgeReads.{holds_in, number_in, under_in}, specs.Common.{get, totals_of, Totals, PledgeValue, debt_of, pledge_in, entries_of}}
-use Rattle.pawn_tables.specs.{Common.{terms_of, IsUnsoundAt, Rests}, Finding.FindsOf, PledgeRows.{credit_told, totals_in}, Rows.{totals_cells, totals_listed}}
-use Rattle.{pawn_tables.specs.{Rows.under, StandsFor.{AreBooksOrdered, ListDebts}}, std.proofs.Common.{◌≡◌, ℕ, [], ◌∷◌, List, Option, Some, None, Ok, IsTrue}}
-use Rattle.std.proofs.Common.{refl, sym, ap, ◌∙◌, is_some, option_map, true}
+use Rattle.pawn_book.proofs.SoundLists.{some_is}
+use Rattle.pawn_debt.specs.declared.entry.Entry.{Entry}
+use Rattle.pawn_move.proofs.Basics.{Rates, terms_at, clean_before, Credit}
+use Rattle.pawn_move.proofs.Reading.{three_find}
+use Rattle.pawn_move.specs.Moving.{ListFirstDebts, rows_if_any}
+use Rattle.pawn_opening.specs.Common.{HasCleanDisk, State, Host, IsLent}
+use Rattle.pawn_tables.proofs.PledgeReads.{holds_in, number_in, under_in}
+use Rattle.pawn_tables.specs.Common.{get, totals_of, Totals, PledgeValue, debt_of, pledge_in, entries_of, terms_of}
+use Rattle.pawn_tables.specs.Common.{IsUnsoundAt, Rests}
+use Rattle.pawn_tables.specs.Finding.{FindsOf}
+use Rattle.pawn_tables.specs.PledgeRows.{credit_told, totals_in}
+use Rattle.pawn_tables.specs.Rows.{totals_cells, totals_listed, under}
+use Rattle.pawn_tables.specs.StandsFor.{AreBooksOrdered, ListDebts}
+use Rattle.std.proofs.Common.{◌≡◌, ℕ, [], ◌∷◌, List, Option, Some, None, Ok, IsTrue, refl, sym, ap, ◌∙◌, is_some}
+use Rattle.std.proofs.Common.{option_map, true}
 
 -- the row that was found is that of a pledge
 pub credit_is : (o : Option PledgeValue) (credit : Credit) → Some credit ≡ option_map credit_told o

@@ -1,12 +1,22 @@
 -- Tables that stand for a host under a schema note its number, and it is told.
-use Rattle.std.proofs.Common.{◌≡◌, ◌==◌, inl, inr, ℕ, Bool, true, false, Option, Some, None, Ok, Err, Result, IsTrue, refl, sym, ap, subst, ◌∙◌, arith, IfErr}
-use Rattle.{std.proofs.Common.{IfOk, IfSome}, pawn_opening.specs.Common.{everything, understood, State, Host, rows, Holds, notes, with_indexes, READ_SCHEMA}}
-use Rattle.pawn_opening.specs.{Opened.TellsSchema, Refusing.{IsEmptyStore, IsNoted, NotesNoSchema, NotesSchema}, declared.fault.OpenFault.OpenFault}
-use Rattle.{sqlite.specs.{Listing.listing_schema, Effect.Database, Schema.Schema}, pawn_tables.specs.Schema.{first_schema, meta, meta_tree, second_schema}}
-use Rattle.pawn_move.{proofs.Basics.{as_lists, as_stands, with_tables, MoveFault, NotOurs, NewerSchema, Damaged, Store, Memory}, specs.Migrating.IsFailure}
-use Rattle.pawn_move.specs.{Migrating.{IsNumberJudged, IsMoveTold, IsNotOurs, IsUntellable, TellsNumber}, StandsUnder.{IsSchema, ListsBy, StandsUnder}}
-use Rattle.{pawn_move.specs.StandsUnder.{ThirdIsOurs, listed_under}, sqlite_resolve.specs.declared.compiled.Compiled.Compiled}
-use Rattle.{sqlite_resolve.specs.declared.error.CompileError.CompileError, one_table.specs.Columns.no_schema}
+use Rattle.one_table.specs.Columns.{no_schema}
+use Rattle.pawn_move.proofs.Basics.{as_lists, as_stands, with_tables, MoveFault, NotOurs, NewerSchema, Damaged, Store}
+use Rattle.pawn_move.proofs.Basics.{Memory}
+use Rattle.pawn_move.specs.Migrating.{IsFailure, IsNumberJudged, IsMoveTold, IsNotOurs, IsUntellable, TellsNumber}
+use Rattle.pawn_move.specs.StandsUnder.{IsSchema, ListsBy, StandsUnder, ThirdIsOurs, listed_under}
+use Rattle.pawn_opening.specs.Common.{everything, understood, State, Host, rows, Holds, notes, with_indexes}
+use Rattle.pawn_opening.specs.Common.{READ_SCHEMA}
+use Rattle.pawn_opening.specs.Opened.{TellsSchema}
+use Rattle.pawn_opening.specs.Refusing.{IsEmptyStore, IsNoted, NotesNoSchema, NotesSchema}
+use Rattle.pawn_opening.specs.declared.fault.OpenFault.{OpenFault}
+use Rattle.pawn_tables.specs.Schema.{first_schema, meta, meta_tree, second_schema}
+use Rattle.sqlite.specs.Effect.{Database}
+use Rattle.sqlite.specs.Listing.{listing_schema}
+use Rattle.sqlite.specs.Schema.{Schema}
+use Rattle.sqlite_resolve.specs.declared.compiled.Compiled.{Compiled}
+use Rattle.sqlite_resolve.specs.declared.error.CompileError.{CompileError}
+use Rattle.std.proofs.Common.{◌≡◌, ◌==◌, inl, inr, ℕ, Bool, true, false, Option, Some, None, Ok, Err, Result, IsTrue}
+use Rattle.std.proofs.Common.{refl, sym, ap, subst, ◌∙◌, arith, IfErr, IfOk, IfSome}
 use Rattle.pawn_opening.proofs.Ours as ours
 
 -- ---- the third schema is the program's

@@ -1,20 +1,28 @@
--- What is found of a store's schema, and how a store of an older one is moved to the program's.
-use Rattle.std.specs.Prelude.{◌≡◌, ◌⊎◌, ◌<◌, false, ℕ, Option, Some, None, IsTrue, Result, Ok, Err, IfErr, IfOk, OnErr, OnOk}
-use Rattle.{pawn_tables.specs.{Common.{get, Tables, HasUnsoundBook, KeepError, Database, NoRecord}, Finding.Finds}, pawn_opening.specs.Common.HasCleanDisk}
-use Rattle.pawn_opening.specs.{Common.{State, Trees, Host, HoldHost}, Opened.{IsAsBefore, OpensAs}, Refusing.{IsEmptyStore, NotesNoSchema, NotesSchema}}
-use Rattle.{pawn_opening.specs.declared.fault.OpenFault.OpenFault, sqlite.specs.State.Survives, pawn_move.specs.declared.fault.MoveFault.MoveFault}
-use Rattle.pawn_move.specs.{declared.fault.MoveFault.TheVariants.{NotOurs, NewerSchema, Damaged, Store, Memory}, Moving.AreAllOwed, StandsUnder.IsSchema}
-use Rattle.pawn_move.specs.StandsUnder.{StandsUnder}
+-- The contracts of reading a store's schema and of migrating a store to the program's.
+use Rattle.pawn_move.specs.Moving.{AreAllOwed, EndsWithIndexes}
+use Rattle.pawn_move.specs.StandsUnder.{IsSchema, StandsUnder}
+use Rattle.pawn_move.specs.declared.fault.MoveFault.{MoveFault}
+use Rattle.pawn_move.specs.declared.fault.MoveFault.TheVariants.{NotOurs, NewerSchema, Damaged, Store, Memory}
+use Rattle.pawn_opening.specs.Common.{HasCleanDisk, State, Trees, Host, HoldHost}
+use Rattle.pawn_opening.specs.Indexing.{lacking}
+use Rattle.pawn_opening.specs.Opened.{IsAsBefore, OpensAs}
+use Rattle.pawn_opening.specs.Refusing.{IsEmptyStore, NotesNoSchema, NotesSchema}
+use Rattle.pawn_opening.specs.declared.fault.OpenFault.{OpenFault}
+use Rattle.pawn_tables.specs.Common.{get, Tables, HasUnsoundBook, KeepError, Database, NoRecord}
+use Rattle.pawn_tables.specs.Finding.{Finds}
+use Rattle.sqlite.specs.State.{Survives}
+use Rattle.std.specs.Prelude.{◌≡◌, ◌⊎◌, ◌<◌, false, ℕ, Option, Some, None, IsTrue, Result, Ok, Err, IfErr, IfOk, OnErr}
+use Rattle.std.specs.Prelude.{OnOk}
 use Rattle.pawn_book.specs.declared.fault.KeepError.TheVariants as Keeper
 use Rattle.pawn_opening.specs.declared.fault.OpenFault.TheVariants as Opening
 
--- ---- why a store is not moved
+-- ---- why a store is not migrated
 
--- each host that the tables stand for, under whichever schema, has a book that is not sound
+-- every host that the tables stand for, under any of the schemas, has a book that is not sound
 abbrev pub StandsForNoSound : Tables → Type 0
 StandsForNoSound db = (n : ℕ) (h : Host) → IsSchema n → StandsUnder n db h → HasUnsoundBook h
 
--- what is so of a store whose schema is not reported for this reason
+-- what holds of the tables of a store whose schema is not reported, for this reason
 abbrev pub IsUntellable : Tables → MoveFault → Type 0
 IsUntellable db NotOurs = NotesNoSchema db ⊎ NotesSchema db 0
 IsUntellable db NewerSchema = (n : ℕ) × NotesSchema db n × (3 < n)
@@ -22,12 +30,13 @@ IsUntellable db Damaged = ⊥
 IsUntellable db Store = Unit {0}
 IsUntellable db Memory = Unit {0}
 
--- what is so of a store that is not moved for this reason: it is damaged only if it notes one of our schemas, and stands for no sound host
+-- what holds of the tables of a store that is not migrated, for this reason; the reason is Damaged only if the store
+-- notes one of the program's schemas 1 to 3, and stands for no sound host
 abbrev pub IsUnmovable : Tables → MoveFault → Type 0
 IsUnmovable db Damaged = ((n : ℕ) × NotesSchema db n × IsSchema n) × StandsForNoSound db
 IsUnmovable db why = IsUntellable db why
 
--- the store failed, or memory was refused; nothing is said of what the store holds
+-- the fault is Store or Memory, which state nothing about the content of the store
 abbrev pub IsFailure : MoveFault → Type 0
 IsFailure NotOurs = ⊥
 IsFailure NewerSchema = ⊥
@@ -35,20 +44,20 @@ IsFailure Damaged = ⊥
 IsFailure Store = Unit {0}
 IsFailure Memory = Unit {0}
 
--- the answer for an empty store: it is none of ours, unless the store failed
+-- the answer for an empty store: NotOurs, or Store or Memory
 abbrev pub IsNotOurs : {A : Type 0} → Result A MoveFault → Type 0
 IsNotOurs (Ok told) = ⊥
 IsNotOurs (Err NotOurs) = Unit {0}
 IsNotOurs (Err why) = IsFailure why
 
--- a fault of opening, reading the schema or closing, as a fault of moving
+-- a fault of opening, of reading the schema or of closing as a fault of a migration
 abbrev pub fault_of_opening : OpenFault → MoveFault
 fault_of_opening Opening.Memory = Memory
 fault_of_opening Opening.Store = Store
 fault_of_opening Opening.NotOurs = Store
 fault_of_opening (Opening.OldSchema n) = Store
 
--- an error within the transaction, as a fault of moving
+-- an error within the transaction as a fault of a migration
 abbrev pub move_fault_of : KeepError → MoveFault
 move_fault_of Keeper.Memory = Memory
 move_fault_of (Keeper.Store NoRecord) = Damaged
@@ -56,12 +65,12 @@ move_fault_of (Keeper.Store Database) = Store
 
 -- ---- the schema that is reported
 
--- for tables that stand for a host under a schema: its number is the answer, unless the store failed
+-- the answer for tables that stand for a host under schema n: n, or Store or Memory
 abbrev pub IsMoveTold : ℕ → Result ℕ MoveFault → Type 0
 IsMoveTold n (Ok m) = m ≡ n
 IsMoveTold n (Err why) = IsFailure why
 
--- how the number that a store notes is judged
+-- the result of checking the number that a store notes
 abbrev pub IsNumberJudged : Option ℕ → Result ℕ MoveFault → Type 0
 IsNumberJudged noted (Ok n) = (noted ≡ Some n) × IsSchema n
 IsNumberJudged noted (Err NotOurs) = (noted ≡ None) ⊎ (noted ≡ Some 0)
@@ -70,7 +79,7 @@ IsNumberJudged noted (Err Damaged) = ⊥
 IsNumberJudged noted (Err Store) = ⊥
 IsNumberJudged noted (Err Memory) = ⊥
 
--- the answer is the number of a store's schema, and the store is left as it was
+-- the answer is the number of the store's schema, and the store is as before
 pub record TellsNumber (old new : State) (result : Result ℕ MoveFault) : Type 0 where
   pub known : IfOk result IsSchema
   pub ok : HasCleanDisk new → IfOk result (λ n. NotesSchema old.now n × IsTrue new.is_open)
@@ -81,10 +90,11 @@ pub record TellsNumber (old new : State) (result : Result ℕ MoveFault) : Type 
   pub ended : new.in_transaction ≡ false
   pub survives : Survives old new (λ _. ⊥)
 
--- ---- the store that is moved
+-- ---- the store that is migrated
 
--- For tables that stand for a host under schema n. Either the store is open, with nothing pending, for the same host
--- under the program's schema, and the answer is n and 3. Or the store failed, or the host has a book that is not sound.
+-- The answer for tables that stand for a host under schema n. Ok: the answer is n and 3, and the store is open for the
+-- same host under the program's schema, with no transaction under way. Damaged: the host has a book that is not sound.
+-- Otherwise Store or Memory.
 abbrev pub IsMoved : ℕ → Host → State → Result (ℕ × ℕ) MoveFault → Type 0
 IsMoved n h new (Ok told) = (told ≡ (n, 3)) × OpensAs new h
 IsMoved n h new (Err NotOurs) = ⊥
@@ -93,12 +103,14 @@ IsMoved n h new (Err Damaged) = HasUnsoundBook h
 IsMoved n h new (Err Store) = Unit {0}
 IsMoved n h new (Err Memory) = Unit {0}
 
--- the trees stand, under the program's schema, for each host without a book 0 that the old tables stood for, whatever their schema was
+-- the trees stand, under the program's schema, for each host without a book 0 that the old tables stand for under any
+-- of the schemas
 abbrev pub HoldSameHost : Tables → Trees → Type 0
 HoldSameHost old trees = (n : ℕ) (h : Host) → IsSchema n → get h.books 0 ≡ None → StandsUnder n old h → HoldHost trees h
 
--- A store of schema 1, 2 or 3 is moved to 3, in one transaction. Then it is open, with nothing pending, for the host that its tables stood for, if no book of
--- that has the number 0. Else it is as it was. A crash leaves the old tables or the new ones.
+-- The contract of `migrate`: a store of schema 1, 2 or 3 is migrated to 3, in one transaction. After a success it is
+-- open, with no transaction under way, for the host that its tables stood for, if no book of the host has the number 0.
+-- After an error it is as before. A crash leaves the old tables or the new ones.
 pub record Migrates (old new : State) (result : Result (ℕ × ℕ) MoveFault) : Type 0 where
   pub found : HasCleanDisk new → IfOk result (λ told. NotesSchema old.now told.0 × IsSchema told.0 × (told.1 ≡ 3))
   pub moved : HasCleanDisk new → (n : ℕ) (h : Host) → IsSchema n → get h.books 0 ≡ None → StandsUnder n old.now h → IsMoved n h new result
@@ -110,26 +122,32 @@ pub record Migrates (old new : State) (result : Result (ℕ × ℕ) MoveFault) :
   -- a crash leaves the last commit, or tables of the program's schema for the same host
   pub crash : HasCleanDisk new → IsTrue old.is_open → (trees : Trees) → new.may_leave trees → (trees ≡ old.committed.trees) ⊎ HoldSameHost old.now trees
 
--- tables of an older schema are moved only if each debt of the host can have come about
+-- tables of an older schema are migrated only if every debt of the host is reachable
 abbrev pub MigratesOwed : State → State → Result (ℕ × ℕ) MoveFault → Type 0
 MigratesOwed old new result =
     HasCleanDisk new → (n : ℕ) (h : Host) → IsSchema n → n < 3 → get h.books 0 ≡ None → StandsUnder n old.now h → IfOk result (λ told. AreAllOwed h)
 
 -- ---- the transaction
 
--- a crash leaves the program's tables, for each host that the tables of this schema stood for
+-- the trees stand, under the program's schema, for each host without a book 0 that the old tables stand for under
+-- schema n
 abbrev pub HoldMoved : ℕ → State → Trees → Type 0
 HoldMoved n old trees = (h : Host) → get h.books 0 ≡ None → StandsUnder n old.now h → HoldHost trees h
 
--- A store of this schema is moved, in one transaction: then it is open, with nothing pending, for the host that its tables stood for.
--- Else it is as it was; a row is no record only of a host with a book that is not sound. A crash leaves the old tables or the new ones.
+-- A store of schema n is migrated in one transaction. After a success it is open, with no transaction under way, for
+-- the host that its tables stood for. After an error it is as before; NoRecord is answered only for a host with a book
+-- that is not sound. A crash leaves the old tables or the new ones.
 pub record MovesStore (n : ℕ) (old new : State) (result : Result (Unit {0}) KeepError) : Type 0 where
   pub moved : HasCleanDisk new → (h : Host) → get h.books 0 ≡ None → StandsUnder n old.now h → Finds result (λ done. OpensAs new h) (HasUnsoundBook h)
   pub err : HasCleanDisk new → OnErr result (IsAsBefore old new)
   pub ended : new.in_transaction ≡ false
   pub survives : Survives old new (HoldMoved n old)
 
--- a store of this schema is moved only if each debt of the host can have come about
+-- a store of schema n is migrated only if every debt of the host is reachable
 abbrev pub MovesStoreOwed : ℕ → State → State → Result (Unit {0}) KeepError → Type 0
 MovesStoreOwed n old new result =
     HasCleanDisk new → (h : Host) → get h.books 0 ≡ None → StandsUnder n old.now h → OnOk result (AreAllOwed h)
+
+-- the last change of a store that is moved made those of the program's indexes that it lacked, and nothing else
+abbrev pub GainsLacking : {A : Type 0} {E : Type 0} → State → State → Result A E → Type 0
+GainsLacking old new result = HasCleanDisk new → IfOk result (λ done. EndsWithIndexes (lacking old.now.schema) new.now)

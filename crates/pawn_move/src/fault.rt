@@ -1,26 +1,29 @@
-ghost use Rattle.std.specs.Prelude.{◌≡◌};
+//! The faults of a migration.
 ghost use Rattle.pawn_move.specs.Migrating.{IsFailure, fault_of_opening, move_fault_of};
+ghost use Rattle.std.specs.Prelude.{◌≡◌};
 
 use pawn_book::{KeepError, StoreFault};
 use pawn_opening::OpenFault;
 
-/// Why a store is not moved to the program's schema.
+/// Why a store cannot be migrated to the program's schema.
 #[derive(Clone, Copy, Debug, PartialEq, Eq)]
 pub enum MoveFault {
-    /// The store is empty, or notes no schema: it may be another program's.
+    /// The store is empty, or notes no schema or the number 0: another program may have made it.
     NotOurs,
     /// The store notes a newer schema than the program's.
     NewerSchema,
-    /// A stored row is no record, or the terms, the sum, the days or the entries of a pledge can't have come about.
+    /// A stored row cannot be decoded, or no commands can produce the terms, the sum, the days or the entries of a
+    /// pledge.
     Damaged,
-    /// The database failed, or refused.
+    /// The database failed, or refused the request.
     Store,
+    /// Out of memory.
     Memory,
 }
 
 impl MoveFault {
-    /// A fault of opening, reading the schema or closing, as a fault of moving: `Memory` stays, and every other becomes
-    /// `Store`.
+    /// A fault of opening, of reading the schema or of closing as a fault of a migration: `Memory` stays `Memory`, and
+    /// every other fault becomes `Store`.
     pub fn of_opening(why: OpenFault) -> MoveFault
         ensures failure { IsFailure result }
         ensures told { result ≡ fault_of_opening why }
@@ -32,7 +35,7 @@ impl MoveFault {
     }
 }
 
-/// A keeper's error as the reason that a store is not moved: a row that is no record makes it `Damaged`.
+/// A keeper's error as a fault of a migration: `NoRecord` becomes `Damaged`, `Database` becomes `Store`.
 pub(crate) fn unmoved(error: KeepError) -> MoveFault
     ensures told { result ≡ move_fault_of error }
 {

@@ -1,6 +1,10 @@
+//! Checks that all debts are reachable, for a store of schema 2.
+ghost use Rattle.pawn_move.specs.Moving.{AreAllOwed, AreOwedIn, IsNextJudged, ListFirstDebts};
+ghost use Rattle.pawn_opening.specs.Common.{state, Lends};
+ghost use Rattle.pawn_saving.specs.Writing.{Carries};
+ghost use Rattle.pawn_tables.specs.Common.{get, HasUnsoundBook, IsUnsoundAt};
+ghost use Rattle.pawn_tables.specs.Finding.{FindsOf};
 ghost use Rattle.std.specs.Prelude.{◌≡◌, None, is_ok};
-ghost use Rattle.{pawn_tables.specs.{Common.{get, HasUnsoundBook, IsUnsoundAt}, Finding.FindsOf}, pawn_opening.specs.Common.{state, Lends}};
-ghost use Rattle.{pawn_saving.specs.Writing.Carries, pawn_move.specs.Moving.{AreAllOwed, AreOwedIn, IsNextJudged, ListFirstDebts}};
 
 use crate::debts::totals_for;
 use crate::filling::BEYOND;
@@ -9,8 +13,9 @@ use pawn_tables::next_in;
 use sqlite::{Alter, Transaction};
 use std::alloc::Global;
 
-/// Checks the debt of each of a book's pledges.
-pub(crate) fn judge_book<S: Alter>(
+/// Checks the debts of all pledges of a book. The error is `NoRecord` if commands cannot produce one of them. Nothing
+/// is written.
+pub(crate) fn check_book<S: Alter>(
     tx: &mut Transaction<'_, S>,
     alloc: Global,
     book: u32,
@@ -28,8 +33,9 @@ pub(crate) fn judge_book<S: Alter>(
     Err(BEYOND)
 }
 
-/// Checks the debts of the next book with a number above `above`. Returns its number; `None` if there is no such book.
-pub(crate) fn judge_next<S: Alter>(
+/// Checks the debts of the book with the least number that is greater than `above`. Returns its number; `None` if there
+/// is no such book.
+pub(crate) fn check_next<S: Alter>(
     tx: &mut Transaction<'_, S>,
     alloc: Global,
     above: u32,
@@ -41,13 +47,12 @@ pub(crate) fn judge_next<S: Alter>(
     let Some(book) = next_in(tx, above)? else {
         return Ok(None);
     };
-    judge_book(tx, alloc, book.get())?;
+    check_book(tx, alloc, book.get())?;
     Ok(Some(book))
 }
 
-/// Checks the debts of all books. If one can't have come about, the error is that a row is no record. Nothing is
-/// written.
-pub(crate) fn judge_books<S: Alter>(
+/// Checks the debts of all books. The error is `NoRecord` if commands cannot produce one of them. Nothing is written.
+pub(crate) fn check_books<S: Alter>(
     tx: &mut Transaction<'_, S>,
     alloc: Global,
 ) -> Result<(), KeepError>
@@ -57,7 +62,7 @@ pub(crate) fn judge_books<S: Alter>(
 {
     let mut above = 0;
     for _ in 0..u32::MAX {
-        let Some(book) = judge_next(tx, alloc, above)? else {
+        let Some(book) = check_next(tx, alloc, above)? else {
             return Ok(());
         };
         above = book.get();

@@ -1,4 +1,4 @@
-//! Stores of an older schema, moved to the program's: they stand for the same host before and after.
+//! The migration of a store from an older schema to the program's. The store stands for the same host before and after.
 #![tactic(auto)]
 
 mod debts;

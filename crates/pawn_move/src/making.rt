@@ -1,6 +1,11 @@
+//! Makes the tables and indexes that an older store lacks, and notes the new schema.
+ghost use Rattle.pawn_move.specs.Moving.{MakesLacking, NotesProgram};
+ghost use Rattle.pawn_opening.specs.Common.{state, Lends};
+ghost use Rattle.pawn_opening.specs.Indexing.{AddsIndexes};
+ghost use Rattle.pawn_opening.specs.Laying.{AddsTable};
+ghost use Rattle.pawn_tables.specs.Common.{NoRecord};
+ghost use Rattle.pawn_tables.specs.Schema.{extensions_tree, first_schema, keep_schema, second_schema, totals_tree};
 ghost use Rattle.std.specs.Prelude.{◌≢◌, Ok, Err, is_ok};
-ghost use Rattle.{pawn_opening.specs.{Common.{state, Lends}, Indexing.AddsIndexes, Laying.AddsTable}, pawn_tables.specs.Common.NoRecord};
-ghost use Rattle.{pawn_tables.specs.Schema.{extensions_tree, first_schema, keep_schema, second_schema, totals_tree}, pawn_move.specs.Moving.NotesProgram};
 ghost use Rattle.pawn_book.specs.declared.fault.KeepError.TheVariants as Keeper;
 
 use pawn_book::KeepError;
@@ -9,7 +14,7 @@ use pawn_tables::texts::SET_SCHEMA;
 use pawn_tables::{refused, write};
 use sqlite::{Alter, Transaction, params};
 
-/// Adds the table of totals to those of the first schema. It has no rows.
+/// Adds the table of totals, without rows, to those of the first schema.
 pub(crate) fn make_totals<S: Alter>(tx: &mut Transaction<'_, S>) -> Result<(), KeepError>
     ensures made { AddsTable (state S.Store tx.old.conn.now) (state S.Store tx.new.conn.now) result first_schema second_schema totals_tree }
     ensures no_row { result ≢ Err (Keeper.Store NoRecord) }
@@ -21,7 +26,7 @@ pub(crate) fn make_totals<S: Alter>(tx: &mut Transaction<'_, S>) -> Result<(), K
     }
 }
 
-/// Adds the table of extensions to those of the second schema. It has no rows.
+/// Adds the table of extensions, without rows, to those of the second schema.
 pub(crate) fn make_extensions<S: Alter>(tx: &mut Transaction<'_, S>) -> Result<(), KeepError>
     ensures made { AddsTable (state S.Store tx.old.conn.now) (state S.Store tx.new.conn.now) result second_schema keep_schema extensions_tree }
     ensures no_row { result ≢ Err (Keeper.Store NoRecord) }
@@ -42,25 +47,32 @@ fn note_schema<S: Alter>(tx: &mut Transaction<'_, S>) -> Result<(), KeepError>
     write(tx, SET_SCHEMA, params![SCHEMA])
 }
 
-/// Makes the program's indexes, once its tables are there.
-fn make_indexes<S: Alter>(tx: &mut Transaction<'_, S>) -> Result<(), KeepError>
-    ensures adds { AddsIndexes (state S.Store tx.old.conn.now) (state S.Store tx.new.conn.now) result }
+/// Makes the given indexes. The program's tables must exist.
+fn make_indexes<S: Alter>(tx: &mut Transaction<'_, S>, which: Lacking) -> Result<(), KeepError>
+    ensures adds { AddsIndexes which (state S.Store tx.old.conn.now) (state S.Store tx.new.conn.now) result }
     ensures no_row { result ≢ Err (Keeper.Store NoRecord) }
     ensures lent { Lends S.Store tx.old.conn tx.new.conn (is_ok result) }
 {
-    match pawn_opening::make_indexes(tx, Lacking::Both) {
+    match pawn_opening::make_indexes(tx, which) {
         Ok(()) => Ok(()),
         Err(error) => Err(refused(error)),
     }
 }
 
-/// Notes the number of the program's schema, and makes its indexes.
+/// Notes the number of the program's schema, and makes those of its indexes that the store lacks.
 #[tactic(auto, using(crate::proofs::Basics::lent_then))]
-pub(crate) fn finish<S: Alter>(tx: &mut Transaction<'_, S>) -> Result<(), KeepError>
+pub(crate) fn finish<S: Alter>(
+    tx: &mut Transaction<'_, S>,
+    lacking: Option<Lacking>,
+) -> Result<(), KeepError>
     ensures noted { NotesProgram (state S.Store tx.old.conn.now) (state S.Store tx.new.conn.now) result }
+    ensures indexed { MakesLacking lacking (state S.Store tx.old.conn.now) (state S.Store tx.new.conn.now) result }
     ensures no_row { result ≢ Err (Keeper.Store NoRecord) }
     ensures lent { Lends S.Store tx.old.conn tx.new.conn (is_ok result) }
 {
     note_schema(tx)?;
-    make_indexes(tx)
+    match lacking {
+        Some(which) => make_indexes(tx, which),
+        None => Ok(()),
+    }
 }

@@ -1,54 +1,60 @@
+//! Migrates a store in one transaction.
+ghost use Rattle.pawn_move.specs.Migrating.{GainsLacking, Migrates, MigratesOwed, MovesStore, MovesStoreOwed};
+ghost use Rattle.pawn_move.specs.Moving.{MakesLacking, Moves, MovesOwed};
+ghost use Rattle.pawn_opening.specs.Common.{state, Lends};
 ghost use Rattle.std.specs.Prelude.{◌≡◌, ◌⊎◌, false, is_ok};
-ghost use Rattle.{pawn_opening.specs.Common.{state, Lends}, pawn_move.specs.{Migrating.{Migrates, MigratesOwed, MovesStore, MovesStoreOwed}, Moving.Moves}};
-ghost use Rattle.pawn_move.specs.Moving.{MovesOwed};
 
 use crate::fault::{MoveFault, unmoved};
 use crate::filling::put_books;
-use crate::judging::judge_books;
+use crate::judging::check_books;
 use crate::making::{finish, make_extensions, make_totals};
 use crate::telling::schema_of;
 use one_table::know_settled;
 use pawn_book::KeepError;
-use pawn_opening::{SCHEMA, add_indexes};
+use pawn_opening::{Lacking, SCHEMA, add_indexes, indexes_lacking};
 use pawn_tables::refused;
 use sqlite::{Alter, Connection, Transaction};
 use std::alloc::Global;
 
-// Moves tables of schema 1 or 2 to the program's, within a transaction. It is an error if some debt can't have come
-// about.
+/// Migrates tables of schema 1 or 2 to the program's within a borrowed transaction, and makes the indexes in `lacking`.
+/// The error is `NoRecord` if a row cannot be decoded, or if commands cannot produce some debt.
 #[tactic(auto, using(crate::proofs::Basics::lent_then))]
 fn move_tables<S: Alter>(
     tx: &mut Transaction<'_, S>,
     alloc: Global,
     from: u32,
+    lacking: Option<Lacking>,
 ) -> Result<(), KeepError>
     requires older { (from ≡ 1) ⊎ (from ≡ 2) }
     ensures moves { Moves from (state S.Store tx.old.conn.now) (state S.Store tx.new.conn.now) result }
     ensures judges { MovesOwed from (state S.Store tx.old.conn.now) (state S.Store tx.new.conn.now) result }
+    ensures indexed { MakesLacking lacking (state S.Store tx.old.conn.now) (state S.Store tx.new.conn.now) result }
     ensures lent { Lends S.Store tx.old.conn tx.new.conn (is_ok result) }
 {
     if from == 1 {
         make_totals(tx)?;
         make_extensions(tx)?;
         put_books(tx, alloc)?;
-        finish(tx)
+        finish(tx, lacking)
     } else {
         make_extensions(tx)?;
-        judge_books(tx, alloc)?;
-        finish(tx)
+        check_books(tx, alloc)?;
+        finish(tx, lacking)
     }
 }
 
-// Moves a store of schema 1 or 2 to the program's, in one transaction.
+/// Migrates a store of schema 1 or 2 to the program's, in one transaction. After an error the store is as before.
 fn move_store<S: Alter>(conn: &mut Connection<S>, alloc: Global, from: u32) -> Result<(), KeepError>
     requires rests { conn.old.in_transaction ≡ false }
     requires older { (from ≡ 1) ⊎ (from ≡ 2) }
     ensures moves { MovesStore from (state S.Store conn.old) (state S.Store conn.new) result }
     ensures judges { MovesStoreOwed from (state S.Store conn.old) (state S.Store conn.new) result }
+    ensures indexed { GainsLacking (state S.Store conn.old) (state S.Store conn.new) result }
 {
     know_settled(conn);
+    let lacking = indexes_lacking(conn);
     let mut tx = conn.transaction();
-    if let Err(error) = move_tables(&mut tx, alloc, from) {
+    if let Err(error) = move_tables(&mut tx, alloc, from, lacking) {
         tx.rollback();
         return Err(error);
     }
@@ -58,18 +64,18 @@ fn move_store<S: Alter>(conn: &mut Connection<S>, alloc: Global, from: u32) -> R
     }
 }
 
-/// Moves a store to the program's schema, in one transaction. No other transaction may be under way on the connection.
-/// Returns the number of the schema that the store had, and the program's. A store of the program's schema only gets
-/// the indexes that it lacks. A store that is refused stays as it was.
+/// Migrates a store to the program's schema, in one transaction. No transaction may be under way on the connection.
+/// Returns the number of the schema that the store had, and that of the program's. A store of the program's schema only
+/// gets the indexes that it lacks. A store that is refused is as before.
 ///
-/// # Errors
-/// `NotOurs` for an empty store and for one that notes no schema. `NewerSchema` if it notes a newer one. `Damaged` if
-/// it notes an older one, and a stored row is no record or the debt of some pledge can't have come about. `Store` if
-/// the store failed, and `Memory` if memory was refused.
+/// # Errors `NotOurs` for an empty store, and for one that notes no schema or the number 0. `NewerSchema` if it notes a
+/// newer schema. `Damaged` if it notes an older one, and a stored row cannot be decoded or commands cannot produce the
+/// debt of some pledge. `Store` if the store failed, and `Memory` if out of memory.
 pub fn migrate<S: Alter>(alloc: Global, conn: &mut Connection<S>) -> Result<(u32, u32), MoveFault>
     requires rests { conn.old.in_transaction ≡ false }
     ensures migrates { Migrates (state S.Store conn.old) (state S.Store conn.new) result }
     ensures judges { MigratesOwed (state S.Store conn.old) (state S.Store conn.new) result }
+    ensures indexed { GainsLacking (state S.Store conn.old) (state S.Store conn.new) result }
 {
     know_settled(conn);
     let from = schema_of(conn)?;

@@ -1,12 +1,15 @@
+//! Reads which schema a store has.
+ghost use Rattle.pawn_move.specs.Migrating.{IsNumberJudged, TellsNumber};
+ghost use Rattle.sqlite.specs.Held.{state};
 ghost use Rattle.std.specs.Prelude.{◌≡◌, false};
-ghost use Rattle.{sqlite.specs.Held.state, pawn_move.specs.Migrating.{IsNumberJudged, TellsNumber}};
 
 use crate::fault::MoveFault;
 use pawn_opening::{SCHEMA, schema_noted};
 use sqlite::{Alter, Connection};
 
-// The number that a store notes, if it is that of a schema from 1 to the program's.
-fn judge(noted: Option<u64>) -> Result<u32, MoveFault>
+/// The number that a store notes, if it is from 1 to that of the program's schema. The error is `NotOurs` for 0 and for
+/// none, and `NewerSchema` for a greater number.
+fn known_schema(noted: Option<u64>) -> Result<u32, MoveFault>
     ensures judged { IsNumberJudged noted result }
 {
     let Some(number) = noted else {
@@ -21,17 +24,18 @@ fn judge(noted: Option<u64>) -> Result<u32, MoveFault>
     Ok(number as u32)
 }
 
-/// The number of the schema that a store notes, from 1 to the program's. The store is left as it was.
+/// The number of the schema that a store notes, from 1 to that of the program's. The content of the store does not
+/// change.
 ///
 /// # Errors
-/// `NotOurs` for an empty store and for one that notes no schema. `NewerSchema` if it notes a newer one. `Store` if the
-/// store failed, and `Memory` if memory was refused. It is never `Damaged`.
+/// `NotOurs` for an empty store, and for one that notes no schema or the number 0. `NewerSchema` if it notes a newer
+/// schema. `Store` if the store failed, and `Memory` if out of memory. It is never `Damaged`.
 pub fn schema_of<S: Alter>(conn: &mut Connection<S>) -> Result<u32, MoveFault>
     requires rests { conn.old.in_transaction ≡ false }
     ensures tells { TellsNumber (state S.Store conn.old) (state S.Store conn.new) result }
 {
     match schema_noted(conn) {
-        Ok(noted) => judge(noted),
+        Ok(noted) => known_schema(noted),
         Err(why) => Err(MoveFault::of_opening(why)),
     }
 }

@@ -1,2 +1,3 @@
 -- What these proofs use from elsewhere: the standard words and lemmas, those of the crates below, and this crate's specs.
-pub use Rattle.one_table.proofs.{Insertion.{IsPlace, inserted, same_value, went}, Lent.{clean_before, lent_then}}
+pub use Rattle.one_table.proofs.Insertion.{IsPlace, inserted, same_value, went}
+pub use Rattle.one_table.proofs.Lent.{clean_before, lent_then}

@@ -1,8 +1,12 @@
 -- A transaction that begins, and what is left once it is rolled back.
-use Rattle.{std.proofs.Common.{◌≡◌, inl, inr, true, false, Bool, IsTrue, refl, sym, ap, subst, ◌∙◌, arith}, pawn_opening.specs.Common.{Database, Error, Held}}
-use Rattle.pawn_opening.specs.{Common.{state, HasCleanDisk, State, Trees, Host, IsLent, StandForOne, HoldHost, StandsFor}, Opened.{IsAsBefore, OpensAs}}
-use Rattle.{sqlite.specs.{Steps.FailsToCommit, State.{IsLive, IsRolledBack, Survives}}, sqlite_trees.specs.declared.store.Store.Ghosts}
 use Rattle.one_table.proofs.Parts.{rests_open, committed_rests}
+use Rattle.pawn_opening.specs.Common.{Database, Error, Held, state, HasCleanDisk, State, Trees, Host, IsLent}
+use Rattle.pawn_opening.specs.Common.{StandForOne, HoldHost, StandsFor}
+use Rattle.pawn_opening.specs.Opened.{IsAsBefore, OpensAs}
+use Rattle.sqlite.specs.State.{IsLive, IsRolledBack, Survives}
+use Rattle.sqlite.specs.Steps.{FailsToCommit}
+use Rattle.sqlite_trees.specs.declared.store.Store.{Ghosts}
+use Rattle.std.proofs.Common.{◌≡◌, inl, inr, true, false, Bool, IsTrue, refl, sym, ap, subst, ◌∙◌, arith}
 
 -- of a live store at rest
 pub record IsBegun (a begun : State) : Type 0 where
@@ -60,3 +64,7 @@ opens_as s h one serves ended settled left st =
       crash = crash;
       alone = λ g l. one _ g h l.stands (crash l.trees l.left);
     }
+
+-- what an open store for a host has committed stands for it
+pub stands_committed : {s : State} {h : Host} → OpensAs s h → StandsFor s.committed h
+stands_committed {s} {h} it = subst (λ d. StandsFor d h) (it.keeps.committed it.serves) (it.keeps.stands it.serves)

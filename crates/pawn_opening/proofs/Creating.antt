@@ -1,12 +1,23 @@
 -- What CREATE TABLE makes of empty tables.
-use Rattle.pawn_opening.proofs.{Basics.{went, same_value, clean_before, lent_then}, Gained.kept_tables, TableTexts.{AreCreations, IsCreation, are_creations}}
-use Rattle.pawn_opening.{proofs.TableTexts.{extensions_is, later_texts, totals_is}, specs.Common.{AllByRecursion, KeepsRows, CreateTable, Tally, Database}}
-use Rattle.pawn_opening.specs.Common.{IsDatabase, Schema, Executes, HasCleanDisk, State, Table, Trees, IsLent, Holds, IsNumbered, Listed, Lists, columns_of}
-use Rattle.{pawn_opening.specs.{Common.{with_rows, Error, no_schema}, Laying.{AddsTable, AreEmpty, Makes, no_rows}}, sqlite.proofs.Callers.runs_as}
-use Rattle.{sqlite.specs.{Change.{created, next_tree}, Does.lacks_sequence, State.Writes}, sqlite_trees.proofs.ListLemmas.all-append, std.proofs.Common.◌≡◌}
-use Rattle.std.proofs.Common.{ℕ, List, [], ◌∷◌, map, Bool, true, false, None, Ok, Err, Result, OnOk, IsTrue, refl, sym, ap, subst, ◌∙◌, IsPermutation}
-use Rattle.{std.proofs.lemmas.List.Sorted.IsPermutation-refl, pawn_tables.specs.Schema.{extensions, extensions_tree, first_schema, keep_schema, second_schema}}
-use Rattle.pawn_tables.specs.{Schema.{totals, totals_tree, books}, declared.texts.TheConstants.{MAKE_BOOKS, MAKE_EXTENSIONS, MAKE_TOTALS}}
+use Rattle.pawn_opening.proofs.Basics.{went, same_value, clean_before, lent_then}
+use Rattle.pawn_opening.proofs.Gained.{kept_tables}
+use Rattle.pawn_opening.proofs.TableTexts.{AreCreations, IsCreation, are_creations, extensions_is, later_texts}
+use Rattle.pawn_opening.proofs.TableTexts.{totals_is}
+use Rattle.pawn_opening.specs.Common.{AllByRecursion, KeepsRows, CreateTable, Tally, Database, IsDatabase, Schema}
+use Rattle.pawn_opening.specs.Common.{Executes, HasCleanDisk, State, Table, Trees, IsLent, Holds, IsNumbered, Listed}
+use Rattle.pawn_opening.specs.Common.{Lists, columns_of, with_rows, Error, no_schema}
+use Rattle.pawn_opening.specs.Laying.{AddsTable, AreEmpty, Makes, no_rows}
+use Rattle.pawn_tables.specs.Schema.{extensions, extensions_tree, first_schema, keep_schema, second_schema, totals}
+use Rattle.pawn_tables.specs.Schema.{totals_tree, books}
+use Rattle.pawn_tables.specs.declared.texts.TheConstants.{MAKE_BOOKS, MAKE_EXTENSIONS, MAKE_TOTALS}
+use Rattle.sqlite.proofs.Callers.{runs_as}
+use Rattle.sqlite.specs.Change.{created, next_tree}
+use Rattle.sqlite.specs.Does.{lacks_sequence}
+use Rattle.sqlite.specs.State.{Writes}
+use Rattle.sqlite_trees.proofs.ListLemmas.{all-append}
+use Rattle.std.proofs.Common.{◌≡◌, ℕ, List, [], ◌∷◌, map, Bool, true, false, None, Ok, Err, Result, OnOk, IsTrue, refl}
+use Rattle.std.proofs.Common.{sym, ap, subst, ◌∙◌, IsPermutation}
+use Rattle.std.proofs.lemmas.List.Sorted.{IsPermutation-refl}
 
 -- a tree without rows
 empty_tree : (db : Trees) (tree : ℕ) (table : Table) → db tree ≡ [] → Holds db tree table []

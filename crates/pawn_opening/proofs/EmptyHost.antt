@@ -1,11 +1,18 @@
 -- The tables of the empty host.
-use Rattle.std.{proofs.Common.{◌≡◌, ℕ, [], ◌∷◌, map, flat_map, codes, Some, sym, subst, ◌∙◌, sum_by}, specs.FinMap.{entries, get, empty, get-empty, len-empty}}
-use Rattle.{std.specs.{FinMap.len-entries, Ordering.nat_cmp}, pawn_opening.specs.Common.{Database, Holds, Listed, Lists, with_rows, meta_row, meta_rows}}
-use Rattle.{pawn_opening.specs.{Common.StandsFor, Laying.no_rows, Opened.empty_host}, pawn_book.specs.{HostStep.book_rows, BookStep.BookValue}}
-use Rattle.pawn_tables.specs.Schema.{bookings, bookings_tree, books, books_tree, entries as entries_table, entries_tree, extensions, extensions_tree}
-use Rattle.pawn_tables.specs.Schema.{keep_schema, meta, meta_tree, pledges, pledges_tree, secrets, secrets_tree, terms, terms_tree, totals, totals_tree}
-use Rattle.pawn_tables.specs.Rows.{book_row, terms_listed, pledge_listed, entries_listed, secrets_listed, booking_listed, totals_listed, extensions_listed}
 use Rattle.pawn_base.proofs.ListLemmas.{no_elements}
+use Rattle.pawn_book.specs.BookStep.{BookValue}
+use Rattle.pawn_book.specs.HostStep.{book_rows}
+use Rattle.pawn_opening.specs.Common.{Database, Holds, Listed, Lists, with_rows, meta_row, meta_rows, StandsFor}
+use Rattle.pawn_opening.specs.Laying.{no_rows}
+use Rattle.pawn_opening.specs.Opened.{empty_host}
+use Rattle.pawn_tables.specs.Rows.{book_row, terms_listed, pledge_listed, entries_listed, secrets_listed}
+use Rattle.pawn_tables.specs.Rows.{booking_listed, totals_listed, extensions_listed}
+use Rattle.pawn_tables.specs.Schema.{bookings, bookings_tree, books, books_tree, entries as entries_table, entries_tree}
+use Rattle.pawn_tables.specs.Schema.{extensions, extensions_tree, keep_schema, meta, meta_tree, pledges, pledges_tree}
+use Rattle.pawn_tables.specs.Schema.{secrets, secrets_tree, terms, terms_tree, totals, totals_tree}
+use Rattle.std.proofs.Common.{◌≡◌, ℕ, [], ◌∷◌, map, flat_map, codes, Some, sym, subst, ◌∙◌, sum_by}
+use Rattle.std.specs.FinMap.{entries, get, empty, get-empty, len-empty, len-entries}
+use Rattle.std.specs.Ordering.{nat_cmp}
 
 no_entries : entries (empty {X = BookValue} {R = nat_cmp}) ≡ []
 no_entries = no_elements _ (sym (len-entries (empty {X = BookValue} {R = nat_cmp})) ∙ len-empty nat_cmp BookValue)

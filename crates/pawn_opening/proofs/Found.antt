@@ -1,13 +1,26 @@
 -- What an open finds in files.
-use Rattle.pawn_opening.{proofs.Begun.held, specs.{Closed.{AreClosedFor, HasCommitted, IsLeftUnclosed, StandsAlone}, Common.{MoreFaults, Files, faults}}}
-use Rattle.pawn_opening.specs.Common.{is_shielded, recovers, view, FileStore, catalog_tree, IsClean, IsQuiet, doubt, Image, Database, IsDatabase, Held, Schema}
-use Rattle.pawn_opening.specs.{Common.{HasCleanDisk, State, Trees, Error, SqliteFailure, Host, no_schema, HoldHost, StandsFor, Ghosts}, FilesStand.HoldsIn}
-use Rattle.pawn_opening.specs.{FilesStand.{IsBlank, IsRefusedStore, OpensFound, StandsIn}, Indexing.GainsIndexes, Opened.{AreMadeOf, IsOpenable, Prepares}}
-use Rattle.pawn_opening.specs.{Refusing.{IsEmptyStore, IsRefusedFor, IsStoreFault, NotesSchema}, declared.fault.OpenFault.OpenFault}
-use Rattle.sqlite.{proofs.ListingLemmas.empty_is_sound, specs.{Closing.{HoldsAlone, IsCopied}, Files.{ExcusesClose, FailsToClose, Finds, IsCleanLeft}}}
-use Rattle.{sqlite.specs.{Files.{IsClosed, file_state, image_of}, Start.FindsIn, State.{IsLive, Opens, store_error}}, sqlite_trees.proofs.Doubt.no_doubt}
-use Rattle.{sqlite_trees.specs.{Props.Trees-set, declared.error.StoreError.StoreError}, sqlite_catalog.{proofs.ReadLemmas.lists_once, specs.Listing.IsSound}}
-use Rattle.std.proofs.{Common.{◌≡◌, ◌⊎◌, ℕ, inl, inr, false, [], Err, refl, sym, ap, subst, ◌∙◌, arith}, Math.Logic.∥∥₁_elim}
+use Rattle.pawn_opening.proofs.Begun.{held}
+use Rattle.pawn_opening.specs.Closed.{AreClosedFor, HasCommitted, IsLeftUnclosed, StandsAlone}
+use Rattle.pawn_opening.specs.Common.{MoreFaults, Files, faults, is_shielded, recovers, view, FileStore, catalog_tree}
+use Rattle.pawn_opening.specs.Common.{IsClean, IsQuiet, doubt, Image, Database, IsDatabase, Held, Schema, HasCleanDisk}
+use Rattle.pawn_opening.specs.Common.{State, Trees, Error, SqliteFailure, Host, no_schema, HoldHost, StandsFor, Ghosts}
+use Rattle.pawn_opening.specs.FilesStand.{HoldsIn, IsBlank, IsRefusedStore, OpensFound, StandsIn}
+use Rattle.pawn_opening.specs.Indexing.{GainsIndexes, lacking}
+use Rattle.pawn_opening.specs.Opened.{AreMadeOf, IsOpenable, Prepares}
+use Rattle.pawn_opening.specs.Refusing.{IsEmptyStore, IsRefusedFor, IsStoreFault, NotesSchema}
+use Rattle.pawn_opening.specs.declared.fault.OpenFault.{OpenFault}
+use Rattle.sqlite.proofs.ListingLemmas.{empty_is_sound}
+use Rattle.sqlite.specs.Closing.{HoldsAlone, IsCopied}
+use Rattle.sqlite.specs.Files.{ExcusesClose, FailsToClose, Finds, IsCleanLeft, IsClosed, file_state, image_of}
+use Rattle.sqlite.specs.Start.{FindsIn}
+use Rattle.sqlite.specs.State.{IsLive, Opens, store_error}
+use Rattle.sqlite_catalog.proofs.ReadLemmas.{lists_once}
+use Rattle.sqlite_catalog.specs.Listing.{IsSound}
+use Rattle.sqlite_trees.proofs.Doubt.{no_doubt}
+use Rattle.sqlite_trees.specs.Props.{Trees-set}
+use Rattle.sqlite_trees.specs.declared.error.StoreError.{StoreError}
+use Rattle.std.proofs.Common.{◌≡◌, ◌⊎◌, ℕ, inl, inr, false, [], Err, refl, sym, ap, subst, ◌∙◌, arith}
+use Rattle.std.proofs.Math.Logic.{∥∥₁_elim}
 use Rattle.sqlite_trees.specs.declared.error.StoreError.TheVariants as stored
 use Rattle.sqlite.specs.declared.file.Leftover.TheVariants as left
 use Rattle.sqlite.specs.declared.error.ErrorCode.TheVariants as code
@@ -52,8 +65,13 @@ module _ (image : Image) (s : State) (opened : Opens s × IsLive s) (found : Fin
     holds = found.holds;
     sound = (opened.1 opened.0.is_open).1;
     opened = elim is [
-      | inl empty ↦ inl (subst IsEmptyStore opened.0.clean empty)
-      | inr ours ↦ inr (subst (λ d. NotesSchema d 3) opened.0.clean ours.0, ours.1.0, subst (λ d. GainsIndexes d new.now) opened.0.clean ours.1.1, ours.1.2)
+      | inl empty ↦ inl (subst IsEmptyStore opened.0.clean empty.0, empty.1)
+      | inr ours ↦ inr (
+        subst (λ d. NotesSchema d 3) opened.0.clean ours.0,
+        ours.1.0,
+        subst (λ (d : Database). GainsIndexes (lacking d.schema) d new.now) opened.0.clean ours.1.1,
+        ours.1.2,
+      )
     ];
   }
 

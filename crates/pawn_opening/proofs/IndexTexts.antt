@@ -1,16 +1,31 @@
 -- What CREATE INDEX makes of tables, whatever their schema is.
-use Rattle.std.proofs.Common.{◌≡◌, ℕ, ◌+◌, List, [], ◌∷◌, Bool, true, false, Option, None, Some, Ok, Err, Result, OnOk, refl, sym, ap, subst, ◌∙◌, slice_get}
-use Rattle.{std.{proofs.Common.{slice_range, if◌then◌else◌, is_some}, specs.Option.option_or}, pawn_opening.specs.Common.{KeepsRows, Compiled, CompileError}}
-use Rattle.pawn_opening.specs.Common.{Index, everything, Does, Tally, Database, IsDatabase, understood, Schema, Executes, State, Table, IsLent}
-use Rattle.pawn_opening.{proofs.{Basics.{went, same_value, clean_before}, Creating.Ran, Gained.gains_then}, specs.Indexing.{AddsIndexes, GainsIndexes}}
-use Rattle.sqlite_resolve.specs.Compile.{command, compiled, create_index, creates, first, index_in, is_reserved, meaning, planned, returning, small, target}
-use Rattle.sqlite_resolve.specs.{Compile.{timed, with_command}, Body.table_at, Lowering.and_then, declared.error.CompileError.TheVariants.{Exists, Misuse}}
-use Rattle.{sqlite_resolve.specs.declared.error.CompileError.TheVariants.NoSuchTable, sqlite.specs.{Compile.index_defined_by, Does.{AtPlace, Defines}}}
-use Rattle.sqlite.specs.{Does.MakesIndex, Listing.{if_select, is_select, listing_schema, reads_listing}, State.{ExecutesIn, Writes, mode_of, text_of}}
-use Rattle.{sqlite.proofs.Callers.{IsPlain, command_of, runs_as, statement_of}, pawn_tables.specs.declared.texts.TheConstants.MAKE_BOOKINGS_BY_TIME}
-use Rattle.{pawn_tables.specs.declared.texts.TheConstants.MAKE_PLEDGES_BY_END, sqlite_ast.specs.declared.CreateIndex.CreateIndex}
-use Rattle.sqlite_schema.specs.{declared.command.Command.{Command, TheVariants.{CreateIndex as MakeIndex, Nothing}}, Names.{index_named, table_named}}
-use Rattle.{sqlite_schema.specs.Names.view_named, sqlite_syntax.specs.declared.statement.Parsed.Parsed, sqlite_catalog.specs.Change.next_tree}
+use Rattle.pawn_opening.proofs.Basics.{went, same_value, clean_before}
+use Rattle.pawn_opening.proofs.Creating.{Ran}
+use Rattle.pawn_opening.proofs.Gained.{GainsOne, gains_both, gains_by_end, gains_by_time}
+use Rattle.pawn_opening.specs.Common.{KeepsRows, Compiled, CompileError, HasCleanDisk, Index, everything, Does, Tally}
+use Rattle.pawn_opening.specs.Common.{Database, IsDatabase, understood, Schema, Executes, State, Table, IsLent}
+use Rattle.pawn_opening.specs.Indexing.{AddsIndexes, GainsIndexes}
+use Rattle.pawn_opening.specs.declared.indexing.Lacking.TheVariants.{PledgesByEnd, BookingsByTime, Both}
+use Rattle.pawn_tables.specs.declared.texts.TheConstants.{MAKE_BOOKINGS_BY_TIME, MAKE_PLEDGES_BY_END}
+use Rattle.sqlite.proofs.Callers.{IsPlain, command_of, runs_as, statement_of}
+use Rattle.sqlite.specs.Compile.{index_defined_by}
+use Rattle.sqlite.specs.Does.{AtPlace, Defines, MakesIndex}
+use Rattle.sqlite.specs.Listing.{if_select, is_select, listing_schema, reads_listing}
+use Rattle.sqlite.specs.State.{ExecutesIn, Writes, mode_of, text_of}
+use Rattle.sqlite_ast.specs.declared.CreateIndex.{CreateIndex}
+use Rattle.sqlite_catalog.specs.Change.{next_tree}
+use Rattle.sqlite_resolve.specs.Body.{table_at}
+use Rattle.sqlite_resolve.specs.Compile.{command, compiled, create_index, creates, first, index_in, is_reserved}
+use Rattle.sqlite_resolve.specs.Compile.{meaning, planned, returning, small, target, timed, with_command}
+use Rattle.sqlite_resolve.specs.Lowering.{and_then}
+use Rattle.sqlite_resolve.specs.declared.error.CompileError.TheVariants.{Exists, Misuse, NoSuchTable}
+use Rattle.sqlite_schema.specs.Names.{index_named, table_named, view_named}
+use Rattle.sqlite_schema.specs.declared.command.Command.{Command}
+use Rattle.sqlite_schema.specs.declared.command.Command.TheVariants.{CreateIndex as MakeIndex, Nothing}
+use Rattle.sqlite_syntax.specs.declared.statement.Parsed.{Parsed}
+use Rattle.std.proofs.Common.{◌≡◌, ℕ, ◌+◌, List, [], ◌∷◌, Bool, true, false, Option, None, Some, Ok, Err, Result, OnOk}
+use Rattle.std.proofs.Common.{IsTrue, refl, sym, ap, subst, ◌∙◌, slice_get, slice_range, if◌then◌else◌, is_some}
+use Rattle.std.specs.Option.{option_or}
 use Rattle.sqlite_ast.specs.declared.Statement.TheVariants as written
 use Rattle.sqlite_resolve.specs.Define as define
 
@@ -140,21 +155,23 @@ is_loose sql making table index is = go (first sql) making is where
 -- ---- what it does
 
 gains_at : (old new : Database) (at : ℕ) (sql : List ℕ) → IsMaking sql (first sql) → IsDatabase new → (limit : Option ℕ) (mode : _) (tally : Tally)
-    → Does limit mode [] old sql None (MakeIndex at) (Ok (tally, new)) → GainsIndexes old new
-gains_at old new at sql making sound limit mode tally does = go (slice_get old.schema.tables at) does where
-  go : (o : Option Table) → AtPlace (λ table. Defines mode (MakesIndex sql old table)) o (Ok (tally, new)) → GainsIndexes old new
-  go None h = absurd (let e = h in cc)
-  go (Some table) h = let all = went h in
+    → Does limit mode [] old sql None (MakeIndex at) (Ok (tally, new)) → GainsOne sql old new
+gains_at old new at sql making sound limit mode tally does = go (slice_get old.schema.tables at) refl does where
+  go : (o : Option Table) → slice_get old.schema.tables at ≡ o → AtPlace (λ table. Defines mode (MakesIndex sql old table)) o (Ok (tally, new))
+      → GainsOne sql old new
+  go None there h = absurd (let e = h in cc)
+  go (Some table) there h = let all = went h in
       let made = all.1 in let now : new ≡ all.0 = ap (λ (p : Tally × Database). p.1) (same_value all.2) in
       record {
-        more = record made.index { tree = next_tree old.schema; table = table.tree } ∷ [];
-        loose = (is_loose sql making table made.index made.defined, tt);
+        index = record made.index { tree = next_tree old.schema; table = table.tree };
+        made = record { place = at; table = table; of = there; told = made.index; defined = made.defined; is = refl };
+        loose = is_loose sql making table made.index made.defined;
         is = ap (λ (d : Database). d.schema) now ∙ made.is;
         rows = subst (λ (d : Database). KeepsRows old.schema.tables old.trees d.trees) (sym now) made.rows;
         sound = sound;
       }
 
-gains : (sql : List ℕ) → IsMaking sql (first sql) → (old new : State) (count : ℕ) → Executes sql [] old new (Ok count) → GainsIndexes old.now new.now
+gains : (sql : List ℕ) → IsMaking sql (first sql) → (old new : State) (count : ℕ) → Executes sql [] old new (Ok count) → GainsOne sql old.now new.now
 unfolding ExecutesIn
 gains sql making old new count h = let compiled_as = h.1.is in
     let it = subst (MakesAt sql) compiled_as (makes_at sql old.now.schema making) in let at = it.0 in
@@ -164,17 +181,34 @@ gains sql making old new count h = let compiled_as = h.1.is in
     let w = subst (λ t. Writes old new None (MakeIndex at) t [] count) whole (runs_as sql [] old new old.now.schema refl (MakeIndex at) is plain count h) in
     gains_at old.now new.now at sql making w.sound old.step_limit (mode_of old) w.tally w.changed
 
-pub adds_one : {E : Type 0} (sql : List ℕ) → IsMaking sql (first sql) → (old new : State) (r : Result (Unit {0}) E) → Ran sql old new r → AddsIndexes old new r
+-- a part of a transaction adds the index that a text makes
+abbrev AddsOne : {E : Type 0} → List ℕ → State → State → Result (Unit {0}) E → Type 0
+AddsOne sql old new r = HasCleanDisk new → IsTrue old.in_transaction → OnOk r (GainsOne sql old.now new.now)
+
+adds_one : {E : Type 0} (sql : List ℕ) → IsMaking sql (first sql) → (old new : State) (r : Result (Unit {0}) E) → Ran sql old new r → AddsOne sql old new r
 adds_one sql making old new (Ok done) ran clean within = let it = ran clean within in gains sql making old new it.0 it.1
 adds_one sql making old new (Err e) ran clean within = tt
 
+pub adds_by_end : {E : Type 0} (old new : State) (r : Result (Unit {0}) E) → Ran MAKE_PLEDGES_BY_END.now old new r → AddsIndexes PledgesByEnd old new r
+adds_by_end {E} old new r ran clean within = go r (adds_one MAKE_PLEDGES_BY_END.now makes_by_end old new r ran clean within) where
+  go : (x : Result (Unit {0}) E) → OnOk x (GainsOne MAKE_PLEDGES_BY_END.now old.now new.now) → OnOk x (GainsIndexes (Some PledgesByEnd) old.now new.now)
+  go (Ok done) one = gains_by_end old.now new.now one
+  go (Err e) one = tt
+
+pub adds_by_time : {E : Type 0} (old new : State) (r : Result (Unit {0}) E) → Ran MAKE_BOOKINGS_BY_TIME.now old new r → AddsIndexes BookingsByTime old new r
+adds_by_time {E} old new r ran clean within = go r (adds_one MAKE_BOOKINGS_BY_TIME.now makes_by_time old new r ran clean within) where
+  go : (x : Result (Unit {0}) E) → OnOk x (GainsOne MAKE_BOOKINGS_BY_TIME.now old.now new.now) → OnOk x (GainsIndexes (Some BookingsByTime) old.now new.now)
+  go (Ok done) one = gains_by_time old.now new.now one
+  go (Err e) one = tt
+
 -- one, and then the other
 pub adds_both : {E : Type 0} (a b c : State) (r : Result (Unit {0}) E) (ok : Bool) → IsLent a b true → IsLent b c ok
-    → Ran {E = E} MAKE_PLEDGES_BY_END.now a b (Ok tt) → Ran MAKE_BOOKINGS_BY_TIME.now b c r → AddsIndexes a c r
+    → Ran {E = E} MAKE_PLEDGES_BY_END.now a b (Ok tt) → Ran MAKE_BOOKINGS_BY_TIME.now b c r → AddsIndexes Both a c r
 adds_both {E} a b c r ok first second f g clean within = let was = clean_before b c ok second clean in
     go r (adds_one {E = E} MAKE_PLEDGES_BY_END.now makes_by_end a b (Ok tt) f was within)
     (adds_one MAKE_BOOKINGS_BY_TIME.now makes_by_time b c r g clean (first.inside was within refl))
   where
-    go : (x : Result (Unit {0}) E) → GainsIndexes a.now b.now → OnOk x (GainsIndexes b.now c.now) → OnOk x (GainsIndexes a.now c.now)
-    go (Ok done) one two = gains_then a.now b.now c.now one two
+    go : (x : Result (Unit {0}) E) → GainsOne MAKE_PLEDGES_BY_END.now a.now b.now → OnOk x (GainsOne MAKE_BOOKINGS_BY_TIME.now b.now c.now)
+        → OnOk x (GainsIndexes (Some Both) a.now c.now)
+    go (Ok done) one two = gains_both a.now b.now c.now one two
     go (Err e) one two = tt

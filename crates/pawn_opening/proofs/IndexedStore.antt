@@ -1,13 +1,22 @@
 -- A store gets the indexes that it lacks: a transaction that makes them, and a commit.
-use Rattle.{std.proofs.Common.{◌≡◌, inl, true, false, Ok, Err, IsTrue, refl, sym, subst, ◌∙◌, arith}, pawn_opening.specs.Common.{HasCleanDisk, State, Trees}}
-use Rattle.pawn_opening.specs.{Common.{Error, IsLent}, Indexing.{AddsIndexes, GainsIndexes, HoldGained}, Opened.IndexesStore, Refusing.IsStoreFault}
-use Rattle.pawn_opening.{specs.declared.fault.OpenFault.OpenFault, proofs.{Begun.{IsBegun, rolled_back, uncommitted}, Gained.gains_none}}
-use Rattle.sqlite.{specs.{State.{IsLive, IsRolledBack, Shows, Survives}, Steps.FailsToCommit}, proofs.StateLemmas.survives_then}
+use Rattle.pawn_opening.proofs.Begun.{IsBegun, rolled_back, uncommitted}
+use Rattle.pawn_opening.proofs.Gained.{gains_none}
+use Rattle.pawn_opening.specs.Common.{HasCleanDisk, State, Trees, Error, IsLent}
+use Rattle.pawn_opening.specs.Indexing.{AddsIndexes, GainsIndexes, HoldGained, lacking}
+use Rattle.pawn_opening.specs.Opened.{IndexesStore}
+use Rattle.pawn_opening.specs.Refusing.{IsStoreFault}
+use Rattle.pawn_opening.specs.declared.fault.OpenFault.{OpenFault}
+use Rattle.pawn_opening.specs.declared.indexing.Lacking.{Lacking}
+use Rattle.sqlite.proofs.StateLemmas.{survives_then}
+use Rattle.sqlite.specs.State.{IsLive, IsRolledBack, Shows, Survives}
+use Rattle.sqlite.specs.Steps.{FailsToCommit}
+use Rattle.std.proofs.Common.{◌≡◌, inl, true, false, Ok, Err, Some, None, IsTrue, refl, sym, subst, ◌∙◌, arith}
 
 -- it lacks none
-pub not_lacking : (s : State) → s.in_transaction ≡ false → (IsTrue s.is_open → s.now ≡ s.committed) → IsLive s → IndexesStore s s (Ok tt)
-not_lacking s ended settled live = record {
-  ok = λ clean open'. (open', gains_none s.now (live open').0, settled open');
+pub not_lacking : (s : State) → lacking s.now.schema ≡ None → s.in_transaction ≡ false → (IsTrue s.is_open → s.now ≡ s.committed) → IsLive s
+    → IndexesStore s s (Ok tt)
+not_lacking s none ended settled live = record {
+  ok = λ clean open'. (open', gains_none (lacking s.now.schema) s.now none (live open').0, settled open');
   err = λ clean. tt;
   why = tt;
   ended = ended;
@@ -30,12 +39,15 @@ module _ (old new begun lent : State) (was : IsBegun old begun) (ended : new.in_
         (survives_then begun lent new (λ _. ⊥) (λ _. ⊥) (λ _. ⊥) (λ clean db none. none) (λ clean db none. none) part.survives after);
   }
 
-  module _ (part : IsLent begun lent true) (adds : AddsIndexes {E = Error} begun lent (Ok tt)) (after : Survives lent new (λ db. db ≡ lent.now.trees)) where
+  module _ (which : Lacking) (lacks : lacking old.now.schema ≡ Some which) (part : IsLent begun lent true)
+      (adds : AddsIndexes {E = Error} which begun lent (Ok tt))
+      (after : Survives lent new (λ db. db ≡ lent.now.trees)) where
     clean_past : HasCleanDisk new → HasCleanDisk lent
     clean_past clean = let up = after.clean in omega (arith, clean, up)
 
-    gained : HasCleanDisk lent → GainsIndexes old.now lent.now
-    gained clean = subst (λ d. GainsIndexes d lent.now) was.now (adds clean was.within)
+    gained : HasCleanDisk lent → GainsIndexes (lacking old.now.schema) old.now lent.now
+    gained clean = subst (λ w. GainsIndexes w old.now lent.now) (sym lacks)
+        (subst (λ d. GainsIndexes (Some which) d lent.now) was.now (adds clean was.within))
 
     survived : Survives old new Gained
     survived =
@@ -45,7 +57,7 @@ module _ (old new begun lent : State) (was : IsBegun old begun) (ended : new.in_
     pub indexed : (HasCleanDisk new → Shows lent new lent.now lent.now false) → IndexesStore old new (Ok tt)
     indexed shows = record {
       ok = λ clean open'. let s = shows clean in
-          (s.is_open, subst (GainsIndexes old.now) (sym s.now_is) (gained (clean_past clean)), s.now_is ∙ sym s.committed_is);
+          (s.is_open, subst (GainsIndexes (lacking old.now.schema) old.now) (sym s.now_is) (gained (clean_past clean)), s.now_is ∙ sym s.committed_is);
       err = λ clean. tt;
       why = tt;
       ended = ended;

@@ -1,9 +1,16 @@
 -- An empty store is laid out: a transaction that fills it, and a commit.
-use Rattle.{std.proofs.Common.{◌≡◌, ℕ, true, false, Ok, Err, IsTrue, refl, sym, ap, subst, ◌∙◌, arith}, pawn_opening.specs.Common.{Database, IsDatabase}}
-use Rattle.pawn_opening.specs.{Common.{HasCleanDisk, State, Trees, Error, no_schema, IsLent, StandForOne, HoldHost, StandsFor}, Laying.AreEmpty, Opened.Fills}
-use Rattle.pawn_opening.{specs.{Opened.{LaysOut, empty_host}, Refusing.{IsEmptyStore, IsStoreFault}, declared.fault.OpenFault.OpenFault}, proofs.Begun.IsBegun}
-use Rattle.{pawn_opening.proofs.Begun.{held, opens_as, rolled_back, uncommitted}, sqlite.specs.{State.{IsRolledBack, Shows, Survives}, Steps.FailsToCommit}}
+use Rattle.pawn_opening.proofs.Begun.{IsBegun, held, opens_as, rolled_back, uncommitted}
+use Rattle.pawn_opening.specs.Common.{Database, IsDatabase, HasCleanDisk, State, Trees, Error, no_schema, IsLent}
+use Rattle.pawn_opening.specs.Common.{StandForOne, HoldHost, StandsFor}
+use Rattle.pawn_opening.specs.Indexing.{HasBothIndexes}
+use Rattle.pawn_opening.specs.Laying.{AreEmpty}
+use Rattle.pawn_opening.specs.Opened.{Fills, LaysOut, empty_host}
+use Rattle.pawn_opening.specs.Refusing.{IsEmptyStore, IsStoreFault}
+use Rattle.pawn_opening.specs.declared.fault.OpenFault.{OpenFault}
 use Rattle.sqlite.proofs.StateLemmas.{survives_then}
+use Rattle.sqlite.specs.State.{IsRolledBack, Shows, Survives}
+use Rattle.sqlite.specs.Steps.{FailsToCommit}
+use Rattle.std.proofs.Common.{◌≡◌, ℕ, true, false, Ok, Err, IsTrue, refl, sym, ap, subst, ◌∙◌, arith}
 
 module _ (old new begun lent : State) (limit : ℕ) (was : IsBegun old begun) (ended : new.in_transaction ≡ false) where
   abbrev Laid : Trees → Type 0
@@ -29,21 +36,21 @@ module _ (old new begun lent : State) (limit : ℕ) (was : IsBegun old begun) (e
     bare clean empty = let db : IsDatabase old.now = (was.live (was.was_open (part.opened clean was.within refl))).0 in
         record { schema_is = ap (λ (d : Database). d.schema) was.now ∙ empty; sound = subst IsDatabase (sym was.now) db; tables = tt }
 
-    written : HasCleanDisk lent → IsEmptyStore old.now → StandsFor lent.now (empty_host limit)
+    written : HasCleanDisk lent → IsEmptyStore old.now → StandsFor lent.now (empty_host limit) × HasBothIndexes lent.now.schema
     written clean empty = fills clean was.within (bare clean empty)
 
     survived : Survives old new Laid
     survived = survives_then old begun new (λ _. ⊥) Laid Laid (λ clean db none. absurd none) (λ clean db laid. laid) was.survives
         (survives_then begun lent new (λ _. ⊥) (λ db. db ≡ lent.now.trees) Laid (λ clean db none. absurd none) (λ clean db is empty.
-        subst (λ ts. HoldHost ts (empty_host limit)) (sym is) (held lent.now (empty_host limit) (written (clean_past clean) empty))) part.survives after)
+        subst (λ ts. HoldHost ts (empty_host limit)) (sym is) (held lent.now (empty_host limit) (written (clean_past clean) empty).0)) part.survives after)
 
     pub laid_out : StandForOne → (HasCleanDisk new → Shows lent new lent.now lent.now false)
         → (IsTrue new.is_open → (trees : Trees) → new.may_leave trees → trees ≡ new.committed.trees) → LaysOut old new limit (Ok tt)
     laid_out one shows settled = record {
       ok = λ clean empty.
           let s = shows clean in
-          opens_as new (empty_host limit) one s.is_open ended (s.now_is ∙ sym s.committed_is) (settled s.is_open)
-          (subst (λ d. StandsFor d (empty_host limit)) (sym s.now_is) (written (clean_past clean) empty));
+          let laid = subst (λ d. StandsFor d (empty_host limit) × HasBothIndexes d.schema) (sym s.now_is) (written (clean_past clean) empty) in
+          (opens_as new (empty_host limit) one s.is_open ended (s.now_is ∙ sym s.committed_is) (settled s.is_open) laid.0, laid.1);
       err = λ clean. tt;
       why = tt;
       ended = ended;

@@ -1,9 +1,14 @@
 -- A row of what the store notes.
-use Rattle.{one_table.proofs.{Rowed.{cast_null, cast_int}, Texts.Puts}, pawn_opening.{proofs.Basics.{IsPlace, inserted}, specs.Common.{everything, understood}}}
-use Rattle.pawn_opening.specs.Common.{Row, Executes, State, Term, col, lit, Int, Null, Text, Listed, Lists, with_rows, meta_row, PUT_NOTE}
-use Rattle.{pawn_tables.specs.Schema.{keep_schema, meta, meta_tree}, sqlite_rules.specs.Action.works, std.proofs.Common.{◌≡◌, inl, inr, ℕ, pos, ◌==◌, List, []}}
-use Rattle.{std.proofs.Common.{◌∷◌, length, false, Ok, refl, arith}, sqlite_schema.specs.declared.schema.Keys.TheVariants.Enforced}
 pub use Rattle.pawn_tables.proofs.Lent.{on_ran}
+use Rattle.one_table.proofs.Rowed.{cast_null, cast_int}
+use Rattle.one_table.proofs.Texts.{Puts}
+use Rattle.pawn_opening.proofs.Basics.{IsPlace, inserted}
+use Rattle.pawn_opening.specs.Common.{everything, understood, Row, Executes, State, Term, col, lit, Int, Null, Text}
+use Rattle.pawn_opening.specs.Common.{Listed, Lists, with_rows, meta_row, PUT_NOTE}
+use Rattle.pawn_tables.specs.Schema.{keep_schema, meta, meta_tree}
+use Rattle.sqlite_rules.specs.Action.{works}
+use Rattle.sqlite_schema.specs.declared.schema.Keys.TheVariants.{Enforced}
+use Rattle.std.proofs.Common.{◌≡◌, inl, inr, ℕ, pos, ◌==◌, List, [], ◌∷◌, length, false, Ok, refl, arith}
 
 abbrev pub note_values : List Term
 note_values = lit Null ∷ col 0 0 ∷ col 0 1 ∷ []

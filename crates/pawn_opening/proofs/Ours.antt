@@ -1,13 +1,27 @@
 -- Tables that stand for a host note our schema.
-use Rattle.std.proofs.Common.{◌≡◌, inl, inr, ℕ, List, [], ◌∷◌, pos, map, filter, codes, Bool, refl, sym, ap, subst, ◌∙◌, arith, IsPermutation}
-use Rattle.{std.proofs.lemmas.List.Sorted.IsPermutation-map, pawn_opening.specs.Common.{list_all, Index, everything, Select, Database, understood, Row, column}}
-use Rattle.pawn_opening.specs.Common.{value_cmp, Schema, Term, col, lit, op2, Int, Null, Text, Host, rows, Holds, columns_of, notes, with_indexes, StandsFor}
-use Rattle.pawn_opening.specs.{Common.READ_SCHEMA, Refusing.{AnswersOpening, HasNoAnswer, IsEmptyStore, IsOneNumber, IsRefusedFor, IsStoreFault, NotesNoSchema}}
-use Rattle.pawn_opening.specs.{Refusing.NotesSchema, declared.fault.OpenFault.{OpenFault, TheVariants.{Memory, NotOurs, OldSchema, Store}}}
-use Rattle.sqlite.{specs.{Effect.Reads, Listing.{IsSourceOf, reads_listing}, Ops.{binary, is_true}}, proofs.Callers.{IsPlain, command_of, one_permutation}}
-use Rattle.{sqlite.specs.{Collation.TheVariants.Binary, Query.IsAnswer, Program.overlay}, pawn_tables.specs.Schema.{keep_schema, meta, meta_tree}}
-use Rattle.{sqlite_trees.proofs.ListLemmas.{map-map, filter-map, IsPermutation-filter}, one_table.proofs.{Texts.Asks, OneTable.{over_table, passes, shows_of}}}
-use Rattle.{one_table.proofs.OneTable.found, sqlite_sql.specs.declared.ops.{BinaryOp.TheVariants.Compare, CompareOp.TheVariants.Eq}}
+use Rattle.one_table.proofs.OneTable.{over_table, passes, shows_of, found}
+use Rattle.one_table.proofs.Texts.{Asks}
+use Rattle.pawn_opening.specs.Common.{list_all, Index, everything, Select, Database, understood, Row, column, value_cmp}
+use Rattle.pawn_opening.specs.Common.{Schema, Term, col, lit, op2, Int, Null, Text, Host, rows, Holds, columns_of}
+use Rattle.pawn_opening.specs.Common.{notes, with_indexes, StandsFor, READ_SCHEMA}
+use Rattle.pawn_opening.specs.Refusing.{AnswersOpening, HasNoAnswer, IsEmptyStore, IsOneNumber, IsRefusedFor}
+use Rattle.pawn_opening.specs.Refusing.{IsStoreFault, NotesNoSchema, NotesSchema}
+use Rattle.pawn_opening.specs.declared.fault.OpenFault.{OpenFault}
+use Rattle.pawn_opening.specs.declared.fault.OpenFault.TheVariants.{Memory, NotOurs, OldSchema, Store}
+use Rattle.pawn_tables.specs.Schema.{keep_schema, meta, meta_tree}
+use Rattle.sqlite.proofs.Callers.{IsPlain, command_of, one_permutation}
+use Rattle.sqlite.specs.Collation.TheVariants.{Binary}
+use Rattle.sqlite.specs.Effect.{Reads}
+use Rattle.sqlite.specs.Listing.{IsSourceOf, reads_listing}
+use Rattle.sqlite.specs.Ops.{binary, is_true}
+use Rattle.sqlite.specs.Program.{overlay}
+use Rattle.sqlite.specs.Query.{IsAnswer}
+use Rattle.sqlite_sql.specs.declared.ops.BinaryOp.TheVariants.{Compare}
+use Rattle.sqlite_sql.specs.declared.ops.CompareOp.TheVariants.{Eq}
+use Rattle.sqlite_trees.proofs.ListLemmas.{map-map, filter-map, IsPermutation-filter}
+use Rattle.std.proofs.Common.{◌≡◌, inl, inr, ℕ, List, [], ◌∷◌, pos, map, filter, codes, Bool, refl, sym, ap, subst, ◌∙◌}
+use Rattle.std.proofs.Common.{arith, IsPermutation}
+use Rattle.std.proofs.lemmas.List.Sorted.{IsPermutation-map}
 
 -- the text asks meta of a schema, where it stands in its tree
 abbrev pub AsksMeta : Schema → Type 0

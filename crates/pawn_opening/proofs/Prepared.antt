@@ -1,10 +1,18 @@
 -- An empty store is laid out, any other recognised.
-use Rattle.std.proofs.Common.{◌≡◌, ◌⊎◌, inl, inr, ℕ, Ok, Err, Result, OnOk, OnErr, IsTrue, sym, subst, ◌∙◌, arith, IfErr}
-use Rattle.pawn_opening.specs.{Common.{HasCleanDisk, State, Trees, Host, StandForOne, StandsFor}, Indexing.{GainsIndexes, HoldGained}, Opened.AreMadeOf}
-use Rattle.pawn_opening.specs.{Opened.{IndexesStore, IsAsBefore, IsIndexed, IsOpenable, LaysOut, OpensAs, Prepares, Recognises}, Refusing.IsEmptyStore}
-use Rattle.pawn_opening.specs.{Refusing.{IsRefusedFor, IsStoreFault}, declared.fault.OpenFault.{OpenFault, TheVariants.{Memory, NotOurs, OldSchema, Store}}}
-use Rattle.{pawn_opening.proofs.{Begun.opens_as, Gained.gains_stands, Ours.{not_empty, only_faults}}, sqlite.specs.State.Survives}
+use Rattle.pawn_opening.proofs.Begun.{opens_as}
+use Rattle.pawn_opening.proofs.Gained.{gains_stands}
+use Rattle.pawn_opening.proofs.Ours.{not_empty, only_faults}
+use Rattle.pawn_opening.specs.Common.{HasCleanDisk, State, Trees, Host, StandForOne, StandsFor}
+use Rattle.pawn_opening.specs.Indexing.{GainsIndexes, HasBothIndexes, HoldGained, lacking}
+use Rattle.pawn_opening.specs.Opened.{AreMadeOf, IndexesStore, IsAsBefore, IsIndexed, IsOpenable, LaysOut, OpensAs}
+use Rattle.pawn_opening.specs.Opened.{empty_host, Prepares, Recognises}
+use Rattle.pawn_opening.specs.Refusing.{IsEmptyStore, IsRefusedFor, IsStoreFault}
+use Rattle.pawn_opening.specs.declared.fault.OpenFault.{OpenFault}
+use Rattle.pawn_opening.specs.declared.fault.OpenFault.TheVariants.{Memory, NotOurs, OldSchema, Store}
 use Rattle.sqlite.proofs.StateLemmas.{survives_then, survives_weaker}
+use Rattle.sqlite.specs.State.{Survives}
+use Rattle.std.proofs.Common.{◌≡◌, ◌⊎◌, inl, inr, ℕ, Ok, Err, Result, OnOk, OnErr, IsTrue, sym, subst, ◌∙◌, arith}
+use Rattle.std.proofs.Common.{IfErr}
 
 module _ (old new : State) (limit : ℕ) (r : Result (Unit {0}) OpenFault)
     (last : IsTrue old.is_open → (trees : Trees) → old.may_leave trees → trees ≡ old.committed.trees) where
@@ -26,8 +34,8 @@ module _ (old new : State) (limit : ℕ) (r : Result (Unit {0}) OpenFault)
 
   pub when_empty : IsEmptyStore old.now → LaysOut old new limit r → Prepares old new limit r
   when_empty empty it = record {
-    opens = λ clean. openable r;
-    new_store = it.ok;
+    opens = λ clean. openable r (it.ok clean empty);
+    new_store = λ clean empty'. opened r (it.ok clean empty');
     stands = λ clean h st. absurd (not_empty old.now h st empty);
     bare = λ clean empty'. it.why;
     ours = λ clean h st. it.why;
@@ -37,9 +45,14 @@ module _ (old new : State) (limit : ℕ) (r : Result (Unit {0}) OpenFault)
     survives = laid;
     crash = crashed laid;
   } where
-    openable : (r' : Result (Unit {0}) OpenFault) → OnOk r' (IsOpenable old new)
-    openable (Ok done) = inl empty
-    openable (Err why) = tt
+    openable : (r' : Result (Unit {0}) OpenFault) → OnOk r' (OpensAs new (empty_host limit) × HasBothIndexes new.now.schema) → OnOk r' (IsOpenable old new)
+    openable (Ok done) ok = inl (empty, ok.1)
+    openable (Err why) ok = tt
+
+    opened : (r' : Result (Unit {0}) OpenFault) → OnOk r' (OpensAs new (empty_host limit) × HasBothIndexes new.now.schema)
+        → OnOk r' (OpensAs new (empty_host limit))
+    opened (Ok done) ok = ok.0
+    opened (Err why) ok = tt
 
     laid : Survives old new New
     laid = survives_weaker old new _ New (λ clean trees holds. inl (empty, holds empty)) it.survives
@@ -81,7 +94,7 @@ module _ (old new : State) (limit : ℕ) (r : Result (Unit {0}) OpenFault)
     same clean = (known.same clean).now (serves clean)
 
     from_old : HasCleanDisk mid → IsIndexed mid new → IsIndexed old new
-    from_old clean done = (done.0, subst (λ d. GainsIndexes d new.now) (same clean) done.1, done.2)
+    from_old clean done = (done.0, subst (λ d. GainsIndexes (lacking d.schema) d new.now) (same clean) done.1, done.2)
 
     survived : Survives old new New
     survived =

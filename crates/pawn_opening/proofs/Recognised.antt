@@ -1,9 +1,14 @@
 -- What the answer of a store makes of it.
-use Rattle.std.proofs.Common.{◌≡◌, inl, inr, ℕ, false, List, [], Option, Some, None, Ok, Err, Result, OnOk, IsTrue, sym, subst, IfErr, IfOk, IfSome}
-use Rattle.pawn_opening.specs.{Common.{CompileError, Row, HasCleanDisk, State, Error, SqlInputError, READ_SCHEMA}, Opened.{Recognises, TellsSchema}}
-use Rattle.pawn_opening.specs.Refusing.{IsEmptyStore, IsJudged, IsNoted, IsNumberRead, IsRefusedFor, IsStoreFault, IsStrangeNumber, NotesSchema}
-use Rattle.pawn_opening.{specs.declared.fault.OpenFault.{OpenFault, TheVariants.{Memory, NotOurs, OldSchema, Store}}, proofs.Recognition.{answered, asks_alone}}
-use Rattle.{pawn_opening.proofs.Recognition.{left_as_before, unanswered, unchanged}, sqlite.specs.State.{CommitsShowing, FailsToQuery, Shown, Survives}}
+use Rattle.pawn_opening.proofs.Recognition.{answered, asks_alone, left_as_before, unanswered, unchanged}
+use Rattle.pawn_opening.specs.Common.{CompileError, Row, HasCleanDisk, State, Error, SqlInputError, READ_SCHEMA}
+use Rattle.pawn_opening.specs.Opened.{Recognises, TellsSchema}
+use Rattle.pawn_opening.specs.Refusing.{IsEmptyStore, IsJudged, IsNoted, IsNumberRead, IsRefusedFor, IsStoreFault}
+use Rattle.pawn_opening.specs.Refusing.{IsStrangeNumber, NotesSchema}
+use Rattle.pawn_opening.specs.declared.fault.OpenFault.{OpenFault}
+use Rattle.pawn_opening.specs.declared.fault.OpenFault.TheVariants.{Memory, NotOurs, OldSchema, Store}
+use Rattle.sqlite.specs.State.{CommitsShowing, FailsToQuery, Shown, Survives}
+use Rattle.std.proofs.Common.{◌≡◌, inl, inr, ℕ, false, List, [], Option, Some, None, Ok, Err, Result, OnOk, IsTrue, sym}
+use Rattle.std.proofs.Common.{subst, IfErr, IfOk, IfSome}
 
 -- ---- what is noted of the schema
 

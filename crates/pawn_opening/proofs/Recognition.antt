@@ -1,11 +1,20 @@
 -- A store is asked for the number of its schema.
-use Rattle.{std.proofs.Common.{◌≡◌, inl, inr, ℕ, List, [], Option, Some, None, Ok, IsSome, IsTrue, refl, sym, subst, ◌∙◌}, sqlite_resolve.specs.Compile.first}
-use Rattle.pawn_opening.specs.Common.{Compiled, CompileError, everything, Rows, Select, Database, understood, Row, State, Trees, Error, SqlInputError}
-use Rattle.pawn_opening.specs.{Common.READ_SCHEMA, Opened.IsAsBefore, Refusing.{AnswersOpening, HasNoAnswer}}
-use Rattle.sqlite_trees.specs.declared.error.StoreError.{StoreError, TheVariants.{OutOfMemory, Io, Corrupt, Full, Broken, Unstorable}}
-use Rattle.sqlite.specs.{Effect.{Reads, RefusesToRead}, State.{CommitsShowing, Fails, FailsToQuery, FailsToShow, IsNoStatement, IsNotRun, IsRolledBack}}
-use Rattle.sqlite.{specs.{State.{IsUnchanged, Shown, ShowsRows, Survives, store_error}, Clock.timed, Command.Command}, proofs.StateLemmas.survives_weaker}
-use Rattle.{sqlite_schema.specs.declared.command.Returning.Returning, one_table.proofs.Queries.{IsQuery, OnlyReads, only_reads}}
+use Rattle.one_table.proofs.Queries.{IsQuery, OnlyReads, only_reads}
+use Rattle.pawn_opening.specs.Common.{Compiled, CompileError, everything, Rows, Select, Database, understood, Row}
+use Rattle.pawn_opening.specs.Common.{State, Trees, Error, SqlInputError, READ_SCHEMA}
+use Rattle.pawn_opening.specs.Opened.{IsAsBefore}
+use Rattle.pawn_opening.specs.Refusing.{AnswersOpening, HasNoAnswer}
+use Rattle.sqlite.proofs.StateLemmas.{survives_weaker}
+use Rattle.sqlite.specs.Clock.{timed}
+use Rattle.sqlite.specs.Command.{Command}
+use Rattle.sqlite.specs.Effect.{Reads, RefusesToRead}
+use Rattle.sqlite.specs.State.{CommitsShowing, Fails, FailsToQuery, FailsToShow, IsNoStatement, IsNotRun, IsRolledBack}
+use Rattle.sqlite.specs.State.{IsUnchanged, Shown, ShowsRows, Survives, store_error}
+use Rattle.sqlite_resolve.specs.Compile.{first}
+use Rattle.sqlite_schema.specs.declared.command.Returning.{Returning}
+use Rattle.sqlite_trees.specs.declared.error.StoreError.{StoreError}
+use Rattle.sqlite_trees.specs.declared.error.StoreError.TheVariants.{OutOfMemory, Io, Corrupt, Full, Broken, Unstorable}
+use Rattle.std.proofs.Common.{◌≡◌, inl, inr, ℕ, List, [], Option, Some, None, Ok, IsSome, IsTrue, refl, sym, subst, ◌∙◌}
 
 asks : IsQuery (first READ_SCHEMA.now)
 unfolding everything

@@ -1,6 +1,7 @@
 -- Files to which nothing was done yet.
-use Rattle.{std.proofs.Common.{◌≡◌, ℕ, Bool, List, [], ◌∷◌, true, false, cond, ap₂}, pawn_opening.specs.Common.Image, sqlite_disk.specs.Events.{Event, replay}}
-use Rattle.sqlite_disk.specs.Events.{settled}
+use Rattle.pawn_opening.specs.Common.{Image}
+use Rattle.sqlite_disk.specs.Events.{Event, replay, settled}
+use Rattle.std.proofs.Common.{◌≡◌, ℕ, Bool, List, [], ◌∷◌, true, false, cond, ap₂}
 
 abbrev pub image : List ℕ → List ℕ → Image
 image log db = record { log = log; db = db }

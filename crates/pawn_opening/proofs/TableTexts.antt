@@ -1,9 +1,15 @@
 -- What the texts of the tables mean.
-use Rattle.{std.proofs.Common.{◌≡◌, List, ℕ, [], ◌∷◌, Ok, refl, false}, pawn_opening.specs.Common.{everything, CreateTable, understood, Schema, Table}}
-use Rattle.{pawn_opening.specs.Common.no_schema, sqlite.{specs.{Change.created, Compile.table_defined_by, Does.lacks_sequence}, proofs.Callers.IsPlain}}
-use Rattle.{sqlite.proofs.Callers.{command_of, statement_of}, pawn_tables.specs.Schema.{first_schema, second_schema, bookings, books, entries, extensions}}
-use Rattle.pawn_tables.specs.{Schema.{meta, pledges, secrets, terms, totals}, declared.texts.TheConstants.{MAKE_BOOKINGS, MAKE_BOOKS, MAKE_ENTRIES}}
-use Rattle.pawn_tables.specs.declared.texts.TheConstants.{MAKE_EXTENSIONS, MAKE_META, MAKE_PLEDGES, MAKE_SECRETS, MAKE_TERMS, MAKE_TOTALS}
+use Rattle.pawn_opening.specs.Common.{everything, CreateTable, understood, Schema, Table, no_schema}
+use Rattle.pawn_tables.specs.Schema.{first_schema, second_schema, bookings, books, entries, extensions, meta, pledges}
+use Rattle.pawn_tables.specs.Schema.{secrets, terms, totals}
+use Rattle.pawn_tables.specs.declared.texts.TheConstants.{MAKE_BOOKINGS, MAKE_BOOKS, MAKE_ENTRIES, MAKE_EXTENSIONS}
+use Rattle.pawn_tables.specs.declared.texts.TheConstants.{MAKE_META, MAKE_PLEDGES, MAKE_SECRETS, MAKE_TERMS}
+use Rattle.pawn_tables.specs.declared.texts.TheConstants.{MAKE_TOTALS}
+use Rattle.sqlite.proofs.Callers.{IsPlain, command_of, statement_of}
+use Rattle.sqlite.specs.Change.{created}
+use Rattle.sqlite.specs.Compile.{table_defined_by}
+use Rattle.sqlite.specs.Does.{lacks_sequence}
+use Rattle.std.proofs.Common.{◌≡◌, List, ℕ, [], ◌∷◌, Ok, refl, false}
 
 -- under this schema, the text makes this table and nothing else
 abbrev pub IsCreation : Schema → List ℕ → Table → Type 0

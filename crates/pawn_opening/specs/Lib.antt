@@ -5,3 +5,4 @@ pub mod Indexing
 pub mod Laying
 pub mod Opened
 pub mod Refusing
+pub mod WorkedIndexes

@@ -1,10 +1,13 @@
--- Why a store is not opened.
-use Rattle.std.specs.Prelude.{◌≡◌, ◌⊎◌, ◌<◌, ℕ, pos, List, [], ◌∷◌, Option, Some, None, Result, Ok, Err}
-use Rattle.pawn_opening.specs.Common.{Compiled, CompileError, Database, understood, Row, column, Int, no_schema, READ_SCHEMA}
-use Rattle.{pawn_opening.specs.declared.fault.OpenFault.{OpenFault, TheVariants.{NotOurs, OldSchema, Store, Memory}}, sqlite.specs.Effect.Reads}
+-- Why a store is refused.
+use Rattle.pawn_opening.specs.Common.{Compiled, CompileError, Database, understood, Row, column, Int, no_schema}
+use Rattle.pawn_opening.specs.Common.{READ_SCHEMA}
+use Rattle.pawn_opening.specs.declared.fault.OpenFault.{OpenFault}
+use Rattle.pawn_opening.specs.declared.fault.OpenFault.TheVariants.{NotOurs, OldSchema, Store, Memory}
+use Rattle.sqlite.specs.Effect.{Reads}
 use Rattle.sqlite.specs.Listing.{IsSourceOf, reads_listing}
+use Rattle.std.specs.Prelude.{◌≡◌, ◌⊎◌, ◌<◌, ℕ, pos, List, [], ◌∷◌, Option, Some, None, Result, Ok, Err}
 
--- the question for the schema's number has these rows as an answer
+-- the query for the schema's number returns these rows
 pub record AnswersOpening (db : Database) (rows : List Row) : Type 0 where
   pub means : Compiled
   pub is_understood : understood db.schema READ_SCHEMA.now ≡ Ok means
@@ -12,15 +15,15 @@ pub record AnswersOpening (db : Database) (rows : List Row) : Type 0 where
   pub from : IsSourceOf (reads_listing db.schema READ_SCHEMA.now) db source
   pub reads : Reads means.command source [] rows
 
--- the question can't be compiled: there is no table with such columns
+-- the query cannot be compiled
 abbrev pub HasNoAnswer : Database → Type 0
 HasNoAnswer db = (fault : CompileError) × (understood db.schema READ_SCHEMA.now ≡ Err fault)
 
--- the answer is one row, of this number
+-- the answer is a single row that begins with this number
 abbrev pub IsOneNumber : List Row → ℕ → Type 0
 IsOneNumber rows n = (row : Row) × (rows ≡ row ∷ []) × (column row 0 ≡ Int (pos n))
 
--- the store notes this number of its schema
+-- the store notes this number as that of its schema
 abbrev pub NotesSchema : Database → ℕ → Type 0
 NotesSchema db n = (rows : List Row) × AnswersOpening db rows × IsOneNumber rows n
 
@@ -33,11 +36,11 @@ abbrev pub IsNoted : Database → Option ℕ → Type 0
 IsNoted db None = NotesNoSchema db
 IsNoted db (Some n) = NotesSchema db n
 
--- 0, or the number of a newer schema than the program's
+-- the number is 0, or that of a newer schema than the program's
 abbrev pub IsStrangeNumber : ℕ → Type 0
 IsStrangeNumber n = (n ≡ 0) ⊎ (3 < n)
 
--- the store notes no number, or such a one
+-- the store notes no number, 0, or that of a newer schema
 abbrev pub IsStrange : Database → Type 0
 IsStrange db = NotesNoSchema db ⊎ ((n : ℕ) × NotesSchema db n × IsStrangeNumber n)
 
@@ -45,27 +48,27 @@ IsStrange db = NotesNoSchema db ⊎ ((n : ℕ) × NotesSchema db n × IsStrangeN
 abbrev pub IsEmptyStore : Database → Type 0
 IsEmptyStore db = db.schema ≡ no_schema
 
--- the store failed, or memory was refused; nothing is said of what the store holds
+-- the fault is Store or Memory, which state nothing about the content of the store
 abbrev pub IsStoreFault : OpenFault → Type 0
 IsStoreFault NotOurs = ⊥
 IsStoreFault (OldSchema n) = ⊥
 IsStoreFault Store = Unit {0}
 IsStoreFault Memory = Unit {0}
 
--- what is so of a store that is refused for this reason
+-- what holds of the database of a store that is refused for this reason
 abbrev pub IsRefusedFor : Database → OpenFault → Type 0
 IsRefusedFor db NotOurs = (IsEmptyStore db → ⊥) × IsStrange db
 IsRefusedFor db (OldSchema n) = NotesSchema db n × (0 < n) × (n < 3)
 IsRefusedFor db Store = Unit {0}
 IsRefusedFor db Memory = Unit {0}
 
--- the number that is read from an answer's rows
+-- the result of reading a number from an answer's rows
 abbrev pub IsNumberRead : List Row → Result (Option ℕ) OpenFault → Type 0
 IsNumberRead rows (Ok None) = (n : ℕ) → IsOneNumber rows n → ⊥
 IsNumberRead rows (Ok (Some n)) = IsOneNumber rows n
 IsNumberRead rows (Err why) = IsStoreFault why
 
--- how the noted number is judged: only 3, the program's, is accepted
+-- the result of checking the noted number: only 3, the number of the program's schema, is accepted
 abbrev pub IsJudged : Option ℕ → Result (Unit {0}) OpenFault → Type 0
 IsJudged noted (Ok ours) = noted ≡ Some 3
 IsJudged noted (Err NotOurs) = (noted ≡ None) ⊎ ((n : ℕ) × (noted ≡ Some n) × IsStrangeNumber n)

@@ -1,13 +1,17 @@
+//! Connects to a database file without preparing it as a store.
+ghost use Rattle.pawn_opening.specs.Common.{image_at, Database, HasCleanDisk};
+ghost use Rattle.pawn_opening.specs.FilesStand.{HoldsIn};
+ghost use Rattle.pawn_opening.specs.Refusing.{IsStoreFault};
+ghost use Rattle.sqlite.specs.Files.{file_state};
 ghost use Rattle.std.specs.Prelude.{◌≡◌, false, IfErr, IfOk, IsTrue};
-ghost use Rattle.{pawn_opening.specs.{Common.{image_at, Database, HasCleanDisk}, FilesStand.HoldsIn, Refusing.IsStoreFault}, sqlite.specs.Files.file_state};
 
-use crate::fault::{OpenFault, refused};
+use crate::fault::{OpenFault, opening_fault};
 use crate::finding::{files_at, options};
 use sqlite::{Connection, FileFrom, FileStore, Start};
 
-/// A connection to the database in the file at a path, for whoever moves an older store or looks into another. `start`
-/// says what may be assumed of the file's bytes. No table is made, and the schema is not checked. If there is no file,
-/// an empty one is made. The error is `Store` or `Memory`.
+/// Connects to the database in the file at a path, for the migration of an older store or for reading any other one. No
+/// table is made, and the schema is not checked. If there is no file, an empty one is made. `start` states what may be
+/// assumed of the file's bytes. The error is `Store` or `Memory`.
 pub fn connect_path<S: Start>(
     rt: &HostRuntime,
     path: &str,
@@ -22,6 +26,6 @@ pub fn connect_path<S: Start>(
     let files = files_at(rt, path, start)?;
     match Connection::open_files(rt.alloc(), files, options) {
         Ok(conn) => Ok(conn),
-        Err((error, _)) => Err(refused(error)),
+        Err((error, _)) => Err(opening_fault(error)),
     }
 }

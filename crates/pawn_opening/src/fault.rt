@@ -1,20 +1,24 @@
+//! The faults of opening a store.
+ghost use Rattle.pawn_opening.specs.Refusing.{IsStoreFault};
+ghost use Rattle.sqlite.specs.declared.error.ErrorCode.TheVariants.{OutOfMemory};
 ghost use Rattle.std.specs.Prelude.{◌≡◌};
-ghost use Rattle.{sqlite.specs.declared.error.ErrorCode.TheVariants.OutOfMemory, pawn_opening.specs.Refusing.IsStoreFault};
 ghost use Rattle.sqlite.specs.declared.error.Error.TheVariants as SqlError;
 ghost use Rattle.pawn_opening.specs.declared.fault.OpenFault.TheVariants as Fault;
 
 use sqlite::{Error, ErrorCode};
 use std::fmt;
 
-/// Why a store is not opened.
+/// Why a store cannot be opened.
 #[derive(Clone, Copy)]
 pub enum OpenFault {
-    /// The store notes no schema, or a newer one than the program's: it is another program's, or a later version's.
+    /// The store notes no schema, or a newer one than the program's: another program made it, or a later version of
+    /// this one.
     NotOurs,
-    /// The store notes this older schema.
+    /// The store notes this older schema, 1 or 2. It has to be migrated first.
     OldSchema(u32),
-    /// The database failed, or refused.
+    /// The database failed, or refused the request.
     Store,
+    /// Out of memory.
     Memory,
 }
 
@@ -29,8 +33,8 @@ impl fmt::Display for OpenFault {
     }
 }
 
-/// A database's error as the reason that a store is not opened: `Memory` or `Store`.
-pub(crate) fn refused(error: Error) -> OpenFault
+/// A database's error as a fault of opening: `Memory` if out of memory, otherwise `Store`.
+pub(crate) fn opening_fault(error: Error) -> OpenFault
     ensures memory { result ≡ Fault.Memory → error ≡ SqlError.SqliteFailure OutOfMemory }
     ensures told { error ≡ SqlError.SqliteFailure OutOfMemory → result ≡ Fault.Memory }
     ensures store { IsStoreFault result }

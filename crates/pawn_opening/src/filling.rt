@@ -1,4 +1,7 @@
-ghost use Rattle.{std.specs.Prelude.is_ok, pawn_opening.specs.{Common.{state, Lends}, Opened.Fills}};
+//! Makes the content of a new store.
+ghost use Rattle.pawn_opening.specs.Common.{state, Lends};
+ghost use Rattle.pawn_opening.specs.Opened.{Fills};
+ghost use Rattle.std.specs.Prelude.{is_ok};
 
 use crate::indexing::{Lacking, make_indexes};
 use crate::laying::make_tables;
@@ -6,8 +9,8 @@ use crate::noting::note;
 use crate::recognising::SCHEMA;
 use sqlite::{Alter, Error, Transaction};
 
-/// Makes the program's tables and indexes in an empty store. Notes the number of the schema, a count of no rows, and
-/// the limit.
+/// Makes the program's tables and indexes in an empty store. Notes the number of the schema, the count 0 of rows, and
+/// the limit. The error is the database's own.
 #[tactic(auto, using(crate::proofs::Basics::lent_then))]
 pub(crate) fn fill<S: Alter>(tx: &mut Transaction<'_, S>, limit: u32) -> Result<(), Error>
     ensures filled { Fills (state S.Store tx.old.conn.now) (state S.Store tx.new.conn.now) limit result }

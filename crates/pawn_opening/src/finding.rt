@@ -1,6 +1,7 @@
-//! The files at a path, and how much of them is kept in memory.
-ghost use Rattle.{std.specs.Prelude.{true, false, IsTrue, IfErr, IfOk}, sqlite_std_file.specs.File.{IsFresh, file_is_usable}};
+//! Opens the files at a path, and sets the options of a database.
 ghost use Rattle.pawn_opening.specs.Refusing.{IsStoreFault};
+ghost use Rattle.sqlite_std_file.specs.File.{IsFresh, file_is_usable};
+ghost use Rattle.std.specs.Prelude.{true, false, IsTrue, IfErr, IfOk};
 
 use crate::fault::OpenFault;
 use sqlite::{FileFrom, Files, Options, Start};
@@ -8,12 +9,13 @@ use sqlite_std_file::OpenError;
 use std::hash::{BuildHasher, RandomState};
 use std::io::ErrorKind;
 
-/// How many pages of 4,096 bytes of the database file the program keeps in memory: half of what the library would. The
-/// system keeps them too, and a page that is read again has its checksum computed.
+/// How many pages of 4,096 bytes of the database file the program caches: half of the library's default. The operating
+/// system caches them too; reading a page again costs the computation of its checksum.
 const KEPT_PAGES: usize = 1000;
 
-/// Opens the log and the database file at a path, and makes those that are missing. `Store` for `:memory:` and for a
-/// path that begins with `file:`, which another program would take for a store in memory or for a URI.
+/// Opens the log and the database file at a path, and makes those that are missing. The error is `Store` for `:memory:`
+/// and for a path that begins with `file:`, because other programs read these as a database in memory and as a URI;
+/// otherwise it is `Memory` if out of memory, and `Store` if a file cannot be opened.
 pub(crate) fn files_at<S: Start>(
     rt: &HostRuntime,
     path: &str,
@@ -36,7 +38,8 @@ pub(crate) fn files_at<S: Start>(
     }
 }
 
-/// The options of a database: a seed of its log that is drawn at random, and how many pages are kept in memory.
+/// The options of a database: a random seed for its log, and how many pages are cached. The error is `Store`, if no
+/// random number is available.
 pub(crate) fn options(rt: &HostRuntime) -> Result<Options, OpenFault>
     ensures refuses { IfErr result IsStoreFault }
 {

@@ -1,10 +1,13 @@
-ghost use Rattle.{std.specs.Prelude.is_ok, pawn_opening.specs.{Common.{state, Lends, meta_row}, Laying.Notes}};
+//! Writes a note of a store.
+ghost use Rattle.pawn_opening.specs.Common.{state, Lends, meta_row};
+ghost use Rattle.pawn_opening.specs.Laying.{Notes};
+ghost use Rattle.std.specs.Prelude.{is_ok};
 
 use one_table::run;
 use pawn_tables::texts::PUT_NOTE;
 use sqlite::{Alter, Error, Transaction, params};
 
-/// Inserts a row in `meta`: a name, and the number that is noted under it.
+/// Inserts a row into `meta`: a name, and the number that is noted under it. The error is the database's own.
 pub(crate) fn note<S: Alter>(
     tx: &mut Transaction<'_, S>,
     name: &str,

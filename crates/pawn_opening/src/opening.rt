@@ -1,18 +1,24 @@
+//! Opens a store in memory, in two files or at a path, and closes it.
+ghost use Rattle.pawn_opening.specs.Closed.{AreClosedFor, HasCommitted, IsLeftUnclosed};
+ghost use Rattle.pawn_opening.specs.Common.{image_at, state, HasCleanDisk, Host, most_rows};
+ghost use Rattle.pawn_opening.specs.FilesStand.{IsBlank, OpensFound, RefusesFiles, RefusesHeld, StandsIn};
+ghost use Rattle.pawn_opening.specs.Opened.{OpensAs, empty_host};
+ghost use Rattle.pawn_opening.specs.Refusing.{IsStoreFault};
+ghost use Rattle.sqlite.specs.Files.{IsCleanLeft, file_state, image_of};
+ghost use Rattle.sqlite.specs.Steps.{over_memory};
+ghost use Rattle.sqlite_std_file.specs.File.{IsFresh};
+ghost use Rattle.sqlite_wal.specs.Reads.{AreClean};
 ghost use Rattle.std.specs.Prelude.{◌≡◌, ◌≤◌, None, false, true, IfErr, IfOk, IfSome, IsTrue};
-ghost use Rattle.pawn_opening.specs.{Common.{image_at, state, HasCleanDisk, Host, most_rows}, Closed.{AreClosedFor, HasCommitted, IsLeftUnclosed}};
-ghost use Rattle.pawn_opening.specs.{FilesStand.{IsBlank, OpensFound, RefusesFiles, RefusesHeld, StandsIn}, Opened.{OpensAs, empty_host}};
-ghost use Rattle.{pawn_opening.specs.Refusing.IsStoreFault, sqlite.specs.{Files.{IsCleanLeft, file_state, image_of}, Steps.over_memory}};
-ghost use Rattle.{sqlite_std_file.specs.File.IsFresh, sqlite_wal.specs.Reads.AreClean};
 
-use crate::fault::{OpenFault, refused};
+use crate::fault::{OpenFault, opening_fault};
 use crate::finding::{files_at, options};
 use crate::preparing::prepare;
 use sqlite::{Connection, FileFrom, FileStore, Files, Leftover, MemStore, Options, Start};
 use sqlite_disk::Disk;
 use std::alloc::Global;
 
-/// Makes a new store in memory, without books. `limit` is the most counted rows that it may hold, 1 to 10,000,000. The
-/// error is `Store` or `Memory`.
+/// Makes a new store in memory, without books. `limit` is the largest number of counted rows that it may have, 1 to
+/// 10,000,000. The error is `Store` or `Memory`.
 pub fn open_memory(alloc: Global, limit: u32) -> Result<Connection<MemStore>, OpenFault>
     requires least { 1 ≤ limit }
     requires most { limit ≤ most_rows }
@@ -28,9 +34,12 @@ pub fn open_memory(alloc: Global, limit: u32) -> Result<Connection<MemStore>, Op
     }
 }
 
-/// Opens the store in two files, a log and a database. An empty one gets the program's tables, and this limit on
-/// counted rows, 1 to 10,000,000. One that notes the program's schema keeps its stored limit, and gets the indexes that
-/// it lacks. Whether its rows make sense is not judged. A refusal hands back what is left of the files.
+/// Opens the store in two files, a log and a database. An empty store gets the program's tables, and `limit` as its
+/// limit on counted rows, 1 to 10,000,000. A store that notes the program's schema keeps its stored limit, and gets the
+/// indexes that it lacks; its rows are not checked.
+///
+/// # Errors Those of `prepare`, and `Store` or `Memory` if the files cannot be opened as a database; with the reason
+/// comes what is left of the files.
 pub fn open_files<D: Disk + Drop>(
     alloc: Global,
     files: Files<D>,
@@ -49,7 +58,7 @@ pub fn open_files<D: Disk + Drop>(
 {
     let mut conn = match Connection::open_files(alloc, files, options) {
         Ok(conn) => conn,
-        Err((error, left)) => return Err((refused(error), left)),
+        Err((error, left)) => return Err((opening_fault(error), left)),
     };
     match prepare(&mut conn, limit) {
         Ok(()) => Ok(conn),
@@ -57,10 +66,13 @@ pub fn open_files<D: Disk + Drop>(
     }
 }
 
-/// Opens the store in the file at a path, which is made if there is none. `start` says what may be assumed of the
-/// file's bytes. An empty store gets the program's tables, and this limit on counted rows, 1 to 10,000,000. One that
-/// notes the program's schema keeps its stored limit, and gets the indexes that it lacks. Whether its rows make sense
-/// is not judged. If the store is refused after its files were opened, what is left of them comes back with the reason.
+/// Opens the store in the file at a path, and makes the file if there is none. `start` states what may be assumed of
+/// the file's bytes. An empty store gets the program's tables, and `limit` as its limit on counted rows, 1 to
+/// 10,000,000. A store that notes the program's schema keeps its stored limit, and gets the indexes that it lacks; its
+/// rows are not checked.
+///
+/// # Errors
+/// Those of `open_files`. What is left of the files comes with the reason if they had been opened.
 pub fn open_path<S: Start>(
     rt: &HostRuntime,
     path: &str,
@@ -91,17 +103,18 @@ pub fn open_path<S: Start>(
     }
 }
 
-/// Closes the store and gives its files back. All that was committed is then in the database file, and an open
-/// transaction is rolled back. If closing fails, the store comes back with the reason.
+/// Closes the store and returns its files. Everything that was committed is then in the database file, and an open
+/// transaction is rolled back. If closing fails, the error has the reason, `Store` or `Memory`, and the store.
 pub fn close_files<D: Disk + Drop>(
     conn: Connection<FileStore<D>>,
 ) -> Result<Files<D>, (OpenFault, FileStore<D>)>
     ensures usable { IfOk result (λ files. IsTrue (D.Disk.is_usable files.log) × IsTrue (D.Disk.is_usable files.db)) }
+    ensures clean { IfOk result (λ files. AreClean D.Disk files.log files.db → HasCleanDisk (file_state conn)) }
     ensures kept { IfOk result (λ files. AreClean D.Disk files.log files.db → (h : Host) → HasCommitted (file_state conn) h → AreClosedFor D.Disk files h) }
     ensures refuses { IfErr result (λ e. IsLeftUnclosed conn e.0 e.1) }
 {
     match conn.close_files() {
         Ok(files) => Ok(files),
-        Err((error, store)) => Err((refused(error), store)),
+        Err((error, store)) => Err((opening_fault(error), store)),
     }
 }

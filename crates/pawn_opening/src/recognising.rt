@@ -1,15 +1,18 @@
+//! Recognises a store by the schema that it notes.
+ghost use Rattle.pawn_opening.specs.Opened.{Recognises, TellsSchema};
+ghost use Rattle.pawn_opening.specs.Refusing.{IsJudged, IsNumberRead};
+ghost use Rattle.sqlite.specs.Held.{state};
 ghost use Rattle.std.specs.Prelude.{◌≡◌, false};
-ghost use Rattle.{sqlite.specs.Held.state, pawn_opening.specs.{Opened.{Recognises, TellsSchema}, Refusing.{IsJudged, IsNumberRead}}};
 
-use crate::fault::{OpenFault, refused};
+use crate::fault::{OpenFault, opening_fault};
 use one_table::know_settled;
 use pawn_tables::texts::READ_SCHEMA;
 use sqlite::{Alter, Connection, Error, ErrorCode, Row};
 
-// The number of the schema that this program reads and writes.
+/// The number of the schema that this program reads and writes.
 pub const SCHEMA: u32 = 3;
 
-// The number in an answer, if the answer is one row that begins with a number.
+/// The number in a query's answer, if the answer is a single row that begins with a number. The error is `Memory`.
 fn number_of(rows: &[Row]) -> Result<Option<u64>, OpenFault>
     ensures read { IsNumberRead rows.now result }
 {
@@ -23,8 +26,8 @@ fn number_of(rows: &[Row]) -> Result<Option<u64>, OpenFault>
     }
 }
 
-/// The number of the schema that a store notes, if it notes one. The store is left as it was. The error is `Store` or
-/// `Memory`.
+/// The number of the schema that a store notes, if it notes one. The content of the store does not change. The error is
+/// `Store` or `Memory`.
 pub fn schema_noted<S: Alter>(conn: &mut Connection<S>) -> Result<Option<u64>, OpenFault>
     requires rests { conn.old.in_transaction ≡ false }
     ensures tells { TellsSchema (state S.Store conn.old) (state S.Store conn.new) result }
@@ -33,13 +36,13 @@ pub fn schema_noted<S: Alter>(conn: &mut Connection<S>) -> Result<Option<u64>, O
     match conn.query_all(READ_SCHEMA, &[]) {
         Ok(rows) => number_of(&rows),
         Err(Error::SqlInputError(_)) => Ok(None),
-        Err(error) => Err(refused(error)),
+        Err(error) => Err(opening_fault(error)),
     }
 }
 
-// Whether a store that notes this number is of the program's schema. `OldSchema` if the number is an older schema's,
-// else `NotOurs`.
-fn judge(noted: Option<u64>) -> Result<(), OpenFault>
+/// Accepts the number of the program's schema. The error is `OldSchema` for that of an older schema, and `NotOurs` for
+/// any other number and for none.
+fn expect_ours(noted: Option<u64>) -> Result<(), OpenFault>
     ensures judged { IsJudged noted result }
 {
     let Some(number) = noted else {
@@ -54,13 +57,13 @@ fn judge(noted: Option<u64>) -> Result<(), OpenFault>
     }
 }
 
-/// Checks that a store that is not empty notes the program's schema.
+/// Checks that a store, which is not empty, notes the program's schema. The errors are those of `prepare`.
 pub(crate) fn recognise<S: Alter>(conn: &mut Connection<S>) -> Result<(), OpenFault>
     requires rests { conn.old.in_transaction ≡ false }
     ensures recognised { Recognises (state S.Store conn.old) (state S.Store conn.new) result }
 {
     match schema_noted(conn) {
-        Ok(noted) => judge(noted),
+        Ok(noted) => expect_ours(noted),
         Err(why) => Err(why),
     }
 }

@@ -1,7 +1,13 @@
--- A brief of a pledge that can stand is within its limits.
-use Rattle.{std.proofs.Common.{◌≤◌, Option, Some, None, arith, IfSome}, pawn_pledge.specs.{Common.last_stamp_day, declared.record.Booking.Booking}}
-use Rattle.pawn_pledge.specs.{Laws.BriefIsWithin, declared.record.Closing.Closing, Replayable.{IsBooked, IsClosed}, Pledge.{PledgeValue, debt_of}}
-use Rattle.{pawn_pledge.specs.Brief.{IsBookingWithin, IsClosingWithin}, pawn_debt.proofs.Bounds.accepted-bounded}
+-- The brief of a reachable pledge within the limits is within its limits.
+use Rattle.pawn_debt.proofs.Bounds.{accepted-bounded}
+use Rattle.pawn_pledge.specs.Brief.{IsBookingWithin, IsClosingWithin}
+use Rattle.pawn_pledge.specs.Common.{last_stamp_day}
+use Rattle.pawn_pledge.specs.Laws.{BriefIsWithin}
+use Rattle.pawn_pledge.specs.Pledge.{PledgeValue, debt_of}
+use Rattle.pawn_pledge.specs.Replayable.{IsBooked, IsClosed}
+use Rattle.pawn_pledge.specs.declared.record.Booking.{Booking}
+use Rattle.pawn_pledge.specs.declared.record.Closing.{Closing}
+use Rattle.std.proofs.Common.{◌≤◌, Option, Some, None, arith, IfSome}
 
 booked-within : (p : PledgeValue) (o : Option Booking) → IsBooked p o → IfSome o (λ (b : Booking). b.day ≤ last_stamp_day) → IfSome o IsBookingWithin
 booked-within p None booked named = tt

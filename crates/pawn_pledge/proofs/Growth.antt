@@ -1,11 +1,20 @@
 -- The lists of a pledge grow at their ends.
-use Rattle.std.proofs.Common.{◌≡◌, ℕ, ◌+◌, ◌<◌, ◌==◌, false, List, [], ◌∷◌, ◌++◌, length, refl, sym, ap, ◌∙◌, inl, inr, append_assoc, append-nil}
-use Rattle.{std.specs.List.list_any, pawn_pledge.specs.{Common.Entry, Step.{Answered, Changed, Judged, Refused, pledge_after, pledge_step}}}
-use Rattle.pawn_pledge.specs.{declared.command.Command.Command, declared.record.{Extension.Extension, Issued.Issued}, Growth.{Grows, StaysOrGrows}}
-use Rattle.pawn_pledge.{specs.{Laws.ListsGrow, Pledge.{PledgeValue, end_of}, declared.command.Stamp.Stamp, Words.{issue_of, new_entry}}, proofs.Moves.Move}
-use Rattle.pawn_pledge.proofs.Moves.{pledge_moves, Entering, Declaring, Extending, Settling}
+use Rattle.pawn_pledge.proofs.Moves.{Move, pledge_moves, Entering, Declaring, Extending, Settling}
+use Rattle.pawn_pledge.specs.Common.{Entry}
+use Rattle.pawn_pledge.specs.Growth.{Grows, StaysOrGrows}
+use Rattle.pawn_pledge.specs.Laws.{ListsGrow}
+use Rattle.pawn_pledge.specs.Pledge.{PledgeValue, end_of}
+use Rattle.pawn_pledge.specs.Step.{Answered, Changed, Judged, Refused, pledge_after, pledge_step}
+use Rattle.pawn_pledge.specs.Words.{issue_of, new_entry}
+use Rattle.pawn_pledge.specs.declared.command.Command.{Command}
+use Rattle.pawn_pledge.specs.declared.command.Stamp.{Stamp}
+use Rattle.pawn_pledge.specs.declared.record.Extension.{Extension}
+use Rattle.pawn_pledge.specs.declared.record.Issued.{Issued}
+use Rattle.std.proofs.Common.{◌≡◌, ℕ, ◌+◌, ◌<◌, ◌==◌, false, List, [], ◌∷◌, ◌++◌, length, refl, sym, ap, ◌∙◌, inl, inr}
+use Rattle.std.proofs.Common.{append_assoc, append-nil}
+use Rattle.std.specs.List.{list_any}
 
--- each list stays, or grows at its end by one
+-- each list stays the same, or grows at its end by one
 pub record ListsMoved (p q : PledgeValue) (w x : ℕ) : Type 0 where
   pub entries : StaysOrGrows (λ (e : Entry). (e.seq ≡ length p.entries + 1) × (e.day ≡ x)) p.entries q.entries
   pub secrets : StaysOrGrows (λ (i : Issued). (i.secret ≡ w) × (list_any (λ (j : Issued). j.secret == w) p.secrets ≡ false)) p.secrets q.secrets

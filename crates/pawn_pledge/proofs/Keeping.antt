@@ -1,9 +1,13 @@
 -- What the fields of a pledge keep, after an extension.
-use Rattle.{std.proofs.Common.{◌≡◌, ℕ, ◌<◌, ◌≤◌, List, [], ◌∷◌, ◌++◌, None, sym, ap, subst, ◌∙◌, arith}, pawn_pledge.specs.Common.{DebtValue, Entry}}
-use Rattle.pawn_pledge.specs.{declared.record.Extension.Extension, Pledge.{PledgeValue, debt_of, end_of, end_with}, Words.{with_extension, with_last}}
-use Rattle.pawn_pledge.{specs.Kept.IsPledgeKept, proofs.Pushes.later_of-push}
+use Rattle.pawn_pledge.proofs.Pushes.{later_of-push}
+use Rattle.pawn_pledge.specs.Common.{DebtValue, Entry}
+use Rattle.pawn_pledge.specs.Kept.{IsPledgeKept}
+use Rattle.pawn_pledge.specs.Pledge.{PledgeValue, debt_of, end_of, end_with}
+use Rattle.pawn_pledge.specs.Words.{with_extension, with_last}
+use Rattle.pawn_pledge.specs.declared.record.Extension.{Extension}
+use Rattle.std.proofs.Common.{◌≡◌, ℕ, ◌<◌, ◌≤◌, List, [], ◌∷◌, ◌++◌, None, sym, ap, subst, ◌∙◌, arith}
 
--- p is what the fields hold, v the value that a contract sees
+-- p is the record in the fields, and v the value in contracts
 pub kept-extended : (p v : PledgeValue) (d new : DebtValue) (es : List Entry) (xs : List Extension) (x : Extension) → p ≡ v → IsPledgeKept p d → es ≡ p.entries
     → new ≡ record d { ends = x.until } → xs ≡ p.extensions ++ x ∷ [] → v.standing.last ≤ x.day → end_of v < x.until
     → IsPledgeKept (record { agreement = p.agreement; entries = es; secrets = p.secrets; extensions = xs; standing = with_last p.standing x.day }) new

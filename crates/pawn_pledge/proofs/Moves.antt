@@ -1,19 +1,38 @@
 -- Each step that changes a pledge is one of a few moves.
-use Rattle.std.proofs.Common.{◌≡◌, ℕ, ◌<◌, ◌≤◌, ◌==◌, nat_lt, Bool, true, false, not, if◌then◌else◌, List, [], ◌∷◌, ◌++◌, length, Option, Some, None, Result}
-use Rattle.std.proofs.{Common.{Ok, Err, refl, sym, ap, subst, ◌∙◌, arith, true≢false}, lemmas.Bool.Decides.nat_tests}
-use Rattle.{pawn_base.proofs.{RefusalLemmas.first_of-ok, TestLemmas.{not_below, not_most}}, pawn_debt.proofs.ReplayLemmas.sort_answer-ok}
-use Rattle.pawn_pledge.specs.Common.{DebtFault, DebtValue, Draw, Entry, NoneApplies, Repay, Sort, draw_answer, first_of, last_of, last_stamp_day, most_entries}
-use Rattle.pawn_pledge.specs.{Common.{most_pence, repay_answer, sort_answer, with_entry}, Step.{Answered, Changed, Judged, ask_bars, ask_once, ask_step, bars}}
-use Rattle.pawn_pledge.specs.Step.{cancel_in, cancel_step, confirm_in, decide_step, declare_bars, declare_step, decline_in, entry_step, extend_bars}
-use Rattle.pawn_pledge.specs.Step.{extend_step, hold_step, makes_booking, numbered_step, where_clear, period_bars, pledge_step, redeem_bars, redeem_step}
-use Rattle.pawn_pledge.specs.{Step.{sell_bars, sell_step, under_debt, unless}, declared.record.{Booking.Booking, BookingState.BookingState, Closing.Closing}}
-use Rattle.pawn_pledge.specs.{declared.command.{Command.Command, Done.Done, Paper.Paper}, Commands.IsCommand, Replayable.{IsDrawnBy, IsNotPassed}}
-use Rattle.pawn_pledge.specs.{Pledge.{PledgeValue, debt_of, end_of, is_realisable, open_status, total_on}, declared.refusal.Refusal.Refusal}
-use Rattle.pawn_pledge.specs.{declared.command.Stamp.Stamp, declared.record.Standing.Standing, Words.{in_state, is_ahead, is_open, is_repeat, is_standing}}
-use Rattle.pawn_pledge.specs.Words.{issue_of, new_entry, same_flag, stands_for, with_booking, with_extension, with_last, with_secret, with_standing}
-use Rattle.pawn_pledge.specs.{Limits.{last_window, most_extensions}, declared.record.Status.Status, declared.command.Decision.{Decision, TheVariants.Confirm}}
-use Rattle.pawn_pledge.{specs.declared.command.Decision.TheVariants.Refuse, proofs.Settled.{IsGated, IsSettled, hold-settles, ask-settles, mark-settles}}
-use Rattle.pawn_pledge.proofs.Settled.{close-settles}
+use Rattle.pawn_base.proofs.RefusalLemmas.{first_of-ok}
+use Rattle.pawn_base.proofs.TestLemmas.{not_below, not_most}
+use Rattle.pawn_debt.proofs.ReplayLemmas.{sort_answer-ok}
+use Rattle.pawn_pledge.proofs.Settled.{IsGated, IsSettled, hold-settles, ask-settles, mark-settles, close-settles}
+use Rattle.pawn_pledge.specs.Commands.{IsCommand}
+use Rattle.pawn_pledge.specs.Common.{DebtFault, DebtValue, Draw, Entry, NoneApplies, Repay, Sort, draw_answer, first_of}
+use Rattle.pawn_pledge.specs.Common.{last_of, last_stamp_day, most_entries, most_pence, repay_answer, sort_answer}
+use Rattle.pawn_pledge.specs.Common.{with_entry}
+use Rattle.pawn_pledge.specs.Limits.{last_window, most_extensions}
+use Rattle.pawn_pledge.specs.Pledge.{PledgeValue, debt_of, end_of, is_realisable, open_status, total_on}
+use Rattle.pawn_pledge.specs.Replayable.{IsDrawnBy, IsNotPassed}
+use Rattle.pawn_pledge.specs.Step.{Answered, Changed, Judged, ask_bars, ask_once, ask_step, bars, cancel_in}
+use Rattle.pawn_pledge.specs.Step.{cancel_step, confirm_in, decide_step, declare_bars, declare_step, decline_in}
+use Rattle.pawn_pledge.specs.Step.{entry_step, extend_bars, extend_step, hold_step, makes_booking, numbered_step}
+use Rattle.pawn_pledge.specs.Step.{where_clear, period_bars, pledge_step, redeem_bars, redeem_step, sell_bars}
+use Rattle.pawn_pledge.specs.Step.{sell_step, under_debt, unless}
+use Rattle.pawn_pledge.specs.Words.{in_state, is_ahead, is_open, is_repeat, is_active, issue_of, new_entry, same_flag}
+use Rattle.pawn_pledge.specs.Words.{stands_for, with_booking, with_extension, with_last, with_secret, with_standing}
+use Rattle.pawn_pledge.specs.declared.command.Command.{Command}
+use Rattle.pawn_pledge.specs.declared.command.Decision.{Decision}
+use Rattle.pawn_pledge.specs.declared.command.Decision.TheVariants.{Confirm, Refuse}
+use Rattle.pawn_pledge.specs.declared.command.Done.{Done}
+use Rattle.pawn_pledge.specs.declared.command.Paper.{Paper}
+use Rattle.pawn_pledge.specs.declared.command.Stamp.{Stamp}
+use Rattle.pawn_pledge.specs.declared.record.Booking.{Booking}
+use Rattle.pawn_pledge.specs.declared.record.BookingState.{BookingState}
+use Rattle.pawn_pledge.specs.declared.record.Closing.{Closing}
+use Rattle.pawn_pledge.specs.declared.record.Standing.{Standing}
+use Rattle.pawn_pledge.specs.declared.record.Status.{Status}
+use Rattle.pawn_pledge.specs.declared.refusal.Refusal.{Refusal}
+use Rattle.std.proofs.Common.{◌≡◌, ℕ, ◌<◌, ◌≤◌, ◌==◌, nat_lt, Bool, true, false, not, if◌then◌else◌, List, [], ◌∷◌}
+use Rattle.std.proofs.Common.{◌++◌, length, Option, Some, None, Result, Ok, Err, refl, sym, ap, subst, ◌∙◌, arith}
+use Rattle.std.proofs.Common.{true≢false}
+use Rattle.std.proofs.lemmas.Bool.Decides.{nat_tests}
 
 -- a step that changes was not refused on the way
 where_clear-changed : (g : Result (Unit {0}) Refusal) (own : Judged) (q : PledgeValue) (d : Done) → where_clear g own ≡ Changed q d
@@ -27,7 +46,7 @@ unless-changed rows own q d h =
     let a = where_clear-changed (first_of rows (Ok tt)) own q d h in
     ((first_of-ok rows (Ok tt) tt a.0).0, a.1)
 
--- nor answered
+-- a step that changes was not answered without a change on the way
 pub if-unanswered : (b : Bool) (a : Done) (own : Judged) (q : PledgeValue) (d : Done) → (if b then Answered a else own) ≡ Changed q d
     → (b ≡ false) × (own ≡ Changed q d)
 if-unanswered true a own q d h = cc
@@ -52,7 +71,8 @@ open-is closed h = absurd (true≢false h)
 pub gate-is : (p : PledgeValue) (x : ℕ) → NoneApplies (bars p x) → IsGated p x
 gate-is p x h = record { later = not_below x p.standing.last h.0; standing = open-is p.standing.closing h.1.0; not_passed = h.1.1.0 }
 
--- what a step that changes does, on the day x with the word w; a day that the command names is one that a request can give
+-- the moves: what a step that changes the pledge does, on the day x with the word w; a day in the command is one that a
+-- request may name
 pub data Move (p : PledgeValue) (x w : ℕ) (command : Command) (q : PledgeValue) : Type 0 where
   Entering : (sort : Sort) (pence : ℕ) → sort_answer sort (debt_of p) x pence ≡ Ok (with_entry (debt_of p) x sort pence)
       → last_of p.agreement.taken p.entries ≤ x → length p.entries < most_entries → IsDrawnBy (end_of p) sort x
@@ -80,7 +100,7 @@ entry-moves p q c w x Draw pence d h =
     under_debt-moves p q c w x Draw pence (draw_answer (debt_of p) x pence) d refl (not_below (end_of p) x a.0.0) a.1
 entry-moves p q c w x Repay pence d h = under_debt-moves p q c w x Repay pence (repay_answer (debt_of p) x pence) d refl tt h
 
--- past the bars, and then a move
+-- none of the shared refusals applies, and then a move follows
 abbrev pub Goes : PledgeValue → ℕ → ℕ → Command → PledgeValue → Type 0
 Goes p x w c q = IsGated p x × Move p x w c q
 
@@ -101,12 +121,12 @@ numbered-moves p q c w x seq sort pence None d h =
     let a = unless-changed ((is_ahead p seq, Refusal.SeqAhead) ∷ []) (unless (bars p x) (entry_step p x sort pence)) q d h in
     gated p q c w x (entry_step p x sort pence) d (λ g k. entry-moves p q c w x sort pence d k) a.1
 
--- how the pledge stands alone
+-- a move that changes only the `Standing` of the pledge
 settled : (p q : PledgeValue) (c : Command) (w x : ℕ) (s : Standing) (e d : Done) → IsSettled p x c s → Changed (with_standing p s) e ≡ Changed q d
     → Move p x w c q
 settled p q c w x s e d to h = Settling s to (changed-is (with_standing p s) q e d h)
 
--- the flag
+-- the hold
 hold-moves : (p q : PledgeValue) (c : Command) (w x : ℕ) (flag : Bool) (d : Done) → IsGated p x → hold_step p x flag ≡ Changed q d → Move p x w c q
 hold-moves p q c w x flag d g h =
     let a = if-unanswered (same_flag p.standing.held flag) _ _ q d h in
@@ -122,7 +142,7 @@ declare-moves p q c stamp paper d h =
 
 -- bookings; one for that day and window that doesn't stand is another than the one asked for
 stands-asked : (b : Booking) → b.state ≡ BookingState.Asked → stands_for b b.day b.window ≡ true
-stands-asked b e = let s : is_standing b.state ≡ true = rw e refl in grind (arith, nat_tests, s)
+stands-asked b e = let s : is_active b.state ≡ true = rw e refl in grind (arith, nat_tests, s)
 
 ask_once-moves : (p q : PledgeValue) (c : Command) (w x day window : ℕ) (o : Option Booking) (d : Done) → p.standing.booking ≡ o
     → ((b : Booking) → b.day ≡ day → b.window ≡ window → (p.standing.booking ≡ Some b → ⊥) → IsSettled p x c (with_booking p.standing b x))
@@ -153,7 +173,7 @@ marked : (p q : PledgeValue) (c : Command) (w x : ℕ) (b : Booking) (state : Bo
     → (b.state ≡ state → ⊥) → makes_booking p x (in_state b state) ≡ Changed q d → Move p x w c q
 marked p q c w x b state d g is other h = settled p q c w x _ _ d (mark-settles p x c b state g is other) h
 
--- two states that differ
+-- two states of a booking that differ
 other : (s t u : BookingState) → s ≡ t → (t ≡ u → ⊥) → s ≡ u → ⊥
 other s t u e n f = n (sym e ∙ f)
 

@@ -1,5 +1,6 @@
 -- Equal texts compare as equal.
-use Rattle.std.proofs.{Common.{◌≡◌, ◌∙◌, ℕ, List, [], ◌∷◌, refl, arith, nat_eq, true, false, subst}, lemmas.Bool.Decides.nat_tests}
+use Rattle.std.proofs.Common.{◌≡◌, ◌∙◌, ℕ, List, [], ◌∷◌, refl, arith, nat_eq, true, false, subst}
+use Rattle.std.proofs.lemmas.Bool.Decides.{nat_tests}
 use Rattle.std.specs.Cmp.Lexicographic.{pointwise}
 
 same_all : (xs : List ℕ) → pointwise nat_eq xs xs ≡ true

@@ -1,15 +1,23 @@
 -- One more element at the end of a list of a record.
-use Rattle.std.proofs.Common.{◌≡◌, ℕ, ◌+◌, ◌<◌, ◌≤◌, ◌==◌, false, List, [], ◌∷◌, ◌++◌, drop, take, get_or, ◌-◌, length, Option, Some, None, suc, refl, sym, ap}
-use Rattle.std.{proofs.{Common.{subst, ◌∙◌, arith, slice_get, length-append}, lemmas.List.{drop_more, take_rest, Folds.list_any-append}}, specs.List.list_any}
-use Rattle.{std.proofs.lemmas.Bool.{Decides.nat_tests, or_from, or_parts}, pawn_pledge.specs.{Common.{Entry, last_by, later_of}, Replayable.AreDistinctSecrets}}
-use Rattle.pawn_pledge.specs.{Replayable.{AreExtended, AreIssued, AreNumbered, IsLaterIssue}, declared.record.{Extension.Extension, Issued.Issued}}
-use Rattle.{pawn_pledge.specs.Pledge.{last_element, last_until}, pawn_base.proofs.ListLemmas.Each-push}
+use Rattle.pawn_base.proofs.ListLemmas.{Each-push}
+use Rattle.pawn_pledge.specs.Common.{Entry, last_by, later_of}
+use Rattle.pawn_pledge.specs.Pledge.{last_element, last_until}
+use Rattle.pawn_pledge.specs.Replayable.{AreDistinctSecrets, AreExtended, AreIssued, AreNumbered, IsLaterIssue}
+use Rattle.pawn_pledge.specs.declared.record.Extension.{Extension}
+use Rattle.pawn_pledge.specs.declared.record.Issued.{Issued}
+use Rattle.std.proofs.Common.{◌≡◌, ℕ, ◌+◌, ◌<◌, ◌≤◌, ◌==◌, false, List, [], ◌∷◌, ◌++◌, drop, take, get_or, ◌-◌, length}
+use Rattle.std.proofs.Common.{Option, Some, None, suc, refl, sym, ap, subst, ◌∙◌, arith, slice_get, length-append}
+use Rattle.std.proofs.lemmas.Bool.{or_from, or_parts}
+use Rattle.std.proofs.lemmas.Bool.Decides.{nat_tests}
+use Rattle.std.proofs.lemmas.List.{drop_more, take_rest}
+use Rattle.std.proofs.lemmas.List.Folds.{list_any-append}
+use Rattle.std.specs.List.{list_any}
 
 last-push : {A : Type 0} (xs : List A) (x : A) → slice_get (xs ++ x ∷ []) (length xs) ≡ Some x
 last-push [] x = refl
 last-push (y ∷ ys) x = last-push ys x
 
--- the last of a list that one was put on
+-- the last element of a list after one was added
 pub last_element-push : {A : Type 0} (xs : List A) (x : A) → last_element (xs ++ x ∷ []) ≡ Some x
 last_element-push xs x = let n : length (xs ++ x ∷ []) - 1 ≡ length xs = omega (arith, length-append xs (x ∷ [])) in rw n (last-push xs x)
 
@@ -41,7 +49,7 @@ pub later_of-le : (day : ℕ) (o : Option ℕ) → day ≤ later_of day o
 later_of-le day None = omega arith
 later_of-le day (Some other) = omega arith
 
--- the end after extensions that were agreed, and each put it off
+-- the end of a period after extensions, each of which moves it to a later day
 abbrev until_after : ℕ → List Extension → ℕ
 until_after ends [] = ends
 until_after ends (x ∷ xs) = until_after x.until xs
@@ -54,7 +62,7 @@ last_until-is : (x : Extension) (xs : List Extension) → last_until (x ∷ xs) 
 last_until-is x [] = refl
 last_until-is x (y ∷ ys) = let n : length (x ∷ y ∷ ys) - 1 ≡ suc (length (y ∷ ys) - 1) = omega arith in rw n (last_until-is y ys)
 
--- so the last of them is the latest
+-- the end of a period after extensions is that of the last one
 later_of-until : (day ends : ℕ) (xs : List Extension) → AreExtended day ends xs → later_of ends (last_until xs) ≡ until_after ends xs
 later_of-until day ends [] h = refl
 later_of-until day ends (x ∷ xs) h = rw (last_until-is x xs) (omega (arith, h.2, until_after-le x.day x.until xs h.3))
@@ -75,7 +83,7 @@ pub later_of-push : (ends : ℕ) (xs : List Extension) (x : Extension) → later
     → later_of ends (last_until (xs ++ x ∷ [])) ≡ x.until
 later_of-push ends xs x longer = rw (last_element-push xs x) (omega (arith, longer, later_of-le ends (last_until xs)))
 
--- one secret on, by a test of the slice after it
+-- one more secret, by a test of the slice after it
 pub AreDistinct-step : (is : List Issued) (k : ℕ) (i : Issued) → k < length is → i ≡ get_or is k i
     → list_any (λ j. j.secret == i.secret) (take (length is - (k + 1)) (drop (k + 1) is)) ≡ false
     → (AreDistinctSecrets (drop k is) → AreDistinctSecrets (drop (k + 1) is)) × (AreDistinctSecrets (drop (k + 1) is) → AreDistinctSecrets (drop k is))

@@ -1,17 +1,29 @@
 -- Which secret of a pledge is live.
-use Rattle.std.proofs.Common.{◌≡◌, None, ℕ, ◌==◌, ◌||◌, Bool, true, false, List, [], ◌∷◌, ◌++◌, Option, Some, option_map, refl, sym, ap, subst, ◌∙◌, true≢false}
-use Rattle.{std.{specs.List.list_any, proofs.lemmas.List.Folds.list_any-append}, pawn_pledge.specs.Step.{Answered, Changed, Judged, Refused, bars}}
-use Rattle.pawn_pledge.specs.{Step.{declare_bars, declare_step, pledge_after, pledge_step, redeem_bars, redeem_step, unless}, declared.record.Closing.Closing}
-use Rattle.pawn_pledge.specs.{declared.command.{Command.Command, Done.Done}, Laws.{EarlierAreSpent, IsSpent, NeverLiveAgain}, declared.record.Issued.Issued}
-use Rattle.pawn_pledge.specs.{declared.command.{Paper.Paper, Stamp.Stamp}, Pledge.{PledgeValue, last_secret, live_of, live_under}, Words.{close, is_open}}
-use Rattle.pawn_pledge.{specs.Words.{issue_of, with_secret}, proofs.Moves.{Move, changed-is, gate-is, unless-changed, pledge_moves, Entering, Declaring}}
-use Rattle.pawn_pledge.proofs.{Moves.{Extending, Settling}, Settled.IsGated, Pushes.last_element-push}
+use Rattle.pawn_pledge.proofs.Moves.{Move, changed-is, gate-is, unless-changed, pledge_moves, Entering, Declaring}
+use Rattle.pawn_pledge.proofs.Moves.{Extending, Settling}
+use Rattle.pawn_pledge.proofs.Pushes.{last_element-push}
+use Rattle.pawn_pledge.proofs.Settled.{IsGated}
+use Rattle.pawn_pledge.specs.Laws.{EarlierAreSpent, IsSpent, NeverLiveAgain}
+use Rattle.pawn_pledge.specs.Pledge.{PledgeValue, last_secret, live_of, live_under}
+use Rattle.pawn_pledge.specs.Step.{Answered, Changed, Judged, Refused, bars, declare_bars, declare_step, pledge_after}
+use Rattle.pawn_pledge.specs.Step.{pledge_step, redeem_bars, redeem_step, unless}
+use Rattle.pawn_pledge.specs.Words.{close, is_open, issue_of, with_secret}
+use Rattle.pawn_pledge.specs.declared.command.Command.{Command}
+use Rattle.pawn_pledge.specs.declared.command.Done.{Done}
+use Rattle.pawn_pledge.specs.declared.command.Paper.{Paper}
+use Rattle.pawn_pledge.specs.declared.command.Stamp.{Stamp}
+use Rattle.pawn_pledge.specs.declared.record.Closing.{Closing}
+use Rattle.pawn_pledge.specs.declared.record.Issued.{Issued}
+use Rattle.std.proofs.Common.{◌≡◌, None, ℕ, ◌==◌, ◌||◌, Bool, true, false, List, [], ◌∷◌, ◌++◌, Option, Some}
+use Rattle.std.proofs.Common.{option_map, refl, sym, ap, subst, ◌∙◌, true≢false}
+use Rattle.std.proofs.lemmas.List.Folds.{list_any-append}
+use Rattle.std.specs.List.{list_any}
 
--- no command gets past a closing
+-- every command on a closed pledge is refused
 pub closed-moved : (c : Closing) → is_open c ≡ false → c ≡ Closing.Open → ⊥
 closed-moved c shut is = true≢false (sym (ap is_open is) ∙ shut)
 
--- where secrets and closing stay, it stays so
+-- if the secrets and the closing stay the same, the live secret does
 spent-same : (p q : PledgeValue) (secret : ℕ) → IsSpent p secret → q.secrets ≡ p.secrets → q.standing.closing ≡ p.standing.closing → IsSpent q secret
 spent-same p q secret h secrets closing =
     record {
@@ -20,7 +32,7 @@ spent-same p q secret h secrets closing =
           ∙ sym (ap (λ (l : List Issued). live_under q.standing.closing (last_secret l)) secrets) ∙ k);
     }
 
--- the same, of a move that changes neither
+-- the same for a move that changes neither
 spent-kept : (p q r : PledgeValue) (secret : ℕ) → IsSpent p secret → q ≡ r → r.secrets ≡ p.secrets → r.standing.closing ≡ p.standing.closing → IsSpent q secret
 spent-kept p q r secret h is secrets closing =
     spent-same p q secret h (ap (λ (v : PledgeValue). v.secrets) is ∙ secrets) (ap (λ (v : PledgeValue). v.standing.closing) is ∙ closing)
@@ -82,7 +94,7 @@ never_live_again p [] secret spent = spent
 never_live_again p (c ∷ cs) secret spent =
     never_live_again (pledge_after p (pledge_step p c.0 c.1)) cs secret (spent-step p c.0 c.1 secret spent (pledge_step p c.0 c.1) refl)
 
--- a declaration puts a new secret behind those that were issued
+-- a declaration adds a new secret after those that were issued
 spent-by-declaration : (p q : PledgeValue) (stamp : Stamp) (paper : Paper) (d : Done) (secret : ℕ)
     → list_any (λ (i : Issued). i.secret == secret) p.secrets ≡ true → unless (bars p stamp.day) (declare_step p stamp paper) ≡ Changed q d → IsSpent q secret
 spent-by-declaration p q stamp paper d secret issued h =

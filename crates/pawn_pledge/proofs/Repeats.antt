@@ -1,15 +1,28 @@
--- What stands is answered again.
-use Rattle.std.proofs.Common.{◌≡◌, ◌≢◌, ℕ, ◌+◌, ◌≤◌, List, [], ◌∷◌, ◌++◌, length, Some, None, Ok, Err, refl, ◌∙◌, ap, sym, arith, ◌==◌, nat_lt, not, true}
-use Rattle.{std.proofs.{Common.{false, Bool, Option, Result, if◌then◌else◌, ◌&&◌, find}, lemmas.Bool.Decides.nat_tests}, pawn_pledge.specs.Common.DebtFault}
-use Rattle.pawn_pledge.specs.{Common.{DebtValue, Draw, Entry, NoneApplies, Repay, Sort, draw_answer, repay_answer, sort_answer}, Step.{Answered, Changed}}
-use Rattle.pawn_pledge.specs.Step.{Judged, bars, entry_of, entry_step, extend_bars, numbered_step, where_clear, period_bars, pledge_step, under_debt, unless}
-use Rattle.pawn_pledge.specs.{Replayable.AreNumbered, declared.command.{Command.Command, Done.Done}, Laws.{EntriesActOnce, ExtensionsActOnce}}
-use Rattle.pawn_pledge.specs.{Laws.{StandingEndIsAnswered, entry_command, pledge_after_all}, Growth.Grows, Pledge.{PledgeValue, debt_of, end_of}}
-use Rattle.pawn_pledge.specs.{declared.{refusal.Refusal.Refusal, command.Stamp.Stamp}, Words.{is_ahead, is_repeat, new_entry, same_sort, with_extension}}
-use Rattle.pawn_pledge.{specs.Words.with_last, proofs.{Moves.{unless-changed, if-unanswered}, Growth.lists_grow}}
-use Rattle.{pawn_base.proofs.RefusalLemmas.first_of-past, pawn_debt.proofs.ReplayLemmas.sort_answer-ok}
+-- Repeated entries and extensions are answered again.
+use Rattle.pawn_base.proofs.RefusalLemmas.{first_of-past}
+use Rattle.pawn_debt.proofs.ReplayLemmas.{sort_answer-ok}
+use Rattle.pawn_pledge.proofs.Growth.{lists_grow}
+use Rattle.pawn_pledge.proofs.Moves.{unless-changed, if-unanswered}
+use Rattle.pawn_pledge.specs.Common.{DebtFault, DebtValue, Draw, Entry, NoneApplies, Repay, Sort, draw_answer}
+use Rattle.pawn_pledge.specs.Common.{repay_answer, sort_answer}
+use Rattle.pawn_pledge.specs.Growth.{Grows}
+use Rattle.pawn_pledge.specs.Laws.{EntriesActOnce, ExtensionsActOnce, SameEndIsAnswered, entry_command}
+use Rattle.pawn_pledge.specs.Laws.{pledge_after_all}
+use Rattle.pawn_pledge.specs.Pledge.{PledgeValue, debt_of, end_of}
+use Rattle.pawn_pledge.specs.Replayable.{AreNumbered}
+use Rattle.pawn_pledge.specs.Step.{Answered, Changed, Judged, bars, entry_of, entry_step, extend_bars, numbered_step}
+use Rattle.pawn_pledge.specs.Step.{where_clear, period_bars, pledge_step, under_debt, unless}
+use Rattle.pawn_pledge.specs.Words.{is_ahead, is_repeat, new_entry, same_sort, with_extension, with_last}
+use Rattle.pawn_pledge.specs.declared.command.Command.{Command}
+use Rattle.pawn_pledge.specs.declared.command.Done.{Done}
+use Rattle.pawn_pledge.specs.declared.command.Stamp.{Stamp}
+use Rattle.pawn_pledge.specs.declared.refusal.Refusal.{Refusal}
+use Rattle.std.proofs.Common.{◌≡◌, ◌≢◌, ℕ, ◌+◌, ◌≤◌, List, [], ◌∷◌, ◌++◌, length, Some, None, Ok, Err, refl, ◌∙◌, ap}
+use Rattle.std.proofs.Common.{sym, arith, ◌==◌, nat_lt, not, true, false, Bool, Option, Result, if◌then◌else◌, ◌&&◌}
+use Rattle.std.proofs.Common.{find}
+use Rattle.std.proofs.lemmas.Bool.Decides.{nat_tests}
 
--- what is not refused comes to what follows
+-- if there is no refusal, the result is the given one
 pub unless-past : (rows : List (Bool × Refusal)) (own : Judged) → NoneApplies rows → unless rows own ≡ own
 unless-past rows own h = ap (λ r. where_clear r own) (first_of-past rows (Ok tt) h)
 
@@ -37,7 +50,7 @@ entry-made p q x Repay pence d h = under_debt-made p q x Repay pence (repay_answ
 none-some : {A : Type 0} {C : Type 0} (x : A) → Some x ≡ None → C
 none-some x h = cc
 
--- a number that is found under none is past those that stand
+-- a number that no entry has is above the numbers of all entries
 not_found : (k : ℕ) (es : List Entry) (seq : ℕ) → AreNumbered k es → find (λ (e : Entry). e.seq == seq) es ≡ None → k ≤ seq → k + length es ≤ seq
 not_found k [] seq numbered none low = omega (arith, low)
 not_found k (e ∷ es) seq numbered none low =
@@ -51,7 +64,7 @@ not_found k (e ∷ es) seq numbered none low =
           omega (arith, past)
     ] refl none
 
--- an entry behind others is found by its number
+-- an entry after others is found by its number
 found_behind : (es : List Entry) (e : Entry) (more : List Entry) (seq : ℕ) → find (λ (e : Entry). e.seq == seq) es ≡ None → e.seq ≡ seq
     → find (λ (e : Entry). e.seq == seq) ((es ++ e ∷ []) ++ more) ≡ Some e
 found_behind [] e more seq none is =
@@ -68,7 +81,7 @@ same_sort-same : (sort : Sort) → same_sort sort sort ≡ true
 same_sort-same Draw = refl
 same_sort-same Repay = refl
 
--- an entry that was made under a number, and stands, is answered again
+-- an entry that was made under a number, and is still there, is answered again
 numbered-again : (p next q : PledgeValue) (x y seq : ℕ) (sort : Sort) (pence : ℕ) (o : Option Entry) (d : Done) → AreNumbered 1 p.entries → entry_of p seq ≡ o
     → numbered_step p x seq sort pence o ≡ Changed next d → Grows next q → numbered_step q y seq sort pence (entry_of q seq) ≡ Answered d
 numbered-again p next q x y seq sort pence (Some e) d numbered at h grows =
@@ -92,7 +105,7 @@ numbered-again p next q x y seq sort pence None d numbered at h grows =
     let same : is_repeat e sort pence ≡ true = ap (λ v. v && (pence == pence)) (same_sort-same sort) ∙ pence_same in
     ap (numbered_step q y seq sort pence) found ∙ ap (λ v. unless ((not v, Refusal.SeqTaken) ∷ []) (Answered (Done.Entered e))) same ∙ ap Answered (sym made.1)
 
--- the same, of any pledge whose lists have grown since
+-- the same for any pledge whose lists have grown since
 pub entered_again : (p next q : PledgeValue) (stamp again : Stamp) (sort : Sort) (seq pence : ℕ) (done : Done) → AreNumbered 1 p.entries
     → pledge_step p stamp (entry_command sort seq pence) ≡ Changed next done → Grows next q → pledge_step q again (entry_command sort seq pence) ≡ Answered done
 entered_again p next q stamp again Draw seq pence done numbered step grows =
@@ -105,8 +118,8 @@ entries_act_once p next stamp again sort seq pence done later h step =
     entered_again p next _ stamp again sort seq pence done h.entered.numbered step (lists_grow next later)
 
 -- extensions
-pub standing_end_is_answered : StandingEndIsAnswered
-standing_end_is_answered p stamp h =
+pub same_end_is_answered : SameEndIsAnswered
+same_end_is_answered p stamp h =
     let x = stamp.day in
     let inside : nat_lt (end_of p) x ≡ false = grind (arith, nat_tests, h.1) in
     let here : (end_of p == end_of p) ≡ true = grind (arith, nat_tests) in
@@ -127,5 +140,5 @@ extended-made p q stamp until d h =
 pub extensions_act_once : ExtensionsActOnce
 extensions_act_once p next stamp again until done later step stands may =
     let q = pledge_after_all next later in
-    ap (λ n. pledge_step q again (Command.Extend n)) (sym stands) ∙ standing_end_is_answered q again may ∙ ap (λ n. Answered (Done.Extended n)) stands
+    ap (λ n. pledge_step q again (Command.Extend n)) (sym stands) ∙ same_end_is_answered q again may ∙ ap (λ n. Answered (Done.Extended n)) stands
     ∙ ap Answered (sym (extended-made p next stamp until done step))

@@ -1,20 +1,36 @@
--- A step keeps a pledge one that can have come about.
-use Rattle.std.proofs.Common.{◌≡◌, ℕ, ◌+◌, ◌<◌, ◌≤◌, ◌==◌, nat_le, Bool, true, false, not, ◌&&◌, if◌then◌else◌, [], ◌∷◌, ◌++◌, length, Option, Some, None, Ok}
-use Rattle.std.proofs.{Common.{refl, sym, ap, subst, ◌∙◌, arith, length-append, true≢false}, lemmas.Bool.Decides.nat_tests}
-use Rattle.{pawn_debt.proofs.ReplayLemmas.{AreAccepted-ended, AreAccepted-push, AreInside-ordered}, pawn_base.proofs.ListLemmas.DoNotFall-each}
-use Rattle.pawn_base.proofs.{ListLemmas.{DoNotFall-push, Each-all, Each-map, Each-push, grown, last_by-push}, TestLemmas.{not_most, unequal}}
-use Rattle.pawn_pledge.specs.Common.{Draw, Entry, IsEntryAccepted, NoneApplies, Repay, Sort, credit_of, last_of, last_stamp_day, later_of, period_end}
-use Rattle.pawn_pledge.specs.{Common.{six_months, sort_answer, with_entry}, declared.record.{Booking.Booking, Closing.Closing}}
-use Rattle.pawn_pledge.specs.{declared.command.Command.Command, declared.record.Extension.Extension, Replayable.{IsBooked, IsClosed, IsDrawnBy, IsLaterIssue}}
-use Rattle.pawn_pledge.specs.{Replayable.{IsNotPassed, IsOverUnder, IsReplayable, IsWithinLimits}, Commands.IsCommand, declared.record.Issued.Issued}
-use Rattle.pawn_pledge.specs.{declared.command.Paper.Paper, Pledge.{PledgeValue, debt_of, end_of, end_with, is_passed, is_small, last_until}}
-use Rattle.pawn_pledge.specs.{declared.record.Standing.Standing, Step.declare_bars, Limits.{grace_days, most_secrets, small_credit}, Words.is_written}
-use Rattle.pawn_pledge.{specs.Words.{issue_of, new_entry, with_extension, with_last, with_secret, with_standing}, proofs.Moves.{Move, Entering, Declaring}}
-use Rattle.pawn_pledge.proofs.{Moves.{Extending, Settling}, Settled.{IsGated, still-open}, Pushes.{AreIssued-push, AreDistinct-push, AreNumbered-push}}
-use Rattle.pawn_pledge.proofs.Pushes.{later_of-le, later_of-push, AreExtended-push}
+-- A step keeps a pledge reachable.
+use Rattle.pawn_base.proofs.ListLemmas.{DoNotFall-each, DoNotFall-push, Each-all, Each-map, Each-push, grown}
+use Rattle.pawn_base.proofs.ListLemmas.{last_by-push}
+use Rattle.pawn_base.proofs.TestLemmas.{not_most, unequal}
+use Rattle.pawn_debt.proofs.ReplayLemmas.{AreAccepted-ended, AreAccepted-push, AreInside-ordered}
+use Rattle.pawn_pledge.proofs.Moves.{Move, Entering, Declaring, Extending, Settling}
+use Rattle.pawn_pledge.proofs.Pushes.{AreIssued-push, AreDistinct-push, AreNumbered-push, later_of-le, later_of-push}
+use Rattle.pawn_pledge.proofs.Pushes.{AreExtended-push}
+use Rattle.pawn_pledge.proofs.Settled.{IsGated, still-open}
+use Rattle.pawn_pledge.specs.Commands.{IsCommand}
+use Rattle.pawn_pledge.specs.Common.{Draw, Entry, IsEntryAccepted, NoneApplies, Repay, Sort, credit_of, last_of}
+use Rattle.pawn_pledge.specs.Common.{last_stamp_day, later_of, period_end, six_months, sort_answer, with_entry}
+use Rattle.pawn_pledge.specs.Limits.{grace_days, most_secrets, small_credit}
+use Rattle.pawn_pledge.specs.Pledge.{PledgeValue, debt_of, end_of, end_with, is_passed, is_small, last_until}
+use Rattle.pawn_pledge.specs.Replayable.{IsBooked, IsClosed, IsDrawnBy, IsLaterIssue, IsNotPassed, IsOverUnder}
+use Rattle.pawn_pledge.specs.Replayable.{IsReplayable, IsWithinLimits}
+use Rattle.pawn_pledge.specs.Step.{declare_bars}
+use Rattle.pawn_pledge.specs.Words.{is_written, issue_of, new_entry, with_extension, with_last, with_secret}
+use Rattle.pawn_pledge.specs.Words.{with_standing}
+use Rattle.pawn_pledge.specs.declared.command.Command.{Command}
+use Rattle.pawn_pledge.specs.declared.command.Paper.{Paper}
+use Rattle.pawn_pledge.specs.declared.record.Booking.{Booking}
+use Rattle.pawn_pledge.specs.declared.record.Closing.{Closing}
+use Rattle.pawn_pledge.specs.declared.record.Extension.{Extension}
+use Rattle.pawn_pledge.specs.declared.record.Issued.{Issued}
+use Rattle.pawn_pledge.specs.declared.record.Standing.{Standing}
+use Rattle.std.proofs.Common.{◌≡◌, ℕ, ◌+◌, ◌<◌, ◌≤◌, ◌==◌, nat_le, Bool, true, false, not, ◌&&◌, if◌then◌else◌, [], ◌∷◌}
+use Rattle.std.proofs.Common.{◌++◌, length, Option, Some, None, Ok, refl, sym, ap, subst, ◌∙◌, arith, length-append}
+use Rattle.std.proofs.Common.{true≢false}
+use Rattle.std.proofs.lemmas.Bool.Decides.{nat_tests}
 use Rattle.pawn_pledge.specs.declared.record.Status.TheVariants as Status
 
--- not passed, where the last case is not
+-- not passed, if the last case of the status is not
 unpassed : (a b : Bool) → is_passed (if a then Status.Inside else if b then Status.Grace else Status.Realisable) ≡ false
 unpassed true b = refl
 unpassed false true = refl
@@ -182,7 +198,7 @@ stays-extended p x until h g inside longer =
       };
     }
 
--- whatever the move
+-- the same for every move
 pub stays-moved : (p q : PledgeValue) (c : Command) (w x : ℕ) → IsReplayable p → IsGated p x → Move p x w c q → IsReplayable q
 stays-moved p q c w x h g (Entering sort pence ok late few drawn is) = subst IsReplayable (sym is) (stays-entered p x pence sort h g ok late drawn)
 stays-moved p q c w x h g (Declaring paper ok is) = subst IsReplayable (sym is) (stays-declared p x w paper h g ok)
@@ -191,7 +207,7 @@ stays-moved p q c w x h g (Settling s to is) =
     (to.booked (omega (arith, h.last_in, g.later)) h.booked))
 stays-moved p q c w x h g (Extending until inside longer few named is) = subst IsReplayable (sym is) (stays-extended p x until h g inside longer)
 
--- and a move keeps the limits
+-- a move keeps the limits
 pub within-moved : (p q : PledgeValue) (c : Command) (w x : ℕ) → x ≤ last_stamp_day → IsCommand c → IsWithinLimits p → Move p x w c q → IsWithinLimits q
 within-moved p q c w x stamped given h (Entering sort pence ok late few drawn is) =
     subst IsWithinLimits (sym is) (record {
@@ -240,7 +256,7 @@ within-moved p q c w x stamped given h (Extending until inside longer few named 
       last = stamped;
     })
 
--- and something is another
+-- a pledge differs after a move
 pub differs-moved : (p q : PledgeValue) (c : Command) (w x : ℕ) → IsGated p x → Move p x w c q → q ≡ p → ⊥
 differs-moved p q c w x g (Entering sort pence ok late few drawn is) same =
     grown p.entries (record { seq = length p.entries + 1; day = x; sort = sort; pence = pence }) (ap (λ (v : PledgeValue). v.entries) (sym is ∙ same))

@@ -1,11 +1,21 @@
--- How a pledge stands changes alone: what of it every such change keeps.
-use Rattle.std.proofs.Common.{◌≡◌, ℕ, ◌≤◌, Bool, true, false, Option, Some, None, refl, sym, ap, subst, ◌∙◌, arith, IfSome, true≢false}
-use Rattle.{std.proofs.lemmas.Bool.false≢true, pawn_pledge.specs.{Common.last_stamp_day, declared.record.{Booking.Booking, BookingState.BookingState}}}
-use Rattle.pawn_pledge.specs.{declared.record.Closing.Closing, declared.command.Command.Command, Replayable.{IsBooked, IsBookingOver, IsClosed, IsNotPassed}}
-use Rattle.pawn_pledge.specs.{Replayable.IsOverUnder, Commands.IsCommand, Pledge.PledgeValue, declared.record.Standing.Standing, Words.after_closing}
-use Rattle.pawn_pledge.specs.{Words.{booking_after, close, in_state, same_flag, with_booking, with_closing, with_hold, with_standing}, Limits.last_window}
+-- Changes of only the `Standing` of a pledge, and what each of them preserves.
+use Rattle.pawn_pledge.specs.Commands.{IsCommand}
+use Rattle.pawn_pledge.specs.Common.{last_stamp_day}
+use Rattle.pawn_pledge.specs.Limits.{last_window}
+use Rattle.pawn_pledge.specs.Pledge.{PledgeValue}
+use Rattle.pawn_pledge.specs.Replayable.{IsBooked, IsBookingOver, IsClosed, IsNotPassed, IsOverUnder}
+use Rattle.pawn_pledge.specs.Words.{after_closing, booking_after, close, in_state, same_flag, with_booking}
+use Rattle.pawn_pledge.specs.Words.{with_closing, with_hold, with_standing}
+use Rattle.pawn_pledge.specs.declared.command.Command.{Command}
+use Rattle.pawn_pledge.specs.declared.record.Booking.{Booking}
+use Rattle.pawn_pledge.specs.declared.record.BookingState.{BookingState}
+use Rattle.pawn_pledge.specs.declared.record.Closing.{Closing}
+use Rattle.pawn_pledge.specs.declared.record.Standing.{Standing}
+use Rattle.std.proofs.Common.{◌≡◌, ℕ, ◌≤◌, Bool, true, false, Option, Some, None, refl, sym, ap, subst, ◌∙◌, arith}
+use Rattle.std.proofs.Common.{IfSome, true≢false}
+use Rattle.std.proofs.lemmas.Bool.{false≢true}
 
--- nothing bars a command
+-- no shared refusal applies to a command
 pub record IsGated (p : PledgeValue) (x : ℕ) : Type 0 where
   pub later : p.standing.last ≤ x
   pub standing : p.standing.closing ≡ Closing.Open
@@ -15,7 +25,7 @@ pub record IsGated (p : PledgeValue) (x : ℕ) : Type 0 where
 abbrev pub IsNamed : Option Booking → Type 0
 IsNamed o = IfSome o (λ b. b.day ≤ last_stamp_day)
 
--- what a pledge that stands so after a command on the day x keeps, and that it stood otherwise before
+-- what a pledge with this `Standing` after a command on the day x preserves, and that its `Standing` was another before
 pub record IsSettled (p : PledgeValue) (x : ℕ) (command : Command) (s : Standing) : Type 0 where
   pub last : s.last ≡ x
   pub closed : IsClosed (with_standing p s) s.closing
@@ -33,7 +43,7 @@ open-booked Closing.Open s h = tt
 open-booked (Closing.Redeemed day paid) s h = cc
 open-booked (Closing.Sold day net) s h = cc
 
--- a flag that is set otherwise
+-- a hold that is set or ended
 another_flag : (held flag : Bool) → same_flag held flag ≡ false → flag ≡ held → ⊥
 another_flag true true h e = true≢false h
 another_flag true false h e = false≢true e
@@ -50,7 +60,7 @@ hold-settles p x c flag g new = record {
   differs = λ e. another_flag p.standing.held flag new (ap (λ (s : Standing). s.held) e);
 }
 
--- another booking than the one that stood
+-- another booking than the one before
 pub ask-settles : (p : PledgeValue) (x : ℕ) (c : Command) (b : Booking) → IsGated p x → x ≤ b.day → IsNotPassed p b.day → b.window ≤ last_window
     → (IsCommand c → b.day ≤ last_stamp_day) → (p.standing.booking ≡ Some b → ⊥) → IsSettled p x c (with_booking p.standing b x)
 ask-settles p x c b g later live small named new = record {

@@ -1,13 +1,20 @@
--- What the tests on parts find makes a record that can stand.
-use Rattle.std.proofs.Common.{◌≡◌, ℕ, ◌+◌, ◌≤◌, ◌==◌, nat_le, Bool, true, false, ◌&&◌, if◌then◌else◌, List, [], ◌∷◌, ◌++◌, length, None, refl, sym, ◌∙◌, arith}
-use Rattle.{std.proofs.{Common.length-append, lemmas.Bool.{false≢true, Decides.nat_tests}}, pawn_base.proofs.ListLemmas.{DoNotFall-each, Each-map}}
-use Rattle.pawn_pledge.specs.{Replayable.{AreExtended, AreNumbered, IsBooked, IsClosed, IsDrawnBy, IsNotPassed, IsStanding}, Parts.{AreIssuedIn, IsLimited}}
-use Rattle.pawn_pledge.specs.{Parts.IsTyped, declared.record.Issued.Issued, Pledge.{PledgeValue, debt_of, end_of, end_with, is_passed, is_small}}
-use Rattle.pawn_pledge.specs.{Limits.grace_days, Common.{AreEntriesAccepted, DebtValue, Each, Entry, IsChecked, IsDebtKept, Totals, credit_of, last_by}}
-use Rattle.pawn_pledge.specs.Common.{last_of, six_months}
+-- The checks on `Parts` prove that a pledge can have the record.
+use Rattle.pawn_base.proofs.ListLemmas.{DoNotFall-each, Each-map}
+use Rattle.pawn_pledge.specs.Common.{AreEntriesAccepted, DebtValue, Each, Entry, IsChecked, IsDebtKept, Totals}
+use Rattle.pawn_pledge.specs.Common.{credit_of, last_by, last_of, six_months}
+use Rattle.pawn_pledge.specs.Limits.{grace_days}
+use Rattle.pawn_pledge.specs.Parts.{AreIssuedIn, IsLimited, IsTyped}
+use Rattle.pawn_pledge.specs.Pledge.{PledgeValue, debt_of, end_of, end_with, is_passed, is_small}
+use Rattle.pawn_pledge.specs.Replayable.{AreExtended, AreNumbered, IsBooked, IsClosed, IsDrawnBy, IsNotPassed}
+use Rattle.pawn_pledge.specs.Replayable.{IsReachable}
+use Rattle.pawn_pledge.specs.declared.record.Issued.{Issued}
+use Rattle.std.proofs.Common.{◌≡◌, ℕ, ◌+◌, ◌≤◌, ◌==◌, nat_le, Bool, true, false, ◌&&◌, if◌then◌else◌, List, [], ◌∷◌}
+use Rattle.std.proofs.Common.{◌++◌, length, None, refl, sym, ◌∙◌, arith, length-append}
+use Rattle.std.proofs.lemmas.Bool.{false≢true}
+use Rattle.std.proofs.lemmas.Bool.Decides.{nat_tests}
 use Rattle.pawn_pledge.specs.declared.record.Status.TheVariants as Status
 
--- what is not passed on a day was not passed before
+-- if the property has not passed on a day, it had not passed before
 early : (a b c d s : Bool) → (a ≡ true → c ≡ true) → (b ≡ true → d ≡ true)
     → is_passed (if a then Status.Inside else if b then Status.Grace else if s then Status.Passed else Status.Realisable) ≡ false
     → is_passed (if c then Status.Inside else if d then Status.Grace else if s then Status.Passed else Status.Realisable) ≡ false
@@ -39,7 +46,7 @@ accepted-numbered d prior (e ∷ es) n is h = (
   accepted-numbered d (prior ++ e ∷ []) es (n + 1) (omega (arith, is, length-append prior (e ∷ []))) h.1,
 )
 
--- what the tests find
+-- what the checks prove
 pub record IsFound (v : PledgeValue) (t : Totals) : Type 0 where
   pub terms : IsChecked v.agreement.terms
   pub typed : IsTyped v
@@ -56,7 +63,7 @@ pub record IsFound (v : PledgeValue) (t : Totals) : Type 0 where
   pub booked : IsBooked v v.standing.booking
   pub closed : IsClosed v v.standing.closing
 
-pub stands : (v : PledgeValue) (t : Totals) → IsFound v t → IsStanding v
+pub stands : (v : PledgeValue) (t : Totals) → IsFound v t → IsReachable v
 stands v t f =
     let before : last_of v.agreement.taken v.entries ≤ v.standing.last = omega (arith, f.kept.day, f.entered) in
     let days = DoNotFall-each (λ (e : Entry). e.day) v.agreement.taken v.agreement.taken v.standing.last v.entries (omega arith) f.kept.ordered before in

@@ -1,9 +1,18 @@
--- A pledge as it is taken is one that can have come about.
-use Rattle.std.proofs.Common.{◌≡◌, ℕ, ◌≤◌, ◌==◌, nat_lt, nat_le, true, false, [], ◌∷◌, None, Result, Ok, Err, refl, subst, arith, IfOk}
-use Rattle.{std.proofs.lemmas.Bool.{Decides.nat_tests, or_parts}, pawn_pledge.specs.Common.{BadAmount, credit_of, is_bad_amount, most_pence}}
-use Rattle.pawn_pledge.specs.{Replayable.{IsNotPassed, IsStanding}, Step.IsStarted, Pledge.{PledgeValue, end_of}, declared.refusal.Refusal.Refusal}
-use Rattle.{pawn_pledge.{specs.Laws.StartsStanding, proofs.Replays.period_end-late}, pawn_base.proofs.{RefusalLemmas.first_of-ok, TestLemmas.not_below}}
+-- A new pledge is reachable.
+use Rattle.pawn_base.proofs.RefusalLemmas.{first_of-ok}
+use Rattle.pawn_base.proofs.TestLemmas.{not_below}
+use Rattle.pawn_pledge.proofs.Replays.{period_end-late}
+use Rattle.pawn_pledge.specs.Common.{BadAmount, credit_of, is_bad_amount, most_pence}
+use Rattle.pawn_pledge.specs.Laws.{StartsReachable}
+use Rattle.pawn_pledge.specs.Pledge.{PledgeValue, end_of}
+use Rattle.pawn_pledge.specs.Replayable.{IsNotPassed, IsReachable}
+use Rattle.pawn_pledge.specs.Step.{IsStarted}
+use Rattle.pawn_pledge.specs.declared.refusal.Refusal.{Refusal}
 use Rattle.pawn_terms.proofs.SixMonths.{six_months-later}
+use Rattle.std.proofs.Common.{◌≡◌, ℕ, ◌≤◌, ◌==◌, nat_lt, nat_le, true, false, [], ◌∷◌, None, Result, Ok, Err, refl}
+use Rattle.std.proofs.Common.{subst, arith, IfOk}
+use Rattle.std.proofs.lemmas.Bool.{or_parts}
+use Rattle.std.proofs.lemmas.Bool.Decides.{nat_tests}
 use Rattle.pawn_pledge.specs.declared.record.Issue.TheVariants as Issue
 use Rattle.pawn_pledge.specs.declared.record.Closing.TheVariants as Closing
 
@@ -15,8 +24,8 @@ good_amount n h =
     let a = or_parts (n == 0) (nat_lt most_pence n) h in
     (grind (arith, nat_tests, a), not_below most_pence n a.1)
 
-pub starts_standing : StartsStanding
-starts_standing number opening version terms stamp p known within checked day h =
+pub starts_reachable : StartsReachable
+starts_reachable number opening version terms stamp p known within checked day h =
     let first : PledgeValue = record {
       agreement = record { number = number; opening = opening; taken = stamp.day; version = version; terms = terms };
       entries = [];
@@ -28,7 +37,7 @@ starts_standing number opening version terms stamp p known within checked day h 
     let is : first ≡ p = cc in
     let live : IsNotPassed first stamp.day =
     inside-not_passed first stamp.day (omega (arith, six_months-later stamp.day day, period_end-late stamp.day opening.agreed None)) in
-    subst IsStanding is (record {
+    subst IsReachable is (record {
       terms = checked;
       replayable = record {
         credit = good_amount (credit_of opening.kind) a.0.0;
@@ -52,8 +61,8 @@ starts_standing number opening version terms stamp p known within checked day h 
       };
     })
 
--- what was started stands
-pub started_stands : (answer result : Result PledgeValue Refusal) → IsStarted answer result → ((p : PledgeValue) → answer ≡ Ok p → IsStanding p)
-    → IfOk result IsStanding
+-- a new pledge is reachable and within the limits
+pub started_stands : (answer result : Result PledgeValue Refusal) → IsStarted answer result → ((p : PledgeValue) → answer ≡ Ok p → IsReachable p)
+    → IfOk result IsReachable
 started_stands answer (Ok p) is stands = stands p is
 started_stands answer (Err fault) is stands = tt

@@ -1,8 +1,16 @@
 -- What each step that changes a pledge keeps, by its move.
-use Rattle.{std.proofs.Common.{◌≡◌, ap, sym, subst}, pawn_pledge.specs.{Common.IsChecked, Laws.{AgreementStays, ChangesDiffer, StaysReplayable, StaysStanding}}}
-use Rattle.pawn_pledge.specs.{Laws.StaysWithin, Step.{Changed, pledge_step}, declared.command.{Command.Command, Done.Done, Stamp.Stamp}, Pledge.PledgeValue}
-use Rattle.pawn_pledge.{specs.declared.record.Agreement.Agreement, proofs.Moves.{Move, pledge_moves, Entering, Declaring, Extending, Settling}}
-use Rattle.pawn_pledge.proofs.{Replays.{stays-moved, within-moved, differs-moved}, Growth.{ListsMoved, lists-moved}}
+use Rattle.pawn_pledge.proofs.Growth.{ListsMoved, lists-moved}
+use Rattle.pawn_pledge.proofs.Moves.{Move, pledge_moves, Entering, Declaring, Extending, Settling}
+use Rattle.pawn_pledge.proofs.Replays.{stays-moved, within-moved, differs-moved}
+use Rattle.pawn_pledge.specs.Common.{IsChecked}
+use Rattle.pawn_pledge.specs.Laws.{AgreementStays, ChangesDiffer, StaysReplayable, StaysReachable, StaysWithin}
+use Rattle.pawn_pledge.specs.Pledge.{PledgeValue}
+use Rattle.pawn_pledge.specs.Step.{Changed, pledge_step}
+use Rattle.pawn_pledge.specs.declared.command.Command.{Command}
+use Rattle.pawn_pledge.specs.declared.command.Done.{Done}
+use Rattle.pawn_pledge.specs.declared.command.Stamp.{Stamp}
+use Rattle.pawn_pledge.specs.declared.record.Agreement.{Agreement}
+use Rattle.std.proofs.Common.{◌≡◌, ap, sym, subst}
 
 pub agreement_stays : AgreementStays
 agreement_stays p next stamp command done step = of (pledge_moves p next stamp command done step).1 where
@@ -21,8 +29,8 @@ pub stays_within : StaysWithin
 stays_within p next stamp command done day given h step =
     within-moved p next command stamp.word stamp.day day.1 given h (pledge_moves p next stamp command done step).1
 
-pub stays_standing : StaysStanding
-stays_standing p next stamp command done day given h step = record {
+pub stays_reachable : StaysReachable
+stays_reachable p next stamp command done day given h step = record {
   terms = subst (λ (a : Agreement). IsChecked a.terms) (sym (agreement_stays p next stamp command done step)) h.terms;
   replayable = stays_replayable p next stamp command done h.replayable step;
   within = stays_within p next stamp command done day given h.within step;

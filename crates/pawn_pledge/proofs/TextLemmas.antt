@@ -1,11 +1,20 @@
 -- The texts of secrets and receipts are read back.
-use Rattle.std.proofs.Common.{◌≡◌, ℕ, ◌+◌, ◌^◌, ◌<◌, ◌==◌, ◌%◌, true, false, List, [], ◌∷◌, ◌++◌, length, get_or, take, drop, Option, Some, None, option_map}
-use Rattle.std.proofs.Common.{zero, suc, nat_lt, inl, refl, sym, ap, ◌∙◌, arith, length-append, decimal, append_assoc, drop_at, take-append-drop, take_at}
-use Rattle.std.{specs.{Int.{byte_at, bytes_high_first, from_be_bytes, to_be_bytes, w128}, List.{position, position_or_len}}, proofs.lemmas.Fmt.decimal_by_steps}
-use Rattle.std.{proofs.lemmas.{Fmt.decimal_is_IsNumeral, List.{drop_more, Quantifiers.position-Some}, Bool.Decides.nat_tests}, specs.Str.Parse.digits_value}
-use Rattle.uuid.{specs.Text.{hyphenated_text, lower, parsed}, proofs.{RoundTrips.parses_hyphenated, OrderLemmas.from_be_bytes-to_be_bytes_16}}
-use Rattle.pawn_pledge.specs.{Secret.{secret_text, secret_of_text}, declared.receipt.Receipt.Receipt, Laws.{SecretTextsReadBack, ReceiptTextsReadBack}}
-use Rattle.pawn_pledge.specs.Laws.{ReceiptTextsAreOne}
+use Rattle.pawn_pledge.specs.Laws.{SecretTextsReadBack, ReceiptTextsReadBack, ReceiptTextsAreOne}
+use Rattle.pawn_pledge.specs.Secret.{secret_text, secret_of_text}
+use Rattle.pawn_pledge.specs.declared.receipt.Receipt.{Receipt}
+use Rattle.std.proofs.Common.{◌≡◌, ℕ, ◌+◌, ◌^◌, ◌<◌, ◌==◌, ◌%◌, true, false, List, [], ◌∷◌, ◌++◌, length, get_or, take}
+use Rattle.std.proofs.Common.{drop, Option, Some, None, option_map, zero, suc, nat_lt, inl, refl, sym, ap, ◌∙◌, arith}
+use Rattle.std.proofs.Common.{length-append, decimal, append_assoc, drop_at, take-append-drop, take_at}
+use Rattle.std.proofs.lemmas.Bool.Decides.{nat_tests}
+use Rattle.std.proofs.lemmas.Fmt.{decimal_by_steps, decimal_is_IsNumeral}
+use Rattle.std.proofs.lemmas.List.{drop_more}
+use Rattle.std.proofs.lemmas.List.Quantifiers.{position-Some}
+use Rattle.std.specs.Int.{byte_at, bytes_high_first, from_be_bytes, to_be_bytes, w128}
+use Rattle.std.specs.List.{position, position_or_len}
+use Rattle.std.specs.Str.Parse.{digits_value}
+use Rattle.uuid.proofs.OrderLemmas.{from_be_bytes-to_be_bytes_16}
+use Rattle.uuid.proofs.RoundTrips.{parses_hyphenated}
+use Rattle.uuid.specs.Text.{hyphenated_text, lower, parsed}
 
 -- no hyphen is in a text
 abbrev pub HasNoHyphen : List ℕ → Type 0
@@ -23,7 +32,7 @@ decimal-no_hyphen : (n : ℕ) → n < 2 ^ 64 → HasNoHyphen (decimal n)
 decimal-no_hyphen =
     decimal_by_steps (λ n ds. HasNoHyphen ds) (λ n h. (digit_is_none n, tt)) (λ n ds h k. HasNoHyphen-push ds (48 + n % 10) k (digit_is_none (n % 10)))
 
--- the first hyphen stands after such a text
+-- the first hyphen is the one after a text without hyphens
 hyphen_after : (bs rest : List ℕ) → HasNoHyphen bs → position_or_len (λ b. b == 45) (bs ++ 45 ∷ rest) ≡ length bs
 hyphen_after [] rest h = refl
 hyphen_after (b ∷ bs) rest h = rw h.0 (omega (arith, hyphen_after bs rest h.1))
@@ -37,7 +46,7 @@ hyphen_found text n rest small is =
     let inside : nat_lt (position_or_len (λ b. b == 45) text) (length text) ≡ true = grind (arith, nat_tests, place, long) in
     rw inside (ap (λ (k : ℕ). Some k) place)
 
--- so a text of a number, a hyphen and a rest is cut there
+-- a text of a number, a hyphen and a rest is split at that hyphen
 pub cut_at : (text : List ℕ) (n at : ℕ) (rest : List ℕ) → n < 2 ^ 64 → text ≡ decimal n ++ 45 ∷ rest → position (λ b. b == 45) text ≡ Some at
     → (take at text ≡ decimal n) × (drop (at + 1) text ≡ rest)
 cut_at text n at rest small is found =
@@ -53,7 +62,7 @@ cut_at text n at rest small is found =
 pub has_hyphen : (text : List ℕ) (n : ℕ) (rest : List ℕ) → n < 2 ^ 64 → text ≡ decimal n ++ 45 ∷ rest → None ≡ position (λ b. b == 45) text → ⊥
 has_hyphen text n rest small is none = let e : None ≡ Some (length (decimal n)) = none ∙ hyphen_found text n rest small is in cc
 
--- a text is what stands before its first hyphen, the hyphen, and what stands after it
+-- a text is the part before its first hyphen, the hyphen, and the part after it
 pub cut_by : (text : List ℕ) (at : ℕ) → position (λ b. b == 45) text ≡ Some at → text ≡ take at text ++ 45 ∷ drop (at + 1) text
 cut_by text at found =
     let p = position-Some (λ b. b == 45) text at 0 found in

@@ -1,10 +1,16 @@
 -- A pledge without its lists, and the limits of its fields.
-use Rattle.std.specs.Prelude.{ℕ, ◌-◌, ◌≤◌, length, IfSome}
-use Rattle.pawn_pledge.specs.Common.{IsChecked, Totals, after_days, credit_of, last_stamp_day, most_entries, most_millionths, most_pence, owing_of, sums_of}
-use Rattle.pawn_pledge.specs.{Common.totals_of, declared.record.{Booking.Booking, Closing.Closing, Status.Status}, declared.brief.BriefFields.BriefFields}
-use Rattle.pawn_pledge.specs.{Pledge.{PledgeValue, end_of, debt_of, live_of, status_by, status_under}, Limits.{most_secrets, most_extensions, last_window}}
 use Rattle.pawn_debt.specs.declared.owing.Owing.{Owing}
+use Rattle.pawn_pledge.specs.Common.{IsChecked, Totals, after_days, credit_of, last_stamp_day, most_entries}
+use Rattle.pawn_pledge.specs.Common.{most_millionths, most_pence, owing_of, sums_of, totals_of}
+use Rattle.pawn_pledge.specs.Limits.{most_secrets, most_extensions, last_window}
+use Rattle.pawn_pledge.specs.Pledge.{PledgeValue, end_of, debt_of, live_of, status_by, status_under}
+use Rattle.pawn_pledge.specs.declared.brief.BriefFields.{BriefFields}
+use Rattle.pawn_pledge.specs.declared.record.Booking.{Booking}
+use Rattle.pawn_pledge.specs.declared.record.Closing.{Closing}
+use Rattle.pawn_pledge.specs.declared.record.Status.{Status}
+use Rattle.std.specs.Prelude.{ℕ, ◌-◌, ◌≤◌, length, IfSome}
 
+-- the brief of a pledge
 abbrev pub brief_of : PledgeValue → BriefFields
 brief_of p = record {
   agreement = p.agreement;
@@ -15,11 +21,11 @@ brief_of p = record {
   totals = totals_of (debt_of p);
 }
 
--- what the pledge is on a day
+-- the status of the pledge on a day
 abbrev pub brief_status : BriefFields → ℕ → Status
 brief_status b x = status_under b.standing.closing (status_by b.agreement b.ends x)
 
--- what is owed on a day that is not before the last entry's
+-- the sum owed on a day that is not before the day of the totals
 abbrev pub brief_owing : BriefFields → ℕ → Owing
 brief_owing b x = owing_of (after_days b.agreement.terms b.ends b.totals.day (x - b.totals.day) (sums_of b.totals))
 
@@ -33,11 +39,11 @@ IsClosingWithin Closing.Open = Unit {0}
 IsClosingWithin (Closing.Redeemed day paid) = day ≤ last_stamp_day
 IsClosingWithin (Closing.Sold day net) = (day ≤ last_stamp_day) × (net ≤ most_pence)
 
--- what was owed on a day that a request may name, in numbers that charges can be carried on from
+-- totals of a day that a request may name, with sums within the limits from which they can be carried forward
 abbrev pub AreTotalsWithin : Totals → Type 0
 AreTotalsWithin t = (t.day ≤ last_stamp_day) × (t.principal ≤ most_pence) × (t.millionths ≤ most_millionths)
 
--- the limits of a brief, but for those that the types of its fields keep
+-- the limits of a brief, except those that the types of its fields keep
 pub record IsBriefWithin (b : BriefFields) : Type 0 where
   pub some : 1 ≤ credit_of b.agreement.opening.kind
   pub credit : credit_of b.agreement.opening.kind ≤ most_pence

@@ -1,13 +1,15 @@
 -- Which commands a request can give, and who may send them.
-use Rattle.{std.specs.Prelude.{Bool, false, true}, pawn_pledge.specs.{Common.IsStampDay, declared.command.Command.Command}}
+use Rattle.pawn_pledge.specs.Common.{IsStampDay}
+use Rattle.pawn_pledge.specs.declared.command.Command.{Command}
+use Rattle.std.specs.Prelude.{Bool, false, true}
 
--- a command that a request can give
+-- a command whose days a request may name
 abbrev pub IsCommand : Command → Type 0
 IsCommand (Command.AskBooking day window) = IsStampDay day
 IsCommand (Command.Extend until) = IsStampDay until
 IsCommand other = Unit {0}
 
--- a broker may send it
+-- a broker may send the command
 abbrev pub is_brokers : Command → Bool
 is_brokers (Command.Draw seq pence) = true
 is_brokers (Command.Repay seq pence) = true
@@ -19,7 +21,7 @@ is_brokers (Command.Sell net) = true
 is_brokers (Command.Extend until) = true
 is_brokers other = false
 
--- the bearer of a live receipt may send it
+-- the bearer of a live receipt may send the command
 abbrev pub is_bearers : Command → Bool
 is_bearers (Command.Repay seq pence) = true
 is_bearers (Command.AskBooking day window) = true

@@ -1,8 +1,10 @@
--- What always holds of the fields of a pledge.
+-- The invariant of the fields of a pledge.
+use Rattle.pawn_pledge.specs.Common.{DebtValue, last_of, last_stamp_day}
+use Rattle.pawn_pledge.specs.Limits.{most_secrets}
+use Rattle.pawn_pledge.specs.Pledge.{PledgeValue, debt_of}
 use Rattle.std.specs.Prelude.{◌≡◌, ◌≤◌, length}
-use Rattle.pawn_pledge.specs.{Common.{DebtValue, last_of, last_stamp_day}, Pledge.{PledgeValue, debt_of}, Limits.most_secrets}
 
--- the debt is the record's, the last change is not before the last entry, and there is a secret
+-- the debt is that of the record, the last change is not before the last entry, and there is at least one secret
 pub record IsPledgeKept (p : PledgeValue) (d : DebtValue) : Type 0 where
   pub debt : d ≡ debt_of p
   pub taken_in : p.agreement.taken ≤ last_stamp_day

@@ -1,70 +1,82 @@
--- What holds of every pledge, whatever is sent.
-use Rattle.std.specs.{Prelude.{◌≡◌, ◌≤◌, ◌<◌, ◌+◌, ◌^◌, ◌==◌, ℕ, length, true, false, List, [], ◌∷◌, Some, Ok}, List.list_any}
-use Rattle.pawn_pledge.specs.{Common.{Draw, IsChecked, IsStampDay, NoneApplies, Rates, Repay, Sort, due, last_of, owing_of}, declared.record.Opening.Opening}
-use Rattle.pawn_pledge.specs.{declared.{command.{Stamp.Stamp, Command.Command, Done.Done}, receipt.Receipt.Receipt}, Number.IsNumber, Pledge.PledgeValue}
-use Rattle.pawn_pledge.specs.{Pledge.{end_of, debt_of, status_of, live_of}, Words.is_open, Step.{Answered, Changed, bars, pledge_step, pledge_after}}
-use Rattle.pawn_pledge.specs.{Step.pledge_start, Replayable.{IsOpening, IsReplayable, IsWithinLimits, IsStanding}, Commands.IsCommand, Growth.Grows}
-use Rattle.pawn_pledge.specs.{Growth.StaysOrGrows, Brief.{brief_of, brief_status, brief_owing, IsBriefWithin}, Secret.{secret_text, secret_of_text}}
+-- Laws of pledges: properties of every pledge, whatever commands are sent.
+use Rattle.pawn_pledge.specs.Brief.{brief_of, brief_status, brief_owing, IsBriefWithin}
+use Rattle.pawn_pledge.specs.Commands.{IsCommand}
+use Rattle.pawn_pledge.specs.Common.{Draw, IsChecked, IsStampDay, NoneApplies, Rates, Repay, Sort, due, last_of}
+use Rattle.pawn_pledge.specs.Common.{owing_of}
+use Rattle.pawn_pledge.specs.Growth.{Grows, StaysOrGrows}
+use Rattle.pawn_pledge.specs.Number.{IsNumber}
+use Rattle.pawn_pledge.specs.Pledge.{PledgeValue, end_of, debt_of, status_of, live_of}
 use Rattle.pawn_pledge.specs.Receipt.{receipt_text, IsReceiptText}
+use Rattle.pawn_pledge.specs.Replayable.{IsOpening, IsReplayable, IsWithinLimits, IsReachable}
+use Rattle.pawn_pledge.specs.Secret.{secret_text, secret_of_text}
+use Rattle.pawn_pledge.specs.Step.{Answered, Changed, bars, pledge_step, pledge_after, pledge_start}
+use Rattle.pawn_pledge.specs.Words.{is_open}
+use Rattle.pawn_pledge.specs.declared.command.Command.{Command}
+use Rattle.pawn_pledge.specs.declared.command.Done.{Done}
+use Rattle.pawn_pledge.specs.declared.command.Stamp.{Stamp}
+use Rattle.pawn_pledge.specs.declared.receipt.Receipt.{Receipt}
+use Rattle.pawn_pledge.specs.declared.record.Opening.{Opening}
+use Rattle.std.specs.List.{list_any}
+use Rattle.std.specs.Prelude.{◌≡◌, ◌≤◌, ◌<◌, ◌+◌, ◌^◌, ◌==◌, ℕ, length, true, false, List, [], ◌∷◌, Some, Ok}
 
--- a pledge begins as one that can have come about, within the limits
-abbrev pub StartsStanding : Type 0
-StartsStanding =
+-- a new pledge is reachable and within the limits
+abbrev pub StartsReachable : Type 0
+StartsReachable =
     (number : ℕ) (opening : Opening) (version : ℕ) (terms : Rates) (stamp : Stamp) (p : PledgeValue)
     → IsNumber number → IsOpening opening → IsChecked terms → IsStampDay stamp.day
-    → pledge_start number opening version terms stamp ≡ Ok p → IsStanding p
+    → pledge_start number opening version terms stamp ≡ Ok p → IsReachable p
 
--- a change makes one that can have come about of one that can
+-- a reachable pledge is reachable after a change
 abbrev pub StaysReplayable : Type 0
 StaysReplayable =
     (p next : PledgeValue) (stamp : Stamp) (command : Command) (done : Done)
     → IsReplayable p → pledge_step p stamp command ≡ Changed next done → IsReplayable next
 
--- a change keeps the limits
+-- a pledge within the limits is within them after a change
 abbrev pub StaysWithin : Type 0
 StaysWithin =
     (p next : PledgeValue) (stamp : Stamp) (command : Command) (done : Done)
     → IsStampDay stamp.day → IsCommand command → IsWithinLimits p → pledge_step p stamp command ≡ Changed next done → IsWithinLimits next
 
--- so a pledge keeps a record that a pledge can have
-abbrev pub StaysStanding : Type 0
-StaysStanding =
+-- a reachable pledge within the limits is so after a change
+abbrev pub StaysReachable : Type 0
+StaysReachable =
     (p next : PledgeValue) (stamp : Stamp) (command : Command) (done : Done)
-    → IsStampDay stamp.day → IsCommand command → IsStanding p → pledge_step p stamp command ≡ Changed next done → IsStanding next
+    → IsStampDay stamp.day → IsCommand command → IsReachable p → pledge_step p stamp command ≡ Changed next done → IsReachable next
 
--- a change leaves what was agreed when the pledge was taken
+-- a change keeps the agreement
 abbrev pub AgreementStays : Type 0
 AgreementStays =
     (p next : PledgeValue) (stamp : Stamp) (command : Command) (done : Done)
     → pledge_step p stamp command ≡ Changed next done → next.agreement ≡ p.agreement
 
--- a change changes something
+-- a pledge differs after a change
 abbrev pub ChangesDiffer : Type 0
 ChangesDiffer =
     (p next : PledgeValue) (stamp : Stamp) (command : Command) (done : Done)
     → pledge_step p stamp command ≡ Changed next done → next ≡ p → ⊥
 
--- once a pledge is redeemed or sold nothing changes
+-- no command changes a pledge that is redeemed or sold
 abbrev pub ClosedStays : Type 0
 ClosedStays =
     (p next : PledgeValue) (stamp : Stamp) (command : Command) (done : Done)
     → is_open p.standing.closing ≡ false → pledge_step p stamp command ≡ Changed next done → ⊥
 
--- the list of secrets stays, or grows at its end by the stamp's word, which is not in it
+-- the list of secrets stays the same, or grows at its end by the stamp's word, which was not in it
 abbrev pub SecretsGrow : Type 0
 SecretsGrow =
     (p next : PledgeValue) (stamp : Stamp) (command : Command) (done : Done)
     → pledge_step p stamp command ≡ Changed next done
     → StaysOrGrows (λ issued. (issued.secret ≡ stamp.word) × (list_any (λ i. i.secret == stamp.word) p.secrets ≡ false)) p.secrets next.secrets
 
--- the entries stay, or grow at their end by the next, on the stamp's day
+-- the entries stay the same, or grow at their end by the next entry, on the stamp's day
 abbrev pub EntriesGrow : Type 0
 EntriesGrow =
     (p next : PledgeValue) (stamp : Stamp) (command : Command) (done : Done)
     → pledge_step p stamp command ≡ Changed next done
     → StaysOrGrows (λ entry. (entry.seq ≡ length p.entries + 1) × (entry.day ≡ stamp.day)) p.entries next.entries
 
--- the extensions stay, or grow at their end by one to a later end, on the stamp's day
+-- the extensions stay the same, or grow at their end by one to a later end of the period, on the stamp's day
 abbrev pub ExtensionsGrow : Type 0
 ExtensionsGrow =
     (p next : PledgeValue) (stamp : Stamp) (command : Command) (done : Done)
@@ -76,35 +88,35 @@ abbrev pub pledge_after_all : PledgeValue → List (Stamp × Command) → Pledge
 pledge_after_all p [] = p
 pledge_after_all p (c ∷ cs) = pledge_after_all (pledge_after p (pledge_step p c.0 c.1)) cs
 
--- whatever is sent, each list grows at its end alone
+-- commands change each list only by adding at its end
 abbrev pub ListsGrow : Type 0
 ListsGrow = (p : PledgeValue) (commands : List (Stamp × Command)) → Grows p (pledge_after_all p commands)
 
--- a drawing or a repayment
+-- the command for a drawing or a repayment
 abbrev pub entry_command : Sort → ℕ → ℕ → Command
 entry_command Draw seq pence = Command.Draw seq pence
 entry_command Repay seq pence = Command.Repay seq pence
 
--- a drawing or a repayment that was entered is answered again as the first time and enters nothing, whatever became of
--- the pledge in between, on any day and with any word
+-- a drawing or a repayment that was entered gets the same answer when it is sent again, and enters nothing, whatever
+-- commands came in between, on any day and with any word
 abbrev pub EntriesActOnce : Type 0
 EntriesActOnce =
     (p next : PledgeValue) (stamp again : Stamp) (sort : Sort) (seq pence : ℕ) (done : Done) (later : List (Stamp × Command))
     → IsReplayable p → pledge_step p stamp (entry_command sort seq pence) ≡ Changed next done
     → pledge_step (pledge_after_all next later) again (entry_command sort seq pence) ≡ Answered done
 
--- nothing bars a command on the day x, and the period is not over
+-- none of the refusals that all commands share applies on the day x, and the period is not over
 abbrev pub MayExtend : PledgeValue → ℕ → Type 0
 MayExtend p x = NoneApplies (bars p x) × (x ≤ end_of p)
 
--- an extension to the present end, where nothing bars it, is answered with that end and changes nothing
-abbrev pub StandingEndIsAnswered : Type 0
-StandingEndIsAnswered =
+-- an extension to the present end is answered with that end and changes nothing, if the pledge may be extended
+abbrev pub SameEndIsAnswered : Type 0
+SameEndIsAnswered =
     (p : PledgeValue) (stamp : Stamp)
     → MayExtend p stamp.day → pledge_step p stamp (Command.Extend (end_of p)) ≡ Answered (Done.Extended (end_of p))
 
--- So an extension that was agreed is answered again as the first time and changes nothing, whatever was sent in
--- between. It is so while its end is the present one, and nothing bars an extension.
+-- An extension that was agreed gets the same answer when it is sent again, and changes nothing, whatever commands came
+-- in between. Its end must still be the present one, and the pledge must be one that may be extended.
 abbrev pub ExtensionsActOnce : Type 0
 ExtensionsActOnce =
     (p next : PledgeValue) (stamp again : Stamp) (until : ℕ) (done : Done) (later : List (Stamp × Command))
@@ -118,12 +130,12 @@ OneIsLive =
     (p : PledgeValue) (commands : List (Stamp × Command)) (one other : ℕ)
     → live_of (pledge_after_all p commands) ≡ Some one → live_of (pledge_after_all p commands) ≡ Some other → one ≡ other
 
--- a secret that was issued and is not live: declared away, or surrendered
+-- a secret that was issued and is not live: a declaration replaced it, or it was surrendered on redemption
 pub record IsSpent (p : PledgeValue) (secret : ℕ) : Type 0 where
   pub issued : list_any (λ i. i.secret == secret) p.secrets ≡ true
   pub not_live : live_of p ≡ Some secret → ⊥
 
--- it is never live again
+-- a spent secret is never live again
 abbrev pub NeverLiveAgain : Type 0
 NeverLiveAgain = (p : PledgeValue) (commands : List (Stamp × Command)) (secret : ℕ) → IsSpent p secret → IsSpent (pledge_after_all p commands) secret
 
@@ -141,25 +153,25 @@ IsReplacing (Command.Redeem paid) = Unit {0}
 IsReplacing (Command.Sell net) = ⊥
 IsReplacing (Command.Extend until) = ⊥
 
--- each secret that was issued before one of them is spent by it
+-- a declaration or a redemption spends each secret that was issued before it
 abbrev pub EarlierAreSpent : Type 0
 EarlierAreSpent =
     (p next : PledgeValue) (stamp : Stamp) (command : Command) (done : Done) (secret : ℕ)
     → IsReplacing command → pledge_step p stamp command ≡ Changed next done → list_any (λ i. i.secret == secret) p.secrets ≡ true → IsSpent next secret
 
--- a brief shows what its pledge owes
+-- a brief shows the sum owed on its pledge
 abbrev pub BriefOwes : Type 0
 BriefOwes =
     (p : PledgeValue) (x : ℕ)
     → IsReplayable p → last_of p.agreement.taken p.entries ≤ x → brief_owing (brief_of p) x ≡ owing_of (due (debt_of p) x)
 
--- and what it is on a day
+-- a brief shows the status of its pledge on a day
 abbrev pub BriefHasStatus : Type 0
 BriefHasStatus = (p : PledgeValue) (x : ℕ) → brief_status (brief_of p) x ≡ status_of p x
 
--- and it is within the limits, if a pledge can have the record
+-- a brief is within the limits, if its pledge is reachable and within the limits
 abbrev pub BriefIsWithin : Type 0
-BriefIsWithin = (p : PledgeValue) → IsStanding p → IsBriefWithin (brief_of p)
+BriefIsWithin = (p : PledgeValue) → IsReachable p → IsBriefWithin (brief_of p)
 
 -- a secret's text reads as the secret
 abbrev pub SecretTextsReadBack : Type 0
@@ -169,6 +181,6 @@ SecretTextsReadBack = (word : ℕ) → word < 2 ^ 128 → secret_of_text (secret
 abbrev pub ReceiptTextsReadBack : Type 0
 ReceiptTextsReadBack = (r : Receipt) → IsNumber r.number → r.secret < 2 ^ 128 → IsReceiptText (receipt_text r) r
 
--- and no text reads as two receipts
+-- no text reads as two receipts
 abbrev pub ReceiptTextsAreOne : Type 0
 ReceiptTextsAreOne = (text : List ℕ) (one other : Receipt) → IsReceiptText text one → IsReceiptText text other → one ≡ other

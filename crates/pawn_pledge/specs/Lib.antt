@@ -16,3 +16,4 @@ pub mod Laws
 pub mod Worked
 pub mod WorkedTexts
 pub mod Common
+pub mod WorkedLimits

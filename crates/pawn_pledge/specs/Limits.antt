@@ -17,17 +17,18 @@ most_article_bytes = 80
 abbrev pub small_credit : ℕ
 small_credit = 7500
 
--- how many days after its end a pledge with the five days may still be redeemed and not sold
+-- the number of days of grace, in which a pledge with the five days may still be redeemed after its end and not sold
 abbrev pub grace_days : ℕ
 grace_days = 5
 
--- the secret that a pledge is taken with, and 100 that may be declared
+-- the most secrets of a pledge: the first one, and 100 that are issued on declarations
 abbrev pub most_secrets : ℕ
 most_secrets = 101
 
+-- the most extensions of a pledge
 abbrev pub most_extensions : ℕ
 most_extensions = 99
 
--- the last of a day's windows, from 0
+-- the last window of a day; windows are numbered from 0
 abbrev pub last_window : ℕ
 last_window = 15

@@ -1,14 +1,17 @@
--- What is checked of a record before a pledge is made of it.
+-- The checks on a record before a pledge is made of it.
+use Rattle.pawn_pledge.specs.Common.{DoNotFall, Each, credit_of, last_by, last_stamp_day, most_pence}
+use Rattle.pawn_pledge.specs.Limits.{most_secrets, most_extensions}
+use Rattle.pawn_pledge.specs.Number.{IsNumber}
+use Rattle.pawn_pledge.specs.Pledge.{PledgeValue}
+use Rattle.pawn_pledge.specs.Replayable.{IsOpening, AreIssued, AreDistinctSecrets}
 use Rattle.std.specs.Prelude.{◌≤◌, length, IfSome}
-use Rattle.pawn_pledge.specs.{Common.{DoNotFall, Each, credit_of, last_by, last_stamp_day, most_pence}, Number.IsNumber, Pledge.PledgeValue}
-use Rattle.pawn_pledge.specs.{Replayable.{IsOpening, AreIssued, AreDistinctSecrets}, Limits.{most_secrets, most_extensions}}
 
 -- the limits that the types of the fields keep
 pub record IsTyped (p : PledgeValue) : Type 0 where
   pub number : IsNumber p.agreement.number
   pub opening : IsOpening p.agreement.opening
 
--- the other limits, but for the number of entries
+-- the other limits, except that on the number of entries
 pub record IsLimited (p : PledgeValue) : Type 0 where
   pub some : 1 ≤ credit_of p.agreement.opening.kind
   pub credit : credit_of p.agreement.opening.kind ≤ most_pence
@@ -18,7 +21,7 @@ pub record IsLimited (p : PledgeValue) : Type 0 where
   pub untils : Each (λ e. e.until ≤ last_stamp_day) p.extensions
   pub booking : IfSome p.standing.booking (λ b. b.day ≤ last_stamp_day)
 
--- secrets that can have been issued
+-- secrets that commands can have issued
 pub record AreIssuedIn (p : PledgeValue) : Type 0 where
   pub sorts : AreIssued p.agreement.taken (credit_of p.agreement.opening.kind) p.secrets
   pub distinct : AreDistinctSecrets p.secrets

@@ -1,11 +1,14 @@
--- Why a command on a pledge is refused.
-use Rattle.pawn_pledge.specs.{Common.DebtFault, declared.refusal.Refusal.{Refusal, TheVariants.{Debt, SeqTaken, SeqAhead, Held, Passed, Closed, NotRealisable}}}
-use Rattle.pawn_pledge.specs.declared.refusal.Refusal.TheVariants.{NotSmall, SecretUsed, DeclarationsFull, WrongAmount, NoBooking, BookingDay, BadWindow}
-use Rattle.{pawn_pledge.specs.declared.refusal.Refusal.TheVariants.{PeriodOver, NotLater, ExtensionsFull}, std.specs.Prelude.{List, None, Option, Some, codes}}
-use Rattle.std.specs.Prelude.{ℕ}
+-- The reasons why a command on a pledge is refused.
+use Rattle.pawn_pledge.specs.Common.{DebtFault}
+use Rattle.pawn_pledge.specs.declared.refusal.Refusal.{Refusal}
+use Rattle.pawn_pledge.specs.declared.refusal.Refusal.TheVariants.{Debt, SeqTaken, SeqAhead, Held, Passed, Closed}
+use Rattle.pawn_pledge.specs.declared.refusal.Refusal.TheVariants.{NotRealisable, NotSmall, SecretUsed}
+use Rattle.pawn_pledge.specs.declared.refusal.Refusal.TheVariants.{DeclarationsFull, WrongAmount, NoBooking, BookingDay}
+use Rattle.pawn_pledge.specs.declared.refusal.Refusal.TheVariants.{BadWindow, PeriodOver, NotLater, ExtensionsFull}
+use Rattle.std.specs.Prelude.{List, None, Option, Some, codes, ℕ}
 use Rattle.pawn_debt.specs.DebtFault as debt
 
--- the refusal's number
+-- the code of the refusal in replies
 abbrev pub pledge_refusal_code : Refusal → ℕ
 pledge_refusal_code (Debt fault) = debt.debt_fault_code fault
 pledge_refusal_code SeqTaken = 301
@@ -26,7 +29,7 @@ pledge_refusal_code NotLater = 315
 pledge_refusal_code ExtensionsFull = 316
 pledge_refusal_code Refusal.Memory = 491
 
--- the refusal's name
+-- the name of the refusal in replies
 abbrev pub pledge_refusal_name : Refusal → List ℕ
 pledge_refusal_name (Debt fault) = debt.debt_fault_name fault
 pledge_refusal_name SeqTaken = codes "SeqTaken"
@@ -47,13 +50,13 @@ pledge_refusal_name NotLater = codes "NotLater"
 pledge_refusal_name ExtensionsFull = codes "ExtensionsFull"
 pledge_refusal_name Refusal.Memory = codes "Memory"
 
--- what is owing, where another sum was paid
+-- the sum owed, if the refusal reports it
 abbrev pub refusal_total : Refusal → Option ℕ
 refusal_total (Debt fault) = debt.fault_total fault
 refusal_total (WrongAmount total) = Some total
 refusal_total other = None
 
--- a debt's refusal as the pledge's own; refused memory is one refusal for both
+-- the pledge's refusal for a refusal of its debt; out of memory is one refusal for both
 abbrev pub refusal_of : DebtFault → Refusal
 refusal_of DebtFault.Memory = Refusal.Memory
 refusal_of fault = Debt fault

@@ -1,15 +1,32 @@
--- What a command comes to: the first refusal that applies, or an answer and the pledge after it.
-use Rattle.std.specs.Prelude.{◌≡◌, ℕ, ◌-◌, nat_lt, nat_le, ◌==◌, ◌&&◌, not, Bool, true, false, if◌then◌else◌, List, [], ◌∷◌, length, find, Option, Some, None}
-use Rattle.std.specs.{Prelude.{Result, Ok, Err, ◌⊎◌}, List.list_any}
-use Rattle.pawn_pledge.specs.Common.{BadAmount, DebtFault, DebtValue, Draw, EarlierDay, Entry, IsSaid, IsWant, Rates, Repay, Sort, credit_of, draw_answer}
-use Rattle.pawn_pledge.specs.{Common.{first_of, is_bad_amount, most_pence, repay_answer}, declared.record.{Opening.Opening, Issue.Issue, Booking.Booking}}
-use Rattle.pawn_pledge.specs.{declared.record.{BookingState.BookingState, Closing.Closing}, declared.command.{Stamp.Stamp, Paper.Paper, Decision.Decision}}
-use Rattle.pawn_pledge.specs.declared.{command.{Decision.TheVariants.{Confirm, Refuse}, Command.Command, Done.Done, Applied.Applied}, refusal.Refusal.Refusal}
-use Rattle.pawn_pledge.specs.{Limits.{most_secrets, most_extensions, last_window}, Refusal.refusal_of, Words.{with_last, with_hold, with_booking}}
-use Rattle.pawn_pledge.specs.Words.{with_standing, is_open, is_repeat, is_ahead, new_entry, same_flag, is_written, issue_of, with_secret, in_state, stands_for}
-use Rattle.pawn_pledge.specs.{Words.{close, with_extension}, Pledge.{PledgeValue, end_of, is_small, debt_of, total_on, open_status, is_passed, is_realisable}}
+-- The result of a command: the first refusal that applies, or an answer and the pledge after it.
+use Rattle.pawn_pledge.specs.Common.{BadAmount, DebtFault, DebtValue, Draw, EarlierDay, Entry, IsSaid, IsWant, Rates}
+use Rattle.pawn_pledge.specs.Common.{Repay, Sort, credit_of, draw_answer, first_of, is_bad_amount, most_pence}
+use Rattle.pawn_pledge.specs.Common.{repay_answer}
+use Rattle.pawn_pledge.specs.Limits.{most_secrets, most_extensions, last_window}
+use Rattle.pawn_pledge.specs.Pledge.{PledgeValue, end_of, is_small, debt_of, total_on, open_status, is_passed}
+use Rattle.pawn_pledge.specs.Pledge.{is_realisable}
+use Rattle.pawn_pledge.specs.Refusal.{refusal_of}
+use Rattle.pawn_pledge.specs.Words.{with_last, with_hold, with_booking, with_standing, is_open, is_repeat, is_ahead}
+use Rattle.pawn_pledge.specs.Words.{new_entry, same_flag, is_written, issue_of, with_secret, in_state, stands_for}
+use Rattle.pawn_pledge.specs.Words.{close, with_extension}
+use Rattle.pawn_pledge.specs.declared.command.Applied.{Applied}
+use Rattle.pawn_pledge.specs.declared.command.Command.{Command}
+use Rattle.pawn_pledge.specs.declared.command.Decision.{Decision}
+use Rattle.pawn_pledge.specs.declared.command.Decision.TheVariants.{Confirm, Refuse}
+use Rattle.pawn_pledge.specs.declared.command.Done.{Done}
+use Rattle.pawn_pledge.specs.declared.command.Paper.{Paper}
+use Rattle.pawn_pledge.specs.declared.command.Stamp.{Stamp}
+use Rattle.pawn_pledge.specs.declared.record.Booking.{Booking}
+use Rattle.pawn_pledge.specs.declared.record.BookingState.{BookingState}
+use Rattle.pawn_pledge.specs.declared.record.Closing.{Closing}
+use Rattle.pawn_pledge.specs.declared.record.Issue.{Issue}
+use Rattle.pawn_pledge.specs.declared.record.Opening.{Opening}
+use Rattle.pawn_pledge.specs.declared.refusal.Refusal.{Refusal}
+use Rattle.std.specs.List.{list_any}
+use Rattle.std.specs.Prelude.{◌≡◌, ℕ, ◌-◌, nat_lt, nat_le, ◌==◌, ◌&&◌, not, Bool, true, false, if◌then◌else◌, List, []}
+use Rattle.std.specs.Prelude.{◌∷◌, length, find, Option, Some, None, Result, Ok, Err, ◌⊎◌}
 
--- a pledge as it is taken: its one secret is the stamp's word
+-- a new pledge, whose one secret is the stamp's word, or its refusal
 abbrev pub pledge_start : ℕ → Opening → ℕ → Rates → Stamp → Result PledgeValue Refusal
 pledge_start number opening version terms stamp =
     first_of
@@ -22,7 +39,7 @@ pledge_start number opening version terms stamp =
       standing = record { held = false; booking = None; last = stamp.day; closing = Closing.Open };
     }))
 
--- what a command comes to
+-- the result of a command
 pub data Judged : Type 0 where
   Refused : (why : Refusal) → Judged
   -- an answer without a change
@@ -30,16 +47,16 @@ pub data Judged : Type 0 where
   -- the pledge after a change, and an answer
   Changed : (pledge : PledgeValue) (done : Done) → Judged
 
--- where nothing is refused, what follows
+-- the given result, unless there is a refusal
 abbrev pub where_clear : Result (Unit {0}) Refusal → Judged → Judged
 where_clear (Ok clear) judged = judged
 where_clear (Err why) judged = Refused why
 
--- refused for the first condition that holds, or else what follows
+-- the refusal of the first condition that holds; if none holds, the given result
 abbrev pub unless : List (Bool × Refusal) → Judged → Judged
 unless rows judged = where_clear (first_of rows (Ok tt)) judged
 
--- what bars every command on the day x
+-- the refusals that all commands share, on the day x
 abbrev pub bars : PledgeValue → ℕ → List (Bool × Refusal)
 bars p x =
     (nat_lt x p.standing.last, Refusal.Debt EarlierDay)
@@ -47,26 +64,26 @@ bars p x =
     ∷ (is_passed (open_status p x), Refusal.Passed)
     ∷ []
 
--- what bars a drawing or an extension
+-- the refusal of a drawing or an extension after the end of the period
 abbrev pub period_bars : PledgeValue → ℕ → List (Bool × Refusal)
 period_bars p x = (nat_lt (end_of p) x, Refusal.PeriodOver) ∷ []
 
 -- drawings and repayments
 
--- what comes of an entry, by the debt's answer
+-- the result of an entry, by the debt's answer
 abbrev pub under_debt : PledgeValue → ℕ → Sort → ℕ → Result DebtValue DebtFault → Judged
 under_debt p x sort pence (Ok debt) =
     Changed (record p { entries = debt.entries; standing = with_last p.standing x }) (Done.Entered (new_entry p x sort pence))
 under_debt p x sort pence (Err fault) = Refused (refusal_of fault)
 
--- a drawing is made in the period; the other refusals are the debt's
+-- a drawing is refused after the end of the period; the other refusals are those of the debt
 abbrev pub entry_step : PledgeValue → ℕ → Sort → ℕ → Judged
 entry_step p x Draw pence =
     unless (period_bars p x) (under_debt p x Draw pence (draw_answer (debt_of p) x pence))
 entry_step p x Repay pence = under_debt p x Repay pence (repay_answer (debt_of p) x pence)
 
--- an entry whose number is taken is answered as the first time, or refused if it differs, whatever the day and the
--- pledge's state
+-- if the number of an entry is taken, a repeat gets the answer of the first time and an entry that differs is refused,
+-- whatever the day and the pledge's state
 abbrev pub numbered_step : PledgeValue → ℕ → ℕ → Sort → ℕ → Option Entry → Judged
 numbered_step p x seq sort pence (Some e) =
     unless ((not (is_repeat e sort pence), Refusal.SeqTaken) ∷ []) (Answered (Done.Entered e))
@@ -77,7 +94,7 @@ numbered_step p x seq sort pence None =
 abbrev pub entry_of : PledgeValue → ℕ → Option Entry
 entry_of p seq = find (λ e. e.seq == seq) p.entries
 
--- sets or clears the flag that bars redemption; if it is so already, nothing changes
+-- puts the pledge on hold, or ends the hold; if the flag already has this value, nothing changes
 abbrev pub hold_step : PledgeValue → ℕ → Bool → Judged
 hold_step p x flag =
     if same_flag p.standing.held flag then Answered (Done.Held flag)
@@ -85,6 +102,7 @@ hold_step p x flag =
 
 -- declarations
 
+-- the refusals that only a declaration can have, in order
 abbrev pub declare_bars : PledgeValue → Paper → ℕ → List (Bool × Refusal)
 declare_bars p paper word =
     (is_written paper && not (is_small (credit_of p.agreement.opening.kind)), Refusal.NotSmall)
@@ -100,18 +118,19 @@ declare_step p stamp paper =
 
 -- bookings
 
--- the pledge with that booking
+-- a change of the pledge's booking
 abbrev pub makes_booking : PledgeValue → ℕ → Booking → Judged
 makes_booking p x booking = Changed (with_standing p (with_booking p.standing booking x)) (Done.Booked booking)
 
--- a booking takes the place of any other; one that is asked for or confirmed already, for this day and window, is
--- answered again
+-- a booking replaces any other; if an active booking (asked for or confirmed) already has this day and window, the
+-- answer is that booking and nothing changes
 abbrev pub ask_once : PledgeValue → ℕ → ℕ → ℕ → Option Booking → Judged
 ask_once p x day window None = makes_booking p x (record { day = day; window = window; state = BookingState.Asked })
 ask_once p x day window (Some booking) =
     if stands_for booking day window then Answered (Done.Booked booking)
     else makes_booking p x (record { day = day; window = window; state = BookingState.Asked })
 
+-- the refusals of asking for a booking, in order
 abbrev pub ask_bars : PledgeValue → ℕ → ℕ → ℕ → List (Bool × Refusal)
 ask_bars p x day window =
     (nat_lt last_window window, Refusal.BadWindow)
@@ -119,21 +138,23 @@ ask_bars p x day window =
     ∷ (is_passed (open_status p day), Refusal.BookingDay)
     ∷ []
 
+-- the result of asking for a booking
 abbrev pub ask_step : PledgeValue → ℕ → ℕ → ℕ → Judged
 ask_step p x day window = unless (ask_bars p x day window) (ask_once p x day window p.standing.booking)
 
--- cancelling by the booking's state
+-- the result of cancelling, by the booking's state
 abbrev pub cancel_in : PledgeValue → ℕ → Booking → BookingState → Judged
 cancel_in p x booking BookingState.Asked = makes_booking p x (in_state booking BookingState.Cancelled)
 cancel_in p x booking BookingState.Confirmed = makes_booking p x (in_state booking BookingState.Cancelled)
 cancel_in p x booking BookingState.Refused = Refused Refusal.NoBooking
 cancel_in p x booking BookingState.Cancelled = Answered (Done.Booked booking)
 
+-- the result of cancelling; there must be a booking
 abbrev pub cancel_step : PledgeValue → ℕ → Option Booking → Judged
 cancel_step p x None = Refused Refusal.NoBooking
 cancel_step p x (Some booking) = cancel_in p x booking booking.state
 
--- confirming by the booking's state; one that is asked for is not to be over
+-- the result of confirming, by the booking's state; the day of a booking that is asked for must not be over
 abbrev pub confirm_in : PledgeValue → ℕ → Booking → BookingState → Judged
 confirm_in p x booking BookingState.Asked =
     unless ((nat_lt booking.day x, Refusal.BookingDay) ∷ []) (makes_booking p x (in_state booking BookingState.Confirmed))
@@ -141,13 +162,14 @@ confirm_in p x booking BookingState.Confirmed = Answered (Done.Booked booking)
 confirm_in p x booking BookingState.Refused = Refused Refusal.NoBooking
 confirm_in p x booking BookingState.Cancelled = Refused Refusal.NoBooking
 
--- refusing by the booking's state
+-- the result of refusing, by the booking's state
 abbrev pub decline_in : PledgeValue → ℕ → Booking → BookingState → Judged
 decline_in p x booking BookingState.Asked = makes_booking p x (in_state booking BookingState.Refused)
 decline_in p x booking BookingState.Confirmed = makes_booking p x (in_state booking BookingState.Refused)
 decline_in p x booking BookingState.Refused = Answered (Done.Booked booking)
 decline_in p x booking BookingState.Cancelled = Refused Refusal.NoBooking
 
+-- the result of a decision; there must be a booking
 abbrev pub decide_step : PledgeValue → ℕ → Decision → Option Booking → Judged
 decide_step p x decision None = Refused Refusal.NoBooking
 decide_step p x Confirm (Some booking) = confirm_in p x booking booking.state
@@ -155,35 +177,39 @@ decide_step p x Refuse (Some booking) = decline_in p x booking booking.state
 
 -- closing a pledge
 
+-- the refusals of a redemption, in order
 abbrev pub redeem_bars : PledgeValue → ℕ → ℕ → List (Bool × Refusal)
 redeem_bars p x paid =
     (p.standing.held, Refusal.Held)
     ∷ (not (paid == total_on p x), Refusal.WrongAmount (total_on p x))
     ∷ []
 
+-- the result of a redemption
 abbrev pub redeem_step : PledgeValue → ℕ → ℕ → Judged
 redeem_step p x paid =
     unless (redeem_bars p x paid) (Changed (close p x (Closing.Redeemed x paid)) (Done.Redeemed x paid))
 
+-- the refusals of a sale, in order
 abbrev pub sell_bars : PledgeValue → ℕ → ℕ → List (Bool × Refusal)
 sell_bars p x net =
     (not (is_realisable (open_status p x)), Refusal.NotRealisable)
     ∷ (nat_lt most_pence net, Refusal.Debt BadAmount)
     ∷ []
 
--- with what the sale brought above what is owing, and below it
+-- the result of a sale, with the surplus over the sum owed or the shortfall below it
 abbrev pub sell_step : PledgeValue → ℕ → ℕ → Judged
 sell_step p x net =
     unless (sell_bars p x net)
     (Changed (close p x (Closing.Sold x net)) (Done.Sold net (net - total_on p x) (total_on p x - net)))
 
+-- the refusals of an extension to another end, in order
 abbrev pub extend_bars : PledgeValue → ℕ → List (Bool × Refusal)
 extend_bars p until =
     (nat_lt until (end_of p), Refusal.NotLater)
     ∷ (nat_le most_extensions (length p.extensions), Refusal.ExtensionsFull)
     ∷ []
 
--- a longer period; an extension to the present end is answered again
+-- an extension of the period; one to the present end is answered and changes nothing
 abbrev pub extend_step : PledgeValue → ℕ → ℕ → Judged
 extend_step p x until =
     unless (period_bars p x)
@@ -191,7 +217,7 @@ extend_step p x until =
     else unless (extend_bars p until)
     (Changed (with_extension p (record { day = x; until = until })) (Done.Extended until)))
 
--- what a command comes to
+-- the result of a command
 abbrev pub pledge_step : PledgeValue → Stamp → Command → Judged
 pledge_step p stamp (Command.Draw seq pence) = numbered_step p stamp.day seq Draw pence (entry_of p seq)
 pledge_step p stamp (Command.Repay seq pence) = numbered_step p stamp.day seq Repay pence (entry_of p seq)
@@ -206,43 +232,44 @@ pledge_step p stamp (Command.Redeem paid) = unless (bars p stamp.day) (redeem_st
 pledge_step p stamp (Command.Sell net) = unless (bars p stamp.day) (sell_step p stamp.day net)
 pledge_step p stamp (Command.Extend until) = unless (bars p stamp.day) (extend_step p stamp.day until)
 
--- what the caller is answered
+-- the answer to the caller
 abbrev pub reply_of : Judged → Result Done Refusal
 reply_of (Refused why) = Err why
 reply_of (Answered done) = Ok done
 reply_of (Changed pledge done) = Ok done
 
--- the pledge afterwards
+-- the pledge after a command
 abbrev pub pledge_after : PledgeValue → Judged → PledgeValue
 pledge_after p (Changed pledge done) = pledge
 pledge_after p other = p
 
--- an entry, a secret or an extension is added
+-- the answer reports a new entry, secret or extension
 abbrev pub IsAddition : Done → Type 0
 IsAddition (Done.Entered entry) = Unit {0}
 IsAddition (Done.Declared secret) = Unit {0}
 IsAddition (Done.Extended until) = Unit {0}
 IsAddition other = ⊥
 
--- a list of the pledge grows by it
+-- the command adds to a list of the pledge
 abbrev pub IsGrowth : Judged → Type 0
 IsGrowth (Changed pledge done) = IsAddition done
 IsGrowth other = ⊥
 
--- the call does what the step says, or was refused memory for a list that is to grow, and changed nothing
+-- the call does what the step states, or returns `Memory` if the step adds to a list; after an error the pledge is
+-- unchanged
 abbrev pub IsStep : Judged → PledgeValue → Result Done Refusal → PledgeValue → Type 0
 IsStep judged old (Ok done) new = (reply_of judged ≡ Ok done) × (new ≡ pledge_after old judged)
 IsStep judged old (Err fault) new = (new ≡ old) × ((judged ≡ Refused fault) ⊎ ((fault ≡ Refusal.Memory) × IsGrowth judged))
 
--- what a call reported, as a step
+-- the result that a call reported
 abbrev pub judgement_of : Applied → PledgeValue → Judged
 judgement_of applied new = if applied.changed then Changed new applied.done else Answered applied.done
 
--- as `IsStep`, where the call also reports whether there was a change
+-- the same as `IsStep`, for a call that also reports whether there was a change
 abbrev pub IsApplied : Judged → PledgeValue → Result Applied Refusal → PledgeValue → Type 0
 IsApplied judged old (Ok applied) new = (judged ≡ judgement_of applied new) × (new ≡ pledge_after old judged)
 IsApplied judged old (Err fault) new = (new ≡ old) × ((judged ≡ Refused fault) ⊎ ((fault ≡ Refusal.Memory) × IsGrowth judged))
 
--- a new pledge is what the rules say, or memory was refused
+-- the call returns what the rules state, or `Memory` where the rules accept
 abbrev pub IsStarted : Result PledgeValue Refusal → Result PledgeValue Refusal → Type 0
 IsStarted answer result = IsSaid (IsWant Refusal.Memory answer) answer result

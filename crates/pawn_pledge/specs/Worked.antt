@@ -1,18 +1,33 @@
--- Pledges, worked out.
-use Rattle.std.specs.{Prelude.{◌≡◌, ℕ, true, false, Bool, [], ◌∷◌, Option, Some, None, Result, Ok, Err, codes}, List.repeat}
-use Rattle.pawn_pledge.specs.Common.{BadAmount, Draw, EarlierDay, FixedSum, OverLimit, OverOwing, Rates, Repay, Sort, rates_of}
-use Rattle.pawn_pledge.specs.declared.record.{Opening.Opening, Issue.Issue, BookingState.{TheVariants.{Asked, Confirmed, Refused, Cancelled}, BookingState}}
-use Rattle.pawn_pledge.specs.{declared.record.{Closing.Closing, Status.Status}, declared.command.{Stamp.Stamp, Paper.Paper, Decision.TheVariants.Confirm}}
-use Rattle.pawn_pledge.specs.{declared.{command.{Decision.TheVariants.Refuse, Command.Command, Done.Done}, refusal.Refusal.Refusal}, Pledge.PledgeValue}
-use Rattle.pawn_pledge.specs.{Pledge.{end_of, status_of, live_of}, Step.{Answered, pledge_start, pledge_step, pledge_after, reply_of}}
-use Rattle.{pawn_terms.specs.Worked.date, pawn_debt.specs.{declared.entry.Kind.{Kind, TheVariants.{Fixed, Running}}, Worked.free}}
+-- Worked examples of pledges.
+use Rattle.pawn_debt.specs.Worked.{free}
+use Rattle.pawn_debt.specs.declared.entry.Kind.{Kind}
+use Rattle.pawn_debt.specs.declared.entry.Kind.TheVariants.{Fixed, Running}
+use Rattle.pawn_pledge.specs.Common.{BadAmount, Draw, EarlierDay, FixedSum, OverLimit, OverOwing, Rates, Repay, Sort}
+use Rattle.pawn_pledge.specs.Common.{rates_of}
+use Rattle.pawn_pledge.specs.Pledge.{PledgeValue, end_of, status_of, live_of}
+use Rattle.pawn_pledge.specs.Step.{Answered, pledge_start, pledge_step, pledge_after, reply_of}
+use Rattle.pawn_pledge.specs.declared.command.Command.{Command}
+use Rattle.pawn_pledge.specs.declared.command.Decision.TheVariants.{Confirm, Refuse}
+use Rattle.pawn_pledge.specs.declared.command.Done.{Done}
+use Rattle.pawn_pledge.specs.declared.command.Paper.{Paper}
+use Rattle.pawn_pledge.specs.declared.command.Stamp.{Stamp}
+use Rattle.pawn_pledge.specs.declared.record.BookingState.{BookingState}
+use Rattle.pawn_pledge.specs.declared.record.BookingState.TheVariants.{Asked, Confirmed, Refused, Cancelled}
+use Rattle.pawn_pledge.specs.declared.record.Closing.{Closing}
+use Rattle.pawn_pledge.specs.declared.record.Issue.{Issue}
+use Rattle.pawn_pledge.specs.declared.record.Opening.{Opening}
+use Rattle.pawn_pledge.specs.declared.record.Status.{Status}
+use Rattle.pawn_pledge.specs.declared.refusal.Refusal.{Refusal}
+use Rattle.pawn_terms.specs.Worked.{date}
+use Rattle.std.specs.List.{repeat}
+use Rattle.std.specs.Prelude.{◌≡◌, ℕ, true, false, Bool, [], ◌∷◌, Option, Some, None, Result, Ok, Err, codes}
 
--- what is agreed on a ring
+-- the opening for a ring
 abbrev pub ring_opening : Kind → Bool → Option ℕ → Opening
 ring_opening kind five_days agreed =
     record { reference = codes "A1"; article = codes "Gold ring"; kind = kind; agreed = agreed; five_days = five_days }
 
--- the ring as it was pawned on 2024-01-31, with the secret 1
+-- the ring as it was taken in pledge on 2024-01-31, with the secret 1
 abbrev pub ring_pledge : Kind → Bool → Option ℕ → Rates → PledgeValue
 ring_pledge kind five_days agreed terms = record {
   agreement = record {
@@ -28,7 +43,7 @@ ring_pledge kind five_days agreed terms = record {
   standing = record { held = false; booking = None; last = date 2024 1 31; closing = Closing.Open };
 }
 
--- for a sum without charges, an agreed end or the five days
+-- the ring for a fixed sum, without charges, an agreed end or the five days
 abbrev pub ring : ℕ → PledgeValue
 ring pence = ring_pledge (Fixed pence) false None free
 
@@ -36,18 +51,19 @@ ring pence = ring_pledge (Fixed pence) false None free
 abbrev pub ring_with_grace : ℕ → PledgeValue
 ring_with_grace pence = ring_pledge (Fixed pence) true None free
 
--- on a running account
+-- the ring on a running account, without charges, an agreed end or the five days
 abbrev pub ring_on_account : ℕ → PledgeValue
 ring_on_account limit = ring_pledge (Running limit) false None free
 
--- a day with the word 9
+-- the stamp of a day, with the word 9
 abbrev pub on : ℕ → Stamp
 on day = record { day = day; word = 9 }
 
--- what a command on a day answers, and the pledge after it
+-- the answer to a command on a day
 abbrev pub told : PledgeValue → ℕ → Command → Result Done Refusal
 told p day command = reply_of (pledge_step p (on day) command)
 
+-- the pledge after a command on a day
 abbrev pub after_telling : PledgeValue → ℕ → Command → PledgeValue
 after_telling p day command = pledge_after p (pledge_step p (on day) command)
 
@@ -55,7 +71,7 @@ after_telling p day command = pledge_after p (pledge_step p (on day) command)
 abbrev pub entry_answer : ℕ → ℕ → Sort → ℕ → Done
 entry_answer seq day sort pence = Done.Entered (record { seq = seq; day = day; sort = sort; pence = pence })
 
--- a pledge begins with a sum or a limit within the limits, and with its first secret live
+-- a new pledge has a sum or limit within the limits, and its first secret is live
 abbrev pub WorkedPledgeStarts : Type 0
 WorkedPledgeStarts =
     (pledge_start 1 (ring_opening (Fixed 10000) false None) 1 free (record { day = date 2024 1 31; word = 1 }) ≡ Ok (ring 10000))
@@ -63,7 +79,7 @@ WorkedPledgeStarts =
     × (pledge_start 1 (ring_opening (Fixed 0) false None) 1 free (on (date 2024 1 31)) ≡ Err (Refusal.Debt BadAmount))
     × (pledge_start 1 (ring_opening (Running 100000001) false None) 1 free (on (date 2024 1 31)) ≡ Err (Refusal.Debt BadAmount))
 
--- a small credit for six months passes after the end, or after the five days where these apply
+-- a pledge for a small credit and six months passes after the end of the period, or after the five days if they apply
 abbrev pub WorkedStatuses : Type 0
 WorkedStatuses =
     (status_of (ring 7500) (date 2024 7 31) ≡ Status.Inside)
@@ -75,7 +91,7 @@ WorkedStatuses =
     × (status_of (ring_pledge (Fixed 7500) false (Some (date 2024 8 1)) free) (date 2024 8 1) ≡ Status.Inside)
     × (status_of (ring_pledge (Fixed 7500) false (Some (date 2024 8 1)) free) (date 2024 8 2) ≡ Status.Realisable)
 
--- drawings in the period, on a running account up to its limit
+-- drawings are accepted in the period, on a running account, up to its limit
 abbrev pub WorkedPledgeDrawings : Type 0
 WorkedPledgeDrawings =
     let drawn = after_telling (ring_on_account 5000) (date 2024 1 31) (Command.Draw 1 3000) in
@@ -104,7 +120,7 @@ WorkedPledgeRepayments =
     × (told repaid (date 2024 2 29) (Command.Repay 2 9001) ≡ Err (Refusal.Debt (OverOwing 9000)))
     × (told (ring 7500) (date 2024 8 1) (Command.Repay 1 1000) ≡ Err Refusal.Passed)
 
--- a hold bars a redemption until it is released
+-- a pledge on hold cannot be redeemed until it is released
 abbrev pub WorkedHolds : Type 0
 WorkedHolds =
     let held = after_telling (ring 7500) (date 2024 2 1) Command.Hold in
@@ -117,7 +133,7 @@ WorkedHolds =
     × (told held (date 2024 1 31) Command.Release ≡ Err (Refusal.Debt EarlierDay))
     × (told held (date 2024 8 1) Command.Release ≡ Err Refusal.Passed)
 
--- a declaration's secret takes the place of the live one; a written statement does for a small credit alone
+-- the secret of a declaration replaces the live one; a written statement is accepted for a small credit only
 abbrev pub WorkedDeclarations : Type 0
 WorkedDeclarations =
     let many = record (ring 7500) { secrets = repeat 101 (record { day = date 2024 1 31; sort = Issue.Sworn; secret = 1 } ∷ []) } in
@@ -135,14 +151,15 @@ WorkedDeclarations =
 abbrev pub booking_answer : ℕ → ℕ → BookingState → Done
 booking_answer day window state = Done.Booked (record { day = day; window = window; state = state })
 
--- the ring once a booking for 2024-03-04 was asked for, and once it was confirmed
+-- the ring after a booking for 2024-03-04 was asked for
 abbrev pub ring_asked_for : PledgeValue
 ring_asked_for = after_telling (ring 10000) (date 2024 3 1) (Command.AskBooking (date 2024 3 4) 3)
 
+-- the ring after that booking was confirmed
 abbrev pub ring_confirmed : PledgeValue
 ring_confirmed = after_telling ring_asked_for (date 2024 3 1) (Command.DecideBooking Confirm)
 
--- a booking is asked for a window of a day that is not past, and on which the property will not have passed
+-- a booking is accepted for a window of a day that is not over, and on which the property will not have passed
 abbrev pub WorkedAskings : Type 0
 WorkedAskings =
     (told (ring 10000) (date 2024 3 1) (Command.AskBooking (date 2024 3 4) 3) ≡ Ok (booking_answer (date 2024 3 4) 3 Asked))
@@ -156,7 +173,7 @@ WorkedAskings =
     × (told ring_confirmed (date 2024 3 2) (Command.AskBooking (date 2024 3 4) 4) ≡ Ok (booking_answer (date 2024 3 4) 4 Asked))
     × (told ring_asked_for (date 2024 3 5) (Command.AskBooking (date 2024 3 4) 3) ≡ Err Refusal.BookingDay)
 
--- a booking that is asked for or confirmed is cancelled
+-- an active booking (asked for or confirmed) can be cancelled
 abbrev pub WorkedCancellings : Type 0
 WorkedCancellings =
     let cancelled = after_telling ring_confirmed (date 2024 3 5) Command.CancelBooking in
@@ -167,7 +184,7 @@ WorkedCancellings =
     × (pledge_step cancelled (on (date 2024 3 6)) Command.CancelBooking ≡ Answered (booking_answer (date 2024 3 4) 3 Cancelled))
     × (told refused (date 2024 3 2) Command.CancelBooking ≡ Err Refusal.NoBooking)
 
--- a booking that was asked for is confirmed up to its day, or refused on any
+-- a booking that is asked for can be confirmed up to its day, and refused on any day
 abbrev pub WorkedDecisions : Type 0
 WorkedDecisions =
     let cancelled = after_telling ring_asked_for (date 2024 3 1) Command.CancelBooking in
@@ -183,7 +200,7 @@ WorkedDecisions =
     × (told cancelled (date 2024 3 2) (Command.DecideBooking Confirm) ≡ Err Refusal.NoBooking)
     × (told cancelled (date 2024 3 2) (Command.DecideBooking Refuse) ≡ Err Refusal.NoBooking)
 
--- a redemption by its total, until the property passes; it takes the receipt and cancels the booking
+-- a redemption pays exactly the sum owed, before the property passes; it spends the receipt and cancels the booking
 abbrev pub WorkedRedemptions : Type 0
 WorkedRedemptions =
     let redeemed = after_telling ring_confirmed (date 2024 3 4) (Command.Redeem 10000) in
@@ -200,7 +217,7 @@ WorkedRedemptions =
     × (told redeemed (date 2024 3 4) (Command.Redeem 10000) ≡ Err Refusal.Closed)
     × (told redeemed (date 2024 3 3) (Command.Redeem 10000) ≡ Err (Refusal.Debt EarlierDay))
 
--- a sale once the pledge is realisable, for what it brings; the receipt stays live
+-- a realisable pledge can be sold, for more or less than the sum owed; its receipt stays live
 abbrev pub WorkedSales : Type 0
 WorkedSales =
     let sold = after_telling (ring 10000) (date 2024 8 1) (Command.Sell 9000) in
@@ -216,14 +233,15 @@ WorkedSales =
     × (told sold (date 2024 8 1) (Command.Sell 9000) ≡ Err Refusal.Closed)
     × (told sold (date 2024 7 31) (Command.Sell 9000) ≡ Err (Refusal.Debt EarlierDay))
 
--- the ring at a penny a day for safe keeping in the period, and once that was extended
+-- the ring with safe keeping at a penny a day in the period
 abbrev pub ring_in_safe_keeping : PledgeValue
 ring_in_safe_keeping = ring_pledge (Fixed 7500) false None (rates_of 0 1000000 0)
 
+-- the same after its period was extended to 2024-09-30
 abbrev pub ring_extended : PledgeValue
 ring_extended = after_telling ring_in_safe_keeping (date 2024 7 31) (Command.Extend (date 2024 9 30))
 
--- a longer period is agreed while the present one is not over
+-- a period can be extended while it is not over
 abbrev pub WorkedExtensions : Type 0
 WorkedExtensions =
     let often = record (ring 10000) { extensions = repeat 99 (record { day = date 2024 7 31; until = date 2024 9 30 } ∷ []) } in

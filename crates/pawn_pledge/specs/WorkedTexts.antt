@@ -1,6 +1,8 @@
--- Texts of secrets and receipts, worked out.
+-- Worked examples of texts of secrets and receipts.
+use Rattle.pawn_pledge.specs.Receipt.{receipt_text, IsReceiptText}
+use Rattle.pawn_pledge.specs.Secret.{secret_text, secret_of_text}
+use Rattle.pawn_pledge.specs.declared.receipt.Receipt.{Receipt}
 use Rattle.std.specs.Prelude.{◌≡◌, ℕ, Some, None, codes}
-use Rattle.pawn_pledge.specs.{declared.receipt.Receipt.Receipt, Secret.{secret_text, secret_of_text}, Receipt.{receipt_text, IsReceiptText}}
 
 -- a secret whose sixteen bytes differ
 abbrev pub some_secret : ℕ
@@ -18,7 +20,7 @@ WorkedSecrets =
     × (secret_of_text (codes "da41597c-5157-488d-7724-e03fb8d84a3") ≡ None)
     × (secret_of_text (codes "da41597c-5157-488d-7724-e03fb8d84a3g") ≡ None)
 
--- the receipt of that secret and a number
+-- the receipt with that secret and a number
 abbrev pub receipt_of : ℕ → Receipt
 receipt_of number = record { number = number; secret = some_secret }
 

@@ -1,6 +1,10 @@
+//! `Brief`, a pledge without its lists of entries, secrets and extensions.
+
+ghost use Rattle.pawn_pledge.specs.Brief.{brief_status, brief_owing, IsBookingWithin, IsClosingWithin, AreTotalsWithin};
+ghost use Rattle.pawn_pledge.specs.Brief.{IsBriefWithin};
+ghost use Rattle.pawn_pledge.specs.Common.{credit_of, last_stamp_day, most_entries, most_millionths, most_pence};
+ghost use Rattle.pawn_pledge.specs.Limits.{most_secrets, most_extensions};
 ghost use Rattle.std.specs.Prelude.{◌≡◌, ◌≤◌, ◌↔◌, IsTrue, OnErr, IfOk, IfErr, IfSome, IfNone};
-ghost use Rattle.pawn_pledge.specs.{Common.{credit_of, last_stamp_day, most_entries, most_millionths, most_pence}, Brief.{brief_status, brief_owing}};
-ghost use Rattle.pawn_pledge.specs.{Brief.{IsBookingWithin, IsClosingWithin, AreTotalsWithin, IsBriefWithin}, Limits.{most_secrets, most_extensions}};
 
 use crate::limits::{LAST_WINDOW, MOST_EXTENSIONS, MOST_SECRETS};
 use crate::record::{Agreement, Booking, Closing, Standing, Status};
@@ -20,8 +24,8 @@ pub struct Counts {
     pub extensions: usize,
 }
 
-/// A pledge's record with the numbers of its entries, secrets and extensions in the place of these lists. Whether the
-/// fields are within the limits is not checked.
+/// A pledge's record with the numbers of its entries, secrets and extensions instead of these lists. The fields need
+/// not be within the limits; `Brief::of_fields` checks that.
 #[derive(Drop)]
 pub struct BriefFields {
     pub agreement: Agreement,
@@ -31,11 +35,11 @@ pub struct BriefFields {
     pub live: Option<Secret>,
     /// The end of the period.
     pub ends: Day,
-    /// What is owed on the day of the last entry, or else on the day taken.
+    /// The totals on the day of the last entry, or on the day taken if there is no entry.
     pub totals: Totals,
 }
 
-/// A pledge without its lists of entries, secrets and extensions. A clause sees its fields.
+/// A pledge without its lists of entries, secrets and extensions. In contracts the value is its fields.
 #[derive(Drop)]
 pub struct Brief {
     fields: BriefFields,
@@ -43,10 +47,10 @@ pub struct Brief {
 }
 
 impl Model for Brief {
-    ghost use Rattle.std.specs.Prelude.{◌≡◌, ◌≤◌};
-    ghost use Rattle.pawn_terms.specs.Limits.{last_stamp_day};
     ghost use Rattle.pawn_debt.specs.Limits.{most_pence, most_millionths};
     ghost use Rattle.pawn_pledge.specs.declared.brief.BriefFields.{BriefFields};
+    ghost use Rattle.pawn_terms.specs.Limits.{last_stamp_day};
+    ghost use Rattle.std.specs.Prelude.{◌≡◌, ◌≤◌};
 
     ghost Value = { BriefFields };
 
@@ -58,7 +62,7 @@ impl Model for Brief {
 }
 
 impl Brief {
-    /// The brief with these fields. They are handed back exactly if one of them breaks a limit.
+    /// The brief with these fields. Returns the fields as the error exactly if one of them breaks a limit.
     pub fn of_fields(fields: BriefFields) -> Result<Brief, BriefFields>
         ensures ok { IfOk result (λ b. (b ≡ fields) × IsBriefWithin fields) }
         ensures err { IfErr result (λ back. back ≡ fields) }
@@ -70,7 +74,7 @@ impl Brief {
         }
     }
 
-    // The brief with fields that come from a pledge, and so need no check.
+    /// The brief with fields that come from a pledge and therefore need no check.
     pub(crate) fn of_pledge(fields: BriefFields, terms: Terms) -> Brief
         requires terms { terms ≡ fields.agreement.terms }
         requires taken { fields.agreement.taken ≤ last_stamp_day }
@@ -96,7 +100,7 @@ impl Brief {
         status_under(&fields.agreement, fields.standing.closing, fields.ends, day)
     }
 
-    /// What is owed in whole pence on a day that is not before the last entry, nor before the day taken.
+    /// The sum owed in whole pence on a day that is not before the last entry, nor before the day taken.
     pub fn owing(&self, day: Day) -> Owing
         requires later { self.now.totals.day ≤ day }
         ensures value { result ≡ brief_owing self.now day }
@@ -105,7 +109,7 @@ impl Brief {
     }
 }
 
-// The checked terms of the fields, if all fields are within the limits.
+/// The checked terms of the fields, if all fields are within the limits.
 fn terms_within(fields: &BriefFields) -> Option<Terms>
     ensures terms { IfSome result (λ terms. terms ≡ fields.now.agreement.terms) }
     ensures within { IfSome result (λ terms. IsBriefWithin fields.now) }
@@ -135,7 +139,7 @@ fn terms_within(fields: &BriefFields) -> Option<Terms>
     Some(terms)
 }
 
-// Whether a sum or a limit is at least a penny and no larger than the largest.
+/// Whether a sum or a limit is at least a penny and at most `MOST_PENCE`.
 fn is_credit_within(kind: Kind) -> bool
     ensures answer { IsTrue result ↔ ((1 ≤ credit_of kind) × (credit_of kind ≤ most_pence)) }
 {
@@ -143,14 +147,14 @@ fn is_credit_within(kind: Kind) -> bool
     1 <= credit && credit <= MOST_PENCE
 }
 
-// Whether a request may name both days.
+/// Whether a request may name both days.
 fn are_days_within(taken: Day, last: Day) -> bool
     ensures answer { IsTrue result ↔ ((taken ≤ last_stamp_day) × (last ≤ last_stamp_day)) }
 {
     taken.count() <= LAST_STAMP_DAY && last.count() <= LAST_STAMP_DAY
 }
 
-// Whether there are no more entries, secrets and extensions than a pledge may have.
+/// Whether there are no more entries, secrets and extensions than a pledge may have.
 fn are_counts_within(counts: Counts) -> bool
     ensures answer { IsTrue result ↔ ((counts.entries ≤ most_entries) × (counts.secrets ≤ most_secrets) × (counts.extensions ≤ most_extensions)) }
 {
@@ -159,6 +163,7 @@ fn are_counts_within(counts: Counts) -> bool
         && counts.extensions <= MOST_EXTENSIONS
 }
 
+/// Whether the booking, if there is one, is for a window of a day that a request may name.
 fn is_booking_within(booking: Option<Booking>) -> bool
     ensures answer { IsTrue result ↔ IfSome booking IsBookingWithin }
 {
@@ -168,6 +173,7 @@ fn is_booking_within(booking: Option<Booking>) -> bool
     }
 }
 
+/// Whether a request may name the day of the closing, and a sale brought at most `MOST_PENCE`.
 fn is_closing_within(closing: Closing) -> bool
     ensures answer { IsTrue result ↔ IsClosingWithin closing }
 {
@@ -178,6 +184,7 @@ fn is_closing_within(closing: Closing) -> bool
     }
 }
 
+/// Whether a request may name the day of the totals, and both sums are within their limits.
 fn are_totals_within(totals: &Totals) -> bool
     ensures answer { IsTrue result ↔ AreTotalsWithin totals.now }
 {

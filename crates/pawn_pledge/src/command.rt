@@ -1,5 +1,7 @@
-ghost use Rattle.std.specs.Prelude.{◌≡◌, true, false, if◌then◌else◌};
+//! The commands on a pledge, who may send them, and their answers.
+
 ghost use Rattle.pawn_pledge.specs.Commands.{IsCommand, is_brokers, is_bearers};
+ghost use Rattle.std.specs.Prelude.{◌≡◌, true, false, if◌then◌else◌};
 
 use crate::record::Booking;
 use crate::secret::Secret;
@@ -7,14 +9,14 @@ use pawn_debt::{Day, Entry};
 use pawn_terms::RequestDay;
 use std::marker::Model;
 
-/// The day and the 128-bit word that come with a request. The word is the secret of a receipt that the request issues.
+/// The day and the random 128-bit word of a request. If the request issues a receipt, the word is the receipt's secret.
 #[derive(Clone, Copy, PartialEq, Eq)]
 pub struct Stamp {
     pub day: RequestDay,
     pub word: u128,
 }
 
-/// The paper that a claimant without the receipt tenders.
+/// The declaration of a claimant who does not have the receipt.
 #[derive(Clone, Copy)]
 pub enum Paper {
     /// A statutory declaration.
@@ -35,9 +37,9 @@ pub enum Decision {
 pub enum Command {
     Draw { seq: u64, pence: u64 },
     Repay { seq: u64, pence: u64 },
-    /// Bars redemption.
+    /// Puts the pledge on hold, so that it cannot be redeemed.
     Hold,
-    /// Bars redemption no longer.
+    /// Ends the hold.
     Release,
     Declare(Paper),
     AskBooking { day: RequestDay, window: u64 },
@@ -49,7 +51,7 @@ pub enum Command {
 }
 
 impl Command {
-    // Whether a broker may send it.
+    /// Whether a broker may send the command.
     fn is_brokers(&self) -> bool
         ensures value { result ≡ is_brokers self.now }
     {
@@ -66,7 +68,7 @@ impl Command {
         }
     }
 
-    // Whether the bearer of a live receipt may send it.
+    /// Whether the bearer of a live receipt may send the command.
     fn is_bearers(&self) -> bool
         ensures value { result ≡ is_bearers self.now }
     {
@@ -79,7 +81,7 @@ impl Command {
         }
     }
 
-    // Reads the days of the command, which gives a proof that a request can give them.
+    /// Reads the days of the command, which gives a proof that a request may name them.
     fn know_days(&self)
         ensures within { IsCommand self.now }
     {
@@ -95,16 +97,16 @@ impl Command {
     }
 }
 
-/// A command that a broker may send. A clause sees the command.
+/// A command that a broker may send. In contracts the value is the command.
 #[derive(Clone, Copy)]
 pub struct BrokerCommand {
     command: Command,
 }
 
 impl Model for BrokerCommand {
-    ghost use Rattle.std.specs.Prelude.{◌≡◌, true};
-    ghost use Rattle.pawn_pledge.specs.declared.command.Command.{Command};
     ghost use Rattle.pawn_pledge.specs.Commands.{IsCommand, is_brokers};
+    ghost use Rattle.pawn_pledge.specs.declared.command.Command.{Command};
+    ghost use Rattle.std.specs.Prelude.{◌≡◌, true};
 
     ghost Value = { Command };
 
@@ -123,7 +125,7 @@ impl TryFrom<Command> for BrokerCommand {
     ghost try_from_gives = { λ command result. result
         ≡ (if is_brokers command then Ok command else Err command) };
 
-    /// The command, if a broker may send it; otherwise it is handed back.
+    /// The command, if a broker may send it; otherwise the command is returned as the error.
     fn try_from(command: Command) -> Result<BrokerCommand, Command> {
         command.know_days();
         if command.is_brokers() {
@@ -145,16 +147,16 @@ impl BrokerCommand {
     }
 }
 
-/// A command that the bearer of a live receipt may send. A clause sees the command.
+/// A command that the bearer of a live receipt may send. In contracts the value is the command.
 #[derive(Clone, Copy)]
 pub struct BearerCommand {
     command: Command,
 }
 
 impl Model for BearerCommand {
-    ghost use Rattle.std.specs.Prelude.{◌≡◌, true};
-    ghost use Rattle.pawn_pledge.specs.declared.command.Command.{Command};
     ghost use Rattle.pawn_pledge.specs.Commands.{IsCommand, is_bearers};
+    ghost use Rattle.pawn_pledge.specs.declared.command.Command.{Command};
+    ghost use Rattle.std.specs.Prelude.{◌≡◌, true};
 
     ghost Value = { Command };
 
@@ -173,7 +175,7 @@ impl TryFrom<Command> for BearerCommand {
     ghost try_from_gives = { λ command result. result
         ≡ (if is_bearers command then Ok command else Err command) };
 
-    /// The command, if a bearer may send it; otherwise it is handed back.
+    /// The command, if a bearer may send it; otherwise the command is returned as the error.
     fn try_from(command: Command) -> Result<BearerCommand, Command> {
         command.know_days();
         if command.is_bearers() {
@@ -195,11 +197,11 @@ impl BearerCommand {
     }
 }
 
-/// What an accepted command answers. Sums are in pence.
+/// The answer to an accepted command. Sums are in pence.
 #[derive(Clone, Copy, PartialEq, Eq)]
 pub enum Done {
     Entered(Entry),
-    /// Whether redemption is barred.
+    /// Whether the pledge is on hold.
     Held(bool),
     /// The secret of the new receipt.
     Declared(Secret),
@@ -208,6 +210,7 @@ pub enum Done {
         day: Day,
         paid: u64,
     },
+    /// The net sum of a sale, its surplus over the sum owed, and its shortfall below it.
     Sold {
         net: u64,
         surplus: u64,
@@ -219,7 +222,7 @@ pub enum Done {
     },
 }
 
-/// What an accepted command answers, and whether it changed the pledge.
+/// The answer to an accepted command, and whether the command changed the pledge.
 #[derive(Clone, Copy)]
 pub struct Applied {
     pub done: Done,
@@ -227,7 +230,7 @@ pub struct Applied {
 }
 
 impl Applied {
-    // An answer without a change.
+    /// An answer without a change.
     pub(crate) fn of_answer(done: Done) -> Applied
         ensures value { result ≡ record { done = done; changed = false } }
     {
@@ -237,7 +240,7 @@ impl Applied {
         }
     }
 
-    // An answer with a change.
+    /// An answer with a change.
     pub(crate) fn of_change(done: Done) -> Applied
         ensures value { result ≡ record { done = done; changed = true } }
     {

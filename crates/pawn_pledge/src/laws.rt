@@ -1,32 +1,35 @@
-ghost use Rattle.pawn_pledge.specs.Laws.{StartsStanding, StaysReplayable, StaysWithin, StaysStanding, AgreementStays, ChangesDiffer, ClosedStays, SecretsGrow};
-ghost use Rattle.pawn_pledge.specs.Laws.{EntriesGrow, ExtensionsGrow, ListsGrow, EntriesActOnce, StandingEndIsAnswered, ExtensionsActOnce, OneIsLive};
-ghost use Rattle.pawn_pledge.specs.Laws.{NeverLiveAgain, EarlierAreSpent, BriefOwes, BriefHasStatus, BriefIsWithin, SecretTextsReadBack, ReceiptTextsReadBack};
-ghost use Rattle.pawn_pledge.specs.Laws.{ReceiptTextsAreOne};
+//! Laws: properties of every pledge, whatever commands are sent.
 
-/// Whatever is sent, a pledge stays one that can have come about, and what was agreed when it was taken stays. A change
-/// always changes something, and a pledge that is redeemed or sold changes no more.
+ghost use Rattle.pawn_pledge.specs.Laws.{StartsReachable, StaysReplayable, StaysWithin, StaysReachable, AgreementStays};
+ghost use Rattle.pawn_pledge.specs.Laws.{ChangesDiffer, ClosedStays, SecretsGrow, EntriesGrow, ExtensionsGrow};
+ghost use Rattle.pawn_pledge.specs.Laws.{ListsGrow, EntriesActOnce, SameEndIsAnswered, ExtensionsActOnce, OneIsLive};
+ghost use Rattle.pawn_pledge.specs.Laws.{NeverLiveAgain, EarlierAreSpent, BriefOwes, BriefHasStatus, BriefIsWithin};
+ghost use Rattle.pawn_pledge.specs.Laws.{SecretTextsReadBack, ReceiptTextsReadBack, ReceiptTextsAreOne};
+
+/// Every command keeps a pledge reachable, within its limits and with the same agreement. A pledge always differs after
+/// a change, and no command changes a pledge that is redeemed or sold.
 pub fn laws_of_steps()
-    ensures starts { StartsStanding }
+    ensures starts { StartsReachable }
     ensures replayable { StaysReplayable }
     ensures within { StaysWithin }
-    ensures standing { StaysStanding }
+    ensures reachable { StaysReachable }
     ensures agreement { AgreementStays }
     ensures differ { ChangesDiffer }
     ensures closed { ClosedStays }
 {}
 
-/// Whatever is sent, the entries, secrets and extensions of a pledge only grow at their ends.
+/// Commands change the lists of entries, secrets and extensions of a pledge only by adding at their ends.
 pub fn laws_of_lists()
     ensures entries { EntriesGrow }
     ensures extensions { ExtensionsGrow }
     ensures all { ListsGrow }
 {}
 
-/// An entry that is sent again is answered as the first time and changes nothing. So is an extension, while its end is
-/// the present one and the pledge may still be extended.
+/// An entry that is sent again gets the answer of the first time and changes nothing. The same holds for an extension
+/// while its end is the present one and the pledge may still be extended.
 pub fn laws_of_repeats()
     ensures entries { EntriesActOnce }
-    ensures standing_end { StandingEndIsAnswered }
+    ensures same_end { SameEndIsAnswered }
     ensures extensions { ExtensionsActOnce }
 {}
 
@@ -38,14 +41,14 @@ pub fn laws_of_receipts()
     ensures never_again { NeverLiveAgain }
 {}
 
-/// A brief shows what its pledge owes and what its status is, and keeps the limits that `Brief::of_fields` asks.
+/// A brief shows the sum owed and the status of its pledge, and is within the limits that `Brief::of_fields` checks.
 pub fn laws_of_briefs()
     ensures owes { BriefOwes }
     ensures status { BriefHasStatus }
     ensures within { BriefIsWithin }
 {}
 
-/// The text of a secret or of a receipt reads back as the same, and no text reads as two receipts.
+/// The text of a secret or of a receipt reads back as that secret or receipt, and no text reads as two receipts.
 pub fn laws_of_texts()
     ensures secrets { SecretTextsReadBack }
     ensures receipts { ReceiptTextsReadBack }

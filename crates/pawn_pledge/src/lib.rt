@@ -39,6 +39,6 @@ pub use record::{
 pub use refusal::Refusal;
 pub use secret::Secret;
 pub use worked::{
-    worked_bookings, worked_closings, worked_entries, worked_extensions, worked_pledges,
-    worked_receipts, worked_texts,
+    worked_bookings, worked_closings, worked_entries, worked_extensions, worked_limits,
+    worked_pledges, worked_receipts, worked_texts,
 };

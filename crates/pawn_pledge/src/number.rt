@@ -1,11 +1,13 @@
-ghost use Rattle.std.specs.Prelude.{◌≡◌, ◌↔◌, ℕ, IsSome, IfSome, IfNone, decimal};
+//! `Number`, the number of a book or a pledge.
+
 ghost use Rattle.pawn_pledge.specs.Number.{IsNumber};
+ghost use Rattle.std.specs.Prelude.{◌≡◌, ◌↔◌, ℕ, IsSome, IfSome, IfNone, decimal};
 
 use crate::limits::MOST_NUMBER;
 use itoa::Buffer;
 use std::marker::Model;
 
-/// The number of a book or of a pledge, from 1 to 999,999,999.
+/// The number of a book or of a pledge, from 1 to 999,999,999. In contracts the value is that number.
 #[derive(Clone, Copy, PartialEq, Eq)]
 pub struct Number {
     number: u32,
@@ -35,7 +37,7 @@ impl Number {
         })
     }
 
-    /// The number that a text of decimal digits without a leading zero names, if it is from 1 to 999,999,999.
+    /// The number of a text of decimal digits without a leading zero, if it is from 1 to 999,999,999.
     pub fn of_text(text: &[u8]) -> Option<Number>
         ensures some { IfSome result (λ n. IsNumber n × (text.now ≡ decimal n)) }
         ensures none { IfNone result ((n : ℕ) → IsNumber n → text.now ≡ decimal n → ⊥) }
@@ -65,7 +67,7 @@ impl Number {
         self.number
     }
 
-    /// Gives a proof that a book or a pledge can have the number.
+    /// Gives a proof that the number is in range.
     pub fn know_limits(self)
         ensures in_range { IsNumber self }
     {

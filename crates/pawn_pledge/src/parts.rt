@@ -1,7 +1,11 @@
-ghost use Rattle.std.specs.Prelude.{◌≡◌, ◌≤◌, ◌↔◌, IsTrue, IfSome, IfNone, IfOk};
-ghost use Rattle.pawn_pledge.specs.{Common.{DoNotFall, Each, IsOwed, last_by, last_stamp_day}, Replayable.{AreDistinctSecrets, AreExtended, AreIssued}};
-ghost use Rattle.pawn_pledge.specs.{Replayable.{IsBooked, IsClosed, IsDrawnBy, IsLaterIssue, IsOverUnder, IsStanding}, Parts.{AreIssuedIn, IsLimited, IsTyped}};
+//! `Parts`, the record of a pledge as plain fields, and the checks on it.
+
+ghost use Rattle.pawn_pledge.specs.Common.{DoNotFall, Each, IsOwed, last_by, last_stamp_day};
+ghost use Rattle.pawn_pledge.specs.Parts.{AreIssuedIn, IsLimited, IsTyped};
 ghost use Rattle.pawn_pledge.specs.Pledge.{debt_of, end_of, is_passed, last_until, open_status};
+ghost use Rattle.pawn_pledge.specs.Replayable.{AreDistinctSecrets, AreExtended, AreIssued, IsBooked, IsClosed};
+ghost use Rattle.pawn_pledge.specs.Replayable.{IsDrawnBy, IsLaterIssue, IsOverUnder, IsReachable};
+ghost use Rattle.std.specs.Prelude.{◌≡◌, ◌≤◌, ◌↔◌, IsTrue, IfSome, IfNone, IfOk};
 
 use crate::limits::{LAST_WINDOW, MOST_EXTENSIONS, MOST_SECRETS};
 use crate::record::{
@@ -13,7 +17,7 @@ use pawn_debt::{Day, Entries, Entry, MOST_PENCE, Sort, Terms, Totals, owing_at, 
 use pawn_terms::LAST_STAMP_DAY;
 use std::alloc::AllocError;
 
-/// The record of a pledge as plain fields. Whether a pledge can have it is not checked: `can_stand` does that.
+/// The record of a pledge as plain fields. It need not be one that a pledge can have; `can_stand` checks that.
 #[derive(Drop)]
 pub struct Parts {
     pub agreement: Agreement,
@@ -24,15 +28,14 @@ pub struct Parts {
 }
 
 impl Parts {
-    /// Whether a pledge can have these parts: whether they could have come about by commands, and
-    /// keep the limits.
+    /// Whether a pledge can have this record: whether commands can produce it, and it is within the limits.
     pub fn can_stand(&self) -> bool
-        ensures answer { IsTrue result ↔ IsStanding self.now }
+        ensures answer { IsTrue result ↔ IsReachable self.now }
     {
-        judge(self).is_some()
+        validate(self).is_some()
     }
 
-    /// A copy of the record. The only error is that memory is refused.
+    /// A copy of the record. Fails only if memory runs out.
     pub fn copy(&self) -> Result<Parts, AllocError>
         ensures same { IfOk result (λ parts. parts ≡ self.now) }
     {
@@ -50,7 +53,8 @@ impl Parts {
     }
 }
 
-// Whether each extension was agreed in the period as it then was, for a later end, and none after the last change.
+/// Whether each extension was agreed for a later end, within the period as it was on that day, and none was agreed
+/// after `last`, the day of the last change.
 fn are_extended(taken: Day, first_end: Day, last: Day, extensions: &[Extension]) -> bool
     ensures answer { IsTrue result ↔ (AreExtended taken first_end extensions.now × (last_by (λ e. e.day) taken extensions.now ≤ last)) }
 {
@@ -66,14 +70,14 @@ fn are_extended(taken: Day, first_end: Day, last: Day, extensions: &[Extension])
     day <= last
 }
 
-// The end that an extension agreed last.
+/// The end of the last extension, if there is one.
 fn last_until(extensions: &[Extension]) -> Option<Day>
     ensures value { result ≡ last_until extensions.now }
 {
     extensions.last().map(|extension| extension.until)
 }
 
-// Whether each drawing is in the period.
+/// Whether no drawing is after the end of the period.
 fn are_drawn(ends: Day, entries: &[Entry]) -> bool
     ensures answer { IsTrue result ↔ Each (λ e. IsDrawnBy ends e.sort e.day) entries.now }
 {
@@ -87,7 +91,8 @@ fn are_drawn(ends: Day, entries: &[Entry]) -> bool
     true
 }
 
-// Whether a secret after the first may be issued in this way: sworn, or written if the credit is small.
+/// Whether a secret after the first may have been issued in this way: on a statutory declaration, or on a written
+/// statement if the credit is small.
 fn is_later_issue(credit: u64, sort: Issue) -> bool
     ensures answer { IsTrue result ↔ IsLaterIssue credit sort }
 {
@@ -98,6 +103,7 @@ fn is_later_issue(credit: u64, sort: Issue) -> bool
     }
 }
 
+/// Whether all of these secrets may have been issued after the first.
 fn are_later_issues(credit: u64, issued: &[Issued]) -> bool
     ensures answer { IsTrue result ↔ Each (λ j. IsLaterIssue credit j.sort) issued.now }
 {
@@ -109,7 +115,7 @@ fn are_later_issues(credit: u64, issued: &[Issued]) -> bool
     true
 }
 
-// Whether no two secrets are the same.
+/// Whether no two secrets are the same.
 fn are_distinct(issued: &[Issued]) -> bool
     ensures answer { IsTrue result ↔ AreDistinctSecrets issued.now }
 {
@@ -121,7 +127,8 @@ fn are_distinct(issued: &[Issued]) -> bool
     true
 }
 
-// Whether the days of the secrets never fall, from the day taken on, and none is past the day of the last change.
+/// Whether the secrets are in the order of their days, none before the day taken and none after `last`, the day of the
+/// last change.
 fn do_not_fall(taken: Day, last: Day, issued: &[Issued]) -> bool
     ensures answer { IsTrue result ↔ (DoNotFall (λ i. i.day) taken issued.now × (last_by (λ i. i.day) taken issued.now ≤ last)) }
 {
@@ -135,7 +142,7 @@ fn do_not_fall(taken: Day, last: Day, issued: &[Issued]) -> bool
     day <= last
 }
 
-// Whether the property had passed on a day.
+/// Whether the property has passed on a day, if the pledge is not closed.
 fn is_passed_on(parts: &Parts, ends: Day, day: Day) -> bool
     requires ends { ends ≡ end_of parts.now }
     requires taken { parts.now.agreement.taken ≤ last_stamp_day }
@@ -147,7 +154,7 @@ fn is_passed_on(parts: &Parts, ends: Day, day: Day) -> bool
     }
 }
 
-// Whether a booking may have that state under that closing.
+/// Whether a booking may have this state with this closing: a closed pledge has no active booking.
 fn is_over_under(closing: Closing, state: BookingState) -> bool
     ensures answer { IsTrue result ↔ IsOverUnder closing state }
 {
@@ -160,7 +167,7 @@ fn is_over_under(closing: Closing, state: BookingState) -> bool
     }
 }
 
-// Whether the booking is one that can have come about.
+/// Whether there is no booking, or commands can produce it.
 fn is_booked(parts: &Parts, ends: Day) -> bool
     requires ends { ends ≡ end_of parts.now }
     requires taken { parts.now.agreement.taken ≤ last_stamp_day }
@@ -181,7 +188,7 @@ fn is_booked(parts: &Parts, ends: Day) -> bool
     is_over_under(parts.standing.closing, b.state)
 }
 
-// Whether the pledge is open, or a command can have closed it in this way.
+/// Whether the pledge is open, or a command can have closed it in this way.
 fn is_closed(parts: &Parts, terms: Terms, ends: Day, totals: &Totals) -> bool
     requires terms { terms ≡ parts.now.agreement.terms }
     requires ends { ends ≡ end_of parts.now }
@@ -223,7 +230,8 @@ fn is_closed(parts: &Parts, terms: Terms, ends: Day, totals: &Totals) -> bool
     }
 }
 
-// Whether the first secret is the opening's, and no later one is.
+/// Whether the first secret was issued when the pledge was taken, and all later ones on declarations that the credit
+/// allows.
 fn are_issued(taken: Day, credit: u64, issued: &[Issued]) -> bool
     ensures answer { IsTrue result ↔ AreIssued taken credit issued.now }
 {
@@ -239,7 +247,7 @@ fn are_issued(taken: Day, credit: u64, issued: &[Issued]) -> bool
     are_later_issues(credit, rest)
 }
 
-// Whether each drawing of the record is in the period.
+/// Whether no drawing of the record is after the end of the period.
 fn are_drawn_in(parts: &Parts, ends: Day) -> bool
     requires ends { ends ≡ end_of parts.now }
     ensures answer { IsTrue result ↔ Each (λ e. IsDrawnBy (end_of parts.now) e.sort e.day) parts.now.entries }
@@ -247,7 +255,7 @@ fn are_drawn_in(parts: &Parts, ends: Day) -> bool
     are_drawn(ends, parts.entries.as_slice())
 }
 
-// Whether each extension is to a day that a request may name.
+/// Whether each extension is to a day that a request may name.
 fn are_named(extensions: &[Extension]) -> bool
     ensures answer { IsTrue result ↔ Each (λ e. e.until ≤ last_stamp_day) extensions.now }
 {
@@ -259,7 +267,7 @@ fn are_named(extensions: &[Extension]) -> bool
     true
 }
 
-// Whether the booking is for a day that a request may name.
+/// Whether the booking is for a day that a request may name.
 fn is_named(booking: Option<Booking>) -> bool
     ensures answer { IsTrue result ↔ IfSome booking (λ b. b.day ≤ last_stamp_day) }
 {
@@ -269,8 +277,8 @@ fn is_named(booking: Option<Booking>) -> bool
     }
 }
 
-// What follows from a record that a pledge can have: its checked terms, the end of its period, and what is owed on the
-// day of the last entry.
+/// Values computed from a record that a pledge can have: its checked terms, the end of its period, and the totals on
+/// the day of the last entry.
 #[derive(Clone, Copy)]
 pub(crate) struct Found {
     pub terms: Terms,
@@ -278,13 +286,13 @@ pub(crate) struct Found {
     pub totals: Totals,
 }
 
-// What follows from a record, if a pledge can have it.
-pub(crate) fn judge(parts: &Parts) -> Option<Found>
-    ensures standing { IfSome result (λ f. IsStanding parts.now) }
+/// Checks a record. Returns the values computed from it, or `None` if no pledge can have the record.
+pub(crate) fn validate(parts: &Parts) -> Option<Found>
+    ensures reachable { IfSome result (λ f. IsReachable parts.now) }
     ensures terms { IfSome result (λ f. f.terms ≡ parts.now.agreement.terms) }
     ensures ends { IfSome result (λ f. f.ends ≡ end_of parts.now) }
     ensures kept { IfSome result (λ f. IsOwed (debt_of parts.now) f.totals) }
-    ensures none { IfNone result (IsStanding parts.now → ⊥) }
+    ensures none { IfNone result (IsReachable parts.now → ⊥) }
 {
     let Ok(terms) = parts.agreement.terms.check() else {
         return None;
@@ -329,7 +337,8 @@ pub(crate) fn judge(parts: &Parts) -> Option<Found>
     })
 }
 
-// Whether the parts keep the limits, the number of entries aside.
+/// Whether the record is within the limits. The number of entries is not checked here, since `replay_entries` checks
+/// it.
 fn is_limited(parts: &Parts) -> bool
     ensures limits { IsTrue result ↔ IsLimited parts.now }
     ensures types { IsTyped parts.now }
@@ -352,7 +361,7 @@ fn is_limited(parts: &Parts) -> bool
     are_named(parts.extensions.as_slice()) && is_named(parts.standing.booking)
 }
 
-// Whether the secrets are ones that can have been issued.
+/// Whether commands can have issued these secrets.
 fn are_issued_in(parts: &Parts) -> bool
     ensures answer { IsTrue result ↔ AreIssuedIn parts.now }
 {

@@ -1,14 +1,20 @@
+//! `Pledge`, one pledge with its record and its debt.
+
+ghost use Rattle.pawn_pledge.specs.Brief.{brief_of};
+ghost use Rattle.pawn_pledge.specs.Common.{IsChecked, IsStampDay, IsOwed, due, last_of, most_millionths, most_pence};
+ghost use Rattle.pawn_pledge.specs.Common.{owing_of, totals_of};
+ghost use Rattle.pawn_pledge.specs.Number.{IsNumber};
+ghost use Rattle.pawn_pledge.specs.Pledge.{status_of, open_status, last_secret, live_of, end_of, debt_of};
+ghost use Rattle.pawn_pledge.specs.Replayable.{IsOpening, IsReachable};
+ghost use Rattle.pawn_pledge.specs.Step.{pledge_start, IsStarted};
 ghost use Rattle.std.specs.Prelude.{◌≡◌, ◌≤◌, ◌↔◌, IsTrue, Some, OnErr, IfOk, IfErr, length};
-ghost use Rattle.pawn_pledge.specs.{Common.{IsChecked, IsStampDay}, Number.IsNumber, Replayable.IsOpening};
-ghost use Rattle.pawn_pledge.specs.{Common.{IsOwed, due, last_of, most_millionths, most_pence, owing_of, totals_of}, Pledge.{status_of, open_status}};
-ghost use Rattle.pawn_pledge.specs.{Pledge.{last_secret, live_of, end_of, debt_of}, Step.{pledge_start, IsStarted}, Replayable.IsStanding, Brief.brief_of};
 
 mod steps;
 
 use crate::brief::{Brief, BriefFields, Counts};
 use crate::command::Stamp;
 use crate::number::Number;
-use crate::parts::{Parts, judge};
+use crate::parts::{Parts, validate};
 use crate::record::{
     Agreement, Closing, Extension, Extensions, Issue, Issued, Opening, Secrets, Standing, Status,
 };
@@ -19,7 +25,7 @@ use pawn_debt::{Day, Debt, Entry, Owing, Terms, Totals};
 use std::alloc::{AllocError, Global};
 use std::marker::Model;
 
-/// One pledge. A clause sees its record.
+/// One pledge. In contracts the value is its record.
 #[derive(Drop)]
 pub struct Pledge {
     agreement: Agreement,
@@ -30,8 +36,8 @@ pub struct Pledge {
 }
 
 impl Model for Pledge {
-    ghost use Rattle.pawn_pledge.specs.declared.parts.Parts.{Parts};
     ghost use Rattle.pawn_pledge.specs.Kept.{IsPledgeKept};
+    ghost use Rattle.pawn_pledge.specs.declared.parts.Parts.{Parts};
 
     ghost Value = { Parts };
 
@@ -54,7 +60,7 @@ impl Model for Pledge {
     }) a.debt };
 }
 
-// Gives a proof that all that a pledge starts from is within its limits.
+/// Gives a proof that the data of a new pledge is within its limits.
 fn know_start(number: Number, opening: &Opening, terms: Terms, stamp: &Stamp)
     ensures number { IsNumber number }
     ensures opening { IsOpening opening.now }
@@ -68,7 +74,7 @@ fn know_start(number: Number, opening: &Opening, terms: Terms, stamp: &Stamp)
 
 impl Pledge {
     /// A new pledge, taken on the stamp's day, whose first secret is the stamp's word. `BadAmount` if its sum or limit
-    /// is 0 or above `MOST_PENCE`, and `Memory` if memory is refused. `version` is the version of `terms` in the book.
+    /// is 0 or above `MOST_PENCE`, and `Memory` if memory runs out. `version` is the version of `terms` in the book.
     pub fn start(
         alloc: Global,
         number: Number,
@@ -78,13 +84,13 @@ impl Pledge {
         stamp: &Stamp,
     ) -> Result<Pledge, Refusal>
         ensures started { IsStarted (pledge_start number opening version terms stamp.now) result }
-        ensures standing { IfOk result IsStanding }
+        ensures reachable { IfOk result IsReachable }
     {
         know_start(number, &opening, terms, stamp);
         Pledge::of_opening(alloc, number, opening, version, terms, stamp)
     }
 
-    // Does what `start` does, and promises nothing of limits.
+    /// Does the same as `start`, with a contract that states nothing about limits.
     fn of_opening(
         alloc: Global,
         number: Number,
@@ -140,7 +146,7 @@ impl Pledge {
         )
     }
 
-    // The status on a day, as if the pledge were not closed.
+    /// The status on a day, as if the pledge were not closed.
     fn open_status(&self, day: Day) -> Status
         ensures value { result ≡ open_status self.now day }
     {
@@ -167,7 +173,7 @@ impl Pledge {
         }
     }
 
-    // The last secret that was issued.
+    /// The last secret that was issued.
     fn last_secret(&self) -> Secret
         ensures value { last_secret self.now.secrets ≡ Some result }
     {
@@ -175,7 +181,7 @@ impl Pledge {
         issued[issued.len() - 1].secret
     }
 
-    /// What was agreed when the pledge was taken, with its number, its day and its terms.
+    /// The agreement: the opening, with the number, the day and the terms of the pledge.
     pub fn agreement(&self) -> &Agreement
         ensures value { result.now ≡ self.now.agreement }
     {
@@ -219,7 +225,7 @@ impl Pledge {
         self.debt.ends()
     }
 
-    /// What is owed in whole pence on a day that is not before the last entry, nor before the day taken.
+    /// The sum owed in whole pence on a day that is not before the last entry, nor before the day taken.
     pub fn owing(&self, day: Day) -> Owing
         requires later { last_of self.now.agreement.taken self.now.entries ≤ day }
         ensures value { result ≡ owing_of (due (debt_of self.now) day) }
@@ -227,8 +233,8 @@ impl Pledge {
         self.debt.owing(day)
     }
 
-    /// What is owed on the day of the last entry, or else on the day taken: principal in pence, charges in millionths
-    /// of a penny.
+    /// The totals on the day of the last entry, or on the day taken if there is no entry: principal in pence, charges
+    /// in millionths of a penny.
     pub fn totals(&self) -> Totals
         ensures value { result ≡ totals_of (debt_of self.now) }
         ensures principal_in { result.principal ≤ most_pence }
@@ -237,7 +243,7 @@ impl Pledge {
         self.debt.totals()
     }
 
-    /// A copy of the pledge. The only error is that memory is refused.
+    /// A copy of the pledge. Fails only if memory runs out.
     pub fn copy(&self) -> Result<Pledge, AllocError>
         ensures ok { IfOk result (λ p. p ≡ self.now) }
     {
@@ -254,7 +260,7 @@ impl Pledge {
         })
     }
 
-    /// A copy of the pledge's record as plain fields. The only error is that memory is refused.
+    /// A copy of the pledge's record as plain fields. Fails only if memory runs out.
     pub fn parts(&self) -> Result<Parts, AllocError>
         ensures ok { IfOk result (λ parts. parts ≡ self.now) }
     {
@@ -271,22 +277,22 @@ impl Pledge {
         })
     }
 
-    /// The pledge with this record. It is handed back exactly if no pledge can have it: if it could not have come about
-    /// by commands, or breaks a limit.
+    /// The pledge with this record. Returns the record as the error exactly if no pledge can have it: if commands
+    /// cannot produce it, or if it breaks a limit.
     pub fn of_parts(parts: Parts) -> Result<Pledge, Parts>
-        ensures ok { IfOk result (λ p. (p ≡ parts) × IsStanding parts) }
+        ensures ok { IfOk result (λ p. (p ≡ parts) × IsReachable parts) }
         ensures err { IfErr result (λ back. back ≡ parts) }
-        ensures refused { OnErr result (IsStanding parts → ⊥) }
+        ensures refused { OnErr result (IsReachable parts → ⊥) }
     {
-        match judge(&parts) {
+        match validate(&parts) {
             Some(found) => Ok(Pledge::of_checked(parts, found.terms, found.ends, found.totals)),
             None => Err(parts),
         }
     }
 
-    // The pledge with a record that `judge` accepts.
+    /// The pledge with a record that `validate` accepts.
     fn of_checked(parts: Parts, terms: Terms, ends: Day, totals: Totals) -> Pledge
-        requires standing { IsStanding parts }
+        requires reachable { IsReachable parts }
         requires terms { terms ≡ parts.agreement.terms }
         requires ends { ends ≡ end_of parts }
         requires kept { IsOwed (debt_of parts) totals }
@@ -310,7 +316,7 @@ impl Pledge {
         }
     }
 
-    /// The pledge without its lists. The only error is that memory is refused.
+    /// The pledge without its lists. Fails only if memory runs out.
     pub fn brief(&self) -> Result<Brief, AllocError>
         ensures ok { IfOk result (λ b. b ≡ brief_of self.now) }
     {

@@ -1,3 +1,5 @@
+//! `Receipt`, a pledge's number with a secret, and its text.
+
 ghost use Rattle.std.specs.Prelude.{◌≡◌, IfOk, IfErr, string_bytes, codes, position, ◌==◌};
 
 use crate::number::Number;
@@ -7,26 +9,27 @@ use std::alloc::{AllocError, Global};
 use std::error::Error;
 use std::fmt;
 
-/// What is handed to whoever may redeem a pledge: the pledge's number and a secret.
+/// A pledge's number with a secret. A receipt is issued when the pledge is taken and on each declaration. While it is
+/// live, its bearer may redeem the pledge.
 #[derive(Clone, Copy, PartialEq, Eq)]
 pub struct Receipt {
     pub number: Number,
     pub secret: Secret,
 }
 
-/// A text that is not the text of a receipt.
+/// The error for a text that is not the text of a receipt.
 #[derive(Clone, Copy, Debug)]
 pub struct BadReceipt;
 
 impl BadReceipt {
-    /// The number of the fault, as replies carry it.
+    /// The code of the fault in replies.
     pub fn code(self) -> u16
         ensures value { result ≡ 710 }
     {
         710
     }
 
-    /// The name of the fault, as replies carry it.
+    /// The name of the fault in replies.
     pub fn name(self) -> &'static str
         ensures value { result.now ≡ codes "BadReceipt" }
     {
@@ -70,7 +73,8 @@ impl Receipt {
         Ok(Receipt { number, secret })
     }
 
-    /// The text of the receipt: its number, a hyphen, and the hyphenated secret with small letters.
+    /// The text of the receipt: its number, a hyphen, and the hyphenated secret with lower-case letters. Fails only if
+    /// memory runs out.
     pub fn text(self, alloc: Global) -> Result<String, AllocError>
         ensures ok { IfOk result (λ t. string_bytes t ≡ receipt_text self) }
     {
@@ -83,7 +87,7 @@ impl Receipt {
     }
 }
 
-// The place of the first hyphen.
+/// The index of the first hyphen, if there is one.
 fn hyphen_at(text: &[u8]) -> Option<usize>
     ensures value { result ≡ position (λ b. b == 45) text.now }
 {

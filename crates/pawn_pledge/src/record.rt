@@ -1,5 +1,7 @@
-ghost use Rattle.std.specs.Prelude.{◌≡◌};
+//! The parts of a pledge's record: its agreement, secrets, booking, extensions and closing. Also its statuses.
+
 ghost use Rattle.pawn_pledge.specs.Words.{state_text};
+ghost use Rattle.std.specs.Prelude.{◌≡◌};
 
 use crate::limits::{MOST_ARTICLE_BYTES, MOST_REFERENCE_BYTES};
 use crate::number::Number;
@@ -12,27 +14,27 @@ use std::alloc::AllocError;
 /// The broker's own reference for a pledge, in 1 to 40 bytes.
 pub type Reference = Text<MOST_REFERENCE_BYTES>;
 
-/// What was pawned, in 1 to 80 bytes.
+/// The description of the article, in 1 to 80 bytes.
 pub type Article = Text<MOST_ARTICLE_BYTES>;
 
-/// What a request gives for a new pledge: what was pawned, for what credit, and what is agreed on its period.
+/// The data of a request for a new pledge: the article, the credit, and what is agreed on the period.
 #[derive(Drop)]
 pub struct Opening {
     pub reference: Reference,
     pub article: Article,
     pub kind: Kind,
-    /// The agreed end of the period. It counts only if it is past the six months.
+    /// The agreed end of the period. It counts only if it is after the six months.
     pub agreed: Option<RequestDay>,
     /// Whether five days of grace follow the end of the period.
     pub five_days: bool,
 }
 
 impl Opening {
-    ghost use Rattle.std.specs.Prelude.{◌≡◌, IfOk, IfSome};
-    ghost use Rattle.pawn_terms.specs.Calendar.{IsStampDay};
     ghost use Rattle.pawn_pledge.specs.Replayable.{IsOpening};
+    ghost use Rattle.pawn_terms.specs.Calendar.{IsStampDay};
+    ghost use Rattle.std.specs.Prelude.{◌≡◌, IfOk, IfSome};
 
-    /// A copy of the opening. The only error is that memory is refused.
+    /// A copy of the opening. Fails only if memory runs out.
     pub fn copy(&self) -> Result<Opening, AllocError>
         ensures same { IfOk result (λ opening. opening ≡ self.now) }
     {
@@ -47,7 +49,7 @@ impl Opening {
         })
     }
 
-    // The agreed end, if there is one, as a `Day`.
+    /// The agreed end, if there is one, as a `Day`.
     fn agreed_end(&self) -> Option<Day>
         ensures value { result ≡ self.now.agreed }
         ensures in_range { IfSome self.now.agreed IsStampDay }
@@ -58,7 +60,7 @@ impl Opening {
         }
     }
 
-    // Reads the fields, which gives a proof that they are within their limits.
+    /// Reads the fields, which gives a proof that they are within their limits.
     pub(crate) fn know_limits(&self)
         ensures within { IsOpening self.now }
     {
@@ -68,7 +70,8 @@ impl Opening {
     }
 }
 
-/// What is fixed once a pledge is taken: what the request gave, with the number, the day and the terms that it got.
+/// The part of a pledge's record that never changes: its opening, with the number, the day and the terms that the
+/// pledge was given.
 #[derive(Drop)]
 pub struct Agreement {
     /// The pledge's number in its book.
@@ -82,11 +85,11 @@ pub struct Agreement {
 }
 
 impl Agreement {
-    ghost use Rattle.std.specs.Prelude.{◌≡◌, ◌≤◌, IfOk};
-    ghost use Rattle.pawn_terms.specs.Limits.{last_stamp_day};
     ghost use Rattle.pawn_pledge.specs.Pledge.{end_with};
+    ghost use Rattle.pawn_terms.specs.Limits.{last_stamp_day};
+    ghost use Rattle.std.specs.Prelude.{◌≡◌, ◌≤◌, IfOk};
 
-    /// A copy of the agreement. The only error is that memory is refused.
+    /// A copy of the agreement. Fails only if memory runs out.
     pub fn copy(&self) -> Result<Agreement, AllocError>
         ensures same { IfOk result (λ agreement. agreement ≡ self.now) }
     {
@@ -100,7 +103,7 @@ impl Agreement {
         })
     }
 
-    // The end of the period, given the end that was agreed by the last extension, if there is one.
+    /// The end of the period, given the end of the last extension, if there is one.
     pub(crate) fn end_with(&self, extended: Option<Day>) -> Day
         requires taken { self.now.taken ≤ last_stamp_day }
         ensures value { result ≡ end_with self.now extended }
@@ -109,10 +112,10 @@ impl Agreement {
     }
 }
 
-/// How a secret was issued.
+/// The way in which a secret was issued.
 #[derive(Clone, Copy, PartialEq, Eq)]
 pub enum Issue {
-    /// With the pledge.
+    /// When the pledge was taken.
     Opening,
     /// On a statutory declaration.
     Sworn,
@@ -129,10 +132,10 @@ pub struct Issued {
 }
 
 impl Issued {
-    ghost use Rattle.std.specs.Prelude.{◌≡◌, ◌==◌};
     ghost use Rattle.std.specs.List.{list_any};
+    ghost use Rattle.std.specs.Prelude.{◌≡◌, ◌==◌};
 
-    // Whether its secret is among others.
+    /// Whether one of `others` has the same secret.
     pub(crate) fn is_among(&self, others: &[Issued]) -> bool
         ensures value { result ≡ list_any (λ i. i.secret == self.now.secret) others.now }
     {
@@ -167,7 +170,7 @@ impl BookingState {
     }
 }
 
-/// A day and a window of that day, 0 to 15, for which a bearer asked.
+/// A visit that a bearer asked for: a day, and a window of that day, 0 to 15.
 #[derive(Clone, Copy, PartialEq, Eq)]
 pub struct Booking {
     pub day: Day,
@@ -175,7 +178,7 @@ pub struct Booking {
     pub state: BookingState,
 }
 
-/// A longer period: the day on which it was agreed, and its end.
+/// An extension of the period: the day on which it was agreed, and the new end of the period.
 #[derive(Clone, Copy, PartialEq, Eq)]
 pub struct Extension {
     pub day: Day,
@@ -185,7 +188,7 @@ pub struct Extension {
 /// The extensions of a period, in order.
 pub type Extensions = Rows<Extension>;
 
-/// Whether a pledge was closed, and how. Sums are in pence.
+/// Whether and how a pledge was closed. Sums are in pence.
 #[derive(Clone, Copy)]
 pub enum Closing {
     Open,
@@ -197,7 +200,7 @@ pub enum Closing {
 /// the closing.
 #[derive(Clone, Copy)]
 pub struct Standing {
-    /// Whether redemption is barred.
+    /// Whether the pledge is on hold, so that it cannot be redeemed.
     pub held: bool,
     pub booking: Option<Booking>,
     /// The day of the last change.
@@ -205,14 +208,14 @@ pub struct Standing {
     pub closing: Closing,
 }
 
-/// What a pledge is on a day.
+/// The status of a pledge on a day.
 #[derive(Clone, Copy)]
 pub enum Status {
     /// In its period.
     Inside,
     /// In the five days of grace after its period, if it was agreed with them.
     Grace,
-    /// Past its period and any days of grace. The broker may sell it, and until it is sold it may be redeemed.
+    /// After its period and any days of grace. The broker may sell it, and it may be redeemed until it is sold.
     Realisable,
     /// The property has passed to the pawnbroker.
     Passed,

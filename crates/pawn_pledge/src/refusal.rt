@@ -1,19 +1,21 @@
+//! `Refusal`, the reasons why a command on a pledge is refused.
+
 ghost use Rattle.std.specs.Prelude.{◌≡◌};
 
 use pawn_debt::DebtFault;
 use std::error::Error;
 use std::fmt;
 
-/// Why a command on a pledge is refused.
+/// The reason why a command on a pledge is refused.
 #[derive(Clone, Copy, Debug, PartialEq, Eq)]
 pub enum Refusal {
     /// A refusal of the debt, by its own rules.
     Debt(DebtFault),
-    /// The pledge has an entry of this number, of another sort or sum.
+    /// The pledge has an entry with this number, but of another kind or sum.
     SeqTaken,
-    /// An entry's number that is 0, or past the next.
+    /// The number of a new entry is 0, or above the next number.
     SeqAhead,
-    /// Redemption of a pledge that is held.
+    /// A redemption of a pledge that is on hold.
     Held,
     /// The property has passed to the pawnbroker.
     Passed,
@@ -23,16 +25,16 @@ pub enum Refusal {
     NotRealisable,
     /// A written statement on a credit that is not small.
     NotSmall,
-    /// The new secret is one of the pledge's already. Another pledge's is not refused, since that would reveal that it
-    /// is one.
+    /// The pledge already has the new secret. A secret of another pledge is not refused, because the refusal would
+    /// reveal that it is a secret.
     SecretUsed,
-    /// The pledge has as many secrets as it may have.
+    /// The pledge has 101 secrets, the most that it may have.
     DeclarationsFull,
-    /// A redemption that pays another sum than what is owing; `total` is what is owing, in pence.
+    /// A redemption that does not pay exactly the sum owed; `total` is the sum owed, in pence.
     WrongAmount { total: u64 },
     /// There is no booking, or none in a state that the command can change.
     NoBooking,
-    /// A booking's day that is over, or on which the property will have passed.
+    /// A booking for a day that is over, or on which the property will have passed.
     BookingDay,
     /// A window above 15.
     BadWindow,
@@ -40,16 +42,16 @@ pub enum Refusal {
     PeriodOver,
     /// An extension to an earlier end.
     NotLater,
-    /// The pledge has as many extensions as it may have.
+    /// The pledge has 99 extensions, the most that it may have.
     ExtensionsFull,
-    /// Memory for a new entry, secret or extension was refused.
+    /// Out of memory for a new entry, secret or extension.
     Memory,
 }
 
 impl Refusal {
     ghost use Rattle.pawn_pledge.specs.Refusal.{pledge_refusal_code, pledge_refusal_name, refusal_total};
 
-    /// The number of the refusal, as replies carry it.
+    /// The code of the refusal in replies.
     pub fn code(self) -> u16
         ensures value { result ≡ pledge_refusal_code self }
     {
@@ -75,7 +77,7 @@ impl Refusal {
         }
     }
 
-    /// The name of the refusal, as replies carry it.
+    /// The name of the refusal in replies.
     pub fn name(self) -> &'static str
         ensures value { result.now ≡ pledge_refusal_name self }
     {
@@ -101,7 +103,7 @@ impl Refusal {
         }
     }
 
-    /// What is owing, in pence, if the refusal is `WrongAmount`, or the debt's `OverOwing`.
+    /// The sum owed in pence, if the refusal is `WrongAmount`, or `OverOwing` of the debt.
     pub fn total(self) -> Option<u64>
         ensures value { result ≡ refusal_total self }
     {
@@ -114,8 +116,8 @@ impl Refusal {
 }
 
 impl fmt::Display for Refusal {
-    ghost use Rattle.std.specs.Prelude.{Some};
     ghost use Rattle.pawn_pledge.specs.Refusal.{pledge_refusal_name};
+    ghost use Rattle.std.specs.Prelude.{Some};
 
     ghost output = { λ fault. Some (pledge_refusal_name fault) };
 

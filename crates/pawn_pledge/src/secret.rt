@@ -1,11 +1,13 @@
-ghost use Rattle.std.specs.Prelude.{◌≡◌, ◌<◌, ℕ, IfOk, string_bytes};
+//! `Secret`, the 128 random bits of a receipt, and its text in the form of a UUID.
+
 ghost use Rattle.pawn_pledge.specs.Secret.{secret_text, secret_of_text};
+ghost use Rattle.std.specs.Prelude.{◌≡◌, ◌<◌, ℕ, IfOk, string_bytes};
 
 use std::alloc::{AllocError, Global};
 use std::marker::Model;
 use uuid::Uuid;
 
-/// A secret of 128 bits. A clause sees its number.
+/// A secret of 128 bits. In contracts the value is its number.
 #[derive(Clone, Copy, PartialEq, Eq)]
 pub struct Secret {
     word: u128,
@@ -34,7 +36,7 @@ impl Secret {
         self.word
     }
 
-    /// The secret that a text in any of the four forms of a UUID names; none for any other text.
+    /// The secret of a text in any of the four forms of a UUID, or `None` for any other text.
     pub fn of_text(text: &[u8]) -> Option<Secret>
         ensures value { result ≡ secret_of_text text.now }
     {
@@ -44,7 +46,7 @@ impl Secret {
         }
     }
 
-    /// The hyphenated text of the secret, with small letters.
+    /// The hyphenated text of the secret, with lower-case letters. Fails only if memory runs out.
     pub fn text(self, alloc: Global) -> Result<String, AllocError>
         ensures ok { IfOk result (λ t. string_bytes t ≡ secret_text self) }
     {

@@ -1,45 +1,55 @@
-ghost use Rattle.pawn_pledge.specs.Worked.{WorkedPledgeStarts, WorkedStatuses, WorkedPledgeDrawings, WorkedPledgeRepayments, WorkedHolds, WorkedDeclarations};
-ghost use Rattle.pawn_pledge.specs.Worked.{WorkedAskings, WorkedCancellings, WorkedDecisions, WorkedRedemptions, WorkedSales, WorkedExtensions};
+//! Worked examples of pledges, and the values of the limits.
+
+ghost use Rattle.pawn_pledge.specs.Worked.{WorkedPledgeStarts, WorkedStatuses, WorkedPledgeDrawings};
+ghost use Rattle.pawn_pledge.specs.Worked.{WorkedPledgeRepayments, WorkedHolds, WorkedDeclarations, WorkedAskings};
+ghost use Rattle.pawn_pledge.specs.Worked.{WorkedCancellings, WorkedDecisions, WorkedRedemptions, WorkedSales};
+ghost use Rattle.pawn_pledge.specs.Worked.{WorkedExtensions};
+ghost use Rattle.pawn_pledge.specs.WorkedLimits.{WorkedPledgeLimits};
 ghost use Rattle.pawn_pledge.specs.WorkedTexts.{WorkedSecrets, WorkedReceiptTexts};
 
-/// Pledges as they are taken, and their statuses.
+/// Examples of new pledges, and of statuses.
 pub fn worked_pledges()
     ensures starts { WorkedPledgeStarts }
     ensures statuses { WorkedStatuses }
 {}
 
-/// Drawings and repayments, and which of them are refused.
+/// Examples of drawings and repayments, some of which are refused.
 pub fn worked_entries()
     ensures drawings { WorkedPledgeDrawings }
     ensures repayments { WorkedPledgeRepayments }
 {}
 
-/// Holds and declarations.
+/// Examples of holds and declarations.
 pub fn worked_receipts()
     ensures holds { WorkedHolds }
     ensures declarations { WorkedDeclarations }
 {}
 
-/// Bookings that are asked for, given up, confirmed and refused.
+/// Examples of bookings that are asked for, cancelled, confirmed and refused.
 pub fn worked_bookings()
     ensures askings { WorkedAskings }
     ensures cancellings { WorkedCancellings }
     ensures decisions { WorkedDecisions }
 {}
 
-/// Redemptions and sales.
+/// Examples of redemptions and sales.
 pub fn worked_closings()
     ensures redemptions { WorkedRedemptions }
     ensures sales { WorkedSales }
 {}
 
-/// Extensions of a period, and which of them are refused.
+/// Examples of extensions of a period, some of which are refused.
 pub fn worked_extensions()
     ensures extensions { WorkedExtensions }
 {}
 
-/// Texts of secrets and receipts.
+/// Examples of texts of secrets and receipts.
 pub fn worked_texts()
     ensures secrets { WorkedSecrets }
     ensures receipts { WorkedReceiptTexts }
+{}
+
+/// The values of the limits of a pledge's record.
+pub fn worked_limits()
+    ensures limits { WorkedPledgeLimits }
 {}

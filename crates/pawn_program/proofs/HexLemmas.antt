@@ -1,7 +1,10 @@
 -- The bytes that hexadecimal digits write.
-use Rattle.std.proofs.Common.{◌≡◌, ℕ, suc, ◌+◌, ◌*◌, ◌<◌, List, [], ◌∷◌, ◌++◌, length, take, drop, get_or, Option, Some, None, option_map, refl, sym, ap, ◌∙◌}
-use Rattle.std.proofs.{Common.{arith, drop-cons, append_assoc, option_and_then, slice_set, take_all}, lemmas.{Grind.take-set_at, List.drop_all}}
 use Rattle.pawn_program.specs.Settings.{hex_byte, hex_bytes}
+use Rattle.std.proofs.Common.{◌≡◌, ℕ, suc, ◌+◌, ◌*◌, ◌<◌, List, [], ◌∷◌, ◌++◌, length, take, drop, get_or, Option, Some}
+use Rattle.std.proofs.Common.{None, option_map, refl, sym, ap, ◌∙◌, arith, drop-cons, append_assoc, option_and_then}
+use Rattle.std.proofs.Common.{slice_set, take_all}
+use Rattle.std.proofs.lemmas.Grind.{take-set_at}
+use Rattle.std.proofs.lemmas.List.{drop_all}
 
 -- these bytes and then those
 abbrev pub after_bytes : List ℕ → Option (List ℕ) → Option (List ℕ)

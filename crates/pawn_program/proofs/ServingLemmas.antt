@@ -1,12 +1,22 @@
 -- One connection more.
-use Rattle.std.proofs.Common.{◌≡◌, ℕ, ◌+◌, ◌≤◌, List, [], ◌∷◌, ◌++◌, length, map, refl, arith, Option, Some, None, Result, Ok, Err, sym, ◌∙◌, ap, subst}
-use Rattle.std.{proofs.{Common.{append-nil, append_assoc, length-append, All}, lemmas.List.Elements.{All-append, All-cons, All-nil}}, specs.Iterator.Yields}
-use Rattle.{pawn_pledge.specs.declared.command.Stamp.Stamp, pawn_host.specs.Keeps.{Start, Kept, GoesTo, GoesBy, host_by, start_after}}
-use Rattle.pawn_host.{proofs.CrashLemmas.{goes-append, goes_from}, specs.{Run.{Item, IsMarked, host_after_run}, Crashes.IsLeftByRun, Split.most_requests}}
-use Rattle.pawn_host.specs.{Session.{Given, stamps_of, IsLeftBy, acted_count}, declared.session.SessionEnd.{SessionEnd, TheVariants.{End, Cut, Closed}}}
-use Rattle.pawn_host.specs.declared.session.{SessionEnd.TheVariants.{Faulted, Limit, NoStamp, Memory}, Ended.Ended, IoFault.IoFault}
-use Rattle.{pawn_host.proofs.RunMore.marked_all, pawn_program.specs.Serving.{GivesInOrder, stamps_among, items_of, IsSession, AreServed}}
 use Rattle.pawn_book.specs.HostStep.{Host}
+use Rattle.pawn_host.proofs.CrashLemmas.{goes-append, goes_from}
+use Rattle.pawn_host.proofs.RunMore.{marked_all}
+use Rattle.pawn_host.specs.Crashes.{IsLeftByRun}
+use Rattle.pawn_host.specs.Keeps.{Start, Kept, GoesTo, GoesBy, host_by, start_after}
+use Rattle.pawn_host.specs.Run.{Item, IsMarked, host_after_run}
+use Rattle.pawn_host.specs.Session.{Given, stamps_of, IsLeftBy, acted_count}
+use Rattle.pawn_host.specs.Split.{most_requests}
+use Rattle.pawn_host.specs.declared.session.Ended.{Ended}
+use Rattle.pawn_host.specs.declared.session.IoFault.{IoFault}
+use Rattle.pawn_host.specs.declared.session.SessionEnd.{SessionEnd}
+use Rattle.pawn_host.specs.declared.session.SessionEnd.TheVariants.{End, Cut, Closed, Faulted, Limit, NoStamp, Memory}
+use Rattle.pawn_pledge.specs.declared.command.Stamp.{Stamp}
+use Rattle.pawn_program.specs.Serving.{GivesInOrder, stamps_among, items_of, IsSession, AreServed}
+use Rattle.std.proofs.Common.{◌≡◌, ℕ, ◌+◌, ◌≤◌, List, [], ◌∷◌, ◌++◌, length, map, refl, arith, Option, Some, None}
+use Rattle.std.proofs.Common.{Result, Ok, Err, sym, ◌∙◌, ap, subst, append-nil, append_assoc, length-append, All}
+use Rattle.std.proofs.lemmas.List.Elements.{All-append, All-cons, All-nil}
+use Rattle.std.specs.Iterator.{Yields}
 use Rattle.pawn_host.specs.Session as session
 
 -- ---- what an iterator gave
@@ -147,7 +157,7 @@ served_then steps from mid to start next answered more kept kept' so stays same 
       goes = subst (λ (l : List Item). GoesBy start l kept') (sym items) (goes-append start kept' past new goes);
     }
 
--- the keeper was asked since, and stands for no less, and a crash leaves no further host
+-- after another call of the keeper that keeps all hosts that it stands for and adds none that a crash may leave
 pub served_on : {S : Type 0} (steps : S → Option Stamp → S → Type 0) (from to : S) (start : Start) (answered : ℕ) (kept kept' : Kept)
     → ((h : Host) → kept.stands h → kept'.stands h) → ((left : Host) → kept'.leaves left → kept.leaves left)
     → AreServed steps from to start answered kept → AreServed steps from to start answered kept'

@@ -1,7 +1,11 @@
 -- The stamps that are taken one after the other.
-use Rattle.std.{proofs.Common.{◌≡◌, ℕ, ◌+◌, List, [], ◌∷◌, length, refl, ap, ◌∙◌, arith}, specs.Iterator.Yields}
-use Rattle.{pawn_pledge.specs.declared.command.Stamp.Stamp, rand_chacha.specs.ChaCha.ChaCha, pawn_program.specs.Word.{generator, word_of, after_word}}
-use Rattle.pawn_program.specs.{Stamps.{IsTaken, GivesStamp, stamps_drawn}, declared.stamps.Stamps.Stamps}
+use Rattle.pawn_pledge.specs.declared.command.Stamp.{Stamp}
+use Rattle.pawn_program.specs.Stamps.{IsTaken, GivesStamp, stamps_drawn}
+use Rattle.pawn_program.specs.Word.{generator, word_of, after_word}
+use Rattle.pawn_program.specs.declared.stamps.Stamps.{Stamps}
+use Rattle.rand_chacha.specs.ChaCha.{ChaCha}
+use Rattle.std.proofs.Common.{◌≡◌, ℕ, ◌+◌, List, [], ◌∷◌, length, refl, ap, ◌∙◌, arith}
+use Rattle.std.specs.Iterator.{Yields}
 
 pub taken_in_order : (day : ℕ) (g : ChaCha) (xs : List Stamp) (from to : Stamps) → from.day ≡ day → generator from.words.now ≡ g
     → Yields GivesStamp from xs to → xs ≡ stamps_drawn (length xs) day g

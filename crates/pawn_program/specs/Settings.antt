@@ -1,9 +1,13 @@
--- How the words of the command line are read.
-use Rattle.std.specs.Prelude.{◌≡◌, ℕ, ◌⊎◌, ◌+◌, ◌-◌, ◌*◌, ◌≤◌, ◌==◌, nat_eq, Bool, List, [], ◌∷◌, length, take, codes, if◌then◌else◌, Option, Some, None}
-use Rattle.std.specs.{Prelude.{option_and_then, option_map, IfSome, IsSome, Result, MatchResult, decimal}, List.ends_with, Char.{is_digit, digit_value}}
-use Rattle.{pawn_terms.specs.Calendar.{IsStampDay, day_text}, pawn_pledge.specs.Secret.secret_of_text}
-use Rattle.pawn_program.specs.declared.{fault.SettingsFault.{SettingsFault, TheVariants.{BadDay, Memory, BadSeed, BadPort, BadKey}}, settings.Settings.Settings}
+-- How the words of the command line are read as settings.
+use Rattle.pawn_program.specs.KeyFiles.{GivesKey, ReadsFile}
+use Rattle.pawn_program.specs.declared.fault.SettingsFault.{SettingsFault}
+use Rattle.pawn_program.specs.declared.fault.SettingsFault.TheVariants.{BadDay, BadSeed, BadPort}
 use Rattle.pawn_program.specs.declared.settings.ServeSettings.{ServeSettings}
+use Rattle.pawn_program.specs.declared.settings.Settings.{Settings}
+use Rattle.pawn_terms.specs.Calendar.{IsStampDay, day_text}
+use Rattle.std.specs.Char.{is_digit, digit_value}
+use Rattle.std.specs.Prelude.{◌≡◌, ℕ, ◌⊎◌, ◌+◌, ◌*◌, ◌≤◌, ◌==◌, List, [], ◌∷◌, length, if◌then◌else◌, Option, Some}
+use Rattle.std.specs.Prelude.{None, option_and_then, option_map, IsSome, Result, Ok, Err, MatchResult, decimal}
 
 -- the value of a hexadecimal digit of either case
 abbrev pub hex_digit : ℕ → Option ℕ
@@ -24,74 +28,54 @@ hex_bytes (high ∷ low ∷ digits) =
 abbrev pub seed_of : List ℕ → Option (List ℕ)
 seed_of text = if length text == 64 then hex_bytes text else None
 
--- the bytes end with these
-abbrev pub ends_in : List ℕ → List ℕ → Bool
-ends_in end bytes = ends_with nat_eq bytes end
-
--- the bytes without the last n
-abbrev pub all_but_last : ℕ → List ℕ → List ℕ
-all_but_last n bytes = take (length bytes - n) bytes
-
--- a line without its end, which is CR LF or LF
-abbrev pub without_line_end : List ℕ → List ℕ
-without_line_end bytes =
-    if ends_in (codes "\r\n") bytes then all_but_last 2 bytes
-    else if ends_in (codes "\n") bytes then all_but_last 1 bytes
-    else bytes
-
--- the key that a file's bytes write, with a line end or without
-abbrev pub key_of_bytes : List ℕ → Option ℕ
-key_of_bytes bytes = secret_of_text (without_line_end bytes)
-
--- the text is that of a day that a request may have
+-- the text is the spelling of a day that a request may have
 abbrev pub SaysDay : List ℕ → ℕ → Type 0
 SaysDay text day = IsStampDay day × (text ≡ day_text day)
 
--- the settings are what the three words say; a key that is not in the last word itself comes from a file
-pub record AreSaid (day_word seed_word key_word : List ℕ) (settings : Settings) : Type 0 where
+-- the three words give these settings
+pub record AreSaid (Gives : Result ℕ SettingsFault → Type 0) (day_word seed_word : List ℕ) (settings : Settings) : Type 0 where
   pub day : SaysDay day_word settings.day
   pub seed : seed_of seed_word ≡ Some settings.seed
-  pub operator : IfSome (secret_of_text key_word) (λ key. settings.operator ≡ key)
+  pub operator : Gives (Ok settings.operator)
 
--- the text writes no such day
+-- the text is not the spelling of such a day
 abbrev pub SaysNoDay : List ℕ → Type 0
 SaysNoDay text = (day : ℕ) → SaysDay text day → ⊥
 
--- the word is neither a key nor the path of a file that holds one, or memory was refused for that file
-abbrev pub IsOfKey : SettingsFault → Type 0
-IsOfKey fault = (fault ≡ BadKey) ⊎ (fault ≡ Memory)
+-- The fault is that of the first of the three words that has one. If it is one of the first two words, no file is read.
+abbrev pub IsFirstSettingsFault : (Result ℕ SettingsFault → Type 0) → Type 0 → List ℕ → List ℕ → SettingsFault → Type 0
+IsFirstSettingsFault Gives IsUnread day_word seed_word fault =
+    ((fault ≡ BadDay) × SaysNoDay day_word × IsUnread)
+    ⊎ ((fault ≡ BadSeed) × ((day : ℕ) × SaysDay day_word day) × (seed_of seed_word ≡ None) × IsUnread)
+    ⊎ (Gives (Err fault) × ((day : ℕ) × SaysDay day_word day) × IsSome (seed_of seed_word))
 
--- the fault is that of the first of three words that has one
-abbrev pub IsFirstSettingsFault : List ℕ → List ℕ → List ℕ → SettingsFault → Type 0
-IsFirstSettingsFault day_word seed_word key_word fault =
-    ((fault ≡ BadDay) × SaysNoDay day_word)
-    ⊎ ((fault ≡ BadSeed) × ((day : ℕ) × SaysDay day_word day) × (seed_of seed_word ≡ None))
-    ⊎ (IsOfKey fault × ((day : ℕ) × SaysDay day_word day) × IsSome (seed_of seed_word) × (secret_of_text key_word ≡ None))
+-- three words give these settings, or have this first fault
+abbrev pub AreSettings : {F : Type 0} → ReadsFile F → F → F → List ℕ → List ℕ → List ℕ → Result Settings SettingsFault → Type 0
+AreSettings reads old new day_word seed_word key_word said =
+    MatchResult said (AreSaid (GivesKey reads old new key_word) day_word seed_word)
+    (IsFirstSettingsFault (GivesKey reads old new key_word) (new ≡ old) day_word seed_word)
 
--- three words say these settings, or have this first fault
-abbrev pub AreSettings : List ℕ → List ℕ → List ℕ → Result Settings SettingsFault → Type 0
-AreSettings day_word seed_word key_word said =
-    MatchResult said (AreSaid day_word seed_word key_word) (IsFirstSettingsFault day_word seed_word key_word)
-
--- the text is that of a port: a number from 1 to 65535, in its decimal digits
+-- the text is the spelling of a port: a number from 1 to 65535, in decimal digits
 abbrev pub SaysPort : List ℕ → ℕ → Type 0
 SaysPort text port = (1 ≤ port) × (port ≤ 65535) × (text ≡ decimal port)
 
--- the text writes no port
+-- the text is not the spelling of a port
 abbrev pub SaysNoPort : List ℕ → Type 0
 SaysNoPort text = (port : ℕ) → SaysPort text port → ⊥
 
--- the settings are what the two words say; a key that is not in the last word itself comes from a file
-pub record AreServeSaid (port_word key_word : List ℕ) (settings : ServeSettings) : Type 0 where
+-- the two words give these settings
+pub record AreServeSaid (Gives : Result ℕ SettingsFault → Type 0) (port_word : List ℕ) (settings : ServeSettings) : Type 0 where
   pub port : SaysPort port_word settings.port
-  pub operator : IfSome (secret_of_text key_word) (λ key. settings.operator ≡ key)
+  pub operator : Gives (Ok settings.operator)
 
--- the fault is that of the first of two words that has one
-abbrev pub IsFirstServeFault : List ℕ → List ℕ → SettingsFault → Type 0
-IsFirstServeFault port_word key_word fault =
-    ((fault ≡ BadPort) × SaysNoPort port_word)
-    ⊎ (IsOfKey fault × ((port : ℕ) × SaysPort port_word port) × (secret_of_text key_word ≡ None))
+-- The fault is that of the first of the two words that has one. If it is the first word, no file is read.
+abbrev pub IsFirstServeFault : (Result ℕ SettingsFault → Type 0) → Type 0 → List ℕ → SettingsFault → Type 0
+IsFirstServeFault Gives IsUnread port_word fault =
+    ((fault ≡ BadPort) × SaysNoPort port_word × IsUnread)
+    ⊎ (Gives (Err fault) × ((port : ℕ) × SaysPort port_word port))
 
--- two words say these settings, or have this first fault
-abbrev pub IsServeRead : List ℕ → List ℕ → Result ServeSettings SettingsFault → Type 0
-IsServeRead port_word key_word said = MatchResult said (AreServeSaid port_word key_word) (IsFirstServeFault port_word key_word)
+-- two words give these settings, or have this first fault
+abbrev pub IsServeRead : {F : Type 0} → ReadsFile F → F → F → List ℕ → List ℕ → Result ServeSettings SettingsFault → Type 0
+IsServeRead reads old new port_word key_word said =
+    MatchResult said (AreServeSaid (GivesKey reads old new key_word) port_word)
+    (IsFirstServeFault (GivesKey reads old new key_word) (new ≡ old) port_word)

@@ -1,6 +1,8 @@
 -- A random word of a generator's stream.
-use Rattle.std.specs.{Prelude.{ℕ, ◌++◌}, Int.{w32, w128, to_le_bytes, from_be_bytes}}
-use Rattle.{rand_chacha.specs.ChaCha.{ChaCha, next_word}, pawn_program.specs.declared.words.Words.Words}
+use Rattle.pawn_program.specs.declared.words.Words.{Words}
+use Rattle.rand_chacha.specs.ChaCha.{ChaCha, next_word}
+use Rattle.std.specs.Int.{w32, w128, to_le_bytes, from_be_bytes}
+use Rattle.std.specs.Prelude.{ℕ, ◌++◌}
 
 -- the little-endian bytes of four words in order, read as one number of 16 big-endian bytes
 abbrev pub wide_word : ℕ → ℕ → ℕ → ℕ → ℕ

@@ -1,16 +1,19 @@
-ghost use Rattle.std.specs.{Prelude.{◌≡◌, ◌≢◌, ◌<◌, IfSome, IfNone, IfOk, IfErr, None}, IoError.error_kind, declared.io.ErrorKind.TheVariants.OutOfMemory};
-ghost use Rattle.{pawn_pledge.specs.Secret.secret_of_text, pawn_program.specs.{declared.fault.SettingsFault.TheVariants.{Memory, BadKey}, Settings.hex_digit}};
-ghost use Rattle.pawn_program.specs.Settings.{hex_byte, seed_of, without_line_end, key_of_bytes, SaysDay, SaysNoDay, SaysPort, SaysNoPort, IsOfKey};
-ghost use Rattle.pawn_program.specs.Settings.{AreSettings, IsServeRead};
+//! The settings on the command line.
+ghost use Rattle.pawn_pledge.specs.Secret.{secret_of_text};
+ghost use Rattle.pawn_program.specs.KeyFiles.{GivesKey, key_in, key_of_bytes, without_line_end};
+ghost use Rattle.pawn_program.specs.Settings.{AreSettings, IsServeRead, SaysDay, SaysNoDay, SaysNoPort, SaysPort};
+ghost use Rattle.pawn_program.specs.Settings.{hex_byte, hex_digit, seed_of};
+ghost use Rattle.std.specs.Prelude.{◌≡◌, ◌<◌, IfSome, IfNone};
 
 use crate::fault::SettingsFault;
+use crate::key_files::{KeyFileFault, KeyFiles};
+use pawn_book::Rows;
 use pawn_host::{Number, RequestDay, Secret};
-use std::fs::Files;
-use std::{fs, io};
 
+/// The largest port number.
 const LAST_PORT: u32 = 65_535;
 
-/// What the command line of `pawnd answer` says, besides the database.
+/// The settings on the command line of `pawnd answer`, except for the database.
 #[derive(Clone, Copy)]
 pub struct Settings {
     /// The day of every request.
@@ -22,15 +25,15 @@ pub struct Settings {
 }
 
 impl Settings {
-    /// Reads the settings from a day, a seed and a key. The error is the first fault in this order. The key is a key's
-    /// text, or else the path of a file that holds one.
-    pub fn read(
-        rt: &(impl Files + Alloc),
+    /// Reads the settings from a day, a seed and a key. The error is the first fault in this order. `key` is a key, or
+    /// otherwise the path of a file that holds one.
+    pub fn read<F: KeyFiles>(
+        files: &mut F,
         day: &str,
         seed: &str,
         key: &str,
     ) -> Result<Settings, SettingsFault>
-        ensures read { AreSettings day.now seed.now key.now result }
+        ensures read { AreSettings F.reads files.old files.new day.now seed.now key.now result }
     {
         let Some(day) = day_of(day.as_bytes()) else {
             return Err(SettingsFault::BadDay);
@@ -38,7 +41,7 @@ impl Settings {
         let Some(seed) = seed_of(seed.as_bytes()) else {
             return Err(SettingsFault::BadSeed);
         };
-        match key_of(rt, key) {
+        match key_of(files, key) {
             Ok(operator) => Ok(Settings {
                 day,
                 seed,
@@ -49,36 +52,36 @@ impl Settings {
     }
 }
 
-/// What the command line of `pawnd serve` says, besides the database.
+/// The settings on the command line of `pawnd serve`, except for the database.
 #[derive(Clone, Copy)]
 pub struct ServeSettings {
-    /// The port on which the program listens, on this machine only.
+    /// The port on which the program listens, on this machine's loopback address only.
     pub port: u16,
     /// The operator's key.
     pub operator: Secret,
 }
 
 impl ServeSettings {
-    /// Reads the settings from a port and a key. The error is the first fault in this order. The key is a key's text,
-    /// or else the path of a file that holds one.
-    pub fn read(
-        rt: &(impl Files + Alloc),
+    /// Reads the settings from a port and a key. The error is the first fault in this order. `key` is a key, or
+    /// otherwise the path of a file that holds one.
+    pub fn read<F: KeyFiles>(
+        files: &mut F,
         port: &str,
         key: &str,
     ) -> Result<ServeSettings, SettingsFault>
-        ensures read { IsServeRead port.now key.now result }
+        ensures read { IsServeRead F.reads files.old files.new port.now key.now result }
     {
         let Some(port) = port_of(port.as_bytes()) else {
             return Err(SettingsFault::BadPort);
         };
-        match key_of(rt, key) {
+        match key_of(files, key) {
             Ok(operator) => Ok(ServeSettings { port, operator }),
             Err(fault) => Err(fault),
         }
     }
 }
 
-// The port that a text writes: 1 to 65535, in decimal digits.
+/// Returns the port that a text writes: 1 to 65535, in decimal digits.
 fn port_of(text: &[u8]) -> Option<u16>
     ensures some { IfSome result (λ port. SaysPort text.now port) }
     ensures none { IfNone result (SaysNoPort text.now) }
@@ -93,7 +96,7 @@ fn port_of(text: &[u8]) -> Option<u16>
     Some(port as u16)
 }
 
-// The day that a text writes, as `2024-01-31`.
+/// Returns the day that a text such as `2024-01-31` writes.
 fn day_of(text: &[u8]) -> Option<RequestDay>
     ensures some { IfSome result (λ day. SaysDay text.now day) }
     ensures none { IfNone result (SaysNoDay text.now) }
@@ -104,7 +107,7 @@ fn day_of(text: &[u8]) -> Option<RequestDay>
     }
 }
 
-// The value of a hexadecimal digit, of either case.
+/// Returns the value of a hexadecimal digit, of either case.
 fn hex_digit(digit: u8) -> Option<u8>
     ensures value { result ≡ hex_digit digit }
     ensures in_range { IfSome result (λ d. d < 16) }
@@ -115,14 +118,14 @@ fn hex_digit(digit: u8) -> Option<u8>
     }
 }
 
-// The byte that two hexadecimal digits write.
+/// Returns the byte that two hexadecimal digits write.
 fn hex_byte(high: u8, low: u8) -> Option<u8>
     ensures value { result ≡ hex_byte high low }
 {
     Some(hex_digit(high)? * 16 + hex_digit(low)?)
 }
 
-// The seed that 64 hexadecimal digits write.
+/// Returns the seed that 64 hexadecimal digits write.
 fn seed_of(text: &[u8]) -> Option<[u8; 32]>
     ensures value { result ≡ seed_of text.now }
 {
@@ -136,46 +139,38 @@ fn seed_of(text: &[u8]) -> Option<[u8; 32]>
     Some(seed)
 }
 
-// The key that a text writes, or else the key in the file at that path.
-fn key_of(rt: &(impl Files + Alloc), text: &str) -> Result<Secret, SettingsFault>
-    ensures key { IfOk result (λ key. IfSome (secret_of_text text.now) (λ said. key ≡ said)) }
-    ensures fault { IfErr result (λ fault. IsOfKey fault × (secret_of_text text.now ≡ None)) }
+/// Returns the key that a text writes, or otherwise the key in the file at that path.
+fn key_of<F: KeyFiles>(files: &mut F, text: &str) -> Result<Secret, SettingsFault>
+    ensures key { GivesKey F.reads files.old files.new text.now result }
 {
     match Secret::of_text(text.as_bytes()) {
         Some(key) => Ok(key),
-        None => key_in_file(rt, text),
+        None => key_in(files.read(text)),
     }
 }
 
-// The key in the file at this path.
-fn key_in_file(rt: &(impl Files + Alloc), path: &str) -> Result<Secret, SettingsFault>
-    ensures fault { IfErr result IsOfKey }
+/// Returns the key in a file that was read.
+fn key_in(found: Result<Rows<u8>, KeyFileFault>) -> Result<Secret, SettingsFault>
+    ensures key { result ≡ key_in found }
 {
-    match fs::read(rt, path) {
-        Ok(bytes) => key_of_bytes(bytes.as_slice()).ok_or(SettingsFault::BadKey),
-        Err(error) => Err(unread(&error)),
+    match found {
+        Ok(bytes) => match key_of_bytes(bytes.as_slice()) {
+            Some(key) => Ok(key),
+            None => Err(SettingsFault::BadKey),
+        },
+        Err(KeyFileFault::Memory) => Err(SettingsFault::Memory),
+        Err(KeyFileFault::Unreadable) => Err(SettingsFault::BadKey),
     }
 }
 
-// The fault when a key's file can't be read: `Memory` if memory was refused, else `BadKey`.
-fn unread(error: &io::Error) -> SettingsFault
-    ensures memory { error_kind error.now ≡ OutOfMemory → result ≡ Memory }
-    ensures key { error_kind error.now ≢ OutOfMemory → result ≡ BadKey }
-{
-    match error.kind() {
-        io::ErrorKind::OutOfMemory => SettingsFault::Memory,
-        _ => SettingsFault::BadKey,
-    }
-}
-
-// The key that a file's bytes write, with a line end or without.
+/// Returns the key that a file's bytes write, with or without a line end.
 fn key_of_bytes(bytes: &[u8]) -> Option<Secret>
     ensures value { result ≡ key_of_bytes bytes.now }
 {
     Secret::of_text(without_line_end(bytes))
 }
 
-// The bytes without a line end, CR LF or LF, after them.
+/// Returns the bytes without a line end (CR LF or LF) at their end.
 fn without_line_end(bytes: &[u8]) -> &[u8]
     ensures line { result.now ≡ without_line_end bytes.now }
 {

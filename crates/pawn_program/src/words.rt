@@ -1,6 +1,7 @@
 //! Random words of 128 bits.
+ghost use Rattle.pawn_program.specs.Word.{generator, word_of, after_word};
+ghost use Rattle.rand_chacha.specs.ChaCha.{of_seed};
 ghost use Rattle.std.specs.Prelude.{◌≡◌, ◌++◌, length};
-ghost use Rattle.{rand_chacha.specs.ChaCha.of_seed, pawn_program.specs.Word.{generator, word_of, after_word}};
 
 use rand_chacha::ChaCha20Rng;
 use rand_core::SeedableRng;
@@ -12,8 +13,8 @@ pub struct Words {
     rng: ChaCha20Rng,
 }
 
-// The bytes of four words, joined in order.
-fn join(a: [u8; 4], b: [u8; 4], c: [u8; 4], d: [u8; 4]) -> [u8; 16]
+/// Returns the bytes of four words, joined in order.
+fn join_words(a: [u8; 4], b: [u8; 4], c: [u8; 4], d: [u8; 4]) -> [u8; 16]
     requires a { length a ≡ 4 }
     requires b { length b ≡ 4 }
     requires c { length c ≡ 4 }
@@ -27,14 +28,14 @@ fn join(a: [u8; 4], b: [u8; 4], c: [u8; 4], d: [u8; 4]) -> [u8; 16]
 }
 
 impl Words {
-    /// The words of a generator's stream, from where it is.
+    /// Makes words from a generator, beginning at its present position.
     pub fn new(rng: ChaCha20Rng) -> Self
         ensures generator { generator result ≡ rng }
     {
         Words { rng }
     }
 
-    /// The words of a seed, from the beginning of its stream.
+    /// Makes the words of a seed, beginning at the start of its stream.
     pub fn of_seed(seed: [u8; 32]) -> Self
         ensures generator { generator result ≡ of_seed seed }
     {
@@ -43,8 +44,8 @@ impl Words {
         }
     }
 
-    /// The next word: its 16 big-endian bytes are the little-endian bytes of the generator's next
-    /// four words, in order.
+    /// Returns the next word. Its 16 big-endian bytes are the little-endian bytes of the generator's next four words,
+    /// in order.
     pub fn next(&mut self) -> u128
         ensures word { result ≡ word_of (generator self.old) }
         ensures rest { generator self.new ≡ after_word (generator self.old) }
@@ -53,7 +54,7 @@ impl Words {
         let b = self.rng.next_word();
         let c = self.rng.next_word();
         let d = self.rng.next_word();
-        u128::from_be_bytes(join(
+        u128::from_be_bytes(join_words(
             a.to_le_bytes(),
             b.to_le_bytes(),
             c.to_le_bytes(),

@@ -1,8 +1,14 @@
 -- Texts that JSON writes as they are.
-use Rattle.std.proofs.Common.{◌≡◌, ℕ, List, [], ◌∷◌, ◌++◌, refl, ap, ◌∙◌, arith, sym, append_assoc, Option, Some, None, IsTrue, ◌&&◌, nat_le, not, ◌==◌, codes}
-use Rattle.{std.proofs.{Common.decimal, lemmas.Grind.common_steps}, serde_json.proofs.OnLiterals.serde_json_on_literals, pawn_reply.specs.Common.compact_text}
-use Rattle.pawn_reply.specs.{Common.{no_members, object}, Types.{Row, Total, Detail}, Laws.{is_unescaped, number_member, refusal_members, text_member}}
-use Rattle.{pawn_reply.{specs.Bodies.{opened_text, refusal_text}, proofs.DayLemmas.both_true}, json.specs.Print.{escape, escape_byte}}
+use Rattle.json.specs.Print.{escape, escape_byte}
+use Rattle.pawn_reply.proofs.DayLemmas.{both_true}
+use Rattle.pawn_reply.specs.Bodies.{opened_text, refusal_text}
+use Rattle.pawn_reply.specs.Common.{compact_text, no_members, object}
+use Rattle.pawn_reply.specs.Laws.{is_unescaped, number_member, refusal_members, text_member}
+use Rattle.pawn_reply.specs.Types.{Row, Total, Detail}
+use Rattle.serde_json.proofs.OnLiterals.{serde_json_on_literals}
+use Rattle.std.proofs.Common.{◌≡◌, ℕ, List, [], ◌∷◌, ◌++◌, refl, ap, ◌∙◌, arith, sym, append_assoc, Option, Some, None}
+use Rattle.std.proofs.Common.{IsTrue, ◌&&◌, nat_le, not, ◌==◌, codes, decimal}
+use Rattle.std.proofs.lemmas.Grind.{common_steps}
 
 escape_plain_byte : (b : ℕ) → IsTrue (nat_le 32 b && not (b == 34) && not (b == 92)) → escape_byte b ≡ b ∷ []
 unfolding escape_byte

@@ -1,7 +1,10 @@
 -- The texts of days.
-use Rattle.std.proofs.Common.{◌≡◌, ℕ, zero, suc, ◌+◌, ◌<◌, ◌%◌, List, [], ◌∷◌, Bool, true, false, refl, arith, IsTrue, ◌&&◌, nat_le, nat_lt, not, ◌==◌}
-use Rattle.{std.proofs.lemmas.{Grind.common_steps, Bool.Decides.nat_tests}, pawn_reply.specs.Common.{Civil, IsAscii, civil_of, civil_text, day_text, list_all}}
+use Rattle.pawn_reply.specs.Common.{Civil, IsAscii, civil_of, civil_text, day_text, list_all}
 use Rattle.pawn_reply.specs.Laws.{is_unescaped}
+use Rattle.std.proofs.Common.{◌≡◌, ℕ, zero, suc, ◌+◌, ◌<◌, ◌%◌, List, [], ◌∷◌, Bool, true, false, refl, arith, IsTrue}
+use Rattle.std.proofs.Common.{◌&&◌, nat_le, nat_lt, not, ◌==◌}
+use Rattle.std.proofs.lemmas.Bool.Decides.{nat_tests}
+use Rattle.std.proofs.lemmas.Grind.{common_steps}
 
 pub both_true : (a b : Bool) → IsTrue (a && b) → IsTrue a × IsTrue b
 both_true true b h = (refl, h)

@@ -1,10 +1,17 @@
 -- The bodies of replies to commands are JSON.
-use Rattle.{std.proofs.Common.{◌≡◌, ℕ, List, [], ◌∷◌, ◌++◌, Bool, true, false, refl, ap, ◌∙◌, IsTrue, codes, decimal}, pawn_reply.specs.Common.{Booking, Entry}}
-use Rattle.pawn_reply.specs.{Common.{boolean, compact_text, day_text, member, no_members, object, sort_text, state_text}, Done.{booked_text, declared_text}}
-use Rattle.pawn_reply.specs.{Done.{entered_text, extended_text, held_text, redeemed_text}, Laws.{booking_members, entry_members, is_unescaped, number_member}}
-use Rattle.{pawn_reply.{specs.Laws.text_member, proofs.{BodyLemmas.quoted, DayLemmas.day_plain}}, json.specs.Print.escape}
-use Rattle.{serde_json.proofs.OnLiterals.serde_json_on_literals, pawn_debt.specs.declared.entry.Sort.{Sort, TheVariants.{Draw, Repay}}}
-use Rattle.pawn_pledge.specs.declared.record.BookingState.{BookingState, TheVariants.{Asked, Confirmed, Refused, Cancelled}}
+use Rattle.json.specs.Print.{escape}
+use Rattle.pawn_debt.specs.declared.entry.Sort.{Sort}
+use Rattle.pawn_debt.specs.declared.entry.Sort.TheVariants.{Draw, Repay}
+use Rattle.pawn_pledge.specs.declared.record.BookingState.{BookingState}
+use Rattle.pawn_pledge.specs.declared.record.BookingState.TheVariants.{Asked, Confirmed, Refused, Cancelled}
+use Rattle.pawn_reply.proofs.BodyLemmas.{quoted}
+use Rattle.pawn_reply.proofs.DayLemmas.{day_plain}
+use Rattle.pawn_reply.specs.Common.{Booking, Entry, boolean, compact_text, day_text, member, no_members, object}
+use Rattle.pawn_reply.specs.Common.{sort_text, state_text}
+use Rattle.pawn_reply.specs.Done.{booked_text, declared_text, entered_text, extended_text, held_text, redeemed_text}
+use Rattle.pawn_reply.specs.Laws.{booking_members, entry_members, is_unescaped, number_member, text_member}
+use Rattle.serde_json.proofs.OnLiterals.{serde_json_on_literals}
+use Rattle.std.proofs.Common.{◌≡◌, ℕ, List, [], ◌∷◌, ◌++◌, Bool, true, false, refl, ap, ◌∙◌, IsTrue, codes, decimal}
 
 -- ---- words
 

@@ -1,8 +1,9 @@
 -- The JSON bodies of replies to commands.
-use Rattle.std.specs.Prelude.{ℕ, List, ◌++◌, codes, decimal, Bool, if◌then◌else◌}
+use Rattle.pawn_pledge.specs.declared.command.Done.{Done}
+use Rattle.pawn_pledge.specs.declared.command.Done.TheVariants.{Entered, Held, Declared, Booked, Redeemed, Sold}
+use Rattle.pawn_pledge.specs.declared.command.Done.TheVariants.{Extended}
 use Rattle.pawn_reply.specs.Common.{day_text, receipt_text, sort_text, state_text}
-use Rattle.pawn_pledge.specs.declared.command.Done.{Done, TheVariants.{Entered, Held}}
-use Rattle.pawn_pledge.specs.declared.command.Done.TheVariants.{Declared, Booked, Redeemed, Sold, Extended}
+use Rattle.std.specs.Prelude.{ℕ, List, ◌++◌, codes, decimal, Bool, if◌then◌else◌}
 
 -- an entry was made
 abbrev pub entered_text : List ℕ → ℕ → ℕ → List ℕ → List ℕ
@@ -10,7 +11,7 @@ entered_text day pence seq sort =
     codes "{\"day\":\"" ++ (day ++ (codes "\",\"pence\":" ++ (decimal pence
     ++ (codes ",\"seq\":" ++ (decimal seq ++ (codes ",\"sort\":\"" ++ (sort ++ codes "\"}")))))))
 
--- redemption is barred, or is not
+-- whether the pledge is on hold
 abbrev pub held_text : Bool → List ℕ
 held_text held = if held then codes "{\"held\":true}" else codes "{\"held\":false}"
 

@@ -1,10 +1,13 @@
--- The laws of replies' bodies.
+-- Laws of the bodies of replies.
+use Rattle.pawn_reply.specs.Bodies.{book_text, filled_text, opened_text, refusal_text, version_text}
+use Rattle.pawn_reply.specs.Common.{Booking, Entry, Members, boolean, compact_text, day_text, list_all, member}
+use Rattle.pawn_reply.specs.Common.{no_members, number, object, sort_text, state_text, string, unsigned}
+use Rattle.pawn_reply.specs.Done.{booked_text, declared_text, entered_text, extended_text, held_text, redeemed_text}
+use Rattle.pawn_reply.specs.Done.{sold_text}
+use Rattle.pawn_reply.specs.Types.{Detail, Row, Total}
 use Rattle.std.specs.Prelude.{◌≡◌, ℕ, List, codes, Bool, IsTrue, ◌&&◌, not, ◌==◌, nat_le, Option, Some, None}
-use Rattle.pawn_reply.specs.Common.{Booking, Entry, Members, boolean, compact_text, day_text, list_all, member, no_members, number, object, sort_text}
-use Rattle.pawn_reply.specs.{Common.{state_text, string, unsigned}, Bodies.{book_text, filled_text, opened_text, refusal_text, version_text}}
-use Rattle.pawn_reply.specs.{Done.{booked_text, declared_text, entered_text, extended_text, held_text, redeemed_text, sold_text}, Types.{Detail, Row, Total}}
 
--- no byte that a JSON text escapes
+-- the text has no byte that JSON would escape
 abbrev pub is_unescaped : List ℕ → Bool
 is_unescaped s = list_all (λ b. nat_le 32 b && not (b == 34) && not (b == 92)) s
 

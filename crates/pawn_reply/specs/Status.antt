@@ -1,13 +1,13 @@
--- The statuses of replies.
+-- The HTTP statuses of refusals and faults, by their codes.
 use Rattle.std.specs.Prelude.{ℕ, List, [], ◌∷◌, ◌&&◌, nat_le, if◌then◌else◌}
 
--- a status for the numbers from first to last
+-- a status for the codes from first to last
 pub record Row : Type 0 where
   pub first : ℕ
   pub last : ℕ
   pub status : ℕ
 
--- the statuses of refusals and faults: bad requests, forbidden, not found, unavailable
+-- the table of statuses: 400 (bad request), 403 (forbidden), 404 (not found) and 503 (unavailable)
 abbrev pub statuses : List Row
 statuses =
     record { first = 101; last = 104; status = 400 }
@@ -22,11 +22,12 @@ statuses =
     ∷ record { first = 490; last = 492; status = 503 }
     ∷ []
 
--- the status for a number: that of its row, or 409 if it is in none
+-- the status for a code: that of its row, or 409 if it is in none
 abbrev pub status_in : List Row → ℕ → ℕ
 status_in [] code = 409
 status_in (row ∷ rows) code =
     if nat_le row.first code && nat_le code row.last then row.status else status_in rows code
 
+-- the HTTP status for a code
 abbrev pub reply_status : ℕ → ℕ
 reply_status code = status_in statuses code

@@ -1,10 +1,13 @@
--- Examples of replies, worked out.
+-- Worked examples of replies.
+use Rattle.pawn_book.specs.declared.refusal.Refusal.TheVariants.{NoSuchReceipt, NotOperator, BookTaken, Full}
+use Rattle.pawn_book.specs.declared.reply.Reply.TheVariants.{BookFilled, BookMade, Opened, TermsPut}
+use Rattle.pawn_reply.specs.Common.{Receipt, Cause}
+use Rattle.pawn_reply.specs.Reply.{memory_text, out_text}
+use Rattle.pawn_reply.specs.Status.{reply_status}
+use Rattle.pawn_reply.specs.Types.{BadBody, Csv, NoRoute, Out, WireFault}
 use Rattle.std.specs.Prelude.{◌≡◌, codes}
-use Rattle.pawn_book.specs.declared.{reply.Reply.TheVariants.{BookFilled, BookMade, Opened, TermsPut}, refusal.Refusal.TheVariants.{NoSuchReceipt, NotOperator}}
-use Rattle.{pawn_book.specs.declared.refusal.Refusal.TheVariants.{BookTaken, Full}, pawn_reply.specs.{Common.{Receipt, Cause}, Reply.{memory_text, out_text}}}
-use Rattle.pawn_reply.specs.{Status.reply_status, Types.{BadBody, Csv, NoRoute, Out, WireFault}}
 
--- the first number and the last of each kind: bad requests, forbidden, not found, unavailable, and conflicts between them
+-- the first and the last code of each row of the table of statuses, and codes outside of it, whose status is 409
 abbrev pub WorkedReplyStatuses : Type 0
 WorkedReplyStatuses =
     (reply_status 101 ≡ 400) × (reply_status 104 ≡ 400) × (reply_status 201 ≡ 400) × (reply_status 202 ≡ 409)
@@ -27,7 +30,7 @@ WorkedRefusals =
     × (out_text (Out.Refused Full)
     ≡ codes "HTTP/1.1 503 Service Unavailable\r\nContent-Length: 26\r\nContent-Type: application/json\r\n\r\n{\"code\":490,\"name\":\"Full\"}")
 
--- whole replies to bytes that are no request, and the one when memory is refused
+-- whole replies to bytes that are not a valid request, and the reply when memory runs out
 abbrev pub WorkedFaults : Type 0
 WorkedFaults =
     (out_text (Out.Fault WireFault.BadHead)

@@ -1,13 +1,14 @@
 //! The JSON bodies of replies to commands.
+ghost use Rattle.pawn_reply.specs.Common.{day_text, receipt_text, sort_text, state_text};
+ghost use Rattle.pawn_reply.specs.Done.{entered_text, held_text, declared_text, booked_text, redeemed_text, sold_text};
+ghost use Rattle.pawn_reply.specs.Done.{extended_text, commanded_text};
 ghost use Rattle.std.specs.Prelude.{◌≡◌, IfOk, string_bytes};
-ghost use Rattle.pawn_reply.specs.{Common.{day_text, receipt_text, sort_text, state_text}, Done.{entered_text, held_text, declared_text, booked_text}};
-ghost use Rattle.pawn_reply.specs.Done.{redeemed_text, sold_text, extended_text, commanded_text};
 
 use pawn_book::{Booking, Day, Done, Entry, Number, Receipt};
 use std::alloc::{AllocError, Global};
 use std::str::from_utf8;
 
-// The day as `2024-01-31`.
+/// Returns a day as text, such as `2024-01-31`.
 fn day_text(alloc: Global, day: Day) -> Result<String, AllocError>
     ensures text { IfOk result (λ s. string_bytes s ≡ day_text day) }
 {
@@ -15,6 +16,7 @@ fn day_text(alloc: Global, day: Day) -> Result<String, AllocError>
     String::from_str(alloc, from_utf8(&bytes).unwrap())
 }
 
+/// Returns the body for an entry, from its parts as texts. The amount is in pence.
 fn entered_text(
     alloc: Global,
     day: &str,
@@ -27,8 +29,8 @@ fn entered_text(
     format!(in alloc; "{{\"day\":\"{day}\",\"pence\":{pence},\"seq\":{seq},\"sort\":\"{sort}\"}}")
 }
 
-// The body for an entry that was made.
-fn tell_entry(alloc: Global, entry: Entry) -> Result<String, AllocError>
+/// Returns the body for an entry that was made.
+fn entry_body(alloc: Global, entry: Entry) -> Result<String, AllocError>
     ensures text { IfOk result (λ s. string_bytes s ≡ entered_text (day_text entry.day) entry.pence entry.seq (sort_text entry.sort)) }
 {
     let day = day_text(alloc, entry.day)?;
@@ -41,8 +43,8 @@ fn tell_entry(alloc: Global, entry: Entry) -> Result<String, AllocError>
     )
 }
 
-// The body that says whether redemption is barred.
-fn tell_bar(alloc: Global, barred: bool) -> Result<String, AllocError>
+/// Returns the body that states whether the pledge is on hold.
+fn bar_body(alloc: Global, barred: bool) -> Result<String, AllocError>
     ensures text { IfOk result (λ s. string_bytes s ≡ held_text barred) }
 {
     let text = if barred {
@@ -53,84 +55,88 @@ fn tell_bar(alloc: Global, barred: bool) -> Result<String, AllocError>
     String::from_str(alloc, text)
 }
 
+/// Returns the body for a new receipt, from its text.
 fn declared_text(alloc: Global, receipt: &str) -> Result<String, AllocError>
     ensures text { IfOk result (λ s. string_bytes s ≡ declared_text receipt.now) }
 {
     format!(in alloc; "{{\"receipt\":\"{receipt}\"}}")
 }
 
-// The body for a new receipt.
-fn tell_receipt(alloc: Global, receipt: Receipt) -> Result<String, AllocError>
+/// Returns the body for a new receipt.
+fn receipt_body(alloc: Global, receipt: Receipt) -> Result<String, AllocError>
     ensures text { IfOk result (λ s. string_bytes s ≡ declared_text (receipt_text receipt)) }
 {
     let text = receipt.text(alloc)?;
     declared_text(alloc, text.as_str())
 }
 
+/// Returns the body for a booking, from its parts as texts.
 fn booked_text(alloc: Global, state: &str, day: &str, window: u64) -> Result<String, AllocError>
     ensures text { IfOk result (λ s. string_bytes s ≡ booked_text state.now day.now window) }
 {
     format!(in alloc; "{{\"booking\":\"{state}\",\"day\":\"{day}\",\"window\":{window}}}")
 }
 
-// The body for a booking: its state, its day and its window.
-fn tell_booking(alloc: Global, booking: Booking) -> Result<String, AllocError>
+/// Returns the body for a booking: its state, its day and its window.
+fn booking_body(alloc: Global, booking: Booking) -> Result<String, AllocError>
     ensures text { IfOk result (λ s. string_bytes s ≡ booked_text (state_text booking.state) (day_text booking.day) booking.window) }
 {
     let day = day_text(alloc, booking.day)?;
     booked_text(alloc, booking.state.word(), day.as_str(), booking.window)
 }
 
+/// Returns the body for a redemption, from the sum paid in pence and the day as text.
 fn redeemed_text(alloc: Global, paid: u64, day: &str) -> Result<String, AllocError>
     ensures text { IfOk result (λ s. string_bytes s ≡ redeemed_text paid day.now) }
 {
     format!(in alloc; "{{\"paid\":{paid},\"redeemed\":\"{day}\"}}")
 }
 
-// The body for a redemption: what was paid, in pence, and the day.
-fn tell_redemption(alloc: Global, day: Day, paid: u64) -> Result<String, AllocError>
+/// Returns the body for a redemption: the sum that was paid, in pence, and the day.
+fn redemption_body(alloc: Global, day: Day, paid: u64) -> Result<String, AllocError>
     ensures text { IfOk result (λ s. string_bytes s ≡ redeemed_text paid (day_text day)) }
 {
     let day = day_text(alloc, day)?;
     redeemed_text(alloc, paid, day.as_str())
 }
 
-// The body for a sale: the net proceeds, the shortfall and the surplus, in pence.
-fn tell_sale(alloc: Global, net: u64, shortfall: u64, surplus: u64) -> Result<String, AllocError>
+/// Returns the body for a sale: the net proceeds, the shortfall and the surplus, in pence.
+fn sale_body(alloc: Global, net: u64, shortfall: u64, surplus: u64) -> Result<String, AllocError>
     ensures text { IfOk result (λ s. string_bytes s ≡ sold_text net shortfall surplus) }
 {
     format!(in alloc; "{{\"net\":{net},\"shortfall\":{shortfall},\"surplus\":{surplus}}}")
 }
 
+/// Returns the body for an extension, from the day as text.
 fn extended_text(alloc: Global, until: &str) -> Result<String, AllocError>
     ensures text { IfOk result (λ s. string_bytes s ≡ extended_text until.now) }
 {
     format!(in alloc; "{{\"ends\":\"{until}\"}}")
 }
 
-// The body for an extension: the day on which the period now ends.
-fn tell_extension(alloc: Global, until: Day) -> Result<String, AllocError>
+/// Returns the body for an extension: the day on which the period now ends.
+fn extension_body(alloc: Global, until: Day) -> Result<String, AllocError>
     ensures text { IfOk result (λ s. string_bytes s ≡ extended_text (day_text until)) }
 {
     let day = day_text(alloc, until)?;
     extended_text(alloc, day.as_str())
 }
 
-// The body that says what a command did to the pledge of this number.
-pub(crate) fn tell_done(alloc: Global, number: Number, done: Done) -> Result<String, AllocError>
+/// Returns the body that states what a command did to the pledge of this number.
+pub(crate) fn done_body(alloc: Global, number: Number, done: Done) -> Result<String, AllocError>
     ensures text { IfOk result (λ s. string_bytes s ≡ commanded_text number done) }
 {
     match done {
-        Done::Entered(entry) => tell_entry(alloc, entry),
-        Done::Held(barred) => tell_bar(alloc, barred),
-        Done::Declared(secret) => tell_receipt(alloc, Receipt { number, secret }),
-        Done::Booked(booking) => tell_booking(alloc, booking),
-        Done::Redeemed { day, paid } => tell_redemption(alloc, day, paid),
+        Done::Entered(entry) => entry_body(alloc, entry),
+        Done::Held(barred) => bar_body(alloc, barred),
+        Done::Declared(secret) => receipt_body(alloc, Receipt { number, secret }),
+        Done::Booked(booking) => booking_body(alloc, booking),
+        Done::Redeemed { day, paid } => redemption_body(alloc, day, paid),
         Done::Sold {
             net,
             surplus,
             shortfall,
-        } => tell_sale(alloc, net, shortfall, surplus),
-        Done::Extended { until } => tell_extension(alloc, until),
+        } => sale_body(alloc, net, shortfall, surplus),
+        Done::Extended { until } => extension_body(alloc, until),
     }
 }

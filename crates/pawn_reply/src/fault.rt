@@ -1,6 +1,7 @@
-//! Why bytes are no request.
+//! The faults of bytes that are not a valid request.
+ghost use Rattle.pawn_reply.specs.Fault.{wire_fault_code, detail_of, wire_fault_name, text_fault, wire_fault};
+ghost use Rattle.pawn_reply.specs.declared.fault.WireFault.TheVariants.{Memory};
 ghost use Rattle.std.specs.Prelude.{◌≡◌};
-ghost use Rattle.pawn_reply.specs.{Fault.{wire_fault_code, detail_of, wire_fault_name, text_fault, wire_fault}, declared.fault.WireFault.TheVariants.Memory};
 
 use crate::detail::Detail;
 use pawn_csv::{Cause, CsvFault};
@@ -8,10 +9,10 @@ use std::alloc::{AllocError, AllocFailed};
 use std::error::Error;
 use std::fmt;
 
-/// Why a head can't begin a request, in the order in which the faults are looked for.
+/// Why a head can't begin a request, in the order in which the faults are checked.
 #[derive(Clone, Copy)]
 pub enum HeadFault {
-    /// The bytes don't begin with a head: they break the grammar, or a limit.
+    /// The bytes don't begin with a head: they violate the grammar or exceed a limit.
     BadHead,
     /// The head has a `Transfer-Encoding` field.
     Transfer,
@@ -21,23 +22,24 @@ pub enum HeadFault {
     BodyTooLong,
 }
 
-/// Why bytes are no request. The head and the body's length are judged first, then the target, the method, the key or
-/// the receipts, and last the body. Of receipts, `NoReceipt` comes first, then `TooManyReceipts`, then `BadReceipt`.
+/// Why bytes are not a valid request. The head and the length of the body are checked first, then the target, the
+/// method, the key or the receipts, and finally the body. Of the faults of receipts, `NoReceipt` is checked first, then
+/// `TooManyReceipts`, then `BadReceipt`.
 #[derive(Clone, Copy, Debug, PartialEq, Eq)]
 pub enum WireFault {
-    /// The bytes don't begin with a head: they break the grammar, or a limit.
+    /// The bytes don't begin with a head: they violate the grammar or exceed a limit.
     BadHead,
     /// The head has a `Transfer-Encoding` field.
     Transfer,
-    /// Two `Content-Length` fields, one that is not 1 to 19 digits, or a body of another length.
+    /// Two `Content-Length` fields, one that is not 1 to 19 digits, or a body whose length differs from the field.
     BadLength,
     /// The body is longer than the limit.
     BodyTooLong,
     /// The service has no such target, or a number or a day in it is malformed or out of range.
     NoRoute,
-    /// The target is there, but it takes another method.
+    /// The target exists, but it takes another method.
     WrongMethod,
-    /// The body is not JSON, or not with the members that the request needs.
+    /// The body is not JSON, or it lacks a member that the request needs, or a member is malformed.
     BadBody,
     /// There is not exactly one key, or it is malformed.
     BadKey,
@@ -49,12 +51,12 @@ pub enum WireFault {
     NoReceipt,
     /// The body is not the text of a book.
     Csv(CsvFault),
-    /// Memory was refused.
+    /// Memory ran out.
     Memory,
 }
 
 impl WireFault {
-    /// The fault's number in replies.
+    /// Returns the fault's code in replies.
     pub fn code(self) -> u16
         ensures value { result ≡ wire_fault_code self }
     {
@@ -75,7 +77,7 @@ impl WireFault {
         }
     }
 
-    /// What replies give besides the fault's number and name: the row, for a fault of a text; else nothing.
+    /// Returns what replies state besides the fault's code and name: the row, for a fault of a text; otherwise nothing.
     pub fn detail(self) -> Option<Detail>
         ensures value { result ≡ detail_of self }
     {
@@ -85,7 +87,7 @@ impl WireFault {
         }
     }
 
-    /// The fault's name in replies.
+    /// Returns the fault's name in replies.
     pub fn name(self) -> &'static str
         ensures value { result.now ≡ wire_fault_name self }
     {
@@ -153,8 +155,8 @@ impl<T: Drop> From<AllocFailed<T>> for WireFault {
 }
 
 impl fmt::Display for WireFault {
-    ghost use Rattle.std.specs.Prelude.{Some};
     ghost use Rattle.pawn_reply.specs.Fault.{wire_fault_name};
+    ghost use Rattle.std.specs.Prelude.{Some};
 
     ghost output = { λ fault. Some (wire_fault_name fault) };
 

@@ -1,4 +1,4 @@
-//! Laws of the definitions.
+//! Laws of the bodies of replies.
 ghost use Rattle.pawn_reply.specs.Laws.{BodiesAreJson};
 
 /// The bodies of replies are compact JSON, with their members in the order of their names.

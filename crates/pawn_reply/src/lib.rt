@@ -1,4 +1,4 @@
-//! The replies of the HTTP interface, as bytes, and the faults that they tell of.
+//! The replies of the HTTP interface, as bytes, and the faults that they report.
 #![tactic(auto)]
 
 mod bodies;

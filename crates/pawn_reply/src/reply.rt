@@ -1,7 +1,11 @@
-//! Replies to bytes.
+//! Builds the bytes of replies.
+ghost use Rattle.pawn_pledge.specs.Receipt.{receipt_text};
+ghost use Rattle.pawn_reply.specs.Bodies.{book_text, filled_text, opened_text, version_text};
+ghost use Rattle.pawn_reply.specs.Done.{commanded_text};
+ghost use Rattle.pawn_reply.specs.Fault.{wire_fault};
+ghost use Rattle.pawn_reply.specs.Reply.{done_text, fault_text, head_text, json_text, memory_text, out_text};
+ghost use Rattle.pawn_reply.specs.Reply.{refused_text, reply_text};
 ghost use Rattle.std.specs.Prelude.{◌≡◌, IfOk, string_bytes};
-ghost use Rattle.{pawn_pledge.specs.Receipt.receipt_text, pawn_reply.specs.{Bodies.{book_text, filled_text, opened_text, version_text}, Done.commanded_text}};
-ghost use Rattle.pawn_reply.specs.{Reply.{done_text, fault_text, head_text, json_text, memory_text, out_text, refused_text, reply_text}, Fault.wire_fault};
 
 use crate::detail::Detail;
 use crate::fault::{HeadFault, WireFault};
@@ -11,14 +15,14 @@ use http::StatusCode;
 use pawn_book::{Done, Number, Receipt, Refusal, Reply};
 use std::alloc::{AllocError, Global};
 
-/// What a reply is to say.
+/// The content of a reply.
 #[derive(Drop)]
 pub enum Out {
     /// The request was done, and this is the reply to it.
     Done(Reply),
     /// The request was refused.
     Refused(Refusal),
-    /// The bytes are no request.
+    /// The bytes are not a valid request.
     Fault(WireFault),
     /// Lines of text, as `text/plain`.
     Plain(Vec<u8>),
@@ -26,31 +30,35 @@ pub enum Out {
     Csv(Vec<u8>),
 }
 
-/// The bytes of the reply when memory is refused: status 503, with the number 491. Being a constant, it takes no
+/// The bytes of the reply when memory runs out: status 503, code 491. It is a constant, so sending it allocates no
 /// memory.
 pub const MEMORY_REPLY: &[u8] =
     b"HTTP/1.1 503 Service Unavailable\r\nContent-Length: 28\r\nContent-Type: application/json\r\n\r\n{\"code\":491,\"name\":\"Memory\"}";
 
+/// The reply to `HeadFault::BadHead`.
 const BAD_HEAD_REPLY: &[u8] =
     b"HTTP/1.1 400 Bad Request\r\nContent-Length: 29\r\nContent-Type: application/json\r\n\r\n{\"code\":701,\"name\":\"BadHead\"}";
 
+/// The reply to `HeadFault::Transfer`.
 const TRANSFER_REPLY: &[u8] =
     b"HTTP/1.1 400 Bad Request\r\nContent-Length: 30\r\nContent-Type: application/json\r\n\r\n{\"code\":703,\"name\":\"Transfer\"}";
 
+/// The reply to `HeadFault::BadLength`.
 const BAD_LENGTH_REPLY: &[u8] =
     b"HTTP/1.1 400 Bad Request\r\nContent-Length: 31\r\nContent-Type: application/json\r\n\r\n{\"code\":704,\"name\":\"BadLength\"}";
 
+/// The reply to `HeadFault::BodyTooLong`.
 const BODY_TOO_LONG_REPLY: &[u8] =
     b"HTTP/1.1 400 Bad Request\r\nContent-Length: 33\r\nContent-Type: application/json\r\n\r\n{\"code\":705,\"name\":\"BodyTooLong\"}";
 
-/// The reply when memory is refused: `MEMORY_REPLY`.
+/// Returns the reply when memory runs out: `MEMORY_REPLY`.
 pub fn memory_reply() -> &'static [u8]
     ensures text { result.now ≡ memory_text }
 {
     MEMORY_REPLY
 }
 
-/// The reply to a head that can't begin a request. It takes no memory.
+/// Returns the reply to a head that can't begin a request. It is a constant, so this allocates no memory.
 pub fn fault_reply(fault: HeadFault) -> &'static [u8]
     ensures text { result.now ≡ fault_text (wire_fault fault) }
 {
@@ -62,6 +70,7 @@ pub fn fault_reply(fault: HeadFault) -> &'static [u8]
     }
 }
 
+/// Returns the head of a reply. `length` is the length of the body in bytes, and `kind` is its content type.
 fn head(alloc: Global, status: StatusCode, length: usize, kind: &str) -> Result<String, AllocError>
     ensures text { IfOk result (λ s. string_bytes s ≡ head_text status length kind.now) }
 {
@@ -70,6 +79,7 @@ fn head(alloc: Global, status: StatusCode, length: usize, kind: &str) -> Result<
     )
 }
 
+/// Returns a whole reply. `kind` is the content type of the body.
 fn reply(alloc: Global, status: StatusCode, kind: &str, body: &[u8]) -> Result<Vec<u8>, AllocError>
     ensures text { IfOk result (λ v. v.items ≡ reply_text status kind.now body.now) }
 {
@@ -79,12 +89,14 @@ fn reply(alloc: Global, status: StatusCode, kind: &str, body: &[u8]) -> Result<V
     Ok(bytes)
 }
 
+/// Returns a whole reply whose body is JSON.
 fn json_reply(alloc: Global, status: StatusCode, body: &str) -> Result<Vec<u8>, AllocError>
     ensures text { IfOk result (λ v. v.items ≡ json_text status body.now) }
 {
     reply(alloc, status, "application/json", body.as_bytes())
 }
 
+/// Returns the reply to a refusal or a fault.
 fn refusal_reply(
     alloc: Global,
     code: u16,
@@ -97,6 +109,7 @@ fn refusal_reply(
     json_reply(alloc, status_of(code), body.as_str())
 }
 
+/// Returns the reply to a request that made a book.
 fn book_reply(alloc: Global, book: Number) -> Result<Vec<u8>, AllocError>
     ensures text { IfOk result (λ v. v.items ≡ json_text 200 (book_text book)) }
 {
@@ -104,6 +117,7 @@ fn book_reply(alloc: Global, book: Number) -> Result<Vec<u8>, AllocError>
     json_reply(alloc, StatusCode::OK, body.as_str())
 }
 
+/// Returns the reply to a request that put terms.
 fn version_reply(alloc: Global, version: u64) -> Result<Vec<u8>, AllocError>
     ensures text { IfOk result (λ v. v.items ≡ json_text 200 (version_text version)) }
 {
@@ -111,6 +125,7 @@ fn version_reply(alloc: Global, version: u64) -> Result<Vec<u8>, AllocError>
     json_reply(alloc, StatusCode::OK, body.as_str())
 }
 
+/// Returns the reply to an import.
 fn filled_reply(alloc: Global, pledges: u64) -> Result<Vec<u8>, AllocError>
     ensures text { IfOk result (λ v. v.items ≡ json_text 200 (filled_text pledges)) }
 {
@@ -118,6 +133,7 @@ fn filled_reply(alloc: Global, pledges: u64) -> Result<Vec<u8>, AllocError>
     json_reply(alloc, StatusCode::OK, body.as_str())
 }
 
+/// Returns the reply to a request that took a pledge.
 fn opening_reply(alloc: Global, receipt: Receipt) -> Result<Vec<u8>, AllocError>
     ensures text { IfOk result (λ v. v.items ≡ json_text 200 (opened_text receipt.number (receipt_text receipt))) }
 {
@@ -127,13 +143,15 @@ fn opening_reply(alloc: Global, receipt: Receipt) -> Result<Vec<u8>, AllocError>
     json_reply(alloc, StatusCode::OK, body.as_str())
 }
 
+/// Returns the reply to a command.
 fn command_reply(alloc: Global, number: Number, done: Done) -> Result<Vec<u8>, AllocError>
     ensures text { IfOk result (λ v. v.items ≡ json_text 200 (commanded_text number done)) }
 {
-    let body = done::tell_done(alloc, number, done)?;
+    let body = done::done_body(alloc, number, done)?;
     json_reply(alloc, StatusCode::OK, body.as_str())
 }
 
+/// Returns the reply to a request that was done.
 fn done_reply(alloc: Global, reply: Reply) -> Result<Vec<u8>, AllocError>
     ensures text { IfOk result (λ v. v.items ≡ json_text 200 (done_text reply)) }
 {
@@ -146,8 +164,8 @@ fn done_reply(alloc: Global, reply: Reply) -> Result<Vec<u8>, AllocError>
     }
 }
 
-/// The bytes of a reply: a head with its status and its body's length and type, and then the body. Fails only if memory
-/// is refused.
+/// Returns the bytes of a reply: a head with its status and with the length and type of its body, and then the body.
+/// Fails only if memory runs out.
 pub fn write_reply(alloc: Global, out: &Out) -> Result<Vec<u8>, AllocError>
     ensures text { IfOk result (λ v. v.items ≡ out_text out.now) }
 {

@@ -1,10 +1,10 @@
 //! The statuses of replies.
-ghost use Rattle.std.specs.Prelude.{◌≡◌};
 ghost use Rattle.pawn_reply.specs.Status.{reply_status};
+ghost use Rattle.std.specs.Prelude.{◌≡◌};
 
 use http::StatusCode;
 
-// The HTTP status for the number of a refusal or a fault: 409 unless another is listed.
+/// Returns the HTTP status for the code of a refusal or a fault: 409, unless another one is listed for it.
 pub(crate) fn status_of(code: u16) -> StatusCode
     ensures value { result ≡ reply_status code }
 {

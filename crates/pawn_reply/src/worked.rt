@@ -1,3 +1,4 @@
+//! Worked examples of replies, as a proved test.
 ghost use Rattle.pawn_reply.specs.WorkedReplies.{WorkedAnswers, WorkedFaults, WorkedRefusals, WorkedReplyStatuses};
 
 /// Examples of statuses and of whole replies.

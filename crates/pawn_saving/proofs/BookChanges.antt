@@ -1,13 +1,25 @@
 -- What becomes of the rows of a host where a book is made, and where it gets terms.
-use Rattle.pawn_saving.proofs.Basics.{get-with_book, nil_from_length, IsPermutation-refl, IsPermutation-flat_map, part, rows-with_book, equals, of_one_book}
-use Rattle.pawn_saving.proofs.{Basics.rows_at, Changing.{joined, more_joined, replaced}, Hosting.{AreSame, relisted}, RowsInOrder.placed_parts}
-use Rattle.pawn_saving.specs.Common.{Database, changed_book, made_book, with_change, book_rows, with_book, AddTerms, MakeBook, NewBook, with_rows, ListsOurs}
-use Rattle.{pawn_saving.specs.{Counted.{IsWrittenPart, ListsHost, listed_as}, Writing.IsOnly}, std.proofs.Common.{◌≡◌, ◌≢◌, ◌++◌, ◌==◌, ℕ, suc, ◌+◌, List, []}}
-use Rattle.std.proofs.Common.{◌∷◌, map, filter, flat_map, length, length-append, true, false, ◌&&◌, Some, None, refl, sym, ap, subst, ◌∙◌, arith, IsPermutation}
-use Rattle.std.proofs.{Common.if◌then◌else◌, lemmas.{Bool.{and_left, cond-false, cond-true}, List.Concat.flat_map_single}}
-use Rattle.pawn_tables.proofs.Basics.{nat_tests, IsPermutation-map, IsPermutation-sym, IsPermutation-trans, length_permutation, IsPermutation-filter}
-use Rattle.pawn_tables.specs.{At.at_book, Common.{entries, get, Row, Rates, BookValue, Host, rows}, Rows.{book_row, booking_listed, entries_listed}}
-use Rattle.pawn_tables.specs.{Rows.{extensions_listed, number, pledge_listed, secrets_listed, terms_cells, terms_listed, totals_listed}, StandsFor.of_books}
+use Rattle.pawn_saving.proofs.Basics.{get-with_book, nil_from_length, IsPermutation-refl, IsPermutation-flat_map, part}
+use Rattle.pawn_saving.proofs.Basics.{rows-with_book, equals, of_one_book, rows_at}
+use Rattle.pawn_saving.proofs.Changing.{joined, more_joined, replaced}
+use Rattle.pawn_saving.proofs.Hosting.{AreSame, relisted}
+use Rattle.pawn_saving.proofs.RowsInOrder.{placed_parts}
+use Rattle.pawn_saving.specs.Common.{Database, changed_book, made_book, with_change, book_rows, with_book, AddTerms}
+use Rattle.pawn_saving.specs.Common.{MakeBook, NewBook, with_rows, ListsOurs}
+use Rattle.pawn_saving.specs.Counted.{IsWrittenPart, ListsHost, listed_as}
+use Rattle.pawn_saving.specs.Writing.{IsOnly}
+use Rattle.pawn_tables.proofs.Basics.{nat_tests, IsPermutation-map, IsPermutation-sym, IsPermutation-trans}
+use Rattle.pawn_tables.proofs.Basics.{length_permutation, IsPermutation-filter}
+use Rattle.pawn_tables.specs.At.{at_book}
+use Rattle.pawn_tables.specs.Common.{entries, get, Row, Rates, BookValue, Host, rows}
+use Rattle.pawn_tables.specs.Rows.{book_row, booking_listed, entries_listed, extensions_listed, number, pledge_listed}
+use Rattle.pawn_tables.specs.Rows.{secrets_listed, terms_cells, terms_listed, totals_listed}
+use Rattle.pawn_tables.specs.StandsFor.{of_books}
+use Rattle.std.proofs.Common.{◌≡◌, ◌≢◌, ◌++◌, ◌==◌, ℕ, suc, ◌+◌, List, [], ◌∷◌, map, filter, flat_map, length}
+use Rattle.std.proofs.Common.{length-append, true, false, ◌&&◌, Some, None, refl, sym, ap, subst, ◌∙◌, arith}
+use Rattle.std.proofs.Common.{IsPermutation, if◌then◌else◌}
+use Rattle.std.proofs.lemmas.Bool.{and_left, cond-false, cond-true}
+use Rattle.std.proofs.lemmas.List.Concat.{flat_map_single}
 
 -- ---- a new book
 

@@ -1,10 +1,19 @@
 -- What the statements on the rows of books write.
-use Rattle.{std.proofs.Common.{◌≡◌, ℕ, ℤ, List, [], ◌∷◌, length, Some, None, Ok, refl, sym, ap, subst, ◌∙◌}, pawn_tables.proofs.Basics.{over_table, passes}}
-use Rattle.pawn_tables.specs.Common.{Index, Row, column, Executes, State, Term, Blob, Int, Null, Text, Rates, PledgeValue, BookValue, Listed, columns_of}
-use Rattle.pawn_tables.specs.{At.at_book, Ours.with_indexes, Rows.{book_row, import_count, import_key, number, or_null, word, head_cells}, Schema.books}
-use Rattle.{pawn_tables.specs.Schema.books_tree, pawn_saving.{proofs.Basics.{shows_of, cast_int, cast_null, cast_whole, Sets}, specs.Common.{cast, BlobKind}}}
-use Rattle.pawn_saving.{specs.{Common.{filled_book, made_book, NewBook, BookRows, with_rows, ListsOurs}, Writing.IsOnly}, proofs.BookChanges.own_passes}
-use Rattle.pawn_saving.proofs.{OurTables.{row_joins, row_set_by}, Places.books_place, StatementWrites.cast_optional}
+use Rattle.pawn_saving.proofs.Basics.{shows_of, cast_int, cast_null, cast_whole, Sets}
+use Rattle.pawn_saving.proofs.BookChanges.{own_passes}
+use Rattle.pawn_saving.proofs.OurTables.{row_joins, row_set_by}
+use Rattle.pawn_saving.proofs.Places.{books_place}
+use Rattle.pawn_saving.proofs.StatementWrites.{cast_optional}
+use Rattle.pawn_saving.specs.Common.{cast, BlobKind, filled_book, made_book, NewBook, BookRows, with_rows, ListsOurs}
+use Rattle.pawn_saving.specs.Writing.{IsOnly}
+use Rattle.pawn_tables.proofs.Basics.{over_table, passes}
+use Rattle.pawn_tables.specs.At.{at_book}
+use Rattle.pawn_tables.specs.Common.{Index, Row, column, Executes, State, Term, Blob, Int, Null, Text, Rates}
+use Rattle.pawn_tables.specs.Common.{PledgeValue, BookValue, Listed, columns_of}
+use Rattle.pawn_tables.specs.Ours.{with_indexes}
+use Rattle.pawn_tables.specs.Rows.{book_row, import_count, import_key, number, or_null, word, head_cells}
+use Rattle.pawn_tables.specs.Schema.{books, books_tree}
+use Rattle.std.proofs.Common.{◌≡◌, ℕ, ℤ, List, [], ◌∷◌, length, Some, None, Ok, refl, sym, ap, subst, ◌∙◌}
 use Rattle.pawn_tables.proofs.ReadTexts as read
 use Rattle.pawn_saving.proofs.WriteTexts as text
 

@@ -1,9 +1,15 @@
 -- What becomes of the rows of a host where a book is put, or put anew.
-use Rattle.std.proofs.Common.{◌≡◌, ◌++◌, ℕ, List, [], ◌∷◌, append_assoc, false, cond, Some, None, T, refl, sym, ap, subst, ◌∙◌, arith, IsPermutation, is_lt}
-use Rattle.std.specs.{FinMap.{FinMap, entries-insert, put, Entries.{by_order, below_all}}, declared.cmp.Ordering.{Ordering, TheVariants.{Less, Equal, Greater}}}
-use Rattle.{std.proofs.lemmas.Cmp.nat_cmp_total, pawn_tables.specs.Common.{entries, entries_sorted, find, get, get-entries, insert, is_sorted, is_eq, nat_cmp}}
-use Rattle.{pawn_tables.proofs.Basics.{nat_tests, IsPermutation-sym, IsPermutation-trans}, pawn_saving.proofs.Basics.{both_pass, is_passed}}
-use Rattle.pawn_saving.proofs.Basics.{IsPermutation-append, IsPermutation-append_comm, IsPermutation-cons, IsPermutation-refl, IsPermutation-same, swapped}
+use Rattle.pawn_saving.proofs.Basics.{both_pass, is_passed, IsPermutation-append, IsPermutation-append_comm}
+use Rattle.pawn_saving.proofs.Basics.{IsPermutation-cons, IsPermutation-refl, IsPermutation-same, swapped}
+use Rattle.pawn_tables.proofs.Basics.{nat_tests, IsPermutation-sym, IsPermutation-trans}
+use Rattle.pawn_tables.specs.Common.{entries, entries_sorted, find, get, get-entries, insert, is_sorted, is_eq, nat_cmp}
+use Rattle.std.proofs.Common.{◌≡◌, ◌++◌, ℕ, List, [], ◌∷◌, append_assoc, false, cond, Some, None, T, refl, sym, ap}
+use Rattle.std.proofs.Common.{subst, ◌∙◌, arith, IsPermutation, is_lt}
+use Rattle.std.proofs.lemmas.Cmp.{nat_cmp_total}
+use Rattle.std.specs.FinMap.{FinMap, entries-insert, put}
+use Rattle.std.specs.FinMap.Entries.{by_order, below_all}
+use Rattle.std.specs.declared.cmp.Ordering.{Ordering}
+use Rattle.std.specs.declared.cmp.Ordering.TheVariants.{Less, Equal, Greater}
 
 apart : (n m k : ℕ) → nat_cmp n m ≡ Less → T (is_lt (nat_cmp m k)) → is_eq (nat_cmp n k) ≡ false
 apart n m k h t = let e = is_passed _ t in grind (arith, nat_tests, h, e)

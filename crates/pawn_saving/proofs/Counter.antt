@@ -1,14 +1,28 @@
 -- The counter of rows goes up.
-use Rattle.std.proofs.Common.{◌≡◌, ◌++◌, ℕ, ℤ, Option, ◌+◌, ◌<◌, ◌^◌, pos, List, [], ◌∷◌, map, filter, get_or, codes, Bool, true, Some, Result, Ok, Err, IfOk}
-use Rattle.{std.proofs.Common.{refl, sym, ap, ap₂, subst, ◌∙◌, arith, IsPermutation, slice_get, nat_lt}, pawn_tables.specs.Common.{AllByRecursion, list_all}}
-use Rattle.pawn_tables.specs.Common.{Index, Compare, Eq, Binary, understood, binary, is_true, Row, column, value_cmp, Shown, State, Table, Trees, Int, Text}
-use Rattle.pawn_tables.specs.{Common.{Holds, Listed}, Meta.{meta_row, meta_rows, other_rows}, Ours.with_indexes, Schema.{keep_schema, meta, meta_tree}}
-use Rattle.{pawn_tables.proofs.{Basics.{nat_tests, over_table}, OneHost.{is_limit, limit_alone}}, sqlite.proofs.Callers.{one_permutation, statement_of}}
-use Rattle.sqlite.specs.{Does.{Concludes, Shows as ShowsEach}, State.{QueriesRow, mode_of}, Rows.{Task, Written}, declared.run.Mode.Mode}
-use Rattle.pawn_saving.{specs.Common.{Returning, Enforced, Add, Arith, cast_row, Update, Does, Tally, Database, with_rows, ListsOurs}, proofs.Basics.same_value}
-use Rattle.pawn_saving.proofs.{Basics.{went, shows_of, at_place, cast_int, cast_whole, swapped}, OurTables.under_same, WriteTexts.{ADD_ROWS, count_tests}}
-use Rattle.pawn_saving.proofs.{WriteTexts.{count_shows, count_returns, READ_LIMIT, limit_tests, limit_shows, texts}, Places.meta_place}
-use Rattle.one_table.proofs.{Found.shown_listed, Returning.row_returned}
+use Rattle.one_table.proofs.Found.{shown_listed}
+use Rattle.one_table.proofs.Returning.{row_returned}
+use Rattle.pawn_saving.proofs.Basics.{same_value, went, shows_of, at_place, cast_int, cast_whole, swapped}
+use Rattle.pawn_saving.proofs.OurTables.{under_same}
+use Rattle.pawn_saving.proofs.Places.{meta_place}
+use Rattle.pawn_saving.proofs.WriteTexts.{ADD_ROWS, count_tests, count_shows, count_returns, READ_LIMIT, limit_tests}
+use Rattle.pawn_saving.proofs.WriteTexts.{limit_shows, texts}
+use Rattle.pawn_saving.specs.Common.{Returning, Enforced, Add, Arith, cast_row, Update, Does, Tally, Database}
+use Rattle.pawn_saving.specs.Common.{with_rows, ListsOurs}
+use Rattle.pawn_tables.proofs.Basics.{nat_tests, over_table}
+use Rattle.pawn_tables.proofs.OneHost.{is_limit, limit_alone}
+use Rattle.pawn_tables.specs.Common.{AllByRecursion, list_all, Index, Compare, Eq, Binary, understood, binary, is_true}
+use Rattle.pawn_tables.specs.Common.{Row, column, value_cmp, Shown, State, Table, Trees, Int, Text, Holds, Listed}
+use Rattle.pawn_tables.specs.Meta.{meta_row, meta_rows, other_rows}
+use Rattle.pawn_tables.specs.Ours.{with_indexes}
+use Rattle.pawn_tables.specs.Schema.{keep_schema, meta, meta_tree}
+use Rattle.sqlite.proofs.Callers.{one_permutation, statement_of}
+use Rattle.sqlite.specs.Does.{Concludes, Shows as ShowsEach}
+use Rattle.sqlite.specs.Rows.{Task, Written}
+use Rattle.sqlite.specs.State.{QueriesRow, mode_of}
+use Rattle.sqlite.specs.declared.run.Mode.{Mode}
+use Rattle.std.proofs.Common.{◌≡◌, ◌++◌, ℕ, ℤ, Option, ◌+◌, ◌<◌, ◌^◌, pos, List, [], ◌∷◌, map, filter, get_or, codes}
+use Rattle.std.proofs.Common.{Bool, true, Some, Result, Ok, Err, IfOk, refl, sym, ap, ap₂, subst, ◌∙◌, arith}
+use Rattle.std.proofs.Common.{IsPermutation, slice_get, nat_lt}
 use Rattle.one_table.proofs.Alteration as alter
 
 abbrev is_rows : Row → Bool

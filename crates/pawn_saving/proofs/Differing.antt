@@ -1,13 +1,24 @@
 -- UPDATE of one row, where a value of it is to differ: a row that has the values stays unwritten.
-use Rattle.std.proofs.Common.{◌≡◌, ℕ, ℤ, pos, List, [], ◌∷◌, map, filter, Bool, true, false, cond, not, ◌&&◌, ◌||◌, Option, Some, None, Ok, refl, sym, ap}
-use Rattle.std.proofs.{Common.{subst, ◌∙◌, arith, IsPermutation, int_cmp}, lemmas.{Bool.{and_right, cond-false}, List.Elements.filter_agree}}
-use Rattle.pawn_tables.specs.Common.{AllByRecursion, is_eq, Binary, understood, binary, from_truth, is_true, Row, value_cmp, Executes, State, Table, Term}
-use Rattle.pawn_tables.{specs.{Common.{Trees, Value, Int, Holds, Listed, Lists, columns_of}, Rows.{number, or_null}}, proofs.Basics.nat_tests}
-use Rattle.pawn_tables.proofs.Basics.{IsPermutation-sym, IsPermutation-trans, length_permutation, IsPermutation-filter, filter-map, over_table, passes}
-use Rattle.pawn_saving.specs.Common.{Enforced, Is, Or, Not, cast_row, Update, Does, Tally, Applies, edit_of, Database, overlay, Given, rowid, IsNumbered}
-use Rattle.pawn_saving.{specs.Common.with_rows, proofs.Basics.{nil_from_length, truth_of, set_one, updated_part, IsPlace, same_value, went, shows_of, at_place}}
-use Rattle.{pawn_saving.proofs.Basics.{carried, plainly}, sqlite.{specs.{Ops.unary, State.mode_of}, proofs.Callers.{IsPlain, command_of, runs_as}}}
-use Rattle.{sqlite.{proofs.Callers.statement_of, specs.Schema.Schema}, sqlite_rules.specs.Calls.ids_of, sqlite_value.proofs.OrderLemmas.value_cmp-Int}
+use Rattle.pawn_saving.proofs.Basics.{nil_from_length, truth_of, set_one, updated_part, IsPlace, same_value, went}
+use Rattle.pawn_saving.proofs.Basics.{shows_of, at_place, carried, plainly}
+use Rattle.pawn_saving.specs.Common.{Enforced, Is, Or, Not, cast_row, Update, Does, Tally, Applies, edit_of, Database}
+use Rattle.pawn_saving.specs.Common.{overlay, Given, rowid, IsNumbered, with_rows}
+use Rattle.pawn_tables.proofs.Basics.{nat_tests, IsPermutation-sym, IsPermutation-trans, length_permutation}
+use Rattle.pawn_tables.proofs.Basics.{IsPermutation-filter, filter-map, over_table, passes}
+use Rattle.pawn_tables.specs.Common.{AllByRecursion, is_eq, Binary, understood, binary, from_truth, is_true, Row}
+use Rattle.pawn_tables.specs.Common.{value_cmp, Executes, State, Table, Term, Trees, Value, Int, Holds, Listed, Lists}
+use Rattle.pawn_tables.specs.Common.{columns_of}
+use Rattle.pawn_tables.specs.Rows.{number, or_null}
+use Rattle.sqlite.proofs.Callers.{IsPlain, command_of, runs_as, statement_of}
+use Rattle.sqlite.specs.Ops.{unary}
+use Rattle.sqlite.specs.Schema.{Schema}
+use Rattle.sqlite.specs.State.{mode_of}
+use Rattle.sqlite_rules.specs.Calls.{ids_of}
+use Rattle.sqlite_value.proofs.OrderLemmas.{value_cmp-Int}
+use Rattle.std.proofs.Common.{◌≡◌, ℕ, ℤ, pos, List, [], ◌∷◌, map, filter, Bool, true, false, cond, not, ◌&&◌, ◌||◌}
+use Rattle.std.proofs.Common.{Option, Some, None, Ok, refl, sym, ap, subst, ◌∙◌, arith, IsPermutation, int_cmp}
+use Rattle.std.proofs.lemmas.Bool.{and_right, cond-false}
+use Rattle.std.proofs.lemmas.List.Elements.{filter_agree}
 
 -- ---- SQL's IS NOT, and OR of some
 

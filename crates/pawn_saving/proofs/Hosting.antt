@@ -1,11 +1,21 @@
 -- Tables that stand for a host, and tables that list its rows.
-use Rattle.{std.proofs.Common.{◌≡◌, ◌≤◌, ℕ, List, [], ◌∷◌, codes, IsPermutation, subst, arith}, pawn_saving.proofs.Basics.{IsPermutation-refl, swapped}}
-use Rattle.pawn_saving.specs.{Common.{Database, AreSound, HasTextsAndWords, with_rows, ListsOurs}, Counted.{listed_as, ListsHost}}
-use Rattle.{pawn_saving.proofs.OurTables.with_tables, pawn_tables.{proofs.{Basics.IsPermutation-trans, NextEntries.numbered_rise}, specs.Common.{Row, Table}}}
-use Rattle.pawn_tables.specs.{Common.{Trees, IsStanding, Host, rows, Holds, Listed}, Entries.RiseFrom, Meta.{meta_row, other_rows}, Schema.bookings_tree}
-use Rattle.pawn_tables.specs.Schema.{books_tree, entries_tree, extensions_tree, meta_tree, pledges_tree, secrets_tree, terms_tree, totals_tree}
-use Rattle.{pawn_tables.{specs.StandsFor.{AreBooksOrdered, AreStorable, HoldHost, StandsFor}, proofs.SoundReads.each_weaker}, pawn_terms.specs.Limits.first_day}
-use Rattle.{pawn_book.specs.Written.AreWords, pawn_base.proofs.ListLemmas.◌&◌}
+use Rattle.pawn_base.proofs.ListLemmas.{◌&◌}
+use Rattle.pawn_book.specs.Written.{AreWords}
+use Rattle.pawn_saving.proofs.Basics.{IsPermutation-refl, swapped}
+use Rattle.pawn_saving.proofs.OurTables.{with_tables}
+use Rattle.pawn_saving.specs.Common.{Database, AreSound, HasTextsAndWords, with_rows, ListsOurs}
+use Rattle.pawn_saving.specs.Counted.{listed_as, ListsHost}
+use Rattle.pawn_tables.proofs.Basics.{IsPermutation-trans}
+use Rattle.pawn_tables.proofs.NextEntries.{numbered_rise}
+use Rattle.pawn_tables.proofs.SoundReads.{each_weaker}
+use Rattle.pawn_tables.specs.Common.{Row, Table, Trees, IsReachable, Host, rows, Holds, Listed}
+use Rattle.pawn_tables.specs.Entries.{RiseFrom}
+use Rattle.pawn_tables.specs.Meta.{meta_row, other_rows}
+use Rattle.pawn_tables.specs.Schema.{bookings_tree, books_tree, entries_tree, extensions_tree, meta_tree, pledges_tree}
+use Rattle.pawn_tables.specs.Schema.{secrets_tree, terms_tree, totals_tree}
+use Rattle.pawn_tables.specs.StandsFor.{AreBooksOrdered, AreStorable, HoldHost, StandsFor}
+use Rattle.pawn_terms.specs.Limits.{first_day}
+use Rattle.std.proofs.Common.{◌≡◌, ◌≤◌, ℕ, List, [], ◌∷◌, codes, IsPermutation, subst, arith}
 
 -- the tables that stand for a host list its rows, and count them
 pub as_lists : (db : Database) (h : Host) → StandsFor db h → ListsHost db h (rows h)
@@ -78,8 +88,8 @@ held db h st = (db.schema, st)
 pub are_ordered : (h : Host) → AreSound h → AreBooksOrdered h
 are_ordered h sound b k is = let s = (sound b k is).1 in record {
   pledges = s.rows.numbered;
-  entries = each_weaker IsStanding (λ p. RiseFrom 0 p.entries)
-      (λ p standing. numbered_rise 1 0 p.entries (omega arith) standing.replayable.entered.numbered) k.pledges s.rows.standing;
+  entries = each_weaker IsReachable (λ p. RiseFrom 0 p.entries)
+      (λ p standing. numbered_rise 1 0 p.entries (omega arith) standing.replayable.entered.numbered) k.pledges s.rows.reachable;
   under = s.rows.under;
 }
 

@@ -1,16 +1,31 @@
 -- What is written where a book is filled: the rows of the changed host.
-use Rattle.std.proofs.Common.{◌≡◌, ◌≢◌, ◌++◌, ◌==◌, ◌&&◌, ℕ, ◌+◌, ◌<◌, ◌≤◌, zero, suc, List, [], ◌∷◌, take, filter, flat_map, length, get_or, append-nil, true}
-use Rattle.std.proofs.Common.{false, Option, Some, None, IsTrue, Result, Ok, Err, IfOk, refl, sym, ap, subst, ◌∙◌, arith, IsPermutation, sum_by, take_all}
-use Rattle.{std.proofs.lemmas.{Bool.{and_left, and_right, cond-false}, List.Sums.sum_by_push, Grind.flat_map-append}, pawn_tables.specs.Common.{get, Row}}
-use Rattle.pawn_tables.specs.Common.{HasCleanDisk, State, PledgeValue, Booking, BookValue, pledge_from, pledge_in, Host, rows, AreNumberedFrom, IsLent, Listed}
-use Rattle.pawn_tables.specs.{At.at_pledge, Rows.{at_most_one, book_row, booking_cells, booking_listed, entries_listed, extensions_listed, number}}
-use Rattle.pawn_tables.specs.Rows.{number_in_book, placed_from, pledge_listed, secrets_listed, terms_cells, terms_listed, totals_listed, under}
-use Rattle.pawn_tables.{specs.{Schema.bookings_tree, StandsFor.{AreBooksOrdered, of_pledges}}, proofs.Basics.{nat_tests, filter-append, flat_map_none}}
-use Rattle.pawn_saving.specs.Common.{Database, changed_book, filled_book, IsUnfilled, with_change, book_rows, pledge_rows, with_book, AreSound, ImportBook}
-use Rattle.pawn_saving.{specs.Common.{BookRows, with_rows, ListsOurs}, proofs.Basics.{IsPermutation-refl, part, rows-with_book, clean_before, under_booked}}
-use Rattle.pawn_saving.{proofs.Basics.{equals, of_one_pledge, rows_at}, specs.{Counted.{IsWrittenPart, ListsHost, listed_as}, Importing.whole_pledges}}
-use Rattle.pawn_saving.{specs.{Putting.{beside, booking_under, whole_pledge}, Writing.IsCarried}, proofs.BookChanges.{books_after, found_after, other_books}}
-use Rattle.pawn_saving.proofs.{BookChanges.rows_more, Changing.more_joined, Hosting.{AreSame, relisted, relisted_by}, RowsInOrder.{carried_then, until}}
+use Rattle.pawn_saving.proofs.Basics.{IsPermutation-refl, part, rows-with_book, clean_before, under_booked, equals}
+use Rattle.pawn_saving.proofs.Basics.{of_one_pledge, rows_at}
+use Rattle.pawn_saving.proofs.BookChanges.{books_after, found_after, other_books, rows_more}
+use Rattle.pawn_saving.proofs.Changing.{more_joined}
+use Rattle.pawn_saving.proofs.Hosting.{AreSame, relisted, relisted_by}
+use Rattle.pawn_saving.proofs.RowsInOrder.{carried_then, until}
+use Rattle.pawn_saving.specs.Common.{Database, changed_book, filled_book, IsUnfilled, with_change, book_rows}
+use Rattle.pawn_saving.specs.Common.{pledge_rows, with_book, AreSound, ImportBook, BookRows, with_rows, ListsOurs}
+use Rattle.pawn_saving.specs.Counted.{IsWrittenPart, ListsHost, listed_as}
+use Rattle.pawn_saving.specs.Importing.{whole_pledges}
+use Rattle.pawn_saving.specs.Putting.{beside, booking_under, whole_pledge}
+use Rattle.pawn_saving.specs.Writing.{IsCarried}
+use Rattle.pawn_tables.proofs.Basics.{nat_tests, filter-append, flat_map_none}
+use Rattle.pawn_tables.specs.At.{at_pledge}
+use Rattle.pawn_tables.specs.Common.{get, Row, HasCleanDisk, State, PledgeValue, Booking, BookValue, pledge_from}
+use Rattle.pawn_tables.specs.Common.{pledge_in, Host, rows, AreNumberedFrom, IsLent, Listed}
+use Rattle.pawn_tables.specs.Rows.{at_most_one, book_row, booking_cells, booking_listed, entries_listed}
+use Rattle.pawn_tables.specs.Rows.{extensions_listed, number, number_in_book, placed_from, pledge_listed}
+use Rattle.pawn_tables.specs.Rows.{secrets_listed, terms_cells, terms_listed, totals_listed, under}
+use Rattle.pawn_tables.specs.Schema.{bookings_tree}
+use Rattle.pawn_tables.specs.StandsFor.{AreBooksOrdered, of_pledges}
+use Rattle.std.proofs.Common.{◌≡◌, ◌≢◌, ◌++◌, ◌==◌, ◌&&◌, ℕ, ◌+◌, ◌<◌, ◌≤◌, zero, suc, List, [], ◌∷◌, take, filter}
+use Rattle.std.proofs.Common.{flat_map, length, get_or, append-nil, true, false, Option, Some, None, IsTrue, Result, Ok}
+use Rattle.std.proofs.Common.{Err, IfOk, refl, sym, ap, subst, ◌∙◌, arith, IsPermutation, sum_by, take_all}
+use Rattle.std.proofs.lemmas.Bool.{and_left, and_right, cond-false}
+use Rattle.std.proofs.lemmas.Grind.{flat_map-append}
+use Rattle.std.proofs.lemmas.List.Sums.{sum_by_push}
 
 -- ---- no booking of the next pledge stands among those before it
 

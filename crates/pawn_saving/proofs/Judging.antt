@@ -1,9 +1,13 @@
 -- What tables stand for once a change is written and its rows are counted.
-use Rattle.std.proofs.Common.{◌≡◌, ◌+◌, ◌≤◌, ◌<◌, ◌↔◌, ℕ, Bool, true, false, Option, Some, None, Ok, IsTrue, refl, sym, subst, arith}
-use Rattle.pawn_tables.specs.{Common.{get, BookValue, Host, rows, IsSound, HasCleanDisk, IsLent, State}, StandsFor.StandsFor}
-use Rattle.pawn_saving.specs.{Common.{Database, changed_book, CanSave, book_number, with_change, with_book, Change}, Counted.{IsWrittenPart, ListsHost, Counts}}
-use Rattle.pawn_saving.{specs.Counted.WritesRows, proofs.{Basics.clean_before, Hosting.{are_ordered, are_storable, as_stands}}}
 use Rattle.pawn_book.specs.declared.fault.KeepError.{KeepError}
+use Rattle.pawn_saving.proofs.Basics.{clean_before}
+use Rattle.pawn_saving.proofs.Hosting.{are_ordered, are_storable, as_stands}
+use Rattle.pawn_saving.specs.Common.{Database, changed_book, CanSave, book_number, with_change, with_book, Change}
+use Rattle.pawn_saving.specs.Counted.{IsWrittenPart, ListsHost, Counts, WritesRows}
+use Rattle.pawn_tables.specs.Common.{get, BookValue, Host, rows, IsSound, HasCleanDisk, IsLent, State}
+use Rattle.pawn_tables.specs.StandsFor.{StandsFor}
+use Rattle.std.proofs.Common.{◌≡◌, ◌+◌, ◌≤◌, ◌<◌, ◌↔◌, ℕ, Bool, true, false, Option, Some, None, Ok, IsTrue, refl, sym}
+use Rattle.std.proofs.Common.{subst, arith}
 
 limit_with : (h : Host) (b : ℕ) (o : Option BookValue) → (with_book h b o).limit ≡ h.limit
 limit_with h b None = refl

@@ -1,9 +1,16 @@
 -- What statements write, whatever indexes the program's tables have.
-use Rattle.std.proofs.Common.{◌≡◌, ◌&&◌, ◌||◌, ◌++◌, ℕ, ℤ, ◌/◌, List, [], ◌∷◌, length, Bool, true, false, Option, Ok, refl, ap, filter, IsPermutation}
-use Rattle.pawn_tables.specs.Common.{AllByRecursion, list_any, Index, Row, Executes, State, Table, Term, Trees, Int, Holds, Listed, Lists, columns_of}
-use Rattle.{pawn_tables.{specs.{Ours.with_indexes, Schema.keep_schema}, proofs.Basics.{over_table, passes}}, sqlite_rules.specs.Keys.{conflicts, shares}}
-use Rattle.pawn_saving.specs.Common.{cast_row, with_rowid, Database, value_rows, overlay, Chosen, rowid, with_rows, AreLoose, ListsOurs}
-use Rattle.pawn_saving.proofs.{Basics.{set_one, IsPlace, inserted, shows_of, plainly, Puts, Sets}, Differing.set_where}
+use Rattle.pawn_saving.proofs.Basics.{set_one, IsPlace, inserted, shows_of, plainly, Puts, Sets}
+use Rattle.pawn_saving.proofs.Differing.{set_where}
+use Rattle.pawn_saving.specs.Common.{cast_row, with_rowid, Database, value_rows, overlay, Chosen, rowid, with_rows}
+use Rattle.pawn_saving.specs.Common.{AreLoose, ListsOurs}
+use Rattle.pawn_tables.proofs.Basics.{over_table, passes}
+use Rattle.pawn_tables.specs.Common.{AllByRecursion, list_any, Index, Row, Executes, State, Table, Term, Trees, Int}
+use Rattle.pawn_tables.specs.Common.{Holds, Listed, Lists, columns_of}
+use Rattle.pawn_tables.specs.Ours.{with_indexes}
+use Rattle.pawn_tables.specs.Schema.{keep_schema}
+use Rattle.sqlite_rules.specs.Keys.{conflicts, shares}
+use Rattle.std.proofs.Common.{◌≡◌, ◌&&◌, ◌||◌, ◌++◌, ℕ, ℤ, ◌/◌, List, [], ◌∷◌, length, Bool, true, false, Option, Ok}
+use Rattle.std.proofs.Common.{refl, ap, filter, IsPermutation}
 
 -- the tables list other rows, under the schema that they had
 pub under_same : {db old : Database} {listed was : Listed} (st : ListsOurs old was) → Lists (with_indexes st.more) db listed → ListsOurs db listed

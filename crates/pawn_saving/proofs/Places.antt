@@ -1,9 +1,18 @@
 -- Where each table stands in the schema.
-use Rattle.std.proofs.{Common.{◌≡◌, inl, inr, ℕ, ◌==◌, List, [], ◌∷◌, length, false, refl, arith, sym, ◌∙◌, ◌⊎◌, Some, slice_get}, lemmas.Bool.false≢true}
-use Rattle.{std.proofs.lemmas.Bool.Decides.nat_tests, pawn_tables.specs.{Common.{Index, Row, Table}, Ours.with_indexes, Schema.{books, terms, pledges}}}
-use Rattle.pawn_tables.specs.Schema.{secrets, bookings, meta, totals, extensions, bookings_tree, books_tree, entries_tree, extensions_tree, meta_tree}
-use Rattle.{pawn_tables.specs.Schema.{pledges_tree, secrets_tree, terms_tree, totals_tree, entries}, pawn_saving.{specs.Common.Enforced, proofs.Basics.IsPlace}}
-use Rattle.{sqlite_rules.specs.Action.works, one_table.proofs.Rowed.{IsAlone, plainly}, pawn_base.proofs.ListLemmas.◌&◌}
+use Rattle.one_table.proofs.Rowed.{IsAlone, plainly}
+use Rattle.pawn_base.proofs.ListLemmas.{◌&◌}
+use Rattle.pawn_saving.proofs.Basics.{IsPlace}
+use Rattle.pawn_saving.specs.Common.{Enforced}
+use Rattle.pawn_tables.specs.Common.{Index, Row, Table}
+use Rattle.pawn_tables.specs.Ours.{with_indexes}
+use Rattle.pawn_tables.specs.Schema.{books, terms, pledges, secrets, bookings, meta, totals, extensions, bookings_tree}
+use Rattle.pawn_tables.specs.Schema.{books_tree, entries_tree, extensions_tree, meta_tree, pledges_tree, secrets_tree}
+use Rattle.pawn_tables.specs.Schema.{terms_tree, totals_tree, entries}
+use Rattle.sqlite_rules.specs.Action.{works}
+use Rattle.std.proofs.Common.{◌≡◌, inl, inr, ℕ, ◌==◌, List, [], ◌∷◌, length, false, refl, arith, sym, ◌∙◌, ◌⊎◌, Some}
+use Rattle.std.proofs.Common.{slice_get}
+use Rattle.std.proofs.lemmas.Bool.{false≢true}
+use Rattle.std.proofs.lemmas.Bool.Decides.{nat_tests}
 
 -- no foreign key of the schema acts on its own
 idle : (more : List Index) (tree : ℕ) (olds news : List Row) → works (with_indexes more) Enforced 0 tree olds news ≡ []

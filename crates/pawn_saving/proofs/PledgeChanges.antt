@@ -1,13 +1,23 @@
 -- What becomes of the rows of a host where a pledge is put.
-use Rattle.std.proofs.Common.{◌≡◌, ◌++◌, ◌==◌, ℕ, ◌+◌, ◌≤◌, List, [], ◌∷◌, map, filter, flat_map, length, length-append, append_assoc, Bool, true, false}
-use Rattle.std.proofs.{Common.{Option, Some, None, refl, ap, subst, ◌∙◌, arith, IsPermutation, if◌then◌else◌, sum_by}, lemmas.List.Sums.sum_by-cons}
-use Rattle.pawn_tables.specs.{Common.{entries, get, Row, Text, PledgeValue, BookValue, pledge_from, pledge_in, Host, rows, AreNumberedFrom}, At.at_pledge}
-use Rattle.pawn_tables.specs.{Rows.{book_row, import_count, import_key, number, or_null, word}, StandsFor.{AreBooksOrdered, of_pledges}}
-use Rattle.pawn_tables.proofs.Basics.{nat_tests, IsPermutation-sym, IsPermutation-trans, length_permutation, IsPermutation-filter, filter-append}
-use Rattle.pawn_saving.specs.Common.{changed_book, put_from, with_change, book_rows, pledge_rows, with_book, AreSound, PutPledge}
-use Rattle.pawn_saving.proofs.Basics.{nil_from_length, IsPermutation-append, IsPermutation-cons, IsPermutation-refl, IsPermutation-flat_map, IsPermutation-same}
-use Rattle.pawn_saving.proofs.{Basics.{part, rows-with_book, swapped, number_in, AreUnder, all_under, of_one_pledge, rows_at}, BookChanges.books_after}
-use Rattle.pawn_saving.proofs.{BookChanges.{found_after, only_book, other_books, rows_after, rows_before, rows_beside}, Changing.more_joined}
+use Rattle.pawn_saving.proofs.Basics.{nil_from_length, IsPermutation-append, IsPermutation-cons, IsPermutation-refl}
+use Rattle.pawn_saving.proofs.Basics.{IsPermutation-flat_map, IsPermutation-same, part, rows-with_book, swapped}
+use Rattle.pawn_saving.proofs.Basics.{number_in, AreUnder, all_under, of_one_pledge, rows_at}
+use Rattle.pawn_saving.proofs.BookChanges.{books_after, found_after, only_book, other_books, rows_after, rows_before}
+use Rattle.pawn_saving.proofs.BookChanges.{rows_beside}
+use Rattle.pawn_saving.proofs.Changing.{more_joined}
+use Rattle.pawn_saving.specs.Common.{changed_book, put_from, with_change, book_rows, pledge_rows, with_book, AreSound}
+use Rattle.pawn_saving.specs.Common.{PutPledge}
+use Rattle.pawn_tables.proofs.Basics.{nat_tests, IsPermutation-sym, IsPermutation-trans, length_permutation}
+use Rattle.pawn_tables.proofs.Basics.{IsPermutation-filter, filter-append}
+use Rattle.pawn_tables.specs.At.{at_pledge}
+use Rattle.pawn_tables.specs.Common.{entries, get, Row, Text, PledgeValue, BookValue, pledge_from, pledge_in, Host}
+use Rattle.pawn_tables.specs.Common.{rows, AreNumberedFrom}
+use Rattle.pawn_tables.specs.Rows.{book_row, import_count, import_key, number, or_null, word}
+use Rattle.pawn_tables.specs.StandsFor.{AreBooksOrdered, of_pledges}
+use Rattle.std.proofs.Common.{◌≡◌, ◌++◌, ◌==◌, ℕ, ◌+◌, ◌≤◌, List, [], ◌∷◌, map, filter, flat_map, length, length-append}
+use Rattle.std.proofs.Common.{append_assoc, Bool, true, false, Option, Some, None, refl, ap, subst, ◌∙◌, arith}
+use Rattle.std.proofs.Common.{IsPermutation, if◌then◌else◌, sum_by}
+use Rattle.std.proofs.lemmas.List.Sums.{sum_by-cons}
 
 -- ---- the pledges of a book
 

@@ -1,10 +1,17 @@
 -- What the parts of a pledge's put write, one after another.
-use Rattle.{std.proofs.Common.{◌≡◌, ◌++◌, ◌∷◌, ℕ, List, Option, Some, None, IsPermutation, sym, subst, ◌∙◌, option_map}, pawn_saving.specs.Common.Database}
-use Rattle.pawn_saving.{specs.{Common.{with_rows, ListsOurs}, Putting.{beside, booking_under, entries_past, extensions_past}}, proofs.Basics.one_mapped}
-use Rattle.pawn_saving.specs.{Putting.{lists_past, row_under, secrets_past, sides_of, totals_under, whole_pledge, with_sides}, declared.lengths.Lengths.Lengths}
-use Rattle.{pawn_saving.proofs.{OurTables.with_tables, RowsInOrder.{nothing_put, reordered}}, pawn_tables.specs.Common.{Row, PledgeValue, Listed}}
-use Rattle.pawn_tables.specs.{Rows.at_most_one, Schema.{bookings_tree, entries_tree, extensions_tree, pledges_tree, secrets_tree, totals_tree}}
+use Rattle.pawn_saving.proofs.Basics.{one_mapped}
+use Rattle.pawn_saving.proofs.OurTables.{with_tables}
+use Rattle.pawn_saving.proofs.RowsInOrder.{nothing_put, reordered}
+use Rattle.pawn_saving.specs.Common.{Database, with_rows, ListsOurs}
+use Rattle.pawn_saving.specs.Putting.{beside, booking_under, entries_past, extensions_past, lists_past, row_under}
+use Rattle.pawn_saving.specs.Putting.{secrets_past, sides_of, totals_under, whole_pledge, with_sides}
+use Rattle.pawn_saving.specs.declared.lengths.Lengths.{Lengths}
 use Rattle.pawn_tables.proofs.Basics.{IsPermutation-sym}
+use Rattle.pawn_tables.specs.Common.{Row, PledgeValue, Listed}
+use Rattle.pawn_tables.specs.Rows.{at_most_one}
+use Rattle.pawn_tables.specs.Schema.{bookings_tree, entries_tree, extensions_tree, pledges_tree, secrets_tree}
+use Rattle.pawn_tables.specs.Schema.{totals_tree}
+use Rattle.std.proofs.Common.{◌≡◌, ◌++◌, ◌∷◌, ℕ, List, Option, Some, None, IsPermutation, sym, subst, ◌∙◌, option_map}
 
 module _ (db : Database) (listed : Listed) (b n : ℕ) (p : PledgeValue) where
   -- the lists, one after another

@@ -1,10 +1,19 @@
 -- What the statement writes that changes the row of a pledge.
-use Rattle.{std.proofs.Common.{◌≡◌, ℕ, Bool, List, [], ◌∷◌, Ok, refl, ap, ◌∙◌}, pawn_tables.specs.Common.{Row, column, Executes, State, Value, Int, Text}}
-use Rattle.pawn_tables.specs.{Common.{PledgeValue, end_of, Listed, columns_of}, At.at_pledge, Rows.{closed_amount, closed_day, closed_number, flag}}
-use Rattle.pawn_tables.specs.{Rows.{flag_number, kind_number, number, or_null, pledge_cells, under}, Schema.{pledges, pledges_tree}}
-use Rattle.pawn_saving.{specs.{Common.{Agreement, with_rows, ListsOurs}, Writing.IsOnly}, proofs.Basics.{plainly, cast_int, cast_whole}}
-use Rattle.pawn_saving.proofs.{OurTables.row_set_where, Places.pledges_place, StatementWrites.{cast_optional, own_row, own_where}, Differing.differ}
-use Rattle.{pawn_saving.proofs.Differing.{all_equal, same_number, same_optional}, pawn_debt.specs.Due.credit_of}
+use Rattle.pawn_debt.specs.Due.{credit_of}
+use Rattle.pawn_saving.proofs.Basics.{plainly, cast_int, cast_whole}
+use Rattle.pawn_saving.proofs.Differing.{differ, all_equal, same_number, same_optional}
+use Rattle.pawn_saving.proofs.OurTables.{row_set_where}
+use Rattle.pawn_saving.proofs.Places.{pledges_place}
+use Rattle.pawn_saving.proofs.StatementWrites.{cast_optional, own_row, own_where}
+use Rattle.pawn_saving.specs.Common.{Agreement, with_rows, ListsOurs}
+use Rattle.pawn_saving.specs.Writing.{IsOnly}
+use Rattle.pawn_tables.specs.At.{at_pledge}
+use Rattle.pawn_tables.specs.Common.{Row, column, Executes, State, Value, Int, Text, PledgeValue, end_of, Listed}
+use Rattle.pawn_tables.specs.Common.{columns_of}
+use Rattle.pawn_tables.specs.Rows.{closed_amount, closed_day, closed_number, flag, flag_number, kind_number, number}
+use Rattle.pawn_tables.specs.Rows.{or_null, pledge_cells, under}
+use Rattle.pawn_tables.specs.Schema.{pledges, pledges_tree}
+use Rattle.std.proofs.Common.{◌≡◌, ℕ, Bool, List, [], ◌∷◌, Ok, refl, ap, ◌∙◌}
 use Rattle.pawn_saving.proofs.WriteTexts as text
 
 -- what can change of a row

@@ -1,16 +1,29 @@
 -- What is written where a pledge is put: the rows of the changed host.
-use Rattle.std.proofs.Common.{◌≡◌, ◌⊎◌, inl, inr, ◌++◌, ◌==◌, ℕ, ◌+◌, ◌≤◌, List, [], ◌∷◌, map, drop, length, filter, IsPermutation, Some, None, refl, sym, ap}
-use Rattle.{std.proofs.{Common.{subst, ◌∙◌, arith, if◌then◌else◌}, Math.Seq.drop-append_seam}, pawn_tables.specs.Common.{get, Row, Entry, PledgeValue}}
-use Rattle.pawn_tables.specs.{Common.{Extension, Issued, BookValue, pledge_from, pledge_in, Host, rows, Listed}, At.at_pledge, Rows.{book_row, booking_listed}}
-use Rattle.pawn_tables.specs.Rows.{entries_listed, entry_cells, extension_cells, extensions_listed, placed_from, pledge_listed, secret_cells, secrets_listed}
-use Rattle.pawn_tables.specs.{Rows.{terms_listed, totals_listed, under}, Schema.{bookings_tree, pledges_tree}, StandsFor.{AreBooksOrdered, of_pledges}}
-use Rattle.pawn_saving.specs.Common.{Database, Grows, Agreement, Continues, with_change, pledge_rows, AreSound, PutPledge, with_rows, ListsOurs}
-use Rattle.pawn_saving.{proofs.Basics.{IsPermutation-refl, map-append, part, number_in, of_one_pledge, under_booked, rows_at}, specs.Counted.IsWrittenPart}
-use Rattle.pawn_saving.specs.{Counted.{ListsHost, listed_as}, Putting.{AreSidesPut, beside, booking_under, entries_past, extensions_past, lists_past}}
-use Rattle.pawn_saving.specs.{Putting.{row_under, secrets_past, totals_under, whole_pledge, with_sides}, declared.lengths.Lengths.Lengths}
-use Rattle.pawn_saving.proofs.{Hosting.{AreSame, relisted}, BookChanges.{books_after, other_books, rows_stay}, PledgeChanges.{after_put, before_put}}
-use Rattle.pawn_saving.proofs.PledgeChanges.{books_stay, changed, is_changed, next, none_rest, put_length, put_named, rest, rows_grown, rows_joined, rows_put}
-use Rattle.{pawn_saving.proofs.{PledgeChanges.stood, RowsInOrder.placed_parts}, pawn_book.proofs.Places.pledge_within}
+use Rattle.pawn_book.proofs.Places.{pledge_within}
+use Rattle.pawn_saving.proofs.Basics.{IsPermutation-refl, map-append, part, number_in, of_one_pledge, under_booked}
+use Rattle.pawn_saving.proofs.Basics.{rows_at}
+use Rattle.pawn_saving.proofs.BookChanges.{books_after, other_books, rows_stay}
+use Rattle.pawn_saving.proofs.Hosting.{AreSame, relisted}
+use Rattle.pawn_saving.proofs.PledgeChanges.{after_put, before_put, books_stay, changed, is_changed, next, none_rest}
+use Rattle.pawn_saving.proofs.PledgeChanges.{put_length, put_named, rest, rows_grown, rows_joined, rows_put, stood}
+use Rattle.pawn_saving.proofs.RowsInOrder.{placed_parts}
+use Rattle.pawn_saving.specs.Common.{Database, Grows, Agreement, Continues, with_change, pledge_rows, AreSound}
+use Rattle.pawn_saving.specs.Common.{PutPledge, with_rows, ListsOurs}
+use Rattle.pawn_saving.specs.Counted.{IsWrittenPart, ListsHost, listed_as}
+use Rattle.pawn_saving.specs.Putting.{AreSidesPut, beside, booking_under, entries_past, extensions_past, lists_past}
+use Rattle.pawn_saving.specs.Putting.{row_under, secrets_past, totals_under, whole_pledge, with_sides}
+use Rattle.pawn_saving.specs.declared.lengths.Lengths.{Lengths}
+use Rattle.pawn_tables.specs.At.{at_pledge}
+use Rattle.pawn_tables.specs.Common.{get, Row, Entry, PledgeValue, Extension, Issued, BookValue, pledge_from, pledge_in}
+use Rattle.pawn_tables.specs.Common.{Host, rows, Listed}
+use Rattle.pawn_tables.specs.Rows.{book_row, booking_listed, entries_listed, entry_cells, extension_cells}
+use Rattle.pawn_tables.specs.Rows.{extensions_listed, placed_from, pledge_listed, secret_cells, secrets_listed}
+use Rattle.pawn_tables.specs.Rows.{terms_listed, totals_listed, under}
+use Rattle.pawn_tables.specs.Schema.{bookings_tree, pledges_tree}
+use Rattle.pawn_tables.specs.StandsFor.{AreBooksOrdered, of_pledges}
+use Rattle.std.proofs.Common.{◌≡◌, ◌⊎◌, inl, inr, ◌++◌, ◌==◌, ℕ, ◌+◌, ◌≤◌, List, [], ◌∷◌, map, drop, length, filter}
+use Rattle.std.proofs.Common.{IsPermutation, Some, None, refl, sym, ap, subst, ◌∙◌, arith, if◌then◌else◌}
+use Rattle.std.proofs.Math.Seq.{drop-append_seam}
 
 module _ (h : Host) (b n : ℕ) (k : BookValue) (p : PledgeValue) (is : get h.books b ≡ Some k) where
   -- no booking of a pledge stands that doesn't

@@ -1,9 +1,17 @@
 -- Rows that are put one after another.
-use Rattle.std.proofs.Common.{◌≡◌, ◌++◌, ◌==◌, false, ℕ, ◌+◌, ◌<◌, List, [], ◌∷◌, map, take, length, get_or, Bool, true, IsTrue, refl, sym, ap, subst, ◌∙◌}
-use Rattle.{std.proofs.Common.{arith, IsPermutation, if◌then◌else◌, length-take-le, inl}, pawn_saving.specs.Common.{Database, with_rows, ListsOurs}}
-use Rattle.pawn_saving.proofs.Basics.{map-append, take_more, IsPermutation-append, IsPermutation-append_comm, IsPermutation-refl, clean_before, same_tree}
-use Rattle.{pawn_saving.{proofs.Hosting.relisted_by, specs.Writing.IsCarried}, one_table.proofs.Parts.kept_then, pawn_tables.specs.Common.{Row, HasCleanDisk}}
-use Rattle.{pawn_tables.{specs.{Common.{State, IsLent, Listed}, Rows.placed_from}, proofs.Basics.nat_tests}, sqlite.proofs.StateLemmas.survives_then}
+use Rattle.one_table.proofs.Parts.{kept_then}
+use Rattle.pawn_saving.proofs.Basics.{map-append, take_more, IsPermutation-append, IsPermutation-append_comm}
+use Rattle.pawn_saving.proofs.Basics.{IsPermutation-refl, clean_before, same_tree}
+use Rattle.pawn_saving.proofs.Hosting.{relisted_by}
+use Rattle.pawn_saving.specs.Common.{Database, with_rows, ListsOurs}
+use Rattle.pawn_saving.specs.Writing.{IsCarried}
+use Rattle.pawn_tables.proofs.Basics.{nat_tests}
+use Rattle.pawn_tables.specs.Common.{Row, HasCleanDisk, State, IsLent, Listed}
+use Rattle.pawn_tables.specs.Rows.{placed_from}
+use Rattle.sqlite.proofs.StateLemmas.{survives_then}
+use Rattle.std.proofs.Common.{◌≡◌, ◌++◌, ◌==◌, false, ℕ, ◌+◌, ◌<◌, List, [], ◌∷◌, map, take, length, get_or, Bool, true}
+use Rattle.std.proofs.Common.{IsTrue, refl, sym, ap, subst, ◌∙◌, arith, IsPermutation, if◌then◌else◌, length-take-le}
+use Rattle.std.proofs.Common.{inl}
 
 -- nothing was done
 pub carried_none : (s : State) → IsCarried s s true

@@ -1,11 +1,22 @@
 -- A change is saved: a transaction that is lent and goes well, and a commit.
-use Rattle.std.proofs.Common.{◌≡◌, ◌≢◌, ◌⊎◌, inl, inr, ◌≤◌, ◌<◌, Bool, true, false, Result, Ok, Err, IsTrue, refl, sym, ap, subst, ◌∙◌, arith}
-use Rattle.pawn_saving.{specs.{Common.{Database, CanSave, with_change, Change, SaveError}, Counted.{CountJudged, WritesChange}}, proofs.Basics.clean_before}
-use Rattle.{pawn_saving.proofs.{Hosting.held, Judging.limit_after}, one_table.proofs.Parts.{committed_rests, rests_open}, pawn_tables.specs.Common.HasCleanDisk}
-use Rattle.pawn_tables.specs.{Common.{State, Trees, Host, rows, IsSound, IsLent}, Keeps.{HoldSound, IsWhole, Keeps, Leaves, keeping_by}, StandsFor.HoldHost}
-use Rattle.{pawn_tables.specs.{StandsFor.StandsFor, OneHost.StandForOne}, sqlite.specs.{State.{IsRolledBack, Shows, Survives}, Held.{Held, state as state_of}}}
-use Rattle.{sqlite.specs.{Steps.FailsToCommit, declared.error.Error.Error}, pawn_book.specs.Keeping.{GoesOn, IsFitting, IsLeftBy, OfHost, Saves}}
+use Rattle.one_table.proofs.Parts.{committed_rests, rests_open}
+use Rattle.pawn_book.specs.Keeping.{GoesOn, IsFitting, IsLeftBy, OfHost, Saves}
+use Rattle.pawn_saving.proofs.Basics.{clean_before}
+use Rattle.pawn_saving.proofs.Hosting.{held}
+use Rattle.pawn_saving.proofs.Judging.{limit_after}
+use Rattle.pawn_saving.specs.Common.{Database, CanSave, with_change, Change, SaveError}
+use Rattle.pawn_saving.specs.Counted.{CountJudged, WritesChange}
+use Rattle.pawn_tables.specs.Common.{HasCleanDisk, State, Trees, Host, rows, IsSound, IsLent}
+use Rattle.pawn_tables.specs.Keeps.{HoldSound, IsWhole, Keeps, Leaves, keeping_by}
+use Rattle.pawn_tables.specs.OneHost.{StandForOne}
+use Rattle.pawn_tables.specs.StandsFor.{HoldHost, StandsFor}
+use Rattle.sqlite.specs.Held.{Held, state as state_of}
+use Rattle.sqlite.specs.State.{IsRolledBack, Shows, Survives}
+use Rattle.sqlite.specs.Steps.{FailsToCommit}
+use Rattle.sqlite.specs.declared.error.Error.{Error}
 use Rattle.sqlite_trees.specs.declared.store.Store.{Ghosts}
+use Rattle.std.proofs.Common.{◌≡◌, ◌≢◌, ◌⊎◌, inl, inr, ◌≤◌, ◌<◌, Bool, true, false, Result, Ok, Err, IsTrue, refl, sym}
+use Rattle.std.proofs.Common.{ap, subst, ◌∙◌, arith}
 use Rattle.pawn_book.specs.declared.fault.SaveError.TheVariants as Save
 
 left_fitting : (T : Type 0) (h : Host) (change : Change) (before : Host → Type 0) (e : SaveError) (left : Host) → e ≢ Save.Full

@@ -1,19 +1,34 @@
 -- What the statements of a change write.
-use Rattle.std.proofs.Common.{◌≡◌, ◌/◌, inl, inr, ℕ, ℤ, pos, List, [], ◌∷◌, ◌++◌, length, Bool, true, false, ◌&&◌, ◌||◌, ◌==◌, Option, Some, None, Ok}
-use Rattle.{std.proofs.Common.{ap, refl, subst, arith, ◌∙◌, IsPermutation, filter, option_map}, pawn_debt.specs.Due.credit_of}
-use Rattle.pawn_saving.{proofs.Basics.{IsPlace, Puts, cast_int, cast_null, cast_whole, plainly, equals}, specs.Common.{cast, cast_row, Chosen, Integer}}
-use Rattle.pawn_saving.{specs.{Common.{value_rows, with_rowid, with_rows, AreLoose, ListsOurs}, Writing.IsOnly}, proofs.Differing.{differ, all_equal}}
-use Rattle.pawn_saving.proofs.{Differing.same_number, OurTables.{meets_same, row_joins, row_set_where, under_same}, Places.{terms_place, entries_place}}
-use Rattle.{pawn_saving.proofs.Places.{pledges_place, secrets_place, bookings_place, totals_place, extensions_place}, pawn_tables.specs.Common.list_all}
-use Rattle.pawn_tables.specs.Common.{Index, Row, Term, column, Executes, State, Table, Value, Blob, Int, Null, Text, Rates, Entry, Totals, Booking, Extension}
-use Rattle.pawn_tables.specs.{Common.{Issued, Listed, PledgeValue, columns_of, end_of}, At.{at_pledge, is_at}, Ours.with_indexes, Rows.at_most_one}
-use Rattle.pawn_tables.specs.Rows.{booking_cells, closed_amount, closed_day, closed_number, entry_cells, extension_cells, flag_number, issue_number}
-use Rattle.pawn_tables.specs.Rows.{kind_number, number, or_null, pledge_cells, secret_cells, sort_number, state_number, terms_cells, totals_cells, under, word}
-use Rattle.pawn_tables.{proofs.Basics.nat_tests, specs.Schema.{terms, pledges, secrets, bookings, totals, extensions, bookings_tree, entries_tree}}
-use Rattle.pawn_tables.{specs.Schema.{extensions_tree, pledges_tree, secrets_tree, terms_tree, totals_tree, entries}, proofs.PlacedRows.regroup}
-use Rattle.{sqlite_rules.specs.Keys.conflicts, sqlite_value.specs.Keys.first_key, one_table.proofs.Upsertion.{upserted, Splits}}
 pub use Rattle.pawn_tables.proofs.Lent.{on_ran}
 pub use Rattle.sqlite.specs.Values.{bound_value}
+use Rattle.one_table.proofs.Upsertion.{upserted, Splits}
+use Rattle.pawn_debt.specs.Due.{credit_of}
+use Rattle.pawn_saving.proofs.Basics.{IsPlace, Puts, cast_int, cast_null, cast_whole, plainly, equals}
+use Rattle.pawn_saving.proofs.Differing.{differ, all_equal, same_number}
+use Rattle.pawn_saving.proofs.OurTables.{meets_same, row_joins, row_set_where, under_same}
+use Rattle.pawn_saving.proofs.Places.{terms_place, entries_place, pledges_place, secrets_place, bookings_place}
+use Rattle.pawn_saving.proofs.Places.{totals_place, extensions_place}
+use Rattle.pawn_saving.specs.Common.{cast, cast_row, Chosen, Integer, value_rows, with_rowid, with_rows, AreLoose}
+use Rattle.pawn_saving.specs.Common.{ListsOurs}
+use Rattle.pawn_saving.specs.Writing.{IsOnly}
+use Rattle.pawn_tables.proofs.Basics.{nat_tests}
+use Rattle.pawn_tables.proofs.PlacedRows.{regroup}
+use Rattle.pawn_tables.specs.At.{at_pledge, is_at}
+use Rattle.pawn_tables.specs.Common.{list_all, Index, Row, Term, column, Executes, State, Table, Value, Blob, Int, Null}
+use Rattle.pawn_tables.specs.Common.{Text, Rates, Entry, Totals, Booking, Extension, Issued, Listed, PledgeValue}
+use Rattle.pawn_tables.specs.Common.{columns_of, end_of}
+use Rattle.pawn_tables.specs.Ours.{with_indexes}
+use Rattle.pawn_tables.specs.Rows.{at_most_one, booking_cells, closed_amount, closed_day, closed_number, entry_cells}
+use Rattle.pawn_tables.specs.Rows.{extension_cells, flag_number, issue_number, kind_number, number, or_null}
+use Rattle.pawn_tables.specs.Rows.{pledge_cells, secret_cells, sort_number, state_number, terms_cells, totals_cells}
+use Rattle.pawn_tables.specs.Rows.{under, word}
+use Rattle.pawn_tables.specs.Schema.{terms, pledges, secrets, bookings, totals, extensions, bookings_tree, entries_tree}
+use Rattle.pawn_tables.specs.Schema.{extensions_tree, pledges_tree, secrets_tree, terms_tree, totals_tree, entries}
+use Rattle.sqlite_rules.specs.Keys.{conflicts}
+use Rattle.sqlite_value.specs.Keys.{first_key}
+use Rattle.std.proofs.Common.{◌≡◌, ◌/◌, inl, inr, ℕ, ℤ, pos, List, [], ◌∷◌, ◌++◌, length, Bool, true, false, ◌&&◌, ◌||◌}
+use Rattle.std.proofs.Common.{◌==◌, Option, Some, None, Ok, ap, refl, subst, arith, ◌∙◌, IsPermutation, filter}
+use Rattle.std.proofs.Common.{option_map}
 use Rattle.pawn_saving.proofs.WriteTexts as text
 
 -- a row of the pledge passes the test

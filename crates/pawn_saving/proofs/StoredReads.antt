@@ -1,10 +1,20 @@
 -- How much of a pledge stands, as it is looked up.
-use Rattle.std.proofs.Common.{◌≡◌, Bool, ◌⊎◌, inl, inr, ◌↔◌, ℕ, zero, suc, ◌+◌, ◌≤◌, List, [], ◌∷◌, Option, Some, None, true, false, length, IsTrue, refl, sym}
-use Rattle.{std.proofs.Common.{subst, arith, is_some, slice_get, ◌++◌}, pawn_saving.specs.Stored.{length_in, AreLengths, IsLengthWithin, IsStored}}
-use Rattle.pawn_saving.{specs.{Common.{Grows, CanSave, Continues, PutPledge}, Writing.IsCarried, declared.lengths.Lengths.Lengths}, proofs.Basics.standing_at}
-use Rattle.{pawn_saving.{specs.declared.stored.{PledgeList.PledgeList, Stored.Stored}, proofs.PledgeWrites.continues_it}, pawn_tables.specs.Common.get}
-use Rattle.pawn_tables.specs.Common.{HasCleanDisk, State, PledgeValue, AreIssued, Booking, Issued, BookValue, pledge_from, pledge_in, Host, entries_of, IsSound}
-use Rattle.pawn_tables.{specs.{Common.Rests, Entries.with_seq, StandsFor.StandsFor, Places.at_place}, proofs.NextEntries.at_seq}
+use Rattle.pawn_saving.proofs.Basics.{reachable_at}
+use Rattle.pawn_saving.proofs.PledgeWrites.{continues_it}
+use Rattle.pawn_saving.specs.Common.{Grows, CanSave, Continues, PutPledge}
+use Rattle.pawn_saving.specs.Stored.{length_in, AreLengths, IsLengthWithin, IsStored}
+use Rattle.pawn_saving.specs.Writing.{IsCarried}
+use Rattle.pawn_saving.specs.declared.lengths.Lengths.{Lengths}
+use Rattle.pawn_saving.specs.declared.stored.PledgeList.{PledgeList}
+use Rattle.pawn_saving.specs.declared.stored.Stored.{Stored}
+use Rattle.pawn_tables.proofs.NextEntries.{at_seq}
+use Rattle.pawn_tables.specs.Common.{get, HasCleanDisk, State, PledgeValue, AreIssued, Booking, Issued, BookValue}
+use Rattle.pawn_tables.specs.Common.{pledge_from, pledge_in, Host, entries_of, IsSound, Rests}
+use Rattle.pawn_tables.specs.Entries.{with_seq}
+use Rattle.pawn_tables.specs.Places.{at_place}
+use Rattle.pawn_tables.specs.StandsFor.{StandsFor}
+use Rattle.std.proofs.Common.{◌≡◌, Bool, ◌⊎◌, inl, inr, ◌↔◌, ℕ, zero, suc, ◌+◌, ◌≤◌, List, [], ◌∷◌, Option, Some, None}
+use Rattle.std.proofs.Common.{true, false, length, IsTrue, refl, sym, subst, arith, is_some, slice_get, ◌++◌}
 
 -- ---- an element stands at each place up to the length of a list
 
@@ -30,7 +40,7 @@ pub entry_placed : (h : Host) (b n s : ℕ) → IsSound h
 entry_placed h b n s sound = go (pledge_in (get h.books b) n) refl where
   go : (o : Option PledgeValue) → pledge_in (get h.books b) n ≡ o → with_seq (entries_of o) s ≡ at_place (entries_of o) s
   go None is = at_seq [] s tt
-  go (Some p) is = at_seq p.entries s (standing_at h b n p sound is).0.replayable.entered.numbered
+  go (Some p) is = at_seq p.entries s (reachable_at h b n p sound is).0.replayable.entered.numbered
 
 -- ---- the places of a list, from above
 
@@ -75,7 +85,7 @@ issued_some taken credit (i ∷ is) issued = omega arith
 
 -- a pledge that stands has a secret
 pub has_secret : (h : Host) (b n : ℕ) (p : PledgeValue) → IsSound h → pledge_in (get h.books b) n ≡ Some p → 1 ≤ length p.secrets
-has_secret h b n p sound is = issued_some _ _ p.secrets (standing_at h b n p sound is).0.replayable.issued.sorts
+has_secret h b n p sound is = issued_some _ _ p.secrets (reachable_at h b n p sound is).0.replayable.issued.sorts
 
 -- ---- the rows that are counted
 

@@ -1,11 +1,22 @@
 -- What the texts of the changes mean.
-use Rattle.{std.proofs.Common.{◌≡◌, List, [], ◌∷◌, ℕ, pos, codes, Some, refl}, pawn_saving.specs.Common.{Returning, Add, Arith, Is, Or, Not, InsertOr}}
-use Rattle.{pawn_saving.proofs.Basics.{Puts, Returns, Sets}, sqlite.{specs.{Term.op1, Source.TheVariants.Values}, proofs.Callers.{IsPlain, command_of}}}
-use Rattle.pawn_tables.specs.{Common.{Index, Compare, Eq, Binary, understood, Term, col, lit, op2, Int, Null, Text}, Ours.with_indexes, Schema.bookings_tree}
-use Rattle.pawn_tables.{specs.Schema.{books_tree, meta_tree, pledges_tree, totals_tree}, proofs.{Basics.{over_table, Asks, is_param}, ReadTexts.of_book}}
-use Rattle.{sqlite_tied.specs.Compute.everything, sqlite_schema.specs.declared.command.{Conflict.TheVariants.Abort, Upsert.Upsert}}
-pub use Rattle.pawn_tables.specs.declared.texts.TheConstants.{ADD_ROWS, PUT_BOOK, PUT_BOOKING, PUT_ENTRY, PUT_EXTENSION, PUT_PLEDGE, PUT_SECRET, PUT_TERMS}
-pub use Rattle.pawn_tables.specs.declared.texts.TheConstants.{PUT_TOTALS, READ_LIMIT, SET_IMPORT, SET_PLEDGE, SET_PLEDGES_COUNT, SET_TERMS_COUNT, SET_TOTALS}
+pub use Rattle.pawn_tables.specs.declared.texts.TheConstants.{ADD_ROWS, PUT_BOOK, PUT_BOOKING, PUT_ENTRY, PUT_EXTENSION}
+pub use Rattle.pawn_tables.specs.declared.texts.TheConstants.{PUT_PLEDGE, PUT_SECRET, PUT_TERMS, PUT_TOTALS, READ_LIMIT}
+pub use Rattle.pawn_tables.specs.declared.texts.TheConstants.{SET_IMPORT, SET_PLEDGE, SET_PLEDGES_COUNT}
+pub use Rattle.pawn_tables.specs.declared.texts.TheConstants.{SET_TERMS_COUNT, SET_TOTALS}
+use Rattle.pawn_saving.proofs.Basics.{Puts, Returns, Sets}
+use Rattle.pawn_saving.specs.Common.{Returning, Add, Arith, Is, Or, Not, InsertOr}
+use Rattle.pawn_tables.proofs.Basics.{over_table, Asks, is_param}
+use Rattle.pawn_tables.proofs.ReadTexts.{of_book}
+use Rattle.pawn_tables.specs.Common.{Index, Compare, Eq, Binary, understood, Term, col, lit, op2, Int, Null, Text}
+use Rattle.pawn_tables.specs.Ours.{with_indexes}
+use Rattle.pawn_tables.specs.Schema.{bookings_tree, books_tree, meta_tree, pledges_tree, totals_tree}
+use Rattle.sqlite.proofs.Callers.{IsPlain, command_of}
+use Rattle.sqlite.specs.Source.TheVariants.{Values}
+use Rattle.sqlite.specs.Term.{op1}
+use Rattle.sqlite_schema.specs.declared.command.Conflict.TheVariants.{Abort}
+use Rattle.sqlite_schema.specs.declared.command.Upsert.{Upsert}
+use Rattle.sqlite_tied.specs.Compute.{everything}
+use Rattle.std.proofs.Common.{◌≡◌, List, [], ◌∷◌, ℕ, pos, codes, Some, refl}
 
 abbrev pub book_values : List Term
 book_values = col 0 0 ∷ lit Null ∷ col 0 1 ∷ col 0 2 ∷ col 0 3 ∷ lit (Int (pos 0)) ∷ lit (Int (pos 0)) ∷ lit Null ∷ lit Null ∷ []

@@ -1,10 +1,14 @@
 -- The tables in the middle of a change: its rows are written, but not yet counted.
-use Rattle.std.specs.Prelude.{◌≡◌, ◌==◌, ◌↔◌, ℕ, ◌+◌, ◌≤◌, ◌<◌, if◌then◌else◌, [], map, Bool, IsTrue, Result, Ok, Err, IfOk}
-use Rattle.pawn_tables.specs.{Common.{entries, HasCleanDisk, State, BookValue, Host, rows, IsSound, Listed}, Meta.meta_rows, Rows.{book_row, booking_listed}}
-use Rattle.pawn_tables.specs.{Rows.{entries_listed, extensions_listed, pledge_listed, secrets_listed, terms_listed, totals_listed}, Schema.bookings_tree}
-use Rattle.pawn_tables.specs.Schema.{books_tree, entries_tree, extensions_tree, meta_tree, pledges_tree, secrets_tree, terms_tree, totals_tree}
-use Rattle.{pawn_tables.specs.StandsFor.{StandsFor, of_books, of_pledges}, pawn_saving.specs.Common.{Database, CanSave, with_change, Change, SaveError}}
-use Rattle.pawn_saving.specs.Common.{ListsOurs}
+use Rattle.pawn_saving.specs.Common.{Database, CanSave, with_change, Change, SaveError, ListsOurs}
+use Rattle.pawn_tables.specs.Common.{entries, HasCleanDisk, State, BookValue, Host, rows, IsSound, Listed}
+use Rattle.pawn_tables.specs.Meta.{meta_rows}
+use Rattle.pawn_tables.specs.Rows.{book_row, booking_listed, entries_listed, extensions_listed, pledge_listed}
+use Rattle.pawn_tables.specs.Rows.{secrets_listed, terms_listed, totals_listed}
+use Rattle.pawn_tables.specs.Schema.{bookings_tree, books_tree, entries_tree, extensions_tree, meta_tree, pledges_tree}
+use Rattle.pawn_tables.specs.Schema.{secrets_tree, terms_tree, totals_tree}
+use Rattle.pawn_tables.specs.StandsFor.{StandsFor, of_books, of_pledges}
+use Rattle.std.specs.Prelude.{◌≡◌, ◌==◌, ◌↔◌, ℕ, ◌+◌, ◌≤◌, ◌<◌, if◌then◌else◌, [], map, Bool, IsTrue, Result, Ok, Err}
+use Rattle.std.specs.Prelude.{IfOk}
 use Rattle.pawn_book.specs.declared.fault.SaveError.TheVariants as Save
 
 -- the rows of a host by their tree, where meta notes the given count
@@ -21,41 +25,44 @@ listed_as h counted t =
     else if t == extensions_tree then of_pledges h extensions_listed
     else []
 
--- the tables list the host, and note this count of its rows
+-- the tables hold the rows of the host, and note this count
 abbrev pub ListsHost : Database → Host → ℕ → Type 0
 ListsHost db h counted = ListsOurs db (listed_as h counted)
 
--- the tables list host g, which has so many rows more than h, and still note the count of the rows of h
+-- the tables hold the rows of host g, which has `added` more counted rows than h, and still note the count of h
 pub record IsWrittenPart (h g : Host) (db : Database) (added : ℕ) : Type 0 where
   pub lists : ListsHost db g (rows h)
   pub grown : rows g ≡ rows h + added
 
--- for each sound host that the tables stood for within the transaction, and that allows the change: the changed host is written
+-- Within a transaction, while the disk returns what was written: for each sound host that the tables stand for, and in
+-- which the change can be saved, the rows of the changed host are written.
 abbrev pub WritesRows : {E : Type 0} → State → State → Change → Result ℕ E → Type 0
 WritesRows old new change result =
     HasCleanDisk new → IsTrue old.in_transaction → (h : Host) → IsSound h → CanSave h change → StandsFor old.now h
     → IfOk result (IsWrittenPart h (with_change h change) new.now)
 
--- for each such host of which P holds: the changed host is written
+-- the same, only for hosts of which P holds
 abbrev pub WritesWhere : {E : Type 0} → State → State → (Host → Type 0) → Change → Result ℕ E → Type 0
 WritesWhere old new P change result =
     HasCleanDisk new → IsTrue old.in_transaction → (h : Host) → IsSound h → CanSave h change → StandsFor old.now h → P h
     → IfOk result (IsWrittenPart h (with_change h change) new.now)
 
--- the noted count grows by this many, and the answer is whether it is still within the limit
+-- the noted count grows by `by`, and the answer is whether it is still within the limit
 abbrev pub Counts : {E : Type 0} → State → State → ℕ → Result Bool E → Type 0
 Counts old new by result =
     HasCleanDisk new → IsTrue old.in_transaction → (g : Host) (counted : ℕ) → counted ≤ g.limit → ListsHost old.now g counted
     → IfOk result (λ fits. (IsTrue fits ↔ (counted + by ≤ g.limit)) × ListsHost new.now g (counted + by))
 
--- P if the change was made, Q if the rows would be above the limit; nothing is said of other errors
+-- P if the change is made, Q if the error is Full; other errors say nothing
 abbrev pub CountJudged : {T : Type 0} → Result T SaveError → Type 0 → Type 0 → Type 0
 CountJudged (Ok done) P Q = P
 CountJudged (Err Save.Full) P Q = Q
 CountJudged (Err Save.Memory) P Q = Unit {0}
 CountJudged (Err (Save.Store fault)) P Q = Unit {0}
 
--- for each sound host that an open store stood for within the transaction, and that allows the change: the tables stand for the changed host
+-- Within a transaction, while the disk returns what was written: for each sound host that an open store stands for, and
+-- in which the change can be saved. Ok: the tables stand for the changed host, which is within its limit. Full: it
+-- would exceed the limit.
 abbrev pub WritesChange : {T : Type 0} → State → State → Change → Result T SaveError → Type 0
 WritesChange old new change result =
     HasCleanDisk new → IsTrue old.in_transaction → (h : Host) → IsSound h → (IsTrue old.is_open → CanSave h change × StandsFor old.now h)

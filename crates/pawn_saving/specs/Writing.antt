@@ -1,7 +1,14 @@
--- What a statement writes.
-use Rattle.std.specs.{Prelude.{◌≡◌, ℕ, Bool, true, List, [], ◌∷◌, filter, IsPermutation, IsTrue, Option, Result, OnOk, ◌++◌}, Borrow.MutBor}
-use Rattle.{sqlite_trees.specs.declared.store.Store.Ghosts, sqlite.specs.{Held.Held, State.{KeepsCommit, Survives}}, pawn_tables.specs.Common.Row}
-use Rattle.{pawn_tables.specs.{Common.{HasCleanDisk, State, state, Listed}, Rows.at_most_one}, pawn_saving.specs.Common.{with_rows, ListsOurs}}
+-- The rows that a statement writes. Each definition holds within a transaction, while the disk returns what was
+-- written.
+use Rattle.pawn_saving.specs.Common.{with_rows, ListsOurs}
+use Rattle.pawn_tables.specs.Common.{Row, HasCleanDisk, State, state, Listed}
+use Rattle.pawn_tables.specs.Rows.{at_most_one}
+use Rattle.sqlite.specs.Held.{Held}
+use Rattle.sqlite.specs.State.{KeepsCommit, Survives}
+use Rattle.sqlite_trees.specs.declared.store.Store.{Ghosts}
+use Rattle.std.specs.Borrow.{MutBor}
+use Rattle.std.specs.Prelude.{◌≡◌, ℕ, Bool, true, List, [], ◌∷◌, filter, IsPermutation, IsTrue, Option, Result, OnOk}
+use Rattle.std.specs.Prelude.{◌++◌}
 
 -- the row is added to those of a table
 abbrev pub Joins : {E : Type 0} → State → State → Result (Unit {0}) E → ℕ → Row → Type 0
@@ -9,7 +16,7 @@ Joins old new result tree row =
     HasCleanDisk new → IsTrue old.in_transaction → (listed : Listed) → ListsOurs old.now listed
     → OnOk result (ListsOurs new.now (with_rows listed tree (row ∷ listed tree)))
 
--- the table has this row, and others of which none passes the test
+-- the table has this row, and other rows that all fail the test
 pub record IsOnly (test : Row → Bool) (rows : List Row) (row : Row) (others : List Row) : Type 0 where
   pub split : IsPermutation rows (row ∷ others)
   pub none : filter test others ≡ []
@@ -33,13 +40,14 @@ AllJoin old new result tree rows =
     HasCleanDisk new → IsTrue old.in_transaction → (listed : Listed) → ListsOurs old.now listed
     → OnOk result (ListsOurs new.now (with_rows listed tree (rows ++ listed tree)))
 
--- what any number of statements, even none, leave of the transaction; since there may be none, success does not show that the store is open
+-- The state of a borrowed transaction after any number of statements, possibly none. Because there may be none, success
+-- does not show that the store is open.
 pub record IsCarried (old new : State) (ok : Bool) : Type 0 where
   pub kept : HasCleanDisk new → IsTrue old.in_transaction → KeepsCommit old new
   pub inside : HasCleanDisk new → IsTrue old.in_transaction → ok ≡ true → IsTrue new.in_transaction
   pub survives : Survives old new (λ _. ⊥)
 
--- a transaction that was lent for them is the same reference, and this is left of it
+-- the borrowed transaction is still the same reference, and its state after the statements is as `IsCarried` says
 pub record Carries {S : Type 0} (g : Ghosts S) (old new : MutBor (Held S)) (ok : Bool) : Type 0 where
   pub same_reference : new.ghost_name ≡ old.ghost_name
   pub leaves : IsCarried (state g old.now) (state g new.now) ok

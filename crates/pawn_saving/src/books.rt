@@ -1,13 +1,18 @@
+//! Writes the rows of a book and of its terms.
+ghost use Rattle.pawn_saving.specs.Common.{filled_book, made_book, BookRows};
+ghost use Rattle.pawn_saving.specs.Writing.{Joins, Replaces};
+ghost use Rattle.pawn_tables.specs.At.{at_book};
+ghost use Rattle.pawn_tables.specs.Common.{state, Rates, PledgeValue, BookValue, Lends};
+ghost use Rattle.pawn_tables.specs.Rows.{book_row, number, terms_cells};
+ghost use Rattle.pawn_tables.specs.Schema.{books_tree, terms_tree};
 ghost use Rattle.std.specs.Prelude.{◌≡◌, ◌∷◌, List, is_ok, length};
-ghost use Rattle.pawn_tables.specs.{Common.{state, Rates, PledgeValue, BookValue, Lends}, At.at_book, Rows.{book_row, number, terms_cells}, Schema.books_tree};
-ghost use Rattle.{pawn_tables.specs.Schema.terms_tree, pawn_saving.specs.{Common.{filled_book, made_book, BookRows}, Writing.{Joins, Replaces}}};
 
 use pawn_book::{KeepError, NewBook, Rates, Secret};
 use pawn_tables::texts::{PUT_BOOK, PUT_TERMS, SET_IMPORT, SET_PLEDGES_COUNT, SET_TERMS_COUNT};
 use pawn_tables::{in_32_bits, write};
 use sqlite::{Alter, Transaction, params};
 
-/// Inserts the row of a new book.
+/// Inserts the row of a new book, which has neither terms nor pledges.
 pub(crate) fn put_book<S: Alter>(
     tx: &mut Transaction<'_, S>,
     book: u32,

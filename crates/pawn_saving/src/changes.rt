@@ -1,5 +1,8 @@
-ghost use Rattle.{std.specs.Prelude.is_ok, pawn_tables.specs.Common.{state, Lends}, pawn_saving.specs.Common.{AddTerms, MakeBook, PutPledge}};
+//! Writes a new book, new terms, or a pledge.
+ghost use Rattle.pawn_saving.specs.Common.{AddTerms, MakeBook, PutPledge};
 ghost use Rattle.pawn_saving.specs.Counted.{WritesRows};
+ghost use Rattle.pawn_tables.specs.Common.{state, Lends};
+ghost use Rattle.std.specs.Prelude.{is_ok};
 
 use crate::books::{put_book, put_terms, set_terms_count};
 use crate::lengths::lengths_of;

@@ -1,6 +1,10 @@
+//! The stored count of rows and the stored limit.
+ghost use Rattle.pawn_saving.specs.Common.{with_rows, ListsOurs};
+ghost use Rattle.pawn_saving.specs.Counted.{Counts};
+ghost use Rattle.pawn_tables.specs.Common.{state, HasCleanDisk, Lends, Rests, Listed};
+ghost use Rattle.pawn_tables.specs.Meta.{meta_row, meta_rows, other_rows};
+ghost use Rattle.pawn_tables.specs.Schema.{meta_tree};
 ghost use Rattle.std.specs.Prelude.{◌≡◌, ◌∷◌, ◌+◌, ◌<◌, ◌^◌, ℕ, IfOk, IsTrue, codes, is_ok};
-ghost use Rattle.pawn_tables.specs.{Common.{state, HasCleanDisk, Lends, Rests, Listed}, Meta.{meta_row, meta_rows, other_rows}, Schema.meta_tree};
-ghost use Rattle.pawn_saving.specs.{Common.{with_rows, ListsOurs}, Counted.Counts};
 
 use one_table::ask;
 use pawn_book::KeepError;
@@ -8,7 +12,7 @@ use pawn_tables::texts::{ADD_ROWS, READ_LIMIT};
 use pawn_tables::{REFUSED, in_32_bits, refused};
 use sqlite::{Alter, Transaction, params};
 
-/// The stored limit on counted rows. One of 2^32 or more is a fault of the store.
+/// The stored limit on counted rows. `REFUSED` if it is missing or not less than 2^32.
 fn limit_in<S: Alter>(tx: &mut Transaction<'_, S>) -> Result<u32, KeepError>
     ensures found { HasCleanDisk (state S.Store tx.new.conn.now) → IsTrue (state S.Store tx.old.conn.now).in_transaction
         → (listed : Listed) (counted limit : ℕ) → listed meta_tree ≡ meta_rows counted limit → ListsOurs (state S.Store tx.old.conn.now).now listed
@@ -29,7 +33,7 @@ fn limit_in<S: Alter>(tx: &mut Transaction<'_, S>) -> Result<u32, KeepError>
     }
 }
 
-/// Adds to the stored count of rows, and returns the new count.
+/// Adds to the stored count of rows, and returns the new count. The error is `Memory` or `Database`.
 fn count_up<S: Alter>(tx: &mut Transaction<'_, S>, by: u32) -> Result<u64, KeepError>
     ensures wrote { HasCleanDisk (state S.Store tx.new.conn.now) → IsTrue
         (state S.Store tx.old.conn.now).in_transaction

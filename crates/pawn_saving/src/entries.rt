@@ -1,5 +1,9 @@
-ghost use Rattle.{std.specs.Prelude.is_ok, pawn_tables.specs.{Common.{state, Lends}, Rows.{entry_cells, extension_cells, secret_cells, under}}};
-ghost use Rattle.{pawn_tables.specs.Schema.{entries_tree, extensions_tree, secrets_tree}, pawn_saving.specs.Writing.Joins};
+//! Inserts an entry, a secret or an extension.
+ghost use Rattle.pawn_saving.specs.Writing.{Joins};
+ghost use Rattle.pawn_tables.specs.Common.{state, Lends};
+ghost use Rattle.pawn_tables.specs.Rows.{entry_cells, extension_cells, secret_cells, under};
+ghost use Rattle.pawn_tables.specs.Schema.{entries_tree, extensions_tree, secrets_tree};
+ghost use Rattle.std.specs.Prelude.{is_ok};
 
 use pawn_book::{Entry, Extension, Issued, KeepError};
 use pawn_tables::texts::{PUT_ENTRY, PUT_EXTENSION, PUT_SECRET};
@@ -23,7 +27,7 @@ pub(crate) fn put_entry<S: Alter>(
     write(tx, PUT_ENTRY, params![book, number, seq, day, sort, pence])
 }
 
-/// Inserts a secret of a pledge at its place in the list.
+/// Inserts a secret of a pledge at its place in the list. The first place is 1.
 pub(crate) fn put_secret<S: Alter>(
     tx: &mut Transaction<'_, S>,
     book: u32,
@@ -45,7 +49,7 @@ pub(crate) fn put_secret<S: Alter>(
     )
 }
 
-/// Inserts an extension of a pledge's period at its place in the list.
+/// Inserts an extension of a pledge's period at its place in the list. The first place is 1.
 pub(crate) fn put_extension<S: Alter>(
     tx: &mut Transaction<'_, S>,
     book: u32,

@@ -1,6 +1,12 @@
+//! Writes an import into a book.
+ghost use Rattle.pawn_saving.specs.Common.{ImportBook};
+ghost use Rattle.pawn_saving.specs.Counted.{WritesRows};
+ghost use Rattle.pawn_saving.specs.Importing.{AddsPledges};
+ghost use Rattle.pawn_saving.specs.Putting.{AddsPledge};
+ghost use Rattle.pawn_saving.specs.Writing.{Carries};
+ghost use Rattle.pawn_tables.specs.Common.{state, Lends};
+ghost use Rattle.pawn_tables.specs.Rows.{number_in_book};
 ghost use Rattle.std.specs.Prelude.{◌≡◌, ◌+◌, IfOk, is_ok};
-ghost use Rattle.{pawn_tables.specs.{Common.{state, Lends}, Rows.number_in_book}, pawn_saving.specs.{Common.ImportBook, Counted.WritesRows}};
-ghost use Rattle.pawn_saving.specs.{Importing.AddsPledges, Putting.AddsPledge, Writing.Carries};
 
 use crate::books::set_import;
 use crate::lengths::length_in_32_bits;
@@ -11,7 +17,7 @@ use pawn_pledge::Parts;
 use pawn_tables::REFUSED;
 use sqlite::{Alter, Transaction};
 
-// The pledge that has these parts.
+/// The pledge that has these parts. `Memory` if out of memory, `REFUSED` if no pledge can have them.
 fn as_pledge(parts: &Parts) -> Result<Pledge, KeepError>
     ensures value { IfOk result (λ p. p ≡ parts.now) }
 {
@@ -24,7 +30,7 @@ fn as_pledge(parts: &Parts) -> Result<Pledge, KeepError>
     }
 }
 
-// The sum of two counts.
+/// The sum of two counts. `REFUSED` if 32 bits cannot hold it.
 fn sum_in_32_bits(one: u32, other: u32) -> Result<u32, KeepError>
     ensures value { IfOk result (λ n. n ≡ one + other) }
 {
@@ -34,7 +40,7 @@ fn sum_in_32_bits(one: u32, other: u32) -> Result<u32, KeepError>
     }
 }
 
-// Inserts all rows of the pledge that has these parts. Returns how many of them are counted.
+/// Inserts all rows of the pledge that has these parts. Returns how many of them are counted.
 #[tactic(auto, using(crate::proofs::Basics::lent_then))]
 fn put_parts<S: Alter>(
     tx: &mut Transaction<'_, S>,
@@ -48,7 +54,7 @@ fn put_parts<S: Alter>(
     put_whole(tx, book, parts.agreement.number.get(), &pledge)
 }
 
-// Inserts all rows of the pledges of a book that has none stored. Returns how many of them are counted.
+/// Inserts all rows of the pledges of a book that has none stored. Returns how many of them are counted.
 fn put_pledges<S: Alter>(
     tx: &mut Transaction<'_, S>,
     book: u32,

@@ -1,5 +1,6 @@
-ghost use Rattle.std.specs.Prelude.{◌≡◌, Some, IfOk};
+//! The lengths of a pledge's lists, as 32-bit numbers.
 ghost use Rattle.pawn_saving.specs.Stored.{AreLengths};
+ghost use Rattle.std.specs.Prelude.{◌≡◌, Some, IfOk};
 
 use pawn_book::{KeepError, Pledge};
 use pawn_tables::REFUSED;
@@ -12,7 +13,7 @@ pub(crate) struct Lengths {
     pub(crate) extensions: u32,
 }
 
-/// A length as the 32-bit number that a statement binds.
+/// A length as the 32-bit number that a statement binds. `REFUSED` if it does not fit.
 pub(crate) fn length_in_32_bits(length: usize) -> Result<u32, KeepError>
     ensures value { IfOk result (λ n. n ≡ length) }
 {
@@ -22,7 +23,7 @@ pub(crate) fn length_in_32_bits(length: usize) -> Result<u32, KeepError>
     }
 }
 
-/// How long the lists of this pledge are.
+/// The lengths of the lists of this pledge.
 pub(crate) fn lengths_of(pledge: &Pledge) -> Result<Lengths, KeepError>
     ensures value { IfOk result (λ l. AreLengths l (Some pledge.now)) }
 {

@@ -1,4 +1,5 @@
-//! Changes of pledge books, written to the tables of a database.
+//! Saves a change: writes its rows into the tables and counts them, in one transaction that is committed or rolled
+//! back.
 #![tactic(auto)]
 
 mod books;

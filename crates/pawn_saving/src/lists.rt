@@ -1,6 +1,10 @@
+//! Inserts several rows of a list, one after the other.
+ghost use Rattle.pawn_saving.specs.Writing.{AllJoin, Carries};
+ghost use Rattle.pawn_tables.specs.Common.{state};
+ghost use Rattle.pawn_tables.specs.Rows.{entry_cells, extension_cells, number, placed_from, secret_cells, terms_cells};
+ghost use Rattle.pawn_tables.specs.Rows.{under};
+ghost use Rattle.pawn_tables.specs.Schema.{entries_tree, extensions_tree, secrets_tree, terms_tree};
 ghost use Rattle.std.specs.Prelude.{◌≡◌, ◌+◌, ◌∷◌, IfOk, is_ok, map};
-ghost use Rattle.pawn_tables.specs.{Common.state, Rows.{entry_cells, extension_cells, number, placed_from, secret_cells, terms_cells, under}};
-ghost use Rattle.{pawn_tables.specs.Schema.{entries_tree, extensions_tree, secrets_tree, terms_tree}, pawn_saving.specs.Writing.{AllJoin, Carries}};
 
 use crate::books::put_terms;
 use crate::entries::{put_entry, put_extension, put_secret};
@@ -25,7 +29,7 @@ pub(crate) fn put_entries<S: Alter>(
     Ok(())
 }
 
-/// The next place of a list. It is an error if 32 bits can't hold it.
+/// The next place of a list. `REFUSED` if 32 bits cannot hold it.
 pub(crate) fn next_place(place: u32) -> Result<u32, KeepError>
     ensures value { IfOk result (λ next. next ≡ place + 1) }
 {

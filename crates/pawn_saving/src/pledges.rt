@@ -1,6 +1,10 @@
+//! Writes the single rows of a pledge: its own row, its booking and its totals.
+ghost use Rattle.pawn_saving.specs.Writing.{Joins, PutsOver, Replaces};
+ghost use Rattle.pawn_tables.specs.At.{at_pledge};
+ghost use Rattle.pawn_tables.specs.Common.{state, Totals, PledgeValue, Booking, Lends};
+ghost use Rattle.pawn_tables.specs.Rows.{booking_cells, pledge_cells, totals_cells, under};
+ghost use Rattle.pawn_tables.specs.Schema.{bookings_tree, pledges_tree, totals_tree};
 ghost use Rattle.std.specs.Prelude.{◌≡◌, IfOk, Option, is_ok, option_map, pos};
-ghost use Rattle.pawn_tables.specs.{Common.{state, Totals, PledgeValue, Booking, Lends}, At.at_pledge, Rows.{booking_cells, pledge_cells, totals_cells, under}};
-ghost use Rattle.{pawn_tables.specs.Schema.{bookings_tree, pledges_tree, totals_tree}, pawn_saving.specs.Writing.{Joins, PutsOver, Replaces}};
 
 use pawn_book::{Booking, KeepError, Pledge};
 use pawn_debt::Totals;
@@ -47,8 +51,8 @@ pub(crate) fn put_row<S: Alter>(
     )
 }
 
-/// Updates what can change in a pledge's row: its end, how it is held, the day of its last change, and its closing. A
-/// row that has all of it already is not written.
+/// Updates what can change in a pledge's row: its end, whether it is on hold, the day of its last change, and its
+/// closing. A row that already has these values is not written.
 pub(crate) fn set_row<S: Alter>(
     tx: &mut Transaction<'_, S>,
     book: u32,
@@ -73,7 +77,7 @@ pub(crate) fn set_row<S: Alter>(
     )
 }
 
-/// Writes the booking of a pledge over the stored one, if there is one.
+/// Inserts the booking of a pledge, or replaces the stored one.
 pub(crate) fn put_booking<S: Alter>(
     tx: &mut Transaction<'_, S>,
     book: u32,
@@ -90,7 +94,7 @@ pub(crate) fn put_booking<S: Alter>(
     write(tx, PUT_BOOKING, params![book, number, day, window, state])
 }
 
-// The charges, in millionths of a penny, as the signed number that a statement binds.
+/// The charges, in millionths of a penny, as the signed number that a statement binds.
 fn charges_of(millionths: u64) -> Result<i64, KeepError>
     ensures value { IfOk result (λ n. n ≡ pos millionths) }
 {
@@ -121,7 +125,7 @@ pub fn put_totals<S: Alter>(
     )
 }
 
-/// Updates the totals of a stored pledge. A row that has them already is not written.
+/// Updates the totals of a stored pledge. A row that already has these values is not written.
 pub(crate) fn set_totals<S: Alter>(
     tx: &mut Transaction<'_, S>,
     book: u32,

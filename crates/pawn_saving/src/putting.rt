@@ -1,6 +1,12 @@
+//! Writes a pledge that is not stored yet, and the parts that it shares with one that is.
+ghost use Rattle.pawn_saving.specs.Common.{pledge_rows};
+ghost use Rattle.pawn_saving.specs.Putting.{AddRows, AddSides, AddsPledge, PutsFor, lists_past};
+ghost use Rattle.pawn_saving.specs.Writing.{Carries};
+ghost use Rattle.pawn_tables.specs.At.{at_pledge};
+ghost use Rattle.pawn_tables.specs.Common.{state, Booking, Lends};
+ghost use Rattle.pawn_tables.specs.Rows.{at_most_one, booking_cells, under};
+ghost use Rattle.pawn_tables.specs.Schema.{bookings_tree};
 ghost use Rattle.std.specs.Prelude.{◌≡◌, ◌+◌, if◌then◌else◌, None, Option, IfOk, drop, is_ok};
-ghost use Rattle.pawn_tables.specs.{Common.{state, Booking, Lends}, At.at_pledge, Rows.{at_most_one, booking_cells, under}, Schema.bookings_tree};
-ghost use Rattle.pawn_saving.specs.{Common.pledge_rows, Putting.{AddRows, AddSides, AddsPledge, PutsFor, lists_past}, Writing.Carries};
 
 use crate::lengths::{Lengths, lengths_of};
 use crate::lists::{next_place, put_entries, put_extensions, put_secrets};
@@ -9,7 +15,7 @@ use pawn_book::{Booking, KeepError, Pledge};
 use pawn_tables::in_32_bits;
 use sqlite::{Alter, Transaction};
 
-// The elements after the first `so_many`; none if there are no more.
+/// The elements after the first `so_many`; none if there are only so many or fewer.
 fn behind<T>(items: &[T], so_many: u32) -> &[T]
     ensures value { result.now ≡ drop so_many items.now }
 {
@@ -29,7 +35,7 @@ pub(crate) fn rows_within(lengths: Lengths, is_booked: bool) -> Result<u32, Keep
 }
 
 /// How many counted rows this pledge has.
-pub(crate) fn rows_of(pledge: &Pledge) -> Result<u32, KeepError>
+pub(crate) fn rows_of_pledge(pledge: &Pledge) -> Result<u32, KeepError>
     ensures value { IfOk result (λ n. n ≡ pledge_rows pledge.now) }
 {
     let lengths = lengths_of(pledge)?;
@@ -67,7 +73,7 @@ pub(crate) fn put_lists<S: Alter>(
     )
 }
 
-/// Writes the booking of a pledge, if it has one, over any stored booking. Without one nothing is written.
+/// Inserts the booking of a pledge, or replaces the stored one. Nothing is written if the pledge has no booking.
 pub(crate) fn put_any_booking<S: Alter>(
     tx: &mut Transaction<'_, S>,
     book: u32,
@@ -112,7 +118,7 @@ pub(crate) fn put_whole<S: Alter>(
     ensures wrote { AddsPledge (state S.Store tx.old.conn.now) (state S.Store tx.new.conn.now) result book number pledge.now }
     ensures lent { Lends S.Store tx.old.conn tx.new.conn (is_ok result) }
 {
-    let added = rows_of(pledge)?;
+    let added = rows_of_pledge(pledge)?;
     put_sides(tx, book, number, pledge)?;
     put_lists(
         tx,

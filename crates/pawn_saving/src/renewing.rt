@@ -1,10 +1,14 @@
+//! Writes a pledge of an existing book: the next one, or one that is stored already.
+ghost use Rattle.pawn_saving.specs.Common.{pledge_rows, PutPledge};
+ghost use Rattle.pawn_saving.specs.Counted.{WritesWhere};
+ghost use Rattle.pawn_saving.specs.Putting.{RenewSides};
+ghost use Rattle.pawn_saving.specs.Stored.{IsStored};
+ghost use Rattle.pawn_tables.specs.Common.{get, state, PledgeValue, pledge_in, Lends};
 ghost use Rattle.std.specs.Prelude.{◌≡◌, ◌+◌, None, Some, IfOk, is_ok};
-ghost use Rattle.{pawn_tables.specs.Common.{get, state, PledgeValue, pledge_in, Lends}, pawn_saving.specs.Common.{pledge_rows, PutPledge}};
-ghost use Rattle.pawn_saving.specs.{Counted.WritesWhere, Putting.RenewSides, Stored.IsStored};
 
 use crate::books::set_pledges_count;
 use crate::pledges::{set_row, set_totals};
-use crate::putting::{put_any_booking, put_lists, put_whole, rows_of, rows_within};
+use crate::putting::{put_any_booking, put_lists, put_whole, rows_of_pledge, rows_within};
 use crate::stored::Stored;
 use pawn_book::{KeepError, Number, Pledge};
 use pawn_tables::REFUSED;
@@ -44,8 +48,8 @@ fn set_sides<S: Alter>(
     put_any_booking(tx, book, number, pledge.standing().booking)
 }
 
-/// How many more counted rows a pledge has than are stored of it. It is an error if it has fewer, or if its booking is
-/// gone: no command takes one away.
+/// How many more counted rows a pledge has than are stored of it. `REFUSED` if it has fewer, or if a booking is stored
+/// and the pledge has none: no command removes a booking.
 fn rows_added(stored: Stored, pledge: &Pledge) -> Result<u32, KeepError>
     ensures value { IfOk result (λ added. (before : PledgeValue) → IsStored stored (Some before) → pledge_rows pledge.now ≡ pledge_rows before + added) }
     ensures booked { IfOk result (λ added. (before : PledgeValue) → IsStored stored (Some before)
@@ -55,13 +59,13 @@ fn rows_added(stored: Stored, pledge: &Pledge) -> Result<u32, KeepError>
         return Err(REFUSED);
     }
     let stood = rows_within(stored.lengths, stored.is_booked)?;
-    match rows_of(pledge)?.checked_sub(stood) {
+    match rows_of_pledge(pledge)?.checked_sub(stood) {
         Some(added) => Ok(added),
         None => Err(REFUSED),
     }
 }
 
-/// Writes a stored pledge as it is now. Returns how many counted rows that adds.
+/// Updates a stored pledge to its new content. Returns how many counted rows that adds.
 #[tactic(auto, using(crate::proofs::Basics::lent_then, crate::proofs::RowsInOrder::lent_carried))]
 pub(crate) fn renew_pledge<S: Alter>(
     tx: &mut Transaction<'_, S>,

@@ -1,6 +1,10 @@
-ghost use Rattle.std.specs.Prelude.{◌≡◌, ◌≢◌, false, is_ok};
-ghost use Rattle.{pawn_tables.specs.{Common.{state, Lends}, Keeps.keeping_by}, pawn_saving.specs.{Common.CanSave, Counted.{WritesChange, WritesRows}}};
+//! Saves a change in one transaction.
 ghost use Rattle.pawn_book.specs.Keeping.{OfHost, Saves};
+ghost use Rattle.pawn_saving.specs.Common.{CanSave};
+ghost use Rattle.pawn_saving.specs.Counted.{WritesChange, WritesRows};
+ghost use Rattle.pawn_tables.specs.Common.{state, Lends};
+ghost use Rattle.pawn_tables.specs.Keeps.{keeping_by};
+ghost use Rattle.std.specs.Prelude.{◌≡◌, ◌≢◌, false, is_ok};
 ghost use Rattle.pawn_book.specs.declared.fault.SaveError.TheVariants as Save;
 
 use crate::changes::{add_terms, make_book, put_pledge};
@@ -10,7 +14,7 @@ use pawn_book::{Change, KeepError, SaveError, StoreFault};
 use pawn_tables::refused;
 use sqlite::{Alter, Connection, Transaction};
 
-// A keeper's error as the reason that a change is not saved. It is never `Full`.
+/// A keeper's error as the error of a save. It is never `Full`.
 fn unsaved(error: KeepError) -> SaveError
     ensures not_full { result ≢ Save.Full }
 {
@@ -20,7 +24,7 @@ fn unsaved(error: KeepError) -> SaveError
     }
 }
 
-// Writes a change. Returns how many counted rows that adds.
+/// Writes a change. Returns how many counted rows that adds.
 fn write_rows<S: Alter>(tx: &mut Transaction<'_, S>, change: &Change) -> Result<u32, KeepError>
     ensures wrote { WritesRows (state S.Store tx.old.conn.now) (state S.Store tx.new.conn.now) change.now result }
     ensures lent { Lends S.Store tx.old.conn tx.new.conn (is_ok result) }
@@ -41,8 +45,8 @@ fn write_rows<S: Alter>(tx: &mut Transaction<'_, S>, change: &Change) -> Result<
     }
 }
 
-/// Writes a change within the transaction and counts its rows. If the count is then above the limit, the result is
-/// `Full`, and the caller rolls back.
+/// Writes a change within the transaction and counts its rows. The error is `Full` if the count then exceeds the limit.
+/// After an error the caller must roll back.
 #[tactic(auto, using(crate::proofs::Basics::lent_then))]
 pub(crate) fn write_change<S: Alter>(
     tx: &mut Transaction<'_, S>,
@@ -63,8 +67,8 @@ pub(crate) fn write_change<S: Alter>(
 }
 
 /// Saves a change in one transaction, which has ended when the call returns. The error is `Full` if the store would
-/// then have more counted rows than its limit, and `Memory` or `Store` if the database failed. It is also `Store` if a
-/// transaction is under way already.
+/// have more counted rows than its limit, and `Memory` or `Store` if the database failed. It is also `Store` if a
+/// transaction is already under way.
 pub fn save<S: Alter>(conn: &mut Connection<S>, change: &Change) -> Result<(), SaveError>
     requires can_save { (keeping_by (λ c. state S.Store c)).serves conn.old → OfHost
         (keeping_by (λ c. state S.Store c)) conn.old conn.old (λ h. CanSave h change.now) }

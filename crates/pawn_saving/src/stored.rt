@@ -1,14 +1,15 @@
-//! How much of a pledge is stored before it is written.
-ghost use Rattle.std.specs.Prelude.{◌≡◌, ◌≤◌, ◌↔◌, IsTrue, is_ok};
-ghost use Rattle.{pawn_tables.specs.Common.{get, state, pledge_in, Lends}, pawn_saving.specs.Stored.{AreLengths, IsLengthWithin, IsStored, ReadsIn, length_in}};
+//! Reads how much of a pledge is stored before the pledge is written.
+ghost use Rattle.pawn_saving.specs.Stored.{AreLengths, IsLengthWithin, IsStored, ReadsIn, length_in};
 ghost use Rattle.pawn_saving.specs.Writing.{Carries};
+ghost use Rattle.pawn_tables.specs.Common.{get, state, pledge_in, Lends};
+ghost use Rattle.std.specs.Prelude.{◌≡◌, ◌≤◌, ◌↔◌, IsTrue, is_ok};
 
 use crate::lengths::Lengths;
 use pawn_book::KeepError;
 use pawn_tables::{booking_in, entry_in, extension_in, secret_in};
 use sqlite::{Alter, Transaction};
 
-/// A list of a pledge. It only ever grows, at its end.
+/// One of the lists of a pledge. Such a list only grows, at its end.
 #[derive(Clone, Copy)]
 pub(crate) enum PledgeList {
     Entries,
@@ -16,8 +17,8 @@ pub(crate) enum PledgeList {
     Extensions,
 }
 
-/// How much of a pledge is stored: how long its lists are, and whether it has a booking. A stored pledge has at least
-/// one secret, so one without is not stored.
+/// How much of a pledge is stored: how long its lists are, and whether it has a booking. A stored pledge of a sound
+/// book has at least one secret, so a pledge without secrets is not stored.
 #[derive(Clone, Copy)]
 pub(crate) struct Stored {
     pub(crate) lengths: Lengths,
@@ -43,7 +44,8 @@ fn stands_at<S: Alter>(
     }
 }
 
-/// How long the stored list of a pledge is, if it is at most `most` long. It is looked for from `most` downwards.
+/// The length of the stored list of a pledge, if it is at most `most`. The search asks for the element at place `most`,
+/// then for the one before it, and so on; after a command it ends after a few steps.
 fn length_within<S: Alter>(
     tx: &mut Transaction<'_, S>,
     list: PledgeList,
@@ -65,7 +67,7 @@ fn length_within<S: Alter>(
     Ok(0)
 }
 
-/// How long the stored lists of a pledge are, if none is longer than `most` says.
+/// The lengths of the stored lists of a pledge, if none exceeds that in `most`.
 #[tactic(auto, using(crate::proofs::RowsInOrder::both_carried))]
 fn lengths_within<S: Alter>(
     tx: &mut Transaction<'_, S>,
@@ -87,7 +89,7 @@ fn lengths_within<S: Alter>(
     })
 }
 
-/// How much of a pledge is stored, if none of its stored lists is longer than `most` says.
+/// How much of a pledge is stored, if none of its stored lists is longer than the length in `most`.
 #[tactic(auto, using(crate::proofs::Basics::lent_then, crate::proofs::RowsInOrder::lent_carried))]
 pub(crate) fn stored_within<S: Alter>(
     tx: &mut Transaction<'_, S>,

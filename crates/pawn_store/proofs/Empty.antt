@@ -1,7 +1,13 @@
 -- The empty host is sound.
-use Rattle.std.{proofs.Common.{◌≡◌, ◌∙◌, ℕ, [], map, sym, ap, arith, sum_by}, specs.FinMap.{empty, entries, get-empty, len-empty, len-entries}}
-use Rattle.{std.specs.Ordering.nat_cmp, pawn_book.{specs.{BookStep.BookValue, HostStep.{book_rows, rows}}, proofs.Sounds.absurd_none}}
-use Rattle.{pawn_opening.specs.Opened.empty_host, pawn_store.specs.Running.EmptyHostIsSound, pawn_base.proofs.ListLemmas.no_elements}
+use Rattle.pawn_base.proofs.ListLemmas.{no_elements}
+use Rattle.pawn_book.proofs.Sounds.{absurd_none}
+use Rattle.pawn_book.specs.BookStep.{BookValue}
+use Rattle.pawn_book.specs.HostStep.{book_rows, rows}
+use Rattle.pawn_opening.specs.Opened.{empty_host}
+use Rattle.pawn_store.specs.Running.{EmptyHostIsSound}
+use Rattle.std.proofs.Common.{◌≡◌, ◌∙◌, ℕ, [], map, sym, ap, arith, sum_by}
+use Rattle.std.specs.FinMap.{empty, entries, get-empty, len-empty, len-entries}
+use Rattle.std.specs.Ordering.{nat_cmp}
 
 no_rows : (limit : ℕ) → rows (empty_host limit) ≡ 0
 no_rows limit =

@@ -1,15 +1,32 @@
 -- The rows of one book are those of its own content.
-use Rattle.std.proofs.Common.{◌≡◌, ◌≢◌, ◌++◌, ◌==◌, ℕ, ◌+◌, List, [], ◌∷◌, map, filter, flat_map, true, false, cond, ◌&&◌, Ok, Err, refl, sym, ap, subst, ◌∙◌}
-use Rattle.std.{proofs.{Common.{arith, IsPermutation}, lemmas.Bool.Decides.nat_tests}, specs.{List.AllByRecursion, FinMap.{entries, get}}}
-use Rattle.{std.proofs.lemmas.List.Sorted.{IsPermutation-trans, IsPermutation-sym}, pawn_book.specs.{BookStep.BookValue, Runs.{Event, Mark, host_after_event}}}
-use Rattle.pawn_book.{specs.{Runs.{no_memory, no_store, read_as, request_in, run_host}, HostStep.Host}, proofs.SlotRuns.other_books_stay}
-use Rattle.{sqlite.specs.{Effect.Database, Order.{Row, column}, Table.Table, Tree.Trees}, one_table.specs.Listing.Holds}
-use Rattle.{pawn_pledge.specs.{declared.command.Stamp.Stamp, Pledge.PledgeValue}, pawn_tables.specs.{StandsFor.{StandsFor, of_books, of_pledges}, At.at_book}}
-use Rattle.pawn_tables.specs.{At.is_at, Rows.{number, book_row, terms_listed, placed_from, terms_cells, pledge_listed, entries_listed, secrets_listed}}
-use Rattle.pawn_tables.specs.Rows.{booking_listed, totals_listed, extensions_listed, entry_cells, secret_cells, extension_cells, number_in_book}
-use Rattle.pawn_tables.proofs.{RowsUnderKey.{AreUnder, equals, rows_at, of_one_book}, PledgeReads.{under_map, under_placed, under_booked}}
-use Rattle.{sqlite_trees.proofs.ListLemmas.IsPermutation-filter, pawn_terms.specs.declared.terms.Rates.Rates, pawn_store.specs.OtherRows.AreElsewhere}
-use Rattle.pawn_store.specs.OtherRows.{HaveSameRows, IsElsewhere, OtherRowsStay, OtherRowsStayInRuns, rows_under_book}
+use Rattle.one_table.specs.Listing.{Holds}
+use Rattle.pawn_book.proofs.SlotRuns.{other_books_stay}
+use Rattle.pawn_book.specs.BookStep.{BookValue}
+use Rattle.pawn_book.specs.HostStep.{Host}
+use Rattle.pawn_book.specs.Runs.{Event, Mark, host_after_event, no_memory, no_store, read_as, request_in, run_host}
+use Rattle.pawn_pledge.specs.Pledge.{PledgeValue}
+use Rattle.pawn_pledge.specs.declared.command.Stamp.{Stamp}
+use Rattle.pawn_store.specs.OtherRows.{AreElsewhere, HaveSameRows, IsElsewhere, OtherRowsStay, OtherRowsStayInRuns}
+use Rattle.pawn_store.specs.OtherRows.{rows_under_book}
+use Rattle.pawn_tables.proofs.PledgeReads.{under_map, under_placed, under_booked}
+use Rattle.pawn_tables.proofs.RowsUnderKey.{AreUnder, equals, rows_at, of_one_book}
+use Rattle.pawn_tables.specs.At.{at_book, is_at}
+use Rattle.pawn_tables.specs.Rows.{number, book_row, terms_listed, placed_from, terms_cells, pledge_listed}
+use Rattle.pawn_tables.specs.Rows.{entries_listed, secrets_listed, booking_listed, totals_listed, extensions_listed}
+use Rattle.pawn_tables.specs.Rows.{entry_cells, secret_cells, extension_cells, number_in_book}
+use Rattle.pawn_tables.specs.StandsFor.{StandsFor, of_books, of_pledges}
+use Rattle.pawn_terms.specs.declared.terms.Rates.{Rates}
+use Rattle.sqlite.specs.Effect.{Database}
+use Rattle.sqlite.specs.Order.{Row, column}
+use Rattle.sqlite.specs.Table.{Table}
+use Rattle.sqlite.specs.Tree.{Trees}
+use Rattle.sqlite_trees.proofs.ListLemmas.{IsPermutation-filter}
+use Rattle.std.proofs.Common.{◌≡◌, ◌≢◌, ◌++◌, ◌==◌, ℕ, ◌+◌, List, [], ◌∷◌, map, filter, flat_map, true, false, cond}
+use Rattle.std.proofs.Common.{◌&&◌, Ok, Err, refl, sym, ap, subst, ◌∙◌, arith, IsPermutation}
+use Rattle.std.proofs.lemmas.Bool.Decides.{nat_tests}
+use Rattle.std.proofs.lemmas.List.Sorted.{IsPermutation-trans, IsPermutation-sym}
+use Rattle.std.specs.FinMap.{entries, get}
+use Rattle.std.specs.List.{AllByRecursion}
 
 -- rows of one book
 abbrev pub AreOf : ℕ → List Row → Type 0

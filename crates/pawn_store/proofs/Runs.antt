@@ -1,11 +1,24 @@
--- A call over tables, from what the service says of it.
-use Rattle.std.proofs.{Common.{◌≡◌, ◌++◌, ℕ, List, [], refl, sym, subst, Result, Ok, Err, inl, All, Option}, lemmas.List.Elements.{All-append, All-nil}}
-use Rattle.pawn_host.specs.{declared.session.{Ended.Ended, IoFault.IoFault}, Session.{Given, IsSession}, Keeps.{GoesBy, Kept, Start}, Crashes.IsLeftByRun}
-use Rattle.pawn_host.{specs.Run.{IsMarked, Item, host_after_run}, proofs.CrashLemmas.{crash_leaves_whole, host_after-append, left_by-append, run_wider}}
-use Rattle.{pawn_host.proofs.HeadlineLemmas.runs_answer_alone, pawn_book.specs.{HostStep.Host, Sound.IsSound}, sqlite_wal.specs.Recovery.Image}
-use Rattle.{pawn_tables.{specs.Keeps.{IsWhole, Keeps, Leaves}, proofs.OneHost.tables_stand_for_one_host}, pawn_opening.specs.Opened.OpensAs}
-use Rattle.{pawn_opening.specs.FilesStand.StandsIn, pawn_pledge.specs.declared.command.Stamp.Stamp, sqlite.specs.State.State}
+-- A call over tables, derived from the contract of the service.
+use Rattle.pawn_book.specs.HostStep.{Host}
+use Rattle.pawn_book.specs.Sound.{IsSound}
+use Rattle.pawn_host.proofs.CrashLemmas.{crash_leaves_whole, host_after-append, left_by-append, run_wider}
+use Rattle.pawn_host.proofs.HeadlineLemmas.{runs_answer_alone}
+use Rattle.pawn_host.specs.Crashes.{IsLeftByRun}
+use Rattle.pawn_host.specs.Keeps.{GoesBy, Kept, Start}
+use Rattle.pawn_host.specs.Run.{IsMarked, Item, host_after_run}
+use Rattle.pawn_host.specs.Session.{Given, IsSession}
+use Rattle.pawn_host.specs.declared.session.Ended.{Ended}
+use Rattle.pawn_host.specs.declared.session.IoFault.{IoFault}
+use Rattle.pawn_opening.specs.FilesStand.{StandsIn}
+use Rattle.pawn_opening.specs.Opened.{OpensAs}
+use Rattle.pawn_pledge.specs.declared.command.Stamp.{Stamp}
 use Rattle.pawn_store.specs.Running.{ActsOverTables, HasAnswered, HoldsSession, Reopens, acted_items, kept_in, start_at}
+use Rattle.pawn_tables.proofs.OneHost.{tables_stand_for_one_host}
+use Rattle.pawn_tables.specs.Keeps.{IsWhole, Keeps, Leaves}
+use Rattle.sqlite.specs.State.{State}
+use Rattle.sqlite_wal.specs.Recovery.{Image}
+use Rattle.std.proofs.Common.{◌≡◌, ◌++◌, ℕ, List, [], refl, sym, subst, Result, Ok, Err, inl, All, Option}
+use Rattle.std.proofs.lemmas.List.Elements.{All-append, All-nil}
 
 -- over a store that was opened nothing was answered yet
 pub nothing_answered : (store : State) (h : Host) (operator : ℕ) → IsSound h → OpensAs store h → HasAnswered store h operator []

@@ -1,7 +1,13 @@
--- Connections in turn, behind each of which the keeper is asked.
-use Rattle.{std.proofs.Common.{ℕ, ◌+◌, Option, refl}, pawn_program.{specs.Serving.AreServed, proofs.ServingLemmas.{served_on, served_then}}}
-use Rattle.{pawn_book.{specs.{HostStep.Host, Keeping.{GoesOn, Keeping, OfHost, Reads}}, proofs.Reading.on_then}, pawn_host.specs.Keeps.{Serves, StaysOpen}}
-use Rattle.{pawn_host.specs.{Keeps.{kept_by, service_keep, start_of}, declared.service.Service.Service}, pawn_pledge.specs.declared.command.Stamp.Stamp}
+-- Connections one after the other; after each of them the keeper is asked whether its store is shut.
+use Rattle.pawn_book.proofs.Reading.{on_then}
+use Rattle.pawn_book.specs.HostStep.{Host}
+use Rattle.pawn_book.specs.Keeping.{GoesOn, Keeping, OfHost, Reads}
+use Rattle.pawn_host.specs.Keeps.{Serves, StaysOpen, kept_by, service_keep, start_of}
+use Rattle.pawn_host.specs.declared.service.Service.{Service}
+use Rattle.pawn_pledge.specs.declared.command.Stamp.{Stamp}
+use Rattle.pawn_program.proofs.ServingLemmas.{served_on, served_then}
+use Rattle.pawn_program.specs.Serving.{AreServed}
+use Rattle.std.proofs.Common.{ℕ, ◌+◌, Option, refl}
 
 module _ {K : Type 0} (k : Keeping K) {first a b : Service K} {new : K} {P : Host → Type 0} (stays : StaysOpen k first a) (more : StaysOpen k a b)
     (reads : Reads k (service_keep b) new P) where

@@ -1,23 +1,24 @@
-//! How long a service over tables answers connections.
+//! Answers connections over tables until the service's limit of connections.
+ghost use Rattle.pawn_host.specs.Keeps.{service_operator};
+ghost use Rattle.pawn_program.specs.Clock.{GivesDated};
+ghost use Rattle.pawn_store.specs.Running.{OverTables, ServesConnections, store_of};
 ghost use Rattle.std.specs.Prelude.{◌≡◌, ◌+◌, false, IfErr, IfOk};
-ghost use Rattle.{pawn_host.specs.Keeps.service_operator, pawn_program.specs.Clock.GivesDated, pawn_store.specs.Running.{OverTables, ServesConnections}};
-ghost use Rattle.pawn_store.specs.Running.{store_of};
 
 use crate::running::serve_over_tables;
 use pawn_host::Service;
-use pawn_program::{ClockStamps, Served};
+use pawn_program::{ClockStamps, SecondsClock, Served};
 use pawn_table_keeper::TableKeep;
 use sqlite::Alter;
 use std::fmt;
 use std::net::TcpListener;
-use std::time::Clock;
 
-/// After so many connections, accepted or failed, a service ends.
+/// The number of connections, accepted or failed, after which a service ends.
 pub const CONNECTIONS: u32 = 1_000_000;
 
-/// A fault has shut the store of a service, which had gone through so many connections.
+/// A fault has shut the store of a service. `served` counts the connections up to then.
 #[derive(Clone, Copy)]
 pub struct StoreShut {
+    /// The connections before the service ended.
     pub served: Served,
 }
 
@@ -31,18 +32,18 @@ impl fmt::Display for StoreShut {
     }
 }
 
-/// Answers the requests of `CONNECTIONS` connections as `serve_over_tables` does. It ends early, with an error, if a
-/// fault has shut the store.
-pub fn serve_to_the_end<S: Alter, C: Clock>(
+/// Answers the requests of `CONNECTIONS` connections as `serve_over_tables` does. Ends early with an error if a fault
+/// has shut the store.
+pub fn serve_to_the_end<S: Alter, C: SecondsClock + Drop>(
     listener: &TcpListener,
     service: &mut Service<TableKeep<S>>,
-    stamps: &mut ClockStamps<'_, C>,
+    stamps: &mut ClockStamps<C>,
 ) -> Result<Served, StoreShut>
     ensures served { IfOk result (λ served. OverTables (store_of S.Store service.old) (store_of S.Store service.new) (service_operator service.old)
-        (ServesConnections GivesDated stamps.old stamps.new served.answered)) }
+        (ServesConnections (GivesDated C.reads) stamps.old stamps.new served.answered)) }
     ensures cut_short { IfErr result (λ e. OverTables (store_of S.Store service.old) (store_of S.Store service.new) (service_operator service.old)
-        (ServesConnections GivesDated stamps.old stamps.new e.served.answered)) }
-    ensures counted { IfOk result (λ served. served.answered + served.failed ≡ CONNECTIONS) }
+        (ServesConnections (GivesDated C.reads) stamps.old stamps.new e.served.answered)) }
+    ensures counted { IfOk result (λ served. served.answered + served.failed ≡ 1000000) }
     ensures shut { IfErr result (λ _. (store_of S.Store service.new).is_open ≡ false) }
     ensures operator { service_operator service.new ≡ service_operator service.old }
 {

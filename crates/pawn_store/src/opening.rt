@@ -1,9 +1,20 @@
-//! Opening stores as keepers, and closing them.
+//! Opens stores as keepers, and closes them.
+ghost use Rattle.pawn_book.specs.HostStep.{Host};
+ghost use Rattle.pawn_book.specs.Limits.{most_rows};
+ghost use Rattle.pawn_opening.specs.Closed.{AreClosedFor, IsLeftUnclosed};
+ghost use Rattle.pawn_opening.specs.FilesStand.{IsBlank, OpensFound, RefusesHeld, StandsIn};
+ghost use Rattle.pawn_opening.specs.Opened.{OpensAs, empty_host};
+ghost use Rattle.pawn_opening.specs.Refusing.{IsStoreFault};
+ghost use Rattle.pawn_store.specs.Running.{Reopens};
+ghost use Rattle.pawn_tables.specs.Keeps.{Keeps};
+ghost use Rattle.sqlite.specs.Files.{IsCleanLeft, file_state};
+ghost use Rattle.sqlite.specs.Held.{state};
+ghost use Rattle.sqlite.specs.State.{HasCleanDisk};
+ghost use Rattle.sqlite.specs.Steps.{over_memory};
+ghost use Rattle.sqlite_std_file.specs.File.{IsFresh};
+ghost use Rattle.sqlite_wal.specs.Files.{image_at};
+ghost use Rattle.sqlite_wal.specs.Reads.{AreClean};
 ghost use Rattle.std.specs.Prelude.{◌≡◌, ◌≤◌, None, false, true, IfErr, IfOk, IfSome, IsTrue};
-ghost use Rattle.{sqlite_wal.specs.{Reads.AreClean, Files.image_at}, pawn_opening.specs.{Closed.{AreClosedFor, IsLeftUnclosed}, FilesStand.IsBlank}};
-ghost use Rattle.pawn_opening.specs.{FilesStand.{OpensFound, RefusesHeld, StandsIn}, Opened.{OpensAs, empty_host}, Refusing.IsStoreFault};
-ghost use Rattle.{sqlite.specs.{State.HasCleanDisk, Files.{IsCleanLeft, file_state}, Held.state, Steps.over_memory}, pawn_book.specs.HostStep.Host};
-ghost use Rattle.{pawn_book.specs.Limits.most_rows, pawn_tables.specs.Keeps.Keeps, sqlite_std_file.specs.File.IsFresh, pawn_store.specs.Running.Reopens};
 
 use pawn_opening::{OpenFault, close_files, open_memory, open_path};
 use pawn_table_keeper::TableKeep;
@@ -11,8 +22,8 @@ use sqlite::{FileFrom, FileStore, Files, Leftover, MemStore, Start};
 use sqlite_disk::Disk;
 use std::alloc::Global;
 
-/// Makes a keeper over a new store in memory, without books. `limit` is the most counted rows that it may hold, 1 to
-/// 10,000,000. The error is `Store` or `Memory`.
+/// Makes a keeper over a new store in memory, without books. `limit` is the most counted rows that the store may hold,
+/// 1 to 10,000,000. The error is `Store` or `Memory`.
 pub fn keep_in_memory(alloc: Global, limit: u32) -> Result<TableKeep<MemStore>, OpenFault>
     requires least { 1 ≤ limit }
     requires most { limit ≤ most_rows }
@@ -26,12 +37,15 @@ pub fn keep_in_memory(alloc: Global, limit: u32) -> Result<TableKeep<MemStore>, 
     }
 }
 
-/// Opens the store in the file at a path as a keeper. The file is made if there is none. `start` says what may be
-/// assumed of its bytes. An empty store gets the program's tables, and this limit on counted rows, 1 to 10,000,000. One
-/// that notes the program's schema keeps its stored limit, and gets the indexes that it lacks. Whether its rows make
-/// sense is not judged. If the files hold what a crash left of a store that had answered requests, it stands for the
-/// host after all of them, or for that host with one request more. If the store is refused after its files were opened,
-/// what is left of them comes back with the reason.
+/// Opens the store in the file at a path as a keeper. The file is created if there is none. `start` determines what may
+/// be assumed of its bytes.
+///
+/// An empty store gets the program's tables, and `limit` as its limit on counted rows, 1 to 10,000,000. A store of the
+/// program's schema keeps the limit that is stored in it, and gets the indexes that it lacks. The rows are not checked.
+/// If the files hold what a crash left of a store that had answered requests, the store stands for the host after all
+/// of them, or for that host with one more request done.
+///
+/// If the store is refused after its files were opened, the rest of the files is returned with the reason.
 pub fn keep_at_path<S: Start>(
     rt: &HostRuntime,
     path: &str,
@@ -55,8 +69,8 @@ pub fn keep_at_path<S: Start>(
     }
 }
 
-/// Closes the files of a keeper and gives them back. All that was committed is then in the database file. If closing
-/// fails, the store comes back with the reason.
+/// Closes the files of a keeper and returns them. Everything that was committed is then in the database file. If
+/// closing fails, the store is returned with the reason.
 pub fn close_keep<D: Disk + Drop>(
     keep: TableKeep<FileStore<D>>,
 ) -> Result<Files<D>, (OpenFault, FileStore<D>)>

@@ -1,4 +1,4 @@
-//! Disks in memory that fail at some call, and stores on them.
+//! Disks in memory that fail from some call on, and stores on them.
 
 use pawn_opening::open_files;
 use sqlite::{Alter, Connection, FileStore, Files, Options};
@@ -9,10 +9,10 @@ use std::test::Fail;
 /// The two files of a store.
 pub type Disks = Files<Fuse<Memory>>;
 
-// More calls than a test makes.
+/// More calls than any test makes.
 const NEVER: u64 = 1_000_000;
 
-// The options of a small store, so that its log is copied into the database file while it is used.
+/// The options of a store so small that its log is copied into the database file while the store is used.
 const SMALL: Options = Options {
     cache_pages: 40,
     spill_pages: 40,
@@ -27,7 +27,7 @@ pub enum Failing {
     Database,
 }
 
-/// Disks of which one file answers so many calls, and fails at each one after them.
+/// Returns disks of which one file answers this many calls, and fails at each call after them.
 pub fn disks(alloc: Global, failing: Failing, calls: u64) -> Disks {
     let (log, db) = match failing {
         Failing::Log => (calls, NEVER),
@@ -39,7 +39,7 @@ pub fn disks(alloc: Global, failing: Failing, calls: u64) -> Disks {
     }
 }
 
-/// Whether both files would have answered one call more.
+/// Returns whether both files would have answered one more call.
 pub fn go_on(disks: &mut Disks) -> bool {
     if !disks.log.may_be_used() {
         return false;
@@ -50,14 +50,14 @@ pub fn go_on(disks: &mut Disks) -> bool {
     disks.log.len().is_ok() && disks.db.len().is_ok()
 }
 
-/// The disks after a stop: they hold what was synced, and answer again.
+/// Returns the disks after a crash: they hold what was synced, and answer again.
 pub fn crashed(mut disks: Disks) -> Disks {
     disks.log.crash();
     disks.db.crash();
     disks
 }
 
-/// Tries a stop at the first call, at the second, and so on, until what is tried meets no stop.
+/// Tries a stop at the first call, at the second, and so on, until a try meets no stop.
 pub fn until_whole<T: FnMut(u64) -> Result<bool, Fail>>(mut tried_at: T) -> Result<(), Fail>
     requires may_be_tried { (f : _) (x : _) → T.pre f x }
 {
@@ -69,17 +69,16 @@ pub fn until_whole<T: FnMut(u64) -> Result<bool, Fail>>(mut tried_at: T) -> Resu
     Err(Fail::from("each try met a stop"))
 }
 
-/// What is done with a store, of whatever kind. One function that opens a store of disks serves all that do something
-/// with one.
+/// Work on a store of any type. One function that opens a store on disks serves all kinds of work.
 pub trait Visit {
     type Found;
 
-    /// Does it. Returns what was found and the store, or none where the store has no keeper.
+    /// Does the work. Returns its result and the store, or `None` if the store has no keeper.
     fn visit<S: Alter + Drop>(&self, conn: Connection<S>) -> Option<(Self::Found, S)>;
 }
 
-// The store on the disks. If there is none, it is made with room for a hundred rows. If it is not opened, the error is
-// what is left of the disks.
+/// Returns the store on the disks. If there is none, it is created with room for a hundred rows. If it is not opened,
+/// the error is the rest of the disks.
 fn store_on(alloc: Global, disks: Disks) -> Result<Connection<FileStore<Fuse<Memory>>>, Disks> {
     if !disks.log.may_be_used() {
         return Err(disks);
@@ -93,8 +92,8 @@ fn store_on(alloc: Global, disks: Disks) -> Result<Connection<FileStore<Fuse<Mem
     }
 }
 
-// Visits a store of disks. It stands alone, since each function that calls something at a store's whole kind is dear to
-// prove.
+/// Does the work on a store on disks. This is a function of its own, because each function with a call that is generic
+/// in the store is expensive to prove.
 fn visit_on<V: Visit>(
     conn: Connection<FileStore<Fuse<Memory>>>,
     visit: &V,
@@ -102,8 +101,8 @@ fn visit_on<V: Visit>(
     visit.visit(conn)
 }
 
-/// Opens the store on the disks, which is made if there is none, visits it and closes it. Returns what was found, if the
-/// store was opened and has a keeper, and the disks that are left. None if it has none.
+/// Opens the store on the disks, which is created if there is none, does the work and closes the store. Returns the
+/// result of the work, if the store was opened, and the disks that are left. `None` if the store has no keeper.
 pub fn visited<V: Visit>(
     alloc: Global,
     disks: Disks,
@@ -118,7 +117,7 @@ pub fn visited<V: Visit>(
     }
 }
 
-/// What is found in the database on the disks, whatever it holds.
+/// Does the work on the database on the disks, whatever it holds, and returns the result.
 pub fn looked_at<V: Visit>(alloc: Global, disks: Disks, visit: &V) -> Option<V::Found> {
     if !disks.log.may_be_used() {
         return None;

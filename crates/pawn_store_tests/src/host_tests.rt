@@ -1,7 +1,7 @@
-//! Whole requests and their replies: by `run`, over lists and over tables, at the row limit, over a log that stops, and over streams
-//! and writers that are slow or fail.
+//! Tests of whole requests and their replies: by `run` over lists and over tables, at the row limit, over a log that
+//! stops, and over streams and writers that are slow or fail.
 
-// The text of a book whose rows, the first one aside, are these. It may stand after a head.
+// The text of a book, with the header and these rows, optionally after the head of a request.
 macro_rules! book_text {
     ($rows:literal $(, after $head:literal)?) => {
         concat!(
@@ -37,19 +37,19 @@ const NO_RECEIPT: &[u8] =
 const BAD_HEAD: &[u8] =
     b"HTTP/1.1 400 Bad Request\r\nContent-Length: 29\r\nContent-Type: application/json\r\n\r\n{\"code\":701,\"name\":\"BadHead\"}";
 
-// A request after which its connection closes.
+/// A request after which its connection closes.
 const CLOSING: &[u8] = b"GET /books/7/held HTTP/1.0\r\n\r\n";
 
-// A request with a field that closes its connection, and a byte after it.
+/// A request with a field that closes its connection, and a byte after the request.
 const CLOSING_FIELD: &[u8] = b"GET /books/7/held HTTP/1.1\r\nConnection: CLOSE\r\n\r\n}";
 
-// A head, and half of its body.
+/// A head, and half of its body.
 const HALF_BODY: &[u8] = b"POST / HTTP/1.1\r\nContent-Length: 2\r\n\r\n{";
 
-// Rows enough for all turns.
+/// Enough rows for all turns.
 const ROWS: u64 = 100;
 
-// A service over lists, with room for so many rows.
+/// Returns a service over a list, with room for this many rows.
 fn service_of(rt: &impl Abort, alloc: Global, rows: u64) -> Service<ListKeep> {
     service_over(rt, alloc, ListKeep::new(alloc, rows.min(2000)))
 }
@@ -62,7 +62,7 @@ fn service_over<K: Keep + Drop>(rt: &impl Abort, alloc: Global, keep: K) -> Serv
     }
 }
 
-// The stamp of a request of that day, with this word.
+/// Returns the stamp of a request on this day, with this word.
 fn stamp_on(rt: &impl Abort, day: &str, word: u128) -> Stamp {
     match RequestDay::of_text(day.as_bytes()) {
         Ok(day) => Stamp { day, word },
@@ -70,12 +70,12 @@ fn stamp_on(rt: &impl Abort, day: &str, word: u128) -> Stamp {
     }
 }
 
-// The stamp of a turn with this word.
+/// Returns the stamp of a turn with this word.
 fn stamp(rt: &impl Abort, word: u128) -> Stamp {
     stamp_on(rt, DAY, word)
 }
 
-// The bytes of an answer. There are none if memory was refused.
+/// Returns the bytes of an answer; none if the answer is `Memory`.
 fn bytes_of(answer: &Answer) -> &[u8] {
     match answer {
         Answer::Bytes(bytes) => bytes.as_slice(),
@@ -83,7 +83,7 @@ fn bytes_of(answer: &Answer) -> &[u8] {
     }
 }
 
-// Checks that the answers of a run are the replies to the turns.
+/// Checks that the answers of a run are the replies to the turns.
 fn tells_each(rt: &impl Abort, answers: &[Answer]) {
     assert_eq!(rt; answers.len(), TURNS.len());
     let mut place = 1usize;
@@ -93,7 +93,7 @@ fn tells_each(rt: &impl Abort, answers: &[Answer]) {
     }
 }
 
-// The turns as items of a run.
+/// Returns the turns as items of a run.
 fn items_of_turns(rt: &impl Abort, alloc: Global) -> Result<Vec<(Stamp, Vec<u8>)>, Fail> {
     let mut items = Vec::new(alloc);
     for turn in TURNS {
@@ -105,7 +105,7 @@ fn items_of_turns(rt: &impl Abort, alloc: Global) -> Result<Vec<(Stamp, Vec<u8>)
     Ok(items)
 }
 
-// What a run over a list answers.
+/// Returns the answers of a run over a list.
 fn run_over_list(
     rt: &impl Abort,
     alloc: Global,
@@ -114,7 +114,7 @@ fn run_over_list(
     Ok(service_of(rt, alloc, ROWS).run(items)?)
 }
 
-// What a run over the tables of a new store in memory answers.
+/// Returns the answers of a run over the tables of a new store in memory.
 fn run_in_memory(
     rt: &impl Abort,
     alloc: Global,
@@ -124,7 +124,7 @@ fn run_in_memory(
     Ok(run_over_tables(&mut service_over(rt, alloc, keep), items)?)
 }
 
-// Checks that both keepers answer with the replies to the turns.
+/// Checks that both keepers answer the turns with their replies.
 fn both_tell(rt: &impl Abort, alloc: Global, items: &[(Stamp, Vec<u8>)]) -> Result<(), Fail> {
     tells_each(rt, run_over_list(rt, alloc, items)?.as_slice());
     tells_each(rt, run_in_memory(rt, alloc, items)?.as_slice());
@@ -137,8 +137,8 @@ fn the_turns_are_answered_over_lists_and_over_tables(rt: HostRuntime) -> Result<
     both_tell(&rt, rt.alloc(), items.as_slice())
 }
 
-// How the reader and the writer of a stream behave: whether a call moves only one byte, and at which call each fails,
-// if at any.
+/// How the reader and the writer of a stream behave: whether a call moves only one byte, and at which call each fails,
+/// if any.
 #[derive(Clone, Copy)]
 struct Behaviour {
     slow: bool,
@@ -159,8 +159,8 @@ const SLOW: Behaviour = Behaviour {
     ..SOUND
 };
 
-// What came of a stream, what was written, what its reader still holds, and in which order reader, stamps and writer
-// were called.
+/// The result of a stream, the bytes that were written, how many bytes its reader still holds, and the order in which
+/// the reader, the stamps and the writer were called.
 #[derive(Drop)]
 struct Came {
     came: Result<Ended, IoFault>,
@@ -171,7 +171,7 @@ struct Came {
     calls: u64,
 }
 
-// Answers a stream over lists, with these stamps.
+/// Answers a stream over a list, with these stamps.
 fn answered(
     rt: &impl Abort,
     alloc: Global,
@@ -216,7 +216,7 @@ fn answered(
     }
 }
 
-// These bytes so many times, and others after them.
+/// Returns these bytes repeated, with others after them.
 fn repeated(alloc: Global, bytes: &[u8], times: u32, rest: &[u8]) -> Result<Vec<u8>, Fail> {
     let mut all = Vec::new(alloc);
     for _ in 0..times {
@@ -226,8 +226,8 @@ fn repeated(alloc: Global, bytes: &[u8], times: u32, rest: &[u8]) -> Result<Vec<
     Ok(all)
 }
 
-// A stream of so many requests and a rest: how it should end, how many are acted on, and what is written after their
-// replies.
+/// A stream of requests and a rest: how its session should end, how many requests it acts on, and what it writes after
+/// their replies.
 #[derive(Clone, Copy)]
 struct Stream {
     requests: u32,
@@ -237,7 +237,7 @@ struct Stream {
     last: &'static [u8],
 }
 
-// A stream after whose replies nothing is written.
+/// Returns a stream after whose replies nothing is written.
 fn ending(requests: u32, rest: &'static [u8], how: SessionEnd, acted: u32) -> Stream {
     Stream {
         requests,
@@ -248,7 +248,7 @@ fn ending(requests: u32, rest: &'static [u8], how: SessionEnd, acted: u32) -> St
     }
 }
 
-// Checks that a stream ends as it should.
+/// Checks that a stream ends as it should.
 fn ends_as(rt: &impl Abort, alloc: Global, stamps: &[Stamp], wanted: Stream) -> Result<(), Fail> {
     let stream = repeated(alloc, ASKED, wanted.requests, wanted.rest)?;
     let replies = repeated(alloc, NO_RECEIPT, wanted.acted, wanted.last)?;
@@ -328,14 +328,14 @@ fn a_stamp_then_a_reply_then_the_next_read(rt: HostRuntime) -> Result<(), Fail> 
     Ok(())
 }
 
-// Answers a stream of two requests.
+/// Answers a stream of two requests.
 fn two_answered(rt: &impl Abort, alloc: Global, behaviour: Behaviour) -> Result<Came, Fail> {
     let stream = repeated(alloc, ASKED, 2, b"")?;
     let stamps = [stamp(rt, 1); 3];
     Ok(answered(rt, alloc, stream.as_slice(), &stamps, behaviour))
 }
 
-// Checks that a session broke off for that cause after so many requests, and that so many bytes were written.
+/// Checks that a session was broken off for this cause after this many requests, and that this many bytes were written.
 fn breaks_off(rt: &impl Abort, all: &Came, cause: Cause, acted: u32, sent: u128) {
     assert!(rt; all.came == Err(IoFault { cause, acted, sent }));
     assert_eq!(rt; all.written.len() as u128, sent);

@@ -1,5 +1,5 @@
-//! A store without the two indexes is opened, and one of its files stops at some call. After that both indexes are
-//! there, or neither is, and every row is there. Each call of either file is such a stop in turn, until an opening
+//! A store without its two indexes is opened, and one of its files stops at some call. Afterwards either both indexes
+//! exist or neither does, and every row is there. Each call of either file is such a stop in turn, until an opening
 //! meets none.
 use crate::disks::{Disks, Failing, Visit, crashed, disks, go_on, looked_at, until_whole, visited};
 use crate::move_tests::{BARE, COUNTS, INDEXES, judged};
@@ -9,7 +9,7 @@ use std::alloc::Global;
 use std::process::Abort;
 use std::test::Fail;
 
-// An opening on disks: whether the store was opened, whether no call failed, and what a stop then leaves of the disks.
+/// An opening on disks: whether the store was opened, whether no call failed, and what a stop then leaves of the disks.
 #[derive(Drop)]
 struct Run {
     is_opened: bool,
@@ -17,7 +17,7 @@ struct Run {
     left: Disks,
 }
 
-// Takes the indexes from a store. What is found is whether it was done.
+/// Removes the indexes from a store. The result is whether that was done.
 #[derive(Drop)]
 struct Baring;
 
@@ -30,7 +30,7 @@ impl Visit for Baring {
     }
 }
 
-// Opens a store, and does nothing with it.
+/// Opens a store, and does nothing with it.
 #[derive(Drop)]
 struct Opening;
 
@@ -42,7 +42,7 @@ impl Visit for Opening {
     }
 }
 
-// Makes a store without indexes, closes it, and opens it. None if the disks stop before.
+/// Makes a store without indexes, closes it, and opens it again. `None` if the disks stop before that.
 fn run_on(alloc: Global, disks: Disks) -> Option<Run> {
     let (is_bare, mut left) = visited(alloc, disks, &Baring)?;
     if is_bare != Some(true) || !go_on(&mut left) {
@@ -56,7 +56,7 @@ fn run_on(alloc: Global, disks: Disks) -> Option<Run> {
     })
 }
 
-// Counts the indexes of a store, and judges it.
+/// Counts the indexes of a store, and checks the store.
 #[derive(Drop)]
 struct Judging {
     alloc: Global,
@@ -74,7 +74,7 @@ impl Visit for Judging {
     }
 }
 
-// Makes a file stop at that call. Returns whether no call failed.
+/// Makes a file stop at this call. Returns whether no call failed.
 fn stops(rt: &impl Abort, alloc: Global, failing: Failing, calls: u64) -> Result<bool, Fail> {
     let Some(run) = run_on(alloc, disks(alloc, failing, calls)) else {
         return Ok(false);
@@ -93,7 +93,7 @@ fn stops(rt: &impl Abort, alloc: Global, failing: Failing, calls: u64) -> Result
     Ok(is_whole)
 }
 
-// Makes a file stop at its first call, at its second, and so on, until an opening meets no stop.
+/// Makes a file stop at its first call, at its second, and so on, until an opening meets no stop.
 fn stops_at_each_call(rt: &impl Abort, alloc: Global, failing: Failing) -> Result<(), Fail> {
     until_whole(|calls| stops(rt, alloc, failing, calls))
 }

@@ -1,7 +1,7 @@
-//! The tests of the service over both keepers, and of the crates that open, move and run stores. They run turns over
-//! lists and over tables. They also show what no script of `tests/` can: readers and writers that fail at one call, the
-//! order of calls, and a disk that loses what was not synced. They are in a crate of their own beside `pawn_tests`, so
-//! that the two can be proved at the same time.
+//! The tests of the service over both keepers, and of the crates that open, migrate and run stores. They run the same
+//! turns over lists and over tables. They also show what no script of `tests/` can: readers and writers that fail at
+//! one call, the order of calls, and a disk that loses everything that was not synced. They are in a crate of their own
+//! next to `pawn_tests`, so that the two can be proved in parallel.
 #![tactic(auto)]
 
 #[cfg(test)]

@@ -1,6 +1,7 @@
-//! A store of an older schema, or of the program's without its indexes, is moved, and one of its files stops at some
-//! call. The tests check what is there when it is opened again. Each call of either file is such a stop in turn, until
-//! a migration meets none. The script `tests/store/migration.py` shows it by kills over files, and checks each total.
+//! A store of an older schema, or of the program's schema without its indexes, is migrated, and one of its files stops
+//! at some call. The tests check what is there when the store is opened again. Each call of either file is such a stop
+//! in turn, until a migration meets none. The script `tests/store/migration.py` shows the same by kills over files, and
+//! checks each total.
 use crate::disks::{Disks, Failing, Visit, crashed, disks, go_on, looked_at, until_whole, visited};
 use pawn_check::{CheckFault, Counts, check};
 use pawn_move::{MoveFault, migrate, schema_of};
@@ -10,7 +11,7 @@ use std::alloc::Global;
 use std::process::Abort;
 use std::test::Fail;
 
-// Makes an empty store of the program's schema into one of the first, with a book whose one pledge has an entry.
+/// Turns an empty store of the program's schema into one of schema 1, with a book whose only pledge has an entry.
 const FIRST: &str =
     "INSERT INTO books VALUES (7, X'00000000000000000000000000000001', 'High Street', 2, 1, 1, NULL, NULL); INSERT INTO terms VALUES (7, 1, 2667, 0, 0); \
         INSERT INTO pledges VALUES (7, 1, 'A1', 'Gold ring', 0, 10000, 19723, NULL, 0, 1, 19905, 0, 19753, 0, NULL, NULL); \
@@ -18,7 +19,7 @@ const FIRST: &str =
         UPDATE meta SET value = 5 WHERE name = 'rows'; DROP INDEX bookings_by_time; DROP INDEX pledges_by_end; DROP TABLE extensions; DROP TABLE totals; \
         UPDATE meta SET value = 1 WHERE name = 'schema'";
 
-// Makes it into one of the second schema, which has the totals of the pledge on the day of its entry.
+/// Turns it into one of schema 2, which has the totals of the pledge on the day of its entry.
 const SECOND: &str =
     "INSERT INTO books VALUES (7, X'00000000000000000000000000000001', 'High Street', 2, 1, 1, NULL, NULL); INSERT INTO terms VALUES (7, 1, 2667, 0, 0); \
         INSERT INTO pledges VALUES (7, 1, 'A1', 'Gold ring', 0, 10000, 19723, NULL, 0, 1, 19905, 0, 19753, 0, NULL, NULL); \
@@ -26,7 +27,7 @@ const SECOND: &str =
         INSERT INTO totals VALUES (7, 1, 19753, 9800, 100000); UPDATE meta SET value = 5 WHERE name = 'rows'; DROP INDEX bookings_by_time; \
         DROP INDEX pledges_by_end; DROP TABLE extensions; UPDATE meta SET value = 2 WHERE name = 'schema'";
 
-// Makes it into one of the program's schema without its indexes, as earlier releases made it.
+/// Turns it into one of the program's schema without its indexes, as earlier releases made it.
 pub const BARE: &str =
     "INSERT INTO books VALUES (7, X'00000000000000000000000000000001', 'High Street', 2, 1, 1, NULL, NULL); INSERT INTO terms VALUES (7, 1, 2667, 0, 0); \
         INSERT INTO pledges VALUES (7, 1, 'A1', 'Gold ring', 0, 10000, 19723, NULL, 0, 1, 19905, 0, 19753, 0, NULL, NULL); \
@@ -34,7 +35,7 @@ pub const BARE: &str =
         INSERT INTO totals VALUES (7, 1, 19753, 9800, 100000); UPDATE meta SET value = 5 WHERE name = 'rows'; DROP INDEX bookings_by_time; \
         DROP INDEX pledges_by_end";
 
-// A store that is moved: the number of its schema, and what makes such a store.
+/// A store to be migrated: the number of its schema, and the statements that make such a store.
 #[derive(Clone, Copy)]
 struct Older {
     number: u32,
@@ -56,18 +57,18 @@ const OLDER: [Older; 3] = [
     },
 ];
 
-/// What each of these stores holds.
+/// The counts of each of these stores.
 pub const COUNTS: Counts = Counts {
     books: 1,
     pledges: 1,
     rows: 5,
 };
 
-// The numbers of the schemas from which and to which a store is moved.
+/// The result of a migration: the numbers of the schemas before and after it.
 type Moved = Result<(u32, u32), MoveFault>;
 
-// Makes a store one of an older schema, and moves it. What is found is how the migration ended, or none if the store
-// stops before it.
+/// Turns a store into one of an older schema, and migrates it. The result is that of the migration, or `None` if the
+/// store stops before it.
 #[derive(Drop)]
 struct Moving {
     alloc: Global,
@@ -84,7 +85,7 @@ impl Visit for Moving {
     }
 }
 
-// A migration on disks: how it ended, whether no call failed, and what a stop then leaves of the disks.
+/// A migration on disks: its result, whether no call failed, and what a stop then leaves of the disks.
 #[derive(Drop)]
 struct Run {
     end: Moved,
@@ -92,7 +93,7 @@ struct Run {
     left: Disks,
 }
 
-// A migration of a store of an older schema. None if the disks stop before it.
+/// Migrates a store of an older schema. `None` if the disks stop before that.
 fn run_on(alloc: Global, disks: Disks, older: Older) -> Option<Run> {
     let (end, mut left) = visited(alloc, disks, &Moving { alloc, older })?;
     let end = end??;
@@ -104,10 +105,10 @@ fn run_on(alloc: Global, disks: Disks, older: Older) -> Option<Run> {
     })
 }
 
-// How many indexes a store of the program has: ten of keys, and two by which a day is read.
+/// The number of indexes in a store of the program: ten for keys, and two for reading a day.
 pub const INDEXES: usize = 12;
 
-/// How many indexes a store has, how it is judged, and the store. None if it has no keeper.
+/// Returns the number of indexes in a store, the result of a check, and the store. `None` if the store has no keeper.
 pub fn judged<S: Alter + Drop>(
     alloc: Global,
     conn: Connection<S>,
@@ -118,7 +119,8 @@ pub fn judged<S: Alter + Drop>(
     Some((indexes, judged, keep.into_connection().into_store()))
 }
 
-// What is found on the disks: the number of the schema, how they are moved then, how many indexes they have, and how they are judged.
+/// What is found on the disks: the number of the schema, the result of another migration, the number of indexes, and
+/// the result of a check.
 #[derive(Clone, Copy)]
 struct Found {
     number: u32,
@@ -127,7 +129,7 @@ struct Found {
     judged: Result<Counts, CheckFault>,
 }
 
-// Moves a store once more, and judges it.
+/// Migrates a store once more, and checks it.
 #[derive(Drop)]
 struct Judging {
     alloc: Global,
@@ -153,8 +155,8 @@ impl Visit for Judging {
     }
 }
 
-// Checks what is found after a migration that ended so: the old tables are there, or the new ones, and they are moved
-// and judged.
+/// Checks what is found after a migration with this result: either the old tables or the new ones are there, they can
+/// be migrated, and a check finds no damage.
 fn agrees(rt: &impl Abort, older: Older, end: Moved, found: Found, failing: Failing, calls: u64) {
     let number = found.number;
     match end {
@@ -178,7 +180,7 @@ fn agrees(rt: &impl Abort, older: Older, end: Moved, found: Found, failing: Fail
     assert!(rt; found.judged == Ok(COUNTS), "{calls} calls of {failing:?}");
 }
 
-// Makes a file stop at that call, and checks what is found. Returns whether no call failed.
+/// Makes a file stop at this call, and checks what is found. Returns whether no call failed.
 fn stops(
     rt: &impl Abort,
     alloc: Global,
@@ -195,7 +197,7 @@ fn stops(
     Ok(is_whole)
 }
 
-// Makes a file stop at its first call, at its second, and so on, until a migration meets no stop.
+/// Makes a file stop at its first call, at its second, and so on, until a migration meets no stop.
 fn stops_at_each_call(rt: &impl Abort, alloc: Global, failing: Failing) -> Result<(), Fail> {
     for older in OLDER {
         until_whole(|calls| stops(rt, alloc, older, failing, calls))?;

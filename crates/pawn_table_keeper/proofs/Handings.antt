@@ -1,9 +1,13 @@
 -- Calls that hand over one list after another.
-use Rattle.std.proofs.Common.{◌≡◌, ◌++◌, ℕ, suc, ◌+◌, ◌-◌, ◌<◌, ◌≤◌, List, [], ◌∷◌, length, length-append, Result, Ok, Err, inl, inr, refl, sym, ap, subst, ◌∙◌}
-use Rattle.{std.proofs.Common.{append_assoc, append-nil, arith, IfErr}, pawn_table_keeper.specs.Common.{flat_map, Host, Errs, Keeping, Reads, windows}}
-use Rattle.pawn_table_keeper.specs.Common.{windows_below, Handed, HandsOver, IsShare, Visits, Whole, call_end, KeepError, NoRecord, Flow, Go, Stop}
-use Rattle.{pawn_table_keeper.{specs.Handing.{HandsRows, flow_of}, proofs.Walks.errs_ok}, pawn_book.proofs.Reading.{reads_as, reads_none, reads_then}}
+use Rattle.pawn_book.proofs.Reading.{reads_as, reads_none, reads_then}
 use Rattle.pawn_book.proofs.SheetLemmas.{handed-append, windows_begin, windows_more}
+use Rattle.pawn_table_keeper.proofs.Walks.{errs_ok}
+use Rattle.pawn_table_keeper.specs.Common.{flat_map, Host, Errs, Keeping, Reads, windows, windows_below, Handed}
+use Rattle.pawn_table_keeper.specs.Common.{HandsOver, IsShare, Visits, Whole, call_end, KeepError, NoRecord, Flow, Go}
+use Rattle.pawn_table_keeper.specs.Common.{Stop}
+use Rattle.pawn_table_keeper.specs.Handing.{HandsRows, flow_of}
+use Rattle.std.proofs.Common.{◌≡◌, ◌++◌, ℕ, suc, ◌+◌, ◌-◌, ◌<◌, ◌≤◌, List, [], ◌∷◌, length, length-append, Result, Ok}
+use Rattle.std.proofs.Common.{Err, inl, inr, refl, sym, ap, subst, ◌∙◌, append_assoc, append-nil, arith, IfErr}
 use Rattle.pawn_book.specs.declared.fault.KeepError.TheVariants as Keeper
 
 -- the errors of a call after a read

@@ -1,9 +1,18 @@
 -- A read of a keeper: a transaction that is lent, and rolled back.
-use Rattle.{one_table.{proofs.{Lent.clean_before, Parts.{rests_open, committed_rests}}, specs.Lending.{IsLent, Lends, Rests}}, pawn_saving.proofs.Saved.no_more}
-use Rattle.pawn_table_keeper.specs.Common.{Held, state, HasCleanDisk, State, Host, Errs, Reads, KeepError, NoRecord, StandsFor, IsUnsoundAt}
-use Rattle.{pawn_table_keeper.specs.{Handing.{keeping_of, ReadsOfBook}, declared.keeper.TableKeep.TableKeep}, sqlite_trees.specs.declared.store.Store.Ghosts}
-use Rattle.{pawn_tables.specs.{Finding.{Finds, FindsBy, FindsIn}, Keeps.{IsWhole, Keeps, keeping_by}}, sqlite.specs.State.{IsRolledBack, KeepsCommit, Survives}}
-use Rattle.std.{proofs.Common.{◌≡◌, true, false, Result, Ok, Err, IsTrue, refl, sym, subst, ◌∙◌, arith, IfOk, is_ok, ℕ}, specs.Borrow.MutBor}
+use Rattle.one_table.proofs.Lent.{clean_before}
+use Rattle.one_table.proofs.Parts.{rests_open, committed_rests}
+use Rattle.one_table.specs.Lending.{IsLent, Lends, Rests}
+use Rattle.pawn_saving.proofs.Saved.{no_more}
+use Rattle.pawn_table_keeper.specs.Common.{Held, state, HasCleanDisk, State, Host, Errs, Reads, KeepError, NoRecord}
+use Rattle.pawn_table_keeper.specs.Common.{StandsFor, IsUnsoundAt}
+use Rattle.pawn_table_keeper.specs.Handing.{keeping_of, ReadsOfBook}
+use Rattle.pawn_table_keeper.specs.declared.keeper.TableKeep.{TableKeep}
+use Rattle.pawn_tables.specs.Finding.{Finds, FindsBy, FindsIn}
+use Rattle.pawn_tables.specs.Keeps.{IsWhole, Keeps, keeping_by}
+use Rattle.sqlite.specs.State.{IsRolledBack, KeepsCommit, Survives}
+use Rattle.sqlite_trees.specs.declared.store.Store.{Ghosts}
+use Rattle.std.proofs.Common.{◌≡◌, true, false, Result, Ok, Err, IsTrue, refl, sym, subst, ◌∙◌, arith, IfOk, is_ok, ℕ}
+use Rattle.std.specs.Borrow.{MutBor}
 use Rattle.pawn_book.specs.declared.fault.KeepError.TheVariants as Keeper
 
 -- what was found, alone

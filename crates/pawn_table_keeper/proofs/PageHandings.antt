@@ -1,8 +1,14 @@
 -- Pages that are handed over.
-use Rattle.std.proofs.Common.{◌≤◌, ◌≡◌, ◌++◌, ℕ, zero, suc, ◌+◌, ◌*◌, ◌<◌, List, [], ◌∷◌, length, map, take, drop, get_or, Ok, refl, sym, ap, subst, ◌∙◌}
-use Rattle.std.proofs.{Common.{append-nil, arith, drop-drop, take_all, take-append-drop}, lemmas.List.{map-append, take_more}}
-use Rattle.pawn_table_keeper.specs.{Common.{Host, Keeping, Reads, Handed, HandsOver, Flow, Go, Stop, most_page_rows, page_behind}, Handing.HandsRows}
-use Rattle.{pawn_table_keeper.proofs.Handings.{HandedTo, ends_by, goes_by, stops_by}, pawn_book.proofs.{Reading.reads_as, VisitLemmas.handed-snoc}}
+use Rattle.pawn_book.proofs.Reading.{reads_as}
+use Rattle.pawn_book.proofs.VisitLemmas.{handed-snoc}
+use Rattle.pawn_table_keeper.proofs.Handings.{HandedTo, ends_by, goes_by, stops_by}
+use Rattle.pawn_table_keeper.specs.Common.{Host, Keeping, Reads, Handed, HandsOver, Flow, Go, Stop, most_page_rows}
+use Rattle.pawn_table_keeper.specs.Common.{page_behind}
+use Rattle.pawn_table_keeper.specs.Handing.{HandsRows}
+use Rattle.std.proofs.Common.{◌≤◌, ◌≡◌, ◌++◌, ℕ, zero, suc, ◌+◌, ◌*◌, ◌<◌, List, [], ◌∷◌, length, map, take, drop}
+use Rattle.std.proofs.Common.{get_or, Ok, refl, sym, ap, subst, ◌∙◌, append-nil, arith, drop-drop, take_all}
+use Rattle.std.proofs.Common.{take-append-drop}
+use Rattle.std.proofs.lemmas.List.{map-append, take_more}
 
 module _ {V A T : Type 0} (step : V → T → Flow → V → Type 0) (shows : A → T) (xs : List A) where
   -- all were handed over

@@ -1,8 +1,12 @@
 -- The first page of a part's lines.
-use Rattle.std.proofs.Common.{◌≡◌, ◌≢◌, ◌==◌, ◌∙◌, ◌++◌, ◌<◌, ◌≤◌, ℕ, zero, suc, Bool, true, false, cond, List, [], ◌∷◌, length, map, refl, sym, ap, append-nil}
-use Rattle.{std.proofs.Common.arith, pawn_table_keeper.specs.Common.{flat_map, list_any, PledgeValue, part_items, window_items, window_sheet, windows_below}}
-use Rattle.pawn_table_keeper.specs.Common.{windows_sheet, with_head, Part, SheetItem, IsLinesPage, NamesWindows, item_of, items_past, most_page_rows, page_end}
-use Rattle.{pawn_table_keeper.specs.Windows.{named_sheet, named_sheets}, pawn_book.proofs.SheetLemmas.windows_more, pawn_tables.specs.declared.line.Line.Line}
+use Rattle.pawn_book.proofs.SheetLemmas.{windows_more}
+use Rattle.pawn_table_keeper.specs.Common.{flat_map, list_any, PledgeValue, part_items, window_items, window_sheet}
+use Rattle.pawn_table_keeper.specs.Common.{windows_below, windows_sheet, with_head, Part, SheetItem, IsLinesPage}
+use Rattle.pawn_table_keeper.specs.Common.{NamesWindows, item_of, items_past, most_page_rows, page_end}
+use Rattle.pawn_table_keeper.specs.Windows.{named_sheet, named_sheets}
+use Rattle.pawn_tables.specs.declared.line.Line.{Line}
+use Rattle.std.proofs.Common.{◌≡◌, ◌≢◌, ◌==◌, ◌∙◌, ◌++◌, ◌<◌, ◌≤◌, ℕ, zero, suc, Bool, true, false, cond, List, [], ◌∷◌}
+use Rattle.std.proofs.Common.{length, map, refl, sym, ap, append-nil, arith}
 use Rattle.pawn_book.specs.declared.sheet.Part.TheVariants as part_of
 
 abbrev items_of : Part → List Line → List SheetItem

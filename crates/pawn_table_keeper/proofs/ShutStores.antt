@@ -1,10 +1,18 @@
 -- A store that is asked whether it is shut.
-use Rattle.{pawn_saving.proofs.Saved.no_more, pawn_table_keeper.specs.Common.{HasCleanDisk, State, Host, Reads, StandsFor}, pawn_tables.specs.Keeps.Keeps}
-use Rattle.{pawn_tables.specs.Keeps.keeping_by, sqlite.specs.State.{HasCause, IsNoStatement, IsNotRun, IsRolledBack, IsUnchanged, Survives, store_error}}
-use Rattle.{sqlite.specs.declared.error.{Error.{Error, TheVariants.SqliteFailure}, ErrorCode.TheVariants.Closed}, sqlite_trees.proofs.Doubt.no_doubt}
-use Rattle.sqlite_trees.specs.declared.error.StoreError.{StoreError, TheVariants.{OutOfMemory, Io, Corrupt, Full, Broken, Unstorable}}
-use Rattle.{sqlite_value.specs.Order.Row, std.proofs.Common.{◌≡◌, ◌⊎◌, inl, inr, ℕ, Bool, true, false, IsTrue, List, [], Result, Ok, Err, IfOk, IfErr, refl}}
-use Rattle.std.proofs.{Common.{sym, subst, ◌∙◌, arith}, lemmas.Bool.true_from_ne_false}
+use Rattle.pawn_saving.proofs.Saved.{no_more}
+use Rattle.pawn_table_keeper.specs.Common.{HasCleanDisk, State, Host, Reads, StandsFor}
+use Rattle.pawn_tables.specs.Keeps.{Keeps, keeping_by}
+use Rattle.sqlite.specs.State.{HasCause, IsNoStatement, IsNotRun, IsRolledBack, IsUnchanged, Survives, store_error}
+use Rattle.sqlite.specs.declared.error.Error.{Error}
+use Rattle.sqlite.specs.declared.error.Error.TheVariants.{SqliteFailure}
+use Rattle.sqlite.specs.declared.error.ErrorCode.TheVariants.{Closed}
+use Rattle.sqlite_trees.proofs.Doubt.{no_doubt}
+use Rattle.sqlite_trees.specs.declared.error.StoreError.{StoreError}
+use Rattle.sqlite_trees.specs.declared.error.StoreError.TheVariants.{OutOfMemory, Io, Corrupt, Full, Broken, Unstorable}
+use Rattle.sqlite_value.specs.Order.{Row}
+use Rattle.std.proofs.Common.{◌≡◌, ◌⊎◌, inl, inr, ℕ, Bool, true, false, IsTrue, List, [], Result, Ok, Err, IfOk, IfErr}
+use Rattle.std.proofs.Common.{refl, sym, subst, ◌∙◌, arith}
+use Rattle.std.proofs.lemmas.Bool.{true_from_ne_false}
 
 -- ---- it keeps what it kept
 

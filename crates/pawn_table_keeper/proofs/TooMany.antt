@@ -1,15 +1,24 @@
 -- Lists that are longer than those of a sound book.
+use Rattle.pawn_book.proofs.Sounds.{each_at}
+use Rattle.pawn_book.specs.Limits.{most_pledges}
+use Rattle.pawn_debt.specs.Limits.{most_entries}
+use Rattle.pawn_pledge.specs.Limits.{most_extensions, most_secrets}
+use Rattle.pawn_pledge.specs.Replayable.{IsReachable}
+use Rattle.pawn_table_keeper.specs.Common.{get, cons_option, filter_map, PledgeValue, BookValue, pledge_in, Host}
+use Rattle.pawn_table_keeper.specs.Common.{entries_of, extensions_of, pledges_of, secrets_of, part_item, part_items}
+use Rattle.pawn_table_keeper.specs.Common.{IsSoundAt, IsUnsoundAt, Part}
 use Rattle.std.proofs.Common.{◌≡◌, ◌≤◌, ◌<◌, ℕ, suc, List, [], ◌∷◌, length, Option, Some, None, refl, ap, arith}
-use Rattle.pawn_table_keeper.specs.Common.{get, cons_option, filter_map, PledgeValue, BookValue, pledge_in, Host, entries_of, extensions_of, pledges_of}
-use Rattle.{pawn_table_keeper.specs.Common.{secrets_of, part_item, part_items, IsSoundAt, IsUnsoundAt, Part}, pawn_debt.specs.Limits.most_entries}
-use Rattle.{pawn_pledge.specs.{Limits.{most_extensions, most_secrets}, Replayable.IsStanding}, pawn_book.{specs.Limits.most_pledges, proofs.Sounds.each_at}}
 
 -- of a pledge, where the rules bound the list of each that can stand
 module _ {T : Type 0} (list : Option PledgeValue → List T) (most : ℕ) (none : list None ≡ [])
-    (few : (p : PledgeValue) → IsStanding p → length (list (Some p)) ≤ most) (h : Host) (b n : ℕ) where
+    (few : (p : PledgeValue) → IsReachable p → length (list (Some p)) ≤ most) (h : Host) (b n : ℕ) where
   in_book : (k : BookValue) (o : Option PledgeValue) → pledge_in (Some k) n ≡ o → most < length (list o) → IsSoundAt b k → ⊥
   in_book k None is above sound = let empty = ap length none in absurd (omega (arith, above, empty))
-  in_book k (Some p) is above sound = let within = few p (each_at IsStanding 1 k.pledges n p sound.1.rows.standing is) in absurd (omega (arith, above, within))
+  in_book k (Some p) is above sound = let within = few p (each_at IsReachable 1 k.pledges n p sound.1.rows.reachable is) in absurd (omega (
+    arith,
+    above,
+    within,
+  ))
 
   pub too_many : most < length (list (pledge_in (get h.books b) n)) → IsUnsoundAt b h
   too_many above = of_book (get h.books b) refl above where

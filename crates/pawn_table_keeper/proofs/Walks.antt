@@ -1,8 +1,13 @@
 -- A list that is handed over element by element, each of them read by a call of its own.
-use Rattle.{pawn_base.proofs.ListLemmas.{take_next, take_past}, pawn_book.proofs.{Reading.{reads_none, reads_then}, VisitLemmas.handed-snoc}}
-use Rattle.{pawn_book.specs.Visits.End, std.proofs.Common.{◌≡◌, ◌≤◌, ◌<◌, ◌++◌, ℕ, zero, suc, ◌+◌, List, length, length-append, [], ◌∷◌, take, drop, slice_get}}
-use Rattle.std.proofs.Common.{Some, None, Result, Ok, Err, refl, sym, ap, subst, ◌∙◌, arith, append-nil, IfErr, take-append-drop}
-use Rattle.pawn_table_keeper.specs.Common.{Host, Errs, Keeping, Reads, Front, Handed, IsShare, Visits, Whole, KeepError, Database, NoRecord, Flow, Go, Stop}
+use Rattle.pawn_base.proofs.ListLemmas.{take_next, take_past}
+use Rattle.pawn_book.proofs.Reading.{reads_none, reads_then}
+use Rattle.pawn_book.proofs.VisitLemmas.{handed-snoc}
+use Rattle.pawn_book.specs.Visits.{End}
+use Rattle.pawn_table_keeper.specs.Common.{Host, Errs, Keeping, Reads, Front, Handed, IsShare, Visits, Whole, KeepError}
+use Rattle.pawn_table_keeper.specs.Common.{Database, NoRecord, Flow, Go, Stop}
+use Rattle.std.proofs.Common.{◌≡◌, ◌≤◌, ◌<◌, ◌++◌, ℕ, zero, suc, ◌+◌, List, length, length-append, [], ◌∷◌, take, drop}
+use Rattle.std.proofs.Common.{slice_get, Some, None, Result, Ok, Err, refl, sym, ap, subst, ◌∙◌, arith, append-nil}
+use Rattle.std.proofs.Common.{IfErr, take-append-drop}
 use Rattle.pawn_book.specs.declared.fault.KeepError.TheVariants as Keeper
 
 take_at_most : {A : Type 0} (n : ℕ) (xs : List A) → length (take n xs) ≤ length xs

@@ -1,7 +1,16 @@
--- The words of the crates below with which the keeper's calls are spoken of, gathered in one place.
-pub use Rattle.{std.specs.List.{filter_map, flat_map}, pawn_book.specs.{Keeping.{Errs, Reads}, Sheet.{day_sheet, part_head, window_items, window_sheet}}}
-pub use Rattle.pawn_book.specs.{Sheet.{windows, windows_below, windows_sheet, with_head}, Visits.{Front, Handed, HandsOver, IsShare, Visits, Whole, call_end}}
-pub use Rattle.{pawn_book.specs.declared.visit.Flow.{Flow, TheVariants.{Go, Stop}}, pawn_tables.specs.Common.{Database, Held, IsSoundAt, IsUnsoundAt}}
-pub use Rattle.pawn_tables.specs.Common.{KeepError, Keeping, NoRecord, Part, SheetItem, cons_option, part_item, part_items, pledges_of, BookValue, HasCleanDisk}
-pub use Rattle.pawn_tables.specs.{Common.{Host, PledgeValue, State, entries_of, extensions_of, get, list_any, pledge_in, secrets_of, state}, Pages.page_end}
-pub use Rattle.pawn_tables.specs.{Pages.most_page_rows, Lines.{IsLinesPage, NamesWindows, item_of, items_past}, Places.page_behind, StandsFor.StandsFor}
+-- Re-exports the definitions of other crates that this crate's contracts use.
+pub use Rattle.pawn_book.specs.Keeping.{Errs, Reads}
+pub use Rattle.pawn_book.specs.Sheet.{day_sheet, part_head, window_items, window_sheet, windows, windows_below}
+pub use Rattle.pawn_book.specs.Sheet.{windows_sheet, with_head}
+pub use Rattle.pawn_book.specs.Visits.{Front, Handed, HandsOver, IsShare, Visits, Whole, call_end}
+pub use Rattle.pawn_book.specs.declared.visit.Flow.{Flow}
+pub use Rattle.pawn_book.specs.declared.visit.Flow.TheVariants.{Go, Stop}
+pub use Rattle.pawn_tables.specs.Common.{Database, Held, IsSoundAt, IsUnsoundAt, KeepError, Keeping, NoRecord, Part}
+pub use Rattle.pawn_tables.specs.Common.{SheetItem, cons_option, part_item, part_items, pledges_of, BookValue}
+pub use Rattle.pawn_tables.specs.Common.{HasCleanDisk, Host, PledgeValue, State, entries_of, extensions_of, get}
+pub use Rattle.pawn_tables.specs.Common.{list_any, pledge_in, secrets_of, state}
+pub use Rattle.pawn_tables.specs.Lines.{IsLinesPage, NamesWindows, item_of, items_past}
+pub use Rattle.pawn_tables.specs.Pages.{page_end, most_page_rows}
+pub use Rattle.pawn_tables.specs.Places.{page_behind}
+pub use Rattle.pawn_tables.specs.StandsFor.{StandsFor}
+pub use Rattle.std.specs.List.{filter_map, flat_map}

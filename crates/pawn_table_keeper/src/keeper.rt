@@ -1,5 +1,8 @@
-ghost use Rattle.std.{specs.Prelude.{◌≡◌, IfErr, IfOk, IsTrue, false, unwrap_or}, proofs.Props.props};
-ghost use Rattle.{pawn_table_keeper.specs.Common.{state, Reads}, pawn_tables.specs.Keeps.keeping_by};
+//! The keeper `TableKeep`, and its implementation of `Keep`.
+ghost use Rattle.pawn_table_keeper.specs.Common.{state, Reads};
+ghost use Rattle.pawn_tables.specs.Keeps.{keeping_by};
+ghost use Rattle.std.proofs.Props.{props};
+ghost use Rattle.std.specs.Prelude.{◌≡◌, IfErr, IfOk, IsTrue, false, unwrap_or};
 
 mod handing;
 mod lists;
@@ -17,13 +20,13 @@ use pawn_tables::{
 use sqlite::{Alter, Connection, Error, ErrorCode};
 use std::alloc::Global;
 
-// The error for a list that is longer than any sound book's: the stored rows are no record.
+/// The error for a list that is longer than any list of a sound book can be.
 const TOO_MANY: KeepError = KeepError::Store(StoreFault::NoRecord);
 
-// The error for a number that 32 bits can't hold.
+/// The error for a number that does not fit in 32 bits.
 const BEYOND: KeepError = KeepError::Store(StoreFault::Database);
 
-/// A keeper of books in the tables of a database. Between calls no transaction is under way.
+/// A keeper that has its books in the tables of a database. Between calls no transaction is under way.
 #[derive(Drop)]
 pub struct TableKeep<S: Alter> {
     alloc: Global,
@@ -32,7 +35,7 @@ pub struct TableKeep<S: Alter> {
 }
 
 impl<S: Alter> TableKeep<S> {
-    /// Makes a keeper over a connection. If a transaction is under way, the connection is handed back as the error.
+    /// Makes a keeper over a connection. If a transaction is under way, the error is the connection.
     pub fn over(alloc: Global, conn: Connection<S>) -> Result<TableKeep<S>, Connection<S>>
         ensures same { IfOk result (λ k. k.conn ≡ conn) }
         ensures refused { IfErr result (λ back. (back ≡ conn) × IsTrue conn.in_transaction) }
@@ -44,7 +47,7 @@ impl<S: Alter> TableKeep<S> {
         }
     }
 
-    /// Gives the keeper's connection back. No transaction is under way on it.
+    /// Returns the keeper's connection. No transaction is under way on it.
     pub fn into_connection(self) -> Connection<S>
         ensures same { result ≡ self.conn }
         ensures rests { result.in_transaction ≡ false }
@@ -52,8 +55,9 @@ impl<S: Alter> TableKeep<S> {
         self.conn
     }
 
-    /// Whether a fault has shut the store, so that it answers nothing more until it is opened anew. To find out, an
-    /// empty statement is prepared, which only a shut store refuses as closed. Nothing stored changes.
+    /// If this returns true, a fault has shut the store, which then answers no request until it is opened again. The
+    /// body prepares an empty statement, which a shut store refuses as closed. Nothing stored changes. No contract
+    /// states that the answer is true for every shut store.
     pub fn is_shut(&mut self) -> bool
         ensures reads { Reads (keeping_by (λ k. state S.Store k.conn)) self.old self.new (λ h. Unit {0}) }
         ensures shut { IsTrue result → (state S.Store self.new.conn).is_open ≡ false }
@@ -67,8 +71,8 @@ impl<S: Alter> TableKeep<S> {
 }
 
 impl<S: Alter> Keep for TableKeep<S> {
-    ghost use Rattle.sqlite.specs.Held.{state};
     ghost use Rattle.pawn_tables.specs.Keeps.{keeping_by};
+    ghost use Rattle.sqlite.specs.Held.{state};
 
     ghost keeping = { keeping_by (λ k. state S.Store k.conn) };
 
@@ -207,7 +211,7 @@ impl<S: Alter> Keep for TableKeep<S> {
     ghost whole_is_sound = { tables_whole_is_sound _ };
 }
 
-// The number above which the next book is looked for: 0 if none is given.
+/// The number itself, or 0 if there is none: the next book has a greater number.
 fn bound(after: Option<Number>) -> u32
     ensures value { result ≡ unwrap_or after 0 }
 {

@@ -1,14 +1,28 @@
 -- What the queries of a book show, where the tables stand for a host.
-use Rattle.std.proofs.Common.{◌≡◌, ◌==◌, ℕ, ◌≤◌, ◌<◌, List, [], ◌∷◌, map, filter, take, codes, Bool, true, false, cond, Option, Some, None, T, refl, sym, ap}
-use Rattle.std.proofs.{Common.{subst, ◌∙◌, arith, IsPermutation, nat_lt, find, option_map, nat_le}, Math.Bool.and-true, lemmas.List.Concat.flat_map_single}
-use Rattle.{std.specs.{Cmp.Lexicographic.texts_ties, Prelude.pos}, pawn_tables.specs.Common.{entries, entries_sorted, find_key, get, get-entries, is_sorted}}
-use Rattle.pawn_tables.specs.Common.{below_all, AllByRecursion, list_all, is_eq, is_ge, is_gt, is_lt, nat_cmp, Less, binary, Row, column, value_cmp, Shown}
-use Rattle.pawn_tables.specs.{Common.{State, Table, IsAscending, Text, BookValue, Host, rows, IsNextBook, is_same_text}, At.{at_book, is_above, is_at}}
-use Rattle.pawn_tables.specs.{At.{is_below, is_from}, Heads.number_cells, Meta.{meta_row, meta_rows}, Ours.with_indexes, Rows.{at_most_one, book_row}}
-use Rattle.pawn_tables.specs.{Rows.{head_cells, number}, Schema.{books, books_tree, meta, meta_tree}, StandsFor.{ListDebts, StandsFor}}
-use Rattle.pawn_tables.proofs.{RowsUnderKey.{both_pass, lower_key, same_key, truth_of, equals, less, of_one_book, rows_at}, Basics.{nat_tests, filter_agree}}
-use Rattle.pawn_tables.proofs.{Basics.{ascending-filter, filter-map, map-map, value_cmp-Int, value_cmp-Text}, PledgeReads.{few_of, one_mapped, one_listed}}
 use Rattle.one_table.proofs.Found.{shown_first, shown_listed}
+use Rattle.pawn_tables.proofs.Basics.{nat_tests, filter_agree, ascending-filter, filter-map, map-map, value_cmp-Int}
+use Rattle.pawn_tables.proofs.Basics.{value_cmp-Text}
+use Rattle.pawn_tables.proofs.PledgeReads.{few_of, one_mapped, one_listed}
+use Rattle.pawn_tables.proofs.RowsUnderKey.{both_pass, lower_key, same_key, truth_of, equals, less, of_one_book}
+use Rattle.pawn_tables.proofs.RowsUnderKey.{rows_at}
+use Rattle.pawn_tables.specs.At.{at_book, is_above, is_at, is_below, is_from}
+use Rattle.pawn_tables.specs.Common.{entries, entries_sorted, find_key, get, get-entries, is_sorted, below_all}
+use Rattle.pawn_tables.specs.Common.{AllByRecursion, list_all, is_eq, is_ge, is_gt, is_lt, nat_cmp, Less, binary, Row}
+use Rattle.pawn_tables.specs.Common.{column, value_cmp, Shown, State, Table, IsAscending, Text, BookValue, Host, rows}
+use Rattle.pawn_tables.specs.Common.{IsNextBook, is_same_text}
+use Rattle.pawn_tables.specs.Heads.{number_cells}
+use Rattle.pawn_tables.specs.Meta.{meta_row, meta_rows}
+use Rattle.pawn_tables.specs.Ours.{with_indexes}
+use Rattle.pawn_tables.specs.Rows.{at_most_one, book_row, head_cells, number}
+use Rattle.pawn_tables.specs.Schema.{books, books_tree, meta, meta_tree}
+use Rattle.pawn_tables.specs.StandsFor.{ListDebts, StandsFor}
+use Rattle.std.proofs.Common.{◌≡◌, ◌==◌, ℕ, ◌≤◌, ◌<◌, List, [], ◌∷◌, map, filter, take, codes, Bool, true, false, cond}
+use Rattle.std.proofs.Common.{Option, Some, None, T, refl, sym, ap, subst, ◌∙◌, arith, IsPermutation, nat_lt, find}
+use Rattle.std.proofs.Common.{option_map, nat_le}
+use Rattle.std.proofs.Math.Bool.{and-true}
+use Rattle.std.proofs.lemmas.List.Concat.{flat_map_single}
+use Rattle.std.specs.Cmp.Lexicographic.{texts_ties}
+use Rattle.std.specs.Prelude.{pos}
 use Rattle.pawn_tables.proofs.ReadTexts as text
 
 -- SQL's > on numbers

@@ -1,10 +1,19 @@
 -- What a query that counts the rows of a table shows.
-use Rattle.std.proofs.Common.{◌≡◌, ℕ, min, List, [], ◌∷◌, length, map, filter, Bool, false, sym, ap, ◌∙◌, IsPermutation, Some}
-use Rattle.pawn_tables.specs.Common.{AllZip, Binary, Row, Schema, Shown, State, Table, Env, Term, lit, Trees, Null, Holds, columns_of}
-use Rattle.pawn_tables.proofs.Basics.{length-map, filter_agree, length_permutation, IsPermutation-filter, filter-map, around, gathered, over_table, passes}
-use Rattle.{pawn_tables.{proofs.Basics.{Asks, overlay}, specs.Heads.{most_counted, number_cells}}, sqlite.{proofs.Callers.reads_as, specs.Query.Query}}
-use Rattle.{sqlite.specs.{Query.IsAnswer, Term.eval}, sqlite_sql.specs.{declared.aggregate.AggregateOp.TheVariants.CountRows, Group.{Grouping, IsSummary}}}
-use Rattle.{sqlite_sql.{specs.{Group.value_over, Query.matches}, proofs.AggregateLemmas.only_one}, sqlite_tied.specs.Listing.counting}
+use Rattle.pawn_tables.proofs.Basics.{length-map, filter_agree, length_permutation, IsPermutation-filter, filter-map}
+use Rattle.pawn_tables.proofs.Basics.{around, gathered, over_table, passes, Asks, overlay}
+use Rattle.pawn_tables.specs.Common.{AllZip, Binary, Row, Schema, Shown, State, Table, Env, Term, lit, Trees, Null}
+use Rattle.pawn_tables.specs.Common.{Holds, columns_of}
+use Rattle.pawn_tables.specs.Heads.{most_counted, number_cells}
+use Rattle.sqlite.proofs.Callers.{reads_as}
+use Rattle.sqlite.specs.Query.{Query, IsAnswer}
+use Rattle.sqlite.specs.Term.{eval}
+use Rattle.sqlite_sql.proofs.AggregateLemmas.{only_one}
+use Rattle.sqlite_sql.specs.Group.{Grouping, IsSummary, value_over}
+use Rattle.sqlite_sql.specs.Query.{matches}
+use Rattle.sqlite_sql.specs.declared.aggregate.AggregateOp.TheVariants.{CountRows}
+use Rattle.sqlite_tied.specs.Listing.{counting}
+use Rattle.std.proofs.Common.{◌≡◌, ℕ, min, List, [], ◌∷◌, length, map, filter, Bool, false, sym, ap, ◌∙◌, IsPermutation}
+use Rattle.std.proofs.Common.{Some}
 
 -- how many rows of a table pass
 abbrev pub how_many : ℕ → List Term → Query

@@ -1,10 +1,19 @@
 -- A pledge of what was read of it.
-use Rattle.{pawn_book.proofs.SoundLists.under_length, pawn_tables.proofs.{Basics.PledgeRow, Lent.unfound, PledgeReads.{number_in, under_in}}}
-use Rattle.pawn_tables.specs.Common.{get, State, Rates, PledgeValue, BookValue, pledge_in, Host, entries_of, extensions_of, secrets_of, terms_of, terms_at}
-use Rattle.pawn_tables.specs.{Common.{IsUnsoundAt, KeepError, IsLent, Rests}, Finding.{FindsIn, IsRead}, PledgeRows.{AreLists, AreSides, AreTold, booking_of}}
-use Rattle.pawn_tables.specs.{PledgeRows.{row_of, totals_in}, StandsFor.{AreBooksOrdered, AreStorable}, declared.joining.{Lists.Lists, RowsBeside.RowsBeside}}
-use Rattle.{pawn_tables.specs.declared.joining.StoredPledge.StoredPledge, std.proofs.Common.{◌≡◌, ◌≤◌, ◌<◌, ◌^◌, ℕ, zero, suc, List, [], ◌∷◌, length, Option}}
-use Rattle.std.proofs.Common.{Some, None, Result, Ok, Err, refl, sym, ap, subst, ◌∙◌, arith, IfSome, is_ok, option_map}
+use Rattle.pawn_book.proofs.SoundLists.{under_length}
+use Rattle.pawn_tables.proofs.Basics.{PledgeRow}
+use Rattle.pawn_tables.proofs.Lent.{unfound}
+use Rattle.pawn_tables.proofs.PledgeReads.{number_in, under_in}
+use Rattle.pawn_tables.specs.Common.{get, State, Rates, PledgeValue, BookValue, pledge_in, Host, entries_of}
+use Rattle.pawn_tables.specs.Common.{extensions_of, secrets_of, terms_of, terms_at, IsUnsoundAt, KeepError, IsLent}
+use Rattle.pawn_tables.specs.Common.{Rests}
+use Rattle.pawn_tables.specs.Finding.{FindsIn, IsRead}
+use Rattle.pawn_tables.specs.PledgeRows.{AreLists, AreSides, AreTold, booking_of, row_of, totals_in}
+use Rattle.pawn_tables.specs.StandsFor.{AreBooksOrdered, AreStorable}
+use Rattle.pawn_tables.specs.declared.joining.Lists.{Lists}
+use Rattle.pawn_tables.specs.declared.joining.RowsBeside.{RowsBeside}
+use Rattle.pawn_tables.specs.declared.joining.StoredPledge.{StoredPledge}
+use Rattle.std.proofs.Common.{◌≡◌, ◌≤◌, ◌<◌, ◌^◌, ℕ, zero, suc, List, [], ◌∷◌, length, Option, Some, None, Result, Ok}
+use Rattle.std.proofs.Common.{Err, refl, sym, ap, subst, ◌∙◌, arith, IfSome, is_ok, option_map}
 
 -- the row that was found is that of a pledge
 pub row_is : (o : Option PledgeValue) (row : PledgeRow) → Some row ≡ option_map row_of o → (p : PledgeValue) × (o ≡ Some p) × (row ≡ row_of p)

@@ -1,7 +1,10 @@
 -- One part of a transaction after another, and what they find together.
-use Rattle.{std.proofs.Common.{◌≡◌, ℕ, Bool, true, false, OnOk, Result, Ok, Err, IsTrue, refl, sym, subst}, pawn_tables.specs.Common.{Tables, HasCleanDisk}}
-use Rattle.pawn_tables.{specs.{Common.{State, Host, KeepError, Database, NoRecord, IsLent, Rests}, Finding.{Finds, FindsIn, Stood}}, proofs.Basics.lent_then}
-use Rattle.{pawn_tables.specs.StandsFor.{ListDebts, StandsFor}, one_table.proofs.Lent.{clean_before, rests_then}}
+use Rattle.one_table.proofs.Lent.{clean_before, rests_then}
+use Rattle.pawn_tables.proofs.Basics.{lent_then}
+use Rattle.pawn_tables.specs.Common.{Tables, HasCleanDisk, State, Host, KeepError, Database, NoRecord, IsLent, Rests}
+use Rattle.pawn_tables.specs.Finding.{Finds, FindsIn, Stood}
+use Rattle.pawn_tables.specs.StandsFor.{ListDebts, StandsFor}
+use Rattle.std.proofs.Common.{◌≡◌, ℕ, Bool, true, false, OnOk, Result, Ok, Err, IsTrue, refl, sym, subst}
 use Rattle.pawn_book.specs.declared.fault.KeepError.TheVariants as Keeper
 
 -- an error that is handed on

@@ -1,13 +1,28 @@
 -- What the queries for the parts of a day's sheet show, where the tables stand for a host.
-use Rattle.std.proofs.Common.{◌≡◌, ◌==◌, ℕ, ◌+◌, List, [], ◌∷◌, map, filter, filter_map, take, length, nat_lt, Bool, true, false, cond, ◌&&◌, Option, Some}
-use Rattle.std.proofs.{Common.{None, refl, sym, ap, ◌∙◌, arith, option_map}, lemmas.List.Recursion.is_count_by, Math.Bool.{and-true, and_assoc}}
-use Rattle.pawn_tables.specs.Common.{get, cons_option, list_all, Row, column, Shown, State, PledgeValue, end_of, Booking, BookingState, Closing}
-use Rattle.pawn_tables.specs.Common.{confirmed_count, is_asked, is_confirmed, is_confirmed_for, Host, pledges_of, part_item, part_items, Part, SheetItem}
-use Rattle.pawn_tables.specs.{Common.Confirmed, At.{is_above, is_at}, Heads.number_cells, Lines.{asked_cells, asked_line, confirmed_line, ends_line, item_of}}
-use Rattle.pawn_tables.specs.{Lines.line_cells, Pages.most_page_rows, Rows.{booking_cells, closed_number, number, number_in_book, pledge_cells, state_number}}
-use Rattle.pawn_tables.specs.{Rows.under, Schema.{bookings, bookings_tree, pledges, pledges_tree}, StandsFor.StandsFor, declared.line.Line.Line}
-use Rattle.pawn_tables.proofs.{Basics.{length-map, map-map, take-map}, RowsUnderKey.equals, OneEach.{counted_each, first_each, tell_of}, Counts.count_of}
-use Rattle.{pawn_tables.proofs.NextLines.{items_are, told_above}, pawn_pledge.specs.Words.is_open, pawn_book.specs.Sheet.asked_item}
+use Rattle.pawn_book.specs.Sheet.{asked_item}
+use Rattle.pawn_pledge.specs.Words.{is_open}
+use Rattle.pawn_tables.proofs.Basics.{length-map, map-map, take-map}
+use Rattle.pawn_tables.proofs.Counts.{count_of}
+use Rattle.pawn_tables.proofs.NextLines.{items_are, told_above}
+use Rattle.pawn_tables.proofs.OneEach.{counted_each, first_each, tell_of}
+use Rattle.pawn_tables.proofs.RowsUnderKey.{equals}
+use Rattle.pawn_tables.specs.At.{is_above, is_at}
+use Rattle.pawn_tables.specs.Common.{get, cons_option, list_all, Row, column, Shown, State, PledgeValue, end_of}
+use Rattle.pawn_tables.specs.Common.{Booking, BookingState, Closing, confirmed_count, is_asked, is_confirmed}
+use Rattle.pawn_tables.specs.Common.{is_confirmed_for, Host, pledges_of, part_item, part_items, Part, SheetItem}
+use Rattle.pawn_tables.specs.Common.{Confirmed}
+use Rattle.pawn_tables.specs.Heads.{number_cells}
+use Rattle.pawn_tables.specs.Lines.{asked_cells, asked_line, confirmed_line, ends_line, item_of, line_cells}
+use Rattle.pawn_tables.specs.Pages.{most_page_rows}
+use Rattle.pawn_tables.specs.Rows.{booking_cells, closed_number, number, number_in_book, pledge_cells, state_number}
+use Rattle.pawn_tables.specs.Rows.{under}
+use Rattle.pawn_tables.specs.Schema.{bookings, bookings_tree, pledges, pledges_tree}
+use Rattle.pawn_tables.specs.StandsFor.{StandsFor}
+use Rattle.pawn_tables.specs.declared.line.Line.{Line}
+use Rattle.std.proofs.Common.{◌≡◌, ◌==◌, ℕ, ◌+◌, List, [], ◌∷◌, map, filter, filter_map, take, length, nat_lt, Bool}
+use Rattle.std.proofs.Common.{true, false, cond, ◌&&◌, Option, Some, None, refl, sym, ap, ◌∙◌, arith, option_map}
+use Rattle.std.proofs.Math.Bool.{and-true, and_assoc}
+use Rattle.std.proofs.lemmas.List.Recursion.{is_count_by}
 use Rattle.pawn_pledge.specs.declared.record.BookingState.TheVariants as state_is
 use Rattle.pawn_book.specs.declared.sheet.Part.TheVariants as part_of
 use Rattle.pawn_tables.proofs.ReadTexts as text

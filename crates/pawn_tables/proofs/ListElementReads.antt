@@ -1,13 +1,25 @@
 -- What the queries of a pledge's lists show at a place, where the tables stand for a host.
-use Rattle.std.proofs.Common.{◌≡◌, ◌==◌, ℕ, zero, suc, List, [], ◌∷◌, map, filter, take, Bool, Option, Some, None, refl, sym, ap, ◌∙◌, IfSome, nat_le}
-use Rattle.pawn_tables.specs.Common.{get, Row, column, Shown, State, IsDayNumber, Entry, PledgeValue, Each, pledge_in, Host, entries_of, extensions_of}
-use Rattle.pawn_tables.specs.{Common.{secrets_of, IsUnsoundAt}, At.{is_at, is_from}, Entries.{IsEntryTold, RiseFrom, entries_from, with_seq}}
-use Rattle.pawn_tables.specs.{Pages.most_page_rows, Places.at_place, Rows.{at_most_one, entries_listed, entry_cells, extension_cells, extensions_listed}}
-use Rattle.pawn_tables.{specs.{Rows.{number, secret_cells, secrets_listed, under}, StandsFor.{AreStorable, StandsFor}}, proofs.Basics.filter_agree}
-use Rattle.pawn_tables.proofs.{Basics.{filter-map, map-map, take-map}, PageLemmas.{filter_each, take_each}, RowsUnderKey.{equals, rows_at}, Lent.debts_of}
-use Rattle.pawn_tables.proofs.{BookReads.at_least, NextEntries.{one_with, found_each}, PlacedRows.{has_place, placed_shown}, PledgeReads.{holds_in, entries_up}}
-use Rattle.pawn_tables.proofs.{PledgeReads.{entries_list, extensions_list, secrets_list, four, three, one_shown, page_shown}, SoundReads.entries_unsound}
-use Rattle.pawn_tables.proofs.SoundReads.{secrets_unsound, extensions_unsound}
+use Rattle.pawn_tables.proofs.Basics.{filter_agree, filter-map, map-map, take-map}
+use Rattle.pawn_tables.proofs.BookReads.{at_least}
+use Rattle.pawn_tables.proofs.Lent.{debts_of}
+use Rattle.pawn_tables.proofs.NextEntries.{one_with, found_each}
+use Rattle.pawn_tables.proofs.PageLemmas.{filter_each, take_each}
+use Rattle.pawn_tables.proofs.PlacedRows.{has_place, placed_shown}
+use Rattle.pawn_tables.proofs.PledgeReads.{holds_in, entries_up, entries_list, extensions_list, secrets_list, four}
+use Rattle.pawn_tables.proofs.PledgeReads.{three, one_shown, page_shown}
+use Rattle.pawn_tables.proofs.RowsUnderKey.{equals, rows_at}
+use Rattle.pawn_tables.proofs.SoundReads.{entries_unsound, secrets_unsound, extensions_unsound}
+use Rattle.pawn_tables.specs.At.{is_at, is_from}
+use Rattle.pawn_tables.specs.Common.{get, Row, column, Shown, State, IsDayNumber, Entry, PledgeValue, Each, pledge_in}
+use Rattle.pawn_tables.specs.Common.{Host, entries_of, extensions_of, secrets_of, IsUnsoundAt}
+use Rattle.pawn_tables.specs.Entries.{IsEntryTold, RiseFrom, entries_from, with_seq}
+use Rattle.pawn_tables.specs.Pages.{most_page_rows}
+use Rattle.pawn_tables.specs.Places.{at_place}
+use Rattle.pawn_tables.specs.Rows.{at_most_one, entries_listed, entry_cells, extension_cells, extensions_listed, number}
+use Rattle.pawn_tables.specs.Rows.{secret_cells, secrets_listed, under}
+use Rattle.pawn_tables.specs.StandsFor.{AreStorable, StandsFor}
+use Rattle.std.proofs.Common.{◌≡◌, ◌==◌, ℕ, zero, suc, List, [], ◌∷◌, map, filter, take, Bool, Option, Some, None, refl}
+use Rattle.std.proofs.Common.{sym, ap, ◌∙◌, IfSome, nat_le}
 use Rattle.pawn_tables.proofs.ReadTexts as text
 
 -- what holds of each element holds at a place

@@ -1,13 +1,28 @@
 -- What the queries for the ends of a pledge's lists show, where the tables stand for a host.
-use Rattle.std.proofs.Common.{◌≡◌, ℕ, suc, ◌+◌, ◌-◌, List, [], ◌∷◌, length, map, Option, Some, None, option_map, refl, sym, ap, ◌∙◌, arith, IfSome, unwrap_or}
-use Rattle.pawn_tables.specs.Common.{get, Row, column, Shown, State, IsDayNumber, PledgeValue, last_element, Each, Extension, Issued, pledge_in, Host}
-use Rattle.pawn_tables.specs.{Common.{entries_of, extensions_of, secrets_of, IsUnsoundAt, AreWords, IsWord}, Heads.number_cells, ListEnds.AreListEnds}
-use Rattle.pawn_tables.specs.{ListEnds.{last_cells, last_issued}, Ours.with_indexes, Rows.{at_most_one, entries_listed, entry_cells, extension_cells}}
-use Rattle.pawn_tables.specs.{Rows.{extensions_listed, number, placed_from, secret_cells, secrets_listed, under}, Schema.{entries_tree, secrets, entries}}
-use Rattle.pawn_tables.specs.{StandsFor.{AreStorable, StandsFor, of_pledges}, declared.joining.{LastSecret.LastSecret, ListEnds.ListEnds}}
-use Rattle.pawn_tables.{proofs.{Basics.length-map, PageLemmas.{last_later, last_some}, RowsUnderKey.{of_one_pledge, rows_at}}, specs.At.at_pledge}
-use Rattle.pawn_tables.proofs.{Counts.{count_of, shown_count}, ListElementReads.at_each, PledgeReads.{extensions_list, extensions_up, four, last_shown}}
-use Rattle.{pawn_tables.proofs.{PledgeReads.{one_mapped, secrets_list, secrets_up, under_map}, SoundReads.secrets_unsound}, one_table.proofs.Found.last_of}
+use Rattle.one_table.proofs.Found.{last_of}
+use Rattle.pawn_tables.proofs.Basics.{length-map}
+use Rattle.pawn_tables.proofs.Counts.{count_of, shown_count}
+use Rattle.pawn_tables.proofs.ListElementReads.{at_each}
+use Rattle.pawn_tables.proofs.PageLemmas.{last_later, last_some}
+use Rattle.pawn_tables.proofs.PledgeReads.{extensions_list, extensions_up, four, last_shown, one_mapped, secrets_list}
+use Rattle.pawn_tables.proofs.PledgeReads.{secrets_up, under_map}
+use Rattle.pawn_tables.proofs.RowsUnderKey.{of_one_pledge, rows_at}
+use Rattle.pawn_tables.proofs.SoundReads.{secrets_unsound}
+use Rattle.pawn_tables.specs.At.{at_pledge}
+use Rattle.pawn_tables.specs.Common.{get, Row, column, Shown, State, IsDayNumber, PledgeValue, last_element, Each}
+use Rattle.pawn_tables.specs.Common.{Extension, Issued, pledge_in, Host, entries_of, extensions_of, secrets_of}
+use Rattle.pawn_tables.specs.Common.{IsUnsoundAt, AreWords, IsWord}
+use Rattle.pawn_tables.specs.Heads.{number_cells}
+use Rattle.pawn_tables.specs.ListEnds.{AreListEnds, last_cells, last_issued}
+use Rattle.pawn_tables.specs.Ours.{with_indexes}
+use Rattle.pawn_tables.specs.Rows.{at_most_one, entries_listed, entry_cells, extension_cells, extensions_listed, number}
+use Rattle.pawn_tables.specs.Rows.{placed_from, secret_cells, secrets_listed, under}
+use Rattle.pawn_tables.specs.Schema.{entries_tree, secrets, entries}
+use Rattle.pawn_tables.specs.StandsFor.{AreStorable, StandsFor, of_pledges}
+use Rattle.pawn_tables.specs.declared.joining.LastSecret.{LastSecret}
+use Rattle.pawn_tables.specs.declared.joining.ListEnds.{ListEnds}
+use Rattle.std.proofs.Common.{◌≡◌, ℕ, suc, ◌+◌, ◌-◌, List, [], ◌∷◌, length, map, Option, Some, None, option_map, refl}
+use Rattle.std.proofs.Common.{sym, ap, ◌∙◌, arith, IfSome, unwrap_or}
 use Rattle.pawn_tables.proofs.ReadTexts as text
 
 -- ---- the last of elements with their places

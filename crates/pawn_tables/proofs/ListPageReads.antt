@@ -1,11 +1,22 @@
 -- What the queries of a pledge's lists show behind a place, where the tables stand for a host.
-use Rattle.std.proofs.Common.{◌≡◌, ℕ, zero, suc, ◌+◌, ◌<◌, List, [], ◌∷◌, map, filter, drop, take, nat_lt, Bool, true, false, Option, Some, None, refl, sym, ap}
-use Rattle.{std.proofs.{Common.{◌∙◌, arith}, Math.Seq.drop-nil}, pawn_tables.specs.Common.{get, Row, column, Shown, State, IsDayNumber, PledgeValue, Each}}
-use Rattle.pawn_tables.specs.{Common.{pledge_in, Host, extensions_of, secrets_of, IsUnsoundAt, AreWords, IsWord}, At.is_above, Pages.most_page_rows}
-use Rattle.pawn_tables.specs.{Places.page_behind, Rows.{extension_cells, extensions_listed, number, placed_from, secret_cells, secrets_listed, under}}
-use Rattle.pawn_tables.{specs.StandsFor.{AreStorable, StandsFor}, proofs.{Basics.{cond-false, cond-true, nat_tests}, PageLemmas.take_each}}
-use Rattle.pawn_tables.proofs.{RowsUnderKey.rows_at, BookReads.above, PledgeReads.{extensions_list, extensions_up, four, page_shown, placed_cells}}
-use Rattle.pawn_tables.proofs.{PledgeReads.{secrets_list, secrets_up, three}, SoundReads.{extensions_unsound, secrets_unsound, words_in}}
+use Rattle.pawn_tables.proofs.Basics.{cond-false, cond-true, nat_tests}
+use Rattle.pawn_tables.proofs.BookReads.{above}
+use Rattle.pawn_tables.proofs.PageLemmas.{take_each}
+use Rattle.pawn_tables.proofs.PledgeReads.{extensions_list, extensions_up, four, page_shown, placed_cells, secrets_list}
+use Rattle.pawn_tables.proofs.PledgeReads.{secrets_up, three}
+use Rattle.pawn_tables.proofs.RowsUnderKey.{rows_at}
+use Rattle.pawn_tables.proofs.SoundReads.{extensions_unsound, secrets_unsound, words_in}
+use Rattle.pawn_tables.specs.At.{is_above}
+use Rattle.pawn_tables.specs.Common.{get, Row, column, Shown, State, IsDayNumber, PledgeValue, Each, pledge_in, Host}
+use Rattle.pawn_tables.specs.Common.{extensions_of, secrets_of, IsUnsoundAt, AreWords, IsWord}
+use Rattle.pawn_tables.specs.Pages.{most_page_rows}
+use Rattle.pawn_tables.specs.Places.{page_behind}
+use Rattle.pawn_tables.specs.Rows.{extension_cells, extensions_listed, number, placed_from, secret_cells}
+use Rattle.pawn_tables.specs.Rows.{secrets_listed, under}
+use Rattle.pawn_tables.specs.StandsFor.{AreStorable, StandsFor}
+use Rattle.std.proofs.Common.{◌≡◌, ℕ, zero, suc, ◌+◌, ◌<◌, List, [], ◌∷◌, map, filter, drop, take, nat_lt, Bool, true}
+use Rattle.std.proofs.Common.{false, Option, Some, None, refl, sym, ap, ◌∙◌, arith}
+use Rattle.std.proofs.Math.Seq.{drop-nil}
 use Rattle.pawn_tables.proofs.ReadTexts as text
 
 abbrev has_behind : ℕ → Row → Bool

@@ -1,6 +1,9 @@
 -- Lists that are read of rows, one row for each element.
-use Rattle.{pawn_base.proofs.ListLemmas.take_next, pawn_tables.specs.{Common.{Row, Each, KeepError, Database, NoRecord}, Finding.IsRead, Rows.at_most_one}}
-use Rattle.{pawn_tables.specs.Rows.placed_from, std.proofs.Common.{◌≡◌, ◌++◌, ℕ, zero, suc, ◌+◌, ◌<◌, List, [], ◌∷◌, length, take, map, get_or, slice_get}}
+use Rattle.pawn_base.proofs.ListLemmas.{take_next}
+use Rattle.pawn_tables.specs.Common.{Row, Each, KeepError, Database, NoRecord}
+use Rattle.pawn_tables.specs.Finding.{IsRead}
+use Rattle.pawn_tables.specs.Rows.{at_most_one, placed_from}
+use Rattle.std.proofs.Common.{◌≡◌, ◌++◌, ℕ, zero, suc, ◌+◌, ◌<◌, List, [], ◌∷◌, length, take, map, get_or, slice_get}
 use Rattle.std.proofs.Common.{Option, Some, None, Ok, Err, refl, sym, ap, subst, ◌∙◌, arith, IfSome}
 use Rattle.pawn_book.specs.declared.fault.KeepError.TheVariants as Keeper
 

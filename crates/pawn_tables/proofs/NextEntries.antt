@@ -1,8 +1,13 @@
 -- The entries of a pledge, whose numbers rise.
-use Rattle.std.proofs.Common.{◌≡◌, ◌==◌, ℕ, zero, suc, ◌+◌, ◌≤◌, ◌<◌, List, [], ◌∷◌, map, filter, find, slice_get, take, Bool, true, false, cond, Some, None}
-use Rattle.{std.proofs.Common.{refl, sym, ap, subst, ◌∙◌, arith, IfSome, nat_le}, pawn_tables.specs.Common.{Row, Entry, AreNumbered, Each}}
-use Rattle.pawn_tables.specs.{Entries.{IsEntriesPage, RiseFrom, behind, entries_from, with_seq}, Pages.most_page_rows, Places.at_place, Rows.at_most_one}
-use Rattle.pawn_tables.proofs.{Basics.{cond-false, cond-true, cond_both, nat_tests}, PageLemmas.is_page}
+use Rattle.pawn_tables.proofs.Basics.{cond-false, cond-true, cond_both, nat_tests}
+use Rattle.pawn_tables.proofs.PageLemmas.{is_page}
+use Rattle.pawn_tables.specs.Common.{Row, Entry, AreNumbered, Each}
+use Rattle.pawn_tables.specs.Entries.{IsEntriesPage, RiseFrom, behind, entries_from, with_seq}
+use Rattle.pawn_tables.specs.Pages.{most_page_rows}
+use Rattle.pawn_tables.specs.Places.{at_place}
+use Rattle.pawn_tables.specs.Rows.{at_most_one}
+use Rattle.std.proofs.Common.{◌≡◌, ◌==◌, ℕ, zero, suc, ◌+◌, ◌≤◌, ◌<◌, List, [], ◌∷◌, map, filter, find, slice_get, take}
+use Rattle.std.proofs.Common.{Bool, true, false, cond, Some, None, refl, sym, ap, subst, ◌∙◌, arith, IfSome, nat_le}
 
 -- ---- entries that are numbered 1, 2, ..
 

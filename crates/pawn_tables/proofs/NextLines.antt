@@ -1,10 +1,19 @@
 -- The lines of numbered pledges, one after another.
-use Rattle.std.proofs.Common.{◌≡◌, ℕ, ◌+◌, ◌≤◌, ◌<◌, zero, suc, drop, List, [], ◌∷◌, map, filter, filter_map, length, take, nat_lt, Bool, true, false, cond}
-use Rattle.{std.proofs.Common.{Option, Some, None, Result, refl, sym, ap, ◌∙◌, arith, option_map}, pawn_tables.specs.Common.{get, cons_option, IsNumber}}
-use Rattle.pawn_tables.specs.Common.{PledgeValue, Each, BookValue, Host, pledges_of, AreNumberedFrom, part_item, part_items, IsUnsoundAt, KeepError, Part}
-use Rattle.pawn_tables.specs.{Common.SheetItem, Finding.{Finds, IsRead}, Lines.{IsLineOf, IsLinesPage, item_of, items_past}, Pages.most_page_rows}
-use Rattle.pawn_tables.{specs.{Rows.number_in_book, StandsFor.AreBooksOrdered, declared.line.Line.Line}, proofs.Basics.{nat_tests, map-map}}
-use Rattle.pawn_tables.proofs.{PageLemmas.{is_page, map_each, page_as, take_each}, StatementFinds.found_as, SoundBooks.unsound_book}
+use Rattle.pawn_tables.proofs.Basics.{nat_tests, map-map}
+use Rattle.pawn_tables.proofs.PageLemmas.{is_page, map_each, page_as, take_each}
+use Rattle.pawn_tables.proofs.SoundBooks.{unsound_book}
+use Rattle.pawn_tables.proofs.StatementFinds.{found_as}
+use Rattle.pawn_tables.specs.Common.{get, cons_option, IsNumber, PledgeValue, Each, BookValue, Host, pledges_of}
+use Rattle.pawn_tables.specs.Common.{AreNumberedFrom, part_item, part_items, IsUnsoundAt, KeepError, Part, SheetItem}
+use Rattle.pawn_tables.specs.Finding.{Finds, IsRead}
+use Rattle.pawn_tables.specs.Lines.{IsLineOf, IsLinesPage, item_of, items_past}
+use Rattle.pawn_tables.specs.Pages.{most_page_rows}
+use Rattle.pawn_tables.specs.Rows.{number_in_book}
+use Rattle.pawn_tables.specs.StandsFor.{AreBooksOrdered}
+use Rattle.pawn_tables.specs.declared.line.Line.{Line}
+use Rattle.std.proofs.Common.{◌≡◌, ℕ, ◌+◌, ◌≤◌, ◌<◌, zero, suc, drop, List, [], ◌∷◌, map, filter, filter_map, length}
+use Rattle.std.proofs.Common.{take, nat_lt, Bool, true, false, cond, Option, Some, None, Result, refl, sym, ap, ◌∙◌}
+use Rattle.std.proofs.Common.{arith, option_map}
 
 -- the pledges above a number
 abbrev pub above : ℕ → List PledgeValue → List PledgeValue

@@ -1,11 +1,19 @@
 -- What a query shows of a table that has one row of a pledge at most.
-use Rattle.{one_table.proofs.Found.shown_few, std.proofs.Common.{◌≡◌, ◌≢◌, ◌++◌, ◌==◌, ℕ, ◌+◌, ◌<◌, List, [], ◌∷◌, map, filter, filter_map, flat_map, length}}
-use Rattle.{std.proofs.Common.{take, Bool, true, false, cond, ◌&&◌, Option, Some, None, refl, sym, ap, subst, ◌∙◌, arith}, pawn_tables.proofs.Basics.and_left}
-use Rattle.pawn_tables.proofs.Basics.{overlay, Asks, cond-false, nat_tests, map-append, ascending-filter, by_column, few_of_table, filter-append, flat_map_none}
-use Rattle.pawn_tables.proofs.{Basics.{length-map, passes, shows_of}, Counts.{count_of, how_many, shown_count}, RowsUnderKey.{filter-flat_map, less}}
-use Rattle.pawn_tables.{proofs.RowsUnderKey.{of_one_book, rows_at}, specs.Common.{Holds, Shown, State, Table, Term, Trees, columns_of, get, AllByRecursion}}
-use Rattle.pawn_tables.specs.Common.{cons_option, Less, Row, column, value_cmp, IsAscending, PledgeValue, BookValue, Host, pledges_of, AreNumberedFrom}
-use Rattle.pawn_tables.specs.{Ours.{HasOurTables, with_indexes}, Rows.{at_most_one, number, number_in_book, under}, StandsFor.{AreBooksOrdered, of_pledges}}
+use Rattle.one_table.proofs.Found.{shown_few}
+use Rattle.pawn_tables.proofs.Basics.{and_left, overlay, Asks, cond-false, nat_tests, map-append, ascending-filter}
+use Rattle.pawn_tables.proofs.Basics.{by_column, few_of_table, filter-append, flat_map_none, length-map, passes}
+use Rattle.pawn_tables.proofs.Basics.{shows_of}
+use Rattle.pawn_tables.proofs.Counts.{count_of, how_many, shown_count}
+use Rattle.pawn_tables.proofs.RowsUnderKey.{filter-flat_map, less, of_one_book, rows_at}
+use Rattle.pawn_tables.specs.Common.{Holds, Shown, State, Table, Term, Trees, columns_of, get, AllByRecursion}
+use Rattle.pawn_tables.specs.Common.{cons_option, Less, Row, column, value_cmp, IsAscending, PledgeValue, BookValue}
+use Rattle.pawn_tables.specs.Common.{Host, pledges_of, AreNumberedFrom}
+use Rattle.pawn_tables.specs.Ours.{HasOurTables, with_indexes}
+use Rattle.pawn_tables.specs.Rows.{at_most_one, number, number_in_book, under}
+use Rattle.pawn_tables.specs.StandsFor.{AreBooksOrdered, of_pledges}
+use Rattle.std.proofs.Common.{◌≡◌, ◌≢◌, ◌++◌, ◌==◌, ℕ, ◌+◌, ◌<◌, List, [], ◌∷◌, map, filter, filter_map, flat_map}
+use Rattle.std.proofs.Common.{length, take, Bool, true, false, cond, ◌&&◌, Option, Some, None, refl, sym, ap, subst}
+use Rattle.std.proofs.Common.{◌∙◌, arith}
 
 -- what is told of what a pledge has, if it has it and it is such
 abbrev pub tell_of : {X A : Type 0} → (X → Bool) → (ℕ → X → A) → ℕ → Option X → Option A

@@ -1,17 +1,34 @@
 -- Tables stand for one host at most.
-use Rattle.{pawn_book.proofs.SoundLists.some_is, pawn_tables.proofs.{Basics.{nat_tests, IsPermutation-map, IsPermutation-filter}, BookReads.one_book}}
-use Rattle.pawn_tables.proofs.{Lent.debts_of, ListsOfRows.{mapped, each_any}, PledgeReads.{ListsRows, booking_told, bookings_list, entries_list, entries_told}}
-use Rattle.pawn_tables.proofs.PledgeReads.{entries_up, extensions_list, extensions_told, extensions_up, few_of, four, fourteen, number_in, one_listed, one_told}
-use Rattle.pawn_tables.proofs.{PledgeReads.{one_version, pledges_list, secrets_list, secrets_told, secrets_up, three, under_in}, RowsUnderKey.of_one_pledge}
-use Rattle.pawn_tables.{proofs.{RowsUnderKey.rows_at, SoundReads.words_in}, specs.{At.{at_book, at_pledge, is_at}, Common.{nat_cmp_total, get}}}
-use Rattle.pawn_tables.specs.Common.{nat_cmp-IsAntisymmetric, same_map, list_all, binary, Row, column, value_cmp, State, Table, Trees, Text, Rates, PledgeValue}
-use Rattle.pawn_tables.specs.Common.{BookValue, pledge_from, pledge_in, Host, rows, WholeIsSound, entries_of, extensions_of, secrets_of, terms_of, terms_at}
-use Rattle.pawn_tables.specs.{Common.{IsSound, IsWord}, Keeps.keeping_by, Meta.{meta_row, meta_rows}, PledgeRows.booking_of, Rows.{at_most_one, booking_cells}}
-use Rattle.pawn_tables.specs.Rows.{booking_listed, entry_cells, extension_cells, head_cells, pledge_cells, pledge_listed, secret_cells, terms_cells, under}
-use Rattle.{pawn_tables.specs.{Schema.{books_tree, meta_tree, terms_tree}, StandsFor.{HoldHost, StandsFor, of_pledges}}, sqlite.proofs.Callers.one_permutation}
-use Rattle.{sqlite.specs.Effect.Database, sqlite_catalog.proofs.ReadLemmas.lists_once, sqlite_trees.specs.Objects.catalog_tree, std.proofs.Common.{◌≡◌, ◌==◌}}
-use Rattle.std.proofs.Common.{ℕ, suc, ◌+◌, ◌≤◌, List, [], ◌∷◌, map, filter, codes, Bool, true, false, Option, Some, None, refl, sym, ap, subst, ◌∙◌, arith}
-use Rattle.std.proofs.Common.{IsPermutation, slice_get, IfSome, if◌then◌else◌}
+use Rattle.pawn_book.proofs.SoundLists.{some_is}
+use Rattle.pawn_tables.proofs.Basics.{nat_tests, IsPermutation-map, IsPermutation-filter}
+use Rattle.pawn_tables.proofs.BookReads.{one_book}
+use Rattle.pawn_tables.proofs.Lent.{debts_of}
+use Rattle.pawn_tables.proofs.ListsOfRows.{mapped, each_any}
+use Rattle.pawn_tables.proofs.PledgeReads.{ListsRows, booking_told, bookings_list, entries_list, entries_told}
+use Rattle.pawn_tables.proofs.PledgeReads.{entries_up, extensions_list, extensions_told, extensions_up, few_of, four}
+use Rattle.pawn_tables.proofs.PledgeReads.{fourteen, number_in, one_listed, one_told, one_version, pledges_list}
+use Rattle.pawn_tables.proofs.PledgeReads.{secrets_list, secrets_told, secrets_up, three, under_in}
+use Rattle.pawn_tables.proofs.RowsUnderKey.{of_one_pledge, rows_at}
+use Rattle.pawn_tables.proofs.SoundReads.{words_in}
+use Rattle.pawn_tables.specs.At.{at_book, at_pledge, is_at}
+use Rattle.pawn_tables.specs.Common.{nat_cmp_total, get, nat_cmp-IsAntisymmetric, same_map, list_all, binary, Row}
+use Rattle.pawn_tables.specs.Common.{column, value_cmp, State, Table, Trees, Text, Rates, PledgeValue, BookValue}
+use Rattle.pawn_tables.specs.Common.{pledge_from, pledge_in, Host, rows, WholeIsSound, entries_of, extensions_of}
+use Rattle.pawn_tables.specs.Common.{secrets_of, terms_of, terms_at, IsSound, IsWord}
+use Rattle.pawn_tables.specs.Keeps.{keeping_by}
+use Rattle.pawn_tables.specs.Meta.{meta_row, meta_rows}
+use Rattle.pawn_tables.specs.PledgeRows.{booking_of}
+use Rattle.pawn_tables.specs.Rows.{at_most_one, booking_cells, booking_listed, entry_cells, extension_cells, head_cells}
+use Rattle.pawn_tables.specs.Rows.{pledge_cells, pledge_listed, secret_cells, terms_cells, under}
+use Rattle.pawn_tables.specs.Schema.{books_tree, meta_tree, terms_tree}
+use Rattle.pawn_tables.specs.StandsFor.{HoldHost, StandsFor, of_pledges}
+use Rattle.sqlite.proofs.Callers.{one_permutation}
+use Rattle.sqlite.specs.Effect.{Database}
+use Rattle.sqlite_catalog.proofs.ReadLemmas.{lists_once}
+use Rattle.sqlite_trees.specs.Objects.{catalog_tree}
+use Rattle.std.proofs.Common.{◌≡◌, ◌==◌, ℕ, suc, ◌+◌, ◌≤◌, List, [], ◌∷◌, map, filter, codes, Bool, true, false, Option}
+use Rattle.std.proofs.Common.{Some, None, refl, sym, ap, subst, ◌∙◌, arith, IsPermutation, slice_get, IfSome}
+use Rattle.std.proofs.Common.{if◌then◌else◌}
 use Rattle.pawn_tables.proofs.SameRows as SameRows
 
 -- ---- what stands of a pledge, by the rows of two hosts

@@ -1,7 +1,10 @@
 -- The first elements of a list of which one knows what is left behind each.
-use Rattle.std.proofs.Common.{◌≡◌, ◌++◌, ℕ, zero, suc, ◌-◌, ◌<◌, List, [], ◌∷◌, length, map, take, slice_get, Bool, filter, Some, refl, sym, ap, subst, ◌∙◌}
-use Rattle.{std.proofs.Common.{arith, option_map, unwrap_or, length-take, map-id}, pawn_tables.{specs.Common.{last_element, Each}, proofs.Basics.cond_both}}
-use Rattle.pawn_tables.{proofs.Basics.map-append, specs.Pages.{most_page_rows, IsPage, page_end}}
+use Rattle.pawn_tables.proofs.Basics.{cond_both, map-append}
+use Rattle.pawn_tables.specs.Common.{last_element, Each}
+use Rattle.pawn_tables.specs.Pages.{most_page_rows, IsPage, page_end}
+use Rattle.std.proofs.Common.{◌≡◌, ◌++◌, ℕ, zero, suc, ◌-◌, ◌<◌, List, [], ◌∷◌, length, map, take, slice_get, Bool}
+use Rattle.std.proofs.Common.{filter, Some, refl, sym, ap, subst, ◌∙◌, arith, option_map, unwrap_or, length-take}
+use Rattle.std.proofs.Common.{map-id}
 
 pub last_later : {A : Type 0} (x y : A) (ys : List A) → last_element (x ∷ y ∷ ys) ≡ last_element (y ∷ ys)
 last_later x y ys = let up : length (x ∷ y ∷ ys) - 1 ≡ suc (length ys) = omega arith in

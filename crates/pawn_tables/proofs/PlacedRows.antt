@@ -1,7 +1,12 @@
 -- Rows that count their places in a column.
-use Rattle.std.proofs.Common.{◌≡◌, ◌==◌, ℕ, zero, suc, ◌+◌, ◌<◌, List, [], ◌∷◌, map, filter, Bool, true, false, cond, ◌&&◌, refl, ap, ◌∙◌, arith, slice_get}
-use Rattle.pawn_tables.specs.{Common.{AllByRecursion, Row, column}, At.is_at, Places.at_place, Rows.{at_most_one, number, placed_from}}
-use Rattle.pawn_tables.proofs.{Basics.{nat_tests, cond-false, cond-true}, RowsUnderKey.equals}
+use Rattle.pawn_tables.proofs.Basics.{nat_tests, cond-false, cond-true}
+use Rattle.pawn_tables.proofs.RowsUnderKey.{equals}
+use Rattle.pawn_tables.specs.At.{is_at}
+use Rattle.pawn_tables.specs.Common.{AllByRecursion, Row, column}
+use Rattle.pawn_tables.specs.Places.{at_place}
+use Rattle.pawn_tables.specs.Rows.{at_most_one, number, placed_from}
+use Rattle.std.proofs.Common.{◌≡◌, ◌==◌, ℕ, zero, suc, ◌+◌, ◌<◌, List, [], ◌∷◌, map, filter, Bool, true, false, cond}
+use Rattle.std.proofs.Common.{◌&&◌, refl, ap, ◌∙◌, arith, slice_get}
 
 pub regroup : (a b c : Bool) → (a && (b && (c && true))) ≡ ((a && (b && true)) && c)
 regroup true true true = refl

@@ -1,18 +1,34 @@
 -- What the queries of a pledge show, where the tables stand for a host.
-use Rattle.{one_table.proofs.Found.{shown_few, last_of, shown_in_order, shown_last, shown_listed}, sqlite.proofs.Callers.one_permutation}
-use Rattle.pawn_tables.proofs.Basics.{filter_all, filter_none, overlay, each_at, Asks, ascending-filter, few_of_table, nat_tests, by_column, by_column_down}
-use Rattle.pawn_tables.proofs.{Basics.{filter_agree, first_of_table, length_permutation, map-map, nil_from_length, over_table, passes, shows_of}, Lent.debts_of}
-use Rattle.pawn_tables.proofs.{PlacedRows.{filter_both, has_place, placed_all, placed_shown, regroup}, RowsUnderKey.{AreUnder, Rise, entries_rise, equals}}
-use Rattle.pawn_tables.{proofs.RowsUnderKey.{number_from, of_one_book, of_one_pledge, placed_rise, rows_at}, specs.{At.{is_at, at_pledge}, Common.get}}
-use Rattle.pawn_tables.specs.Common.{list_all, Less, Row, column, value_cmp, Shown, State, Table, Tables, Term, Trees, Value, Rates, PledgeValue, Each, Booking}
-use Rattle.pawn_tables.specs.Common.{BookValue, pledge_in, Host, entries_of, extensions_of, secrets_of, terms_of, IsUnder, terms_at, Holds, columns_of}
-use Rattle.pawn_tables.specs.{Entries.RiseFrom, Ours.{HasOurTables, with_indexes}, Pages.most_page_rows, Places.at_place, PledgeRows.{booking_of, totals_in}}
-use Rattle.pawn_tables.specs.Rows.{at_most_one, booking_cells, booking_listed, credit_cells, entries_listed, entry_cells, extension_cells, extensions_listed}
-use Rattle.pawn_tables.specs.Rows.{number, placed_from, pledge_cells, pledge_listed, secret_cells, secrets_listed, terms_cells, terms_listed, totals_cells}
-use Rattle.pawn_tables.specs.{Rows.{totals_listed, under}, Schema.{bookings, bookings_tree, entries_tree, extensions, extensions_tree, pledges, pledges_tree}}
-use Rattle.pawn_tables.specs.{Schema.{secrets, secrets_tree, terms, terms_tree, totals, totals_tree, entries}, StandsFor.{AreBooksOrdered, ListDebts}}
-use Rattle.{pawn_tables.specs.StandsFor.{StandsFor, of_books, of_pledges}, std.proofs.Common.{◌≡◌, ℕ, zero, suc, ◌+◌, ◌≤◌, List, [], ◌∷◌, map, filter, length}}
-use Rattle.std.proofs.{Common.{take, Bool, ◌&&◌, Option, Some, None, refl, sym, ap, subst, ◌∙◌, arith, IsPermutation, option_map}, Math.Bool.and-true}
+use Rattle.one_table.proofs.Found.{shown_few, last_of, shown_in_order, shown_last, shown_listed}
+use Rattle.pawn_tables.proofs.Basics.{filter_all, filter_none, overlay, each_at, Asks, ascending-filter, few_of_table}
+use Rattle.pawn_tables.proofs.Basics.{nat_tests, by_column, by_column_down, filter_agree, first_of_table}
+use Rattle.pawn_tables.proofs.Basics.{length_permutation, map-map, nil_from_length, over_table, passes, shows_of}
+use Rattle.pawn_tables.proofs.Lent.{debts_of}
+use Rattle.pawn_tables.proofs.PlacedRows.{filter_both, has_place, placed_all, placed_shown, regroup}
+use Rattle.pawn_tables.proofs.RowsUnderKey.{AreUnder, Rise, entries_rise, equals, number_from, of_one_book}
+use Rattle.pawn_tables.proofs.RowsUnderKey.{of_one_pledge, placed_rise, rows_at}
+use Rattle.pawn_tables.specs.At.{is_at, at_pledge}
+use Rattle.pawn_tables.specs.Common.{get, list_all, Less, Row, column, value_cmp, Shown, State, Table, Tables, Term}
+use Rattle.pawn_tables.specs.Common.{Trees, Value, Rates, PledgeValue, Each, Booking, BookValue, pledge_in, Host}
+use Rattle.pawn_tables.specs.Common.{entries_of, extensions_of, secrets_of, terms_of, IsUnder, terms_at, Holds}
+use Rattle.pawn_tables.specs.Common.{columns_of}
+use Rattle.pawn_tables.specs.Entries.{RiseFrom}
+use Rattle.pawn_tables.specs.Ours.{HasOurTables, with_indexes}
+use Rattle.pawn_tables.specs.Pages.{most_page_rows}
+use Rattle.pawn_tables.specs.Places.{at_place}
+use Rattle.pawn_tables.specs.PledgeRows.{booking_of, totals_in}
+use Rattle.pawn_tables.specs.Rows.{at_most_one, booking_cells, booking_listed, credit_cells, entries_listed}
+use Rattle.pawn_tables.specs.Rows.{entry_cells, extension_cells, extensions_listed, number, placed_from, pledge_cells}
+use Rattle.pawn_tables.specs.Rows.{pledge_listed, secret_cells, secrets_listed, terms_cells, terms_listed, totals_cells}
+use Rattle.pawn_tables.specs.Rows.{totals_listed, under}
+use Rattle.pawn_tables.specs.Schema.{bookings, bookings_tree, entries_tree, extensions, extensions_tree, pledges}
+use Rattle.pawn_tables.specs.Schema.{pledges_tree, secrets, secrets_tree, terms, terms_tree, totals, totals_tree}
+use Rattle.pawn_tables.specs.Schema.{entries}
+use Rattle.pawn_tables.specs.StandsFor.{AreBooksOrdered, ListDebts, StandsFor, of_books, of_pledges}
+use Rattle.sqlite.proofs.Callers.{one_permutation}
+use Rattle.std.proofs.Common.{◌≡◌, ℕ, zero, suc, ◌+◌, ◌≤◌, List, [], ◌∷◌, map, filter, length, take, Bool, ◌&&◌, Option}
+use Rattle.std.proofs.Common.{Some, None, refl, sym, ap, subst, ◌∙◌, arith, IsPermutation, option_map}
+use Rattle.std.proofs.Math.Bool.{and-true}
 use Rattle.pawn_tables.proofs.ReadTexts as text
 
 -- ---- what stands of the pledge at a number

@@ -1,9 +1,19 @@
 -- What the query for the pledge with a reference shows, where the tables stand for a host.
-use Rattle.std.proofs.Common.{◌≡◌, ◌==◌, ℕ, List, [], ◌∷◌, map, filter_map, find, take, Bool, true, false, cond, ◌&&◌, Option, Some, None, refl, ap, ◌∙◌}
-use Rattle.{std.proofs.{Common.option_map, Math.Bool.and-true}, pawn_tables.specs.Common.{cons_option, get, list_all, Row, column, Shown, State, Text}}
-use Rattle.pawn_tables.specs.{Common.{PledgeValue, BookValue, Host, number_of, is_same_text}, At.is_at, Heads.number_cells, Rows.{at_most_one, number}}
-use Rattle.pawn_tables.{specs.{Rows.{number_in_book, pledge_cells, under}, Schema.{pledges, pledges_tree}, StandsFor.StandsFor}, proofs.RowsUnderKey.equals}
-use Rattle.{pawn_tables.proofs.{BookReads.same_texts, LineReads.all_kept, OneEach.{first_each, tell_of}}, pawn_book.specs.Keeping.pledges_of}
+use Rattle.pawn_book.specs.Keeping.{pledges_of}
+use Rattle.pawn_tables.proofs.BookReads.{same_texts}
+use Rattle.pawn_tables.proofs.LineReads.{all_kept}
+use Rattle.pawn_tables.proofs.OneEach.{first_each, tell_of}
+use Rattle.pawn_tables.proofs.RowsUnderKey.{equals}
+use Rattle.pawn_tables.specs.At.{is_at}
+use Rattle.pawn_tables.specs.Common.{cons_option, get, list_all, Row, column, Shown, State, Text, PledgeValue}
+use Rattle.pawn_tables.specs.Common.{BookValue, Host, number_of, is_same_text}
+use Rattle.pawn_tables.specs.Heads.{number_cells}
+use Rattle.pawn_tables.specs.Rows.{at_most_one, number, number_in_book, pledge_cells, under}
+use Rattle.pawn_tables.specs.Schema.{pledges, pledges_tree}
+use Rattle.pawn_tables.specs.StandsFor.{StandsFor}
+use Rattle.std.proofs.Common.{◌≡◌, ◌==◌, ℕ, List, [], ◌∷◌, map, filter_map, find, take, Bool, true, false, cond, ◌&&◌}
+use Rattle.std.proofs.Common.{Option, Some, None, refl, ap, ◌∙◌, option_map}
+use Rattle.std.proofs.Math.Bool.{and-true}
 use Rattle.pawn_tables.proofs.ReadTexts as text
 
 abbrev has_ref : List ℕ → PledgeValue → Bool

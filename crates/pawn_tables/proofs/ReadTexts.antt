@@ -1,14 +1,24 @@
 -- What the texts of the queries mean.
-use Rattle.{std.proofs.Common.{List, [], ◌∷◌, ℕ, pos, codes, refl}, pawn_tables.specs.Common.{Index, Compare, Eq, Ge, Gt, Lt, Binary, understood, Term, col}}
-use Rattle.pawn_tables.{specs.Common.{lit, op2, Int, Text}, proofs.Basics.{few_of_table, first_of_table, over_table, Asks, by_column, by_column_down, is_param}}
-use Rattle.pawn_tables.specs.{Ours.with_indexes, Pages.most_page_rows, Schema.{bookings_tree, books_tree, entries_tree, extensions_tree, meta_tree}}
-use Rattle.{pawn_tables.{specs.Schema.{pledges_tree, secrets_tree, terms_tree, totals_tree}, proofs.Counts.how_many}, one_table.proofs.Distinct.once_of_table}
+pub use Rattle.pawn_tables.specs.declared.texts.TheConstants.{COUNT_ASKED, COUNT_CONFIRMED, COUNT_ENDS, COUNT_ENTRIES}
+pub use Rattle.pawn_tables.specs.declared.texts.TheConstants.{FIND_NEXT_BOOK, FIND_REFERENCE, READ_ASKED_PAGE}
+pub use Rattle.pawn_tables.specs.declared.texts.TheConstants.{READ_BOOKING, READ_CONFIRMED_PAGE, READ_CREDIT}
+pub use Rattle.pawn_tables.specs.declared.texts.TheConstants.{READ_ENDS_PAGE, READ_ENTRIES, READ_ENTRIES_PAGE}
+pub use Rattle.pawn_tables.specs.declared.texts.TheConstants.{READ_ENTRY, READ_EXTENSION, READ_EXTENSIONS}
+pub use Rattle.pawn_tables.specs.declared.texts.TheConstants.{READ_EXTENSIONS_PAGE, READ_HEAD, READ_LAST_PLACE}
+pub use Rattle.pawn_tables.specs.declared.texts.TheConstants.{READ_LAST_SECRET, READ_PLEDGE, READ_ROWS, READ_SECRET}
+pub use Rattle.pawn_tables.specs.declared.texts.TheConstants.{READ_SECRETS, READ_SECRETS_PAGE, READ_TERMS, READ_TOTALS}
+pub use Rattle.pawn_tables.specs.declared.texts.TheConstants.{READ_WINDOWS}
+use Rattle.one_table.proofs.Distinct.{once_of_table}
+use Rattle.pawn_tables.proofs.Basics.{few_of_table, first_of_table, over_table, Asks, by_column, by_column_down}
+use Rattle.pawn_tables.proofs.Basics.{is_param}
+use Rattle.pawn_tables.proofs.Counts.{how_many}
+use Rattle.pawn_tables.specs.Common.{Index, Compare, Eq, Ge, Gt, Lt, Binary, understood, Term, col, lit, op2, Int, Text}
+use Rattle.pawn_tables.specs.Ours.{with_indexes}
+use Rattle.pawn_tables.specs.Pages.{most_page_rows}
+use Rattle.pawn_tables.specs.Schema.{bookings_tree, books_tree, entries_tree, extensions_tree, meta_tree, pledges_tree}
+use Rattle.pawn_tables.specs.Schema.{secrets_tree, terms_tree, totals_tree}
 use Rattle.sqlite_tied.specs.Compute.{everything}
-pub use Rattle.pawn_tables.specs.declared.texts.TheConstants.{COUNT_ASKED, COUNT_CONFIRMED, COUNT_ENDS, COUNT_ENTRIES, FIND_NEXT_BOOK, FIND_REFERENCE}
-pub use Rattle.pawn_tables.specs.declared.texts.TheConstants.{READ_ASKED_PAGE, READ_BOOKING, READ_CONFIRMED_PAGE, READ_CREDIT, READ_ENDS_PAGE, READ_ENTRIES}
-pub use Rattle.pawn_tables.specs.declared.texts.TheConstants.{READ_ENTRIES_PAGE, READ_ENTRY, READ_EXTENSION, READ_EXTENSIONS, READ_EXTENSIONS_PAGE, READ_HEAD}
-pub use Rattle.pawn_tables.specs.declared.texts.TheConstants.{READ_LAST_PLACE, READ_LAST_SECRET, READ_PLEDGE, READ_ROWS, READ_SECRET, READ_SECRETS}
-pub use Rattle.pawn_tables.specs.declared.texts.TheConstants.{READ_SECRETS_PAGE, READ_TERMS, READ_TOTALS, READ_WINDOWS}
+use Rattle.std.proofs.Common.{List, [], ◌∷◌, ℕ, pos, codes, refl}
 
 -- a row of a book
 abbrev pub of_book : List Term

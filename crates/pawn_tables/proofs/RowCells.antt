@@ -1,5 +1,6 @@
 -- The cells of a row.
-use Rattle.{std.proofs.Common.{◌≡◌, ℕ, ◌<◌, length, sym, ap, subst, ◌∙◌}, pawn_tables.specs.Common.{Row, column, Value}}
+use Rattle.pawn_tables.specs.Common.{Row, column, Value}
+use Rattle.std.proofs.Common.{◌≡◌, ℕ, ◌<◌, length, sym, ap, subst, ◌∙◌}
 
 -- what stands in a column, where the row is known
 pub cell_at : {row cells : Row} (at : ℕ) {v : Value} → row ≡ cells → at < length cells → column cells at ≡ v → (at < length row) × (column row at ≡ v)

@@ -1,11 +1,18 @@
 -- The rows of one book, and of one pledge, among those of a host.
-use Rattle.std.proofs.Common.{◌≡◌, ◌≢◌, ◌++◌, ◌==◌, ℕ, ◌+◌, ◌<◌, pos, List, [], ◌∷◌, map, filter, flat_map, Bool, true, false, cond, ◌&&◌, Option, Some, None}
-use Rattle.{std.proofs.Common.{T, refl, sym, ap, subst, ◌∙◌, arith, append-nil, if◌then◌else◌}, pawn_tables.proofs.Basics.{and_left, and_right, cond-false}}
-use Rattle.pawn_tables.{proofs.Basics.{cond-true, filter-append, flat_map_none, nat_tests, value_cmp-Int}, specs.Common.{entries, entries_sorted, get}}
-use Rattle.pawn_tables.specs.Common.{get-entries, is_sorted, below_all, AllByRecursion, is_eq, nat_cmp, Less, binary, from_truth, is_true, Row, column}
-use Rattle.pawn_tables.specs.Common.{value_cmp, IsAscending, Value, Entry, PledgeValue, BookValue, pledge_from, pledge_in, Host, AreNumberedFrom, find}
-use Rattle.pawn_tables.specs.{Entries.RiseFrom, Rows.{number, placed_from}, StandsFor.{AreBooksOrdered, of_books, of_pledges}, At.{is_at, at_pledge}}
 pub use Rattle.pawn_base.proofs.TestLemmas.{below as lower_key, both_told as both_pass, told as is_passed}
+use Rattle.pawn_tables.proofs.Basics.{and_left, and_right, cond-false, cond-true, filter-append, flat_map_none}
+use Rattle.pawn_tables.proofs.Basics.{nat_tests, value_cmp-Int}
+use Rattle.pawn_tables.specs.At.{is_at, at_pledge}
+use Rattle.pawn_tables.specs.Common.{entries, entries_sorted, get, get-entries, is_sorted, below_all, AllByRecursion}
+use Rattle.pawn_tables.specs.Common.{is_eq, nat_cmp, Less, binary, from_truth, is_true, Row, column, value_cmp}
+use Rattle.pawn_tables.specs.Common.{IsAscending, Value, Entry, PledgeValue, BookValue, pledge_from, pledge_in, Host}
+use Rattle.pawn_tables.specs.Common.{AreNumberedFrom, find}
+use Rattle.pawn_tables.specs.Entries.{RiseFrom}
+use Rattle.pawn_tables.specs.Rows.{number, placed_from}
+use Rattle.pawn_tables.specs.StandsFor.{AreBooksOrdered, of_books, of_pledges}
+use Rattle.std.proofs.Common.{◌≡◌, ◌≢◌, ◌++◌, ◌==◌, ℕ, ◌+◌, ◌<◌, pos, List, [], ◌∷◌, map, filter, flat_map, Bool, true}
+use Rattle.std.proofs.Common.{false, cond, ◌&&◌, Option, Some, None, T, refl, sym, ap, subst, ◌∙◌, arith, append-nil}
+use Rattle.std.proofs.Common.{if◌then◌else◌}
 
 -- a test of two that is passed, and one, as an equation
 

@@ -1,12 +1,18 @@
 -- What the rows of a table tell, they tell once.
-use Rattle.pawn_tables.proofs.{Basics.{IsPermutation-sym, IsPermutation-trans, ascending-get_or, value_cmp_total}, Words.word_of_bytes}
-use Rattle.pawn_tables.specs.Common.{IsTotalOrder, on_total, from_be_bytes, to_be_bytes, w128, is_lt, ordering_reverse, Less, Row, column, value_cmp, Table}
-use Rattle.pawn_tables.specs.Common.{IsAscending, Trees, Value, Text, Rates, credit_of, Entry, Kind, Fixed, Running, Sort, Draw, Repay, PledgeValue, Each}
-use Rattle.pawn_tables.specs.{Common.{Booking, BookingState, Closing, Extension, Issue, Issued, IsWord, Imported, Holds}, Rows.{number, flag_number, or_null}}
-use Rattle.pawn_tables.specs.Rows.{word, kind_number, sort_number, issue_number, state_number, closed_number, closed_day, closed_amount, import_key}
-use Rattle.pawn_tables.specs.Rows.{import_count, at_most_one, placed_from, pledge_cells, entry_cells, secret_cells, extension_cells, booking_cells, terms_cells}
-use Rattle.{sqlite_keyed.proofs.SortLemmas.sorted_unique, std.proofs.Common.{◌≡◌, ℕ, zero, suc, ◌+◌, ◌≤◌, ◌<◌, List, [], ◌∷◌, length, Bool, true, false}}
-use Rattle.std.{proofs.Common.{Option, Some, None, refl, sym, ap, ◌∙◌, arith, IsPermutation, get_or, IfSome}, specs.declared.cmp.Ordering.Ordering}
+use Rattle.pawn_tables.proofs.Basics.{IsPermutation-sym, IsPermutation-trans, ascending-get_or, value_cmp_total}
+use Rattle.pawn_tables.proofs.Words.{word_of_bytes}
+use Rattle.pawn_tables.specs.Common.{IsTotalOrder, on_total, from_be_bytes, to_be_bytes, w128, is_lt, ordering_reverse}
+use Rattle.pawn_tables.specs.Common.{Less, Row, column, value_cmp, Table, IsAscending, Trees, Value, Text, Rates}
+use Rattle.pawn_tables.specs.Common.{credit_of, Entry, Kind, Fixed, Running, Sort, Draw, Repay, PledgeValue, Each}
+use Rattle.pawn_tables.specs.Common.{Booking, BookingState, Closing, Extension, Issue, Issued, IsWord, Imported, Holds}
+use Rattle.pawn_tables.specs.Rows.{number, flag_number, or_null, word, kind_number, sort_number, issue_number}
+use Rattle.pawn_tables.specs.Rows.{state_number, closed_number, closed_day, closed_amount, import_key, import_count}
+use Rattle.pawn_tables.specs.Rows.{at_most_one, placed_from, pledge_cells, entry_cells, secret_cells, extension_cells}
+use Rattle.pawn_tables.specs.Rows.{booking_cells, terms_cells}
+use Rattle.sqlite_keyed.proofs.SortLemmas.{sorted_unique}
+use Rattle.std.proofs.Common.{◌≡◌, ℕ, zero, suc, ◌+◌, ◌≤◌, ◌<◌, List, [], ◌∷◌, length, Bool, true, false, Option, Some}
+use Rattle.std.proofs.Common.{None, refl, sym, ap, ◌∙◌, arith, IsPermutation, get_or, IfSome}
+use Rattle.std.specs.declared.cmp.Ordering.{Ordering}
 use Rattle.pawn_pledge.specs.declared.record.Issue.TheVariants as issue
 use Rattle.pawn_pledge.specs.declared.record.BookingState.TheVariants as state
 use Rattle.pawn_pledge.specs.declared.record.Closing.TheVariants as closing

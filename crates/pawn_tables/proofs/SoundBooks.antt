@@ -1,8 +1,14 @@
 -- What is kept of a sound host's books can be read of their rows.
-use Rattle.std.proofs.Common.{◌≡◌, ℕ, ◌+◌, ◌≤◌, List, [], ◌∷◌, length, Option, Some, None, Result, Ok, Err, refl, arith, option_map, IfSome}
-use Rattle.pawn_tables.specs.Common.{get, IsNumber, PledgeValue, BookValue, with_reference, Host, IsNextBook, number_of, AreNumberedFrom, is_same_text}
-use Rattle.pawn_tables.specs.{Common.{HasUnsoundBook, IsSoundAt, IsUnsoundAt, KeepError, Database, NoRecord}, Finding.Finds, Heads.{HasKeys, IsHeadTold}}
-use Rattle.pawn_tables.{specs.StandsFor.AreStorable, proofs.{Basics.cond_both, BookReads.{next_of, is_next}}}
+use Rattle.pawn_tables.proofs.Basics.{cond_both}
+use Rattle.pawn_tables.proofs.BookReads.{next_of, is_next}
+use Rattle.pawn_tables.specs.Common.{get, IsNumber, PledgeValue, BookValue, with_reference, Host, IsNextBook, number_of}
+use Rattle.pawn_tables.specs.Common.{AreNumberedFrom, is_same_text, HasUnsoundBook, IsSoundAt, IsUnsoundAt, KeepError}
+use Rattle.pawn_tables.specs.Common.{Database, NoRecord}
+use Rattle.pawn_tables.specs.Finding.{Finds}
+use Rattle.pawn_tables.specs.Heads.{HasKeys, IsHeadTold}
+use Rattle.pawn_tables.specs.StandsFor.{AreStorable}
+use Rattle.std.proofs.Common.{◌≡◌, ℕ, ◌+◌, ◌≤◌, List, [], ◌∷◌, length, Option, Some, None, Result, Ok, Err, refl, arith}
+use Rattle.std.proofs.Common.{option_map, IfSome}
 use Rattle.pawn_book.specs.declared.fault.KeepError.TheVariants as Keeper
 
 module _ (h : Host) (b : ℕ) where

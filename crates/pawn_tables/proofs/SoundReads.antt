@@ -1,15 +1,29 @@
 -- What is kept of a sound host can be read of its rows.
-use Rattle.std.proofs.Common.{◌≡◌, ℕ, zero, suc, ◌-◌, ◌≤◌, List, [], ◌∷◌, slice_get, Option, Some, None, Result, Ok, Err, refl, sym, subst, arith, length}
-use Rattle.{std.proofs.Common.{option_map, ◌++◌, IsOk, false, IfSome, IsTrue, is_some}, pawn_tables.specs.Common.{get, IsDayNumber, IsStampDay, later_of}}
-use Rattle.pawn_tables.specs.Common.{six_months, IsChecked, Rates, DebtValue, Entry, Sort, Draw, Repay, PledgeValue, debt_of, end_of, last_element, last_until}
-use Rattle.pawn_tables.specs.Common.{AreExtended, AreIssued, Each, IsBooked, IsClosed, IsStanding, Booking, Closing, Open, Redeemed, Sold, Extension, Issued}
-use Rattle.pawn_tables.specs.Common.{BookValue, pledge_from, pledge_in, Host, entries_of, extensions_of, secrets_of, terms_of, terms_at, IsSoundBook}
-use Rattle.pawn_tables.{specs.Common.{IsUnsoundAt, AreWords, HasTextsAndWords, KeepError, Database, NoRecord, last_of}, proofs.Basics.{each_at, nat_tests}}
-use Rattle.pawn_tables.specs.{Entries.{IsAmount, IsEntryTold}, Finding.{Finds, IsRead}, PledgeRows.{IsBriefTold, IsCreditTold, IsRowTold, booking_of}}
-use Rattle.{pawn_tables.{specs.{PledgeRows.totals_in, Rows.closed_day, StandsFor.AreStorable}, proofs.PageLemmas.last_some}, pawn_terms.specs.Limits.first_day}
-use Rattle.{pawn_terms.{specs.Limits.last_stamp_day, proofs.{CalendarLemmas.page_date, SixMonths.six_months_is}}, pawn_base.specs.Lists.{DoNotFall, last_by}}
-use Rattle.{pawn_base.proofs.{ListLemmas.{last_by-le, DoNotFall-each}, RefusalLemmas.first_of-is_ok}, pawn_debt.specs.Answers.{draw_rows, is_bad_amount}}
-use Rattle.{pawn_debt.specs.{Answers.{repay_rows, with_entry}, Replay.{AreEntriesAccepted, sort_answer}}, pawn_pledge.proofs.Briefs.brief_is_within}
+use Rattle.pawn_base.proofs.ListLemmas.{last_by-le, DoNotFall-each}
+use Rattle.pawn_base.proofs.RefusalLemmas.{first_of-is_ok}
+use Rattle.pawn_base.specs.Lists.{DoNotFall, last_by}
+use Rattle.pawn_debt.specs.Answers.{draw_rows, is_bad_amount, repay_rows, with_entry}
+use Rattle.pawn_debt.specs.Replay.{AreEntriesAccepted, sort_answer}
+use Rattle.pawn_pledge.proofs.Briefs.{brief_is_within}
+use Rattle.pawn_tables.proofs.Basics.{each_at, nat_tests}
+use Rattle.pawn_tables.proofs.PageLemmas.{last_some}
+use Rattle.pawn_tables.specs.Common.{get, IsDayNumber, IsStampDay, later_of, six_months, IsChecked, Rates, DebtValue}
+use Rattle.pawn_tables.specs.Common.{Entry, Sort, Draw, Repay, PledgeValue, debt_of, end_of, last_element, last_until}
+use Rattle.pawn_tables.specs.Common.{AreExtended, AreIssued, Each, IsBooked, IsClosed, IsReachable, Booking, Closing}
+use Rattle.pawn_tables.specs.Common.{Open, Redeemed, Sold, Extension, Issued, BookValue, pledge_from, pledge_in, Host}
+use Rattle.pawn_tables.specs.Common.{entries_of, extensions_of, secrets_of, terms_of, terms_at, IsSoundBook}
+use Rattle.pawn_tables.specs.Common.{IsUnsoundAt, AreWords, HasTextsAndWords, KeepError, Database, NoRecord, last_of}
+use Rattle.pawn_tables.specs.Entries.{IsAmount, IsEntryTold}
+use Rattle.pawn_tables.specs.Finding.{Finds, IsRead}
+use Rattle.pawn_tables.specs.PledgeRows.{IsBriefTold, IsCreditTold, IsRowTold, booking_of, totals_in}
+use Rattle.pawn_tables.specs.Rows.{closed_day}
+use Rattle.pawn_tables.specs.StandsFor.{AreStorable}
+use Rattle.pawn_terms.proofs.CalendarLemmas.{page_date}
+use Rattle.pawn_terms.proofs.SixMonths.{six_months_is}
+use Rattle.pawn_terms.specs.Limits.{first_day, last_stamp_day}
+use Rattle.std.proofs.Common.{◌≡◌, ℕ, zero, suc, ◌-◌, ◌≤◌, List, [], ◌∷◌, slice_get, Option, Some, None, Result, Ok}
+use Rattle.std.proofs.Common.{Err, refl, sym, subst, arith, length, option_map, ◌++◌, IsOk, false, IfSome, IsTrue}
+use Rattle.std.proofs.Common.{is_some}
 use Rattle.pawn_book.specs.declared.fault.KeepError.TheVariants as Keeper
 
 -- ---- answers
@@ -37,8 +51,8 @@ unsound_pledge h b n Q none some bad = inside (get h.books b) refl bad where
   inside None is bad = absurd (bad none)
   inside (Some k) is bad = (k, is, λ sound. bad (in_book k is sound.1 (pledge_from 1 k.pledges n) refl))
 
-standing_of : (k : BookValue) (n : ℕ) (p : PledgeValue) → IsSoundBook k → pledge_from 1 k.pledges n ≡ Some p → IsStanding p
-standing_of k n p sound at = each_at IsStanding 1 k.pledges n p sound.rows.standing at
+reachable_of : (k : BookValue) (n : ℕ) (p : PledgeValue) → IsSoundBook k → pledge_from 1 k.pledges n ≡ Some p → IsReachable p
+reachable_of k n p sound at = each_at IsReachable 1 k.pledges n p sound.rows.reachable at
 
 taken_of : (h : Host) → AreStorable h → (b n : ℕ) (k : BookValue) (p : PledgeValue) → get h.books b ≡ Some k → pledge_from 1 k.pledges n ≡ Some p
     → first_day ≤ p.agreement.taken
@@ -91,18 +105,18 @@ module _ (h : Host) (storable : AreStorable h) (b n : ℕ) where
   found = pledge_in (get h.books b) n
 
   pub entries_unsound : (Each IsEntryTold (entries_of found) → ⊥) → IsUnsoundAt b h
-  entries_unsound bad = unsound_pledge h b n (λ o. Each IsEntryTold (entries_of o)) tt (λ k p is sound at. let s = standing_of k n p sound at in
+  entries_unsound bad = unsound_pledge h b n (λ o. Each IsEntryTold (entries_of o)) tt (λ k p is sound at. let s = reachable_of k n p sound at in
       both_told p.entries (all_amounts (debt_of p) [] p.entries s.replayable.entered.accepted) (days_in (λ e. e.day) p.agreement.taken p.standing.last p.entries
       (taken_of h storable b n k p is at) s.replayable.entered.ordered s.replayable.entered.before s.within.last)) bad
 
   pub secrets_unsound : (Each (λ i. IsDayNumber i.day) (secrets_of found) → ⊥) → IsUnsoundAt b h
-  secrets_unsound bad = unsound_pledge h b n (λ o. Each (λ i. IsDayNumber i.day) (secrets_of o)) tt (λ k p is sound at. let s = standing_of k n p sound at in
+  secrets_unsound bad = unsound_pledge h b n (λ o. Each (λ i. IsDayNumber i.day) (secrets_of o)) tt (λ k p is sound at. let s = reachable_of k n p sound at in
       days_in (λ i. i.day) p.agreement.taken p.standing.last p.secrets
       (taken_of h storable b n k p is at) s.replayable.issued.ordered s.replayable.issued.before s.within.last) bad
 
   pub extensions_unsound : (Each (λ e. IsDayNumber e.day × IsDayNumber e.until) (extensions_of found) → ⊥) → IsUnsoundAt b h
   extensions_unsound bad = unsound_pledge h b n (λ o. Each (λ e. IsDayNumber e.day × IsDayNumber e.until) (extensions_of o)) tt
-      (λ k p is sound at. let s = standing_of k n p sound at in
+      (λ k p is sound at. let s = reachable_of k n p sound at in
       days_extended p.agreement.taken _ p.extensions (taken_of h storable b n k p is at) s.replayable.extended.each s.within.untils) bad
 
   booked_day : (p : PledgeValue) (o : Option Booking) → first_day ≤ p.agreement.taken → IsBooked p o → IfSome o (λ k. k.day ≤ last_stamp_day)
@@ -111,12 +125,12 @@ module _ (h : Host) (storable : AreStorable h) (b n : ℕ) where
   booked_day p (Some k) first booked named = let a = booked.0 in (omega (arith, first, a), omega (arith, named))
 
   pub booking_unsound : (IfSome (booking_of found) (λ k. IsDayNumber k.day) → ⊥) → IsUnsoundAt b h
-  booking_unsound bad = unsound_pledge h b n (λ o. IfSome (booking_of o) (λ k. IsDayNumber k.day)) tt (λ k p is sound at. let s = standing_of k n p sound at in
+  booking_unsound bad = unsound_pledge h b n (λ o. IfSome (booking_of o) (λ k. IsDayNumber k.day)) tt (λ k p is sound at. let s = reachable_of k n p sound at in
       booked_day p p.standing.booking (taken_of h storable b n k p is at) s.replayable.booked s.within.booking) bad
 
   pub totals_unsound : (IfSome (totals_in found) (λ t. IsDayNumber t.day) → ⊥) → IsUnsoundAt b h
   totals_unsound bad = unsound_pledge h b n (λ o. IfSome (totals_in o) (λ t. IsDayNumber t.day)) tt (λ k p is sound at.
-      let s = standing_of k n p sound at in let low = last_by-le (λ e. e.day) p.agreement.taken p.entries s.replayable.entered.ordered in
+      let s = reachable_of k n p sound at in let low = last_by-le (λ e. e.day) p.agreement.taken p.entries s.replayable.entered.ordered in
       day_of_pledge p.agreement.taken (last_of p.agreement.taken p.entries) p.standing.last
       (taken_of h storable b n k p is at) low s.replayable.entered.before s.within.last) bad
 
@@ -127,7 +141,7 @@ module _ (h : Host) (storable : AreStorable h) (b n : ℕ) where
   closed_in p (Sold day net) first low high closed = let e = closed.0 in (omega (arith, first, low, e), omega (arith, high, e))
 
   row_told : (k : BookValue) (p : PledgeValue) → get h.books b ≡ Some k → IsSoundBook k → pledge_from 1 k.pledges n ≡ Some p → IsRowTold p
-  row_told k p is sound at = let s = standing_of k n p sound at in
+  row_told k p is sound at = let s = reachable_of k n p sound at in
       let w : HasTextsAndWords p = each_at HasTextsAndWords 1 k.pledges n p sound.written at in
       let first = taken_of h storable b n k p is at in let low = s.replayable.last_in in
       let high = s.within.last in
@@ -148,14 +162,14 @@ module _ (h : Host) (storable : AreStorable h) (b n : ℕ) where
 -- what the row of a pledge holds that its debt depends on
 pub credit_unsound : (h : Host) → AreStorable h → (b n : ℕ) → (IfSome (pledge_in (get h.books b) n) IsCreditTold → ⊥) → IsUnsoundAt b h
 credit_unsound h storable b n bad = unsound_pledge h b n (λ o. IfSome o IsCreditTold) tt (λ k p is sound at.
-    let s = standing_of k n p sound at in let low = s.replayable.last_in in
+    let s = reachable_of k n p sound at in let low = s.replayable.last_in in
     let high = s.within.last in
     record { taken = (taken_of h storable b n k p is at, omega (arith, low, high)); agreed = s.within.opening.agreed }) bad
 
 -- a pledge that can't stand is of a book that is not sound
-pub standing_unsound : (h : Host) (b n : ℕ) (p : PledgeValue) → pledge_in (get h.books b) n ≡ Some p → (IsStanding p → ⊥) → IsUnsoundAt b h
-standing_unsound h b n p at bad = unsound_pledge h b n (λ o. IfSome o IsStanding) tt (λ k q is sound here. standing_of k n q sound here)
-    (λ all. bad (subst (λ o. IfSome o IsStanding) at all))
+pub unreachable_unsound : (h : Host) (b n : ℕ) (p : PledgeValue) → pledge_in (get h.books b) n ≡ Some p → (IsReachable p → ⊥) → IsUnsoundAt b h
+unreachable_unsound h b n p at bad = unsound_pledge h b n (λ o. IfSome o IsReachable) tt (λ k q is sound here. reachable_of k n q sound here)
+    (λ all. bad (subst (λ o. IfSome o IsReachable) at all))
 
 -- the secrets of a pledge are words
 pub words_in : (h : Host) → AreStorable h → (b n : ℕ) → AreWords (secrets_of (pledge_in (get h.books b) n))
@@ -209,7 +223,7 @@ named_agreed : (o : Option ℕ) → IfSome o IsStampDay → IfSome o (λ d. d �
 named_agreed None is = tt
 named_agreed (Some d) is = is.1
 
-end_day : (p : PledgeValue) → IsStanding p → first_day ≤ p.agreement.taken → IsDayNumber (end_of p)
+end_day : (p : PledgeValue) → IsReachable p → first_day ≤ p.agreement.taken → IsDayNumber (end_of p)
 end_day p s first = let six = six_months_day p.agreement.taken first (let low = s.replayable.last_in in let high = s.within.last in omega (arith, low, high)) in
     later_day _ (last_until p.extensions) (later_day _ p.agreement.opening.agreed six (named_agreed p.agreement.opening.agreed s.within.opening.agreed))
     (named_last p.extensions s.within.untils)
@@ -222,7 +236,7 @@ has_secret taken credit (i ∷ is) issued = subst (λ o. IsTrue (is_some o)) (sy
 -- a pledge that has no brief is of a book that is not sound
 pub brief_unsound : (h : Host) → AreStorable h → (b n : ℕ) (p : PledgeValue) → pledge_in (get h.books b) n ≡ Some p → (IsBriefTold p → ⊥) → IsUnsoundAt b h
 brief_unsound h storable b n p at bad = unsound_pledge h b n (λ o. IfSome o IsBriefTold) tt (λ k q is sound here.
-    let s = standing_of k n q sound here in
+    let s = reachable_of k n q sound here in
     record {
       secret = has_secret q.agreement.taken _ q.secrets s.replayable.issued.sorts;
       ends = end_day q s (taken_of h storable b n k q is here);

@@ -1,7 +1,12 @@
 -- What a statement that is asked within a transaction finds.
-use Rattle.{one_table.proofs.Parts.plain_rests, sqlite.proofs.Callers.IsPlain, std.proofs.Common.{◌≡◌, List, ℕ, true, Result, Ok, Err, refl, sym, subst}}
-use Rattle.pawn_tables.specs.Common.{Index, Tables, understood, Row, Schema, HasCleanDisk, Shown, State, Host, KeepError, Database, NoRecord, IsLent, Rests}
-use Rattle.pawn_tables.specs.{Finding.{Finds, FindsIn, FindsOf, IsRead}, Ours.{HasOurTables, with_indexes}, StandsFor.{ListDebts, StandsFor}}
+use Rattle.one_table.proofs.Parts.{plain_rests}
+use Rattle.pawn_tables.specs.Common.{Index, Tables, understood, Row, Schema, HasCleanDisk, Shown, State, Host}
+use Rattle.pawn_tables.specs.Common.{KeepError, Database, NoRecord, IsLent, Rests}
+use Rattle.pawn_tables.specs.Finding.{Finds, FindsIn, FindsOf, IsRead}
+use Rattle.pawn_tables.specs.Ours.{HasOurTables, with_indexes}
+use Rattle.pawn_tables.specs.StandsFor.{ListDebts, StandsFor}
+use Rattle.sqlite.proofs.Callers.{IsPlain}
+use Rattle.std.proofs.Common.{◌≡◌, List, ℕ, true, Result, Ok, Err, refl, sym, subst}
 use Rattle.pawn_book.specs.declared.fault.KeepError.TheVariants as Keeper
 
 -- what was read has what holds of what stands, and what can't be kept is of a host that is not sound

@@ -1,14 +1,28 @@
 -- What the query for the windows of a day shows, where the tables stand for a host.
-use Rattle.std.proofs.Common.{◌≡◌, ◌≢◌, ◌==◌, ℕ, ◌<◌, ◌≤◌, pos, List, [], ◌∷◌, map, filter, filter_map, nat_lt, Bool, true, false, cond, ◌&&◌, ◌||◌, Option}
-use Rattle.std.{proofs.{Common.{Some, None, refl, sym, ap, subst, ◌∙◌, arith, true≢false}, Math.Bool.and-true}, specs.declared.cmp.Ordering.Ordering}
-use Rattle.{std.proofs.lemmas.Cmp.{alike_right, tied_itself}, pawn_tables.specs.Common.{get, AllByRecursion, IsDistinct, cons_option, list_all, list_any}}
-use Rattle.pawn_tables.specs.Common.{eq_by_cmp, is_eq, ordering_then, Equal, Greater, Less, Binary, Row, column, value_cmp, Shown, State, Table, PledgeValue}
-use Rattle.pawn_tables.specs.{Common.{Booking, is_confirmed, is_confirmed_for, Host, pledges_of, part_items, Confirmed}, At.{is_at, is_below}}
-use Rattle.pawn_tables.specs.{Heads.number_cells, Lines.NamesWindows, Ours.with_indexes, Rows.{booking_cells, booking_listed, number, number_in_book}}
-use Rattle.pawn_tables.{specs.{Rows.{state_number, under}, Schema.{bookings, bookings_tree}, StandsFor.{StandsFor, of_pledges}}, proofs.Basics.nat_tests}
-use Rattle.pawn_tables.proofs.{Basics.{all-map, all_from_map, all_weaker, value_cmp-Int}, RowsUnderKey.equals, LineReads.{all_kept, booking_in}}
-use Rattle.{pawn_tables.proofs.{LineReads.confirmed_state, OneEach.{shown_each, tell_of}}, sqlite_value.specs.Keys.collated_cmp}
-use Rattle.{sqlite_value.proofs.KeyLemmas.collated_cmp_total, one_table.proofs.Distinct.{each_shown_once, shown_apart, shown_once_each}}
+use Rattle.one_table.proofs.Distinct.{each_shown_once, shown_apart, shown_once_each}
+use Rattle.pawn_tables.proofs.Basics.{nat_tests, all-map, all_from_map, all_weaker, value_cmp-Int}
+use Rattle.pawn_tables.proofs.LineReads.{all_kept, booking_in, confirmed_state}
+use Rattle.pawn_tables.proofs.OneEach.{shown_each, tell_of}
+use Rattle.pawn_tables.proofs.RowsUnderKey.{equals}
+use Rattle.pawn_tables.specs.At.{is_at, is_below}
+use Rattle.pawn_tables.specs.Common.{get, AllByRecursion, IsDistinct, cons_option, list_all, list_any, eq_by_cmp, is_eq}
+use Rattle.pawn_tables.specs.Common.{ordering_then, Equal, Greater, Less, Binary, Row, column, value_cmp, Shown, State}
+use Rattle.pawn_tables.specs.Common.{Table, PledgeValue, Booking, is_confirmed, is_confirmed_for, Host, pledges_of}
+use Rattle.pawn_tables.specs.Common.{part_items, Confirmed}
+use Rattle.pawn_tables.specs.Heads.{number_cells}
+use Rattle.pawn_tables.specs.Lines.{NamesWindows}
+use Rattle.pawn_tables.specs.Ours.{with_indexes}
+use Rattle.pawn_tables.specs.Rows.{booking_cells, booking_listed, number, number_in_book, state_number, under}
+use Rattle.pawn_tables.specs.Schema.{bookings, bookings_tree}
+use Rattle.pawn_tables.specs.StandsFor.{StandsFor, of_pledges}
+use Rattle.sqlite_value.proofs.KeyLemmas.{collated_cmp_total}
+use Rattle.sqlite_value.specs.Keys.{collated_cmp}
+use Rattle.std.proofs.Common.{◌≡◌, ◌≢◌, ◌==◌, ℕ, ◌<◌, ◌≤◌, pos, List, [], ◌∷◌, map, filter, filter_map, nat_lt, Bool}
+use Rattle.std.proofs.Common.{true, false, cond, ◌&&◌, ◌||◌, Option, Some, None, refl, sym, ap, subst, ◌∙◌, arith}
+use Rattle.std.proofs.Common.{true≢false}
+use Rattle.std.proofs.Math.Bool.{and-true}
+use Rattle.std.proofs.lemmas.Cmp.{alike_right, tied_itself}
+use Rattle.std.specs.declared.cmp.Ordering.{Ordering}
 use Rattle.pawn_book.specs.declared.sheet.Part.TheVariants as part_of
 use Rattle.pawn_tables.proofs.ReadTexts as text
 use Rattle.pawn_tables.proofs.BookReads as books

@@ -1,6 +1,7 @@
 -- A word of 128 bits and its sixteen bytes.
-use Rattle.{std.proofs.Common.{◌≡◌, ℕ, List, arith, ap, sym, ◌∙◌}, pawn_tables.specs.Common.{from_be_bytes, to_be_bytes, w128, Value, Blob, IsWord}}
+use Rattle.pawn_tables.specs.Common.{from_be_bytes, to_be_bytes, w128, Value, Blob, IsWord}
 use Rattle.pawn_tables.specs.Rows.{word}
+use Rattle.std.proofs.Common.{◌≡◌, ℕ, List, arith, ap, sym, ◌∙◌}
 
 pub word_of_bytes : (n : ℕ) → IsWord n → from_be_bytes w128 (to_be_bytes w128 n) ≡ n
 word_of_bytes n fits = omega arith

@@ -1,6 +1,7 @@
--- Which rows a query finds.
+-- The tests by which queries choose rows.
+use Rattle.pawn_tables.specs.Common.{list_all, Compare, Eq, Ge, Gt, Lt, Binary, binary, is_true, Row, column, Value}
+use Rattle.pawn_tables.specs.Rows.{number}
 use Rattle.std.specs.Prelude.{ℕ, Bool, [], ◌∷◌}
-use Rattle.pawn_tables.specs.{Common.{list_all, Compare, Eq, Ge, Gt, Lt, Binary, binary, is_true, Row, column, Value}, Rows.number}
 
 -- SQL's =
 abbrev pub is_at : Value → Value → Bool
@@ -18,10 +19,10 @@ is_from v w = is_true (binary (Compare Ge Binary) v w)
 abbrev pub is_below : Value → Value → Bool
 is_below v w = is_true (binary (Compare Lt Binary) v w)
 
--- whether a row is one of book b, by its first column
+-- whether a row belongs to book b: its first column is b
 abbrev pub at_book : ℕ → Row → Bool
 at_book b v = list_all (λ (x : Bool). x) (is_at (column v 0) (number b) ∷ [])
 
--- whether a row is one of pledge n of book b, by its first two columns
+-- whether a row belongs to pledge n of book b: its first two columns are b and n
 abbrev pub at_pledge : ℕ → ℕ → Row → Bool
 at_pledge b n v = list_all (λ (x : Bool). x) (is_at (column v 0) (number b) ∷ is_at (column v 1) (number n) ∷ [])

@@ -1,13 +1,15 @@
--- What the row of a book holds.
-use Rattle.std.specs.{Prelude.{ℕ, [], ◌∷◌, IfSome}, Str.IsUtf8}
-use Rattle.pawn_tables.specs.{Common.{Row, IsText, BookValue, IsCapacity, most_name_bytes, IsWord}, Rows.number}
+-- The row of a book.
+use Rattle.pawn_tables.specs.Common.{Row, IsText, BookValue, IsCapacity, most_name_bytes, IsWord}
+use Rattle.pawn_tables.specs.Rows.{number}
+use Rattle.std.specs.Prelude.{ℕ, [], ◌∷◌, IfSome}
+use Rattle.std.specs.Str.{IsUtf8}
 
--- its keys are words
+-- the keys of the book are 128-bit words
 pub record HasKeys (k : BookValue) : Type 0 where
   pub key : IsWord k.key
   pub imported : IfSome k.imported (λ i. IsWord i.key)
 
--- its name and its capacity keep their limits
+-- the row of the book can be decoded: its name and its capacity are within their limits
 pub record IsHeadTold (k : BookValue) : Type 0 where
   pub name : IsText most_name_bytes k.name × IsUtf8 k.name
   pub capacity : IsCapacity k.capacity
@@ -16,6 +18,6 @@ pub record IsHeadTold (k : BookValue) : Type 0 where
 abbrev pub number_cells : ℕ → Row
 number_cells n = number n ∷ []
 
--- the highest number that SQL counts to
+-- the largest number that SQL counts to: 2^63 - 1
 abbrev pub most_counted : ℕ
 most_counted = 9223372036854775807

@@ -1,31 +1,34 @@
--- What a keeper over a connection keeps.
+-- The keeper over a connection, as an instance of `Keeping`.
+use Rattle.pawn_tables.specs.Common.{HasCleanDisk, State, Trees, Host, Keeping, IsSound}
+use Rattle.pawn_tables.specs.StandsFor.{StandsFor, HoldHost}
 use Rattle.std.specs.Prelude.{◌≡◌, false, IsTrue}
-use Rattle.pawn_tables.specs.{Common.{HasCleanDisk, State, Trees, Host, Keeping, IsSound}, StandsFor.{StandsFor, HoldHost}}
 
--- no transaction is under way, and what is committed stands for the host; a store that a fault has shut stands for any
+-- no transaction is under way, and the store, if it is open, shows what is committed, which stands for the host; a
+-- store that a fault has shut meets this for every host
 pub record Keeps (s : State) (h : Host) : Type 0 where
   pub autocommit : s.in_transaction ≡ false
   pub committed : IsTrue s.is_open → s.now ≡ s.committed
   pub stands : IsTrue s.is_open → StandsFor s.now h
 
--- a crash now may leave trees that stand for the host
+-- a crash at this moment may leave trees that stand for the host
 pub record Leaves (s : State) (h : Host) : Type 0 where
   pub trees : Trees
   pub left : s.may_leave trees
   pub stands : HoldHost trees h
 
--- trees that hold a sound host
+-- the trees stand for a sound host
 abbrev pub HoldSound : Trees → Type 0
 HoldSound trees = (h : Host) × IsSound h × HoldHost trees h
 
--- a sound host is kept, and whatever trees a crash now may leave hold one
+-- the store stands for a sound host, and all trees that a crash at this moment may leave stand for a sound host
 pub record IsWhole (s : State) : Type 0 where
   pub host : Host
   pub sound : IsSound host
   pub keeps : Keeps s host
   pub crash : (trees : Trees) → s.may_leave trees → HoldSound trees
 
--- a keeper over a connection: honest while the disk has returned what was written; its store may always fail
+-- A keeper over a connection. It is honest as long as the disk has returned what was written, and serves while its
+-- store is open. It is never steady: its store may fail at any time.
 abbrev pub keeping_by : {K : Type 0} → (K → State) → Keeping K
 keeping_by state = record {
   stands = λ k. Keeps (state k);

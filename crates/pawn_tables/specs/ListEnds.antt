@@ -1,12 +1,15 @@
--- What the ends of a pledge's lists show: how long the lists are, and the last secret.
+-- The ends of a pledge's lists: how long the lists are, and the last secret.
+use Rattle.pawn_tables.specs.Common.{Row, PledgeValue, last_element, Issued}
+use Rattle.pawn_tables.specs.Rows.{secret_cells}
+use Rattle.pawn_tables.specs.declared.joining.LastSecret.{LastSecret}
+use Rattle.pawn_tables.specs.declared.joining.ListEnds.{ListEnds}
 use Rattle.std.specs.Prelude.{◌≡◌, List, length, Option, option_map}
-use Rattle.pawn_tables.specs.{Common.{Row, PledgeValue, last_element, Issued}, Rows.secret_cells, declared.joining.{LastSecret.LastSecret, ListEnds.ListEnds}}
 
--- the last of the secrets; its place is how many there are
+-- the last secret, with its place, which is the number of the secrets
 abbrev pub last_issued : List Issued → Option LastSecret
 last_issued secrets = option_map (λ (i : Issued). record { place = length secrets; issued = i }) (last_element secrets)
 
--- what its row shows
+-- the cells of its row, without the pledge's key
 abbrev pub last_cells : LastSecret → Row
 last_cells l = secret_cells l.place l.issued
 

@@ -1,17 +1,24 @@
--- What the row of a pledge holds, and what the tables beside it hold.
-use Rattle.std.specs.{Prelude.{◌≡◌, Option, Some, None, IfSome, IsTrue, is_some}, Str.IsUtf8}
-use Rattle.pawn_tables.specs.Common.{IsDayNumber, IsStampDay, totals_of, Totals, IsBriefWithin, brief_of, PledgeValue, debt_of, end_of, last_element, IsText}
-use Rattle.pawn_tables.specs.{Common.Booking, Rows.closed_day, declared.{credits.Credit.Credit, joining.{Lists.Lists, RowsBeside.RowsBeside}}}
-use Rattle.{pawn_tables.specs.declared.{joining.StoredPledge.StoredPledge, records.PledgeRow.PledgeRow}, pawn_pledge.specs.Limits.most_article_bytes}
-use Rattle.pawn_pledge.specs.{Limits.most_reference_bytes, declared.record.Opening.Opening}
+-- The row of a pledge, its rows in other tables, and when they can be decoded.
+use Rattle.pawn_pledge.specs.Limits.{most_article_bytes, most_reference_bytes}
+use Rattle.pawn_pledge.specs.declared.record.Opening.{Opening}
+use Rattle.pawn_tables.specs.Common.{IsDayNumber, IsStampDay, totals_of, Totals, IsBriefWithin, brief_of, PledgeValue}
+use Rattle.pawn_tables.specs.Common.{debt_of, end_of, last_element, IsText, Booking}
+use Rattle.pawn_tables.specs.Rows.{closed_day}
+use Rattle.pawn_tables.specs.declared.credits.Credit.{Credit}
+use Rattle.pawn_tables.specs.declared.joining.Lists.{Lists}
+use Rattle.pawn_tables.specs.declared.joining.RowsBeside.{RowsBeside}
+use Rattle.pawn_tables.specs.declared.joining.StoredPledge.{StoredPledge}
+use Rattle.pawn_tables.specs.declared.records.PledgeRow.{PledgeRow}
+use Rattle.std.specs.Prelude.{◌≡◌, Option, Some, None, IfSome, IsTrue, is_some}
+use Rattle.std.specs.Str.{IsUtf8}
 
--- the texts of an opening keep their limits, and its day is one that a request may name
+-- an opening can be decoded: its texts are within their limits, and its agreed end, if any, is a request's day
 pub record IsTold (o : Opening) : Type 0 where
   pub reference : IsText most_reference_bytes o.reference × IsUtf8 o.reference
   pub article : IsText most_article_bytes o.article × IsUtf8 o.article
   pub agreed : IfSome o.agreed IsStampDay
 
--- what the row of a pledge holds of it
+-- the row of a pledge, decoded
 abbrev pub row_of : PledgeValue → PledgeRow
 row_of p = record {
   opening = p.agreement.opening;
@@ -23,18 +30,18 @@ row_of p = record {
   closing = p.standing.closing;
 }
 
--- the texts of its opening keep their limits, and its days are days of the calendar
+-- the row of a pledge can be decoded: its opening can be, and its days are days of the calendar
 pub record IsRowTold (p : PledgeValue) : Type 0 where
   pub opening : IsTold p.agreement.opening
   pub taken : IsDayNumber p.agreement.taken
   pub last : IsDayNumber p.standing.last
   pub closed : IfSome (closed_day p.standing.closing) IsDayNumber
 
--- what the row of a pledge holds that its debt depends on
+-- the part of the row of a pledge that its debt depends on
 abbrev pub credit_told : PledgeValue → Credit
 credit_told p = record { kind = p.agreement.opening.kind; taken = p.agreement.taken; agreed = p.agreement.opening.agreed; version = p.agreement.version }
 
--- its days are ones that a request may name
+-- this part can be decoded: its days are requests' days
 pub record IsCreditTold (p : PledgeValue) : Type 0 where
   pub taken : IsStampDay p.agreement.taken
   pub agreed : IfSome p.agreement.opening.agreed IsStampDay
@@ -44,35 +51,35 @@ abbrev pub booking_of : Option PledgeValue → Option Booking
 booking_of None = None
 booking_of (Some p) = p.standing.booking
 
--- what was owed on the day of its last entry, or else on the day taken
+-- the sum owed on the day of the last entry, or on the day taken if there is no entry
 abbrev pub totals_in : Option PledgeValue → Option Totals
 totals_in None = None
 totals_in (Some p) = Some (totals_of (debt_of p))
 
--- the lists of a pledge
+-- these are the lists of the pledge
 pub record AreLists (l : Lists) (p : PledgeValue) : Type 0 where
   pub entries : l.entries ≡ p.entries
   pub secrets : l.secrets ≡ p.secrets
   pub extensions : l.extensions ≡ p.extensions
 
--- what the tables beside its row hold of a pledge
+-- these are the terms, the booking and the totals of the pledge
 pub record AreSides (s : RowsBeside) (p : PledgeValue) : Type 0 where
   pub terms : s.terms ≡ Some p.agreement.terms
   pub booking : s.booking ≡ p.standing.booking
   pub totals : s.totals ≡ Some (totals_of (debt_of p))
 
--- what its row and the tables beside it hold of a pledge, if there is such a pledge
+-- this is the row of the pledge with its terms, its booking and its totals; there is none if there is no such pledge
 abbrev pub AreTold : Option StoredPledge → Option PledgeValue → Type 0
 AreTold None None = Unit {0}
 AreTold None (Some p) = ⊥
 AreTold (Some t) None = ⊥
 AreTold (Some t) (Some p) = (t.row ≡ row_of p) × AreSides t.sides p
 
--- it has a secret
+-- the pledge has a secret
 abbrev pub HasSecret : PledgeValue → Type 0
 HasSecret p = IsTrue (is_some (last_element p.secrets))
 
--- it has a secret, its end is a day, and its brief is within the limits
+-- the brief can be read: the pledge has a secret, its end is a day, and the brief is within its limits
 pub record IsBriefTold (p : PledgeValue) : Type 0 where
   pub secret : HasSecret p
   pub ends : IsDayNumber (end_of p)

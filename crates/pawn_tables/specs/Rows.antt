@@ -1,21 +1,24 @@
--- The rows that hold books and pledges.
-use Rattle.std.specs.Prelude.{ℕ, ◌+◌, Bool, if◌then◌else◌, List, [], ◌∷◌, length, map, pos, Option, Some, None, option_map}
-use Rattle.pawn_tables.specs.Common.{to_be_bytes, w128, Row, Value, Blob, Int, Null, Text, Rates, credit_of, totals_of, Entry, Kind, Fixed, Running, Sort, Draw}
-use Rattle.pawn_tables.specs.Common.{Repay, Totals, PledgeValue, debt_of, end_of, Booking, BookingState, Closing, Extension, Issue, Issued, BookValue, Imported}
+-- The rows that books and pledges are stored in.
+use Rattle.pawn_tables.specs.Common.{to_be_bytes, w128, Row, Value, Blob, Int, Null, Text, Rates, credit_of, totals_of}
+use Rattle.pawn_tables.specs.Common.{Entry, Kind, Fixed, Running, Sort, Draw, Repay, Totals, PledgeValue, debt_of}
+use Rattle.pawn_tables.specs.Common.{end_of, Booking, BookingState, Closing, Extension, Issue, Issued, BookValue}
+use Rattle.pawn_tables.specs.Common.{Imported}
+use Rattle.std.specs.Prelude.{ℕ, ◌+◌, Bool, if◌then◌else◌, List, [], ◌∷◌, length, map, pos, Option, Some, None}
+use Rattle.std.specs.Prelude.{option_map}
 
 -- ---- values
 
 abbrev pub number : ℕ → Value
 number n = Int (pos n)
 
--- a flag is 0 or 1
+-- a flag is encoded as 0 or 1
 abbrev pub flag_number : Bool → ℕ
 flag_number b = if b then 1 else 0
 
 abbrev pub flag : Bool → Value
 flag b = number (flag_number b)
 
--- a key or a secret is its sixteen bytes, the highest first
+-- a key or a secret is encoded as its sixteen bytes, the most significant first
 abbrev pub word : ℕ → Value
 word w = Blob (to_be_bytes w128 w)
 
@@ -43,7 +46,7 @@ state_number BookingState.Confirmed = 1
 state_number BookingState.Refused = 2
 state_number BookingState.Cancelled = 3
 
--- the number that stands for a closing
+-- the number that encodes a closing
 abbrev pub closed_number : Closing → ℕ
 closed_number Closing.Open = 0
 closed_number (Closing.Redeemed day paid) = 1
@@ -55,7 +58,7 @@ closed_day Closing.Open = None
 closed_day (Closing.Redeemed day paid) = Some day
 closed_day (Closing.Sold day net) = Some day
 
--- the sum that was paid, or that the sale brought
+-- the sum in pence that was paid, or that the sale brought
 abbrev pub closed_amount : Closing → Option ℕ
 closed_amount Closing.Open = None
 closed_amount (Closing.Redeemed day paid) = Some paid
@@ -68,7 +71,7 @@ import_key imported = option_map (λ i. i.key) imported
 abbrev pub import_count : Option Imported → Option ℕ
 import_count imported = option_map (λ i. i.pledges) imported
 
--- ---- what the rows show beside the key that they stand under
+-- ---- the cells of the rows after their keys
 
 abbrev pub head_cells : BookValue → Row
 head_cells k =
@@ -85,7 +88,7 @@ pledge_cells p =
     ∷ flag o.five_days ∷ number p.agreement.version ∷ number (end_of p) ∷ flag p.standing.held ∷ number p.standing.last
     ∷ number (closed_number p.standing.closing) ∷ or_null number (closed_day p.standing.closing) ∷ or_null number (closed_amount p.standing.closing) ∷ []
 
--- those cells of its row that its debt depends on
+-- the cells of a pledge's row that its debt depends on
 abbrev pub credit_cells : PledgeValue → Row
 credit_cells p =
     let o = p.agreement.opening in
@@ -113,7 +116,7 @@ abbrev pub at_most_one : {A : Type 0} → (A → Row) → Option A → List Row
 at_most_one f None = []
 at_most_one f (Some x) = f x ∷ []
 
--- the elements with their places, from a place on
+-- the rows of the elements, whose places are numbered from `at` on
 abbrev pub placed_from : {A : Type 0} → (ℕ → A → Row) → ℕ → List A → List Row
 placed_from f at [] = []
 placed_from f at (x ∷ xs) = f at x ∷ placed_from f (at + 1) xs
@@ -122,7 +125,7 @@ placed_from f at (x ∷ xs) = f at x ∷ placed_from f (at + 1) xs
 abbrev pub book_row : ℕ → BookValue → Row
 book_row b k = number b ∷ head_cells k
 
--- the terms of a book, under their versions
+-- the rows of a book's terms, one for each version
 abbrev pub terms_listed : ℕ → BookValue → List Row
 terms_listed b k = placed_from (λ version t. number b ∷ number version ∷ terms_cells t) 1 k.terms
 
@@ -145,7 +148,7 @@ secrets_listed b p = placed_from (λ place i. under b (number_in_book p) (secret
 abbrev pub extensions_listed : ℕ → PledgeValue → List Row
 extensions_listed b p = placed_from (λ place e. under b (number_in_book p) (extension_cells place e)) 1 p.extensions
 
--- one row for a booking
+-- one row if the pledge has a booking
 abbrev pub booking_listed : ℕ → PledgeValue → List Row
 booking_listed b p = at_most_one (λ k. under b (number_in_book p) (booking_cells k)) p.standing.booking
 

@@ -1,23 +1,27 @@
--- The tables: of the books, of their pledges, and of what the store notes of itself.
-use Rattle.std.specs.Prelude.{ℕ, [], ◌∷◌, Some, codes}
-use Rattle.{sqlite_value.specs.Keys.plain, pawn_tables.specs.Common.{Schema, Table}, sqlite.specs.{Change.created, Kind.TheVariants.{Integer, Text, Blob}}}
+-- The tables of a store, and the schemas that have them.
 use Rattle.one_table.specs.Columns.{filled, blank, refers, keyed, no_schema}
+use Rattle.pawn_tables.specs.Common.{Schema, Table}
+use Rattle.sqlite.specs.Change.{created}
+use Rattle.sqlite.specs.Kind.TheVariants.{Integer, Text, Blob}
+use Rattle.sqlite_value.specs.Keys.{plain}
+use Rattle.std.specs.Prelude.{ℕ, [], ◌∷◌, Some, codes}
 
--- a book, by its number; the counts of its terms and pledges; the key of the import that filled it, and how many pledges came with it
+-- One row for each book, by its number: its key, name and capacity, how many versions of terms and pledges it has, the
+-- key of the import that filled it, and how many pledges the import brought.
 abbrev pub books : Table
 books = record (keyed (codes "books")
     (blank (codes "book") Integer ∷ filled (codes "book_key") Blob ∷ filled (codes "title") Text ∷ filled (codes "capacity") Integer
     ∷ filled (codes "terms") Integer ∷ filled (codes "pledges") Integer ∷ blank (codes "import_key") Blob ∷ blank (codes "imported") Integer ∷ [])
     (0 ∷ []) [] []) { key = Some 0 }
 
--- the terms of a book under each version
+-- one row for each version of a book's terms
 abbrev pub terms : Table
 terms = record (keyed (codes "terms")
     (filled (codes "book") Integer ∷ filled (codes "version") Integer ∷ filled (codes "rate") Integer ∷ filled (codes "keep_before") Integer
     ∷ filled (codes "keep_after") Integer ∷ [])
     (1 ∷ 2 ∷ []) ((1 ∷ 2 ∷ []) ∷ []) (refers (1 ∷ []) (codes "books") ∷ [])) { orders = plain ∷ [] }
 
--- what was agreed on a pledge, the end of its period, and its standing
+-- one row for each pledge: what was agreed, the end of its period, and the single values that can change
 abbrev pub pledges : Table
 pledges = record (keyed (codes "pledges")
     (filled (codes "book") Integer ∷ filled (codes "number") Integer ∷ filled (codes "ref") Text ∷ filled (codes "article") Text
@@ -26,46 +30,47 @@ pledges = record (keyed (codes "pledges")
     ∷ filled (codes "last_day") Integer ∷ filled (codes "closed") Integer ∷ blank (codes "closed_day") Integer ∷ blank (codes "amount") Integer ∷ [])
     (1 ∷ 2 ∷ []) ((1 ∷ 2 ∷ []) ∷ (1 ∷ 3 ∷ []) ∷ []) (refers (1 ∷ 10 ∷ []) (codes "terms") ∷ [])) { orders = plain ∷ plain ∷ [] }
 
--- drawings and repayments
+-- one row for each drawing and repayment
 abbrev pub entries : Table
 entries = record (keyed (codes "entries")
     (filled (codes "book") Integer ∷ filled (codes "number") Integer ∷ filled (codes "seq") Integer ∷ filled (codes "day") Integer
     ∷ filled (codes "sort") Integer ∷ filled (codes "pence") Integer ∷ [])
     (1 ∷ 2 ∷ 3 ∷ []) ((1 ∷ 2 ∷ 3 ∷ []) ∷ []) (refers (1 ∷ 2 ∷ []) (codes "pledges") ∷ [])) { orders = plain ∷ [] }
 
--- the secrets of a pledge, in the order of their places
+-- one row for each secret of a pledge, by its place
 abbrev pub secrets : Table
 secrets = record (keyed (codes "secrets")
     (filled (codes "book") Integer ∷ filled (codes "number") Integer ∷ filled (codes "place") Integer ∷ filled (codes "day") Integer
     ∷ filled (codes "sort") Integer ∷ filled (codes "secret") Blob ∷ [])
     (1 ∷ 2 ∷ 3 ∷ []) ((1 ∷ 2 ∷ 3 ∷ []) ∷ (1 ∷ 2 ∷ 6 ∷ []) ∷ []) (refers (1 ∷ 2 ∷ []) (codes "pledges") ∷ [])) { orders = plain ∷ plain ∷ [] }
 
--- the booking of a pledge
+-- at most one row for each pledge: its booking
 abbrev pub bookings : Table
 bookings = record (keyed (codes "bookings")
     (filled (codes "book") Integer ∷ filled (codes "number") Integer ∷ filled (codes "day") Integer ∷ filled (codes "slot") Integer
     ∷ filled (codes "state") Integer ∷ [])
     (1 ∷ 2 ∷ []) ((1 ∷ 2 ∷ []) ∷ []) (refers (1 ∷ 2 ∷ []) (codes "pledges") ∷ [])) { orders = plain ∷ [] }
 
--- the number of the schema, the count of rows, and the limit on them
+-- the notes: the number of the schema, the count of the counted rows, and the limit on them
 abbrev pub meta : Table
 meta = record (keyed (codes "meta") (filled (codes "name") Text ∷ filled (codes "value") Integer ∷ []) (1 ∷ []) ((1 ∷ []) ∷ []) []) { orders = plain ∷ [] }
 
--- what was owed on the day of the last entry
+-- one row for each pledge: the sum owed on the day of the last entry
 abbrev pub totals : Table
 totals = record (keyed (codes "totals")
     (filled (codes "book") Integer ∷ filled (codes "number") Integer ∷ filled (codes "day") Integer ∷ filled (codes "principal") Integer
     ∷ filled (codes "charges") Integer ∷ [])
     (1 ∷ 2 ∷ []) ((1 ∷ 2 ∷ []) ∷ []) (refers (1 ∷ 2 ∷ []) (codes "pledges") ∷ [])) { orders = plain ∷ [] }
 
--- longer periods, in the order of their places
+-- one row for each extension of a pledge's period, by its place
 abbrev pub extensions : Table
 extensions = record (keyed (codes "extensions")
     (filled (codes "book") Integer ∷ filled (codes "number") Integer ∷ filled (codes "place") Integer ∷ filled (codes "day") Integer
     ∷ filled (codes "until_day") Integer ∷ [])
     (1 ∷ 2 ∷ 3 ∷ []) ((1 ∷ 2 ∷ 3 ∷ []) ∷ []) (refers (1 ∷ 2 ∷ []) (codes "pledges") ∷ [])) { orders = plain ∷ [] }
 
--- the trees of the tables, made in this order; the trees between are their indexes
+-- The trees of the tables, numbered in the order in which they are made. The numbers between are the trees of their
+-- indexes.
 abbrev pub books_tree : ℕ
 books_tree = 0
 
@@ -97,10 +102,10 @@ extensions_tree = 17
 abbrev pub first_schema : Schema
 first_schema = created (created (created (created (created (created (created no_schema books) terms) pledges) entries) secrets) bookings) meta
 
--- the second schema has totals beside them
+-- the second schema has the table of totals in addition
 abbrev pub second_schema : Schema
 second_schema = created first_schema totals
 
--- the third, which is the program's, has extensions too
+-- the third schema, which is the program's, has the table of extensions in addition
 abbrev pub keep_schema : Schema
 keep_schema = created second_schema extensions

@@ -1,28 +1,35 @@
--- When tables stand for a host.
+-- The relation *stands for*: when tables represent a host.
+use Rattle.pawn_tables.specs.Common.{entries, get, Row, Schema, Trees, PledgeValue, Each, BookValue, Host, rows}
+use Rattle.pawn_tables.specs.Common.{AreNumberedFrom, IsUnder, AreWords, IsWord, Holds}
+use Rattle.pawn_tables.specs.Entries.{RiseFrom}
+use Rattle.pawn_tables.specs.Meta.{meta_rows}
+use Rattle.pawn_tables.specs.Ours.{HasOurTables}
+use Rattle.pawn_tables.specs.Rows.{book_row, terms_listed, pledge_listed, entries_listed, secrets_listed}
+use Rattle.pawn_tables.specs.Rows.{booking_listed, totals_listed, extensions_listed}
+use Rattle.pawn_tables.specs.Schema.{books, terms, pledges, entries as entries_table, secrets, bookings, meta, totals}
+use Rattle.pawn_tables.specs.Schema.{extensions, bookings_tree, books_tree, entries_tree, extensions_tree, meta_tree}
+use Rattle.pawn_tables.specs.Schema.{pledges_tree, secrets_tree, terms_tree, totals_tree}
+use Rattle.pawn_terms.specs.Limits.{first_day}
+use Rattle.sqlite.specs.Effect.{Database, IsDatabase}
 use Rattle.std.specs.Prelude.{ℕ, ◌≡◌, ◌≤◌, ◌<◌, ◌^◌, List, length, map, flat_map, Some, IfSome}
-use Rattle.pawn_tables.specs.Common.{entries, get, Row, Schema, Trees, PledgeValue, Each, BookValue, Host, rows, AreNumberedFrom, IsUnder, AreWords, IsWord}
-use Rattle.pawn_tables.specs.{Common.Holds, Schema.{books, terms, pledges, entries as entries_table, secrets, bookings, meta, totals, extensions}}
-use Rattle.pawn_tables.specs.Schema.{bookings_tree, books_tree, entries_tree, extensions_tree, meta_tree, pledges_tree, secrets_tree, terms_tree, totals_tree}
-use Rattle.pawn_tables.specs.{Entries.RiseFrom, Ours.HasOurTables, Meta.meta_rows, Rows.{book_row, terms_listed, pledge_listed, entries_listed, secrets_listed}}
-use Rattle.{pawn_tables.specs.Rows.{booking_listed, totals_listed, extensions_listed}, pawn_terms.specs.Limits.first_day, sqlite.specs.Effect.Database}
-use Rattle.sqlite.specs.Effect.{IsDatabase}
 
--- the rows of each book
+-- the rows of all books together
 abbrev pub of_books : Host → (ℕ → BookValue → List Row) → List Row
 of_books h rows_of = flat_map (λ (e : ℕ × BookValue). rows_of e.0 e.1) (entries h.books)
 
--- the rows of each pledge of each book
+-- the rows of all pledges of all books together
 abbrev pub of_pledges : Host → (ℕ → PledgeValue → List Row) → List Row
 of_pledges h rows_of = of_books h (λ b k. flat_map (rows_of b) k.pledges)
 
--- What the order of rows keeps of a book. Its pledges are numbered 1, 2, .., and the numbers of each pledge's entries
--- rise. The terms of each pledge are those of its version.
+-- A book that can be read back in the order of its keys: its pledges are numbered 1, 2, .., and the numbers of each
+-- pledge's entries rise. The terms of each pledge are the book's terms under its version.
 pub record IsOrdered (k : BookValue) : Type 0 where
   pub pledges : AreNumberedFrom 1 k.pledges
   pub entries : Each (λ p. RiseFrom 0 p.entries) k.pledges
   pub under : Each (IsUnder k.terms) k.pledges
 
--- What rows can hold: keys and secrets of 128 bits, no pledge taken before the first day that there is, and versions of 32 bits.
+-- A book that rows can hold: its keys and secrets have 128 bits, no pledge was taken before the first day of the
+-- calendar, and it has fewer than 2^32 versions of terms.
 pub record IsStorable (k : BookValue) : Type 0 where
   pub key : IsWord k.key
   pub imported : IfSome k.imported (λ i. IsWord i.key)
@@ -36,7 +43,7 @@ AreBooksOrdered h = (b : ℕ) (k : BookValue) → get h.books b ≡ Some k → I
 abbrev pub AreStorable : Host → Type 0
 AreStorable h = (b : ℕ) (k : BookValue) → get h.books b ≡ Some k → IsStorable k
 
--- The tables of books, of terms, of pledges and of entries list the host, whatever the others hold.
+-- The tables of books, terms, pledges and entries hold the rows of the host; the other tables may hold anything.
 pub record ListDebts (db : Database) (h : Host) : Type 0 where
   pub schema : HasOurTables db.schema
   pub books : Holds db.trees books_tree (record books { tree = books_tree }) (map (λ (e : ℕ × BookValue). book_row e.0 e.1) (entries h.books))
@@ -46,10 +53,11 @@ pub record ListDebts (db : Database) (h : Host) : Type 0 where
   pub ordered : AreBooksOrdered h
   pub storable : AreStorable h
 
--- The tables list the host, and note the number of their schema, how many rows are counted, and the limit.
+-- The tables hold the rows of the host, and note the number of the schema, how many counted rows there are, and the
+-- limit.
 pub record StandsFor (db : Database) (h : Host) : Type 0 where
   pub schema : HasOurTables db.schema
-  -- the rows obey it
+  -- the database is valid under its schema
   pub sound : IsDatabase db
   pub books : Holds db.trees books_tree (record books { tree = books_tree }) (map (λ (e : ℕ × BookValue). book_row e.0 e.1) (entries h.books))
   pub terms : Holds db.trees terms_tree (record terms { tree = terms_tree }) (of_books h terms_listed)
@@ -60,10 +68,10 @@ pub record StandsFor (db : Database) (h : Host) : Type 0 where
   pub meta : Holds db.trees meta_tree (record meta { tree = meta_tree }) (meta_rows (rows h) h.limit)
   pub totals : Holds db.trees totals_tree (record totals { tree = totals_tree }) (of_pledges h totals_listed)
   pub extensions : Holds db.trees extensions_tree (record extensions { tree = extensions_tree }) (of_pledges h extensions_listed)
-  -- what no row shows
+  -- conditions on the host itself
   pub ordered : AreBooksOrdered h
   pub storable : AreStorable h
 
--- the trees of a database stand for the host
+-- the trees, under some schema, stand for the host
 abbrev pub HoldHost : Trees → Host → Type 0
 HoldHost trees h = (schema : Schema) × StandsFor (record { schema = schema; trees = trees }) h

@@ -1,15 +1,17 @@
+//! The brief of a stored pledge, read without its lists.
+ghost use Rattle.pawn_tables.specs.Common.{get, brief_of, pledge_in, IsUnsoundAt, Lends};
+ghost use Rattle.pawn_tables.specs.Finding.{FindsBy};
 ghost use Rattle.std.specs.Prelude.{◌≡◌, is_ok, option_map};
-ghost use Rattle.pawn_tables.specs.{Common.{get, brief_of, pledge_in, IsUnsoundAt, Lends}, Finding.FindsBy};
 
-use crate::joining::briefs::join;
+use crate::joining::briefs::join_brief;
 use crate::list_ends::list_ends_in;
 use crate::whole::stored_pledge_in;
 use pawn_book::{Brief, KeepError, Number};
 use sqlite::{Alter, Transaction};
 use std::alloc::Global;
 
-/// The pledge with this number in a book, without its lists, if there is one. No list is read: the totals and the
-/// end of the period are those that are stored.
+/// The brief of the pledge with this number in a book, if there is one. The lists are not read, and the totals and the
+/// end of the period are the stored ones. The error is `NoRecord` only if the book is not sound.
 #[tactic(auto, using(crate::proofs::Basics::lent_then))]
 pub fn brief_in<S: Alter>(
     tx: &mut Transaction<'_, S>,
@@ -26,6 +28,6 @@ pub fn brief_in<S: Alter>(
         return Ok(None);
     };
     let list_ends = list_ends_in(tx, book, n)?;
-    let brief = join(number, told.row, told.sides, list_ends)?;
+    let brief = join_brief(number, told.row, told.sides, list_ends)?;
     Ok(Some(brief))
 }

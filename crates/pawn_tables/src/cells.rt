@@ -1,7 +1,14 @@
-ghost use Rattle.std.specs.{Prelude.{◌≡◌, ◌≢◌, ◌<◌, ℕ, List, Bool, Option, IfSome, length, ⊤}, Str.IsUtf8};
-ghost use Rattle.pawn_tables.specs.Common.{to_be_bytes, w128, column, IsDayNumber, IsStampDay, Sort, IsText, BookingState, Issue, IsWord, Database, NoRecord};
-ghost use Rattle.pawn_tables.specs.{Entries.IsAmount, Finding.IsRead, Rows.{flag, flag_number, issue_number, number, or_null, sort_number, state_number, word}};
-ghost use Rattle.sqlite.specs.declared.{types.Value.TheVariants.Text as Words, error.ErrorCode.TheVariants.OutOfMemory};
+//! Reads the value of a column: numbers, flags, days, keys, texts. `encoding` writes them.
+ghost use Rattle.pawn_tables.specs.Common.{to_be_bytes, w128, column, IsDayNumber, IsStampDay, Sort, IsText};
+ghost use Rattle.pawn_tables.specs.Common.{BookingState, Issue, IsWord, Database, NoRecord};
+ghost use Rattle.pawn_tables.specs.Entries.{IsAmount};
+ghost use Rattle.pawn_tables.specs.Finding.{IsRead};
+ghost use Rattle.pawn_tables.specs.Rows.{flag, flag_number, issue_number, number, or_null, sort_number, state_number};
+ghost use Rattle.pawn_tables.specs.Rows.{word};
+ghost use Rattle.sqlite.specs.declared.error.ErrorCode.TheVariants.{OutOfMemory};
+ghost use Rattle.sqlite.specs.declared.types.Value.TheVariants.{Text as Words};
+ghost use Rattle.std.specs.Prelude.{◌≡◌, ◌≢◌, ◌<◌, ℕ, List, Bool, Option, IfSome, length, ⊤};
+ghost use Rattle.std.specs.Str.{IsUtf8};
 ghost use Rattle.sqlite.specs.declared.error.Error.TheVariants as SqlError;
 ghost use Rattle.pawn_book.specs.declared.fault.KeepError.TheVariants as Keeper;
 
@@ -12,10 +19,10 @@ use sqlite::{Error, ErrorCode, Row};
 use std::alloc::Global;
 use uuid::Uuid;
 
-/// The error for a stored row that does not read as a record.
+/// The error for a stored row that cannot be decoded.
 pub(crate) const NO_RECORD: KeepError = KeepError::Store(StoreFault::NoRecord);
 
-/// The error for a statement that was not run: `Memory` if memory was refused, otherwise `Database`.
+/// The error for a statement that failed: `Memory` if it was out of memory, otherwise `Database`.
 pub fn refused(error: Error) -> KeepError
     ensures no_row { result ≢ Keeper.Store NoRecord }
     ensures memory { result ≡ Keeper.Memory → error ≡ SqlError.SqliteFailure OutOfMemory }
@@ -27,7 +34,7 @@ pub fn refused(error: Error) -> KeepError
     }
 }
 
-// The error for a value of a row that was not read: `Memory` if memory was refused, otherwise `NoRecord`.
+/// The error for a value of a row that could not be read: `Memory` if out of memory, otherwise `NoRecord`.
 fn unread(error: Error) -> KeepError
     ensures memory { error ≡ SqlError.SqliteFailure OutOfMemory → result ≡ Keeper.Memory }
     ensures told { result ≡ Keeper.Memory → error ≡ SqlError.SqliteFailure OutOfMemory }
@@ -49,7 +56,7 @@ pub(crate) fn number_at(row: &Row, at: usize) -> Result<u64, KeepError>
     }
 }
 
-/// The number in a column, or none if it is NULL.
+/// The number in a column, or `None` if it is NULL.
 pub(crate) fn optional_at(row: &Row, at: usize) -> Result<Option<u64>, KeepError>
     ensures read { (n : Option ℕ) → at < length row.now → column row.now at ≡ or_null number n → IsRead result n ⊤ }
 {
@@ -59,7 +66,7 @@ pub(crate) fn optional_at(row: &Row, at: usize) -> Result<Option<u64>, KeepError
     }
 }
 
-// The flag that a number stands for: 0 for false, 1 for true.
+/// The flag that a number encodes: 0 is false, 1 is true. Another number is `NoRecord`.
 fn flag_of(number: u64) -> Result<bool, KeepError>
     ensures read { (b : Bool) → number ≡ flag_number b → IsRead result b ⊤ }
 {
@@ -77,7 +84,7 @@ pub(crate) fn flag_at(row: &Row, at: usize) -> Result<bool, KeepError>
     flag_of(number_at(row, at)?)
 }
 
-/// The day with this number, if it is from 2000-01-01 to 2299-12-31.
+/// The day with this number, counted from 1970-01-01. `NoRecord` if it is not from 2000-01-01 to 2299-12-31.
 pub(crate) fn day_of(number: u64) -> Result<Day, KeepError>
     ensures read { IsRead result number (IsDayNumber number) }
 {
@@ -97,7 +104,7 @@ pub(crate) fn day_at(row: &Row, at: usize) -> Result<Day, KeepError>
     day_of(number_at(row, at)?)
 }
 
-/// The day with this number, if there is a number; it must be a day that a request may name.
+/// The day with this number, if there is a number. `NoRecord` if it is not a request's day.
 pub(crate) fn request_day(number: Option<u64>) -> Result<Option<RequestDay>, KeepError>
     ensures read { IsRead result number (IfSome number IsStampDay) }
 {
@@ -110,7 +117,7 @@ pub(crate) fn request_day(number: Option<u64>) -> Result<Option<RequestDay>, Kee
     }
 }
 
-/// The key or secret in a column.
+/// The key or secret in a column: a blob of sixteen bytes.
 pub(crate) fn word_at(row: &Row, at: usize) -> Result<Secret, KeepError>
     ensures read { (w : ℕ) → at < length row.now → IsWord w → column row.now at ≡ word w → IsRead result w ⊤ }
 {
@@ -124,7 +131,7 @@ pub(crate) fn word_at(row: &Row, at: usize) -> Result<Secret, KeepError>
     }
 }
 
-// The key that sixteen bytes are, the highest first.
+/// The key that sixteen bytes encode, the most significant byte first.
 fn key_of(bytes: &[u8]) -> Result<Secret, KeepError>
     ensures read { (w : ℕ) → IsWord w → bytes.now ≡ to_be_bytes w128 w → IsRead result w ⊤ }
 {
@@ -134,7 +141,7 @@ fn key_of(bytes: &[u8]) -> Result<Secret, KeepError>
     }
 }
 
-/// The key in a column, or none if it is NULL.
+/// The key in a column, or `None` if it is NULL.
 pub(crate) fn optional_word_at(row: &Row, at: usize) -> Result<Option<Secret>, KeepError>
     ensures read { (w : Option ℕ) → at < length row.now → IfSome w IsWord → column row.now at ≡ or_null word w → IsRead result w ⊤ }
 {
@@ -145,7 +152,7 @@ pub(crate) fn optional_word_at(row: &Row, at: usize) -> Result<Option<Secret>, K
     }
 }
 
-/// The text in a column, if it keeps the limits of `Text`.
+/// The text in a column. `NoRecord` if it is not within the limits of `Text<MOST>`.
 pub(crate) fn text_at<const MOST: usize>(
     alloc: Global,
     row: &Row,
@@ -164,7 +171,7 @@ pub(crate) fn text_at<const MOST: usize>(
     }
 }
 
-/// The sum of an entry in pence, if it is at least a penny and no larger than the largest.
+/// The sum of an entry in pence. `NoRecord` if it is not from 1 to `MOST_PENCE`.
 pub(crate) fn amount_of(pence: u64) -> Result<u64, KeepError>
     ensures read { IsRead result pence (IsAmount pence) }
 {
@@ -175,7 +182,7 @@ pub(crate) fn amount_of(pence: u64) -> Result<u64, KeepError>
     }
 }
 
-/// The sort of an entry, by its number.
+/// The kind of an entry that a number encodes: 0 is a drawing, 1 a repayment.
 pub(crate) fn sort_of(number: u64) -> Result<Sort, KeepError>
     ensures read { (s : Sort) → number ≡ sort_number s → IsRead result s ⊤ }
 {
@@ -186,7 +193,8 @@ pub(crate) fn sort_of(number: u64) -> Result<Sort, KeepError>
     }
 }
 
-/// How a secret was issued, by its number.
+/// How a secret was issued, as a number encodes it: 0 with the pledge, 1 on a sworn declaration, 2 on a written
+/// statement.
 pub(crate) fn issue_of(number: u64) -> Result<Issue, KeepError>
     ensures read { (i : Issue) → number ≡ issue_number i → IsRead result i ⊤ }
 {
@@ -198,7 +206,7 @@ pub(crate) fn issue_of(number: u64) -> Result<Issue, KeepError>
     }
 }
 
-/// The state of a booking, by its number.
+/// The state of a booking that a number encodes, from 0 for asked to 3 for cancelled.
 pub(crate) fn state_of(number: u64) -> Result<BookingState, KeepError>
     ensures read { (s : BookingState) → number ≡ state_number s → IsRead result s ⊤ }
 {

@@ -1,11 +1,15 @@
+//! Reads the part of a pledge's row that its debt depends on, for the migration of older schemas.
 #![tactic(auto, using(crate::proofs::StatementFinds::unread_debts))]
 
+ghost use Rattle.pawn_tables.specs.Common.{get, state, IsStampDay, PledgeValue, pledge_in, IsUnsoundAt, Lends};
+ghost use Rattle.pawn_tables.specs.Finding.{FindsOf, IsRead};
+ghost use Rattle.pawn_tables.specs.PledgeRows.{IsCreditTold, credit_told};
+ghost use Rattle.pawn_tables.specs.Rows.{at_most_one, credit_cells};
+ghost use Rattle.pawn_tables.specs.StandsFor.{ListDebts};
 ghost use Rattle.std.specs.Prelude.{◌≡◌, Option, IfSome, is_ok, option_map};
-ghost use Rattle.pawn_tables.specs.{Common.{get, state, IsStampDay, PledgeValue, pledge_in, IsUnsoundAt, Lends}, Finding.{FindsOf, IsRead}};
-ghost use Rattle.pawn_tables.specs.{PledgeRows.{IsCreditTold, credit_told}, Rows.{at_most_one, credit_cells}, StandsFor.ListDebts};
 
 use crate::cells::{NO_RECORD, day_of, number_at, optional_at, request_day};
-use crate::queries::rows_of;
+use crate::queries::run_query;
 use crate::records::kind_of;
 use crate::texts::READ_CREDIT;
 use pawn_book::{KeepError, Kind, RequestDay};
@@ -20,7 +24,7 @@ pub struct Credit {
     pub version: u64,
 }
 
-// The day with this number, if a request may name it.
+/// The day with this number. `NoRecord` if it is not a request's day.
 fn named_day(number: u64) -> Result<RequestDay, KeepError>
     ensures read { IsRead result number (IsStampDay number) }
 {
@@ -30,7 +34,7 @@ fn named_day(number: u64) -> Result<RequestDay, KeepError>
     }
 }
 
-// What a row holds of its pledge's credit.
+/// The credit that a row has.
 fn credit_of(row: &Row) -> Result<Credit, KeepError>
     ensures read { (p : PledgeValue) → row.now ≡ credit_cells p → IsRead result (credit_told p) (IsCreditTold p) }
 {
@@ -49,7 +53,7 @@ fn credit_of(row: &Row) -> Result<Credit, KeepError>
     })
 }
 
-// What the first row holds of its pledge's credit, if there is a row.
+/// The credit that the first row has, if there is a row.
 fn first_credit(rows: &[Row]) -> Result<Option<Credit>, KeepError>
     ensures read { (p : Option PledgeValue) → rows.now ≡ at_most_one credit_cells p → IsRead result (option_map credit_told p) (IfSome p IsCreditTold) }
 {
@@ -59,7 +63,9 @@ fn first_credit(rows: &[Row]) -> Result<Option<Credit>, KeepError>
     Ok(Some(credit_of(row)?))
 }
 
-/// The part of what was agreed on a pledge that its debt depends on, if there is such a pledge.
+/// The part of what was agreed on a pledge that its debt depends on, if there is such a pledge. The tables of
+/// books, terms, pledges and entries must list the host; the others may hold anything. The error is `NoRecord` only if
+/// the book is not sound.
 pub fn credit_in<S: Alter>(
     tx: &mut Transaction<'_, S>,
     book: u32,
@@ -69,6 +75,6 @@ pub fn credit_in<S: Alter>(
         (λ h x. x ≡ option_map credit_told (pledge_in (get h.books book) number)) }
     ensures lent { Lends S.Store tx.old.conn tx.new.conn (is_ok result) }
 {
-    let rows = rows_of(tx, READ_CREDIT, params![book, number])?;
+    let rows = run_query(tx, READ_CREDIT, params![book, number])?;
     first_credit(&rows)
 }

@@ -1,14 +1,14 @@
-//! How values are written into cells. `cells` reads them back.
+//! How values are encoded as cells of a row. `cells` decodes them.
 ghost use Rattle.std.specs.Prelude.{◌≡◌, ◌<◌, ◌^◌, IfOk};
 ghost use Rattle.pawn_tables.specs.Rows as spec;
 
 use pawn_book::{BookingState, Closing, Issue, KeepError, Kind, RequestDay, Sort, StoreFault};
 use sqlite_value::value::Value;
 
-/// The error if the database refused, or if a value does not fit in a cell.
+/// The error for a value that does not fit in a cell; a database that fails is reported by the same error.
 pub const REFUSED: KeepError = KeepError::Store(StoreFault::Database);
 
-/// The number in 32 bits, as a statement takes it. `REFUSED` if it does not fit.
+/// The number as the 32-bit number that a statement binds. `REFUSED` if it does not fit.
 pub fn in_32_bits(number: u64) -> Result<u32, KeepError>
     ensures value { IfOk result (λ n. n ≡ number) }
     ensures in_range { IfOk result (λ n. n < 2 ^ 32) }
@@ -19,14 +19,14 @@ pub fn in_32_bits(number: u64) -> Result<u32, KeepError>
     }
 }
 
-/// The number that stands for a flag in the tables: 0 for false, 1 for true.
+/// The number that encodes a flag: 0 for false, 1 for true.
 pub fn flag_number(flag: bool) -> u32
     ensures value { result ≡ spec.flag_number flag }
 {
     if flag { 1 } else { 0 }
 }
 
-/// The number that stands for a kind of credit in the tables: 0 for a fixed sum, 1 for a running account.
+/// The number that encodes a kind of credit: 0 for a fixed sum, 1 for a running account.
 pub fn kind_number(kind: Kind) -> u32
     ensures value { result ≡ spec.kind_number kind }
 {
@@ -36,7 +36,7 @@ pub fn kind_number(kind: Kind) -> u32
     }
 }
 
-/// The number that stands for a sort of entry in the tables: 0 for a drawing, 1 for a repayment.
+/// The number that encodes a kind of entry: 0 for a drawing, 1 for a repayment.
 pub fn sort_number(sort: Sort) -> u32
     ensures value { result ≡ spec.sort_number sort }
 {
@@ -46,8 +46,8 @@ pub fn sort_number(sort: Sort) -> u32
     }
 }
 
-/// The number that stands in the tables for how a secret was issued: 0 with the pledge, 1 on a sworn declaration, 2 on
-/// a written statement.
+/// The number that encodes how a secret was issued: 0 with the pledge, 1 on a sworn declaration, 2 on a written
+/// statement.
 pub fn issue_number(issue: Issue) -> u32
     ensures value { result ≡ spec.issue_number issue }
 {
@@ -58,7 +58,7 @@ pub fn issue_number(issue: Issue) -> u32
     }
 }
 
-/// The number that stands for a booking's state in the tables, from 0 for asked to 3 for cancelled.
+/// The number that encodes a booking's state: 0 for asked, 1 for confirmed, 2 for refused, 3 for cancelled.
 pub fn state_number(state: BookingState) -> u32
     ensures value { result ≡ spec.state_number state }
 {
@@ -70,7 +70,7 @@ pub fn state_number(state: BookingState) -> u32
     }
 }
 
-// A number as a statement takes it, or NULL.
+/// A number as a cell, or NULL if there is none.
 fn optional(number: Option<u32>) -> Value
     ensures value { result ≡ spec.or_null spec.number number }
 {
@@ -90,7 +90,7 @@ pub fn agreed_value(agreed: Option<RequestDay>) -> Value
     }
 }
 
-/// The number that stands for a closing in the tables: 0 for open, 1 for redeemed, 2 for sold.
+/// The number that encodes a closing: 0 for open, 1 for redeemed, 2 for sold.
 pub fn closed_number(closing: Closing) -> u32
     ensures value { result ≡ spec.closed_number closing }
 {
@@ -112,7 +112,7 @@ pub fn closed_day(closing: Closing) -> Value
     }
 }
 
-// A sum of pence as a statement takes it: what is paid can be more than 32 bits hold.
+/// A sum of pence as a cell. A sum that is paid can need more than 32 bits. `REFUSED` if 63 bits cannot hold it.
 fn sum_value(pence: u64) -> Result<Value, KeepError>
     ensures value { IfOk result (λ sum. sum ≡ spec.number pence) }
 {

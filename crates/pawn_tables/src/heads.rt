@@ -1,13 +1,16 @@
+//! Decodes the row of a book, and rows that consist of one number.
+ghost use Rattle.pawn_tables.specs.Common.{IsNumber, BookValue, book_head, IsCapacity, Imported};
+ghost use Rattle.pawn_tables.specs.Finding.{IsRead};
+ghost use Rattle.pawn_tables.specs.Heads.{HasKeys, IsHeadTold, most_counted, number_cells};
+ghost use Rattle.pawn_tables.specs.Rows.{at_most_one, head_cells, import_count, import_key};
 ghost use Rattle.std.specs.Prelude.{[], ◌∷◌, ◌≡◌, ℕ, Option, IfSome, min, option_map, ⊤};
-ghost use Rattle.pawn_tables.specs.{Common.{IsNumber, BookValue, book_head, IsCapacity, Imported}, Finding.IsRead, Heads.{HasKeys, IsHeadTold, most_counted}};
-ghost use Rattle.pawn_tables.specs.{Heads.number_cells, Rows.{at_most_one, head_cells, import_count, import_key}};
 
 use crate::cells::{NO_RECORD, number_at, optional_at, optional_word_at, text_at, word_at};
 use pawn_book::{BookHead, Capacity, Imported, KeepError, Number, Secret, StoreFault};
 use sqlite::Row;
 use std::alloc::Global;
 
-// The import that filled a book, by its key and the number of its pledges.
+/// The import that filled a book, from its key and the number of its pledges. `NoRecord` if only one of them is there.
 fn imported_of(key: Option<Secret>, pledges: Option<u64>) -> Result<Option<Imported>, KeepError>
     ensures read { (i : Option Imported) → key ≡ import_key i → pledges ≡ import_count i → IsRead result i ⊤ }
 {
@@ -18,7 +21,7 @@ fn imported_of(key: Option<Secret>, pledges: Option<u64>) -> Result<Option<Impor
     }
 }
 
-// The capacity of this many bookings, if a book may have it.
+/// The capacity with this number. `NoRecord` if a book may not have it.
 fn capacity_of(number: u64) -> Result<Capacity, KeepError>
     ensures read { IsRead result number (IsCapacity number) }
 {
@@ -28,7 +31,7 @@ fn capacity_of(number: u64) -> Result<Capacity, KeepError>
     }
 }
 
-// The head that the row of a book holds.
+/// The head that the row of a book has.
 fn head_of(alloc: Global, row: &Row) -> Result<BookHead, KeepError>
     ensures read { (k : BookValue) → HasKeys k → row.now ≡ head_cells k → IsRead result (book_head k) (IsHeadTold k) }
 {
@@ -48,7 +51,7 @@ fn head_of(alloc: Global, row: &Row) -> Result<BookHead, KeepError>
     })
 }
 
-/// The head that the first row holds, if there is a row.
+/// The head that the first row has, if there is a row.
 pub(crate) fn first_head(alloc: Global, rows: &[Row]) -> Result<Option<BookHead>, KeepError>
     ensures read { (k : Option BookValue) → IfSome k HasKeys → rows.now ≡ at_most_one head_cells k
         → IsRead result (option_map book_head k) (IfSome k IsHeadTold) }
@@ -59,7 +62,7 @@ pub(crate) fn first_head(alloc: Global, rows: &[Row]) -> Result<Option<BookHead>
     Ok(Some(head_of(alloc, row)?))
 }
 
-/// The number of a book or a pledge, if it is in the range of one.
+/// The number of a book or a pledge. `NoRecord` if it is out of range.
 pub(crate) fn number_of(number: u64) -> Result<Number, KeepError>
     ensures read { IsRead result number (IsNumber number) }
 {
@@ -79,7 +82,7 @@ pub(crate) fn first_number(rows: &[Row]) -> Result<Option<Number>, KeepError>
     Ok(Some(number_of(number_at(row, 0)?)?))
 }
 
-/// The number in the first row. There is a row.
+/// The number in the first row. `NoRecord` if there is no row.
 pub(crate) fn only_number(rows: &[Row]) -> Result<u64, KeepError>
     ensures read { (n : ℕ) → rows.now ≡ number_cells n ∷ [] → IsRead result n ⊤ }
 {
@@ -89,8 +92,8 @@ pub(crate) fn only_number(rows: &[Row]) -> Result<u64, KeepError>
     number_at(row, 0)
 }
 
-/// How many rows SQL counted, as the first row has it. There is a row. The highest number that SQL counts to is a
-/// fault, since there may be more.
+/// The result of a `count(*)`, in the first row. `NoRecord` if there is no row. The error is `Database` for the largest
+/// number that SQL counts to, because there may be more rows than that.
 pub(crate) fn only_count(rows: &[Row]) -> Result<u64, KeepError>
     ensures read { (n : ℕ) → rows.now ≡ number_cells (min n most_counted) ∷ [] → IsRead result n ⊤ }
 {

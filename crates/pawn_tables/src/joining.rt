@@ -1,3 +1,4 @@
+//! Joins what was read from several tables into a pledge (`pledges`) or a brief (`briefs`).
 use crate::records::PledgeRow;
 use pawn_book::{Booking, Issued, Terms};
 use pawn_debt::{Entries, Totals};
@@ -29,7 +30,7 @@ pub(crate) struct ListEnds {
     pub extensions: u64,
 }
 
-/// What the tables beside its row hold of a pledge.
+/// What tables other than `pledges` store of a pledge in at most one row each.
 #[derive(Clone, Copy)]
 pub(crate) struct RowsBeside {
     pub terms: Option<Terms>,
@@ -37,7 +38,7 @@ pub(crate) struct RowsBeside {
     pub totals: Option<Totals>,
 }
 
-/// What the row of a pledge holds, and what the tables beside it hold.
+/// The row of a pledge, and its single rows in other tables.
 #[derive(Drop)]
 pub(crate) struct StoredPledge {
     pub row: PledgeRow,

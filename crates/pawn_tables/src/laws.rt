@@ -1,6 +1,7 @@
+//! A law of the tables.
 ghost use Rattle.pawn_tables.specs.OneHost.{StandForOne};
 
-/// Tables stand for one host at most: no two hosts have the same rows.
+/// Tables stand for at most one host. A law: it has no code.
 pub fn tables_stand_for_one()
     ensures law { StandForOne }
 {}

@@ -1,4 +1,6 @@
-//! Pledge books in the tables of a database.
+//! The tables of the store: the texts of all SQL statements, the encoding of values, and the reads of books and
+//! pledges. Each read runs within a borrowed transaction. Its contract speaks of tables that represent a host
+//! (`specs/StandsFor.antt`), as long as the disk returns what was written.
 #![tactic(auto)]
 
 mod books;

@@ -1,10 +1,11 @@
-ghost use Rattle.std.specs.Prelude.{◌≡◌};
+//! A line of a day's sheet as the tables have it.
 ghost use Rattle.pawn_tables.specs.Lines.{item_of};
+ghost use Rattle.std.specs.Prelude.{◌≡◌};
 
 use pawn_book::{Number, Part, SheetItem};
 
-/// A line of a part of a day's sheet: the number of its pledge, and the window of the booking, or 0 for a period that
-/// ends.
+/// A line of a part of a day's sheet: the number of a pledge, and the window of its booking, 0 to 15; the window is 0
+/// for a period that ends.
 #[derive(Clone, Copy)]
 pub struct Line {
     pub number: Number,
@@ -12,7 +13,7 @@ pub struct Line {
 }
 
 impl Line {
-    /// The item of the sheet that the line is in its part.
+    /// The sheet's item for the line, in the part that the line belongs to.
     pub fn item(self, part: Part) -> SheetItem
         ensures value { result ≡ item_of part self }
     {

@@ -1,5 +1,10 @@
+//! Decodes the rows of a day's sheet.
+ghost use Rattle.pawn_tables.specs.Common.{IsNumber, Each};
+ghost use Rattle.pawn_tables.specs.Finding.{IsRead};
+ghost use Rattle.pawn_tables.specs.Heads.{number_cells};
+ghost use Rattle.pawn_tables.specs.Lines.{IsLineOf, line_cells};
+ghost use Rattle.pawn_tables.specs.declared.line.Line.{Line};
 ghost use Rattle.std.specs.Prelude.{◌≡◌, ℕ, List, map, ⊤};
-ghost use Rattle.pawn_tables.specs.{Common.{IsNumber, Each}, Finding.IsRead, Heads.number_cells, Lines.{IsLineOf, line_cells}, declared.line.Line.Line};
 
 use crate::cells::number_at;
 use crate::heads::number_of;
@@ -9,7 +14,7 @@ use pawn_debt::Rows;
 use sqlite::Row;
 use std::alloc::Global;
 
-// The line of a row of a part.
+/// The line that a row of a part encodes.
 fn line_of(part: Part, row: &Row) -> Result<Line, KeepError>
     ensures read { (l : Line) → IsLineOf part l → row.now ≡ line_cells part l → IsRead result l (IsNumber l.number) }
 {
@@ -24,7 +29,7 @@ fn line_of(part: Part, row: &Row) -> Result<Line, KeepError>
     }
 }
 
-/// The lines of the rows of a part.
+/// The lines that the rows of a part encode, in their order.
 pub(crate) fn read_lines(alloc: Global, part: Part, rows: &[Row]) -> Result<Rows<Line>, KeepError>
     ensures read { (ls : List Line) → Each (IsLineOf part) ls → rows.now ≡ map (line_cells part) ls → IsRead result ls (Each (λ l. IsNumber l.number) ls) }
 {

@@ -1,16 +1,19 @@
+//! Reads one element of a pledge's list by its place.
 #![tactic(auto, using(crate::proofs::StatementFinds::unread))]
 
-ghost use Rattle.std.specs.Prelude.{◌≡◌, is_ok};
-ghost use Rattle.pawn_tables.specs.{Common.{get, pledge_in, entries_of, extensions_of, secrets_of, IsUnsoundAt, Lends}, Entries.with_seq, Finding.FindsBy};
+ghost use Rattle.pawn_tables.specs.Common.{get, pledge_in, entries_of, extensions_of, secrets_of, IsUnsoundAt, Lends};
+ghost use Rattle.pawn_tables.specs.Entries.{with_seq};
+ghost use Rattle.pawn_tables.specs.Finding.{FindsBy};
 ghost use Rattle.pawn_tables.specs.Places.{at_place};
+ghost use Rattle.std.specs.Prelude.{◌≡◌, is_ok};
 
 use crate::lists::{first_entry, first_extension, first_issued};
-use crate::queries::rows_of;
+use crate::queries::run_query;
 use crate::texts::{READ_ENTRY, READ_EXTENSION, READ_SECRET};
 use pawn_book::{Entry, Extension, Issued, KeepError};
 use sqlite::{Alter, Transaction, params};
 
-/// The entry of a pledge with the number `seq`, if there is one.
+/// The entry of a pledge with the number `seq`, if there is one. The error is `NoRecord` only if the book is not sound.
 pub fn entry_in<S: Alter>(
     tx: &mut Transaction<'_, S>,
     book: u32,
@@ -21,11 +24,12 @@ pub fn entry_in<S: Alter>(
         (λ h x. x ≡ with_seq (entries_of (pledge_in (get h.books book) number)) seq) }
     ensures lent { Lends S.Store tx.old.conn tx.new.conn (is_ok result) }
 {
-    let rows = rows_of(tx, READ_ENTRY, params![book, number, seq])?;
+    let rows = run_query(tx, READ_ENTRY, params![book, number, seq])?;
     first_entry(&rows)
 }
 
-/// The secret of a pledge at a place, and how it was issued, if there is one. The first place is 1.
+/// The secret of a pledge at a place, with how it was issued, if there is one. The first place is 1. The error is
+/// `NoRecord` only if the book is not sound.
 pub fn secret_in<S: Alter>(
     tx: &mut Transaction<'_, S>,
     book: u32,
@@ -36,11 +40,12 @@ pub fn secret_in<S: Alter>(
         (λ h x. x ≡ at_place (secrets_of (pledge_in (get h.books book) number)) place) }
     ensures lent { Lends S.Store tx.old.conn tx.new.conn (is_ok result) }
 {
-    let rows = rows_of(tx, READ_SECRET, params![book, number, place])?;
+    let rows = run_query(tx, READ_SECRET, params![book, number, place])?;
     first_issued(&rows)
 }
 
-/// The extension of a pledge at a place, if there is one. The first place is 1.
+/// The extension of a pledge at a place, if there is one. The first place is 1. The error is `NoRecord` only if the
+/// book is not sound.
 pub fn extension_in<S: Alter>(
     tx: &mut Transaction<'_, S>,
     book: u32,
@@ -51,6 +56,6 @@ pub fn extension_in<S: Alter>(
         (λ h x. x ≡ at_place (extensions_of (pledge_in (get h.books book) number)) place) }
     ensures lent { Lends S.Store tx.old.conn tx.new.conn (is_ok result) }
 {
-    let rows = rows_of(tx, READ_EXTENSION, params![book, number, place])?;
+    let rows = run_query(tx, READ_EXTENSION, params![book, number, place])?;
     first_extension(&rows)
 }

@@ -1,21 +1,25 @@
-//! How long the lists of a pledge are, and its last secret. No list is read.
+//! Reads how long the lists of a pledge are, and its last secret, without reading the lists.
 #![tactic(auto, using(crate::proofs::StatementFinds::unread))]
 
-ghost use Rattle.std.specs.Prelude.{◌≡◌, ℕ, IfSome, Option, is_ok, length, unwrap_or, ⊤};
-ghost use Rattle.pawn_tables.specs.{Common.{get, IsDayNumber, pledge_in, entries_of, extensions_of, secrets_of, IsUnsoundAt, IsWord, Lends}, Finding.FindsBy};
-ghost use Rattle.pawn_tables.specs.{Finding.IsRead, Heads.number_cells, ListEnds.{AreListEnds, last_cells, last_issued}, Rows.at_most_one};
+ghost use Rattle.pawn_tables.specs.Common.{get, IsDayNumber, pledge_in, entries_of, extensions_of, secrets_of};
+ghost use Rattle.pawn_tables.specs.Common.{IsUnsoundAt, IsWord, Lends};
+ghost use Rattle.pawn_tables.specs.Finding.{FindsBy, IsRead};
+ghost use Rattle.pawn_tables.specs.Heads.{number_cells};
+ghost use Rattle.pawn_tables.specs.ListEnds.{AreListEnds, last_cells, last_issued};
+ghost use Rattle.pawn_tables.specs.Rows.{at_most_one};
 ghost use Rattle.pawn_tables.specs.declared.joining.LastSecret.{LastSecret};
+ghost use Rattle.std.specs.Prelude.{◌≡◌, ℕ, IfSome, Option, is_ok, length, unwrap_or, ⊤};
 
 use crate::cells::number_at;
 use crate::heads::only_count;
 use crate::joining::{LastSecret, ListEnds};
 use crate::lists::issued_of;
-use crate::queries::rows_of;
+use crate::queries::run_query;
 use crate::texts::{COUNT_ENTRIES, READ_LAST_PLACE, READ_LAST_SECRET};
 use pawn_book::KeepError;
 use sqlite::{Alter, Row, Transaction, params};
 
-// The last secret of a row, and its place.
+/// The last secret and its place, from their row.
 fn last_of(row: &Row) -> Result<LastSecret, KeepError>
     ensures read { (l : LastSecret) → IsWord l.issued.secret → row.now ≡ last_cells l → IsRead result l (IsDayNumber l.issued.day) }
 {
@@ -24,7 +28,7 @@ fn last_of(row: &Row) -> Result<LastSecret, KeepError>
     Ok(LastSecret { place, issued })
 }
 
-// The last secret of the first row, and its place, if there is a row.
+/// The last secret and its place, from the first row if there is one.
 fn first_last(rows: &[Row]) -> Result<Option<LastSecret>, KeepError>
     ensures read { (l : Option LastSecret) → IfSome l (λ x. IsWord x.issued.secret)
         → rows.now ≡ at_most_one last_cells l → IsRead result l (IfSome l (λ x. IsDayNumber x.issued.day)) }
@@ -35,7 +39,7 @@ fn first_last(rows: &[Row]) -> Result<Option<LastSecret>, KeepError>
     Ok(Some(last_of(row)?))
 }
 
-// How many elements there are: the first row has the place of the last, and without a row there are none.
+/// The length of a list: the first row has the place of its last element, and without a row the list is empty.
 fn first_place(rows: &[Row]) -> Result<u64, KeepError>
     ensures read { (n : Option ℕ) → rows.now ≡ at_most_one number_cells n → IsRead result (unwrap_or n 0) ⊤ }
 {
@@ -45,7 +49,8 @@ fn first_place(rows: &[Row]) -> Result<u64, KeepError>
     number_at(row, 0)
 }
 
-// How many entries a pledge has. They are counted, since the number of the last does not show whether one is left out.
+/// How many entries a pledge has. The rows are counted, because the number of the last entry does not show whether a
+/// number before it is missing.
 fn entry_count<S: Alter>(
     tx: &mut Transaction<'_, S>,
     book: u32,
@@ -55,11 +60,11 @@ fn entry_count<S: Alter>(
         (λ h count. count ≡ length (entries_of (pledge_in (get h.books book) number))) }
     ensures lent { Lends S.Store tx.old.conn tx.new.conn (is_ok result) }
 {
-    let rows = rows_of(tx, COUNT_ENTRIES, params![book, number])?;
+    let rows = run_query(tx, COUNT_ENTRIES, params![book, number])?;
     only_count(&rows)
 }
 
-// The last secret of a pledge, and its place, if there is one.
+/// The last secret of a pledge, and its place, if there is one.
 fn last_secret<S: Alter>(
     tx: &mut Transaction<'_, S>,
     book: u32,
@@ -69,11 +74,11 @@ fn last_secret<S: Alter>(
         (λ h x. x ≡ last_issued (secrets_of (pledge_in (get h.books book) number))) }
     ensures lent { Lends S.Store tx.old.conn tx.new.conn (is_ok result) }
 {
-    let rows = rows_of(tx, READ_LAST_SECRET, params![book, number])?;
+    let rows = run_query(tx, READ_LAST_SECRET, params![book, number])?;
     first_last(&rows)
 }
 
-// How many extensions a pledge has, by the place of the last.
+/// How many extensions a pledge has: the place of the last one, or 0.
 fn extension_count<S: Alter>(
     tx: &mut Transaction<'_, S>,
     book: u32,
@@ -83,7 +88,7 @@ fn extension_count<S: Alter>(
         (λ h count. count ≡ length (extensions_of (pledge_in (get h.books book) number))) }
     ensures lent { Lends S.Store tx.old.conn tx.new.conn (is_ok result) }
 {
-    let rows = rows_of(tx, READ_LAST_PLACE, params![book, number])?;
+    let rows = run_query(tx, READ_LAST_PLACE, params![book, number])?;
     first_place(&rows)
 }
 

@@ -1,6 +1,9 @@
-ghost use Rattle.std.specs.Prelude.{◌≡◌, ℕ, IfSome, List, Option, map};
-ghost use Rattle.pawn_tables.specs.{Common.{IsDayNumber, Entry, Each, Extension, Issued, AreWords, IsWord}, Entries.IsEntryTold, Finding.IsRead};
+//! Decodes the rows of a pledge's lists: its entries, secrets and extensions.
+ghost use Rattle.pawn_tables.specs.Common.{IsDayNumber, Entry, Each, Extension, Issued, AreWords, IsWord};
+ghost use Rattle.pawn_tables.specs.Entries.{IsEntryTold};
+ghost use Rattle.pawn_tables.specs.Finding.{IsRead};
 ghost use Rattle.pawn_tables.specs.Rows.{at_most_one, entry_cells, extension_cells, placed_from, secret_cells};
+ghost use Rattle.std.specs.Prelude.{◌≡◌, ℕ, IfSome, List, Option, map};
 
 use crate::cells::{amount_of, day_at, issue_of, number_at, sort_of, word_at};
 use pawn_book::{Entry, Extension, Issued, KeepError};
@@ -9,7 +12,7 @@ use pawn_pledge::{Extensions, Secrets};
 use sqlite::Row;
 use std::alloc::Global;
 
-/// The entry of a row.
+/// The entry that a row encodes.
 pub(crate) fn entry_of(row: &Row) -> Result<Entry, KeepError>
     ensures read { (e : Entry) → row.now ≡ entry_cells e → IsRead result e (IsEntryTold e) }
 {
@@ -26,7 +29,7 @@ pub(crate) fn entry_of(row: &Row) -> Result<Entry, KeepError>
     })
 }
 
-/// The secret of a row, and how it was issued.
+/// The secret that a row encodes, with how it was issued.
 pub(crate) fn issued_of(row: &Row) -> Result<Issued, KeepError>
     ensures read { (place : ℕ) (i : Issued) → IsWord i.secret → row.now ≡ secret_cells place i → IsRead result i (IsDayNumber i.day) }
 {
@@ -36,7 +39,7 @@ pub(crate) fn issued_of(row: &Row) -> Result<Issued, KeepError>
     Ok(Issued { day, sort, secret })
 }
 
-/// The extension of a row.
+/// The extension that a row encodes.
 pub(crate) fn extension_of(row: &Row) -> Result<Extension, KeepError>
     ensures read { (place : ℕ) (e : Extension) → row.now ≡ extension_cells place e → IsRead result e (IsDayNumber e.day × IsDayNumber e.until) }
 {
@@ -45,7 +48,7 @@ pub(crate) fn extension_of(row: &Row) -> Result<Extension, KeepError>
     Ok(Extension { day, until })
 }
 
-/// The entries of rows.
+/// The entries that the rows encode, in their order.
 pub(crate) fn read_entries(alloc: Global, rows: &[Row]) -> Result<Entries, KeepError>
     ensures read { (es : List Entry) → rows.now ≡ map entry_cells es → IsRead result es (Each IsEntryTold es) }
 {
@@ -59,7 +62,7 @@ pub(crate) fn read_entries(alloc: Global, rows: &[Row]) -> Result<Entries, KeepE
     Ok(entries)
 }
 
-/// The secrets of rows, and how they were issued.
+/// The secrets that the rows encode, in their order, with how they were issued.
 pub(crate) fn read_secrets(alloc: Global, rows: &[Row]) -> Result<Secrets, KeepError>
     ensures read { (from : ℕ) (is : List Issued) → AreWords is
         → rows.now ≡ placed_from secret_cells from is → IsRead result is (Each (λ i. IsDayNumber i.day) is) }
@@ -74,7 +77,7 @@ pub(crate) fn read_secrets(alloc: Global, rows: &[Row]) -> Result<Secrets, KeepE
     Ok(secrets)
 }
 
-/// The extensions of rows.
+/// The extensions that the rows encode, in their order.
 pub(crate) fn read_extensions(alloc: Global, rows: &[Row]) -> Result<Extensions, KeepError>
     ensures read { (from : ℕ) (es : List Extension) → rows.now ≡ placed_from extension_cells from es
         → IsRead result es (Each (λ e. IsDayNumber e.day × IsDayNumber e.until) es) }
@@ -89,7 +92,7 @@ pub(crate) fn read_extensions(alloc: Global, rows: &[Row]) -> Result<Extensions,
     Ok(extensions)
 }
 
-/// The entry of the first row, if there is a row.
+/// The entry that the first row encodes, if there is a row.
 pub(crate) fn first_entry(rows: &[Row]) -> Result<Option<Entry>, KeepError>
     ensures read { (e : Option Entry) → rows.now ≡ at_most_one entry_cells e → IsRead result e (IfSome e IsEntryTold) }
 {
@@ -99,7 +102,7 @@ pub(crate) fn first_entry(rows: &[Row]) -> Result<Option<Entry>, KeepError>
     Ok(Some(entry_of(row)?))
 }
 
-/// The secret of the first row, and how it was issued, if there is a row.
+/// The secret that the first row encodes, with how it was issued, if there is a row.
 pub(crate) fn first_issued(rows: &[Row]) -> Result<Option<Issued>, KeepError>
     ensures read { (place : ℕ) (i : Option Issued) → IfSome i (λ x. IsWord x.secret)
         → rows.now ≡ at_most_one (secret_cells place) i → IsRead result i (IfSome i (λ x. IsDayNumber x.day)) }
@@ -110,7 +113,7 @@ pub(crate) fn first_issued(rows: &[Row]) -> Result<Option<Issued>, KeepError>
     Ok(Some(issued_of(row)?))
 }
 
-/// The extension of the first row, if there is a row.
+/// The extension that the first row encodes, if there is a row.
 pub(crate) fn first_extension(rows: &[Row]) -> Result<Option<Extension>, KeepError>
     ensures read { (place : ℕ) (e : Option Extension) → rows.now ≡ at_most_one (extension_cells place) e → IsRead result e
         (IfSome e (λ x. IsDayNumber x.day × IsDayNumber x.until)) }

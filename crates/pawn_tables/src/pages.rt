@@ -1,12 +1,14 @@
-//! Lists that may be long, read page by page.
+//! Reads the lists of a pledge in pages, so that a long list is never in memory as a whole.
 #![tactic(auto, using(crate::proofs::StatementFinds::unread))]
 
-ghost use Rattle.std.specs.Prelude.{◌≡◌, is_ok};
-ghost use Rattle.pawn_tables.specs.{Common.{get, pledge_in, entries_of, extensions_of, secrets_of, IsUnsoundAt, Lends}, Entries.IsEntriesPage, Finding.FindsBy};
+ghost use Rattle.pawn_tables.specs.Common.{get, pledge_in, entries_of, extensions_of, secrets_of, IsUnsoundAt, Lends};
+ghost use Rattle.pawn_tables.specs.Entries.{IsEntriesPage};
+ghost use Rattle.pawn_tables.specs.Finding.{FindsBy};
 ghost use Rattle.pawn_tables.specs.Places.{page_behind};
+ghost use Rattle.std.specs.Prelude.{◌≡◌, is_ok};
 
 use crate::lists::{read_entries, read_extensions, read_secrets};
-use crate::queries::rows_of;
+use crate::queries::run_query;
 use crate::texts::{READ_ENTRIES_PAGE, READ_EXTENSIONS_PAGE, READ_SECRETS_PAGE};
 use pawn_book::KeepError;
 use pawn_debt::Entries;
@@ -14,10 +16,11 @@ use pawn_pledge::{Extensions, Secrets};
 use sqlite::{Alter, Transaction, params};
 use std::alloc::Global;
 
-/// The most rows of a page. A page with fewer is the last of its list.
+/// The largest number of rows of a page. A page with fewer rows is the last of its list.
 pub const PAGE_ROWS: usize = 64;
 
-/// A page of the entries of a pledge, from the number `from` on.
+/// A page of the entries of a pledge: the first of those that are numbered `from` or more. The error is `NoRecord` only
+/// if the book is not sound.
 pub fn entries_page<S: Alter>(
     tx: &mut Transaction<'_, S>,
     alloc: Global,
@@ -29,11 +32,12 @@ pub fn entries_page<S: Alter>(
         (λ h page. IsEntriesPage from (entries_of (pledge_in (get h.books book) number)) page) }
     ensures lent { Lends S.Store tx.old.conn tx.new.conn (is_ok result) }
 {
-    let rows = rows_of(tx, READ_ENTRIES_PAGE, params![book, number, from])?;
+    let rows = run_query(tx, READ_ENTRIES_PAGE, params![book, number, from])?;
     read_entries(alloc, &rows)
 }
 
-/// A page of the secrets of a pledge, after the place `behind`. The first place is 1.
+/// A page of the secrets of a pledge: the first of those at places greater than `behind`. The first place is 1. The
+/// error is `NoRecord` only if the book is not sound.
 pub fn secrets_page<S: Alter>(
     tx: &mut Transaction<'_, S>,
     alloc: Global,
@@ -45,11 +49,12 @@ pub fn secrets_page<S: Alter>(
         (λ h page. page ≡ page_behind behind (secrets_of (pledge_in (get h.books book) number))) }
     ensures lent { Lends S.Store tx.old.conn tx.new.conn (is_ok result) }
 {
-    let rows = rows_of(tx, READ_SECRETS_PAGE, params![book, number, behind])?;
+    let rows = run_query(tx, READ_SECRETS_PAGE, params![book, number, behind])?;
     read_secrets(alloc, &rows)
 }
 
-/// A page of the extensions of a pledge, after the place `behind`. The first place is 1.
+/// A page of the extensions of a pledge: the first of those at places greater than `behind`. The first place is 1. The
+/// error is `NoRecord` only if the book is not sound.
 pub fn extensions_page<S: Alter>(
     tx: &mut Transaction<'_, S>,
     alloc: Global,
@@ -61,6 +66,6 @@ pub fn extensions_page<S: Alter>(
         (λ h page. page ≡ page_behind behind (extensions_of (pledge_in (get h.books book) number))) }
     ensures lent { Lends S.Store tx.old.conn tx.new.conn (is_ok result) }
 {
-    let rows = rows_of(tx, READ_EXTENSIONS_PAGE, params![book, number, behind])?;
+    let rows = run_query(tx, READ_EXTENSIONS_PAGE, params![book, number, behind])?;
     read_extensions(alloc, &rows)
 }

@@ -1,9 +1,12 @@
+//! Reads the rows of a pledge table by table, and the terms of a book.
 #![tactic(auto, using(crate::proofs::StatementFinds::unread, crate::proofs::StatementFinds::unread_debts))]
 
-ghost use Rattle.std.specs.Prelude.{◌≡◌, Err, IfOk, is_ok, option_map};
-ghost use Rattle.pawn_tables.specs.Common.{get, state, HasCleanDisk, Shown, bound, pledge_in, entries_of, extensions_of, secrets_of, terms_of, terms_at};
-ghost use Rattle.pawn_tables.specs.{Common.{IsUnsoundAt, NoRecord, Lends}, Finding.{FindsBy, FindsOf}, PledgeRows.{booking_of, row_of, totals_in}};
+ghost use Rattle.pawn_tables.specs.Common.{get, state, HasCleanDisk, Shown, bound, pledge_in, entries_of};
+ghost use Rattle.pawn_tables.specs.Common.{extensions_of, secrets_of, terms_of, terms_at, IsUnsoundAt, NoRecord, Lends};
+ghost use Rattle.pawn_tables.specs.Finding.{FindsBy, FindsOf};
+ghost use Rattle.pawn_tables.specs.PledgeRows.{booking_of, row_of, totals_in};
 ghost use Rattle.pawn_tables.specs.StandsFor.{ListDebts};
+ghost use Rattle.std.specs.Prelude.{◌≡◌, Err, IfOk, is_ok, option_map};
 ghost use Rattle.pawn_book.specs.declared.fault.KeepError.TheVariants as Keeper;
 
 use crate::cells::refused;
@@ -21,8 +24,8 @@ use sqlite::{Alter, Row, Transaction, params};
 use sqlite_value::value::ValueRef;
 use std::alloc::Global;
 
-/// Runs a query and gives its rows. It never answers `NoRecord`, since no row is read yet.
-pub(crate) fn rows_of<S: Alter>(
+/// Runs a query and returns its rows. The error is `Memory` or `Database`, never `NoRecord`: no row is decoded here.
+pub(crate) fn run_query<S: Alter>(
     tx: &mut Transaction<'_, S>,
     sql: &str,
     params: &[ValueRef<'_>],
@@ -38,7 +41,8 @@ pub(crate) fn rows_of<S: Alter>(
     }
 }
 
-/// The entries of a pledge in order; none if there is no such pledge.
+/// The entries of a pledge in order; none if there is no such pledge. The error is `NoRecord` only if the book is not
+/// sound.
 pub fn entries_in<S: Alter>(
     tx: &mut Transaction<'_, S>,
     alloc: Global,
@@ -50,7 +54,7 @@ pub fn entries_in<S: Alter>(
         (λ h x. x ≡ entries_of (pledge_in (get h.books book) number)) }
     ensures lent { Lends S.Store tx.old.conn tx.new.conn (is_ok result) }
 {
-    let rows = rows_of(tx, READ_ENTRIES, params![book, number])?;
+    let rows = run_query(tx, READ_ENTRIES, params![book, number])?;
     read_entries(alloc, &rows)
 }
 
@@ -64,7 +68,7 @@ pub(crate) fn secrets_in<S: Alter>(
     ensures finds { FindsBy S.Store tx.old.conn tx.new.conn (IsUnsoundAt book) result (λ h x. x ≡ secrets_of (pledge_in (get h.books book) number)) }
     ensures lent { Lends S.Store tx.old.conn tx.new.conn (is_ok result) }
 {
-    let rows = rows_of(tx, READ_SECRETS, params![book, number])?;
+    let rows = run_query(tx, READ_SECRETS, params![book, number])?;
     read_secrets(alloc, &rows)
 }
 
@@ -78,11 +82,11 @@ pub(crate) fn extensions_in<S: Alter>(
     ensures finds { FindsBy S.Store tx.old.conn tx.new.conn (IsUnsoundAt book) result (λ h x. x ≡ extensions_of (pledge_in (get h.books book) number)) }
     ensures lent { Lends S.Store tx.old.conn tx.new.conn (is_ok result) }
 {
-    let rows = rows_of(tx, READ_EXTENSIONS, params![book, number])?;
+    let rows = run_query(tx, READ_EXTENSIONS, params![book, number])?;
     read_extensions(alloc, &rows)
 }
 
-/// The booking of a pledge, if it has one.
+/// The booking of a pledge, if it has one. The error is `NoRecord` only if the book is not sound.
 pub fn booking_in<S: Alter>(
     tx: &mut Transaction<'_, S>,
     book: u32,
@@ -91,7 +95,7 @@ pub fn booking_in<S: Alter>(
     ensures finds { FindsBy S.Store tx.old.conn tx.new.conn (IsUnsoundAt book) result (λ h x. x ≡ booking_of (pledge_in (get h.books book) number)) }
     ensures lent { Lends S.Store tx.old.conn tx.new.conn (is_ok result) }
 {
-    let rows = rows_of(tx, READ_BOOKING, params![book, number])?;
+    let rows = run_query(tx, READ_BOOKING, params![book, number])?;
     first_booking(&rows)
 }
 
@@ -104,11 +108,12 @@ pub(crate) fn totals_in<S: Alter>(
     ensures finds { FindsBy S.Store tx.old.conn tx.new.conn (IsUnsoundAt book) result (λ h x. x ≡ totals_in (pledge_in (get h.books book) number)) }
     ensures lent { Lends S.Store tx.old.conn tx.new.conn (is_ok result) }
 {
-    let rows = rows_of(tx, READ_TOTALS, params![book, number])?;
+    let rows = run_query(tx, READ_TOTALS, params![book, number])?;
     first_totals(&rows)
 }
 
-/// The terms that a book has under a version, if it has any.
+/// The terms that a book has under a version, if it has any. Versions are counted from 1. The error is `NoRecord` only
+/// if the book is not sound.
 pub fn terms_in<S: Alter>(
     tx: &mut Transaction<'_, S>,
     book: u32,
@@ -119,11 +124,11 @@ pub fn terms_in<S: Alter>(
         (λ h x. x ≡ terms_at (terms_of (get h.books book)) version) }
     ensures lent { Lends S.Store tx.old.conn tx.new.conn (is_ok result) }
 {
-    let rows = rows_of(tx, READ_TERMS, params![book, version])?;
+    let rows = run_query(tx, READ_TERMS, params![book, version])?;
     first_terms(&rows)
 }
 
-/// What the row of a pledge holds, if there is such a pledge.
+/// The row of a pledge, if there is such a pledge.
 pub(crate) fn row_in<S: Alter>(
     tx: &mut Transaction<'_, S>,
     alloc: Global,
@@ -133,6 +138,6 @@ pub(crate) fn row_in<S: Alter>(
     ensures finds { FindsBy S.Store tx.old.conn tx.new.conn (IsUnsoundAt book) result (λ h x. x ≡ option_map row_of (pledge_in (get h.books book) number)) }
     ensures lent { Lends S.Store tx.old.conn tx.new.conn (is_ok result) }
 {
-    let rows = rows_of(tx, READ_PLEDGE, params![book, number])?;
+    let rows = run_query(tx, READ_PLEDGE, params![book, number])?;
     first_pledge(alloc, &rows)
 }

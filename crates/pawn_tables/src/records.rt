@@ -1,13 +1,16 @@
+//! Decodes the single rows of a pledge and the terms of a book.
+ghost use Rattle.pawn_tables.specs.Common.{IsDayNumber, IsChecked, Rates, credit_of, Kind, Totals, Booking, Closing};
+ghost use Rattle.pawn_tables.specs.Finding.{IsRead};
+ghost use Rattle.pawn_tables.specs.Rows.{at_most_one, booking_cells, closed_amount, closed_day, closed_number};
+ghost use Rattle.pawn_tables.specs.Rows.{kind_number, terms_cells, totals_cells};
 ghost use Rattle.std.specs.Prelude.{◌≡◌, Option, IfSome, ⊤};
-ghost use Rattle.pawn_tables.specs.{Common.{IsDayNumber, IsChecked, Rates, credit_of, Kind, Totals, Booking, Closing}, Finding.IsRead, Rows.at_most_one};
-ghost use Rattle.pawn_tables.specs.Rows.{booking_cells, closed_amount, closed_day, closed_number, kind_number, terms_cells, totals_cells};
 
 use crate::cells::{NO_RECORD, day_at, day_of, number_at, state_of};
 use pawn_book::{Booking, Closing, Day, KeepError, Kind, Opening, Rates, Terms};
 use pawn_debt::Totals;
 use sqlite::Row;
 
-/// What the row of a pledge holds.
+/// A row of the table `pledges`, decoded.
 #[derive(Drop)]
 pub(crate) struct PledgeRow {
     pub opening: Opening,
@@ -20,7 +23,7 @@ pub(crate) struct PledgeRow {
     pub closing: Closing,
 }
 
-/// The kind of a pledge, by its number and the sum or limit in pence.
+/// The kind of credit, from its number and the sum or limit in pence. `NoRecord` for another number than 0 and 1.
 pub(crate) fn kind_of(number: u64, credit: u64) -> Result<Kind, KeepError>
     ensures read { (k : Kind) → number ≡ kind_number k → credit ≡ credit_of k → IsRead result k ⊤ }
 {
@@ -31,7 +34,7 @@ pub(crate) fn kind_of(number: u64, credit: u64) -> Result<Kind, KeepError>
     }
 }
 
-/// The day with this number, if there is a number.
+/// The day with this number, if there is a number. `NoRecord` if it is not from 2000-01-01 to 2299-12-31.
 pub(crate) fn optional_day(number: Option<u64>) -> Result<Option<Day>, KeepError>
     ensures read { IsRead result number (IfSome number IsDayNumber) }
 {
@@ -41,7 +44,7 @@ pub(crate) fn optional_day(number: Option<u64>) -> Result<Option<Day>, KeepError
     Ok(Some(day_of(number)?))
 }
 
-/// The closing of a pledge, by its number, day and amount.
+/// The closing of a pledge, from its number, its day, and its amount in pence. `NoRecord` if they do not fit together.
 pub(crate) fn closing_of(
     closed: u64,
     day: Option<Day>,
@@ -57,7 +60,7 @@ pub(crate) fn closing_of(
     }
 }
 
-// The booking of a row.
+/// The booking that a row encodes.
 fn booking_of(row: &Row) -> Result<Booking, KeepError>
     ensures read { (k : Booking) → row.now ≡ booking_cells k → IsRead result k (IsDayNumber k.day) }
 {
@@ -67,7 +70,7 @@ fn booking_of(row: &Row) -> Result<Booking, KeepError>
     Ok(Booking { day, window, state })
 }
 
-// The totals of a row.
+/// The totals that a row encodes.
 fn totals_of(row: &Row) -> Result<Totals, KeepError>
     ensures read { (t : Totals) → row.now ≡ totals_cells t → IsRead result t (IsDayNumber t.day) }
 {
@@ -81,7 +84,7 @@ fn totals_of(row: &Row) -> Result<Totals, KeepError>
     })
 }
 
-// The three numbers of terms in a row.
+/// The three numbers of the terms that a row encodes, unchecked.
 fn rates_of(row: &Row) -> Result<Rates, KeepError>
     ensures read { (t : Rates) → row.now ≡ terms_cells t → IsRead result t ⊤ }
 {
@@ -95,7 +98,7 @@ fn rates_of(row: &Row) -> Result<Rates, KeepError>
     })
 }
 
-// The terms of a row.
+/// The terms that a row encodes. `NoRecord` if they are not within their limits.
 fn terms_of(row: &Row) -> Result<Terms, KeepError>
     ensures read { (t : Rates) → row.now ≡ terms_cells t → IsRead result t (IsChecked t) }
 {
@@ -106,7 +109,7 @@ fn terms_of(row: &Row) -> Result<Terms, KeepError>
     }
 }
 
-/// The booking of the first row, if there is a row.
+/// The booking that the first row encodes, if there is a row.
 pub(crate) fn first_booking(rows: &[Row]) -> Result<Option<Booking>, KeepError>
     ensures read { (k : Option Booking) → rows.now ≡ at_most_one booking_cells k → IsRead result k (IfSome k (λ b. IsDayNumber b.day)) }
 {
@@ -116,7 +119,7 @@ pub(crate) fn first_booking(rows: &[Row]) -> Result<Option<Booking>, KeepError>
     Ok(Some(booking_of(row)?))
 }
 
-/// The totals of the first row, if there is a row.
+/// The totals that the first row encodes, if there is a row.
 pub(crate) fn first_totals(rows: &[Row]) -> Result<Option<Totals>, KeepError>
     ensures read { (t : Option Totals) → rows.now ≡ at_most_one totals_cells t → IsRead result t (IfSome t (λ u. IsDayNumber u.day)) }
 {
@@ -126,7 +129,7 @@ pub(crate) fn first_totals(rows: &[Row]) -> Result<Option<Totals>, KeepError>
     Ok(Some(totals_of(row)?))
 }
 
-/// The terms of the first row, if there is a row.
+/// The terms that the first row encodes, if there is a row.
 pub(crate) fn first_terms(rows: &[Row]) -> Result<Option<Terms>, KeepError>
     ensures read { (t : Option Rates) → rows.now ≡ at_most_one terms_cells t → IsRead result t (IfSome t IsChecked) }
 {

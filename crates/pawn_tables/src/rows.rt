@@ -1,6 +1,9 @@
+//! Decodes the row of a pledge.
+ghost use Rattle.pawn_tables.specs.Common.{IsDayNumber, PledgeValue};
+ghost use Rattle.pawn_tables.specs.Finding.{IsRead};
+ghost use Rattle.pawn_tables.specs.PledgeRows.{IsRowTold, IsTold, row_of};
+ghost use Rattle.pawn_tables.specs.Rows.{at_most_one, closed_day, pledge_cells};
 ghost use Rattle.std.specs.Prelude.{◌≡◌, Option, IfSome, option_map};
-ghost use Rattle.pawn_tables.specs.{Common.{IsDayNumber, PledgeValue}, Finding.IsRead, PledgeRows.{IsRowTold, IsTold, row_of}, Rows.{at_most_one, closed_day}};
-ghost use Rattle.pawn_tables.specs.Rows.{pledge_cells};
 
 use crate::cells::{day_at, flag_at, number_at, optional_at, request_day, text_at};
 use crate::records::{PledgeRow, closing_of, kind_of, optional_day};
@@ -8,7 +11,7 @@ use pawn_book::{Closing, KeepError, Opening};
 use sqlite::Row;
 use std::alloc::Global;
 
-// The opening that the row of a pledge holds.
+/// The opening that the row of a pledge encodes.
 fn opening_at(alloc: Global, row: &Row) -> Result<Opening, KeepError>
     ensures read { (p : PledgeValue) → row.now ≡ pledge_cells p → IsRead result p.agreement.opening (IsTold p.agreement.opening) }
 {
@@ -28,7 +31,7 @@ fn opening_at(alloc: Global, row: &Row) -> Result<Opening, KeepError>
     })
 }
 
-// The closing of the pledge of a row.
+/// The closing that the row of a pledge encodes.
 fn closing_at(row: &Row) -> Result<Closing, KeepError>
     ensures read { (p : PledgeValue) → row.now ≡ pledge_cells p → IsRead result p.standing.closing (IfSome (closed_day p.standing.closing) IsDayNumber) }
 {
@@ -38,7 +41,7 @@ fn closing_at(row: &Row) -> Result<Closing, KeepError>
     closing_of(closed, day, amount)
 }
 
-// What the row of a pledge holds.
+/// The row of a pledge, decoded.
 fn pledge_row(alloc: Global, row: &Row) -> Result<PledgeRow, KeepError>
     ensures read { (p : PledgeValue) → row.now ≡ pledge_cells p → IsRead result (row_of p) (IsRowTold p) }
 {
@@ -60,7 +63,7 @@ fn pledge_row(alloc: Global, row: &Row) -> Result<PledgeRow, KeepError>
     })
 }
 
-/// What the first row holds of its pledge, if there is a row.
+/// The first row of a pledge, decoded, if there is a row.
 pub(crate) fn first_pledge(alloc: Global, rows: &[Row]) -> Result<Option<PledgeRow>, KeepError>
     ensures read { (p : Option PledgeValue) → rows.now ≡ at_most_one pledge_cells p → IsRead result (option_map row_of p) (IfSome p IsRowTold) }
 {

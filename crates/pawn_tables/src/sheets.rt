@@ -1,14 +1,17 @@
+//! Reads a day's sheet from the tables, in pages.
 #![tactic(auto, using(crate::proofs::StatementFinds::unread))]
 
+ghost use Rattle.pawn_tables.specs.Common.{get, pledges_of, part_items, IsUnsoundAt, Lends};
+ghost use Rattle.pawn_tables.specs.Finding.{FindsBy};
+ghost use Rattle.pawn_tables.specs.Lines.{IsLinesPage, NamesWindows};
 ghost use Rattle.std.specs.Prelude.{◌≡◌, is_ok, length};
-ghost use Rattle.pawn_tables.specs.{Common.{get, pledges_of, part_items, IsUnsoundAt, Lends}, Finding.FindsBy, Lines.{IsLinesPage, NamesWindows}};
 ghost use Rattle.pawn_book.specs.declared.sheet.Part.TheVariants as part_of;
 
 use crate::books::confirmed_in;
 use crate::heads::only_count;
 use crate::line::Line;
 use crate::lines::{read_lines, read_numbers};
-use crate::queries::rows_of;
+use crate::queries::run_query;
 use crate::texts::{
     COUNT_ASKED, COUNT_ENDS, READ_ASKED_PAGE, READ_CONFIRMED_PAGE, READ_ENDS_PAGE, READ_WINDOWS,
 };
@@ -17,8 +20,8 @@ use pawn_debt::Rows;
 use sqlite::{Alter, Transaction, params};
 use std::alloc::Global;
 
-/// How many items a part of a day's sheet has, its heading aside. `Database` is answered for a window that 32 bits
-/// cannot hold.
+/// How many items a part of a day's sheet has, without its heading. The error is `Database` if the part's window does
+/// not fit in 32 bits, and `NoRecord` only if the book is not sound.
 pub fn count_in<S: Alter>(
     tx: &mut Transaction<'_, S>,
     book: u32,
@@ -33,17 +36,18 @@ pub fn count_in<S: Alter>(
     match part {
         Part::Confirmed { window } => confirmed_in(tx, book, day, window),
         Part::Asked => {
-            let asked = rows_of(tx, COUNT_ASKED, params![book, count])?;
+            let asked = run_query(tx, COUNT_ASKED, params![book, count])?;
             only_count(&asked)
         }
         Part::Ends => {
-            let ends = rows_of(tx, COUNT_ENDS, params![book, count])?;
+            let ends = run_query(tx, COUNT_ENDS, params![book, count])?;
             only_count(&ends)
         }
     }
 }
 
-/// The windows of a day that have a confirmed booking, each once. No order is promised.
+/// The windows of a day that have a confirmed booking, each once, in any order. The error is `NoRecord` only if the
+/// book is not sound.
 pub fn windows_in<S: Alter>(
     tx: &mut Transaction<'_, S>,
     alloc: Global,
@@ -54,12 +58,12 @@ pub fn windows_in<S: Alter>(
     ensures lent { Lends S.Store tx.old.conn tx.new.conn (is_ok result) }
 {
     let day = day.count();
-    let rows = rows_of(tx, READ_WINDOWS, params![book, day])?;
+    let rows = run_query(tx, READ_WINDOWS, params![book, day])?;
     read_numbers(alloc, &rows)
 }
 
-/// A page of the lines of a part of a day's sheet, of the pledges above the number `above`. `Database` is answered for
-/// a window that 32 bits cannot hold.
+/// A page of the lines of a part of a day's sheet: the first of those whose pledge has a number greater than `above`.
+/// The error is `Database` if the part's window does not fit in 32 bits, and `NoRecord` only if the book is not sound.
 pub fn lines_page<S: Alter>(
     tx: &mut Transaction<'_, S>,
     alloc: Global,
@@ -78,15 +82,15 @@ pub fn lines_page<S: Alter>(
             let Ok(slot) = u32::try_from(window) else {
                 return Err(KeepError::Store(StoreFault::Database));
             };
-            let rows = rows_of(tx, READ_CONFIRMED_PAGE, params![book, above, day, slot])?;
+            let rows = run_query(tx, READ_CONFIRMED_PAGE, params![book, above, day, slot])?;
             read_lines(alloc, Part::Confirmed { window }, &rows)
         }
         Part::Asked => {
-            let asked = rows_of(tx, READ_ASKED_PAGE, params![book, above, day])?;
+            let asked = run_query(tx, READ_ASKED_PAGE, params![book, above, day])?;
             read_lines(alloc, Part::Asked, &asked)
         }
         Part::Ends => {
-            let ends = rows_of(tx, READ_ENDS_PAGE, params![book, above, day])?;
+            let ends = run_query(tx, READ_ENDS_PAGE, params![book, above, day])?;
             read_lines(alloc, Part::Ends, &ends)
         }
     }

@@ -1,12 +1,12 @@
-//! The texts of the statements, table by table: how a table is made, what is read of it, and what is put into it.
+//! The texts of the SQL statements, table by table: those that make a table, read it and write it.
 //!
-//! No other source of the program names a column; `specs/Schema` says what the tables are. Each text is written once,
-//! and the proofs of what it means cite it by its name. How a value is written into a cell is said in `encoding.rt`,
-//! and how it is read in `cells.rt`.
+//! No other source file of the program names a column; `specs/Schema.antt` defines the tables. Each text is written
+//! once, and the proofs of its meaning cite it by its name. `encoding.rt` says how a value is written into a cell, and
+//! `cells.rt` how it is read.
 
 // ---- books
 
-/// Makes the table of books.
+/// Makes the table of books: one row for each book, with how many versions of terms and pledges it has.
 pub const MAKE_BOOKS: &str = "\
     CREATE TABLE books (\
     book INTEGER PRIMARY KEY, \
@@ -18,31 +18,32 @@ pub const MAKE_BOOKS: &str = "\
     import_key BLOB, \
     imported INTEGER) STRICT";
 
-/// The head of a book.
+/// Reads the head of a book.
 pub(crate) const READ_HEAD: &str = "\
     SELECT book_key, title, capacity, terms, pledges, import_key, imported \
     FROM books WHERE book = ?1";
 
-/// The next book number above another.
+/// Finds the least book number that is greater than another.
 pub(crate) const FIND_NEXT_BOOK: &str =
     "SELECT book FROM books WHERE book > ?1 ORDER BY book LIMIT 1";
 
-/// Puts a new book.
+/// Inserts a new book.
 pub const PUT_BOOK: &str = "INSERT INTO books VALUES (?1, ?2, ?3, ?4, 0, 0, NULL, NULL)";
 
-/// Sets how many terms a book has.
+/// Sets how many versions of terms a book has.
 pub const SET_TERMS_COUNT: &str = "UPDATE books SET terms = ?2 WHERE book = ?1";
 
 /// Sets how many pledges a book has.
 pub const SET_PLEDGES_COUNT: &str = "UPDATE books SET pledges = ?2 WHERE book = ?1";
 
-/// Notes an import in its book: its key, and how many terms and pledges it brought.
+/// Notes an import in its book: its key, and how many versions of terms and how many pledges it brought.
 pub const SET_IMPORT: &str =
     "UPDATE books SET terms = ?2, pledges = ?3, import_key = ?4, imported = ?3 WHERE book = ?1";
 
 // ---- terms
 
-/// Makes the table of terms.
+/// Makes the table of terms: one row for each version. `rate` is in millionths of the principal a day; the charges for
+/// safe keeping, `keep_before` and `keep_after`, are in millionths of a penny a day.
 pub const MAKE_TERMS: &str = "\
     CREATE TABLE terms (\
     book INTEGER NOT NULL REFERENCES books, \
@@ -52,16 +53,16 @@ pub const MAKE_TERMS: &str = "\
     keep_after INTEGER NOT NULL, \
     PRIMARY KEY (book, version)) STRICT";
 
-/// The terms of a version.
+/// Reads the terms of a version.
 pub(crate) const READ_TERMS: &str =
     "SELECT rate, keep_before, keep_after FROM terms WHERE book = ?1 AND version = ?2";
 
-/// Puts the terms of a version.
+/// Inserts the terms of a version.
 pub const PUT_TERMS: &str = "INSERT INTO terms VALUES (?1, ?2, ?3, ?4, ?5)";
 
 // ---- pledges
 
-/// Makes the table of pledges.
+/// Makes the table of pledges. Days are day numbers, counted from 1970-01-01; `credit` and `amount` are in pence.
 pub const MAKE_PLEDGES: &str = "\
     CREATE TABLE pledges (\
     book INTEGER NOT NULL, \
@@ -84,39 +85,40 @@ pub const MAKE_PLEDGES: &str = "\
     UNIQUE (book, ref), \
     FOREIGN KEY (book, version) REFERENCES terms) STRICT";
 
-/// Makes the index by which the periods that end on a day are found.
+/// Makes the index for the search for the periods that end on a day.
 pub const MAKE_PLEDGES_BY_END: &str =
     "CREATE INDEX pledges_by_end ON pledges (book, closed, ends, number)";
 
-/// The row of a pledge.
+/// Reads the row of a pledge.
 pub(crate) const READ_PLEDGE: &str = "\
     SELECT ref, article, kind, credit, taken, agreed, five, version, ends, held, last_day, \
     closed, closed_day, amount \
     FROM pledges WHERE book = ?1 AND number = ?2";
 
-/// The part of what was agreed on a pledge that its debt depends on.
+/// Reads the part of what was agreed on a pledge that its debt depends on.
 pub(crate) const READ_CREDIT: &str =
     "SELECT kind, credit, taken, agreed, version FROM pledges WHERE book = ?1 AND number = ?2";
 
-/// The number of the first pledge of a book with a reference.
+/// Finds the number of the first pledge of a book with a reference.
 pub(crate) const FIND_REFERENCE: &str =
     "SELECT number FROM pledges WHERE book = ?1 AND ref = ?2 ORDER BY number LIMIT 1";
 
-/// How many periods end on a day, those of the redeemed and the sold aside.
+/// Counts the periods that end on a day, without those of redeemed and sold pledges.
 pub(crate) const COUNT_ENDS: &str =
     "SELECT count(*) FROM pledges WHERE book = ?1 AND closed = 0 AND ends = ?2";
 
-/// A page of the pledges above a number whose period ends on a day, the redeemed and the sold aside.
+/// Reads a page of the pledges whose number is greater than ?2 and whose period ends on a day, without the redeemed and
+/// the sold.
 pub(crate) const READ_ENDS_PAGE: &str = "\
     SELECT number FROM pledges WHERE book = ?1 AND number > ?2 AND closed = 0 AND ends = ?3 \
     ORDER BY number LIMIT 64";
 
-/// Puts the row of a new pledge.
+/// Inserts the row of a new pledge.
 pub const PUT_PLEDGE: &str = "\
     INSERT INTO pledges VALUES \
     (?1, ?2, ?3, ?4, ?5, ?6, ?7, ?8, ?9, ?10, ?11, ?12, ?13, ?14, ?15, ?16)";
 
-/// Sets what can change in the row of a pledge, if any of it differs from what is stored.
+/// Sets the columns of a pledge's row that can change, if any of them differs from the stored one.
 pub const SET_PLEDGE: &str = "\
     UPDATE pledges SET ends = ?3, held = ?4, last_day = ?5, closed = ?6, closed_day = ?7, \
     amount = ?8 \
@@ -126,7 +128,7 @@ pub const SET_PLEDGE: &str = "\
 
 // ---- entries
 
-/// Makes the table of entries.
+/// Makes the table of entries. `sort` is 0 for a drawing and 1 for a repayment.
 pub const MAKE_ENTRIES: &str = "\
     CREATE TABLE entries (\
     book INTEGER NOT NULL, \
@@ -138,24 +140,24 @@ pub const MAKE_ENTRIES: &str = "\
     PRIMARY KEY (book, number, seq), \
     FOREIGN KEY (book, number) REFERENCES pledges) STRICT";
 
-/// The entries of a pledge.
+/// Reads the entries of a pledge.
 pub(crate) const READ_ENTRIES: &str =
     "SELECT seq, day, sort, pence FROM entries WHERE book = ?1 AND number = ?2 ORDER BY seq";
 
-/// A page of the entries of a pledge, from a number on.
+/// Reads a page of the entries of a pledge, from a number on.
 pub(crate) const READ_ENTRIES_PAGE: &str = "\
     SELECT seq, day, sort, pence FROM entries WHERE book = ?1 AND number = ?2 AND seq >= ?3 \
     ORDER BY seq LIMIT 64";
 
-/// The entry of a pledge that has a number.
+/// Reads the entry of a pledge with a number.
 pub(crate) const READ_ENTRY: &str =
     "SELECT seq, day, sort, pence FROM entries WHERE book = ?1 AND number = ?2 AND seq = ?3";
 
-/// How many entries a pledge has.
+/// Counts the entries of a pledge.
 pub(crate) const COUNT_ENTRIES: &str =
     "SELECT count(*) FROM entries WHERE book = ?1 AND number = ?2";
 
-/// Puts an entry of a pledge.
+/// Inserts an entry of a pledge.
 pub const PUT_ENTRY: &str = "INSERT INTO entries VALUES (?1, ?2, ?3, ?4, ?5, ?6)";
 
 // ---- secrets
@@ -173,30 +175,30 @@ pub const MAKE_SECRETS: &str = "\
     UNIQUE (book, number, secret), \
     FOREIGN KEY (book, number) REFERENCES pledges) STRICT";
 
-/// The secrets of a pledge.
+/// Reads the secrets of a pledge.
 pub(crate) const READ_SECRETS: &str =
     "SELECT place, day, sort, secret FROM secrets WHERE book = ?1 AND number = ?2 ORDER BY place";
 
-/// A page of the secrets of a pledge, after a place.
+/// Reads a page of the secrets of a pledge, after a place.
 pub(crate) const READ_SECRETS_PAGE: &str = "\
     SELECT place, day, sort, secret FROM secrets WHERE book = ?1 AND number = ?2 AND place > ?3 \
     ORDER BY place LIMIT 64";
 
-/// The secret of a pledge at a place.
+/// Reads the secret of a pledge at a place.
 pub(crate) const READ_SECRET: &str =
     "SELECT place, day, sort, secret FROM secrets WHERE book = ?1 AND number = ?2 AND place = ?3";
 
-/// The last secret of a pledge.
+/// Reads the last secret of a pledge.
 pub(crate) const READ_LAST_SECRET: &str = "\
     SELECT place, day, sort, secret FROM secrets WHERE book = ?1 AND number = ?2 \
     ORDER BY place DESC LIMIT 1";
 
-/// Puts a secret of a pledge at its place.
+/// Inserts a secret of a pledge at its place.
 pub const PUT_SECRET: &str = "INSERT INTO secrets VALUES (?1, ?2, ?3, ?4, ?5, ?6)";
 
 // ---- bookings
 
-/// Makes the table of bookings.
+/// Makes the table of bookings: at most one row for each pledge. `slot` is the window.
 pub const MAKE_BOOKINGS: &str = "\
     CREATE TABLE bookings (\
     book INTEGER NOT NULL, \
@@ -207,40 +209,40 @@ pub const MAKE_BOOKINGS: &str = "\
     PRIMARY KEY (book, number), \
     FOREIGN KEY (book, number) REFERENCES pledges) STRICT";
 
-/// Makes the index by which the bookings of a day are found. The number comes before the window in it, so that each
-/// page of a day comes in its order.
+/// Makes the index for the search for the bookings of a day. The number precedes the window, so that the rows of a page
+/// are in the order of the index.
 pub const MAKE_BOOKINGS_BY_TIME: &str =
     "CREATE INDEX bookings_by_time ON bookings (book, day, state, number, slot)";
 
-/// The booking of a pledge.
+/// Reads the booking of a pledge.
 pub(crate) const READ_BOOKING: &str =
     "SELECT day, slot, state FROM bookings WHERE book = ?1 AND number = ?2";
 
-/// How many bookings are confirmed for a window of a day.
+/// Counts the bookings that are confirmed for a window of a day.
 pub(crate) const COUNT_CONFIRMED: &str =
     "SELECT count(*) FROM bookings WHERE book = ?1 AND day = ?2 AND slot = ?3 AND state = 1";
 
-/// A page of those bookings, of the pledges above a number.
+/// Reads a page of the bookings that are confirmed for a window of a day, of pledges whose number is greater than ?2.
 pub(crate) const READ_CONFIRMED_PAGE: &str = "\
     SELECT number FROM bookings WHERE book = ?1 AND number > ?2 AND day = ?3 \
     AND slot = ?4 AND state = 1 \
     ORDER BY number LIMIT 64";
 
-/// How many bookings are asked for a day.
+/// Counts the bookings that are asked for a day.
 pub(crate) const COUNT_ASKED: &str =
     "SELECT count(*) FROM bookings WHERE book = ?1 AND day = ?2 AND state = 0";
 
-/// A page of those bookings, of the pledges above a number.
+/// Reads a page of the bookings that are asked for a day, of pledges whose number is greater than ?2.
 pub(crate) const READ_ASKED_PAGE: &str = "\
     SELECT number, slot FROM bookings WHERE book = ?1 AND number > ?2 AND day = ?3 \
     AND state = 0 \
     ORDER BY number LIMIT 64";
 
-/// The windows of a day that have a confirmed booking, each once.
+/// Reads the windows of a day that have a confirmed booking, each once.
 pub(crate) const READ_WINDOWS: &str =
     "SELECT DISTINCT slot FROM bookings WHERE book = ?1 AND day = ?2 AND state = 1 AND slot < 16";
 
-/// Puts the booking of a pledge, in place of the one that it has, if it has one.
+/// Inserts the booking of a pledge, or replaces the one that it has.
 pub const PUT_BOOKING: &str = "\
     INSERT INTO bookings VALUES (?1, ?2, ?3, ?4, ?5) \
     ON CONFLICT (book, number) DO UPDATE SET day = excluded.day, slot = excluded.slot, \
@@ -248,7 +250,7 @@ pub const PUT_BOOKING: &str = "\
 
 // ---- totals
 
-/// Makes the table of totals.
+/// Makes the table of totals: what was owed on a day, the principal in pence and the charges in millionths of a penny.
 pub const MAKE_TOTALS: &str = "\
     CREATE TABLE totals (\
     book INTEGER NOT NULL, \
@@ -259,14 +261,14 @@ pub const MAKE_TOTALS: &str = "\
     PRIMARY KEY (book, number), \
     FOREIGN KEY (book, number) REFERENCES pledges) STRICT";
 
-/// The totals of a pledge.
+/// Reads the totals of a pledge.
 pub(crate) const READ_TOTALS: &str =
     "SELECT day, principal, charges FROM totals WHERE book = ?1 AND number = ?2";
 
-/// Puts the totals of a new pledge.
+/// Inserts the totals of a new pledge.
 pub const PUT_TOTALS: &str = "INSERT INTO totals VALUES (?1, ?2, ?3, ?4, ?5)";
 
-/// Sets the totals of a pledge, if any of them differs from what is stored.
+/// Sets the totals of a pledge, if any of them differs from the stored one.
 pub const SET_TOTALS: &str = "\
     UPDATE totals SET day = ?3, principal = ?4, charges = ?5 \
     WHERE book = ?1 AND number = ?2 AND (day IS NOT ?3 OR principal IS NOT ?4 \
@@ -285,46 +287,46 @@ pub const MAKE_EXTENSIONS: &str = "\
     PRIMARY KEY (book, number, place), \
     FOREIGN KEY (book, number) REFERENCES pledges) STRICT";
 
-/// The extensions of a pledge.
+/// Reads the extensions of a pledge.
 pub(crate) const READ_EXTENSIONS: &str =
     "SELECT place, day, until_day FROM extensions WHERE book = ?1 AND number = ?2 ORDER BY place";
 
-/// A page of the extensions of a pledge, after a place.
+/// Reads a page of the extensions of a pledge, after a place.
 pub(crate) const READ_EXTENSIONS_PAGE: &str = "\
     SELECT place, day, until_day FROM extensions WHERE book = ?1 AND number = ?2 AND place > ?3 \
     ORDER BY place LIMIT 64";
 
-/// The extension of a pledge at a place.
+/// Reads the extension of a pledge at a place.
 pub(crate) const READ_EXTENSION: &str =
     "SELECT place, day, until_day FROM extensions WHERE book = ?1 AND number = ?2 AND place = ?3";
 
-/// The place of the last extension of a pledge.
+/// Reads the place of the last extension of a pledge.
 pub(crate) const READ_LAST_PLACE: &str =
     "SELECT place FROM extensions WHERE book = ?1 AND number = ?2 ORDER BY place DESC LIMIT 1";
 
-/// Puts an extension of a pledge at its place.
+/// Inserts an extension of a pledge at its place.
 pub const PUT_EXTENSION: &str = "INSERT INTO extensions VALUES (?1, ?2, ?3, ?4, ?5)";
 
-// ---- what the store notes of itself
+// ---- notes: the schema, the limit on rows and their count
 
-/// Makes the table of what the store notes: its schema, its limit on rows, and how many are counted.
+/// Makes the table of notes: the number of the schema, the limit on counted rows, and how many there are.
 pub const MAKE_META: &str =
     "CREATE TABLE meta (name TEXT PRIMARY KEY NOT NULL, value INTEGER NOT NULL) STRICT";
 
-/// The number of the store's schema.
+/// Reads the number of the store's schema.
 pub const READ_SCHEMA: &str = "SELECT value FROM meta WHERE name = 'schema'";
 
-/// The limit on the rows.
+/// Reads the limit on counted rows.
 pub const READ_LIMIT: &str = "SELECT value FROM meta WHERE name = 'limit'";
 
-/// How many rows are counted.
+/// Reads how many counted rows there are.
 pub(crate) const READ_ROWS: &str = "SELECT value FROM meta WHERE name = 'rows'";
 
-/// Notes a number under a name.
+/// Inserts a note: a number under a name.
 pub const PUT_NOTE: &str = "INSERT INTO meta VALUES (?1, ?2)";
 
-/// Notes another number of the schema.
+/// Changes the noted number of the schema.
 pub const SET_SCHEMA: &str = "UPDATE meta SET value = ?1 WHERE name = 'schema'";
 
-/// Adds to the count of rows, and returns the new count.
+/// Adds to the noted count of rows, and returns the new count.
 pub const ADD_ROWS: &str = "UPDATE meta SET value = value + ?1 WHERE name = 'rows' RETURNING value";

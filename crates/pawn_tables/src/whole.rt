@@ -1,10 +1,13 @@
+//! Reads a whole pledge from all its tables.
 #![tactic(auto, using(crate::proofs::Basics::lent_then))]
 
+ghost use Rattle.pawn_tables.specs.Common.{get, pledge_in, terms_of, terms_at, IsUnsoundAt, Lends};
+ghost use Rattle.pawn_tables.specs.Finding.{FindsBy};
+ghost use Rattle.pawn_tables.specs.PledgeRows.{AreLists, AreSides, AreTold};
 ghost use Rattle.std.specs.Prelude.{◌≡◌, IfSome, is_ok};
-ghost use Rattle.pawn_tables.specs.{Common.{get, pledge_in, terms_of, terms_at, IsUnsoundAt, Lends}, Finding.FindsBy, PledgeRows.{AreLists, AreSides, AreTold}};
 
 use crate::cells::NO_RECORD;
-use crate::joining::pledges::join;
+use crate::joining::pledges::join_pledge;
 use crate::joining::{Lists, RowsBeside, StoredPledge};
 use crate::queries::{
     booking_in, entries_in, extensions_in, row_in, secrets_in, terms_in, totals_in,
@@ -13,8 +16,8 @@ use pawn_book::{KeepError, Number, Pledge, Terms};
 use sqlite::{Alter, Transaction};
 use std::alloc::Global;
 
-/// The terms that a book has under a version, if it has any. There are none under 0, nor under a version that 32 bits
-/// cannot hold.
+/// The terms that a book has under a version, if it has any. Versions are counted from 1; there are none under 0, nor
+/// under a version that does not fit in 32 bits. The error is `NoRecord` only if the book is not sound.
 pub fn terms_under<S: Alter>(
     tx: &mut Transaction<'_, S>,
     book: u32,
@@ -29,7 +32,7 @@ pub fn terms_under<S: Alter>(
     terms_in(tx, book, short)
 }
 
-/// The lists of a pledge.
+/// The entries, secrets and extensions of a pledge.
 pub(crate) fn lists_in<S: Alter>(
     tx: &mut Transaction<'_, S>,
     alloc: Global,
@@ -49,7 +52,7 @@ pub(crate) fn lists_in<S: Alter>(
     })
 }
 
-/// What the tables beside its row hold of a pledge.
+/// The terms, the booking and the totals of a pledge.
 pub(crate) fn sides_in<S: Alter>(
     tx: &mut Transaction<'_, S>,
     book: u32,
@@ -70,7 +73,7 @@ pub(crate) fn sides_in<S: Alter>(
     })
 }
 
-/// What the row of a pledge and the tables beside it hold, if there is such a pledge.
+/// The row of a pledge with its terms, its booking and its totals, if there is such a pledge.
 pub(crate) fn stored_pledge_in<S: Alter>(
     tx: &mut Transaction<'_, S>,
     alloc: Global,
@@ -90,8 +93,9 @@ pub(crate) fn stored_pledge_in<S: Alter>(
     Ok(Some(StoredPledge { row, sides }))
 }
 
-/// The pledge with this number in a book, if there is one. Its stored totals and end are compared with those that
-/// follow from its record, and `NoRecord` is answered if they differ.
+/// The pledge with this number in a book, if there is one. The stored totals and the stored end of the period are
+/// compared with those that follow from the record; the error is `NoRecord` if they differ. `NoRecord` is answered only
+/// if the book is not sound.
 pub fn pledge_of<S: Alter>(
     tx: &mut Transaction<'_, S>,
     alloc: Global,
@@ -106,6 +110,6 @@ pub fn pledge_of<S: Alter>(
         return Ok(None);
     };
     let lists = lists_in(tx, alloc, book, n)?;
-    let pledge = join(number, told.row, told.sides, lists)?;
+    let pledge = join_pledge(number, told.row, told.sides, lists)?;
     Ok(Some(pledge))
 }

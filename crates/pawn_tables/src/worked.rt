@@ -1,6 +1,7 @@
+//! A worked example of the tables.
 ghost use Rattle.pawn_tables.specs.WorkedTables.{WorkedTables};
 
-/// A ring that was pawned, and the rows that hold it.
+/// The rows of a host with one book, in which a ring is pawned. A law: it has no code.
 pub fn worked_tables()
     ensures tables { WorkedTables }
 {}

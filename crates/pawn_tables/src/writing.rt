@@ -1,5 +1,6 @@
-ghost use Rattle.std.specs.Prelude.{◌≢◌, ℕ, IsTrue, OnOk, Ok, Err, is_ok};
+//! Runs a statement that writes.
 ghost use Rattle.pawn_tables.specs.Common.{state, Executes, HasCleanDisk, bound, NoRecord, Lends};
+ghost use Rattle.std.specs.Prelude.{◌≢◌, ℕ, IsTrue, OnOk, Ok, Err, is_ok};
 ghost use Rattle.pawn_book.specs.declared.fault.KeepError.TheVariants as Keeper;
 
 use crate::cells::refused;
@@ -8,7 +9,8 @@ use pawn_book::KeepError;
 use sqlite::{Alter, Transaction};
 use sqlite_value::value::ValueRef;
 
-/// Runs a statement that shows no rows. It never answers `NoRecord`.
+/// Runs a statement that returns no rows, in a borrowed transaction. The error is `Memory` or `Database`, never
+/// `NoRecord`.
 pub fn write<S: Alter>(
     tx: &mut Transaction<'_, S>,
     sql: &str,

@@ -1,9 +1,14 @@
--- The library's calendar counts the days as the rules' own does.
-use Rattle.{std.proofs.Common.{◌≡◌, ℕ, zero, suc, ◌+◌, ◌-◌, ◌≤◌, refl, ap, ◌∙◌, arith, ℤ, pos}, jiff_core.specs.Calendar.{day_count, days_from_civil}}
-use Rattle.jiff_core.{specs.{declared.civil.date.Date.Date, Date.epoch_day}, proofs.{SignedLemmas.signed_arith, CalendarLemmas.days_from_civil-day_count}}
-use Rattle.{jiff_core.proofs.CalendarLemmas.{day_count-day, day_count-next_month, day_count-next_year}, pawn_terms.specs.Calendar.{Civil, IsDayNumber}}
-use Rattle.pawn_terms.{specs.Calendar.{civil_of, day_number, days_of_years, days_of_months, AgreesWithLibrary}, proofs.CalendarLemmas.count_of-first}
-use Rattle.pawn_terms.proofs.CalendarLemmas.{civil_of-year, page_date}
+-- The library's calendar counts days as the calendar of the rules does.
+use Rattle.jiff_core.proofs.CalendarLemmas.{days_from_civil-day_count, day_count-day, day_count-next_month}
+use Rattle.jiff_core.proofs.CalendarLemmas.{day_count-next_year}
+use Rattle.jiff_core.proofs.SignedLemmas.{signed_arith}
+use Rattle.jiff_core.specs.Calendar.{day_count, days_from_civil}
+use Rattle.jiff_core.specs.Date.{epoch_day}
+use Rattle.jiff_core.specs.declared.civil.date.Date.{Date}
+use Rattle.pawn_terms.proofs.CalendarLemmas.{count_of-first, civil_of-year, page_date}
+use Rattle.pawn_terms.specs.Calendar.{Civil, IsDayNumber, civil_of, day_number, days_of_years, days_of_months}
+use Rattle.pawn_terms.specs.Calendar.{AgreesWithLibrary}
+use Rattle.std.proofs.Common.{◌≡◌, ℕ, zero, suc, ◌+◌, ◌-◌, ◌≤◌, refl, ap, ◌∙◌, arith, ℤ, pos}
 
 -- the first day of a year
 year_begins : (n : ℕ) → day_count (pos (2000 + n)) 1 1 ≡ 4_382_910 + days_of_years n
@@ -45,7 +50,7 @@ number_of-date d y m n e f g low =
     ap (λ (z : ℤ). days_from_civil z d.month d.day) e ∙ ap (λ (k : ℕ). days_from_civil (pos y) k d.day) f ∙ ap (λ (k : ℕ). days_from_civil (pos y) m k) g
     ∙ counts_alike (record { year = y; month = m; day = n }) low (omega (arith, f, d.month_in)) (omega (arith, g, d.day_in))
 
--- a day is numbered by its page
+-- the number of a day is that of its year, month and day
 pub day_number-of : (n : ℕ) → IsDayNumber n → day_number (civil_of n) ≡ n
 day_number-of n h =
     let p = page_date n h in

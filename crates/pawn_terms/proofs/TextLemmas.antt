@@ -1,9 +1,15 @@
 -- The text of a day, and the day of a text.
-use Rattle.std.proofs.Common.{◌≡◌, ℕ, ◌+◌, ◌-◌, ◌*◌, ◌/◌, ◌<◌, List, [], ◌∷◌, length, get_or, Result, Ok, Err, IsOk, IfOk, refl, sym, ap, subst, ◌∙◌, arith}
-use Rattle.{std.proofs.{Common.{pos, ◌≤ℤ◌, unsigned_abs}, lemmas.Bool.false≢true}, jiff_core.proofs.CalendarLemmas.days_in_month_bounds}
-use Rattle.{jiff_core.{specs.{declared.civil.date.Date.Date, Date.epoch_day}, proofs.SignedLemmas.signed_arith}, pawn_terms.specs.Calendar.{Civil, civil_of}}
-use Rattle.pawn_terms.specs.{Calendar.{civil_text, day_text, digit, first_day, IsDayNumber, IsStampDay, IsStampCivil, IsWritable}, declared.day.BadDay.BadDay}
+use Rattle.jiff_core.proofs.CalendarLemmas.{days_in_month_bounds}
+use Rattle.jiff_core.proofs.SignedLemmas.{signed_arith}
+use Rattle.jiff_core.specs.Date.{epoch_day}
+use Rattle.jiff_core.specs.declared.civil.date.Date.{Date}
 use Rattle.pawn_terms.proofs.CalendarLemmas.{civil_after_is, civil_of-date, civil_of-year, same_civil}
+use Rattle.pawn_terms.specs.Calendar.{Civil, civil_of, civil_text, day_text, digit, first_day, IsDayNumber, IsStampDay}
+use Rattle.pawn_terms.specs.Calendar.{IsStampCivil, IsWritable}
+use Rattle.pawn_terms.specs.declared.day.BadDay.{BadDay}
+use Rattle.std.proofs.Common.{◌≡◌, ℕ, ◌+◌, ◌-◌, ◌*◌, ◌/◌, ◌<◌, List, [], ◌∷◌, length, get_or, Result, Ok, Err, IsOk}
+use Rattle.std.proofs.Common.{IfOk, refl, sym, ap, subst, ◌∙◌, arith, pos, ◌≤ℤ◌, unsigned_abs}
+use Rattle.std.proofs.lemmas.Bool.{false≢true}
 
 -- the text of a date of the library is that of its day number
 pub text_of-date : (d : Date) (n : ℕ) → IsDayNumber n → epoch_day d ≡ pos n
@@ -51,7 +57,7 @@ civil_text-read t c y m d l first second hc hy hm hd =
     let e3 : get_or t 3 0 ≡ digit (c * 100 + y) = hy.ones ∙ sym e.3 in
     p ∙ rw (e0, e1, e2, e3, first, hm.tens, hm.ones, second, hd.tens, hd.ones) refl
 
--- no two days have one text
+-- no two days have the same text
 same_year : (a b : ℕ) → a < 10000 → b < 10000 → digit (a / 1000) ≡ digit (b / 1000) → digit (a / 100) ≡ digit (b / 100) → digit (a / 10) ≡ digit (b / 10)
     → digit a ≡ digit b → a ≡ b
 same_year a b ha hb e f g h = omega arith
@@ -83,7 +89,7 @@ pub day_text-read : (r : Result ℕ BadDay) (t : List ℕ) (c : Civil) → t ≡
 day_text-read (Ok n) t c is same day h = (n, day, is ∙ ap civil_text (sym same))
 day_text-read (Err e) t c is same day h = absurd (false≢true h)
 
--- and a day's text names its year, month and day
+-- the text of a day determines its year, month and day
 pub civil_of-read : (n : ℕ) (t : List ℕ) (c : Civil) → IsStampDay n → t ≡ day_text n → t ≡ civil_text c → IsWritable c → IsStampCivil c
 civil_of-read n t c day text is small =
     let p = civil_of-stamp n day in

@@ -3,3 +3,4 @@ pub mod Calendar
 pub mod Terms
 pub mod TermsFault
 pub mod Worked
+pub mod WorkedLimits

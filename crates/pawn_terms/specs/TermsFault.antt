@@ -1,7 +1,10 @@
--- Why three numbers are refused as terms.
+-- The reasons why three numbers are refused as terms.
+use Rattle.pawn_base.specs.Refusals.{first_of}
+use Rattle.pawn_terms.specs.Limits.{most_rate, most_keep}
+use Rattle.pawn_terms.specs.declared.terms.Rates.{Rates}
+use Rattle.pawn_terms.specs.declared.terms.TermsFault.{TermsFault}
+use Rattle.pawn_terms.specs.declared.terms.TermsFault.TheVariants.{RateTooHigh, KeepTooHigh, KeepingRate}
 use Rattle.std.specs.Prelude.{ℕ, List, [], ◌∷◌, nat_lt, ◌||◌, Result, Ok, codes}
-use Rattle.{pawn_base.specs.Refusals.first_of, pawn_terms.specs.declared.terms.{Rates.Rates, TermsFault.{TermsFault, TheVariants.{RateTooHigh, KeepTooHigh}}}}
-use Rattle.pawn_terms.specs.{declared.terms.TermsFault.TheVariants.KeepingRate, Limits.{most_rate, most_keep}}
 
 -- the terms of three numbers, or the first fault that applies
 abbrev pub terms_answer : Rates → Result Rates TermsFault
@@ -13,13 +16,13 @@ terms_answer t =
     ∷ [])
     (Ok t)
 
--- the fault's number
+-- the code of the fault in replies
 abbrev pub terms_fault_code : TermsFault → ℕ
 terms_fault_code RateTooHigh = 102
 terms_fault_code KeepTooHigh = 103
 terms_fault_code KeepingRate = 104
 
--- the fault's name
+-- the name of the fault in replies
 abbrev pub terms_fault_name : TermsFault → List ℕ
 terms_fault_name RateTooHigh = codes "RateTooHigh"
 terms_fault_name KeepTooHigh = codes "KeepTooHigh"

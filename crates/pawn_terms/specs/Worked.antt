@@ -1,7 +1,10 @@
--- Days, ends of periods and terms, worked out.
+-- Worked examples of days, ends of periods and terms.
+use Rattle.pawn_terms.specs.Calendar.{day_number, day_text, six_months, period_end, first_day, last_stamp_day}
+use Rattle.pawn_terms.specs.Calendar.{final_day}
+use Rattle.pawn_terms.specs.Terms.{rates_of}
+use Rattle.pawn_terms.specs.TermsFault.{terms_answer}
+use Rattle.pawn_terms.specs.declared.terms.TermsFault.TheVariants.{RateTooHigh, KeepTooHigh, KeepingRate}
 use Rattle.std.specs.Prelude.{◌≡◌, ℕ, ◌+◌, Some, None, Ok, Err, codes}
-use Rattle.pawn_terms.specs.{Calendar.{day_number, day_text, six_months, period_end, first_day, last_stamp_day, final_day}, Terms.rates_of}
-use Rattle.pawn_terms.specs.{TermsFault.terms_answer, declared.terms.TermsFault.TheVariants.{RateTooHigh, KeepTooHigh, KeepingRate}}
 
 -- a day by its year, month and day of the month
 abbrev pub date : ℕ → ℕ → ℕ → ℕ
@@ -15,7 +18,7 @@ WorkedNumbers =
     × (date 2199 12 31 ≡ last_stamp_day)
     × (date 2299 12 31 ≡ final_day)
 
--- the day after February has 28 days, or 29 in a leap year, which 2000 is and 2100 is not
+-- February has 28 days, or 29 in a leap year; 2000 is a leap year and 2100 is not
 abbrev pub WorkedTexts : Type 0
 WorkedTexts =
     (day_text (date 2024 1 31) ≡ codes "2024-01-31")
@@ -25,7 +28,7 @@ WorkedTexts =
     × (day_text (date 2100 2 28 + 1) ≡ codes "2100-03-01")
     × (day_text (date 2024 12 31 + 1) ≡ codes "2025-01-01")
 
--- six months later, cut to the month's last day
+-- the same day six months later, or the last day of that month if the month is shorter
 abbrev pub WorkedSixMonths : Type 0
 WorkedSixMonths =
     (six_months (date 2024 1 31) ≡ date 2024 7 31)
@@ -34,7 +37,7 @@ WorkedSixMonths =
     × (six_months (date 2024 3 31) ≡ date 2024 9 30)
     × (six_months (date 2199 12 31) ≡ date 2200 6 30)
 
--- an agreed end has an effect where it is past the six months, and an extension's where it is past both
+-- an agreed end counts if it is after the six months, and the end of an extension if it is after both
 abbrev pub WorkedEnds : Type 0
 WorkedEnds =
     (period_end (date 2024 1 31) None None ≡ date 2024 7 31)
@@ -42,7 +45,7 @@ WorkedEnds =
     × (period_end (date 2024 1 31) (Some (date 2024 8 1)) None ≡ date 2024 8 1)
     × (period_end (date 2024 1 31) (Some (date 2024 8 1)) (Some (date 2024 9 30)) ≡ date 2024 9 30)
 
--- each number at its limit and past it, and the first fault where there are several
+-- each number at its limit and above it, and the first fault if there are several
 abbrev pub WorkedTerms : Type 0
 WorkedTerms =
     (terms_answer (rates_of 20000 10000000 10000000) ≡ Ok (rates_of 20000 10000000 10000000))

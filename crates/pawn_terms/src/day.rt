@@ -1,7 +1,14 @@
-ghost use Rattle.std.specs.{Prelude.{◌≡◌, ◌↔◌, ℕ, ◌+◌, ◌≤◌, ◌<◌, ◌/◌, pos, ◌≤ℤ◌, unsigned_abs, IsOk, IfOk, IsSome, IfSome, IfNone, codes}, Int.IsInRange};
-ghost use Rattle.{jiff_core.specs.{Calendar.IsEpochDay, Date.epoch_day}, jiff_span.specs.Months.{add_months, IsShiftable}, pawn_terms.specs.Calendar.Civil};
-ghost use Rattle.pawn_terms.specs.Calendar.{last_stamp_day, final_day, IsDayNumber, IsStampDay, IsStampCivil, civil_of, day_number, six_months, later_of};
-ghost use Rattle.pawn_terms.specs.Calendar.{period_end, day_text, civil_text, IsWritable, digit};
+//! `Day`, a day of the calendar, and the last day of a pledge's period.
+
+ghost use Rattle.jiff_core.specs.Calendar.{IsEpochDay};
+ghost use Rattle.jiff_core.specs.Date.{epoch_day};
+ghost use Rattle.jiff_span.specs.Months.{add_months, IsShiftable};
+ghost use Rattle.pawn_terms.specs.Calendar.{Civil, last_stamp_day, final_day, IsDayNumber, IsStampDay, IsStampCivil};
+ghost use Rattle.pawn_terms.specs.Calendar.{civil_of, day_number, six_months, later_of, period_end, day_text};
+ghost use Rattle.pawn_terms.specs.Calendar.{civil_text, IsWritable, digit};
+ghost use Rattle.std.specs.Int.{IsInRange};
+ghost use Rattle.std.specs.Prelude.{◌≡◌, ◌↔◌, ℕ, ◌+◌, ◌≤◌, ◌<◌, ◌/◌, pos, ◌≤ℤ◌, unsigned_abs, IsOk, IfOk, IsSome};
+ghost use Rattle.std.specs.Prelude.{IfSome, IfNone, codes};
 
 use crate::limits::{FINAL_DAY, FIRST_DAY};
 use jiff::ToSpan;
@@ -11,19 +18,19 @@ use std::error::Error;
 use std::fmt;
 use std::marker::Model;
 
-/// What was given names no day, or a day out of range.
+/// The error for a text or number that names no day, or a day that is out of range.
 #[derive(Clone, Copy, Debug, PartialEq, Eq)]
 pub struct BadDay;
 
 impl BadDay {
-    /// The number of the fault, as replies carry it.
+    /// The code of the fault in replies.
     pub fn code(self) -> u16
         ensures value { result ≡ 101 }
     {
         101
     }
 
-    /// The name of the fault, as replies carry it.
+    /// The name of the fault in replies.
     pub fn name(self) -> &'static str
         ensures value { result.now ≡ codes "BadDay" }
     {
@@ -43,7 +50,7 @@ impl fmt::Display for BadDay {
 
 impl Error for BadDay {}
 
-/// A day from 2000-01-01 to 2299-12-31. A clause sees its number, counted from 1970-01-01.
+/// A day from 2000-01-01 to 2299-12-31. In contracts the value is the day number, counted from 1970-01-01.
 #[derive(Clone, Copy, PartialEq, Eq, PartialOrd, Ord)]
 pub struct Day {
     number: u32,
@@ -89,7 +96,7 @@ impl Day {
         })
     }
 
-    /// The day this many days later, which must not be past 2299-12-31.
+    /// The day `days` days later, which must not be after 2299-12-31.
     pub fn plus_days(self, days: u32) -> Day
         requires within { self + days ≤ final_day }
         ensures value { result ≡ self + days }
@@ -99,7 +106,7 @@ impl Day {
         }
     }
 
-    // The day of a date of the library, from 2000 to 2299.
+    /// The day of a `jiff` date, which must be from 2000-01-01 to 2299-12-31.
     fn of_date(date: civil::Date) -> Day
         requires low { pos 10957 ≤ℤ epoch_day date }
         requires high { epoch_day date ≤ℤ pos 120529 }
@@ -110,7 +117,7 @@ impl Day {
         }
     }
 
-    // The day as a date of the library.
+    /// The day as a `jiff` date.
     fn date(self) -> civil::Date
         ensures value { epoch_day result ≡ pos self }
         ensures in_range { IsDayNumber self }
@@ -154,7 +161,8 @@ impl Day {
         date_text(self.date())
     }
 
-    /// The same day six calendar months later, or the last day of that month if it is shorter.
+    /// The same day six calendar months later, or the last day of that month if it is shorter. This day must not be
+    /// after 2199-12-31.
     pub fn six_months_after(self) -> Day
         requires within { self ≤ last_stamp_day }
         ensures value { result ≡ six_months self }
@@ -162,7 +170,7 @@ impl Day {
         Day::of_date(six_months_on(self.date()))
     }
 
-    // The later of this day and another, if there is another.
+    /// The later of this day and `other`; this day if `other` is `None`.
     fn later_of(self, other: Option<Day>) -> Day
         ensures value { result ≡ later_of self other }
     {
@@ -173,7 +181,7 @@ impl Day {
     }
 }
 
-// The text of a date of the library from 2000 on.
+/// The text of a `jiff` date, such as `2024-01-31`. The year must not be negative.
 fn date_text(date: civil::Date) -> [u8; 10]
     requires year { pos 0 ≤ℤ date.year }
     ensures value { result ≡ civil_text (record { year = unsigned_abs date.year; month = date.month; day = date.day }) }
@@ -195,14 +203,15 @@ fn date_text(date: civil::Date) -> [u8; 10]
     ]
 }
 
-// The character of a number's last digit.
+/// The ASCII character of the last decimal digit of a number.
 fn digit_of(number: u32) -> u8
     ensures value { result ≡ digit number }
 {
     b'0' + (number % 10) as u8
 }
 
-// The year, month and day that a text of ten characters names, be there such a day or not.
+/// The year, month and day of a text such as `2024-01-31`, whether or not the calendar has that day. Returns `None` for
+/// a text of any other form.
 fn civil_in(text: &[u8]) -> Option<(u16, u8, u8)>
     ensures some { IfSome result (λ p. text.now ≡ civil_text (record { year = p.0; month = p.1; day = p.2 })) }
     ensures writable { IfSome result (λ p. IsWritable (record { year = p.0; month = p.1; day = p.2 })) }
@@ -224,7 +233,7 @@ fn civil_in(text: &[u8]) -> Option<(u16, u8, u8)>
     Some((century as u16 * 100 + years as u16, month, day))
 }
 
-// The number of two digits, if they are digits.
+/// The number that two ASCII digits form, or `None` if one of them is not a digit.
 fn two_digits(tens: u8, ones: u8) -> Option<u8>
     ensures value { IfSome result (λ n. (n < 100) × (tens ≡ digit (n / 10)) × (ones ≡ digit n)) }
     ensures digits { IsSome result ↔ (IsInRange 48 57 tens × IsInRange 48 57 ones) }
@@ -236,7 +245,7 @@ fn two_digits(tens: u8, ones: u8) -> Option<u8>
     }
 }
 
-// Six months on in the library's calendar.
+/// The date six months later, as `jiff` computes it.
 fn six_months_on(date: civil::Date) -> civil::Date
     requires year { IsShiftable date (pos 6) }
     requires day { IsEpochDay (add_months date (pos 6)) }
@@ -248,8 +257,8 @@ fn six_months_on(date: civil::Date) -> civil::Date
         .to_plain()
 }
 
-/// The last day of a pledge's period: the latest of the day six months after it was taken, the
-/// agreed end, and the end that an extension agreed last.
+/// The last day of a pledge's period: the latest of the day six months after the pledge was taken, the agreed end, and
+/// the end of the last extension. `taken` must not be after 2199-12-31.
 pub fn last_day(taken: Day, agreed: Option<Day>, extended: Option<Day>) -> Day
     requires within { taken ≤ last_stamp_day }
     ensures value { result ≡ period_end taken agreed extended }

@@ -1,12 +1,14 @@
-ghost use Rattle.std.specs.Prelude.{◌≡◌, ◌↔◌, ℕ, IsOk, IfOk};
+//! `RequestDay`, a day that a request may name.
+
 ghost use Rattle.pawn_terms.specs.Calendar.{IsStampDay, day_text};
+ghost use Rattle.std.specs.Prelude.{◌≡◌, ◌↔◌, ℕ, IsOk, IfOk};
 
 use crate::day::{BadDay, Day};
 use crate::limits::LAST_STAMP_DAY;
 use std::marker::Model;
 
-/// A day that a request, a stamp or a record may name, from 2000-01-01 to 2199-12-31. A clause sees
-/// its number, counted from 1970-01-01.
+/// A day that a request, a stamp or a record may name, from 2000-01-01 to 2199-12-31. In contracts the value is the day
+/// number, counted from 1970-01-01.
 #[derive(Clone, Copy, PartialEq, Eq)]
 pub struct RequestDay {
     day: Day,
@@ -23,7 +25,7 @@ impl Model for RequestDay {
 }
 
 impl RequestDay {
-    /// This day as one that a request may name. `BadDay` if it is past 2199-12-31.
+    /// This day as one that a request may name. `BadDay` if it is after 2199-12-31.
     pub fn of_day(day: Day) -> Result<RequestDay, BadDay>
         ensures ok { IfOk result (λ d. d ≡ day) }
         ensures succeeds { IsOk result ↔ IsStampDay day }

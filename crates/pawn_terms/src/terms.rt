@@ -1,26 +1,28 @@
-ghost use Rattle.std.specs.Prelude.{◌≡◌, IfOk};
+//! The terms of an agreement: a rate of interest and two charges for safe keeping, checked against their limits.
+
 ghost use Rattle.pawn_terms.specs.Terms.{IsChecked};
+ghost use Rattle.std.specs.Prelude.{◌≡◌, IfOk};
 
 use crate::limits::{MOST_KEEP, MOST_RATE};
 use std::error::Error;
 use std::fmt;
 use std::marker::Model;
 
-/// Why three numbers are refused as terms.
+/// The reason why three numbers are refused as terms.
 #[derive(Clone, Copy, Debug, PartialEq, Eq)]
 pub enum TermsFault {
     /// A rate of interest above 20,000 millionths per day.
     RateTooHigh,
     /// A charge for safe keeping above 10,000,000 millionths of a penny per day.
     KeepTooHigh,
-    /// Safe keeping dearer after the end of the period than before it.
+    /// A charge for safe keeping that is higher after the end of the period than before it.
     KeepingRate,
 }
 
 impl TermsFault {
     ghost use Rattle.pawn_terms.specs.TermsFault.{terms_fault_code, terms_fault_name};
 
-    /// The number of the fault, as replies carry it.
+    /// The code of the fault in replies.
     pub fn code(self) -> u16
         ensures value { result ≡ terms_fault_code self }
     {
@@ -31,7 +33,7 @@ impl TermsFault {
         }
     }
 
-    /// The name of the fault, as replies carry it.
+    /// The name of the fault in replies.
     pub fn name(self) -> &'static str
         ensures value { result.now ≡ terms_fault_name self }
     {
@@ -44,8 +46,8 @@ impl TermsFault {
 }
 
 impl fmt::Display for TermsFault {
-    ghost use Rattle.std.specs.Prelude.{Some};
     ghost use Rattle.pawn_terms.specs.TermsFault.{terms_fault_name};
+    ghost use Rattle.std.specs.Prelude.{Some};
 
     ghost output = { λ fault. Some (terms_fault_name fault) };
 
@@ -68,9 +70,10 @@ pub struct Rates {
 }
 
 impl Rates {
-    ghost use Rattle.pawn_terms.specs.{Terms.IsChecked, TermsFault.terms_answer};
+    ghost use Rattle.pawn_terms.specs.Terms.{IsChecked};
+    ghost use Rattle.pawn_terms.specs.TermsFault.{terms_answer};
 
-    /// The terms of these numbers, or the first fault, in the order of `TermsFault`.
+    /// The terms of these numbers. If they break a limit, the first fault in the order of `TermsFault`.
     pub fn check(self) -> Result<Terms, TermsFault>
         ensures value { result ≡ terms_answer self }
         ensures checked { IfOk result IsChecked }
@@ -88,17 +91,17 @@ impl Rates {
     }
 }
 
-/// Checked terms of an agreement. The rate is at most 20,000 millionths per day, and each charge for safe keeping at
-/// most 10,000,000 millionths of a penny per day. Safe keeping is not dearer after the end of the period than before
-/// it. A clause sees their three numbers.
+/// Checked terms of an agreement. The rate is at most 20,000 millionths per day, and each charge for safe keeping is at
+/// most 10,000,000 millionths of a penny per day. The charge after the end of the period is at most the charge before
+/// it. In contracts the value is the three numbers.
 #[derive(Clone, Copy)]
 pub struct Terms {
     rates: Rates,
 }
 
 impl Model for Terms {
-    ghost use Rattle.pawn_terms.specs.declared.terms.Rates.{Rates};
     ghost use Rattle.pawn_terms.specs.Terms.{IsChecked};
+    ghost use Rattle.pawn_terms.specs.declared.terms.Rates.{Rates};
 
     ghost Value = { Rates };
 
@@ -113,9 +116,9 @@ impl Terms {
     ghost use Rattle.pawn_terms.specs.Terms.{IsChecked, rates_of};
     ghost use Rattle.pawn_terms.specs.TermsFault.{terms_answer};
 
-    /// The terms of three numbers: the rate in millionths per day, and the charges for safe keeping
-    /// up to the end and after it in millionths of a penny per day. Otherwise the first fault, in
-    /// the order of `TermsFault`.
+    /// The terms of three numbers: the rate in millionths per day, and the charges for safe keeping up to the end of
+    /// the period and after it, in millionths of a penny per day. If they break a limit, the first fault in the order
+    /// of `TermsFault`.
     pub fn check(rate: u64, keep_before: u64, keep_after: u64) -> Result<Terms, TermsFault>
         ensures value { result ≡ terms_answer (rates_of rate keep_before keep_after) }
     {

@@ -1,9 +1,9 @@
-//! Asking a keeper for something that may change it.
+//! Sends requests to a keeper that may change it.
 use pawn_book::{Refusal, Reply, Request, Secret, Stamp, act};
 use pawn_list_keeper::ListKeep;
 use std::alloc::Global;
 
-/// What a keeper answers to a request, unless the request only reads.
+/// Returns the answer of a keeper to a request, or `None` if the request only reads.
 pub fn acted(
     alloc: Global,
     keep: &mut ListKeep,

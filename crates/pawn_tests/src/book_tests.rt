@@ -1,4 +1,4 @@
-//! Books kept in lists. Each call of `ListKeep`, and each kind of request on a book, is run once. The script
+//! Tests of books in lists. Each call of `ListKeep`, and each kind of request on a book, is run once. The script
 //! `tests/answers/turns.py` shows all requests and their replies over tables.
 use crate::acting::acted;
 use pawn_book::{
@@ -22,29 +22,30 @@ const OPERATOR: u128 = 11;
 
 const KEY: u128 = 22;
 
-// A request on book 7, which takes one booking in a window.
+/// A request on book 7, which has capacity 1.
 #[derive(Clone, Copy)]
 enum Ask {
-    // The book, by this key and with this capacity.
+    /// The operator makes the book, with this key and this capacity.
     Make {
         operator: u128,
         capacity: u64,
     },
+    /// The broker puts terms with this version and this rate, in millionths a day.
     Put {
         version: u64,
         rate: u64,
     },
-    // A pledge for a sum, under the reference of this number.
+    /// The broker takes a pledge for this sum in pence, under the reference with this number.
     Take {
         reference: u64,
         pence: u64,
     },
-    // By the book's key.
+    /// The broker sends a command with the book's key.
     Broker {
         pledge: u64,
         command: Command,
     },
-    // By a receipt of this word.
+    /// The bearer sends a command with the receipt of this word.
     Bearer {
         pledge: u64,
         word: u128,
@@ -52,7 +53,7 @@ enum Ask {
     },
 }
 
-// A request, the word of its stamp, and the answer that it should get.
+/// A request, the word of its stamp, and the answer that it should get.
 #[derive(Clone, Copy)]
 struct Turn {
     word: u128,
@@ -152,7 +153,7 @@ fn request_of(alloc: Global, turn: &Turn) -> Result<Request, Fail> {
     Ok(Request { book, caller })
 }
 
-// What a keeper answers to a turn.
+/// Returns the answer of a keeper to a turn, or `None` if the request only reads.
 fn answer_to(
     alloc: Global,
     keep: &mut ListKeep,
@@ -167,7 +168,7 @@ fn answer_to(
     Ok(acted(alloc, keep, operator, &stamp, &request))
 }
 
-// Checks that a keeper answers each turn as it should. A turn that fails is reported by its place.
+/// Checks that a keeper answers each turn as it should. A failure reports the place of the turn.
 fn plays(rt: &impl Abort, alloc: Global, keep: &mut ListKeep, turns: &[Turn]) -> Result<(), Fail> {
     let mut place = 1usize;
     for turn in turns {
@@ -245,7 +246,8 @@ fn a_book_and_its_terms_are_made_once(rt: HostRuntime) -> Result<(), Fail> {
     )
 }
 
-// A keeper with room for so many rows, whose book 7 takes pledges 1 and 2 of 100 pounds, by the words 33 and 44.
+/// Returns a keeper with room for this many rows, whose book 7 has taken pledges 1 and 2 for 100 pounds each, with the
+/// words 33 and 44.
 fn pledges(rt: &impl Abort, alloc: Global, limit: u64) -> Result<ListKeep, Fail> {
     let turns = [
         asked(1, make(), Ok(Reply::BookMade(number(7)?))),
@@ -283,7 +285,7 @@ fn a_store_is_judged_and_counted(rt: HostRuntime) -> Result<(), Fail> {
     Ok(())
 }
 
-// The answer that a repayment of pledge 1 should get.
+/// Returns the answer that a repayment of pledge 1 should get.
 fn repaid() -> Result<Result<Reply, Refusal>, Fail> {
     told(
         1,
@@ -296,8 +298,8 @@ fn repaid() -> Result<Result<Reply, Refusal>, Fail> {
     )
 }
 
-// Whoever may ask gets the same answer again to a repeated opening or repayment. A bearer of a replaced receipt gets
-// none.
+/// A repeated opening or repayment gets the same answer again, if the caller may ask. The bearer of a replaced receipt
+/// may not.
 #[test]
 fn a_repeat_is_told_to_whoever_passes(rt: HostRuntime) -> Result<(), Fail> {
     let amount = Err(Refusal::Pledge(PledgeRefusal::Debt(DebtFault::BadAmount)));
@@ -319,7 +321,7 @@ fn a_repeat_is_told_to_whoever_passes(rt: HostRuntime) -> Result<(), Fail> {
     plays(&rt, rt.alloc(), &mut keep, &turns)
 }
 
-// A visitor that adds up the numbers of pledges, and stops after so many.
+/// A visitor that adds up the numbers of pledges, and stops after `left` of them.
 #[derive(Drop)]
 struct Sum {
     total: u32,
@@ -341,7 +343,7 @@ impl Visitor<Pledge> for Sum {
     }
 }
 
-// The sum of the first pledges' numbers.
+/// Returns the sum of the numbers of the first `left` pledges.
 fn sum_of(keep: &mut ListKeep, left: u32) -> Result<u32, Fail> {
     let mut sum = Sum { total: 0, left };
     keep.walk(number(7)?, &mut sum)?;
@@ -362,7 +364,7 @@ fn booked(n: u64, state: BookingState) -> Result<Result<Reply, Refusal>, Fail> {
 
 const CONFIRM: Command = Command::DecideBooking(Decision::Confirm);
 
-// A booking that was confirmed is counted, and books and pledges are found.
+/// A booking that was confirmed is counted, and books and pledges are found.
 #[test]
 fn a_window_is_counted_over_all_pledges(rt: HostRuntime) -> Result<(), Fail> {
     let (book, wanted) = (number(7)?, day()?);
@@ -381,18 +383,19 @@ fn a_window_is_counted_over_all_pledges(rt: HostRuntime) -> Result<(), Fail> {
     Ok(())
 }
 
-// The confirmed bookings of the third window, and the sums of the first nine pledges' numbers and of the first one's.
+/// Returns the confirmed bookings of the third window, and the sums of the numbers of the first nine pledges and of the
+/// first one.
 fn counted(keep: &mut ListKeep, book: Number, day: Day) -> Result<(u64, u32, u32), Fail> {
     let count = keep.confirmed_count(book, day, 3)?;
     Ok((count, sum_of(keep, 9)?, sum_of(keep, 1)?))
 }
 
-// The first book, and the one that follows this one.
+/// Returns the first book, and the one after this one.
 fn listed(keep: &mut ListKeep, book: Number) -> Result<(Option<Number>, Option<Number>), Fail> {
     Ok((keep.next_book(None)?, keep.next_book(Some(book))?))
 }
 
-// The answer to a request that is planned and then committed. `None` if the plan is refused.
+/// Returns the answer to a request that is planned and then committed, or `None` if the plan is refused.
 fn made_of(
     alloc: Global,
     keep: &mut ListKeep,
@@ -408,7 +411,7 @@ fn made_of(
     }
 }
 
-// Checks that a turn's plan, once committed, gets the answer that the turn should get.
+/// Checks that a turn's plan, once committed, gets the answer that the turn should get.
 fn commits(rt: &impl Abort, alloc: Global, keep: &mut ListKeep, turn: &Turn) -> Result<(), Fail> {
     let stamp = Stamp {
         day: day()?,
@@ -419,7 +422,7 @@ fn commits(rt: &impl Abort, alloc: Global, keep: &mut ListKeep, turn: &Turn) -> 
     Ok(())
 }
 
-// The last free row goes to a repayment. A plan for which no row is left is not committed.
+/// The last free row goes to a repayment. A plan for which no row is left is not committed.
 #[test]
 fn the_row_limit_comes_last(rt: HostRuntime) -> Result<(), Fail> {
     let alloc = rt.alloc();
@@ -432,7 +435,7 @@ fn the_row_limit_comes_last(rt: HostRuntime) -> Result<(), Fail> {
     plays(&rt, alloc, &mut keep, &[full, ahead])
 }
 
-// Whether a receipt of pledge 2 is live in a book.
+/// Returns whether a receipt of pledge 2 is live in a book.
 fn is_live(keep: &mut ListKeep, book: u64, word: u128) -> Result<bool, Fail> {
     let found = find_live(keep, number(book)?, &receipt(2, word)?);
     let is_second = match &found {
@@ -442,7 +445,7 @@ fn is_live(keep: &mut ListKeep, book: u64, word: u128) -> Result<bool, Fail> {
     Ok(is_second)
 }
 
-// Whether this key opens the book, with its name and two pledges.
+/// Returns whether this key opens the book, with its name and two pledges.
 fn opens(keep: &mut ListKeep, key: u128) -> Result<bool, Fail> {
     match gate(keep, number(7)?, Secret::of_word(key)) {
         Ok(head) => Ok(head.pledges == 2 && head.name.as_str() == "High Street"),
@@ -450,7 +453,7 @@ fn opens(keep: &mut ListKeep, key: u128) -> Result<bool, Fail> {
     }
 }
 
-// Whether pledge 2 is inside its period.
+/// Returns whether pledge 2 is inside its period.
 fn is_inside(keep: &mut ListKeep) -> Result<bool, Fail> {
     match keep.brief(number(7)?, number(2)?) {
         Ok(Some(brief)) => Ok(brief.status(day()?.day()) == Status::Inside),
@@ -458,7 +461,7 @@ fn is_inside(keep: &mut ListKeep) -> Result<bool, Fail> {
     }
 }
 
-// The book opens by its key, a receipt is live in its book, and the pledge is inside its period.
+/// The book opens by its key, a receipt is live in its book, and the pledge is inside its period.
 #[test]
 fn a_receipt_is_live_in_its_book_alone(rt: HostRuntime) -> Result<(), Fail> {
     let mut keep = pledges(&rt, rt.alloc(), 1000)?;

@@ -1,5 +1,5 @@
-//! Each call that takes memory is run once, and its answer is checked. What the rules answer is proved, and worked out
-//! in `specs/Worked.antt`.
+//! Each call that allocates memory is run once, and its answer is checked. The answers that the rules require are
+//! proved, and worked out in `specs/Worked.antt`.
 use pawn_debt::{Debt, Entries, Kind};
 use pawn_terms::{Day, RequestDay, Terms, last_day};
 use std::alloc::Global;
@@ -9,7 +9,7 @@ fn day(text: &[u8]) -> Result<Day, Fail> {
     Ok(RequestDay::of_text(text)?.day())
 }
 
-// A running account with a limit of 50 pounds, on which 30 are drawn and 10 repaid.
+/// Returns a running account with a limit of 50 pounds, of which 30 are drawn and 10 repaid.
 fn account(alloc: Global) -> Result<Debt, Fail> {
     let taken = RequestDay::of_text(b"2024-01-31")?.day();
     let terms = Terms::check(2667, 0, 0)?;
@@ -38,7 +38,7 @@ fn a_copy_has_the_same_entries(rt: HostRuntime) -> Result<(), Fail> {
     Ok(())
 }
 
-// The account again, made of its entries.
+/// Returns the same account, made from its entries.
 fn account_of(entries: Entries) -> Result<Debt, Fail> {
     let taken = RequestDay::of_text(b"2024-01-31")?.day();
     let terms = Terms::check(2667, 0, 0)?;

@@ -1,9 +1,10 @@
-//! The tests of the crates that know of no store. Each public call that takes memory is run once with ample memory, and
-//! its answer is checked. They are in a crate of their own, a file for each crate, so that no crate is proved again for
-//! its tests. Those of the other crates are in `pawn_store_tests`.
+//! The tests of the crates that do not depend on a store. Each public call that allocates memory is run once with
+//! enough memory, and its answer is checked. The tests are in a crate of their own, with a file for each tested crate,
+//! so that the tested crates are not proved again when a test changes. The tests of the other crates are in
+//! `pawn_store_tests`.
 #![tactic(auto)]
 
-// The text of a book whose rows, the first one aside, are these.
+// The text of a book: the header, followed by these rows.
 #[cfg(test)]
 macro_rules! book_text {
     ($rows:literal) => {

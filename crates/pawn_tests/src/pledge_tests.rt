@@ -1,5 +1,5 @@
-//! Each call that takes memory is run once, and its answer is checked. What the rules answer is proved, and worked out
-//! in `specs/Worked.antt`. The script `tests/answers/limits.py` reaches each limit once.
+//! Each call that allocates memory is run once, and its answer is checked. The answers that the rules require are
+//! proved, and worked out in `specs/Worked.antt`. The script `tests/answers/limits.py` reaches each limit once.
 use pawn_pledge::{
     Article, Brief, Command, Day, Done, Kind, Number, Opening, Paper, Pledge, Receipt, Reference,
     RequestDay, Secret, Stamp, Terms,
@@ -26,7 +26,7 @@ fn opening(alloc: Global, kind: Kind) -> Result<Opening, Fail> {
     })
 }
 
-// A pledge taken on 2024-01-31 without charges, whose first secret is 1.
+/// Returns a pledge taken on 2024-01-31 without charges, whose first secret is 1.
 fn pledge(alloc: Global, kind: Kind) -> Result<Pledge, Fail> {
     let terms = Terms::check(0, 0, 0)?;
     let number = Number::new(1).ok_or("no number")?;
@@ -35,13 +35,13 @@ fn pledge(alloc: Global, kind: Kind) -> Result<Pledge, Fail> {
     Ok(Pledge::start(alloc, number, opening(alloc, kind)?, 1, terms, &stamp)?)
 }
 
-// What a pledge answers to a command on a day, with the word 2.
+/// Returns the answer of a pledge to a command on a day, with the word 2.
 fn answer(pledge: &mut Pledge, text: &[u8], command: Command) -> Result<Done, Fail> {
     let day = request_day(text)?;
     Ok(pledge.apply(&Stamp { day, word: 2 }, &command)?)
 }
 
-// Tenders a declaration, extends the period and makes a repayment.
+/// Tenders a declaration, extends the period and makes a repayment.
 fn uses(pledge: &mut Pledge) -> Result<(), Fail> {
     let until = request_day(b"2024-09-30")?;
     let repay = Command::Repay {
@@ -54,7 +54,7 @@ fn uses(pledge: &mut Pledge) -> Result<(), Fail> {
     Ok(())
 }
 
-// A pledge with a second secret, a longer period and a repayment.
+/// Returns a pledge with a second secret, an extended period and a repayment.
 fn used(alloc: Global) -> Result<Pledge, Fail> {
     let mut pledge = pledge(alloc, Kind::Fixed(10_000))?;
     match uses(&mut pledge) {
@@ -63,7 +63,7 @@ fn used(alloc: Global) -> Result<Pledge, Fail> {
     }
 }
 
-// Whether a drawing of so many pence is the only entry of a pledge that had none.
+/// Returns whether a drawing of this many pence becomes the only entry of a pledge that had none.
 fn draws(pledge: &mut Pledge, pence: u64) -> Result<bool, Fail> {
     match answer(pledge, b"2024-01-31", Command::Draw { seq: 1, pence })? {
         Done::Entered(entry) => {
@@ -97,7 +97,7 @@ fn an_extension_puts_the_end_off(rt: HostRuntime) -> Result<(), Fail> {
     Ok(())
 }
 
-// Checks that a brief has the article, the live secret and the count of the entries.
+/// Checks that a brief has the article, the live secret and the count of the entries.
 fn tells_of_its_pledge(rt: &impl Abort, brief: &Brief) {
     let fields = brief.fields();
     assert_eq!(rt; fields.agreement.opening.article.as_str(), "Gold ring");
@@ -115,7 +115,7 @@ fn a_brief_tells_of_its_pledge(rt: HostRuntime) -> Result<(), Fail> {
     Ok(())
 }
 
-// Whether a pledge made of the parts is like the pledge.
+/// Returns whether a pledge made from the parts is like the pledge.
 fn is_made_again(pledge: &Pledge, day: Day) -> Result<bool, Fail> {
     match Pledge::of_parts(pledge.parts()?) {
         Ok(again) => Ok(again.status(day) == pledge.status(day) && has_same_lists(&again, pledge)),
@@ -123,7 +123,7 @@ fn is_made_again(pledge: &Pledge, day: Day) -> Result<bool, Fail> {
     }
 }
 
-// Whether a copy, a brief, and a pledge made of the parts are like the pledge.
+/// Returns whether a copy, a brief, and a pledge made from the parts are like the pledge.
 fn is_same_again(pledge: &Pledge, day: Day) -> Result<bool, Fail> {
     let copied = pledge.copy()?.status(day);
     let told = pledge.brief()?.status(day);
@@ -131,7 +131,7 @@ fn is_same_again(pledge: &Pledge, day: Day) -> Result<bool, Fail> {
     Ok(copied == pledge.status(day) && told == copied && is_again)
 }
 
-// Whether two pledges have the same entries, secrets and extensions, and their periods the same end.
+/// Returns whether two pledges have the same entries, secrets and extensions, and the same end of their periods.
 fn has_same_lists(one: &Pledge, other: &Pledge) -> bool {
     one.entries() == other.entries()
         && one.secrets() == other.secrets()

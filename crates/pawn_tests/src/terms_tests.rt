@@ -1,4 +1,4 @@
-//! Each use of the library's calendar is run once. What the rules answer is proved, and worked out in
+//! Each use of the library's calendar is run once. The answers that the rules require are proved, and worked out in
 //! `specs/Worked.antt`.
 use pawn_terms::{BadDay, Day, RequestDay, last_day};
 

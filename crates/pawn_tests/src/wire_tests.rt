@@ -1,5 +1,5 @@
-//! Each call that takes memory is run once, and its answer is checked. So are bodies of another length than their heads
-//! say.
+//! Each call that allocates memory is run once, and its answer is checked. So are bodies whose length differs from the
+//! one in their heads.
 
 use pawn_book::{
     BrokerRequest, Caller, Kind, Number, PledgeRefusal, Receipt, Refusal, Reply, Request, Secret,
@@ -17,7 +17,7 @@ fn asked(rt: &impl Abort, alloc: Global, bytes: &[u8]) -> Result<Request, WireFa
     read_request(alloc, &router, bytes)
 }
 
-// A broker's request for a target of book 7, with this body and a head that says how many bytes it has.
+/// Returns a broker's request for a target of book 7, with this body and with `told` as the length in its head.
 fn post(alloc: Global, target: &str, told: usize, body: &[u8]) -> Result<Vec<u8>, AllocError> {
     let head = format!(in alloc;
         "POST /books/7/{target} HTTP/1.1\r\nPledge-Key: 22222222-2222-2222-2222-222222222222\r\nContent-Length: {told}\r\n\r\n"

@@ -1,11 +1,17 @@
 -- What is shown for receipts, one after the other.
-use Rattle.std.proofs.Common.{◌≡◌, ◌∙◌, ℕ, zero, suc, ◌+◌, ◌-◌, ◌<◌, ◌≤◌, arith, Bool, true, false, List, [], ◌∷◌, ◌++◌, length, take, drop, get_or, map}
-use Rattle.std.proofs.Common.{Option, Some, None, codes, refl, sym, ap, subst, if◌then◌else◌, Result, not, option_map, append-nil}
-use Rattle.{std.proofs.lemmas.{Grind.flat_map-append, List.{take_more, take_rest, map-append}}, pawn_view.specs.Common.{BriefFields, End, Front, KeepError}}
-use Rattle.pawn_view.specs.Common.{PledgeValue, Puts, PutsShare, Receipt, ViewFault, Whole, Writing, are_unknown, brief_of, call_end, ending_of, is_live}
-use Rattle.pawn_view.specs.{Common.{live_at, only_live, write_failed}, Shown.{Shows, shown_of}, Text.{further_texts, presented_text, shown_text}}
-use Rattle.{pawn_view.{specs.Text.statement_text, proofs.StatementLemmas.{some_same, shows_ended}}, pawn_writing.proofs.ShareLemmas.{share_puts, share_more}}
-use Rattle.{pawn_writing.proofs.ShareLemmas.{share_then, writings_in_turn}, pawn_book.proofs.VisitLemmas.cut_at}
+use Rattle.pawn_book.proofs.VisitLemmas.{cut_at}
+use Rattle.pawn_view.proofs.StatementLemmas.{some_same, shows_ended}
+use Rattle.pawn_view.specs.Common.{BriefFields, End, Front, KeepError, PledgeValue, Puts, PutsShare, Receipt, ViewFault}
+use Rattle.pawn_view.specs.Common.{Whole, Writing, are_unknown, brief_of, call_end, ending_of, is_live, live_at}
+use Rattle.pawn_view.specs.Common.{only_live, write_failed}
+use Rattle.pawn_view.specs.Shown.{Shows, shown_of}
+use Rattle.pawn_view.specs.Text.{further_texts, presented_text, shown_text, statement_text}
+use Rattle.pawn_writing.proofs.ShareLemmas.{share_puts, share_more, share_then, writings_in_turn}
+use Rattle.std.proofs.Common.{◌≡◌, ◌∙◌, ℕ, zero, suc, ◌+◌, ◌-◌, ◌<◌, ◌≤◌, arith, Bool, true, false, List, [], ◌∷◌, ◌++◌}
+use Rattle.std.proofs.Common.{length, take, drop, get_or, map, Option, Some, None, codes, refl, sym, ap, subst}
+use Rattle.std.proofs.Common.{if◌then◌else◌, Result, not, option_map, append-nil}
+use Rattle.std.proofs.lemmas.Grind.{flat_map-append}
+use Rattle.std.proofs.lemmas.List.{take_more, take_rest, map-append}
 
 -- ---- whether one of them is live
 
@@ -157,14 +163,14 @@ dead_first_shows contents a b w day others false done answer fine is known line 
     shows_ended contents a w (presented_text day (None ∷ others)) done answer fine is
     (share_then {s = codes "Unknown receipt\n"} {t = further_texts day others} writings_in_turn (share_puts writings_in_turn line) share)
 
--- the text where the first is not live, told of the first
+-- the same, if the keeper returned no brief for the first receipt
 pub dead_first : {W : Type 0} (contents : W → Option (List ℕ)) (a w : Writing W) (day : ℕ) (p : Option PledgeValue) (others : List (Option PledgeValue))
     (answer : Result (Unit {0}) ViewFault)
     → None ≡ option_map brief_of p → Shows contents a (shown_of day (None ∷ others)) answer w → Shows contents a (shown_of day (p ∷ others)) answer w
 dead_first contents a w day p others answer is shows =
     subst (λ (o : Option PledgeValue). Shows contents a (shown_of day (o ∷ others)) answer w) (sym (none_of p is)) shows
 
--- what was said of the first and the rest is said of all
+-- what holds for the first receipt and the rest holds for all receipts
 pub shows_all : {W : Type 0} (contents : W → Option (List ℕ)) (a w : Writing W) (day : ℕ) (f : Receipt → Option PledgeValue) (receipts : List Receipt)
     (x : Receipt) (answer : Result (Unit {0}) ViewFault) → 1 ≤ length receipts → x ≡ get_or receipts 0 x
     → Shows contents a (shown_of day (f x ∷ map f (rest_of receipts))) answer w → Shows contents a (shown_of day (map f receipts)) answer w

@@ -1,12 +1,18 @@
 -- A day's sheet, put item by item.
-use Rattle.std.proofs.Common.{◌≡◌, ◌∙◌, ℕ, false, List, [], ◌∷◌, Option, Some, None, Result, sym, ap, subst, inl, inr, codes, option_map}
-use Rattle.pawn_view.specs.Common.{BookValue, End, Flow, Handed, IsShare, KeepError, PledgeValue, Puts, PutsLine, PutsShare, SheetItem, ViewFault, Writing}
-use Rattle.pawn_view.specs.{Common.{book_head, call_end, day_sheet, ending_of, pledges_of, write_failed}, Shown.Shows, Text.day_line}
-use Rattle.pawn_view.{specs.{declared.sheets.SheetLines.SheetLines, Sheets.{PutsItem, book_sheet, day_lines, sheet_line}}, proofs.StatementLemmas.shows_ended}
-use Rattle.{pawn_view.proofs.StatementLemmas.some_same, pawn_writing.proofs.ShareLemmas.{lines_share, share_puts, share_then, writings_in_turn}}
 use Rattle.pawn_book.specs.declared.change.BookHead.{BookHead}
+use Rattle.pawn_view.proofs.StatementLemmas.{shows_ended, some_same}
+use Rattle.pawn_view.specs.Common.{BookValue, End, Flow, Handed, IsShare, KeepError, PledgeValue, Puts, PutsLine}
+use Rattle.pawn_view.specs.Common.{PutsShare, SheetItem, ViewFault, Writing, book_head, call_end, day_sheet, ending_of}
+use Rattle.pawn_view.specs.Common.{pledges_of, write_failed}
+use Rattle.pawn_view.specs.Sheets.{PutsItem, book_sheet, day_lines, sheet_line}
+use Rattle.pawn_view.specs.Shown.{Shows}
+use Rattle.pawn_view.specs.Text.{day_line}
+use Rattle.pawn_view.specs.declared.sheets.SheetLines.{SheetLines}
+use Rattle.pawn_writing.proofs.ShareLemmas.{lines_share, share_puts, share_then, writings_in_turn}
+use Rattle.std.proofs.Common.{◌≡◌, ◌∙◌, ℕ, false, List, [], ◌∷◌, Option, Some, None, Result, sym, ap, subst, inl, inr}
+use Rattle.std.proofs.Common.{codes, option_map}
 
--- to what a visitor holds, its items were handed as to a writer
+-- items passed to the visitor are passed to its writer
 pub record LinesHanded {W : Type 0} (contents : W → Option (List ℕ)) (v : SheetLines W) (items : List SheetItem) (flow : Flow) (w : SheetLines W) : Type 0 where
   pub lines : Handed (PutsLine contents (sheet_line v.capacity)) v.writer.now items flow w.writer.now
   pub same_writer : w.writer.ghost_name ≡ v.writer.ghost_name

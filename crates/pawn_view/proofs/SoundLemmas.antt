@@ -1,8 +1,12 @@
 -- What the pledges of a sound host are.
-use Rattle.{std.proofs.Common.{◌≡◌, ◌∙◌, ℕ, ◌≤◌, arith, Some, sym, ap, subst, max}, pawn_view.specs.Common.{AreOrdered, Closing, Host, IsSound, Open}}
-use Rattle.pawn_view.specs.{Common.{PledgeValue, Redeemed, Sold, brief_of, brief_owing, debt_of, due, last_of, owing_of}, Shown.{open_or_last, pledge_at}}
-use Rattle.{pawn_view.specs.Text.shown_day, pawn_debt.proofs.EntryLemmas.due-from-last, pawn_pledge.specs.Replayable.{IsReplayable, IsClosed}}
-use Rattle.pawn_book.proofs.Sounds.{standing_at}
+use Rattle.pawn_book.proofs.Sounds.{reachable_at}
+use Rattle.pawn_debt.proofs.EntryLemmas.{due-from-last}
+use Rattle.pawn_pledge.specs.Replayable.{IsReplayable, IsClosed}
+use Rattle.pawn_view.specs.Common.{AreOrdered, Closing, Host, IsSound, Open, PledgeValue, Redeemed, Sold, brief_of}
+use Rattle.pawn_view.specs.Common.{brief_owing, debt_of, due, last_of, owing_of}
+use Rattle.pawn_view.specs.Shown.{open_or_last, pledge_at}
+use Rattle.pawn_view.specs.Text.{shown_day}
+use Rattle.std.proofs.Common.{◌≡◌, ◌∙◌, ℕ, ◌≤◌, arith, Some, sym, ap, subst, max}
 
 -- what a statement rests on: the day that is shown, and what is owed on it
 pub record IsTold (p : PledgeValue) : Type 0 where
@@ -36,7 +40,7 @@ brief_owes p x ordered le = ap owing_of (due-from-last (debt_of p) x ordered le)
 
 pub told_of_sound : (h : Host) → IsSound h → (book number : ℕ) (p : PledgeValue) → pledge_at h book number ≡ Some p → IsTold p
 told_of_sound h sound book number p is =
-    let replayable : IsReplayable p = (standing_at h book number p sound is).0.replayable in
+    let replayable : IsReplayable p = (reachable_at h book number p sound is).0.replayable in
     let entered : ℕ = last_of p.agreement.taken p.entries in
     record {
       day = λ day. day_shown p p.standing.closing entered day replayable.closed replayable.entered.before;

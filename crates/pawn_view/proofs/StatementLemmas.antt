@@ -1,11 +1,19 @@
 -- A statement, put part by part.
-use Rattle.std.proofs.Common.{◌≡◌, ◌∙◌, ℕ, Bool, true, false, List, ◌++◌, Option, Some, None, Result, Ok, Err, refl, sym, ap, subst, [], ◌∷◌, inl, inr, max}
-use Rattle.{std.proofs.Common.{option_map, unwrap_or}, pawn_view.specs.Common.{BriefFields, End, Flow, Front, Handed, IsShare, KeepError, PledgeValue}}
-use Rattle.pawn_view.specs.Common.{PutFront, Puts, PutsLine, PutsShare, ViewFault, Whole, Writing, Written, brief_of, brief_owing, brief_status, call_end}
-use Rattle.pawn_view.specs.{Common.{debt_of, due, end_of, ending_of, flat_map, owing_of, status_of, write_failed}, Shown.{Shows, open_or_last, PutsElement}}
-use Rattle.pawn_view.specs.Text.{entry_line, extended_line, first_lines, shown_day, state_lines, state_on, statement_text}
-use Rattle.{pawn_view.{specs.declared.statements.StatementLines.StatementLines, proofs.SoundLemmas.IsTold}, pawn_debt.specs.declared.owing.Owing.Owing}
-use Rattle.pawn_writing.proofs.{PutLemmas.{front-more, now_by}, ShareLemmas.{lines_share, share_all, share_puts, share_more, share_then, writings_in_turn}}
+use Rattle.pawn_debt.specs.declared.owing.Owing.{Owing}
+use Rattle.pawn_view.proofs.SoundLemmas.{IsTold}
+use Rattle.pawn_view.specs.Common.{BriefFields, End, Flow, Front, Handed, IsShare, KeepError, PledgeValue, PutFront}
+use Rattle.pawn_view.specs.Common.{Puts, PutsLine, PutsShare, ViewFault, Whole, Writing, Written, brief_of, brief_owing}
+use Rattle.pawn_view.specs.Common.{brief_status, call_end, debt_of, due, end_of, ending_of, flat_map, owing_of}
+use Rattle.pawn_view.specs.Common.{status_of, write_failed}
+use Rattle.pawn_view.specs.Shown.{Shows, open_or_last, PutsElement}
+use Rattle.pawn_view.specs.Text.{entry_line, extended_line, first_lines, shown_day, state_lines, state_on}
+use Rattle.pawn_view.specs.Text.{statement_text}
+use Rattle.pawn_view.specs.declared.statements.StatementLines.{StatementLines}
+use Rattle.pawn_writing.proofs.PutLemmas.{front-more, now_by}
+use Rattle.pawn_writing.proofs.ShareLemmas.{lines_share, share_all, share_puts, share_more, share_then}
+use Rattle.pawn_writing.proofs.ShareLemmas.{writings_in_turn}
+use Rattle.std.proofs.Common.{◌≡◌, ◌∙◌, ℕ, Bool, true, false, List, ◌++◌, Option, Some, None, Result, Ok, Err, refl}
+use Rattle.std.proofs.Common.{sym, ap, subst, [], ◌∷◌, inl, inr, max, option_map, unwrap_or}
 
 -- the lines of a brief above the extensions, and below them
 abbrev pub brief_first : BriefFields → List ℕ
@@ -29,7 +37,7 @@ state_of_brief p b v day is told v_is =
     subst (λ (x : ℕ). brief_owing (brief_of p) x ≡ owing_of (due (debt_of p) x)) (sym day_is) (told.owing day) in
     ap (λ (x : BriefFields). brief_state x v) is ∙ ap (λ (o : Owing). state_lines (status_of p v) o p.standing) owed ∙ ap (λ (x : ℕ). state_on x p) day_is
 
--- to what a visitor holds, its elements were handed as to a writer
+-- elements passed to the visitor are passed to its writer
 elements_handed : {W T : Type 0} (contents : W → Option (List ℕ)) (line : T → List ℕ) (v w : StatementLines W) (xs : List T) (flow : Flow)
     → Handed (PutsElement contents line) v xs flow w
     → Handed (PutsLine contents line) v.writer.now xs flow w.writer.now × (w.writer.ghost_name ≡ v.writer.ghost_name)
@@ -77,7 +85,7 @@ statement_whole contents a b c d e day v p brief end is told v_is first extensio
 
 -- ---- how a text ends
 
--- a writer that failed was given a front of the text
+-- if the writer failed, a prefix of the text was written
 ended_failed : {W : Type 0} (contents : W → Option (List ℕ)) (a w : Writing W) (text : List ℕ) (end : End) → write_failed a ≡ false → write_failed w ≡ true
     → PutsShare contents a text end w → Written contents a text Front w
 ended_failed contents a w text end fine failed share =
@@ -101,7 +109,7 @@ shows_by contents a w text (Ok u) false fine now share = (text, refl, ended_whol
 shows_by contents a w text (Err KeepError.Memory) false fine now share = ended_cut contents a w text Front fine now share
 shows_by contents a w text (Err (KeepError.Store why)) false fine now share = ended_cut contents a w text Front fine now share
 
--- the text was put, and the answer says how that ended
+-- after the text was written, the answer states how that ended
 pub shows_ended : {W : Type 0} (contents : W → Option (List ℕ)) (a w : Writing W) (text : List ℕ) (done : Result (Unit {0}) KeepError)
     (answer : Result (Unit {0}) ViewFault)
     → write_failed a ≡ false → answer ≡ ending_of done (write_failed w) → PutsShare contents a text (call_end done) w → Shows contents a (Some text) answer w

@@ -1,14 +1,16 @@
 -- The text of a day's sheet, and the visitor that writes it.
+use Rattle.pawn_view.specs.Common.{Asked, AskedHead, BookValue, Confirmed, Ends, EndsHead, Flow, Host, PledgeValue}
+use Rattle.pawn_view.specs.Common.{PutsLine, SheetItem, Window, day_sheet, flat_map, get}
+use Rattle.pawn_view.specs.Text.{day_line, number_line}
+use Rattle.pawn_view.specs.declared.sheets.SheetLines.{SheetLines}
 use Rattle.std.specs.Prelude.{ℕ, List, ◌++◌, Option, ◌≡◌, codes, decimal, option_map}
-use Rattle.pawn_view.specs.Common.{Asked, AskedHead, BookValue, Confirmed, Ends, EndsHead, Flow, Host, PledgeValue, PutsLine, SheetItem, Window, day_sheet}
-use Rattle.pawn_view.specs.{Common.{flat_map, get}, declared.sheets.SheetLines.SheetLines, Text.{day_line, number_line}}
 
--- a window's line: how many come, and how many may
+-- a window's line: the number of confirmed visits, and the book's capacity
 abbrev pub window_line : ℕ → ℕ → ℕ → List ℕ
 window_line capacity window count =
     codes "Window " ++ (decimal window ++ (codes " confirmed " ++ (decimal count ++ (codes " of " ++ (decimal capacity ++ codes "\n")))))
 
--- who asked to come, and in which window
+-- a booking that is asked for: its pledge and its window
 abbrev pub asked_sheet_line : ℕ → ℕ → List ℕ
 asked_sheet_line number window = codes "Pledge " ++ (decimal number ++ (codes " window " ++ (decimal window ++ codes "\n")))
 
@@ -25,7 +27,7 @@ sheet_line capacity (Ends number) = number_line (codes "Pledge ") number
 abbrev pub sheet_text : ℕ → ℕ → List SheetItem → List ℕ
 sheet_text day capacity items = day_line (codes "Day sheet ") day ++ flat_map (sheet_line capacity) items
 
--- the lines of a day below its heading
+-- the lines of a day after its heading
 abbrev pub day_lines : ℕ → ℕ → List PledgeValue → List ℕ
 day_lines capacity day pledges = flat_map (sheet_line capacity) (day_sheet pledges day)
 

@@ -1,8 +1,19 @@
--- The texts, line by line. Days are day numbers, amounts are pence.
-use Rattle.std.specs.Prelude.{ℕ, ◌/◌, ◌-◌, max, Bool, true, false, List, [], ◌∷◌, ◌++◌, Option, Some, None, codes, decimal}
-use Rattle.pawn_view.specs.Common.{Closing, Open, PledgeValue, Redeemed, Sold, day_text, debt_of, digit, due, end_of, flat_map, owing_of, status_of}
-use Rattle.pawn_debt.specs.{declared.{owing.Owing.Owing, entry.{Entry.Entry, Kind.{TheVariants.{Fixed, Running}, Kind}}}, Words.sort_text}
-use Rattle.pawn_pledge.specs.{declared.record.{Extension.Extension, Agreement.Agreement, Standing.Standing, Booking.Booking, Status.Status}, Words.state_text}
+-- The texts of statements, line by line. Days are day numbers, amounts are pence.
+use Rattle.pawn_debt.specs.Words.{sort_text}
+use Rattle.pawn_debt.specs.declared.entry.Entry.{Entry}
+use Rattle.pawn_debt.specs.declared.entry.Kind.{Kind}
+use Rattle.pawn_debt.specs.declared.entry.Kind.TheVariants.{Fixed, Running}
+use Rattle.pawn_debt.specs.declared.owing.Owing.{Owing}
+use Rattle.pawn_pledge.specs.Words.{state_text}
+use Rattle.pawn_pledge.specs.declared.record.Agreement.{Agreement}
+use Rattle.pawn_pledge.specs.declared.record.Booking.{Booking}
+use Rattle.pawn_pledge.specs.declared.record.Extension.{Extension}
+use Rattle.pawn_pledge.specs.declared.record.Standing.{Standing}
+use Rattle.pawn_pledge.specs.declared.record.Status.{Status}
+use Rattle.pawn_view.specs.Common.{Closing, Open, PledgeValue, Redeemed, Sold, day_text, debt_of, digit, due, end_of}
+use Rattle.pawn_view.specs.Common.{flat_map, owing_of, status_of}
+use Rattle.std.specs.Prelude.{ℕ, ◌/◌, ◌-◌, max, Bool, true, false, List, [], ◌∷◌, ◌++◌, Option, Some, None, codes}
+use Rattle.std.specs.Prelude.{decimal}
 
 -- pounds, a point and two digits of pence
 abbrev pub money : ℕ → List ℕ
@@ -41,7 +52,7 @@ status_line Status.Passed = codes "Status passed\n"
 status_line Status.Redeemed = codes "Status redeemed\n"
 status_line Status.Sold = codes "Status sold\n"
 
--- the lines of what is owed; none if the article has passed to the broker
+-- the lines of the sum owed; none if the article has passed to the broker
 abbrev pub owed_lines : Status → Owing → List ℕ
 owed_lines Status.Passed owing = []
 owed_lines _ owing =
@@ -64,7 +75,7 @@ sold_line day net surplus shortfall =
     codes "Sold " ++ (date_text day ++ (codes " net " ++ (money net
     ++ (codes " surplus " ++ (money surplus ++ (codes " shortfall " ++ (money shortfall ++ codes "\n")))))))
 
--- how a pledge was closed, if it was; `total` is what was owed on that day
+-- how a pledge was closed, if it was; `total` is the sum owed on that day, in pence
 abbrev pub closing_line : Closing → ℕ → List ℕ
 closing_line Open total = []
 closing_line (Redeemed day paid) total = redeemed_line day paid
@@ -74,14 +85,14 @@ abbrev pub entry_line : Entry → List ℕ
 entry_line e = codes "Entry " ++ (decimal e.seq ++ (codes " " ++ (date_text e.day ++ (codes " " ++ (sort_text e.sort
     ++ (codes " " ++ (money e.pence ++ codes "\n")))))))
 
--- the day for which a statement is given: the closing day of a closed pledge, else the later of the day asked for and
--- the day of the last change
+-- the day that a statement describes: the closing day of a closed pledge, otherwise the later of the day of the request
+-- and the day of the last change
 abbrev pub shown_day : Closing → ℕ → ℕ → ℕ
 shown_day Open last day = max day last
 shown_day (Redeemed closed paid) last day = closed
 shown_day (Sold closed net) last day = closed
 
--- the lines above the extensions: number, article, kind, day taken, end of the period
+-- the lines before the extensions: number, article, kind, day taken, end of the period
 abbrev pub first_lines : Agreement → ℕ → List ℕ
 first_lines agreement ends =
     number_line (codes "Pledge ") agreement.number
@@ -95,11 +106,11 @@ abbrev pub state_lines : Status → Owing → Standing → List ℕ
 state_lines status owing s =
     status_line status ++ (owed_lines status owing ++ (held_line s.held ++ (booking_line s.booking ++ closing_line s.closing owing.total)))
 
--- how a pledge stands on a day
+-- the state of a pledge on a day
 abbrev pub state_on : ℕ → PledgeValue → List ℕ
 state_on day p = state_lines (status_of p day) (owing_of (due (debt_of p) day)) p.standing
 
--- a pledge's statement, asked for on a day
+-- a pledge's statement as requested on a day
 abbrev pub statement_text : ℕ → PledgeValue → List ℕ
 statement_text day p =
     first_lines p.agreement (end_of p)
@@ -112,11 +123,11 @@ abbrev pub shown_text : ℕ → Option PledgeValue → List ℕ
 shown_text day None = codes "Unknown receipt\n"
 shown_text day (Some p) = statement_text day p
 
--- what is shown for further receipts, with a blank line above each
+-- the text for each further receipt, each after a blank line
 abbrev pub further_texts : ℕ → List (Option PledgeValue) → List ℕ
 further_texts day pledges = flat_map (λ p. codes "\n" ++ shown_text day p) pledges
 
--- what is shown for each receipt in order, a blank line between two
+-- the texts for receipts in their order, with a blank line between two
 abbrev pub presented_text : ℕ → List (Option PledgeValue) → List ℕ
 presented_text day [] = []
 presented_text day (p ∷ ps) = shown_text day p ++ further_texts day ps

@@ -1,9 +1,12 @@
--- Examples of texts, worked out.
+-- Worked examples of statements and of their lines.
+use Rattle.pawn_debt.specs.declared.entry.Kind.TheVariants.{Fixed, Running}
+use Rattle.pawn_debt.specs.declared.entry.Sort.TheVariants.{Draw, Repay}
+use Rattle.pawn_pledge.specs.Worked.{after_telling, ring, ring_pledge}
+use Rattle.pawn_terms.specs.Terms.{rates_of}
+use Rattle.pawn_view.specs.Common.{Command, Open, PledgeValue, Redeemed, Sold, date}
+use Rattle.pawn_view.specs.Text.{money, date_text, kind_line, extended_line, held_line, booking_line, closing_line}
+use Rattle.pawn_view.specs.Text.{entry_line, statement_text, presented_text}
 use Rattle.std.specs.Prelude.{◌≡◌, false, true, [], ◌∷◌, Some, None, codes, List, ℕ, ◌++◌}
-use Rattle.pawn_view.specs.{Common.{Command, Open, PledgeValue, Redeemed, Sold, date}, Text.{money, date_text, kind_line, extended_line, held_line}}
-use Rattle.pawn_view.specs.Text.{booking_line, closing_line, entry_line, statement_text, presented_text}
-use Rattle.{pawn_debt.specs.declared.entry.{Kind.TheVariants.{Fixed, Running}, Sort.TheVariants.{Draw, Repay}}, pawn_pledge.specs.Worked.{after_telling, ring}}
-use Rattle.{pawn_pledge.specs.Worked.ring_pledge, pawn_terms.specs.Terms.rates_of}
 use Rattle.pawn_pledge.specs.declared.record.BookingState.TheVariants as state
 
 -- pounds, and two digits of pence
@@ -42,7 +45,7 @@ WorkedBookings =
     × (booking_line (Some (record { day = date 2024 3 4; window = 3; state = state.Refused })) ≡ codes "Booking 2024-03-04 3 refused\n")
     × (booking_line (Some (record { day = date 2024 3 4; window = 3; state = state.Cancelled })) ≡ codes "Booking 2024-03-04 3 cancelled\n")
 
--- the line of a closed pledge, of which 100 pounds were owed
+-- the line of a closed pledge on which 100 pounds were owed
 abbrev pub WorkedClosings : Type 0
 WorkedClosings =
     (closing_line Open 10000 ≡ [])
@@ -50,19 +53,19 @@ WorkedClosings =
     × (closing_line (Sold (date 2024 8 1) 9000) 10000 ≡ codes "Sold 2024-08-01 net 90.00 surplus 0.00 shortfall 10.00\n")
     × (closing_line (Sold (date 2024 8 1) 12345) 10000 ≡ codes "Sold 2024-08-01 net 123.45 surplus 23.45 shortfall 0.00\n")
 
--- the ring for 100 pounds, at 2,667 millionths a day
+-- the ring in pledge for 100 pounds, at interest of 2,667 millionths a day
 abbrev pub ring_at_interest : PledgeValue
 ring_at_interest = ring_pledge (Fixed 10000) false None (rates_of 2667 0 0)
 
--- how each statement of the ring for 100 pounds begins
+-- how each statement of the ring in pledge for 100 pounds begins
 abbrev pub begun : List ℕ
 begun = codes "Pledge 1\nArticle Gold ring\nKind fixed 100.00\nTaken 2024-01-31\nEnds 2024-07-31\nStatus "
 
--- the statement of the ring for 75 pounds, once it has passed to the broker
+-- the statement of the ring in pledge for 75 pounds, after it has passed to the broker
 abbrev pub passed : List ℕ
 passed = codes "Pledge 1\nArticle Gold ring\nKind fixed 75.00\nTaken 2024-01-31\nEnds 2024-07-31\nStatus passed\nHeld no\nBooking none\n"
 
--- statements from the day taken on; without amounts once the ring has passed to the broker
+-- statements from the day taken on; they have no amounts after the ring has passed to the broker
 abbrev pub WorkedStatements : Type 0
 WorkedStatements =
     let inside = begun ++ codes "inside\nPrincipal 100.00\nCharges 0.00\nOwing 100.00\nHeld no\nBooking none\n" in
@@ -70,7 +73,7 @@ WorkedStatements =
     × (statement_text (date 2020 2 29) (ring 10000) ≡ inside)
     × (statement_text (date 2024 8 1) (ring 7500) ≡ passed)
 
--- statements of a ring at interest: ten pounds are repaid after thirty days, of which eight pay what is charged
+-- statements of a ring at interest: ten pounds are repaid after thirty days; eight of them pay the charges
 abbrev pub WorkedCharges : Type 0
 WorkedCharges =
     (statement_text (date 2024 3 1) ring_at_interest
@@ -86,7 +89,7 @@ WorkedEndings =
     × (statement_text (date 2025 1 1) (after_telling (ring 10000) (date 2024 8 1) (Command.Sell 12345))
     ≡ begun ++ codes "sold\nPrincipal 100.00\nCharges 0.00\nOwing 100.00\nHeld no\nBooking none\nSold 2024-08-01 net 123.45 surplus 23.45 shortfall 0.00\n")
 
--- receipts: the line of an unknown one, and a blank line between two
+-- receipts: the line of an unknown one, and a blank line between two texts
 abbrev pub WorkedPresented : Type 0
 WorkedPresented =
     (presented_text (date 2024 8 1) (None ∷ Some (ring 7500) ∷ None ∷ [])

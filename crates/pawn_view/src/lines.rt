@@ -1,9 +1,11 @@
 //! The lines of a statement: one function for each kind of line.
 //!
-//! Each writes its line, and takes no memory.
+//! Each function writes its line, and allocates no memory.
+ghost use Rattle.pawn_view.specs.Text.{text_line, number_line, day_line, amount_line, kind_line, extended_line};
+ghost use Rattle.pawn_view.specs.Text.{status_line, owed_lines, held_line, booking_line, redeemed_line, sold_line};
+ghost use Rattle.pawn_view.specs.Text.{closing_line, entry_line, date_text};
+ghost use Rattle.pawn_writing.specs.Ends.{Puts};
 ghost use Rattle.std.specs.Prelude.{◌≡◌, ◌++◌, codes};
-ghost use Rattle.{pawn_writing.specs.Ends.Puts, pawn_view.specs.Text.{text_line, number_line, day_line, amount_line, kind_line, extended_line, status_line}};
-ghost use Rattle.pawn_view.specs.Text.{owed_lines, held_line, booking_line, redeemed_line, sold_line, closing_line, entry_line, date_text};
 
 use crate::money::pence_text;
 use itoa::Buffer;
@@ -11,7 +13,7 @@ use pawn_book::{Booking, Closing, Day, Entry, Extension, Kind, Owing, Status};
 use pawn_writing::{Writing, put, put_all};
 use std::io::Write;
 
-// A day as `2024-01-31`.
+/// Returns a day as text, such as `2024-01-31`.
 #[tactic(auto, unfolding(crate::specs::Text::date_text))]
 fn date_text(day: Day) -> [u8; 10]
     ensures answer { result ≡ date_text day }
@@ -43,7 +45,7 @@ pub(crate) fn put_day<W: Write>(writer: &mut Writing<W>, label: &[u8], day: Day)
     put_all(writer, &[label, &date_text(day), b"\n"]);
 }
 
-/// Writes a line: a label, and an amount that is given in pence and written in pounds, as `100.00`.
+/// Writes a line: a label and an amount. The amount is passed in pence and written in pounds, such as `100.00`.
 pub(crate) fn put_amount<W: Write>(writer: &mut Writing<W>, label: &[u8], pence: u64)
     ensures puts { Puts W.contents writer.old (amount_line label.now pence) writer.new }
 {
@@ -58,7 +60,7 @@ pub(crate) fn put_amount<W: Write>(writer: &mut Writing<W>, label: &[u8], pence:
     );
 }
 
-/// `Kind fixed 100.00`, the sum; `Kind running 100.00`, the limit.
+/// Writes the kind of a pledge: `Kind fixed 100.00` with its sum, or `Kind running 100.00` with its limit.
 pub(crate) fn put_kind<W: Write>(writer: &mut Writing<W>, kind: Kind)
     ensures puts { Puts W.contents writer.old (kind_line kind) writer.new }
 {
@@ -68,7 +70,7 @@ pub(crate) fn put_kind<W: Write>(writer: &mut Writing<W>, kind: Kind)
     }
 }
 
-/// `Extended 2024-07-31 to 2024-09-30`.
+/// Writes an extension, such as `Extended 2024-07-31 to 2024-09-30`.
 pub(crate) fn put_extended<W: Write>(writer: &mut Writing<W>, extension: &Extension)
     ensures puts { Puts W.contents writer.old (extended_line extension.now) writer.new }
 {
@@ -84,7 +86,7 @@ pub(crate) fn put_extended<W: Write>(writer: &mut Writing<W>, extension: &Extens
     );
 }
 
-// The line for a status.
+/// Returns the line for a status.
 fn status_line(status: Status) -> &'static [u8]
     ensures answer { result.now ≡ status_line status }
 {
@@ -98,14 +100,14 @@ fn status_line(status: Status) -> &'static [u8]
     }
 }
 
-/// `Status inside`.
+/// Writes a status, such as `Status inside`.
 pub(crate) fn put_status<W: Write>(writer: &mut Writing<W>, status: Status)
     ensures puts { Puts W.contents writer.old (status_line status) writer.new }
 {
     put(writer, status_line(status));
 }
 
-// `Principal 100.00`, `Charges 0.00` and `Owing 100.00`.
+/// Writes the lines `Principal 100.00`, `Charges 0.00` and `Owing 100.00`.
 fn put_owing<W: Write>(writer: &mut Writing<W>, owing: &Owing)
     ensures puts { Puts W.contents writer.old
         (amount_line (codes "Principal ") owing.now.principal
@@ -117,7 +119,7 @@ fn put_owing<W: Write>(writer: &mut Writing<W>, owing: &Owing)
     put_amount(writer, b"Owing ", owing.total);
 }
 
-/// The three lines of what is owed. There are none if the article has passed to the broker.
+/// Writes the three lines of what is owed. Writes nothing if the article has passed to the broker.
 pub(crate) fn put_owed<W: Write>(writer: &mut Writing<W>, status: Status, owing: &Owing)
     ensures puts { Puts W.contents writer.old (owed_lines status owing.now) writer.new }
 {
@@ -127,7 +129,7 @@ pub(crate) fn put_owed<W: Write>(writer: &mut Writing<W>, status: Status, owing:
     }
 }
 
-// The line that says whether a pledge is held.
+/// Returns the line that states whether the pledge is on hold.
 fn held_line(held: bool) -> &'static [u8]
     ensures answer { result.now ≡ held_line held }
 {
@@ -137,14 +139,14 @@ fn held_line(held: bool) -> &'static [u8]
     }
 }
 
-/// `Held yes` or `Held no`.
+/// Writes `Held yes` or `Held no`.
 pub(crate) fn put_held<W: Write>(writer: &mut Writing<W>, held: bool)
     ensures puts { Puts W.contents writer.old (held_line held) writer.new }
 {
     put(writer, held_line(held));
 }
 
-/// `Booking none` or `Booking 2024-03-04 3 asked`.
+/// Writes a booking, such as `Booking 2024-03-04 3 asked`, or `Booking none`.
 pub(crate) fn put_booking<W: Write>(writer: &mut Writing<W>, booking: Option<Booking>)
     ensures puts { Puts W.contents writer.old (booking_line booking) writer.new }
 {
@@ -165,7 +167,7 @@ pub(crate) fn put_booking<W: Write>(writer: &mut Writing<W>, booking: Option<Boo
     }
 }
 
-// `Redeemed 2024-08-01 paid 75.01`.
+/// Writes a redemption, such as `Redeemed 2024-08-01 paid 75.01`.
 fn put_redeemed<W: Write>(writer: &mut Writing<W>, day: Day, paid: u64)
     ensures puts { Puts W.contents writer.old (redeemed_line day paid) writer.new }
 {
@@ -182,7 +184,7 @@ fn put_redeemed<W: Write>(writer: &mut Writing<W>, day: Day, paid: u64)
     );
 }
 
-// `Sold 2024-08-01 net 90.00 surplus 0.00 shortfall 10.00`.
+/// Writes a sale, such as `Sold 2024-08-01 net 90.00 surplus 0.00 shortfall 10.00`.
 #[tactic(auto, using(std::proofs::Common::append_assoc))]
 fn put_sold<W: Write>(writer: &mut Writing<W>, day: Day, net: u64, surplus: u64, shortfall: u64)
     ensures puts { Puts W.contents writer.old (sold_line day net surplus shortfall) writer.new }
@@ -206,7 +208,8 @@ fn put_sold<W: Write>(writer: &mut Writing<W>, day: Day, net: u64, surplus: u64,
     );
 }
 
-/// The line of a closed pledge; `total` is what was owed on the closing day, in pence.
+/// Writes the line of a closed pledge, and nothing for an open one. `total` is the sum owed on the closing day, in
+/// pence.
 pub(crate) fn put_closing<W: Write>(writer: &mut Writing<W>, closing: Closing, total: u64)
     ensures puts { Puts W.contents writer.old (closing_line closing total) writer.new }
 {
@@ -225,7 +228,7 @@ pub(crate) fn put_closing<W: Write>(writer: &mut Writing<W>, closing: Closing, t
     }
 }
 
-/// `Entry 1 2024-01-31 repay 10.00`.
+/// Writes an entry, such as `Entry 1 2024-01-31 repay 10.00`.
 pub(crate) fn put_entry<W: Write>(writer: &mut Writing<W>, entry: &Entry)
     ensures puts { Puts W.contents writer.old (entry_line entry.now) writer.new }
 {

@@ -1,15 +1,15 @@
 //! Amounts of money as text.
-ghost use Rattle.std.specs.Prelude.{◌≡◌, ◌/◌, [], ◌∷◌};
 ghost use Rattle.pawn_terms.specs.Calendar.{digit};
+ghost use Rattle.std.specs.Prelude.{◌≡◌, ◌/◌, [], ◌∷◌};
 
-/// A point and the two digits of the pence that are left over whole pounds.
+/// Returns the pence beyond whole pounds as text: a point and two digits.
 pub(crate) fn pence_text(pence: u64) -> [u8; 3]
     ensures answer { result ≡ 46 ∷ digit (pence / 10) ∷ digit pence ∷ [] }
 {
     [b'.', digit_of(pence / 10), digit_of(pence)]
 }
 
-// The character of a number's last digit.
+/// Returns the character of a number's last digit.
 fn digit_of(number: u64) -> u8
     ensures answer { result ≡ digit number }
 {

@@ -1,17 +1,19 @@
-//! The statements of the receipts that a bearer presents.
+//! Writes the statements for the receipts that a bearer presents.
+ghost use Rattle.pawn_view.specs.Common.{IsQuietView, IsSound, IsSteady, PledgeValue, PutsShare, Reads, are_unknown};
+ghost use Rattle.pawn_view.specs.Common.{brief_of, call_end, get, live_at, pledge_in, write_failed};
+ghost use Rattle.pawn_view.specs.Shown.{Shows, live_pledges, pledge_at, presentation_of, shown_of};
+ghost use Rattle.pawn_view.specs.Text.{further_texts, shown_text, statement_text};
 ghost use Rattle.std.specs.Prelude.{◌≡◌, ◌++◌, ◌∷◌, false, true, not, Some, None, IfOk, IsErrOf};
-ghost use Rattle.pawn_view.specs.Common.{IsQuietView, IsSound, IsSteady, PledgeValue, PutsShare, Reads, are_unknown, brief_of, call_end, get, live_at};
-ghost use Rattle.pawn_view.specs.{Common.{pledge_in, write_failed}, Shown.{Shows, live_pledges, pledge_at, presentation_of, shown_of}, Text.further_texts};
-ghost use Rattle.pawn_view.specs.Text.{shown_text, statement_text};
 
 use crate::statements::{ending, put_statement};
 use pawn_book::{Brief, Day, Keep, KeepError, Number, Receipt, live_brief};
 use pawn_writing::{ViewFault, Writing, put};
 use std::io::Write;
 
+/// The line for a receipt that is not live.
 const UNKNOWN: &[u8] = b"Unknown receipt\n";
 
-// Whether one of the receipts is live.
+/// Returns whether at least one of the receipts is live.
 fn is_any_live<K: Keep>(keep: &mut K, book: Number, receipts: &[Receipt]) -> Result<bool, KeepError>
     ensures reads { Reads K.keeping keep.old keep.new (λ h. IfOk result (λ live. live ≡ not (are_unknown (live_pledges h book receipts.now)))) }
     ensures steady { IsSteady K.keeping keep.old result }
@@ -25,7 +27,7 @@ fn is_any_live<K: Keep>(keep: &mut K, book: Number, receipts: &[Receipt]) -> Res
     Ok(false)
 }
 
-// Puts the statement of a receipt's pledge, or the line of an unknown receipt.
+/// Writes the statement of a receipt's pledge, or the line of an unknown receipt.
 fn put_shown<K: Keep, W: Write>(
     keep: &mut K,
     book: Number,
@@ -47,7 +49,7 @@ fn put_shown<K: Keep, W: Write>(
     }
 }
 
-// Puts what is shown for these receipts, a blank line above each.
+/// Writes the text for each of these receipts, each after a blank line.
 fn put_further<K: Keep, W: Write>(
     keep: &mut K,
     book: Number,
@@ -66,7 +68,7 @@ fn put_further<K: Keep, W: Write>(
     Ok(())
 }
 
-// Puts the statement of the pledge that this brief is of, and then what is shown for these receipts.
+/// Writes the statement of the pledge to which this brief belongs, and then the text for each of these receipts.
 fn put_from<K: Keep, W: Write>(
     keep: &mut K,
     book: Number,
@@ -84,8 +86,8 @@ fn put_from<K: Keep, W: Write>(
     put_further(keep, book, receipts, day, writer)
 }
 
-// Writes the line for a receipt that is not live, and then what is shown for these other receipts. If none of them is
-// live, nothing is written, and the error is `Unknown`.
+/// Writes the line for a receipt that is not live, and then the text for each of the other receipts. If none of those
+/// is live, nothing is written, and the error is `Unknown`.
 fn show_others<K: Keep, W: Write>(
     keep: &mut K,
     book: Number,
@@ -108,12 +110,12 @@ fn show_others<K: Keep, W: Write>(
     ending(done, writer)
 }
 
-/// Writes what a bearer sees on a day for each of these receipts of a book, in their order. It is the statement of the
-/// receipt's pledge, or the line `Unknown receipt` if the receipt is not live. A blank line separates two of them. The
+/// Writes what a bearer sees on a day for each of these receipts of a book, in their order: the statement of the
+/// receipt's pledge, or the line `Unknown receipt` if the receipt is not live. A blank line separates two texts. The
 /// keeper's content stays as it is.
 ///
-/// The caller's condition: the writer has not failed. Errors: `Unknown` if none of the receipts is live; `Memory` and
-/// `Store` if the keeper does not answer; `Write` only if the writer failed in the call.
+/// The caller ensures that the writer has not failed before. Errors: `Unknown` if none of the receipts is live;
+/// `Memory` and `Store` if the keeper does not answer; `Write` only if the writer failed during the call.
 pub fn show_presented<K: Keep, W: Write>(
     keep: &mut K,
     book: Number,

@@ -1,7 +1,10 @@
-//! The sheet of a book's day.
+//! Writes a book's sheet for a day.
+ghost use Rattle.pawn_view.specs.Common.{IsQuietView, IsSteady, Puts, PutsShare, Reads, call_end, get, pledges_of};
+ghost use Rattle.pawn_view.specs.Common.{write_failed};
+ghost use Rattle.pawn_view.specs.Sheets.{PutsItem, asked_sheet_line, day_lines, sheet_line, sheet_of, window_line};
+ghost use Rattle.pawn_view.specs.Shown.{Shows};
+ghost use Rattle.pawn_view.specs.Text.{number_line};
 ghost use Rattle.std.specs.Prelude.{◌≡◌, false, true, IsErrOf};
-ghost use Rattle.pawn_view.specs.{Common.{IsQuietView, IsSteady, Puts, PutsShare, Reads, call_end, get, pledges_of, write_failed}, Sheets.PutsItem};
-ghost use Rattle.pawn_view.specs.{Sheets.{asked_sheet_line, day_lines, sheet_line, sheet_of, window_line}, Shown.Shows, Text.number_line};
 
 use crate::lines::{put_day, put_number};
 use crate::statements::ending;
@@ -10,7 +13,7 @@ use pawn_book::{Capacity, Day, Flow, Keep, KeepError, Number, SheetItem, Visitor
 use pawn_writing::{ViewFault, Writing, put_all};
 use std::io::Write;
 
-// Writes a line: a label and a count.
+/// Writes a line: a label and a count.
 fn put_count<W: Write>(writer: &mut Writing<W>, label: &[u8], count: u64)
     ensures puts { Puts W.contents writer.old (number_line label.now count) writer.new }
 {
@@ -20,7 +23,7 @@ fn put_count<W: Write>(writer: &mut Writing<W>, label: &[u8], count: u64)
     );
 }
 
-// `Window 3 confirmed 1 of 2`.
+/// Writes how many visits are confirmed in a window, such as `Window 3 confirmed 1 of 2`.
 fn put_window<W: Write>(writer: &mut Writing<W>, capacity: Capacity, window: u64, count: u64)
     ensures puts { Puts W.contents writer.old (window_line capacity window count) writer.new }
 {
@@ -38,7 +41,7 @@ fn put_window<W: Write>(writer: &mut Writing<W>, capacity: Capacity, window: u64
     );
 }
 
-// `Pledge 1 window 3`.
+/// Writes a booking that is asked for, such as `Pledge 1 window 3`.
 fn put_asked<W: Write>(writer: &mut Writing<W>, number: Number, window: u64)
     ensures puts { Puts W.contents writer.old (asked_sheet_line number window) writer.new }
 {
@@ -54,7 +57,7 @@ fn put_asked<W: Write>(writer: &mut Writing<W>, number: Number, window: u64)
     );
 }
 
-// Writes the line for an item of a day's sheet.
+/// Writes the line of an item of a day's sheet.
 fn put_item<W: Write>(writer: &mut Writing<W>, capacity: Capacity, item: &SheetItem)
     ensures puts { Puts W.contents writer.old (sheet_line capacity item.now) writer.new }
 {
@@ -68,7 +71,8 @@ fn put_item<W: Write>(writer: &mut Writing<W>, capacity: Capacity, item: &SheetI
     }
 }
 
-// A visitor that writes a line for each item of a day's sheet. The capacity is how many a window of the book takes.
+/// A visitor that writes a line for each item of a day's sheet. `capacity` is the book's limit on confirmed visits in a
+/// window.
 #[derive(Drop)]
 struct SheetLines<'a, W> {
     writer: &'a mut Writing<W>,
@@ -85,7 +89,7 @@ impl<'a, W: Write> Visitor<SheetItem> for SheetLines<'a, W> {
 }
 
 impl<'a, W: Write> SheetLines<'a, W> {
-    // Writes the lines of a day's sheet below its heading.
+    /// Writes the lines of a day's sheet after its heading.
     fn put_day<K: Keep>(&mut self, keep: &mut K, book: Number, day: Day) -> Result<(), KeepError>
         ensures shares { Reads K.keeping keep.old keep.new (λ h. PutsShare W.contents self.old.writer.now
             (day_lines self.old.capacity day (pledges_of (get h.books book))) (call_end result) self.new.writer.now) }
@@ -96,11 +100,11 @@ impl<'a, W: Write> SheetLines<'a, W> {
     }
 }
 
-/// Writes a book's sheet for a day: the day's visits, window by window, who asked to come, and whose period ends. The
-/// keeper's content stays as it is.
+/// Writes a book's sheet for a day: the confirmed visits of each window, the bookings that are asked for, and the
+/// pledges whose period ends on the day. The keeper's content stays as it is.
 ///
-/// The caller's condition: the writer has not failed. Errors: `Unknown` if there is no such book; `Memory` and `Store`
-/// if the keeper does not answer; `Write` only if the writer failed in the call.
+/// The caller ensures that the writer has not failed before. Errors: `Unknown` if there is no such book; `Memory` and
+/// `Store` if the keeper does not answer; `Write` only if the writer failed during the call.
 pub fn show_day_sheet<K: Keep, W: Write>(
     keep: &mut K,
     book: Number,

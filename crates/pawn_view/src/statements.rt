@@ -1,8 +1,9 @@
-//! The statement of a pledge.
-ghost use Rattle.std.specs.Prelude.{◌≡◌, ◌≤◌, false, true, Some, max, IsErrOf};
-ghost use Rattle.pawn_view.specs.Common.{IsQuietView, IsSound, IsSteady, PledgeValue, Puts, PutsShare, Reads, brief_of, brief_owing, brief_status, call_end};
-ghost use Rattle.pawn_view.specs.{Common.{ending_of, write_failed}, Text.{first_lines, state_lines, statement_text, extended_line, entry_line}};
+//! Writes the statement of a pledge.
+ghost use Rattle.pawn_view.specs.Common.{IsQuietView, IsSound, IsSteady, PledgeValue, Puts, PutsShare, Reads, brief_of};
+ghost use Rattle.pawn_view.specs.Common.{brief_owing, brief_status, call_end, ending_of, write_failed};
 ghost use Rattle.pawn_view.specs.Shown.{PutsElement, Shows, pledge_at, statement_of, open_or_last};
+ghost use Rattle.pawn_view.specs.Text.{first_lines, state_lines, statement_text, extended_line, entry_line};
+ghost use Rattle.std.specs.Prelude.{◌≡◌, ◌≤◌, false, true, Some, max, IsErrOf};
 
 use crate::lines::{
     put_booking, put_closing, put_day, put_entry, put_extended, put_held, put_kind, put_number,
@@ -12,7 +13,7 @@ use pawn_book::{Brief, Closing, Day, Entry, Extension, Flow, Keep, KeepError, Nu
 use pawn_writing::{ViewFault, Writing, visit_entries, visit_extensions};
 use std::io::Write;
 
-// A visitor that writes a line for each entry, and for each extension.
+/// A visitor that writes a line for each entry or extension that it visits.
 #[derive(Drop)]
 struct StatementLines<'a, W> {
     writer: &'a mut Writing<W>,
@@ -36,7 +37,7 @@ impl<'a, W: Write> Visitor<Extension> for StatementLines<'a, W> {
     }
 }
 
-// Writes the lines above the extensions: the number, the article, the kind, the day taken and the end of the period.
+/// Writes the lines before the extensions: the number, the article, the kind, the day taken and the end of the period.
 fn put_first<W: Write>(writer: &mut Writing<W>, brief: &Brief)
     ensures puts { Puts W.contents writer.old (first_lines brief.now.agreement brief.now.ends) writer.new }
 {
@@ -49,7 +50,7 @@ fn put_first<W: Write>(writer: &mut Writing<W>, brief: &Brief)
     put_day(writer, b"Ends ", fields.ends);
 }
 
-// Writes the lines between the extensions and the entries: how the pledge stands on the day.
+/// Writes the lines between the extensions and the entries: the state of the pledge on the day.
 fn put_state<W: Write>(writer: &mut Writing<W>, brief: &Brief, day: Day)
     requires later { brief.now.totals.day ≤ day }
     ensures puts { Puts W.contents writer.old (state_lines (brief_status brief.now day) (brief_owing brief.now day) brief.now.standing) writer.new }
@@ -64,8 +65,8 @@ fn put_state<W: Write>(writer: &mut Writing<W>, brief: &Brief, day: Day)
     put_closing(writer, standing.closing, owing.total);
 }
 
-// The day for which the statement is given. It is never before the day of the last entry, since what was owed earlier
-// is not in the brief.
+/// Returns the day that the statement describes. It is never before the day of the last entry, because the brief does
+/// not say what was owed earlier.
 fn shown_day(brief: &Brief, day: Day) -> Day
     ensures answer { result ≡ max (open_or_last brief.now.standing.closing brief.now.standing.last day) brief.now.totals.day }
 {
@@ -77,7 +78,7 @@ fn shown_day(brief: &Brief, day: Day) -> Day
     shown.max(fields.totals.day)
 }
 
-// Writes the statement of the pledge that this brief is of.
+/// Writes the statement of the pledge to which this brief belongs.
 pub(crate) fn put_statement<K: Keep, W: Write>(
     keep: &mut K,
     book: Number,
@@ -97,10 +98,10 @@ pub(crate) fn put_statement<K: Keep, W: Write>(
     visit_entries(keep, book, number, brief, &mut lines)
 }
 
-/// Writes the statement of a pledge, asked for on this day. The keeper's content stays as it is.
+/// Writes the statement of a pledge as requested on this day. The keeper's content stays as it is.
 ///
-/// The caller's condition: the writer has not failed. Errors: `Unknown` if there is no such pledge; `Memory` and
-/// `Store` if the keeper does not answer; `Write` only if the writer failed in the call.
+/// The caller ensures that the writer has not failed before. Errors: `Unknown` if there is no such pledge; `Memory` and
+/// `Store` if the keeper does not answer; `Write` only if the writer failed during the call.
 pub fn show_statement<K: Keep, W: Write>(
     keep: &mut K,
     book: Number,
@@ -120,7 +121,8 @@ pub fn show_statement<K: Keep, W: Write>(
     ending(done, writer)
 }
 
-// The result of writing a text, once its lines were put: `Write` if the writer failed, else the keeper's error, if any.
+/// Returns the result of a text after its lines were written: `Write` if the writer failed, otherwise the keeper's
+/// error, if any.
 pub(crate) fn ending<W>(done: Result<(), KeepError>, writer: &Writing<W>) -> Result<(), ViewFault>
     ensures answer { result ≡ ending_of done (write_failed writer.now) }
 {

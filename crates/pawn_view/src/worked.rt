@@ -1,5 +1,7 @@
-ghost use Rattle.pawn_view.specs.Worked.{WorkedAmounts, WorkedDays, WorkedLines, WorkedBookings, WorkedClosings, WorkedStatements, WorkedCharges};
-ghost use Rattle.pawn_view.specs.{Worked.{WorkedEndings, WorkedPresented}, WorkedSheets.{WorkedSheetLines, WorkedSheets, WorkedWindows, WorkedSheetEnds}};
+//! Worked examples of texts, as proved tests.
+ghost use Rattle.pawn_view.specs.Worked.{WorkedAmounts, WorkedDays, WorkedLines, WorkedBookings, WorkedClosings};
+ghost use Rattle.pawn_view.specs.Worked.{WorkedStatements, WorkedCharges, WorkedEndings, WorkedPresented};
+ghost use Rattle.pawn_view.specs.WorkedSheets.{WorkedSheetLines, WorkedSheets, WorkedWindows, WorkedSheetEnds};
 
 /// Examples of amounts and days as text.
 pub fn worked_words()
@@ -14,7 +16,7 @@ pub fn worked_lines()
     ensures closings { WorkedClosings }
 {}
 
-/// Examples of statements, and of what is shown for receipts.
+/// Examples of statements, and of the texts that are shown for receipts.
 pub fn worked_statements()
     ensures statements { WorkedStatements }
     ensures charges { WorkedCharges }
@@ -22,7 +24,7 @@ pub fn worked_statements()
     ensures receipts { WorkedPresented }
 {}
 
-/// Examples of day's sheets, and of which pledges they name.
+/// Examples of day's sheets, and of the pledges that they list.
 pub fn worked_sheets()
     ensures lines { WorkedSheetLines }
     ensures sheets { WorkedSheets }

@@ -1,9 +1,15 @@
 -- On short numerals.
-use Rattle.std.proofs.Common.{◌≡◌, ℕ, zero, suc, ◌+◌, ◌*◌, ◌-◌, ◌^◌, ◌<◌, ◌≤◌, List, [], ◌∷◌, length, take, get_or, refl, arith, Bool, true, false, length-take}
-use Rattle.std.proofs.{Common.{lit<, IsTrue, ◌&&◌, nat_lt, nat_le}, lemmas.{Grind.common_steps, Str.Parse.digit_at, Int.Digits.digits_value-lt}}
-use Rattle.{std.proofs.{lemmas.{Int.Digits.digits_value_push, List.take_more}, Math.Nat.pow-le-pow_right}, pawn_wire.specs.Common.{AllDigits, digit_value}}
 use Rattle.pawn_reply.proofs.DayLemmas.{both_true}
-use Rattle.pawn_wire.specs.{Common.{digits_value, is_ascii_digit, list_all}, Numeral.is_short_numeral, Limits.max_digits}
+use Rattle.pawn_wire.specs.Common.{AllDigits, digit_value, digits_value, is_ascii_digit, list_all}
+use Rattle.pawn_wire.specs.Limits.{most_digits}
+use Rattle.pawn_wire.specs.Numeral.{is_short_numeral}
+use Rattle.std.proofs.Common.{◌≡◌, ℕ, zero, suc, ◌+◌, ◌*◌, ◌-◌, ◌^◌, ◌<◌, ◌≤◌, List, [], ◌∷◌, length, take, get_or}
+use Rattle.std.proofs.Common.{refl, arith, Bool, true, false, length-take, lit<, IsTrue, ◌&&◌, nat_lt, nat_le}
+use Rattle.std.proofs.Math.Nat.{pow-le-pow_right}
+use Rattle.std.proofs.lemmas.Grind.{common_steps}
+use Rattle.std.proofs.lemmas.Int.Digits.{digits_value-lt, digits_value_push}
+use Rattle.std.proofs.lemmas.List.{take_more}
+use Rattle.std.proofs.lemmas.Str.Parse.{digit_at}
 
 pub digit_small : (c : ℕ) → IsTrue (is_ascii_digit c) → (digit_value c ≡ c - 48) × (48 ≤ c) × (c < 58)
 digit_small c h = grind (arith, common_steps)
@@ -20,10 +26,10 @@ digits_take zero v h = tt
 digits_take (suc n) [] h = tt
 digits_take (suc n) (c ∷ cs) h = (h.0, digits_take n cs h.1)
 
-pub short_numeral : (v : List ℕ) → IsTrue (is_short_numeral v) → AllDigits 10 v × (0 < length v) × (length v ≤ max_digits)
+pub short_numeral : (v : List ℕ) → IsTrue (is_short_numeral v) → AllDigits 10 v × (0 < length v) × (length v ≤ most_digits)
 short_numeral v h =
-    let outer = both_true (nat_lt 0 (length v) && nat_le (length v) max_digits) (list_all is_ascii_digit v) h in
-    let sizes = both_true (nat_lt 0 (length v)) (nat_le (length v) max_digits) outer.0 in
+    let outer = both_true (nat_lt 0 (length v) && nat_le (length v) most_digits) (list_all is_ascii_digit v) h in
+    let sizes = both_true (nat_lt 0 (length v)) (nat_le (length v) most_digits) outer.0 in
     (all_digits v outer.1, grind arith, grind arith)
 
 pub value_bound : (v : List ℕ) (i : ℕ) → AllDigits 10 v → i ≤ 18 → digits_value 10 (take i v) < 10 ^ 18

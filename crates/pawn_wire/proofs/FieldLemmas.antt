@@ -1,8 +1,14 @@
 -- On the fields of a head.
-use Rattle.std.proofs.Common.{◌≡◌, ℕ, ◌+◌, ◌<◌, List, [], ◌∷◌, ◌++◌, length, map, take, get_or, refl, ap, subst, ◌∙◌, arith, Some, None, Bool, true, false}
-use Rattle.std.proofs.{Common.{append-nil, length-append, ◌&&◌, ◌||◌, if◌then◌else◌}, lemmas.List.{Elements.filter_map-append, Folds.list_any-append, map_more}}
-use Rattle.{std.proofs.Math.Bool.or-false, pawn_wire.specs.Common.{Bor, HeaderSpan, cons_option, header_bytes, list_any, str_eq_ignore_ascii_case}}
-use Rattle.pawn_wire.specs.{Types.{Missing, One, Several, Found}, Fields.{values_of, value_under, IsFound}}
+use Rattle.pawn_wire.specs.Common.{Bor, HeaderSpan, cons_option, header_bytes, list_any, str_eq_ignore_ascii_case}
+use Rattle.pawn_wire.specs.Fields.{values_of, value_under, IsFound}
+use Rattle.pawn_wire.specs.Types.{Missing, One, Several, Found}
+use Rattle.std.proofs.Common.{◌≡◌, ℕ, ◌+◌, ◌<◌, List, [], ◌∷◌, ◌++◌, length, map, take, get_or, refl, ap, subst, ◌∙◌}
+use Rattle.std.proofs.Common.{arith, Some, None, Bool, true, false, append-nil, length-append, ◌&&◌, ◌||◌}
+use Rattle.std.proofs.Common.{if◌then◌else◌}
+use Rattle.std.proofs.Math.Bool.{or-false}
+use Rattle.std.proofs.lemmas.List.{map_more}
+use Rattle.std.proofs.lemmas.List.Elements.{filter_map-append}
+use Rattle.std.proofs.lemmas.List.Folds.{list_any-append}
 
 abbrev pub no_span : HeaderSpan
 no_span = record { name = record { start = 0; end = 0 }; value = record { start = 0; end = 0 } }

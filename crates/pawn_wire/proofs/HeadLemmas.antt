@@ -1,9 +1,14 @@
--- On heads: what the first bytes of a stream say of the whole stream.
-use Rattle.std.proofs.Common.{◌≡◌, ℕ, ◌+◌, ◌-◌, ◌≤◌, List, ◌++◌, length, map, take, drop, sym, ap, ◌∙◌, arith, append_assoc, length-append, length-take, Result}
-use Rattle.std.proofs.{Common.{Bool, take-append-drop}, lemmas.List.{length-map, take-append-le}, Math.Seq.take-append-add}
-use Rattle.httparse.{proofs.GrammarLemmas.ReadsRequest-append, specs.Grammar.{HasNoRequest, ReadsRequest, RequestHead, print_request}}
-use Rattle.pawn_wire.specs.{Common.{AreFieldsAt, HeaderSpan, IsRequestAt, RequestOverflows, RequestSpans, header_bytes}, Types.HeadFault, Head.NeverHasHead}
-use Rattle.pawn_wire.specs.{Head.{ReadsHead, body_length, closes_by, fields_of}, Limits.{max_fields, max_head}}
+-- Heads: what the first bytes of a stream determine about the whole stream.
+use Rattle.httparse.proofs.GrammarLemmas.{ReadsRequest-append}
+use Rattle.httparse.specs.Grammar.{HasNoRequest, ReadsRequest, RequestHead, print_request}
+use Rattle.pawn_wire.specs.Common.{AreFieldsAt, HeaderSpan, IsRequestAt, RequestOverflows, RequestSpans, header_bytes}
+use Rattle.pawn_wire.specs.Head.{NeverHasHead, ReadsHead, body_length, closes_by, fields_of}
+use Rattle.pawn_wire.specs.Limits.{most_fields, most_head}
+use Rattle.pawn_wire.specs.Types.{HeadFault}
+use Rattle.std.proofs.Common.{◌≡◌, ℕ, ◌+◌, ◌-◌, ◌≤◌, List, ◌++◌, length, map, take, drop, sym, ap, ◌∙◌, arith}
+use Rattle.std.proofs.Common.{append_assoc, length-append, length-take, Result, Bool, take-append-drop}
+use Rattle.std.proofs.Math.Seq.{take-append-add}
+use Rattle.std.proofs.lemmas.List.{length-map, take-append-le}
 
 -- what follows the front is no part of the head
 pub reads_on : (s : List ℕ) (n : ℕ) (h : RequestHead) (rest : List ℕ) → ReadsRequest (take n s) h rest → ReadsRequest s h (rest ++ drop n s)
@@ -12,25 +17,25 @@ reads_on s n h rest r =
     (a.0, sym (take-append-drop n s) ∙ a.1)
 
 -- no head of so few fields can follow the front
-pub overflows_on : (s : List ℕ) (n : ℕ) → RequestOverflows max_fields (take n s) → RequestOverflows max_fields s
+pub overflows_on : (s : List ℕ) (n : ℕ) → RequestOverflows most_fields (take n s) → RequestOverflows most_fields s
 overflows_on s n over more h rest r =
     let whole : s ++ more ≡ take n s ++ (drop n s ++ more) =
     sym (sym (append_assoc (take n s) (drop n s) more) ∙ ap (λ xs. xs ++ more) (take-append-drop n s)) in
     over (drop n s ++ more) h rest (rw whole at r)
 
 -- a full front without a head
-pub never_by_length : (s : List ℕ) → max_head ≤ length s → HasNoRequest (take max_head s) → NeverHasHead s
-never_by_length s long none more h rest r = none h (take (max_head - length (print_request h)) rest) (r.0.0, front) where
-  split : max_head ≡ length (print_request h) + (max_head - length (print_request h))
+pub never_by_length : (s : List ℕ) → most_head ≤ length s → HasNoRequest (take most_head s) → NeverHasHead s
+never_by_length s long none more h rest r = none h (take (most_head - length (print_request h)) rest) (r.0.0, front) where
+  split : most_head ≡ length (print_request h) + (most_head - length (print_request h))
   split = let small = r.2 in omega arith
 
-  front : take max_head s ≡ print_request h ++ take (max_head - length (print_request h)) rest
-  front = sym (take-append-le max_head s more long) ∙ ap (take max_head) r.0.1 ∙ ap (λ n. take n (print_request h ++ rest)) split
-      ∙ take-append-add (print_request h) rest (max_head - length (print_request h))
+  front : take most_head s ≡ print_request h ++ take (most_head - length (print_request h)) rest
+  front = sym (take-append-le most_head s more long) ∙ ap (take most_head) r.0.1 ∙ ap (λ n. take n (print_request h ++ rest)) split
+      ∙ take-append-add (print_request h) rest (most_head - length (print_request h))
 
 -- the head has as many fields as spans
-pub fields_fit : (buf : List ℕ) (spans : List HeaderSpan) (n : ℕ) (h : RequestHead) → AreFieldsAt buf spans n h.fields → n ≤ max_fields
-    → length h.fields ≤ max_fields
+pub fields_fit : (buf : List ℕ) (spans : List HeaderSpan) (n : ℕ) (h : RequestHead) → AreFieldsAt buf spans n h.fields → n ≤ most_fields
+    → length h.fields ≤ most_fields
 fields_fit buf spans n h same le =
     let e = ap length same in
     let f = simp length-map at e in
@@ -39,14 +44,14 @@ fields_fit buf spans n h same le =
 
 -- a head of the front is one of the stream
 pub whole_head : (s : List ℕ) (n : ℕ) (headers : List HeaderSpan) (r : RequestSpans) (h : RequestHead)
-    → IsRequestAt (take n s) headers r h → n ≤ max_head → r.headers ≤ max_fields → ReadsHead s h (drop r.len (take n s) ++ drop n s)
+    → IsRequestAt (take n s) headers r h → n ≤ most_head → r.headers ≤ most_fields → ReadsHead s h (drop r.len (take n s) ++ drop n s)
 whole_head s n headers r h at small few =
     let e = ap length at.reads.1 in
     let f = simp length-append at e in
     let g : length (take n s) ≤ n = rw length-take (omega arith) in
     (reads_on s n h (drop r.len (take n s)) at.reads, fields_fit (take n s) headers r.headers h at.fields few, omega (arith, f))
 
--- what the fields' spans cover is what the head's fields say
+-- the fields that the spans cover are the fields of the head
 pub told_by_fields : (s : List ℕ) (n : ℕ) (headers : List HeaderSpan) (r : RequestSpans) (h : RequestHead) (x : Result ℕ HeadFault)
     → IsRequestAt (take n s) headers r h → x ≡ body_length (map (header_bytes (take n s)) (take r.headers headers)) → body_length (fields_of h) ≡ x
 told_by_fields s n headers r h x at e = ap body_length (sym at.fields) ∙ sym e

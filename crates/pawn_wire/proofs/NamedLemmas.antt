@@ -1,13 +1,25 @@
 -- Numbers and days as texts.
-use Rattle.std.proofs.Common.{◌≡◌, ℕ, zero, suc, ◌+◌, ◌*◌, ◌/◌, ◌%◌, ◌^◌, ◌<◌, ◌≤◌, List, [], ◌∷◌, length, take, drop, get_or, lit<, subst, Bool, true, false}
-use Rattle.std.proofs.Common.{Option, Some, None, IfSome, IfNone, refl, sym, ap, ◌∙◌, arith, IsTrue, ◌==◌, nat_lt, nat_le, not, ◌&&◌, slice_index, bytes_eq}
-use Rattle.std.proofs.{Common.{if◌then◌else◌, decimal}, lemmas.{Str.Parse.{IsNumeralModel, digit_from_value}, Grind.common_steps, Fmt.decimal-digits_value}}
-use Rattle.std.proofs.lemmas.{Fmt.{decimal_digit, decimal_is_IsNumeral, first_decimal, length-decimal-le}, Str.digit_value_digit, Int.Digits.digits_value-lt}
-use Rattle.{std.proofs.{lemmas.{Bool.Decides.nat_tests, Slice.Eq.bytes_eq-Decides}, Math.Nat.pow-le-pow_right}, pawn_wire.specs.Common.{AllDigits, Civil}}
-use Rattle.pawn_wire.specs.Common.{IsNumber, IsStampDay, IsWritable, civil_of, civil_text, day_number, day_text, digit, digit_value, digits_value, first_day}
-use Rattle.pawn_wire.specs.{Common.{is_ascii_digit, last_stamp_day, list_all}, Named.{number_said, day_said, is_numeral, civil_said, is_text_of_day}}
-use Rattle.{pawn_reply.proofs.DayLemmas.both_true, pawn_wire.proofs.DigitLemmas.all_digits}
-use Rattle.pawn_terms.proofs.{AgreementLemmas.day_number-of, TextLemmas.civil_of-stamp}
+use Rattle.pawn_reply.proofs.DayLemmas.{both_true}
+use Rattle.pawn_terms.proofs.AgreementLemmas.{day_number-of}
+use Rattle.pawn_terms.proofs.TextLemmas.{civil_of-stamp}
+use Rattle.pawn_wire.proofs.DigitLemmas.{all_digits}
+use Rattle.pawn_wire.specs.Common.{AllDigits, Civil, IsNumber, IsStampDay, IsWritable, civil_of, civil_text, day_number}
+use Rattle.pawn_wire.specs.Common.{day_text, digit, digit_value, digits_value, first_day, is_ascii_digit}
+use Rattle.pawn_wire.specs.Common.{last_stamp_day, list_all}
+use Rattle.pawn_wire.specs.Named.{number_said, day_said, is_numeral, civil_said, is_text_of_day}
+use Rattle.std.proofs.Common.{◌≡◌, ℕ, zero, suc, ◌+◌, ◌*◌, ◌/◌, ◌%◌, ◌^◌, ◌<◌, ◌≤◌, List, [], ◌∷◌, length, take, drop}
+use Rattle.std.proofs.Common.{get_or, lit<, subst, Bool, true, false, Option, Some, None, IfSome, IfNone, refl, sym, ap}
+use Rattle.std.proofs.Common.{◌∙◌, arith, IsTrue, ◌==◌, nat_lt, nat_le, not, ◌&&◌, slice_index, bytes_eq, if◌then◌else◌}
+use Rattle.std.proofs.Common.{decimal}
+use Rattle.std.proofs.Math.Nat.{pow-le-pow_right}
+use Rattle.std.proofs.lemmas.Bool.Decides.{nat_tests}
+use Rattle.std.proofs.lemmas.Fmt.{decimal-digits_value, decimal_digit, decimal_is_IsNumeral, first_decimal}
+use Rattle.std.proofs.lemmas.Fmt.{length-decimal-le}
+use Rattle.std.proofs.lemmas.Grind.{common_steps}
+use Rattle.std.proofs.lemmas.Int.Digits.{digits_value-lt}
+use Rattle.std.proofs.lemmas.Slice.Eq.{bytes_eq-Decides}
+use Rattle.std.proofs.lemmas.Str.{digit_value_digit}
+use Rattle.std.proofs.lemmas.Str.Parse.{IsNumeralModel, digit_from_value}
 
 -- ---- numbers of books and pledges
 
@@ -18,7 +30,7 @@ digits_model = record { to = λ ds h. h; from = λ ds h. h; same = λ ds h. refl
 no_zero : (n : ℕ) → IsTrue (not (n == 48)) → n ≡ 48 → ⊥
 no_zero n h e = grind (arith, nat_tests)
 
--- what the test of a numeral says
+-- the parts of the test of a numeral
 record IsNumeral (text : List ℕ) : Type 0 where
   digits : AllDigits 10 text
   some : 0 < length text
@@ -92,7 +104,7 @@ number_said-some n text range e = subst (λ (t : List ℕ). (if is_numeral t the
   of_decimal : (if is_numeral (decimal n) then Some (digits_value 10 (decimal n)) else None) ≡ Some n
   of_decimal = rw is (ap Some (decimal_is_IsNumeral n small).1)
 
--- what says nothing that it could say
+-- an option that has no possible value is `None`
 pub none_said : {A : Type 0} (o : Option A) → ((x : A) → o ≡ Some x → ⊥) → o ≡ None
 none_said None none = refl
 none_said (Some x) none = absurd (none x refl)
@@ -105,7 +117,7 @@ pub number_said-leading_zero : (rest : List ℕ) → number_said (48 ∷ rest) �
 number_said-leading_zero rest = number_said-none (48 ∷ rest) (λ n range e. (let first = first_decimal n range.0 (omega (arith, range.1)) in
     let here : get_or (decimal n) 0 0 ≡ 48 = sym (ap (λ (l : List ℕ). get_or l 0 0) e) in omega (arith, first, here)))
 
--- the number that was read is the one that the text says
+-- the number that was read is the one that the text writes
 pub number_said-of : (r : Option ℕ) (text : List ℕ) → IfSome r (λ n. IsNumber n × (text ≡ decimal n)) → IfNone r ((n : ℕ) → IsNumber n → text ≡ decimal n → ⊥)
     → r ≡ number_said text
 number_said-of None text some none = sym (number_said-none text none)

@@ -1,14 +1,27 @@
 -- On receipts and the fields that name them.
-use Rattle.std.proofs.Common.{◌≡◌, ℕ, ◌+◌, ◌<◌, ◌≤◌, ◌^◌, ◌%◌, suc, List, [], ◌∷◌, ◌++◌, length, map, take, drop, get_or, refl, sym, ap, ◌∙◌, subst, arith}
-use Rattle.std.proofs.Common.{append_assoc, Option, Some, None, IfSome, Result, Ok, Bool, true, false, inl, inr, IsTrue, not, ◌==◌, decimal, option_map, codes}
-use Rattle.std.proofs.{Common.{nat_lt, IsSome, ◌↔◌, take-append-drop, take_all}, lemmas.{Bool.Decides.{Decides-eqb, nat_tests}, Grind.common_steps}}
-use Rattle.std.proofs.lemmas.{Fmt.decimal_by_steps, List.{drop_all, map-append, take-append-le, Elements.filter_map-append, Folds.list_all-append}}
-use Rattle.{std.{specs.Option.ok_or, proofs.lemmas.{Bool.{cases_lt, false≢true}, List.Sums.{split_at_first, passes_at_first}}}, pawn_wire.specs.Common.AreFew}
-use Rattle.pawn_wire.specs.Common.{HeaderSpan, IsReceiptText, MOST_RECEIPTS, Receipt, after_first, before_first, header_bytes, list_all, position_or_len}
-use Rattle.pawn_wire.specs.{Common.{secret_of_text, str_eq_ignore_ascii_case}, Types.{BadReceipt, WireFault}, Chain.{Says, and_then}, Receipts.all_said}
-use Rattle.pawn_wire.specs.{Receipts.{is_hyphen, receipt_said, receipt_values, receipts_said}, Named.number_said, Fields.{value_under, values_of}}
 use Rattle.pawn_reply.proofs.DayLemmas.{both_true}
-use Rattle.pawn_wire.proofs.{FieldLemmas.{values_hit, values_other}, NamedLemmas.{none_said, number_said-is, number_said-some}}
+use Rattle.pawn_wire.proofs.FieldLemmas.{values_hit, values_other}
+use Rattle.pawn_wire.proofs.NamedLemmas.{none_said, number_said-is, number_said-some}
+use Rattle.pawn_wire.specs.Chain.{Says, and_then}
+use Rattle.pawn_wire.specs.Common.{AreFew, HeaderSpan, IsReceiptText, MOST_RECEIPTS, Receipt, after_first, before_first}
+use Rattle.pawn_wire.specs.Common.{header_bytes, list_all, position_or_len, secret_of_text, str_eq_ignore_ascii_case}
+use Rattle.pawn_wire.specs.Fields.{value_under, values_of}
+use Rattle.pawn_wire.specs.Named.{number_said}
+use Rattle.pawn_wire.specs.Receipts.{all_said, is_hyphen, receipt_said, receipt_values, receipts_said}
+use Rattle.pawn_wire.specs.Types.{BadReceipt, WireFault}
+use Rattle.std.proofs.Common.{◌≡◌, ℕ, ◌+◌, ◌<◌, ◌≤◌, ◌^◌, ◌%◌, suc, List, [], ◌∷◌, ◌++◌, length, map, take, drop}
+use Rattle.std.proofs.Common.{get_or, refl, sym, ap, ◌∙◌, subst, arith, append_assoc, Option, Some, None, IfSome}
+use Rattle.std.proofs.Common.{Result, Ok, Bool, true, false, inl, inr, IsTrue, not, ◌==◌, decimal, option_map, codes}
+use Rattle.std.proofs.Common.{nat_lt, IsSome, ◌↔◌, take-append-drop, take_all}
+use Rattle.std.proofs.lemmas.Bool.{cases_lt, false≢true}
+use Rattle.std.proofs.lemmas.Bool.Decides.{Decides-eqb, nat_tests}
+use Rattle.std.proofs.lemmas.Fmt.{decimal_by_steps}
+use Rattle.std.proofs.lemmas.Grind.{common_steps}
+use Rattle.std.proofs.lemmas.List.{drop_all, map-append, take-append-le}
+use Rattle.std.proofs.lemmas.List.Elements.{filter_map-append}
+use Rattle.std.proofs.lemmas.List.Folds.{list_all-append}
+use Rattle.std.proofs.lemmas.List.Sums.{split_at_first, passes_at_first}
+use Rattle.std.specs.Option.{ok_or}
 use Rattle.uuid.proofs.OnLiterals.{uuid_on_literals}
 
 -- ---- a text is cut at its first hyphen
@@ -49,7 +62,7 @@ after_hyphen front rest h = ap (λ (n : ℕ). drop (n + 1) (front ++ 45 ∷ rest
 abbrev receipt_parts : Option ℕ → Option ℕ → Option Receipt
 receipt_parts number secret = and_then number (λ n. option_map (λ s. record { number = n; secret = s }) secret)
 
--- a text of a receipt says it
+-- a text of a receipt is read as that receipt
 pub receipt_said-some : (text : List ℕ) (r : Receipt) → IsReceiptText text r → receipt_said text ≡ Some r
 receipt_said-some text r is =
     let plain : IsTrue (no_hyphen (decimal r.number)) = decimal-no_hyphen r.number (omega (arith, is.0.1)) in
@@ -63,7 +76,7 @@ no_secret : secret_of_text [] ≡ None
 unfolding uuid_on_literals
 no_secret = refl
 
--- what a text says is its receipt
+-- a text that is read as a receipt is a text of that receipt
 pub receipt_said-is : (text : List ℕ) (r : Receipt) → receipt_said text ≡ Some r → IsReceiptText text r
 receipt_said-is text r e = by_parts (number_said (before_first is_hyphen text)) (secret_of_text (after_first is_hyphen text)) refl refl e where
   hyphen_found : (s : ℕ) → secret_of_text (after_first is_hyphen text) ≡ Some s → position_or_len is_hyphen text < length text
@@ -92,7 +105,7 @@ receipt_said-is text r e = by_parts (number_said (before_first is_hyphen text)) 
       subst (λ (q : Receipt). IsReceiptText text q) parts
       (number.0, (after_first is_hyphen text, whole s es ∙ ap (λ (front : List ℕ). front ++ 45 ∷ after_first is_hyphen text) number.1, es))
 
--- a text of no receipt says none
+-- a text of no receipt is read as none
 pub receipt_said-none : (text : List ℕ) → ((r : Receipt) → IsReceiptText text r → ⊥) → receipt_said text ≡ None
 receipt_said-none text none = none_said (receipt_said text) (λ r e. none r (receipt_said-is text r e))
 

@@ -1,11 +1,23 @@
 -- On requests.
-use Rattle.std.proofs.Common.{◌≡◌, ℕ, ◌+◌, ◌-◌, ◌≤◌, List, [], ◌++◌, length, map, take, drop, subst, sym, ap, ◌∙◌, arith, append-nil, length-append}
-use Rattle.std.proofs.{Common.{length-drop, min, Result, Ok, Err, inl, inr, take-append-drop}, lemmas.List.drop-append-le, Math.Seq.take-append-add}
-use Rattle.{std.proofs.Math.Seq.take-length, httparse.{proofs.GrammarLemmas.request_unique, specs.Grammar.{HasNoRequest, RequestHead, print_request}}}
-use Rattle.pawn_wire.specs.Common.{BookRows, Broker, HeaderSpan, Import, IsRequestAt, Request, RequestOverflows, RequestSpans, header_bytes, span_bytes}
-use Rattle.pawn_wire.specs.{Types.{Asks, Csv, Outline, WireFault}, Request.{HoldsRows, IsAsked, IsOutlined, IsRequestRead, SaysRequest, outline_by}}
-use Rattle.pawn_wire.{specs.{Chain.{OrMemory, after}, Fields.Pair, Head.{ReadsHead, fields_of}, Limits.{max_fields, max_head}}, proofs.HeadLemmas.overflows_on}
-use Rattle.{csv.specs.Reading.strip_bom, pawn_csv.proofs.{OneBook.texts_hold_one_book, OneReading.{first_faults_are_one, first_faults_exclude_books}}}
+use Rattle.csv.specs.Reading.{strip_bom}
+use Rattle.httparse.proofs.GrammarLemmas.{request_unique}
+use Rattle.httparse.specs.Grammar.{HasNoRequest, RequestHead, print_request}
+use Rattle.pawn_csv.proofs.OneBook.{texts_hold_one_book}
+use Rattle.pawn_csv.proofs.OneReading.{first_faults_are_one, first_faults_exclude_books}
+use Rattle.pawn_wire.proofs.HeadLemmas.{overflows_on}
+use Rattle.pawn_wire.specs.Chain.{OrMemory, after}
+use Rattle.pawn_wire.specs.Common.{BookRows, Broker, HeaderSpan, Import, IsRequestAt, Request, RequestOverflows}
+use Rattle.pawn_wire.specs.Common.{RequestSpans, header_bytes, span_bytes}
+use Rattle.pawn_wire.specs.Fields.{Pair}
+use Rattle.pawn_wire.specs.Head.{ReadsHead, fields_of}
+use Rattle.pawn_wire.specs.Limits.{most_fields, most_head}
+use Rattle.pawn_wire.specs.Request.{HoldsRows, IsAsked, IsOutlined, IsRequestRead, SaysRequest, outline_by}
+use Rattle.pawn_wire.specs.Types.{Asks, Csv, Outline, WireFault}
+use Rattle.std.proofs.Common.{◌≡◌, ℕ, ◌+◌, ◌-◌, ◌≤◌, List, [], ◌++◌, length, map, take, drop, subst, sym, ap, ◌∙◌}
+use Rattle.std.proofs.Common.{arith, append-nil, length-append, length-drop, min, Result, Ok, Err, inl, inr}
+use Rattle.std.proofs.Common.{take-append-drop}
+use Rattle.std.proofs.Math.Seq.{take-append-add, take-length}
+use Rattle.std.proofs.lemmas.List.{drop-append-le}
 
 pub is_read : (s : List ℕ) (r : Result Request WireFault) (h : RequestHead) (body : List ℕ) → ReadsHead s h body
     → OrMemory (IsOutlined body (outline_by h.method h.target (fields_of h) body)) r → IsRequestRead s r
@@ -13,7 +25,7 @@ is_read s (Ok v) h body x e = inl (h, body, x, e)
 is_read s (Err f) h body x (inl m) = inl m
 is_read s (Err f) h body x (inr e) = inr (inl (h, body, x, e))
 
--- what the spans cover says what the head says
+-- reading by the spans has the same result as reading by the head
 pub said_by_spans : (s : List ℕ) (n : ℕ) (headers : List HeaderSpan) (r : RequestSpans) (h : RequestHead) (answer : Result Request WireFault) → IsRequestAt
     (take n s) headers r h → r.len ≤ length (take n s) → OrMemory (IsOutlined (take (length s - r.len) (drop r.len s)) (outline_by (span_bytes (take n s)
     r.method) (span_bytes (take n s) r.path) (map (header_bytes (take n s)) (take r.headers headers)) (take (length s - r.len) (drop r.len s)))) answer
@@ -27,7 +39,7 @@ said_by_spans s n headers r h answer at fits said =
         ∙ take-length (drop r.len s) ∙ sym (ap (drop r.len) (take-append-drop n s)) ∙ drop-append-le r.len (take n s) (drop n s) fits
 
 -- no head in the front is none at all
-pub none_in_front : (s : List ℕ) (n : ℕ) → n ≡ min (length s) max_head → HasNoRequest (take n s) → (h : RequestHead) (body : List ℕ) → ReadsHead s h body → ⊥
+pub none_in_front : (s : List ℕ) (n : ℕ) → n ≡ min (length s) most_head → HasNoRequest (take n s) → (h : RequestHead) (body : List ℕ) → ReadsHead s h body → ⊥
 none_in_front s n e none h body x = none h (take (n - length (print_request h)) body) (x.0.0, front) where
   fits : length (print_request h) ≤ n
   fits = let a = simp length-append at (ap length x.0.1) in let b = x.2 in omega (arith, a)
@@ -38,7 +50,7 @@ none_in_front s n e none h body x = none h (take (n - length (print_request h)) 
   front : take n s ≡ print_request h ++ take (n - length (print_request h)) body
   front = ap (take n) x.0.1 ∙ ap (λ m. take m (print_request h ++ body)) split ∙ take-append-add (print_request h) body (n - length (print_request h))
 
-pub none_by_overflow : (s : List ℕ) (n : ℕ) → RequestOverflows max_fields (take n s) → (h : RequestHead) (body : List ℕ) → ReadsHead s h body → ⊥
+pub none_by_overflow : (s : List ℕ) (n : ℕ) → RequestOverflows most_fields (take n s) → (h : RequestHead) (body : List ℕ) → ReadsHead s h body → ⊥
 none_by_overflow s n over h body x =
     let k = overflows_on s n over [] h body (x.0.0, append-nil s ∙ x.0.1) in
     omega (arith, x.1)

@@ -1,9 +1,17 @@
 -- On the routes.
-use Rattle.std.proofs.Common.{◌≡◌, ℕ, ◌+◌, ◌<◌, List, [], ◌∷◌, ◌++◌, length, map, take, get_or, refl, sym, ap, ◌∙◌, subst, Result, Ok, Err, ◌&&◌, cond, Bool}
-use Rattle.std.proofs.{Common.{true, false, ◌-◌, drop, leb, All, Some, slice_get}, lemmas.List.Elements.{All-cons, All-head, All-nil, All-tail}}
-use Rattle.{std.proofs.lemmas.{Str.{IsAscii-drop, IsAscii-take, IsUtf8-from_ascii, Ascii.IsAscii-nil}, List.map_more}, pawn_wire.specs.Common.{Bor, IsAscii}}
-use Rattle.pawn_wire.specs.{Common.{Shows, part_of, walk}, Types.Endpoint, Route.{Rows, plain, with_route, with_routes}}
-use Rattle.matchit.specs.{declared.error.InsertError.InsertError, Router.InsertsRead, Route.{Scan, parse_route}}
+use Rattle.matchit.specs.Route.{Scan, parse_route}
+use Rattle.matchit.specs.Router.{InsertsRead}
+use Rattle.matchit.specs.declared.error.InsertError.{InsertError}
+use Rattle.pawn_wire.specs.Common.{Bor, IsAscii, Shows, part_of, walk}
+use Rattle.pawn_wire.specs.Route.{Rows, plain, with_route, with_routes}
+use Rattle.pawn_wire.specs.Types.{Endpoint}
+use Rattle.std.proofs.Common.{◌≡◌, ℕ, ◌+◌, ◌<◌, List, [], ◌∷◌, ◌++◌, length, map, take, get_or, refl, sym, ap, ◌∙◌}
+use Rattle.std.proofs.Common.{subst, Result, Ok, Err, ◌&&◌, cond, Bool, true, false, ◌-◌, drop, leb, All, Some}
+use Rattle.std.proofs.Common.{slice_get}
+use Rattle.std.proofs.lemmas.List.{map_more}
+use Rattle.std.proofs.lemmas.List.Elements.{All-cons, All-head, All-nil, All-tail}
+use Rattle.std.proofs.lemmas.Str.{IsAscii-drop, IsAscii-take, IsUtf8-from_ascii}
+use Rattle.std.proofs.lemmas.Str.Ascii.{IsAscii-nil}
 
 pub inserted : (x : Result Scan InsertError) (e : Endpoint) (old new : Rows) → InsertsRead x e old new (Ok tt) → new ≡ with_route x e old
 inserted (Ok s) e old new h = h.1
@@ -45,7 +53,7 @@ first_part w t p x all e shows =
       All-rest0 : (w t : List (List ℕ × List ℕ)) (p : List ℕ × List ℕ) → All (λ q. IsAscii q.1) w → w ≡ p ∷ t → All (λ q. IsAscii q.1) (p ∷ t)
       All-rest0 w t p all e = subst (λ v. All (λ q. IsAscii q.1) v) e all
 
--- the first that is given
+-- the first capture
 pub first_given : (pattern text path : List ℕ) (names : List (ℕ × ℕ)) (w t : List (List ℕ × List ℕ)) (name x : List ℕ) → IsAscii path
     → w ≡ walk pattern text path names 0 0 → (p : List ℕ × List ℕ) × (w ≡ p ∷ t) × Shows p.0 name × Shows p.1 x
     → Some x ≡ slice_get (parts (walk pattern text path names 0 0)) 0

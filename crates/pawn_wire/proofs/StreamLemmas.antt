@@ -1,16 +1,24 @@
 -- Heads at the front of a stream, and what follows them.
-use Rattle.std.proofs.Common.{◌≡◌, ℕ, ◌+◌, ◌<◌, ◌≤◌, List, [], ◌∷◌, ◌++◌, length, refl, sym, ap, ◌∙◌, arith, append_assoc, append-nil, length-append, take, Ok}
-use Rattle.std.proofs.{Common.{inl, inr, true, false, Bool, IsTrue, nat_lt, unwrap_or}, lemmas.{List.Elements.{All-cons, All-nil}, Bool.Decides.nat_tests}}
-use Rattle.{std.proofs.Math.Seq.take-append-add, httparse.specs.Grammar.{IsRequestHead, RequestHead, is_token_byte, is_uri_byte, lf, print_request}}
-use Rattle.{httparse.proofs.GrammarLemmas.{ReadsRequest-append, print_request-append}, pawn_wire.specs.{Common.{RequestOverflows, first_of}, Head.IsBadHead}}
-use Rattle.pawn_wire.specs.{Head.{IsHead, NeverHasHead, ReadsHead, body_length, fields_of, length_by}, Fields.Pair, Limits.{max_body, max_fields, max_head}}
-use Rattle.{pawn_reply.specs.declared.fault.HeadFault.TheVariants.{Transfer, BadLength, BodyTooLong}, pawn_wire.specs.Types.HeadFacts}
+use Rattle.httparse.proofs.GrammarLemmas.{ReadsRequest-append, print_request-append}
+use Rattle.httparse.specs.Grammar.{IsRequestHead, RequestHead, is_token_byte, is_uri_byte, lf, print_request}
+use Rattle.pawn_reply.specs.declared.fault.HeadFault.TheVariants.{Transfer, BadLength, BodyTooLong}
+use Rattle.pawn_wire.specs.Common.{RequestOverflows, first_of}
+use Rattle.pawn_wire.specs.Fields.{Pair}
+use Rattle.pawn_wire.specs.Head.{IsBadHead, IsHead, NeverHasHead, ReadsHead, body_length, fields_of, length_by}
+use Rattle.pawn_wire.specs.Limits.{most_body, most_fields, most_head}
+use Rattle.pawn_wire.specs.Types.{HeadFacts}
+use Rattle.std.proofs.Common.{◌≡◌, ℕ, ◌+◌, ◌<◌, ◌≤◌, List, [], ◌∷◌, ◌++◌, length, refl, sym, ap, ◌∙◌, arith}
+use Rattle.std.proofs.Common.{append_assoc, append-nil, length-append, take, Ok, inl, inr, true, false, Bool, IsTrue}
+use Rattle.std.proofs.Common.{nat_lt, unwrap_or}
+use Rattle.std.proofs.Math.Seq.{take-append-add}
+use Rattle.std.proofs.lemmas.Bool.Decides.{nat_tests}
+use Rattle.std.proofs.lemmas.List.Elements.{All-cons, All-nil}
 
 -- a head stays one, whatever follows
 pub reads_more : (s more : List ℕ) (h : RequestHead) (rest : List ℕ) → ReadsHead s h rest → ReadsHead (s ++ more) h (rest ++ more)
 reads_more s more h rest x = (ReadsRequest-append s h rest more x.0, x.1, x.2)
 
-overflows_more : (s more : List ℕ) → RequestOverflows max_fields s → RequestOverflows max_fields (s ++ more)
+overflows_more : (s more : List ℕ) → RequestOverflows most_fields s → RequestOverflows most_fields (s ++ more)
 overflows_more s more over rest h q x = over (more ++ rest) h q (x.0, sym (append_assoc s more rest) ∙ x.1)
 
 never_more : (s more : List ℕ) → NeverHasHead s → NeverHasHead (s ++ more)
@@ -63,17 +71,17 @@ nil_is_no_bad_head (inr full) = omega (arith, full.0)
 
 -- ---- a head's facts are within the limits
 
-body_within : (fields : List Pair) (n : ℕ) → body_length fields ≡ Ok n → n ≤ max_body
-body_within fields n e = by_test _ _ (unwrap_or (length_by fields) 0) (nat_lt max_body (unwrap_or (length_by fields) 0)) refl e where
-  by_test : (coded bad : Bool) (told : ℕ) (long : Bool) → nat_lt max_body told ≡ long
-      → first_of ((coded, Transfer) ∷ (bad, BadLength) ∷ (long, BodyTooLong) ∷ []) (Ok told) ≡ Ok n → n ≤ max_body
+body_within : (fields : List Pair) (n : ℕ) → body_length fields ≡ Ok n → n ≤ most_body
+body_within fields n e = by_test _ _ (unwrap_or (length_by fields) 0) (nat_lt most_body (unwrap_or (length_by fields) 0)) refl e where
+  by_test : (coded bad : Bool) (told : ℕ) (long : Bool) → nat_lt most_body told ≡ long
+      → first_of ((coded, Transfer) ∷ (bad, BadLength) ∷ (long, BodyTooLong) ∷ []) (Ok told) ≡ Ok n → n ≤ most_body
   by_test true bad told long is same = absurd cc
   by_test false true told long is same = absurd cc
   by_test false false told true is same = absurd cc
   by_test false false told false is same = (let k : told ≡ n = cc in grind (arith, nat_tests, k, is))
 
 -- a head and its body have few bytes
-pub head_within : (h : RequestHead) (f : HeadFacts) → length (print_request h) ≤ max_head → IsHead h f → f.len + f.body ≤ max_head + max_body
+pub head_within : (h : RequestHead) (f : HeadFacts) → length (print_request h) ≤ most_head → IsHead h f → f.len + f.body ≤ most_head + most_body
 head_within h f small is =
     let body = body_within (fields_of h) f.body is.body in
     omega (arith, body, is.len, small)

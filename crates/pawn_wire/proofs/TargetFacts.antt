@@ -1,6 +1,9 @@
 -- The targets of the table are found, a few at a time, since each is computed.
-use Rattle.{std.proofs.Common.{ℕ, List, [], ◌∷◌, take, drop, zero, suc, refl}, matchit.proofs.OnLiterals.matchit_on_literals}
-use Rattle.{pawn_wire.specs.{Laws.IsTargetFound, Route.{table, table_rows}}, pawn_base.specs.Lists.Each}
+use Rattle.matchit.proofs.OnLiterals.{matchit_on_literals}
+use Rattle.pawn_base.specs.Lists.{Each}
+use Rattle.pawn_wire.specs.Laws.{IsTargetFound}
+use Rattle.pawn_wire.specs.Route.{table, table_rows}
+use Rattle.std.proofs.Common.{ℕ, List, [], ◌∷◌, take, drop, zero, suc, refl}
 
 pub each_part : {A : Type 0} (P : A → Type 0) (n : ℕ) (xs : List A) → Each P (take n xs) → Each P (drop n xs) → Each P xs
 each_part P zero xs front rest = rest

@@ -1,19 +1,37 @@
--- What bytes say is within the limits of its parts.
-use Rattle.std.proofs.Common.{◌≡◌, ℕ, ◌≤◌, List, [], ◌∷◌, length, Bool, true, false, Option, Some, None, IfSome, Result, Ok, Err, refl, ap, subst, arith, inl}
-use Rattle.std.proofs.Common.{inr, ◌==◌, ◌&&◌, not, nat_le, nat_lt, bytes_eq, if◌then◌else◌, is_some, option_map, option_and_then, slice_get, codes}
-use Rattle.{std.proofs.lemmas.Bool.Decides.nat_tests, pawn_wire.specs.Common.{AreFew, Bearer, BookRows, Broker, Command, Data, IsCapacity, IsNumber, IsOpening}}
-use Rattle.pawn_wire.specs.Common.{IsStampDay, IsText, MOST_ARTICLE_BYTES, MOST_BOOKINGS, MOST_NAME_BYTES, MOST_RECEIPTS, MOST_REFERENCE_BYTES, NewBook}
-use Rattle.pawn_wire.specs.{Common.{Opening, Operator, Receipt, Request, Viewer, after_first, before_first, first_of, is_text, secret_of_text}, Route.AskedFor}
-use Rattle.pawn_wire.specs.{Route.route_of, Types.{Asks, BadBody, BadReceipt, Create, Endpoint, Export, NoReceipt, NoRoute, OnPledge, OnReceipt, Outline}}
-use Rattle.pawn_wire.specs.Types.{Present, PutTerms, Show, ShowDay, TakePledge, TooManyReceipts, WireFault, WrongMethod, Import, BearerAction, BrokerAction}
-use Rattle.pawn_wire.specs.{Types.{NewBooking, NewEntry, Place, Target}, Request.{HoldsRows, IsAsked, IsOutlined, SaysRequest, framing_faults, outline_by}}
-use Rattle.pawn_wire.specs.{Laws.{IsBodyNumber, IsCallerWithin, IsCommandWithin}, Fields.Pair, Chain.{after, and_then, or_fault}, Receipts.all_said}
-use Rattle.pawn_wire.specs.{Receipts.{is_hyphen, one_said, receipt_faults, receipt_said, receipt_values, receipts_said}, Commands.{asked_booking, asked_entry}}
-use Rattle.pawn_wire.specs.{Commands.{bearers_command_said, brokers_command_said, decision_of, paper_of}, Callers.{asks_said, key_given, key_of}}
-use Rattle.pawn_wire.specs.{Member.{body_said, day_at, flag_at, if_text, in_range, json_of, key_at, number_at, string_at, text_at}, Body.day_if_any}
-use Rattle.pawn_wire.specs.{Body.{day_or_null, kind_of, new_book_of, new_terms_of, opening_of, optional_day_at}, Named.{day_said, number_said}, Head.fields_of}
-use Rattle.pawn_wire.{specs.{Place.{is_ascii_text, method_of, place_asked, place_of, target_said}, Limits.max_number}, proofs.NamedLemmas.number_said-is}
-use Rattle.{pawn_wire.proofs.{NamedLemmas.day_said-is, ReceiptLemmas.all_said-length}, serde_json.specs.Find.{as_null, as_number, as_str, as_u64, get}}
+-- Each part of a request that bytes encode is within its limits.
+use Rattle.pawn_wire.proofs.NamedLemmas.{number_said-is, day_said-is}
+use Rattle.pawn_wire.proofs.ReceiptLemmas.{all_said-length}
+use Rattle.pawn_wire.specs.Body.{day_if_any, day_or_null, kind_of, new_book_of, new_terms_of, opening_of}
+use Rattle.pawn_wire.specs.Body.{optional_day_at}
+use Rattle.pawn_wire.specs.Callers.{asks_said, key_given, key_of}
+use Rattle.pawn_wire.specs.Chain.{after, and_then, or_fault}
+use Rattle.pawn_wire.specs.Commands.{asked_booking, asked_entry, bearers_command_said, brokers_command_said}
+use Rattle.pawn_wire.specs.Commands.{decision_of, paper_of}
+use Rattle.pawn_wire.specs.Common.{AreFew, Bearer, BookRows, Broker, Command, Data, IsCapacity, IsNumber, IsOpening}
+use Rattle.pawn_wire.specs.Common.{IsStampDay, IsText, MOST_ARTICLE_BYTES, MOST_BOOKINGS, MOST_NAME_BYTES}
+use Rattle.pawn_wire.specs.Common.{MOST_RECEIPTS, MOST_REFERENCE_BYTES, NewBook, Opening, Operator, Receipt, Request}
+use Rattle.pawn_wire.specs.Common.{Viewer, after_first, before_first, first_of, is_text, secret_of_text}
+use Rattle.pawn_wire.specs.Fields.{Pair}
+use Rattle.pawn_wire.specs.Head.{fields_of}
+use Rattle.pawn_wire.specs.Laws.{IsBodyNumber, IsCallerWithin, IsCommandWithin}
+use Rattle.pawn_wire.specs.Limits.{most_numeral}
+use Rattle.pawn_wire.specs.Member.{body_said, day_at, flag_at, if_text, in_range, json_of, key_at, number_at, string_at}
+use Rattle.pawn_wire.specs.Member.{text_at}
+use Rattle.pawn_wire.specs.Named.{day_said, number_said}
+use Rattle.pawn_wire.specs.Place.{is_ascii_text, method_of, place_asked, place_of, target_said}
+use Rattle.pawn_wire.specs.Receipts.{all_said, is_hyphen, one_said, receipt_faults, receipt_said, receipt_values}
+use Rattle.pawn_wire.specs.Receipts.{receipts_said}
+use Rattle.pawn_wire.specs.Request.{HoldsRows, IsAsked, IsOutlined, SaysRequest, framing_faults, outline_by}
+use Rattle.pawn_wire.specs.Route.{AskedFor, route_of}
+use Rattle.pawn_wire.specs.Types.{Asks, BadBody, BadReceipt, Create, Endpoint, Export, NoReceipt, NoRoute, OnPledge}
+use Rattle.pawn_wire.specs.Types.{OnReceipt, Outline, Present, PutTerms, Show, ShowDay, TakePledge, TooManyReceipts}
+use Rattle.pawn_wire.specs.Types.{WireFault, WrongMethod, Import, BearerAction, BrokerAction, NewBooking, NewEntry}
+use Rattle.pawn_wire.specs.Types.{Place, Target}
+use Rattle.serde_json.specs.Find.{as_null, as_number, as_str, as_u64, get}
+use Rattle.std.proofs.Common.{◌≡◌, ℕ, ◌≤◌, List, [], ◌∷◌, length, Bool, true, false, Option, Some, None, IfSome, Result}
+use Rattle.std.proofs.Common.{Ok, Err, refl, ap, subst, arith, inl, inr, ◌==◌, ◌&&◌, not, nat_le, nat_lt, bytes_eq}
+use Rattle.std.proofs.Common.{if◌then◌else◌, is_some, option_map, option_and_then, slice_get, codes}
+use Rattle.std.proofs.lemmas.Bool.Decides.{nat_tests}
 use Rattle.pawn_book.specs.declared.request.BrokerRequest.TheVariants as broker
 use Rattle.pawn_book.specs.declared.request.BearerRequest.TheVariants as bearer
 use Rattle.pawn_book.specs.declared.request.View.TheVariants as seen
@@ -40,7 +58,7 @@ first_ok [] answer a e = e
 first_ok ((true, fault) ∷ rows) answer a e = absurd cc
 first_ok ((false, fault) ∷ rows) answer a e = first_ok rows answer a e
 
--- what holds of each value that a part gives holds of the one that it gave
+-- a property of f a, for each possible a, holds of the mapped value
 mapped : {A B : Type 0} (P : B → Type 0) (f : A → B) (x : Option A) (b : B) → option_map f x ≡ Some b → ((a : A) → x ≡ Some a → P (f a)) → P b
 mapped P f None b e each = absurd cc
 mapped P f (Some a) b e each = (let same : f a ≡ b = cc in subst P same (each a refl))
@@ -122,9 +140,9 @@ few_within values receipts e = by_test (length values == 0) (nat_lt MOST_RECEIPT
 
 number_within : (name : List ℕ) (d : Data) (n : ℕ) → number_at name d ≡ Some n → IsBodyNumber n
 number_within name d n e = number_chain (option_and_then as_u64 (option_and_then as_number (get name d))) e where
-  number_chain : (said : Option ℕ) → option_and_then (in_range 0 max_number) said ≡ Some n → IsBodyNumber n
+  number_chain : (said : Option ℕ) → option_and_then (in_range 0 most_numeral) said ≡ Some n → IsBodyNumber n
   number_chain None same = absurd cc
-  number_chain (Some m) same = (ranged 0 max_number m n same).1
+  number_chain (Some m) same = (ranged 0 most_numeral m n same).1
 
 day_at_within : (name : List ℕ) (d : Data) (day : ℕ) → day_at name d ≡ Some day → IsStampDay day
 day_at_within name d day e = let text = given_some (string_at name d) day_said day e in day_within text.0 day text.2
@@ -155,7 +173,7 @@ of_body : {A : Type 0} (P : A → Type 0) (part : Data → Option A) (body : Lis
     → P a
 of_body P part body a e each = (let d = given_some (json_of body) part a e in each d.0 d.2)
 
--- a command that is made of what a body says
+-- a command that is made from a part of a body
 made_within : {A : Type 0} (part : Data → Option A) (make : A → Command) → ((d : Data) (a : A) → part d ≡ Some a → IsCommandWithin (make a))
     → (body : List ℕ) (command : Command) → option_map make (body_said part body) ≡ Some command → IsCommandWithin command
 made_within part make holds body command e =
@@ -250,7 +268,7 @@ asks_within (OnReceipt action) fields body caller within e =
     mapped AreAsksWithin (λ command. Asks.Whole (Bearer (bearer.OnPledge receipt.0 command))) (bearers_command_said action body) caller
     (or_fault_ok BadBody _ caller receipt.2) (λ command is. (one_within (receipt_values fields) receipt.0 receipt.1, bearers_within action body command is))
 
--- a place is of a book's number, and what it names beside is within its limits
+-- the book's number of a place is valid, and the parts of its target are within their limits
 abbrev IsPlaceWithin : Place → Type 0
 IsPlaceWithin place = IsNumber place.book × IsTargetWithin place.target
 
@@ -298,7 +316,7 @@ outline_within method target fields body outline e =
 abbrev IsWithin : Request → Type 0
 IsWithin request = IsNumber request.book × IsCallerWithin request.caller
 
--- the rows that a body holds can have come about
+-- the rows that a body holds are replayable
 filled_within : (body : List ℕ) (book key importing : ℕ) (held : Result BookRows WireFault) (request : Request) → IsNumber book → HoldsRows body held
     → Ok request ≡ after held (λ rows. Ok (record { book = book; caller = Broker key (broker.Import importing rows) })) → IsWithin request
 filled_within body book key importing (Ok rows) request range text same =
@@ -317,7 +335,7 @@ outlined : (body : List ℕ) (said : Result Outline WireFault) (request : Reques
 outlined body (Ok outline) request within it = (let here = within outline refl in asked_in body outline.book outline.asks request here.0 here.1 it)
 outlined body (Err fault) request within same = absurd cc
 
--- a request that bytes say is within the limits of its parts
+-- each part of a request that bytes encode is within its limits
 pub reads_within : (bytes : List ℕ) (request : Request) → SaysRequest bytes (Ok request) → IsNumber request.book × IsCallerWithin request.caller
 reads_within bytes request (inl x) =
     outlined x.1 (outline_by x.0.method x.0.target (fields_of x.0) x.1) request (outline_within x.0.method x.0.target (fields_of x.0) x.1) x.3

@@ -1,5 +1,7 @@
--- What the router found, as values.
-use Rattle.{std.specs.Prelude.option_copied, pawn_wire.specs.{Types.Asked, Route.AskedFor}}
+-- The router's answer as a value.
+use Rattle.pawn_wire.specs.Route.{AskedFor}
+use Rattle.pawn_wire.specs.Types.{Asked}
+use Rattle.std.specs.Prelude.{option_copied}
 
 -- the router's answer, with its texts as bytes
 abbrev pub endpoint_and_texts : Asked → AskedFor

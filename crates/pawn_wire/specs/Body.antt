@@ -1,8 +1,13 @@
--- What the JSON bodies of requests say.
+-- The content of the JSON bodies of requests.
+use Rattle.pawn_book.specs.declared.request.NewTerms.{NewTerms}
+use Rattle.pawn_debt.specs.declared.entry.Kind.{Kind}
+use Rattle.pawn_wire.specs.Chain.{and_then}
+use Rattle.pawn_wire.specs.Common.{Data, Fixed, MOST_ARTICLE_BYTES, MOST_BOOKINGS, MOST_NAME_BYTES}
+use Rattle.pawn_wire.specs.Common.{MOST_REFERENCE_BYTES, NewBook, Opening, Running}
+use Rattle.pawn_wire.specs.Member.{in_range, number_at, string_at, flag_at, text_at, key_at}
+use Rattle.pawn_wire.specs.Named.{day_said}
+use Rattle.serde_json.specs.Find.{as_null, as_str, get}
 use Rattle.std.specs.Prelude.{ℕ, List, codes, bytes_eq, if◌then◌else◌, Option, Some, None, is_some, option_map}
-use Rattle.pawn_wire.specs.Common.{Data, Fixed, MOST_ARTICLE_BYTES, MOST_BOOKINGS, MOST_NAME_BYTES, MOST_REFERENCE_BYTES, NewBook, Opening, Running}
-use Rattle.{pawn_wire.specs.{Chain.and_then, Member.{in_range, number_at, string_at, flag_at, text_at, key_at}, Named.day_said}, serde_json.specs.Find.as_null}
-use Rattle.{serde_json.specs.Find.{as_str, get}, pawn_debt.specs.declared.entry.Kind.Kind, pawn_book.specs.declared.request.NewTerms.NewTerms}
 
 -- a new book: its capacity, its key and its name
 abbrev pub new_book_of : Data → Option NewBook
@@ -21,7 +26,7 @@ new_terms_of d =
     (λ rate. and_then (number_at (codes "version") d)
     (λ version. Some (record { version = version; rates = record { rate = rate; keep_before = keep_before; keep_after = keep_after } })))))
 
--- a fixed sum or a running account, with its sum or its limit
+-- the kind of a pledge by its name: fixed with its sum, or running with its limit, in pence
 abbrev pub kind_named : List ℕ → ℕ → Option Kind
 kind_named word pence =
     if bytes_eq word (codes "fixed") then Some (Fixed pence)

@@ -1,9 +1,14 @@
--- Who asks at a target, and what for.
-use Rattle.std.specs.Prelude.{ℕ, List, [], ◌∷◌, codes, Option, None, option_map, Result, Ok}
-use Rattle.pawn_wire.specs.{Common.{Bearer, Broker, Operator, Viewer, secret_of_text}, Body.{new_book_of, new_terms_of, opening_of}, Chain.{after, or_fault}}
-use Rattle.pawn_wire.specs.{Commands.{brokers_command_said, bearers_command_said}, Fields.{Pair, values_of}, Member.body_said, Receipts.receipt_values}
-use Rattle.pawn_wire.specs.{Receipts.{receipts_said, one_said}, Types.{Asks, BadBody, BadKey, Create, Export, Import, OnPledge, OnReceipt, Present, PutTerms}}
+-- The caller of a request and what is asked, from the fields and the body.
+use Rattle.pawn_wire.specs.Body.{new_book_of, new_terms_of, opening_of}
+use Rattle.pawn_wire.specs.Chain.{after, or_fault}
+use Rattle.pawn_wire.specs.Commands.{brokers_command_said, bearers_command_said}
+use Rattle.pawn_wire.specs.Common.{Bearer, Broker, Operator, Viewer, secret_of_text}
+use Rattle.pawn_wire.specs.Fields.{Pair, values_of}
+use Rattle.pawn_wire.specs.Member.{body_said}
+use Rattle.pawn_wire.specs.Receipts.{receipt_values, receipts_said, one_said}
+use Rattle.pawn_wire.specs.Types.{Asks, BadBody, BadKey, Create, Export, Import, OnPledge, OnReceipt, Present, PutTerms}
 use Rattle.pawn_wire.specs.Types.{Show, ShowDay, TakePledge, Target, WireFault}
+use Rattle.std.specs.Prelude.{ℕ, List, [], ◌∷◌, codes, Option, None, option_map, Result, Ok}
 use Rattle.pawn_book.specs.declared.request.BrokerRequest.TheVariants as broker
 use Rattle.pawn_book.specs.declared.request.BearerRequest.TheVariants as bearer
 use Rattle.pawn_book.specs.declared.request.View.TheVariants as seen
@@ -14,7 +19,7 @@ key_said [] = None
 key_said (value ∷ []) = secret_of_text value
 key_said (value ∷ other ∷ values) = None
 
--- the key that the fields of one name give
+-- the key that the fields of one name contain
 abbrev pub key_given : List ℕ → List Pair → Result ℕ WireFault
 key_given name fields = or_fault BadKey (key_said (values_of name fields))
 
@@ -22,7 +27,8 @@ key_given name fields = or_fault BadKey (key_said (values_of name fields))
 abbrev pub key_of : List Pair → Result ℕ WireFault
 key_of fields = key_given (codes "pledge-key") fields
 
--- Who asks at a target, and what for. The key or the receipts are read first, and then the body. An import has two keys.
+-- The caller and what is asked at a target. The key or the receipts are read first, and then the body. An import has
+-- two keys.
 abbrev pub asks_said : Target → List Pair → List ℕ → Result Asks WireFault
 asks_said Create fields body =
     after (key_of fields) (λ key. or_fault BadBody (option_map (λ new_book. Asks.Whole (Operator key new_book)) (body_said new_book_of body)))

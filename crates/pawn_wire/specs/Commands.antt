@@ -1,16 +1,20 @@
--- What the bodies of commands say.
+-- The content of the JSON bodies of commands.
+use Rattle.pawn_pledge.specs.declared.command.Decision.{Decision}
+use Rattle.pawn_pledge.specs.declared.command.Paper.{Paper}
+use Rattle.pawn_wire.specs.Chain.{and_then}
+use Rattle.pawn_wire.specs.Common.{Command, Confirm, Data, Refuse, Sworn, Written}
+use Rattle.pawn_wire.specs.Member.{number_at, string_at, flag_at, day_at, body_said}
+use Rattle.pawn_wire.specs.Types.{BearerAction, BrokerAction, NewBooking, NewEntry}
 use Rattle.std.specs.Prelude.{ℕ, List, codes, Bool, bytes_eq, if◌then◌else◌, Option, Some, None, option_map}
-use Rattle.pawn_wire.specs.{Common.{Command, Confirm, Data, Refuse, Sworn, Written}, Chain.and_then, Member.{number_at, string_at, flag_at, day_at, body_said}}
-use Rattle.{pawn_wire.specs.Types.{BearerAction, BrokerAction, NewBooking, NewEntry}, pawn_pledge.specs.declared.command.{Paper.Paper, Decision.Decision}}
 
--- an entry to be made: its number and its sum in pence
+-- an entry to be made: its number within the pledge, and its sum in pence
 abbrev pub asked_entry : Data → Option NewEntry
 asked_entry d =
     and_then (number_at (codes "pence") d)
     (λ pence. and_then (number_at (codes "seq") d)
     (λ seq. Some (record { seq = seq; pence = pence })))
 
--- the kind of declaration, sworn or written
+-- the kind of declaration: sworn or written
 abbrev pub paper_named : List ℕ → Option Paper
 paper_named word =
     if bytes_eq word (codes "sworn") then Some Sworn
@@ -20,7 +24,7 @@ paper_named word =
 abbrev pub paper_of : Data → Option Paper
 paper_of d = and_then (string_at (codes "paper") d) paper_named
 
--- yes confirms a booking, and no refuses it
+-- true confirms a booking, and false refuses it
 abbrev pub decision_by : Bool → Decision
 decision_by says_yes = if says_yes then Confirm else Refuse
 
@@ -34,7 +38,7 @@ asked_booking d =
     (λ day. and_then (number_at (codes "window") d)
     (λ window. Some (record { day = day; window = window })))
 
--- the command for a broker's action, with what its body says if it takes one
+-- the command for a broker's action, with the details in its body if it takes one
 abbrev pub brokers_command_said : BrokerAction → List ℕ → Option Command
 brokers_command_said BrokerAction.Draw body = option_map (λ entry. Command.Draw entry.seq entry.pence) (body_said asked_entry body)
 brokers_command_said BrokerAction.Repay body = option_map (λ entry. Command.Repay entry.seq entry.pence) (body_said asked_entry body)
@@ -45,7 +49,7 @@ brokers_command_said BrokerAction.Decide body = option_map Command.DecideBooking
 brokers_command_said BrokerAction.Sell body = option_map Command.Sell (body_said (number_at (codes "net")) body)
 brokers_command_said BrokerAction.Extend body = option_map Command.Extend (body_said (day_at (codes "until")) body)
 
--- the command for a bearer's action, with what its body says if it takes one
+-- the command for a bearer's action, with the details in its body if it takes one
 abbrev pub bearers_command_said : BearerAction → List ℕ → Option Command
 bearers_command_said BearerAction.Repay body = option_map (λ entry. Command.Repay entry.seq entry.pence) (body_said asked_entry body)
 bearers_command_said BearerAction.Ask body = option_map (λ booking. Command.AskBooking booking.day booking.window) (body_said asked_booking body)

@@ -1,19 +1,26 @@
--- Laws of the definitions.
-use Rattle.std.specs.Prelude.{[], ◌∷◌, ◌++◌, ◌≡◌, ℕ, ◌≤◌, List, codes, Bool, true, false, ◌==◌, if◌then◌else◌, Option, Some, None, Result, Ok, decimal}
-use Rattle.pawn_wire.specs.Common.{AreFew, Bearer, Broker, Command, Import, IsCapacity, IsNumber, IsOpening, IsStampDay, IsText}
-use Rattle.pawn_wire.specs.{Common.{MOST_NAME_BYTES, Operator, PutTerms, Request, TakePledge, Viewer, day_text}, Limits.max_number}
-use Rattle.pawn_wire.specs.{Named.{number_said, day_said}, Request.SaysRequest, Route.{table, route_of}, Types.{Endpoint, WireFault}}
-use Rattle.{pawn_base.specs.Lists.Each, pawn_book.specs.declared.request.Caller.Caller}
-use Rattle.pawn_book.specs.{declared.request.BearerRequest.TheVariants.Present, Rows.AreReplayable}
+-- Laws of the reading of requests and of targets.
+use Rattle.pawn_base.specs.Lists.{Each}
+use Rattle.pawn_book.specs.Rows.{AreReplayable}
+use Rattle.pawn_book.specs.declared.request.BearerRequest.TheVariants.{Present}
+use Rattle.pawn_book.specs.declared.request.Caller.{Caller}
+use Rattle.pawn_wire.specs.Common.{AreFew, Bearer, Broker, Command, Import, IsCapacity, IsNumber, IsOpening, IsStampDay}
+use Rattle.pawn_wire.specs.Common.{IsText, MOST_NAME_BYTES, Operator, PutTerms, Request, TakePledge, Viewer, day_text}
+use Rattle.pawn_wire.specs.Limits.{most_numeral}
+use Rattle.pawn_wire.specs.Named.{number_said, day_said}
+use Rattle.pawn_wire.specs.Request.{SaysRequest}
+use Rattle.pawn_wire.specs.Route.{table, route_of}
+use Rattle.pawn_wire.specs.Types.{Endpoint, WireFault}
+use Rattle.std.specs.Prelude.{[], ◌∷◌, ◌++◌, ◌≡◌, ℕ, ◌≤◌, List, codes, Bool, true, false, ◌==◌, if◌then◌else◌, Option}
+use Rattle.std.specs.Prelude.{Some, None, Result, Ok, decimal}
 use Rattle.pawn_book.specs.declared.request.BrokerRequest.TheVariants as broker
 use Rattle.pawn_book.specs.declared.request.BearerRequest.TheVariants as bearer
 use Rattle.pawn_book.specs.declared.request.View.TheVariants as seen
 
--- ---- what requests may say
+-- ---- what requests may contain
 
 -- a number of at most 12 digits
 abbrev pub IsBodyNumber : ℕ → Type 0
-IsBodyNumber n = n ≤ max_number
+IsBodyNumber n = n ≤ most_numeral
 
 -- the numbers of a command have at most 12 digits, and its day is one that a request may name
 abbrev pub IsCommandWithin : Command → Type 0
@@ -29,7 +36,7 @@ IsCommandWithin (Command.Redeem paid) = IsBodyNumber paid
 IsCommandWithin (Command.Sell net) = IsBodyNumber net
 IsCommandWithin (Command.Extend until) = IsStampDay until
 
--- each part of what a caller asks is within its limits
+-- each part of the caller and of what is asked is within its limits
 abbrev pub IsCallerWithin : Caller → Type 0
 IsCallerWithin (Operator key new_book) = IsText MOST_NAME_BYTES new_book.name × IsCapacity new_book.capacity
 IsCallerWithin (Broker key (PutTerms terms)) = Unit {0}
@@ -86,7 +93,7 @@ item_for Endpoint.Import = None
 item_for Endpoint.Present = None
 item_for (Endpoint.OnReceipt action) = None
 
--- the target of a row of the table is found, with its endpoint and what it names
+-- the target of a row of the table is found, with its endpoint and the parts that it names
 abbrev pub IsTargetFound : List ℕ × Endpoint → Type 0
 IsTargetFound row =
     route_of (fill false row.0) ≡ Some (record { endpoint = row.1; book = Some (codes "7"); item = item_for row.1 })

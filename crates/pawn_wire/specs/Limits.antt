@@ -1,22 +1,23 @@
--- How much a request may hold.
-use Rattle.{std.specs.Prelude.ℕ, pawn_wire.specs.declared.limits.TheConstants.{MAX_BODY, MAX_DIGITS, MAX_FIELDS, MAX_HEAD, MAX_NUMBER}}
+-- The limits of a request.
+use Rattle.pawn_wire.specs.declared.limits.TheConstants.{MOST_BODY, MOST_DIGITS, MOST_FIELDS, MOST_HEAD, MOST_NUMERAL}
+use Rattle.std.specs.Prelude.{ℕ}
 
--- the most bytes of a head, with the empty line at its end
-abbrev pub max_head : ℕ
-max_head = MAX_HEAD
+-- the most bytes in a head, including the empty line at its end
+abbrev pub most_head : ℕ
+most_head = MOST_HEAD
 
--- the most fields of a head
-abbrev pub max_fields : ℕ
-max_fields = MAX_FIELDS
+-- the most fields in a head
+abbrev pub most_fields : ℕ
+most_fields = MOST_FIELDS
 
--- the most bytes of a body
-abbrev pub max_body : ℕ
-max_body = MAX_BODY
+-- the most bytes in a body
+abbrev pub most_body : ℕ
+most_body = MOST_BODY
 
--- the most digits of the number that gives a body's length
-abbrev pub max_digits : ℕ
-max_digits = MAX_DIGITS
+-- the most digits in a `Content-Length`
+abbrev pub most_digits : ℕ
+most_digits = MOST_DIGITS
 
--- the largest number in a body, of 12 digits
-abbrev pub max_number : ℕ
-max_number = MAX_NUMBER
+-- the largest number in a body; it has 12 digits
+abbrev pub most_numeral : ℕ
+most_numeral = MOST_NUMERAL

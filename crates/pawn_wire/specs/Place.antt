@@ -1,12 +1,16 @@
--- What targets ask for: places.
-use Rattle.std.specs.{Prelude.{ℕ, nat_lt, Bool, List, codes, if◌then◌else◌, Option, Some, None, option_map}, List.list_all}
-use Rattle.pawn_wire.specs.{Chain.and_then, Named.{number_said, day_said}, Route.{AskedFor, route_of}, Types.{Create, Endpoint, Export, Import, OnPledge}}
-use Rattle.pawn_wire.specs.Types.{OnReceipt, Place, Present, PutTerms, Show, ShowDay, TakePledge, Target}
+-- What is asked by the target of a request.
+use Rattle.pawn_wire.specs.Chain.{and_then}
+use Rattle.pawn_wire.specs.Named.{number_said, day_said}
+use Rattle.pawn_wire.specs.Route.{AskedFor, route_of}
+use Rattle.pawn_wire.specs.Types.{Create, Endpoint, Export, Import, OnPledge, OnReceipt, Place, Present, PutTerms, Show}
+use Rattle.pawn_wire.specs.Types.{ShowDay, TakePledge, Target}
+use Rattle.std.specs.List.{list_all}
+use Rattle.std.specs.Prelude.{ℕ, nat_lt, Bool, List, codes, if◌then◌else◌, Option, Some, None, option_map}
 
 abbrev pub is_ascii_text : List ℕ → Bool
 is_ascii_text text = list_all (λ b. nat_lt b 128) text
 
--- the one method that a target takes
+-- the only method that a target accepts
 abbrev pub method_of : Target → List ℕ
 method_of Create = codes "POST"
 method_of PutTerms = codes "POST"
@@ -19,7 +23,7 @@ method_of Import = codes "POST"
 method_of Present = codes "GET"
 method_of (OnReceipt action) = codes "POST"
 
--- what is asked at an endpoint, with the pledge or the day that the second part of a target names
+-- what is asked at an endpoint; `item` is the part of the target that names the pledge or the day
 abbrev pub target_said : Endpoint → Option (List ℕ) → Option Target
 target_said Endpoint.Create item = Some Create
 target_said Endpoint.PutTerms item = Some PutTerms
@@ -32,12 +36,12 @@ target_said Endpoint.Import item = Some Import
 target_said Endpoint.Present item = Some Present
 target_said (Endpoint.OnReceipt action) item = Some (OnReceipt action)
 
--- the book that was asked for, and what was asked of it
+-- the book of a target, and what is asked of it
 abbrev pub place_asked : AskedFor → Option Place
 place_asked asked =
     and_then (and_then asked.book number_said)
     (λ book. option_map (λ target. record { book = book; target = target }) (target_said asked.endpoint asked.item))
 
--- what a target asks for; one that is not ASCII asks for nothing
+-- what is asked by a target; a target that is not ASCII does not exist
 abbrev pub place_of : List ℕ → Option Place
 place_of target = if is_ascii_text target then and_then (route_of target) place_asked else None

@@ -1,7 +1,11 @@
 -- Receipts that fields present.
-use Rattle.std.specs.Prelude.{ℕ, ◌==◌, Bool, List, [], ◌∷◌, length, nat_lt, slice_get, codes, Option, Some, option_map, Result}
-use Rattle.pawn_wire.specs.{Common.{MOST_RECEIPTS, Receipt, after_first, before_first, first_of, secret_of_text}, Chain.{and_then, or_fault}, Fields.Pair}
-use Rattle.pawn_wire.specs.{Fields.values_of, Named.number_said, Types.{BadReceipt, NoReceipt, TooManyReceipts, WireFault}}
+use Rattle.pawn_wire.specs.Chain.{and_then, or_fault}
+use Rattle.pawn_wire.specs.Common.{MOST_RECEIPTS, Receipt, after_first, before_first, first_of, secret_of_text}
+use Rattle.pawn_wire.specs.Fields.{Pair, values_of}
+use Rattle.pawn_wire.specs.Named.{number_said}
+use Rattle.pawn_wire.specs.Types.{BadReceipt, NoReceipt, TooManyReceipts, WireFault}
+use Rattle.std.specs.Prelude.{ℕ, ◌==◌, Bool, List, [], ◌∷◌, length, nat_lt, slice_get, codes, Option, Some, option_map}
+use Rattle.std.specs.Prelude.{Result}
 
 -- the byte `-`
 abbrev pub is_hyphen : ℕ → Bool
@@ -13,7 +17,7 @@ receipt_said text =
     and_then (number_said (before_first is_hyphen text))
     (λ number. option_map (λ secret. record { number = number; secret = secret }) (secret_of_text (after_first is_hyphen text)))
 
--- the receipts of these values, if each is one
+-- the receipts that these values write, if each of them writes one
 abbrev pub all_said : List (List ℕ) → Option (List Receipt)
 all_said [] = Some []
 all_said (value ∷ values) =

@@ -1,7 +1,13 @@
--- The targets of the service.
+-- The targets of the service, and how one is matched.
+use Rattle.matchit.specs.Order.{placed}
+use Rattle.matchit.specs.Route.{Scan, parse_route}
+use Rattle.matchit.specs.Router.{RouteOf, route_from}
+use Rattle.matchit.specs.Rows.{RowsOf}
+use Rattle.matchit.specs.Seek.{first}
+use Rattle.matchit.specs.declared.error.InsertError.{InsertError}
+use Rattle.pawn_wire.specs.Common.{Bor, walk}
+use Rattle.pawn_wire.specs.Types.{BearerAction, BrokerAction, Endpoint}
 use Rattle.std.specs.Prelude.{ℕ, List, [], ◌∷◌, codes, map, Option, option_map, slice_get, Result, Ok, Err}
-use Rattle.{pawn_wire.specs.{Common.{Bor, walk}, Types.{BearerAction, BrokerAction, Endpoint}}, matchit.specs.declared.error.InsertError.InsertError}
-use Rattle.matchit.specs.{Router.{RouteOf, route_from}, Route.{Scan, parse_route}, Rows.RowsOf, Order.placed, Seek.first}
 
 -- the targets, each with its endpoint
 abbrev pub table : List (List ℕ × Endpoint)
@@ -46,17 +52,17 @@ with_routes (r ∷ rest) rows = with_routes rest (with_route (parse_route r.0) r
 unfoldable pub table_rows : Rows
 table_rows = with_routes table []
 
--- the texts in the target for the names in braces, in order
+-- the texts in the target that match the names in braces, in order
 abbrev pub captures : RouteOf Endpoint → List ℕ → List (List ℕ)
 captures r target = map (λ p. p.1) (walk r.pattern r.text target r.names 0 0)
 
--- an endpoint, and the texts for the first two names in braces
+-- an endpoint, and the texts that match the first two names in braces
 pub record AskedFor : Type 0 where
   pub endpoint : Endpoint
   pub book : Option (List ℕ)
   pub item : Option (List ℕ)
 
--- what a target asks for
+-- what is asked at a target
 abbrev pub route_of : List ℕ → Option AskedFor
 route_of target =
     option_map

@@ -1,9 +1,11 @@
--- Examples of heads of requests, worked out.
-use Rattle.std.specs.Prelude.{◌≡◌, ℕ, List, [], ◌∷◌, codes, false, true, Ok, Err}
-use Rattle.{httparse.specs.Grammar.{Field, RequestHead, crlf, print_request}, pawn_wire.specs.{Fields.Pair, Head.{IsHead, fields_of, body_length, closes_by}}}
+-- Worked examples of heads of requests.
+use Rattle.httparse.specs.Grammar.{Field, RequestHead, crlf, print_request}
+use Rattle.pawn_wire.specs.Fields.{Pair}
+use Rattle.pawn_wire.specs.Head.{IsHead, fields_of, body_length, closes_by}
 use Rattle.pawn_wire.specs.Types.{HeadFault}
+use Rattle.std.specs.Prelude.{◌≡◌, ℕ, List, [], ◌∷◌, codes, false, true, Ok, Err}
 
--- a field's line: its name, and its value with the white space round it
+-- a field's line: its name, and its value with the white space around it
 abbrev pub line : List ℕ → List ℕ → Field
 line name raw = record { name = name; raw = raw; end = crlf }
 
@@ -36,7 +38,7 @@ WorkedHeads =
 abbrev pub tells_length : List ℕ → Pair
 tells_length value = (codes "Content-Length", value)
 
--- a field that says that the body is in another coding
+-- a field that states that the body is in another coding
 abbrev pub chunked_coding : Pair
 chunked_coding = (codes "Transfer-Encoding", codes "chunked")
 
@@ -58,7 +60,7 @@ WorkedLengths =
     × (body_length (chunked_coding ∷ []) ≡ Err HeadFault.Transfer)
     × (body_length (tells_length (codes "+5") ∷ chunked_coding ∷ []) ≡ Err HeadFault.Transfer)
 
--- a field that says whether the connection closes
+-- a field that states whether the connection closes
 abbrev pub tells_connection : List ℕ → Pair
 tells_connection value = (codes "Connection", value)
 

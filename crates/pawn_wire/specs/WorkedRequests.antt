@@ -1,30 +1,40 @@
--- Examples of requests, worked out.
+-- Worked examples of requests and of their parts.
+use Rattle.pawn_terms.specs.Worked.{date}
+use Rattle.pawn_wire.specs.Body.{new_book_of, new_terms_of, opening_of}
+use Rattle.pawn_wire.specs.Callers.{key_of}
+use Rattle.pawn_wire.specs.Commands.{brokers_command_said, bearers_command_said}
+use Rattle.pawn_wire.specs.Common.{Bearer, Broker, Command, Confirm, Fixed, Receipt, Running, Sworn, Viewer}
+use Rattle.pawn_wire.specs.Fields.{Pair}
+use Rattle.pawn_wire.specs.Limits.{most_head, most_fields, most_body, most_digits, most_numeral}
+use Rattle.pawn_wire.specs.Member.{body_said}
+use Rattle.pawn_wire.specs.Named.{number_said, day_said}
+use Rattle.pawn_wire.specs.Place.{place_of}
+use Rattle.pawn_wire.specs.Receipts.{receipt_values, receipt_said, receipts_said, one_said}
+use Rattle.pawn_wire.specs.Request.{outline_by}
+use Rattle.pawn_wire.specs.Types.{Asks, BadBody, BadKey, BadReceipt, BearerAction, BrokerAction, Create, Export, Import}
+use Rattle.pawn_wire.specs.Types.{NoReceipt, NoRoute, OnPledge, OnReceipt, Place, Present, PutTerms, Show, ShowDay}
+use Rattle.pawn_wire.specs.Types.{TakePledge, Target, TooManyReceipts, WireFault, WrongMethod}
+use Rattle.pawn_wire.specs.WorkedHeads.{chunked_coding, tells_length}
 use Rattle.std.specs.Prelude.{◌≡◌, ℕ, List, [], ◌∷◌, codes, replicate, false, true, Option, Some, None, Ok, Err}
-use Rattle.pawn_wire.specs.{Common.{Bearer, Broker, Command, Confirm, Fixed, Receipt, Running, Sworn, Viewer}, Body.{new_book_of, new_terms_of, opening_of}}
-use Rattle.pawn_wire.specs.{Commands.{brokers_command_said, bearers_command_said}, Fields.Pair, Limits.{max_head, max_fields, max_body, max_digits, max_number}}
-use Rattle.pawn_wire.specs.{Member.body_said, Named.{number_said, day_said}, Receipts.{receipt_values, receipt_said, receipts_said, one_said}, Callers.key_of}
-use Rattle.pawn_wire.specs.{Place.place_of, Request.outline_by, WorkedHeads.{chunked_coding, tells_length}, Types.{Asks, BadBody, BadKey, BadReceipt}}
-use Rattle.pawn_wire.specs.Types.{BearerAction, BrokerAction, Create, Export, Import, NoReceipt, NoRoute, OnPledge, OnReceipt, Place, Present, PutTerms, Show}
-use Rattle.{pawn_wire.specs.Types.{ShowDay, TakePledge, Target, TooManyReceipts, WireFault, WrongMethod}, pawn_terms.specs.Worked.date}
 use Rattle.pawn_book.specs.declared.request.BrokerRequest.TheVariants as broker
 use Rattle.pawn_book.specs.declared.request.BearerRequest.TheVariants as bearer
 use Rattle.pawn_book.specs.declared.request.View.TheVariants as seen
 
--- the limits of a request: the bytes and the fields of its head, the bytes of its body, the digits of the number that
--- gives the body's length, and the largest number in a body
+-- the limits of a request: the bytes and the fields of its head, the bytes of its body, the digits of a
+-- `Content-Length`, and the largest number in a body
 abbrev pub WorkedLimits : Type 0
 WorkedLimits =
-    (max_head ≡ 8192)
-    × (max_fields ≡ 64)
-    × (max_body ≡ 1048576)
-    × (max_digits ≡ 19)
-    × (max_number ≡ 999999999999)
+    (most_head ≡ 8192)
+    × (most_fields ≡ 64)
+    × (most_body ≡ 1048576)
+    × (most_digits ≡ 19)
+    × (most_numeral ≡ 999999999999)
 
 -- what is asked of a book
 abbrev pub of_book : ℕ → Target → Option Place
 of_book book target = Some (record { book = book; target = target })
 
--- what targets ask for
+-- what is asked by targets
 abbrev pub WorkedTargets : Type 0
 WorkedTargets =
     (place_of (codes "/books/7") ≡ of_book 7 Create)
@@ -40,7 +50,7 @@ WorkedTargets =
     × (place_of (codes "/books/7/held") ≡ of_book 7 Present)
     × (place_of (codes "/books/7/held/redeem") ≡ of_book 7 (OnReceipt BearerAction.Redeem))
 
--- what is no target: a number or day that is malformed or in another spelling, and anything more or less
+-- texts that are no target: a number or a day is malformed or in another spelling, or a part is missing or added
 abbrev pub WorkedNoTargets : Type 0
 WorkedNoTargets =
     (place_of (codes "/books/07/held") ≡ None)
@@ -59,7 +69,7 @@ WorkedNoTargets =
     × (place_of (codes "/Books/7") ≡ None)
     × (place_of (codes "/") ≡ None)
 
--- a number is from 1 to 999,999,999, in its one spelling
+-- a number is from 1 to 999,999,999, in its only spelling
 abbrev pub WorkedPathNumbers : Type 0
 WorkedPathNumbers =
     (number_said (codes "1") ≡ Some 1)
@@ -72,7 +82,7 @@ WorkedPathNumbers =
     × (number_said (codes "7a") ≡ None)
     × (number_said [] ≡ None)
 
--- a day from 2000-01-01 to 2199-12-31, in its one spelling
+-- a day is from 2000-01-01 to 2199-12-31, in its only spelling
 abbrev pub WorkedDayTexts : Type 0
 WorkedDayTexts =
     (day_said (codes "2000-01-01") ≡ Some 10957)
@@ -118,7 +128,7 @@ some_receipt_text = codes "1-da41597c-5157-488d-7724-e03fb8d84a37"
 abbrev pub presents : List ℕ → Pair
 presents value = (codes "Pledge-Receipt", value)
 
--- one receipt, or 1 to 32; too many are reported before malformed ones
+-- one receipt, or 1 to 32; `TooManyReceipts` is reported before `BadReceipt`
 abbrev pub WorkedReceiptLists : Type 0
 WorkedReceiptLists =
     (receipt_said some_receipt_text ≡ Some some_receipt)

@@ -1,7 +1,11 @@
 //! The JSON bodies of requests.
+ghost use Rattle.pawn_wire.specs.Body.{day_or_null, kind_named, kind_of, new_book_of, new_terms_of, opening_of};
+ghost use Rattle.pawn_wire.specs.Body.{optional_day_at};
+ghost use Rattle.pawn_wire.specs.Chain.{GivesPart};
+ghost use Rattle.pawn_wire.specs.Common.{MOST_BOOKINGS, view};
+ghost use Rattle.pawn_wire.specs.Member.{in_range};
+ghost use Rattle.pawn_wire.specs.Types.{BadBody};
 ghost use Rattle.std.specs.Prelude.{◌≡◌};
-ghost use Rattle.pawn_wire.specs.{Common.{MOST_BOOKINGS, view}, Types.BadBody, Chain.GivesPart, Body.{day_or_null, kind_named, kind_of, new_book_of}};
-ghost use Rattle.pawn_wire.specs.{Body.{new_terms_of, opening_of, optional_day_at}, Member.in_range};
 
 use crate::member;
 use pawn_book::{Capacity, Kind, NewBook, NewTerms, Opening, Rates, RequestDay};
@@ -9,14 +13,14 @@ use pawn_reply::WireFault;
 use serde_json::Value;
 use std::alloc::Global;
 
-// A capacity of so many bookings in a window, if it is within the limits.
+/// Returns the capacity of this many confirmed visits in a window, if it is within the limits.
 fn capacity_of(bookings: u64) -> Option<Capacity>
     ensures value { result ≡ in_range 1 MOST_BOOKINGS bookings }
 {
     Capacity::new(bookings)
 }
 
-// A new book as a body describes it: its capacity, its key and its name.
+/// Reads a new book: its capacity, its key and its name.
 pub(crate) fn new_book(alloc: Global, body: &Value) -> Result<NewBook, WireFault>
     ensures value { GivesPart BadBody result (new_book_of (view body.now)) }
 {
@@ -31,8 +35,8 @@ pub(crate) fn new_book(alloc: Global, body: &Value) -> Result<NewBook, WireFault
     })
 }
 
-// New terms as a body describes them: their version, the rate, and the charges for safe keeping up to the end of the
-// period and after it. `None` if a member is missing or malformed.
+/// Reads new terms: their version, the rate of interest in millionths a day, and the charges for safe keeping up to the
+/// end of the period and after it, in millionths of a penny a day. `None` if a member is missing or malformed.
 pub(crate) fn new_terms(body: &Value) -> Option<NewTerms>
     ensures value { result ≡ new_terms_of (view body.now) }
 {
@@ -48,6 +52,7 @@ pub(crate) fn new_terms(body: &Value) -> Option<NewTerms>
     Some(NewTerms { version, rates })
 }
 
+/// Returns the kind with this name (`fixed` or `running`) and with this sum or limit, in pence.
 fn kind_named(word: &str, pence: u64) -> Option<Kind>
     ensures value { result ≡ kind_named word.now pence }
 {
@@ -58,7 +63,7 @@ fn kind_named(word: &str, pence: u64) -> Option<Kind>
     }
 }
 
-// The kind of a pledge: fixed with its sum, or running with its limit, in pence.
+/// Reads the kind of a pledge: fixed with its sum, or running with its limit, in pence.
 fn kind(body: &Value) -> Option<Kind>
     ensures value { result ≡ kind_of (view body.now) }
 {
@@ -67,7 +72,7 @@ fn kind(body: &Value) -> Option<Kind>
     kind_named(word, pence)
 }
 
-// The day in a member: `Some(None)` if it is null, and `None` if it is neither null nor a day.
+/// Reads a member that is a day or null. `Some(None)` if it is null, and `None` if it is neither.
 fn day_or_null(member: &Value) -> Option<Option<RequestDay>>
     ensures value { result ≡ day_or_null (view member.now) }
 {
@@ -83,7 +88,8 @@ fn day_or_null(member: &Value) -> Option<Option<RequestDay>>
     }
 }
 
-// The day in a member that may be missing or null. `None` if it is there and malformed.
+/// Reads a member that is a day or null, or is missing. `Some(None)` if it is null or missing, and `None` if it is
+/// malformed.
 fn optional_day(body: &Value, name: &str) -> Option<Option<RequestDay>>
     ensures value { result ≡ optional_day_at name.now (view body.now) }
 {
@@ -93,8 +99,8 @@ fn optional_day(body: &Value, name: &str) -> Option<Option<RequestDay>>
     }
 }
 
-// A pledge to be taken, as a body describes it: reference, article, kind, an agreed end if any, and whether five days
-// of grace follow the period.
+/// Reads a pledge to be taken: reference, article, kind, an agreed end if any, and whether five days of grace follow
+/// the period.
 pub(crate) fn opening(alloc: Global, body: &Value) -> Result<Opening, WireFault>
     ensures value { GivesPart BadBody result (opening_of (view body.now)) }
 {

@@ -1,7 +1,10 @@
-//! Who asks at a target, and what for.
+//! Reads the caller of a request and what is asked, from its fields and its body.
+ghost use Rattle.pawn_wire.specs.Callers.{asks_said, key_given};
+ghost use Rattle.pawn_wire.specs.Chain.{Says};
+ghost use Rattle.pawn_wire.specs.Fields.{pairs_of};
+ghost use Rattle.pawn_wire.specs.Types.{Create, Export, Import, OnPledge, OnReceipt, Present, PutTerms, Show, ShowDay};
+ghost use Rattle.pawn_wire.specs.Types.{TakePledge};
 ghost use Rattle.std.specs.Prelude.{◌≡◌, codes};
-ghost use Rattle.pawn_wire.specs.{Types.{Create, Export, Import, OnPledge, OnReceipt, Present, PutTerms, Show, ShowDay, TakePledge}, Chain.Says};
-ghost use Rattle.pawn_wire.specs.{Callers.{asks_said, key_given}, Fields.pairs_of};
 
 use crate::fields::{Fields, Found};
 use crate::place::Target;
@@ -11,21 +14,24 @@ use pawn_book::{BearerRequest, BrokerRequest, Caller, Number, RequestDay, Secret
 use pawn_reply::WireFault;
 use std::alloc::Global;
 
-/// What a request has besides its method and target.
+/// The parts of a request other than its method and target.
 #[derive(Drop)]
 pub(crate) struct Sent<'a> {
     pub fields: Fields<'a>,
     pub body: &'a [u8],
 }
 
-/// Who asks, and what for. For an import it is only the two keys, since its rows are still to be read.
+/// The caller and what is asked. For an import it is only the two keys, because its rows are read later.
 #[derive(Drop)]
 pub(crate) enum Asks {
+    /// The caller, with all of what is asked.
     Whole(Caller),
+    /// The broker's key, and the import's own key.
     Import { key: Secret, importing: Secret },
 }
 
-// The key in the one field of this name. `BadKey` if there is none, more than one, or a malformed one.
+/// Returns the key in the field of this name. Fails with `BadKey` if there is no such field, if there are several, or
+/// if the key is malformed.
 fn key_under(name: &[u8], fields: &Fields<'_>) -> Result<Secret, WireFault>
     ensures value { result ≡ key_given name.now (pairs_of fields.now) }
 {
@@ -36,14 +42,14 @@ fn key_under(name: &[u8], fields: &Fields<'_>) -> Result<Secret, WireFault>
     }
 }
 
-// The key in the field `Pledge-Key`.
+/// Returns the key in the field `Pledge-Key`.
 fn key(fields: &Fields<'_>) -> Result<Secret, WireFault>
     ensures value { result ≡ key_given (codes "pledge-key") (pairs_of fields.now) }
 {
     key_under(b"pledge-key", fields)
 }
 
-// The operator, who makes a book.
+/// Reads a request of the operator to make a book.
 fn create(alloc: Global, sent: &Sent<'_>) -> Result<Asks, WireFault>
     ensures value { Says result (asks_said Create (pairs_of sent.now.fields) sent.now.body.now) }
 {
@@ -53,7 +59,7 @@ fn create(alloc: Global, sent: &Sent<'_>) -> Result<Asks, WireFault>
     Ok(Asks::Whole(Caller::Operator { key, new_book }))
 }
 
-// A broker, who puts terms.
+/// Reads a broker's request to put terms.
 fn put_terms(alloc: Global, sent: &Sent<'_>) -> Result<Asks, WireFault>
     ensures value { Says result (asks_said PutTerms (pairs_of sent.now.fields) sent.now.body.now) }
 {
@@ -63,21 +69,21 @@ fn put_terms(alloc: Global, sent: &Sent<'_>) -> Result<Asks, WireFault>
     Ok(by_broker(key, BrokerRequest::PutTerms(terms)))
 }
 
-// What a broker asks with this key.
+/// Returns the broker with this key and this request.
 fn by_broker(key: Secret, asked: BrokerRequest) -> Asks
     ensures value { result ≡ Asks.Whole (Caller.Broker key asked) }
 {
     Asks::Whole(Caller::Broker { key, asked })
 }
 
-// A view, with this key.
+/// Returns the holder of this key, who asks for this view.
 fn by_viewer(key: Secret, view: View) -> Asks
     ensures value { result ≡ Asks.Whole (Caller.Viewer key view) }
 {
     Asks::Whole(Caller::Viewer { key, view })
 }
 
-// A broker, who takes a pledge.
+/// Reads a broker's request to take a pledge.
 fn take_pledge(alloc: Global, sent: &Sent<'_>) -> Result<Asks, WireFault>
     ensures value { Says result (asks_said TakePledge (pairs_of sent.now.fields) sent.now.body.now) }
 {
@@ -87,7 +93,7 @@ fn take_pledge(alloc: Global, sent: &Sent<'_>) -> Result<Asks, WireFault>
     Ok(by_broker(key, BrokerRequest::TakePledge(opening)))
 }
 
-// A broker, who sees the pledge of this number.
+/// Reads a broker's request to show the pledge of this number.
 fn show(number: Number, sent: &Sent<'_>) -> Result<Asks, WireFault>
     ensures value { Says result (asks_said (Show number) (pairs_of sent.now.fields) sent.now.body.now) }
 {
@@ -95,7 +101,7 @@ fn show(number: Number, sent: &Sent<'_>) -> Result<Asks, WireFault>
     Ok(by_viewer(key, View::Pledge(number)))
 }
 
-// A broker, with a command for the pledge of this number.
+/// Reads a broker's command for the pledge of this number.
 fn command_pledge(
     alloc: Global,
     number: Number,
@@ -109,7 +115,7 @@ fn command_pledge(
     Ok(by_broker(key, BrokerRequest::OnPledge { number, command }))
 }
 
-// A broker, who sees a day's sheet.
+/// Reads a broker's request for a day's sheet.
 fn show_day(day: RequestDay, sent: &Sent<'_>) -> Result<Asks, WireFault>
     ensures value { Says result (asks_said (ShowDay day) (pairs_of sent.now.fields) sent.now.body.now) }
 {
@@ -117,7 +123,7 @@ fn show_day(day: RequestDay, sent: &Sent<'_>) -> Result<Asks, WireFault>
     Ok(by_viewer(key, View::Sheet(day)))
 }
 
-// A broker, who exports the book as a text.
+/// Reads a broker's request to export the book.
 fn export(sent: &Sent<'_>) -> Result<Asks, WireFault>
     ensures value { Says result (asks_said Export (pairs_of sent.now.fields) sent.now.body.now) }
 {
@@ -125,7 +131,7 @@ fn export(sent: &Sent<'_>) -> Result<Asks, WireFault>
     Ok(by_viewer(key, View::Rows))
 }
 
-// A broker, who fills the book with the rows of an import: the broker's key and the import's.
+/// Reads the two keys of an import: the broker's and the import's own.
 fn import(sent: &Sent<'_>) -> Result<Asks, WireFault>
     ensures value { Says result (asks_said Import (pairs_of sent.now.fields) sent.now.body.now) }
 {
@@ -134,7 +140,7 @@ fn import(sent: &Sent<'_>) -> Result<Asks, WireFault>
     Ok(Asks::Import { key, importing })
 }
 
-// A bearer, who sees the pledges of receipts.
+/// Reads a bearer's request to show the pledges of receipts.
 fn present(alloc: Global, sent: &Sent<'_>) -> Result<Asks, WireFault>
     ensures value { Says result (asks_said Present (pairs_of sent.now.fields) sent.now.body.now) }
 {
@@ -142,7 +148,7 @@ fn present(alloc: Global, sent: &Sent<'_>) -> Result<Asks, WireFault>
     Ok(Asks::Whole(Caller::Bearer(BearerRequest::Present(receipts))))
 }
 
-// A bearer, with a command for the pledge of a receipt.
+/// Reads a bearer's command for the pledge of a receipt.
 fn command_receipt(alloc: Global, action: BearerAction, sent: &Sent<'_>) -> Result<Asks, WireFault>
     ensures value { Says result (asks_said (OnReceipt action) (pairs_of sent.now.fields) sent.now.body.now) }
 {
@@ -151,7 +157,7 @@ fn command_receipt(alloc: Global, action: BearerAction, sent: &Sent<'_>) -> Resu
     Ok(Asks::Whole(Caller::Bearer(BearerRequest::OnPledge { receipt, command })))
 }
 
-// Reads who asks at a target, and what for: first the key or the receipts, then the body.
+/// Reads the caller and what is asked at a target: first the key or the receipts, then the body.
 pub(crate) fn who_asks(alloc: Global, target: Target, sent: &Sent<'_>) -> Result<Asks, WireFault>
     ensures value { Says result (asks_said target (pairs_of sent.now.fields) sent.now.body.now) }
 {

@@ -1,8 +1,11 @@
-//! The JSON bodies of commands.
+//! Reads the JSON bodies of commands.
+ghost use Rattle.pawn_pledge.specs.Commands.{is_brokers, is_bearers};
+ghost use Rattle.pawn_wire.specs.Chain.{GivesPart};
+ghost use Rattle.pawn_wire.specs.Commands.{asked_booking, asked_entry, bearers_command_said, brokers_command_said};
+ghost use Rattle.pawn_wire.specs.Commands.{decision_by, decision_of, paper_named, paper_of};
+ghost use Rattle.pawn_wire.specs.Member.{body_said, day_at, number_at};
+ghost use Rattle.pawn_wire.specs.Types.{BadBody};
 ghost use Rattle.std.specs.Prelude.{◌≡◌, true};
-ghost use Rattle.{pawn_pledge.specs.Commands.{is_brokers, is_bearers}, pawn_wire.specs.{Types.BadBody, Chain.GivesPart, Commands.{asked_booking, asked_entry}}};
-ghost use Rattle.pawn_wire.specs.{Commands.{bearers_command_said, brokers_command_said, decision_by, decision_of, paper_named, paper_of}, Member.body_said};
-ghost use Rattle.pawn_wire.specs.Member.{day_at, number_at};
 
 use crate::member;
 use crate::route::{BearerAction, BrokerAction};
@@ -10,7 +13,7 @@ use pawn_book::{BearerCommand, BrokerCommand, Command, Decision, Paper, RequestD
 use pawn_reply::WireFault;
 use std::alloc::Global;
 
-/// An entry to be made: its number in the pledge, and its sum in pence.
+/// An entry to be made: its number within the pledge, and its sum in pence.
 #[derive(Clone, Copy)]
 pub(crate) struct NewEntry {
     pub seq: u64,
@@ -24,7 +27,7 @@ pub(crate) struct NewBooking {
     pub window: u64,
 }
 
-// The entry that a body asks for.
+/// Reads the entry that a body asks for.
 fn entry(alloc: Global, body: &[u8]) -> Result<NewEntry, WireFault>
     ensures value { GivesPart BadBody result (body_said asked_entry body.now) }
 {
@@ -34,7 +37,7 @@ fn entry(alloc: Global, body: &[u8]) -> Result<NewEntry, WireFault>
     Ok(NewEntry { seq, pence })
 }
 
-// The whole number in a body's member of this name.
+/// Reads the member of this name as a whole number of at most 12 digits.
 fn number(alloc: Global, body: &[u8], name: &str) -> Result<u64, WireFault>
     ensures value { GivesPart BadBody result (body_said (number_at name.now) body.now) }
 {
@@ -42,7 +45,7 @@ fn number(alloc: Global, body: &[u8], name: &str) -> Result<u64, WireFault>
     member::number(&value, name).ok_or(WireFault::BadBody)
 }
 
-// The day in a body's member of this name.
+/// Reads the member of this name as a day.
 fn day(alloc: Global, body: &[u8], name: &str) -> Result<RequestDay, WireFault>
     ensures value { GivesPart BadBody result (body_said (day_at name.now) body.now) }
 {
@@ -50,6 +53,7 @@ fn day(alloc: Global, body: &[u8], name: &str) -> Result<RequestDay, WireFault>
     member::day(&value, name).ok_or(WireFault::BadBody)
 }
 
+/// Returns the kind of declaration with this name.
 fn paper_named(word: &str) -> Option<Paper>
     ensures value { result ≡ paper_named word.now }
 {
@@ -60,7 +64,7 @@ fn paper_named(word: &str) -> Option<Paper>
     }
 }
 
-// The kind of declaration that a body names, `sworn` or `written`.
+/// Reads the kind of declaration that a body names: `sworn` or `written`.
 fn paper(alloc: Global, body: &[u8]) -> Result<Paper, WireFault>
     ensures value { GivesPart BadBody result (body_said paper_of body.now) }
 {
@@ -71,6 +75,7 @@ fn paper(alloc: Global, body: &[u8]) -> Result<Paper, WireFault>
     paper_named(word).ok_or(WireFault::BadBody)
 }
 
+/// Returns the decision to confirm a booking if `yes` is true, otherwise to refuse it.
 fn decision_by(yes: bool) -> Decision
     ensures value { result ≡ decision_by yes }
 {
@@ -81,7 +86,7 @@ fn decision_by(yes: bool) -> Decision
     }
 }
 
-// The broker's decision on a booking: `yes` is true to confirm it.
+/// Reads the broker's decision on a booking: the member `yes` is true to confirm it.
 fn decision(alloc: Global, body: &[u8]) -> Result<Decision, WireFault>
     ensures value { GivesPart BadBody result (body_said decision_of body.now) }
 {
@@ -90,7 +95,7 @@ fn decision(alloc: Global, body: &[u8]) -> Result<Decision, WireFault>
     Ok(decision_by(yes))
 }
 
-// The booking that a body asks for.
+/// Reads the booking that a body asks for.
 fn booking(alloc: Global, body: &[u8]) -> Result<NewBooking, WireFault>
     ensures value { GivesPart BadBody result (body_said asked_booking body.now) }
 {
@@ -100,7 +105,7 @@ fn booking(alloc: Global, body: &[u8]) -> Result<NewBooking, WireFault>
     Ok(NewBooking { day, window })
 }
 
-// A command that a broker may send.
+/// Returns the command as one that a broker may send.
 fn by_broker(command: Command) -> BrokerCommand
     requires allowed { is_brokers command ≡ true }
     ensures same { result ≡ command }
@@ -108,7 +113,7 @@ fn by_broker(command: Command) -> BrokerCommand
     BrokerCommand::try_from(command).unwrap()
 }
 
-// A command that the bearer of a receipt may send.
+/// Returns the command as one that the bearer of a receipt may send.
 fn by_bearer(command: Command) -> BearerCommand
     requires allowed { is_bearers command ≡ true }
     ensures same { result ≡ command }
@@ -116,7 +121,7 @@ fn by_bearer(command: Command) -> BearerCommand
     BearerCommand::try_from(command).unwrap()
 }
 
-// The command for a broker's action, with what its body says. `Hold` and `Release` do not look at the body.
+/// Reads the command for a broker's action, with the details in its body. `Hold` and `Release` ignore the body.
 pub(crate) fn brokers_command(
     alloc: Global,
     action: BrokerAction,
@@ -154,7 +159,7 @@ pub(crate) fn brokers_command(
     }
 }
 
-// The command for a bearer's action, with what its body says. `Cancel` does not look at the body.
+/// Reads the command for a bearer's action, with the details in its body. `Cancel` ignores the body.
 pub(crate) fn bearers_command(
     alloc: Global,
     action: BearerAction,

@@ -1,9 +1,10 @@
-//! The fields of a head, by their names.
-ghost use Rattle.{std.specs.Prelude.{All, length}, pawn_wire.specs.Common.IsHeaderWithin};
+//! The fields of a head, looked up by their names.
+ghost use Rattle.pawn_wire.specs.Common.{IsHeaderWithin};
+ghost use Rattle.std.specs.Prelude.{All, length};
 
 use httparse::spans::HeaderSpan;
 
-/// The fields of a head: the head's bytes, and where each name and value is among them.
+/// The fields of a head: the bytes of the head, and the places of each name and value in them.
 #[derive(Drop)]
 pub(crate) struct Fields<'a> {
     pub(crate) bytes: &'a [u8],
@@ -11,7 +12,7 @@ pub(crate) struct Fields<'a> {
     ghost within: { All (IsHeaderWithin (length bytes.now)) spans.now },
 }
 
-/// What a search for the fields of one name found: none, the value of the only one, or several.
+/// The result of a search for the fields with one name: none, the value of the only one, or several.
 #[derive(Clone, Copy, Drop)]
 pub(crate) enum Found<'a> {
     Missing,
@@ -20,13 +21,13 @@ pub(crate) enum Found<'a> {
 }
 
 impl<'a> Fields<'a> {
-    ghost use Rattle.std.specs.Prelude.{◌≡◌, ◌&&◌, length, map, All};
-    ghost use Rattle.std.specs.List.{list_any};
-    ghost use Rattle.std.specs.Str.{str_eq_ignore_ascii_case};
     ghost use Rattle.httparse.specs.Spans.{IsHeaderWithin, header_bytes};
     ghost use Rattle.pawn_wire.specs.Fields.{pairs_of, values_of, IsFound};
+    ghost use Rattle.std.specs.List.{list_any};
+    ghost use Rattle.std.specs.Prelude.{◌≡◌, ◌&&◌, length, map, All};
+    ghost use Rattle.std.specs.Str.{str_eq_ignore_ascii_case};
 
-    /// The fields of a head with these bytes, at these places among them.
+    /// Makes the fields of a head from its bytes and their places in them.
     pub(crate) fn new(bytes: &'a [u8], spans: &'a [HeaderSpan]) -> Fields<'a>
         requires within { All (IsHeaderWithin (length bytes.now)) spans.now }
         ensures pairs { pairs_of result ≡ map (header_bytes bytes.now) spans.now }
@@ -34,7 +35,7 @@ impl<'a> Fields<'a> {
         Fields { bytes, spans }
     }
 
-    // Whether a field has this name, whatever the case of its letters.
+    /// Returns whether a field has this name. The case of letters is ignored.
     pub(crate) fn is_named(&self, field: &HeaderSpan, name: &[u8]) -> bool
         requires within { IsHeaderWithin (length self.now.bytes.now) field.now }
         ensures value { result ≡ str_eq_ignore_ascii_case (header_bytes self.now.bytes.now field.now).0 name.now }
@@ -42,7 +43,7 @@ impl<'a> Fields<'a> {
         field.name.of(self.bytes).eq_ignore_ascii_case(name)
     }
 
-    // Looks for the fields with this name, whatever the case of its letters.
+    /// Searches for the fields with this name. The case of letters is ignored.
     pub(crate) fn find(&self, name: &[u8]) -> Found<'a>
         ensures found { IsFound (values_of name.now (pairs_of self.now)) result }
     {
@@ -58,7 +59,7 @@ impl<'a> Fields<'a> {
         found
     }
 
-    // How many fields have this name.
+    /// Returns how many fields have this name.
     pub(crate) fn count(&self, name: &[u8]) -> usize
         ensures value { result ≡ length (values_of name.now (pairs_of self.now)) }
     {
@@ -71,7 +72,7 @@ impl<'a> Fields<'a> {
         count
     }
 
-    // Whether a field has this name and this value, whatever the case of their letters.
+    /// Returns whether a field has this name and this value. The case of letters is ignored.
     fn is_pair(&self, field: &HeaderSpan, name: &[u8], value: &[u8]) -> bool
         requires within { IsHeaderWithin (length self.now.bytes.now) field.now }
         ensures value { result ≡ (str_eq_ignore_ascii_case (header_bytes self.now.bytes.now field.now).0 name.now
@@ -80,7 +81,7 @@ impl<'a> Fields<'a> {
         self.is_named(field, name) && field.value.of(self.bytes).eq_ignore_ascii_case(value)
     }
 
-    // Whether some field has this name and this value.
+    /// Returns whether some field has this name and this value. The case of letters is ignored.
     pub(crate) fn has_value(&self, name: &[u8], value: &[u8]) -> bool
         ensures value { result ≡ list_any (λ v. str_eq_ignore_ascii_case v value.now) (values_of name.now (pairs_of self.now)) }
     {

@@ -1,4 +1,4 @@
-//! The requests of the HTTP interface, from bytes.
+//! Reads the requests of the HTTP interface from bytes.
 #![tactic(auto)]
 
 mod body;
@@ -18,8 +18,8 @@ mod router;
 mod worked;
 
 pub use head::{HeadFacts, HeadRead, read_head};
-pub use laws::{laws_of_readings, laws_of_targets};
-pub use limits::MAX_HEAD;
+pub use laws::{laws_of_readings, targets_have_one_spelling};
+pub use limits::MOST_HEAD;
 pub use pawn_book::{
     Article, BearerCommand, BearerRequest, Booking, BookingState, BrokerCommand, BrokerRequest,
     Caller, Capacity, Day, Decision, Entry, Kind, Name, NewBook, NewTerms, Number, Opening, Paper,

@@ -1,15 +1,18 @@
-//! JSON bodies and their members.
+//! Reads JSON bodies and their members. A member that is missing or malformed reads as `None`.
+ghost use Rattle.pawn_wire.specs.Chain.{GivesPart};
+ghost use Rattle.pawn_wire.specs.Member.{JsonOf, day_at, flag_at, key_at, number_at, string_at, text_at};
+ghost use Rattle.pawn_wire.specs.Named.{day_said};
+ghost use Rattle.pawn_wire.specs.Types.{BadBody};
+ghost use Rattle.serde_json.specs.View.{view};
 ghost use Rattle.std.specs.Prelude.{◌≡◌, option_copied};
-ghost use Rattle.{serde_json.specs.View.view, pawn_wire.specs.{Types.BadBody, Chain.GivesPart, Member.{JsonOf, day_at, flag_at, key_at, number_at, string_at}}};
-ghost use Rattle.pawn_wire.specs.{Member.text_at, Named.day_said};
 
-use crate::limits::MAX_NUMBER;
+use crate::limits::MOST_NUMERAL;
 use pawn_book::{Day, RequestDay, Secret, Text};
 use pawn_reply::WireFault;
 use serde_json::Value;
 use std::alloc::Global;
 
-// Reads a body as JSON. `BadBody` if it is not.
+/// Parses a body as JSON. Fails with `BadBody` if it is not JSON.
 pub(crate) fn json(alloc: Global, body: &[u8]) -> Result<Value, WireFault>
     ensures value { JsonOf body.now result }
 {
@@ -25,31 +28,31 @@ pub(crate) fn json(alloc: Global, body: &[u8]) -> Result<Value, WireFault>
     }
 }
 
-// The member of this name as a whole number of at most 12 digits.
+/// Reads the member of this name as a whole number of at most 12 digits.
 pub(crate) fn number(body: &Value, name: &str) -> Option<u64>
     ensures value { result ≡ number_at name.now (view body.now) }
 {
     match body.get(name).and_then(Value::as_u64) {
-        Some(n) if n <= MAX_NUMBER => Some(n),
+        Some(n) if n <= MOST_NUMERAL => Some(n),
         _ => None,
     }
 }
 
-// The member of this name as a text of any length.
+/// Reads the member of this name as a text of any length.
 pub(crate) fn string<'v>(body: &'v Value, name: &str) -> Option<&'v str>
     ensures value { option_copied result ≡ string_at name.now (view body.now) }
 {
     body.get(name).and_then(Value::as_str)
 }
 
-// The member of this name as true or false.
+/// Reads the member of this name as a boolean.
 pub(crate) fn flag(body: &Value, name: &str) -> Option<bool>
     ensures value { result ≡ flag_at name.now (view body.now) }
 {
     body.get(name).and_then(Value::as_bool)
 }
 
-// The member of this name as a text of 1 to `MOST` bytes, none of them a control character.
+/// Reads the member of this name as a text of 1 to `MOST` bytes without control characters.
 pub(crate) fn text<const MOST: usize>(
     alloc: Global,
     body: &Value,
@@ -63,7 +66,7 @@ pub(crate) fn text<const MOST: usize>(
     Text::of_str(alloc, text)?.ok_or(WireFault::BadBody)
 }
 
-// The member of this name as a key.
+/// Reads the member of this name as a key.
 pub(crate) fn key(body: &Value, name: &str) -> Option<Secret>
     ensures value { result ≡ key_at name.now (view body.now) }
 {
@@ -73,7 +76,7 @@ pub(crate) fn key(body: &Value, name: &str) -> Option<Secret>
     }
 }
 
-// The day that a text as `2024-01-31` names, if a request may name it.
+/// Returns the day that a text such as `2024-01-31` names, if a request may name it.
 pub(crate) fn day_said(text: &str) -> Option<RequestDay>
     ensures value { result ≡ day_said text.now }
 {
@@ -83,7 +86,7 @@ pub(crate) fn day_said(text: &str) -> Option<RequestDay>
     }
 }
 
-// The member of this name as a day.
+/// Reads the member of this name as a day.
 pub(crate) fn day(body: &Value, name: &str) -> Option<RequestDay>
     ensures value { result ≡ day_at name.now (view body.now) }
 {

@@ -1,6 +1,7 @@
-//! What targets ask for.
+//! What is asked by the target of a request.
+ghost use Rattle.pawn_wire.specs.Named.{number_said};
+ghost use Rattle.pawn_wire.specs.Place.{is_ascii_text, method_of, place_of, target_said};
 ghost use Rattle.std.specs.Prelude.{◌≡◌, bytes_eq, option_copied};
-ghost use Rattle.pawn_wire.specs.{Place.{is_ascii_text, method_of, place_of, target_said}, Named.number_said};
 
 use crate::member;
 use crate::route::{BearerAction, BrokerAction, Endpoint};
@@ -9,33 +10,33 @@ use http::Method;
 use pawn_book::{Number, RequestDay};
 use std::str::from_utf8;
 
-/// What a target asks of its book, with the pledge or the day that it names.
+/// What is asked of a book, with the pledge or the day that the target names.
 #[derive(Clone, Copy)]
 pub(crate) enum Target {
-    /// To make the book.
+    /// Make the book.
     Create,
-    /// To put terms into it.
+    /// Put terms into it.
     PutTerms,
-    /// To take a pledge into it.
+    /// Take a pledge into it.
     TakePledge,
-    /// To show the pledge of this number.
+    /// Show the pledge of this number.
     Show(Number),
-    /// To command the pledge of this number.
+    /// Apply a broker's command to the pledge of this number.
     OnPledge(Number, BrokerAction),
-    /// To show this day.
+    /// Show the sheet of this day.
     ShowDay(RequestDay),
-    /// To have its rows as a text.
+    /// Export its rows as text.
     Export,
-    /// To fill it with the rows of a text.
+    /// Import the rows of a text into it.
     Import,
-    /// To show the pledges of receipts.
+    /// Show the pledges of receipts.
     Present,
-    /// To command the pledge of a receipt.
+    /// Apply a bearer's command to the pledge of a receipt.
     OnReceipt(BearerAction),
 }
 
 impl Target {
-    // The one method that the target takes.
+    /// Returns the only method that the target accepts.
     fn method(self) -> Method
         ensures value { result ≡ method_of self }
     {
@@ -53,7 +54,7 @@ impl Target {
         }
     }
 
-    // Whether this is the method that the target takes.
+    /// Returns whether the target accepts this method.
     pub(crate) fn takes(self, method: &[u8]) -> bool
         ensures value { result ≡ bytes_eq (method_of self) method.now }
     {
@@ -69,20 +70,22 @@ pub(crate) struct Place {
     pub target: Target,
 }
 
+/// Returns whether the text is ASCII.
 fn is_ascii_text(text: &[u8]) -> bool
     ensures value { result ≡ is_ascii_text text.now }
 {
     text.iter().all(|b| *b < 128)
 }
 
-// The number of a book or a pledge that a text writes, in its only spelling: no sign, no leading zero.
+/// Returns the number of a book or a pledge that a text writes in its only spelling: without a sign or leading zeros.
+/// `None` for any other text.
 fn number_said(text: &str) -> Option<Number>
     ensures value { result ≡ number_said text.now }
 {
     Number::of_text(text.as_bytes())
 }
 
-// What is asked at an endpoint, with the pledge or the day that the second part of a target names.
+/// Returns what is asked at an endpoint. `item` is the part of the target that names the pledge or the day.
 fn target_said(endpoint: Endpoint, item: Option<&str>) -> Option<Target>
     ensures value { result ≡ target_said endpoint (option_copied item.entry) }
 {
@@ -100,7 +103,7 @@ fn target_said(endpoint: Endpoint, item: Option<&str>) -> Option<Target>
     }
 }
 
-// What a target asks for. `None` if the service has no such target.
+/// Returns what a target asks for. `None` if the service has no such target.
 pub(crate) fn place_of(router: &Router, target: &[u8]) -> Option<Place>
     ensures value { result ≡ place_of target.now }
 {

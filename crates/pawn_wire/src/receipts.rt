@@ -1,16 +1,19 @@
-//! Receipts that fields present.
-ghost use Rattle.std.specs.Prelude.{◌≡◌, ◌⊎◌, Some, None, MatchResult};
-ghost use Rattle.pawn_wire.specs.{Types.{BadReceipt, Memory}, Chain.Says, Receipts.{all_said, one_said, receipt_said, receipt_values, receipts_said}};
+//! Reads the receipts that the fields of a head present.
+ghost use Rattle.pawn_wire.specs.Chain.{Says};
 ghost use Rattle.pawn_wire.specs.Fields.{pairs_of};
+ghost use Rattle.pawn_wire.specs.Receipts.{all_said, one_said, receipt_said, receipt_values, receipts_said};
+ghost use Rattle.pawn_wire.specs.Types.{BadReceipt, Memory};
+ghost use Rattle.std.specs.Prelude.{◌≡◌, ◌⊎◌, Some, None, MatchResult};
 
 use crate::fields::{Fields, Found};
 use pawn_book::{MOST_RECEIPTS, Receipt, Receipts};
 use pawn_reply::WireFault;
 use std::alloc::Global;
 
+/// The name of the field that presents a receipt, in lower case.
 const FIELD: &[u8] = b"pledge-receipt";
 
-// The receipt that a text writes: a number, a hyphen and a secret.
+/// Returns the receipt that a text writes: a number, a hyphen and a secret.
 fn receipt_of(text: &[u8]) -> Option<Receipt>
     ensures value { result ≡ receipt_said text.now }
 {
@@ -20,7 +23,7 @@ fn receipt_of(text: &[u8]) -> Option<Receipt>
     }
 }
 
-// The receipts in the fields `Pledge-Receipt`. `BadReceipt` if one is malformed.
+/// Returns the receipts in the fields `Pledge-Receipt`. Fails with `BadReceipt` if one is malformed.
 fn collect(alloc: Global, fields: &Fields<'_>) -> Result<Vec<Receipt>, WireFault>
     ensures all { MatchResult result (λ v. all_said (receipt_values (pairs_of fields.now)) ≡ Some v.items)
         (λ e. (e ≡ Memory) ⊎ ((e ≡ BadReceipt) × (all_said (receipt_values (pairs_of fields.now)) ≡ None))) }
@@ -37,7 +40,8 @@ fn collect(alloc: Global, fields: &Fields<'_>) -> Result<Vec<Receipt>, WireFault
     Ok(receipts)
 }
 
-// The 1 to 32 receipts that the fields present. `NoReceipt` if there is none, and `TooManyReceipts` if there are more.
+/// Returns the 1 to 32 receipts that the fields present. Fails with `NoReceipt` if there is none, and with
+/// `TooManyReceipts` if there are more.
 pub(crate) fn receipts(alloc: Global, fields: &Fields<'_>) -> Result<Receipts, WireFault>
     ensures value { Says result (receipts_said (receipt_values (pairs_of fields.now))) }
 {
@@ -52,7 +56,8 @@ pub(crate) fn receipts(alloc: Global, fields: &Fields<'_>) -> Result<Receipts, W
     Receipts::new(receipts).ok_or(WireFault::BadReceipt)
 }
 
-// The one receipt that the fields present. `NoReceipt` if there is none, and `TooManyReceipts` if there are several.
+/// Returns the only receipt that the fields present. Fails with `NoReceipt` if there is none, and with
+/// `TooManyReceipts` if there are several.
 pub(crate) fn one(fields: &Fields<'_>) -> Result<Receipt, WireFault>
     ensures value { result ≡ one_said (receipt_values (pairs_of fields.now)) }
 {

@@ -1,12 +1,14 @@
-//! Requests from bytes.
-ghost use Rattle.std.specs.Prelude.{◌≡◌};
-ghost use Rattle.pawn_wire.specs.{Common.{Broker, Import}, Request.{HoldsRows, IsAsked, IsOutlined, IsRequestRead, outline_by}, Chain.{OrMemory, Says}};
+//! Reads bytes as requests.
+ghost use Rattle.pawn_wire.specs.Chain.{OrMemory, Says};
+ghost use Rattle.pawn_wire.specs.Common.{Broker, Import};
 ghost use Rattle.pawn_wire.specs.Fields.{pairs_of};
+ghost use Rattle.pawn_wire.specs.Request.{HoldsRows, IsAsked, IsOutlined, IsRequestRead, outline_by};
+ghost use Rattle.std.specs.Prelude.{◌≡◌};
 
 use crate::callers::{Asks, Sent, who_asks};
 use crate::fields::Fields;
 use crate::head::body_length;
-use crate::limits::{MAX_FIELDS, MAX_HEAD};
+use crate::limits::{MOST_FIELDS, MOST_HEAD};
 use crate::place::place_of;
 use crate::router::Router;
 use httparse::Status;
@@ -16,14 +18,14 @@ use pawn_csv::{ReplayableRows, read_book};
 use pawn_reply::WireFault;
 use std::alloc::Global;
 
-/// A request as read so far: its book, and who asks what. The rows of an import are still to be read.
+/// A request as read so far: its book, the caller and what is asked. The rows of an import are not read yet.
 #[derive(Drop)]
 struct Outline {
     book: Number,
     asks: Asks,
 }
 
-// Reads a request from the parts of a head and a body, except for the rows of an import.
+/// Reads a request from the parts of a head and a body, except for the rows of an import.
 fn outline_by(
     alloc: Global,
     router: &Router,
@@ -50,7 +52,7 @@ fn outline_by(
     })
 }
 
-// The rows of the book that a body holds as a text.
+/// Returns the rows of the book that a body holds as comma-separated text.
 fn rows(alloc: Global, body: &[u8]) -> Result<ReplayableRows, WireFault>
     ensures rows { OrMemory (HoldsRows body.now) result }
 {
@@ -60,7 +62,7 @@ fn rows(alloc: Global, body: &[u8]) -> Result<ReplayableRows, WireFault>
     }
 }
 
-// A broker, who fills a book with these rows.
+/// Returns the broker who asks to fill a book with these rows.
 fn filling(key: Secret, importing: Secret, rows: ReplayableRows) -> Caller
     ensures value { result ≡ Broker key (Import importing rows) }
 {
@@ -71,7 +73,7 @@ fn filling(key: Secret, importing: Secret, rows: ReplayableRows) -> Caller
     Caller::Broker { key, asked }
 }
 
-// Completes an outline to a request. An import gets the rows that the body holds.
+/// Completes an outline to a request. An import gets the rows that the body holds.
 fn request_of(alloc: Global, outline: Outline, body: &[u8]) -> Result<Request, WireFault>
     ensures value { OrMemory (IsAsked body.now outline.book outline.asks) result }
 {
@@ -83,7 +85,7 @@ fn request_of(alloc: Global, outline: Outline, body: &[u8]) -> Result<Request, W
     Ok(Request { book, caller })
 }
 
-// Reads a whole request from the parts of a head and a body.
+/// Reads a whole request from the parts of a head and a body.
 fn request_by(
     alloc: Global,
     router: &Router,
@@ -97,13 +99,13 @@ fn request_by(
     request_of(alloc, outline, sent.body)
 }
 
-/// Reads bytes as one whole request, with nothing after it. The error is the first fault that applies, as `WireFault`
-/// says, or `Memory`. If the request takes no body, a body's content is not looked at.
+/// Reads bytes as one whole request with nothing after it. The error is the first fault that applies, in the order that
+/// `WireFault` describes, or `Memory`. If the request takes no body, the content of the body is not checked.
 pub fn read_request(alloc: Global, router: &Router, bytes: &[u8]) -> Result<Request, WireFault>
     ensures read { IsRequestRead bytes.now result }
 {
-    let front = &bytes[..bytes.len().min(MAX_HEAD)];
-    let mut spans = [EMPTY_HEADER_SPAN; MAX_FIELDS];
+    let front = &bytes[..bytes.len().min(MOST_HEAD)];
+    let mut spans = [EMPTY_HEADER_SPAN; MOST_FIELDS];
     match parse_request(front, &mut spans) {
         Ok(Status::Complete(head)) => {
             let fields = Fields::new(front, &spans[..head.headers]);

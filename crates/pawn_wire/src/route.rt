@@ -1,49 +1,61 @@
-//! The targets of the service, and what they ask for.
+//! The targets of the service, and what is asked at each.
 
-/// What targets of one form ask for.
+/// What is asked by all targets of one form.
 #[derive(Clone, Copy)]
 pub enum Endpoint {
-    /// To make a book.
+    /// Make a book.
     Create,
-    /// To put terms into a book.
+    /// Put terms into a book.
     PutTerms,
-    /// To take a pledge into a book.
+    /// Take a pledge into a book.
     TakePledge,
-    /// To show a pledge of a book.
+    /// Show a pledge of a book.
     Show,
-    /// To command a pledge of a book.
+    /// Apply a broker's command to a pledge of a book.
     OnPledge(BrokerAction),
-    /// To show a day of a book.
+    /// Show the sheet of a day.
     ShowDay,
-    /// To have the rows of a book as a text.
+    /// Export the rows of a book as text.
     Export,
-    /// To fill a book with the rows of a text.
+    /// Import the rows of a text into a book.
     Import,
-    /// To show the pledges of receipts.
+    /// Show the pledges of receipts.
     Present,
-    /// To command the pledge of a receipt.
+    /// Apply a bearer's command to the pledge of a receipt.
     OnReceipt(BearerAction),
 }
 
-/// What a broker commands of a pledge.
+/// The commands that a broker may send for a pledge.
 #[derive(Clone, Copy)]
 pub enum BrokerAction {
+    /// Enter a drawing.
     Draw,
+    /// Enter a repayment.
     Repay,
+    /// Put the pledge on hold.
     Hold,
+    /// End the hold.
     Release,
+    /// Tender a declaration that the receipt was lost.
     Declare,
+    /// Confirm or refuse a booking.
     Decide,
+    /// Sell the article.
     Sell,
+    /// Extend the period.
     Extend,
 }
 
-/// What a bearer commands of the pledge of a receipt.
+/// The commands that a bearer may send for the pledge of a receipt.
 #[derive(Clone, Copy)]
 pub enum BearerAction {
+    /// Enter a repayment.
     Repay,
+    /// Ask for a booking.
     Ask,
+    /// Cancel a booking.
     Cancel,
+    /// Redeem the pledge.
     Redeem,
 }
 

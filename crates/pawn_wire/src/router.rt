@@ -1,13 +1,14 @@
 //! The service's routes.
+ghost use Rattle.pawn_wire.specs.Common.{IsAscii, walk};
+ghost use Rattle.pawn_wire.specs.Route.{with_routes, plain};
 ghost use Rattle.std.specs.Prelude.{◌≡◌, Some, None, OnOk, map, option_copied, slice_get};
-ghost use Rattle.pawn_wire.specs.{Common.{IsAscii, walk}, Route.{with_routes, plain}};
 
 use crate::route::{Endpoint, ROUTES};
 use matchit::{InsertError, Params, Router as Matcher};
 use std::alloc::{AllocError, Global};
 use std::marker::Model;
 
-/// An endpoint, and the texts in a target for its book and for its pledge or day.
+/// An endpoint, and the parts of a target that name its book and its pledge or day.
 #[derive(Clone, Copy, Drop)]
 pub(crate) struct Asked<'p> {
     pub endpoint: Endpoint,
@@ -15,7 +16,7 @@ pub(crate) struct Asked<'p> {
     pub item: Option<&'p str>,
 }
 
-/// The service's routes, made once and used for each request. To a contract a router is its rows, which are always
+/// The service's routes. It is made once and used for each request. In contracts a router is its rows, which are always
 /// those of the service's table.
 #[derive(Drop)]
 pub struct Router {
@@ -23,8 +24,8 @@ pub struct Router {
 }
 
 impl Model for Router {
-    ghost use Rattle.std.specs.Prelude.{◌≡◌};
     ghost use Rattle.pawn_wire.specs.Route.{Rows, table_rows};
+    ghost use Rattle.std.specs.Prelude.{◌≡◌};
 
     ghost Value = { Rows };
 
@@ -34,11 +35,11 @@ impl Model for Router {
 }
 
 impl Router {
-    ghost use Rattle.std.specs.Prelude.{◌≡◌, IfOk, option_map};
-    ghost use Rattle.pawn_wire.specs.Route.{table_rows, route_of};
     ghost use Rattle.pawn_wire.specs.Asked.{endpoint_and_texts};
+    ghost use Rattle.pawn_wire.specs.Route.{table_rows, route_of};
+    ghost use Rattle.std.specs.Prelude.{◌≡◌, IfOk, option_map};
 
-    /// Makes the routes of the service's table. Fails only if memory is refused.
+    /// Makes the routes of the service's table. Fails only if memory runs out.
     pub fn new(alloc: Global) -> Result<Router, AllocError>
         ensures table { IfOk result (λ r. r ≡ table_rows) }
     {
@@ -49,7 +50,8 @@ impl Router {
         }
     }
 
-    // The endpoint of a target, and the texts that it has for its book and for its pledge or day.
+    /// Returns the endpoint of a target, with the parts of the target that name its book and its pledge or day. `None`
+    /// if no route matches.
     pub(crate) fn find<'p>(&self, target: &'p str) -> Option<Asked<'p>>
         requires ascii { IsAscii target.now }
         ensures value { option_map endpoint_and_texts result ≡ route_of target.now }
@@ -68,7 +70,7 @@ impl Router {
     }
 }
 
-// The texts of the first two names in braces.
+/// Returns the texts that match the first two names in braces.
 fn first_two<'v>(params: &Params<'_, 'v>) -> (Option<&'v str>, Option<&'v str>)
     requires ascii { IsAscii params.now.path.now }
     ensures first { option_copied result.0 ≡ slice_get
@@ -86,7 +88,7 @@ fn first_two<'v>(params: &Params<'_, 'v>) -> (Option<&'v str>, Option<&'v str>)
     (Some(first), Some(second))
 }
 
-// Adds the routes of a table, in order.
+/// Adds the routes of a table, in order.
 fn add_all(routes: &mut Matcher<Endpoint>, table: &[(&str, Endpoint)]) -> Result<(), InsertError>
     ensures rows { OnOk result (routes.new ≡ with_routes (map plain table.now) routes.old) }
 {

@@ -1,6 +1,8 @@
-ghost use Rattle.pawn_wire.specs.{WorkedHeads.{WorkedHeads, WorkedLengths, WorkedConnections}, WorkedRequests.{WorkedLimits, WorkedTargets, WorkedNoTargets}};
-ghost use Rattle.pawn_wire.specs.WorkedRequests.{WorkedPathNumbers, WorkedDayTexts, WorkedKeys, WorkedReceiptLists, WorkedBodies, WorkedCommands, WorkedOrder};
-ghost use Rattle.pawn_wire.specs.WorkedRequests.{WorkedRequests};
+//! Worked examples of requests and of their parts, as proved tests.
+ghost use Rattle.pawn_wire.specs.WorkedHeads.{WorkedHeads, WorkedLengths, WorkedConnections};
+ghost use Rattle.pawn_wire.specs.WorkedRequests.{WorkedLimits, WorkedTargets, WorkedNoTargets, WorkedPathNumbers};
+ghost use Rattle.pawn_wire.specs.WorkedRequests.{WorkedDayTexts, WorkedKeys, WorkedReceiptLists, WorkedBodies};
+ghost use Rattle.pawn_wire.specs.WorkedRequests.{WorkedCommands, WorkedOrder, WorkedRequests};
 
 /// Examples of heads, of their bodies' lengths, and of connections that close.
 pub fn worked_heads()
@@ -14,7 +16,7 @@ pub fn worked_limits()
     ensures limits { WorkedLimits }
 {}
 
-/// Examples of targets and what they ask for.
+/// Examples of targets and of what is asked at them.
 pub fn worked_targets()
     ensures targets { WorkedTargets }
     ensures none { WorkedNoTargets }
@@ -38,7 +40,7 @@ pub fn worked_bodies()
     ensures commands { WorkedCommands }
 {}
 
-/// Examples of whole requests, and of which fault comes first if there are several.
+/// Examples of whole requests, and of which of several faults is reported first.
 pub fn worked_requests()
     ensures requests { WorkedRequests }
     ensures order { WorkedOrder }

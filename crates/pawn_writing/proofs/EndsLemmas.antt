@@ -1,7 +1,12 @@
 -- Lemmas on what is written in several writes.
-use Rattle.std.proofs.{Common.{◌≡◌, ℕ, ◌+◌, ◌-◌, Bool, false, List, [], ◌∷◌, length, take, drop, Option, Ok, subst, sym, arith, ◌||◌}, KnownBytes.Appends-trans}
-use Rattle.std.{proofs.{lemmas.{Bool.Decides.nat_tests, List.take_rest}, Math.Seq.take-add}, specs.Io.KnownBytes.Appends}
 use Rattle.pawn_writing.specs.Ends.{is_write_failure}
+use Rattle.std.proofs.Common.{◌≡◌, ℕ, ◌+◌, ◌-◌, Bool, false, List, [], ◌∷◌, length, take, drop, Option, Ok, subst, sym}
+use Rattle.std.proofs.Common.{arith, ◌||◌}
+use Rattle.std.proofs.KnownBytes.{Appends-trans}
+use Rattle.std.proofs.Math.Seq.{take-add}
+use Rattle.std.proofs.lemmas.Bool.Decides.{nat_tests}
+use Rattle.std.proofs.lemmas.List.{take_rest}
+use Rattle.std.specs.Io.KnownBytes.{Appends}
 
 -- a write of the rest goes on where the writes before it stopped
 pub sent_more : (a b c : Option (List ℕ)) (xs : List ℕ) (s n : ℕ) → Appends a b (take s xs) → Appends b c (take n (take (length xs - s) (drop s xs)))

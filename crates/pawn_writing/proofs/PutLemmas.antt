@@ -1,9 +1,17 @@
 -- Texts put one after the other.
-use Rattle.std.{specs.{Io.KnownBytes.Appends, List.flat_map}, proofs.{KnownBytes.{Appends-nil, Appends-trans}, Common.{append-nil, eqb-true, take-append-drop}}}
-use Rattle.std.proofs.Common.{◌<◌, ◌≤◌, ◌+◌, nat_eq, length, take, drop, get_or, arith, ◌≡◌, ◌∙◌, ℕ, Bool, true, false, List, [], ◌∷◌, ◌++◌, Option, refl, sym}
-use Rattle.std.proofs.{Common.{inl, inr, ap, subst, append_assoc}, lemmas.{Bool.{cases_Bool, Decides.nat_tests}, Grind.{common_steps, flat_map-append}}}
-use Rattle.{std.proofs.lemmas.List.take_more, pawn_book.specs.Visits.{End, Front, Whole}, pawn_writing.specs.Ends.{write_failed, written_bytes, end_by}}
-use Rattle.pawn_writing.specs.{Ends.{PutFront, Written, Puts}, declared.writing.Writing.Writing}
+use Rattle.pawn_book.specs.Visits.{End, Front, Whole}
+use Rattle.pawn_writing.specs.Ends.{write_failed, written_bytes, end_by, PutFront, Written, Puts}
+use Rattle.pawn_writing.specs.declared.writing.Writing.{Writing}
+use Rattle.std.proofs.Common.{append-nil, eqb-true, take-append-drop, ◌<◌, ◌≤◌, ◌+◌, nat_eq, length, take, drop, get_or}
+use Rattle.std.proofs.Common.{arith, ◌≡◌, ◌∙◌, ℕ, Bool, true, false, List, [], ◌∷◌, ◌++◌, Option, refl, sym, inl, inr}
+use Rattle.std.proofs.Common.{ap, subst, append_assoc}
+use Rattle.std.proofs.KnownBytes.{Appends-nil, Appends-trans}
+use Rattle.std.proofs.lemmas.Bool.{cases_Bool}
+use Rattle.std.proofs.lemmas.Bool.Decides.{nat_tests}
+use Rattle.std.proofs.lemmas.Grind.{common_steps, flat_map-append}
+use Rattle.std.proofs.lemmas.List.{take_more}
+use Rattle.std.specs.Io.KnownBytes.{Appends}
+use Rattle.std.specs.List.{flat_map}
 
 -- a whole text, and then as much of another
 put-then : {W : Type 0} (contents : W → Option (List ℕ)) (a b c : Writing W) (s t : List ℕ) (end : End)
@@ -16,7 +24,7 @@ put-then contents a b c s t Front first ((out, rest, whole, appends), failed) =
 pub front-more : {W : Type 0} (contents : W → Option (List ℕ)) (a b : Writing W) (s t : List ℕ) → PutFront contents a s b → PutFront contents a (s ++ t) b
 front-more contents a b s t (out, rest, whole, appends) = (out, rest ++ t, sym (append_assoc out rest t) ∙ ap (λ x. x ++ t) whole, appends)
 
--- whether it failed now says how much of the text went out
+-- whether the writer has failed determines how much of the text was written
 pub by_now : {W : Type 0} (contents : W → Option (List ℕ)) (a b : Writing W) (text : List ℕ) (failed : Bool) → write_failed b ≡ failed
     → Written contents a text (end_by failed) b → Written contents a text (end_by (write_failed b)) b
 by_now contents a b text failed is written = subst (λ (v : Bool). Written contents a text (end_by v) b) (sym is) written

@@ -1,10 +1,17 @@
 -- Texts that are put line by line, in as many calls as it takes.
-use Rattle.std.proofs.Common.{◌≡◌, ◌∙◌, ℕ, Bool, true, false, List, [], ◌∷◌, ◌++◌, Option, refl, sym, ap, subst, inl, inr, append_assoc, if◌then◌else◌}
-use Rattle.{std.{proofs.{Common.append-nil, lemmas.{Bool.cases_Bool, Grind.flat_map-append}}, specs.List.flat_map}, pawn_book.specs.Visits.{End, Front, Handed}}
-use Rattle.{pawn_book.specs.{Visits.{IsShare, Whole}, declared.visit.Flow.{Flow, TheVariants.{Go, Stop}}}, pawn_writing.specs.declared.writing.Writing.Writing}
-use Rattle.pawn_writing.{specs.Ends.{write_failed, Puts, Share, PutsLine, PutsShare}, proofs.PutLemmas.{puts_nil, puts_then}}
+use Rattle.pawn_book.specs.Visits.{End, Front, Handed, IsShare, Whole}
+use Rattle.pawn_book.specs.declared.visit.Flow.{Flow}
+use Rattle.pawn_book.specs.declared.visit.Flow.TheVariants.{Go, Stop}
+use Rattle.pawn_writing.proofs.PutLemmas.{puts_nil, puts_then}
+use Rattle.pawn_writing.specs.Ends.{write_failed, Puts, Share, PutsLine, PutsShare}
+use Rattle.pawn_writing.specs.declared.writing.Writing.{Writing}
+use Rattle.std.proofs.Common.{◌≡◌, ◌∙◌, ℕ, Bool, true, false, List, [], ◌∷◌, ◌++◌, Option, refl, sym, ap, subst, inl}
+use Rattle.std.proofs.Common.{inr, append_assoc, if◌then◌else◌, append-nil}
+use Rattle.std.proofs.lemmas.Bool.{cases_Bool}
+use Rattle.std.proofs.lemmas.Grind.{flat_map-append}
+use Rattle.std.specs.List.{flat_map}
 
--- the lines of what was handed were put
+-- the lines of the items that were passed were written
 lines_put : {W T : Type 0} (contents : W → Option (List ℕ)) (line : T → List ℕ) (v w : Writing W) (xs : List T) (flow : Flow)
     → Handed (PutsLine contents line) v xs flow w → Puts contents v (flat_map line xs) w
 lines_put contents line v w [] flow handed = subst (λ (u : Writing _). Puts contents v [] u) handed.1 (puts_nil contents v)
@@ -23,7 +30,7 @@ never_stopped contents line v w (x ∷ xs) flow handed fine = elim handed [
   | inr stopped ↦ stopped.0 ∙ stopped.2.1 ∙ ap (λ (b : Bool). if b then Stop else Go) fine
 ]
 
--- what was put of the lines of a list that was handed out
+-- which lines were written of a list whose items were passed to the visitor
 pub lines_share : {W T : Type 0} (contents : W → Option (List ℕ)) (line : T → List ℕ) (v w : Writing W) (given items : List T) (flow : Flow) (end : End)
     → Handed (PutsLine contents line) v given flow w → IsShare given flow end items → PutsShare contents v (flat_map line items) end w
 lines_share contents line v w given items flow end handed (left, whole, all) = (
@@ -49,7 +56,7 @@ pub share_puts : {S : Type 0} {Puts : S → List ℕ → S → Type 0} {has_ende
     → Share Puts has_ended a s Whole b
 share_puts {s = s} turn puts = (s, [], append-nil s, puts, λ fine done. refl)
 
--- a text that was cut, and what would have come behind it
+-- a text that was cut is also a prefix of a longer text
 pub share_more : {S : Type 0} {Puts : S → List ℕ → S → Type 0} {has_ended : S → Bool} {a b : S} {s : List ℕ} → PutsInTurn Puts has_ended → (t : List ℕ)
     → Share Puts has_ended a s Front b → Share Puts has_ended a (s ++ t) Front b
 share_more turn t (out, rest, whole, puts, all) = (out, rest ++ t, sym (append_assoc out rest t) ∙ ap (λ (x : List ℕ). x ++ t) whole, puts, λ fine done. cc)

@@ -1,18 +1,20 @@
--- How writing a text ends: whole, or with which fault.
+-- How writing a text ends: completely, or with which fault.
+use Rattle.pawn_book.specs.Keeping.{Keeping}
+use Rattle.pawn_book.specs.declared.fault.KeepError.{KeepError}
+use Rattle.pawn_writing.specs.declared.fault.ViewFault.{ViewFault}
 use Rattle.std.specs.Prelude.{◌≡◌, Bool, true, false, Result, Ok, Err}
-use Rattle.{pawn_book.specs.{Keeping.Keeping, declared.fault.KeepError.KeepError}, pawn_writing.specs.declared.fault.ViewFault.ViewFault}
 
 -- the fault when the keeper does not answer
 abbrev pub view_fault : KeepError → ViewFault
 view_fault KeepError.Memory = ViewFault.Memory
 view_fault (KeepError.Store why) = ViewFault.Store
 
--- how a text ends, by the keeper's last answer and by whether the writer failed
+-- how a text ends: it depends on the keeper's last answer, and on whether the writer failed
 abbrev pub ending_of : Result (Unit {0}) KeepError → Bool → Result (Unit {0}) ViewFault
 ending_of done true = Err ViewFault.Write
 ending_of (Ok u) false = Ok u
 ending_of (Err error) false = Err (view_fault error)
 
--- over a steady keeper no text is refused by a fault of the store
+-- over a steady keeper no text fails with `Store`
 abbrev pub IsQuietView : {K U : Type 0} → Keeping K → K → Result U ViewFault → Type 0
 IsQuietView k old result = k.steady old → result ≡ Err ViewFault.Store → ⊥

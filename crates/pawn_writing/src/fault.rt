@@ -1,18 +1,19 @@
-ghost use Rattle.std.specs.Prelude.{◌≡◌};
+//! The faults of a text that was not written completely.
 ghost use Rattle.pawn_writing.specs.Fault.{view_fault};
+ghost use Rattle.std.specs.Prelude.{◌≡◌};
 
 use pawn_book::KeepError;
 
-/// Why a text was not written whole.
+/// Why a text was not written completely.
 #[derive(Clone, Copy, Debug, PartialEq, Eq)]
 pub enum ViewFault {
-    /// There is no such book or pledge, or none of the receipts is live; nothing was written.
+    /// There is no such book or pledge, or none of the receipts is live. Nothing was written.
     Unknown,
-    /// Memory was refused. Only the beginning of the text was written, or nothing.
+    /// Memory ran out. A prefix of the text was written, possibly none of it.
     Memory,
-    /// The keeper's store failed. Only the beginning of the text was written, or nothing.
+    /// The keeper's store failed. A prefix of the text was written, possibly none of it.
     Store,
-    /// The writer failed. Only the beginning of the text was written, or nothing.
+    /// The writer failed. A prefix of the text was written, possibly none of it.
     Write,
 }
 

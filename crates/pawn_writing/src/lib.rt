@@ -1,4 +1,4 @@
-//! Texts written piece by piece to any writer, and how that ends.
+//! Texts that are written in pieces to any writer, and the result of writing them.
 #![tactic(auto)]
 
 mod fault;

@@ -1,12 +1,17 @@
-//! The lists of a pledge. The keeper is asked for one only if the pledge's brief says that it is not empty.
-ghost use Rattle.std.specs.{Prelude.{◌≡◌, Some}, FinMap.get};
-ghost use Rattle.{pawn_pledge.specs.{Brief.brief_of, Pledge.PledgeValue}, pawn_book.specs.{Visits.{IsShare, Visits, call_end}, Keeping.{IsSteady, Reads}}};
-ghost use Rattle.pawn_book.specs.{Keeping.{entries_of, extensions_of}, BookStep.pledge_in};
+//! Visits the lists of a pledge. The keeper is asked for a list only if the pledge's brief says that it is not empty.
+ghost use Rattle.pawn_book.specs.BookStep.{pledge_in};
+ghost use Rattle.pawn_book.specs.Keeping.{IsSteady, Reads, entries_of, extensions_of};
+ghost use Rattle.pawn_book.specs.Visits.{IsShare, Visits, call_end};
+ghost use Rattle.pawn_pledge.specs.Brief.{brief_of};
+ghost use Rattle.pawn_pledge.specs.Pledge.{PledgeValue};
+ghost use Rattle.std.specs.FinMap.{get};
+ghost use Rattle.std.specs.Prelude.{◌≡◌, Some};
 
 use pawn_book::{Brief, Entry, Extension, Keep, KeepError, Number, Visitor};
 
-/// Hands the visitor the extensions of the pledge that this brief is of, in order, until it wants no more. The keeper is
-/// not asked if the brief says that there are none. Errors: `Memory` and `Store` if the keeper does not answer.
+/// Passes the extensions of the pledge to which this brief belongs to the visitor, in order, until the visitor stops.
+/// The keeper is not asked if the brief says that there are none. Errors: `Memory` and `Store` if the keeper does not
+/// answer.
 pub fn visit_extensions<K: Keep, V: Visitor<Extension>>(
     keep: &mut K,
     book: Number,
@@ -25,8 +30,9 @@ pub fn visit_extensions<K: Keep, V: Visitor<Extension>>(
     keep.extensions(book, number, visitor)
 }
 
-/// Hands the visitor the entries of the pledge that this brief is of, in order, until it wants no more. The keeper is not
-/// asked if the brief says that there are none. Errors: `Memory` and `Store` if the keeper does not answer.
+/// Passes the entries of the pledge to which this brief belongs to the visitor, in order, until the visitor stops. The
+/// keeper is not asked if the brief says that there are none. Errors: `Memory` and `Store` if the keeper does not
+/// answer.
 pub fn visit_entries<K: Keep, V: Visitor<Entry>>(
     keep: &mut K,
     book: Number,

@@ -1,8 +1,10 @@
-//! A writer that remembers whether it failed, and calls that write to one.
-ghost use Rattle.std.specs.{Prelude.{◌≡◌, ◌+◌, ◌<◌, ◌≤◌, true, false, ◌||◌, length, take, if◌then◌else◌}, Io.KnownBytes.{Appends, WriteAppends}, List.flat_map};
+//! A writer that remembers whether it failed, and functions that write to it.
+ghost use Rattle.pawn_book.specs.declared.visit.Flow.TheVariants.{Go, Stop};
+ghost use Rattle.pawn_writing.specs.Ends.{writing_inner, write_failed, written_bytes, is_write_failure, Puts};
 ghost use Rattle.std.specs.Io.{WritesAtMost};
-ghost use Rattle.{pawn_book.specs.declared.visit.Flow.TheVariants.{Go, Stop}, pawn_writing.specs.Ends.{writing_inner, write_failed, written_bytes}};
-ghost use Rattle.pawn_writing.specs.Ends.{is_write_failure, Puts};
+ghost use Rattle.std.specs.Io.KnownBytes.{Appends, WriteAppends};
+ghost use Rattle.std.specs.List.{flat_map};
+ghost use Rattle.std.specs.Prelude.{◌≡◌, ◌+◌, ◌<◌, ◌≤◌, true, false, ◌||◌, length, take, if◌then◌else◌};
 
 use pawn_book::Flow;
 use std::io;
@@ -27,21 +29,21 @@ impl<W> Writing<W> {
         }
     }
 
-    /// Whether a write has failed: it gave an error, or took no byte of some.
+    /// Returns whether a write has failed: it returned an error, or it wrote no byte although some were passed.
     pub fn has_failed(&self) -> bool
         ensures answer { result ≡ write_failed self.now }
     {
         self.failed
     }
 
-    /// What this writer answers as a visitor: it stops once it has failed.
+    /// Returns what this writer answers as a visitor: `Stop` once it has failed, otherwise `Go`.
     pub fn flow(&self) -> Flow
         ensures answer { result ≡ (if write_failed self.now then Stop else Go) }
     {
         if self.failed { Flow::Stop } else { Flow::Go }
     }
 
-    /// Gives the inner writer back.
+    /// Returns the inner writer.
     pub fn into_inner(self) -> W
         ensures answer { result ≡ writing_inner self }
     {
@@ -50,11 +52,11 @@ impl<W> Writing<W> {
 }
 
 impl<W: Write> Writing<W> {
-    /// One write: it hands on the inner writer's answer, and remembers a failure.
+    /// Makes one write to the inner writer. Returns the inner writer's answer, and remembers a failure.
     ///
-    /// By contract as many bytes were written as the answer says, and none on an error [`bytes`], and a failure is
-    /// remembered [`failed`]. No contract of a writer can say that the inner writer is called exactly once, even after
-    /// a failure. That much is tested.
+    /// By contract, as many bytes were written as the answer states, and none on an error [`bytes`], and a failure is
+    /// remembered [`failed`]. No contract of a writer can state that the inner writer is called exactly once, even
+    /// after a failure. That is only tested.
     pub fn write(&mut self, bytes: &[u8]) -> io::Result<usize>
         ensures bound { WritesAtMost result bytes.now }
         ensures bytes { WriteAppends (written_bytes W.contents self.old) (written_bytes W.contents self.new) result bytes.now }
@@ -74,9 +76,10 @@ impl<W: Write> Writing<W> {
 }
 
 /// Writes these bytes, in as many writes as the writer needs, until all are written or the writer fails. Returns how
-/// many were written. After a failed write no other is made. No contract of a writer can say so; that much is tested.
+/// many bytes were written. After a failed write no other is made; no contract of a writer can state this, so it is
+/// only tested.
 ///
-/// The caller's condition: the writer has not failed.
+/// The caller ensures that the writer has not failed before.
 pub fn send<W: Write>(writer: &mut Writing<W>, bytes: &[u8]) -> usize
     requires fine { write_failed writer.old ≡ false }
     ensures bound { result ≤ length bytes.now }
@@ -95,8 +98,8 @@ pub fn send<W: Write>(writer: &mut Writing<W>, bytes: &[u8]) -> usize
     sent
 }
 
-/// Writes these bytes, unless the writer has failed before. If `has_failed` is false afterwards, all of them went out.
-/// Takes no memory.
+/// Writes these bytes, unless the writer has failed before. If `has_failed` is false afterwards, all of them were
+/// written. Allocates no memory.
 pub fn put<W: Write>(writer: &mut Writing<W>, bytes: &[u8])
     ensures puts { Puts W.contents writer.old bytes.now writer.new }
 {
@@ -105,7 +108,7 @@ pub fn put<W: Write>(writer: &mut Writing<W>, bytes: &[u8])
     }
 }
 
-/// Writes these pieces one after another, as `put` does. Takes no memory.
+/// Writes these pieces one after another, as `put` does. Allocates no memory.
 pub fn put_all<W: Write>(writer: &mut Writing<W>, pieces: &[&[u8]])
     ensures puts { Puts W.contents writer.old (flat_map (λ p. p.now) pieces.now) writer.new }
 {

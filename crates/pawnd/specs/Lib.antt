@@ -1,4 +1,3 @@
-pub mod Counts
 pub mod Fault
 pub mod Moved
 pub mod Stop

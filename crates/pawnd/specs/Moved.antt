@@ -1,6 +1,6 @@
--- How the schemas of a store that was moved are printed.
-use Rattle.std.specs.Prelude.{ℕ, List, ◌++◌, codes, decimal}
+-- How the schemas of a migrated store are printed.
 use Rattle.pawnd.specs.declared.moving.Schemas.{Schemas}
+use Rattle.std.specs.Prelude.{ℕ, List, ◌++◌, codes, decimal}
 
 -- the line on the standard output
 abbrev pub moved_line : Schemas → List ℕ

@@ -1,6 +1,7 @@
--- How the program says that it did not do what it was asked.
+-- How the program reports that it did not do what it was asked.
+use Rattle.pawnd.specs.declared.stop.Stop.{Stop}
+use Rattle.pawnd.specs.declared.stop.Stop.TheVariants.{Usage, Fault, Io}
 use Rattle.std.specs.Prelude.{ℕ, List, ◌++◌, codes}
-use Rattle.pawnd.specs.declared.stop.Stop.{Stop, TheVariants.{Usage, Fault, Io}}
 use Rattle.pawnd.specs.Fault as fault
 
 -- the exit status

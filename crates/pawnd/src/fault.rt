@@ -1,3 +1,4 @@
+//! The faults that the program prints, with their codes and names.
 use pawn_check::CheckFault;
 use pawn_move::MoveFault;
 use pawn_program::SettingsFault;
@@ -9,19 +10,19 @@ use std::fmt;
 pub enum Fault {
     /// A word of the command line is at fault.
     Settings(SettingsFault),
-    /// Memory was refused, outside the database.
+    /// Memory ran out, outside the database.
     Memory,
     /// The database could not be opened or closed, or a fault has shut it.
     Opening(OpenFault),
     /// A check of the database found damage, or failed.
     Checking(CheckFault),
-    /// The database could not be moved to the program's schema.
+    /// The database could not be migrated to the program's schema.
     Moving(MoveFault),
 }
 
 impl fmt::Display for Fault {
-    ghost use Rattle.std.specs.Prelude.{Some};
     ghost use Rattle.pawnd.specs.Fault.{fault_line};
+    ghost use Rattle.std.specs.Prelude.{Some};
 
     ghost output = { λ fault. Some (fault_line fault) };
 

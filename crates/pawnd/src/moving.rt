@@ -1,4 +1,4 @@
-//! Moving the store in a file to the program's schema.
+//! Migrates the store in a file to the program's schema.
 ghost use Rattle.std.specs.Prelude.{◌≡◌, false};
 
 use crate::fault::Fault;
@@ -11,16 +11,18 @@ use sqlite_disk::Wary;
 use std::io::ErrorKind;
 use std::{fmt, fs};
 
-/// The schema that a store had, and the program's, which it has now.
+/// The numbers of two schemas: the one that a store had, and the program's, which it has now.
 #[derive(Clone, Copy)]
 pub struct Schemas {
+    /// The schema that the store had.
     pub found: u32,
+    /// The program's schema.
     pub program: u32,
 }
 
 impl fmt::Display for Schemas {
-    ghost use Rattle.std.specs.Prelude.{Some};
     ghost use Rattle.pawnd.specs.Moved.{moved_line};
+    ghost use Rattle.std.specs.Prelude.{Some};
 
     ghost output = { λ schemas. Some (moved_line schemas) };
 
@@ -29,17 +31,17 @@ impl fmt::Display for Schemas {
     }
 }
 
-// The stop when a store is not moved.
+/// Returns the stop of a store that is not migrated.
 fn unmoved(why: MoveFault) -> Stop {
     Stop::Fault(Fault::Moving(why))
 }
 
-// The stop when a store to be moved is not opened or closed.
-fn refused(why: OpenFault) -> Stop {
+/// Returns the stop of a store that can't be opened or closed for a migration.
+fn stop_of(why: OpenFault) -> Stop {
     unmoved(MoveFault::of_opening(why))
 }
 
-// Whether there is anything at a path but an empty file.
+/// Returns whether there is anything at a path other than an empty file.
 fn is_there(rt: &HostRuntime, path: &str) -> Result<bool, Stop> {
     match fs::metadata(rt, path) {
         Ok(found) => Ok(!found.is_file() || found.len() > 0),
@@ -49,18 +51,19 @@ fn is_there(rt: &HostRuntime, path: &str) -> Result<bool, Stop> {
     }
 }
 
-// A connection to a file. Nothing is assumed of its first bytes, nor of what a crash leaves of an unfinished write.
+/// A connection to a file. Nothing is assumed of the file's first bytes, or of what a crash leaves of an unfinished
+/// write.
 type FileConnection = Connection<FileStore<FileFrom<Wary>>>;
 
-// Closes the file of a store that was moved. All that was committed is then in the database file.
+/// Closes the file of a store that was migrated. Everything that was committed is then in the database file.
 fn close(conn: FileConnection) -> Result<(), Stop> {
     match close_files(conn) {
         Ok(_) => Ok(()),
-        Err((why, _)) => Err(refused(why)),
+        Err((why, _)) => Err(stop_of(why)),
     }
 }
 
-// Moves the store of a connection at rest. One that is not moved is let go of, and its file stays as it was.
+/// Migrates the store of a connection outside a transaction. If it can't be migrated, the store is dropped.
 fn moved<S: Alter + Drop>(
     rt: &HostRuntime,
     mut conn: Connection<S>,
@@ -76,7 +79,7 @@ fn moved<S: Alter + Drop>(
     }
 }
 
-// Moves the store of a connection to a file, which is at rest, and closes its file.
+/// Migrates the store in a file over a connection outside a transaction, and closes the file.
 fn move_over(rt: &HostRuntime, conn: FileConnection) -> Result<Schemas, Stop>
     requires rests { conn.in_transaction ≡ false }
 {
@@ -85,14 +88,14 @@ fn move_over(rt: &HostRuntime, conn: FileConnection) -> Result<Schemas, Stop>
     Ok(schemas)
 }
 
-/// Moves the store in the file at a path to the program's schema, and closes it. If there is no file, none is made, and
-/// an empty file is left empty. Both are refused as `NotOurs`, and so is a store in memory.
+/// Migrates the store in the file at a path to the program's schema, and closes it. If there is no file, none is
+/// created, and an empty file stays empty. Both are refused as `NotOurs`, and so is a store in memory.
 pub fn move_file(rt: &HostRuntime, path: &str) -> Result<Schemas, Stop> {
     if is_memory(path) || !is_there(rt, path)? {
         return Err(unmoved(MoveFault::NotOurs));
     }
     match connect_path(rt, path, Wary) {
         Ok(conn) => move_over(rt, conn),
-        Err(why) => Err(refused(why)),
+        Err(why) => Err(stop_of(why)),
     }
 }

@@ -1,7 +1,8 @@
-//! How the program says that it did not do what it was asked.
-ghost use Rattle.std.specs.{Prelude.◌≡◌, Process.exit_status};
+//! How the program reports that it did not do what it was asked.
 ghost use Rattle.pawnd.specs.Stop.{stop_status};
 ghost use Rattle.pawnd.specs.declared.fault.Fault.TheVariants.{Settings};
+ghost use Rattle.std.specs.Prelude.{◌≡◌};
+ghost use Rattle.std.specs.Process.{exit_status};
 ghost use Rattle.pawnd.specs.declared.stop.Stop.TheVariants as Stops;
 
 use crate::fault::Fault;
@@ -14,14 +15,14 @@ use std::process::ExitCode;
 pub enum Stop {
     /// The command line names no command, or has too few or too many words for it.
     Usage,
-    /// A fault of the settings, of memory or of the store: the program did not start, or did not end well.
+    /// A fault of the settings, of memory or of the store: the program did not start, or did not end properly.
     Fault(Fault),
     /// Something outside the store failed: a read, a write, the port, or the system's random numbers.
     Io,
 }
 
 impl Stop {
-    /// The program's exit status: 2 for `Usage`, 1 for a fault, 3 for `Io`.
+    /// Returns the program's exit status: 2 for `Usage`, 1 for a fault, 3 for `Io`.
     pub fn status(self) -> u8
         ensures status { result ≡ stop_status self }
     {
@@ -42,8 +43,8 @@ impl From<SettingsFault> for Stop {
 }
 
 impl fmt::Display for Stop {
-    ghost use Rattle.std.specs.Prelude.{Some};
     ghost use Rattle.pawnd.specs.Stop.{stop_line};
+    ghost use Rattle.std.specs.Prelude.{Some};
 
     ghost output = { λ stop. Some (stop_line stop) };
 
@@ -57,7 +58,7 @@ impl fmt::Display for Stop {
 }
 
 /// Writes a line for the stop to standard error. Returns the exit status.
-pub fn tell(rt: &impl Eprint, stop: Stop) -> ExitCode
+pub fn report(rt: &impl Eprint, stop: Stop) -> ExitCode
     ensures status { exit_status result ≡ stop_status stop }
 {
     let _ = eprintln!(rt; "{stop}");

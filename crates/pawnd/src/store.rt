@@ -1,32 +1,39 @@
-//! The store that the command line names.
+//! Opens and closes the store that the command line names.
+ghost use Rattle.pawn_opening.specs.Common.{HasCleanDisk, image_at};
+ghost use Rattle.pawn_opening.specs.FilesStand.{IsBlank};
+ghost use Rattle.pawn_opening.specs.Opened.{OpensAs, empty_host};
+ghost use Rattle.sqlite.specs.Files.{file_state};
+ghost use Rattle.sqlite.specs.Held.{state};
+ghost use Rattle.sqlite.specs.Steps.{over_memory};
 ghost use Rattle.std.specs.Prelude.{◌≡◌, ◌↔◌, Err, IfErr, IfOk, IsTrue, codes};
-ghost use Rattle.{sqlite.specs.{Held.state, Steps.over_memory}, pawn_opening.specs.Opened.{OpensAs, empty_host}};
 
 use crate::fault::Fault;
 use crate::stop::Stop;
+use pawn_opening::fold_path;
 use pawn_store::{
-    FileFrom, FileStore, MemStore, TableKeep, close_keep, keep_at_path, keep_in_memory,
+    FileFrom, FileStore, MemStore, Start, TableKeep, close_keep, keep_at_path, keep_in_memory,
 };
 use sqlite_disk::Wary;
 use std::fs;
 
-/// The limit on counted rows of a store that is made here.
+/// The limit on counted rows of a store that the program creates.
 const ROWS: u32 = 5_000_000;
 
-/// The bytes of a page of the database. Each change writes some pages to the log.
+/// The size of a page of the database in bytes. Each change writes some pages to the log.
 const PAGE: u64 = 4_096;
 
-/// A keeper over a file. Nothing is assumed of its first bytes, nor of what a crash leaves of an unfinished write.
+/// A keeper over a file. Nothing is assumed of the file's first bytes, or of what a crash leaves of an unfinished
+/// write.
 pub type FileKeep = TableKeep<FileStore<FileFrom<Wary>>>;
 
-/// Whether the command line names `:memory:`, a store in memory that ends with the program.
+/// Returns whether the command line names `:memory:`, a store in memory that ends with the program.
 pub fn is_memory(database: &str) -> bool
     ensures named { IsTrue result ↔ (database.now ≡ codes ":memory:") }
 {
     database == ":memory:"
 }
 
-/// A keeper over a new store in memory.
+/// Makes a keeper over a new store in memory.
 pub fn memory_keep(rt: &HostRuntime) -> Result<TableKeep<MemStore>, Stop>
     ensures opens { IfOk result (λ keep. OpensAs (state over_memory keep.conn) (empty_host 5000000)) }
 {
@@ -36,15 +43,23 @@ pub fn memory_keep(rt: &HostRuntime) -> Result<TableKeep<MemStore>, Stop>
     }
 }
 
-/// A keeper over the store in the file at a path, which is made if there is none.
-pub fn file_keep(rt: &HostRuntime, path: &str) -> Result<FileKeep, Stop> {
-    match keep_at_path(rt, path, Wary, ROWS) {
+/// Opens a keeper over the store in the file at a path. The file is created if there is none. A new store may hold
+/// 5,000,000 rows.
+pub fn file_keep<S: Start>(
+    rt: &HostRuntime,
+    path: &str,
+    start: S,
+) -> Result<TableKeep<FileStore<FileFrom<S>>>, Stop>
+    ensures blank { IfOk result
+        (λ keep. HasCleanDisk (file_state keep.conn) → IsBlank (image_at S.Start) → OpensAs (file_state keep.conn) (empty_host 5000000)) }
+{
+    match keep_at_path(rt, path, start, ROWS) {
         Ok(keep) => Ok(keep),
         Err((why, _)) => Err(Stop::Fault(Fault::Opening(why))),
     }
 }
 
-// The length of the file at a path: 0 if it can't be found out.
+/// Returns the length of the file at a path, or 0 if it can't be determined.
 fn length_at(rt: &HostRuntime, path: &str) -> u64 {
     match fs::metadata(rt, path) {
         Ok(found) => found.len(),
@@ -52,26 +67,30 @@ fn length_at(rt: &HostRuntime, path: &str) -> u64 {
     }
 }
 
-// Whether a store's log holds a page, which may be nowhere else.
+/// Returns whether the log of a store holds at least one page, which may be nowhere else. The log is next to the file
+/// to which the path leads, even if the path is a symbolic link.
 fn hangs_on_its_log(rt: &HostRuntime, path: &str) -> bool {
-    match format!(in rt.alloc(); "{path}-wal") {
+    let Ok(database) = fs::canonicalize(rt, path) else {
+        return false;
+    };
+    match format!(in rt.alloc(); "{}-wal", database.as_str()) {
         Ok(log) => length_at(rt, log.as_str()) > PAGE,
         Err(_) => false,
     }
 }
 
-/// A keeper over the file at a path, as `file_keep`, for a long run. If the program was killed, some changes may be in
-/// the store's log only. They are copied into the file first, so that nothing depends on the log. If that fails, they
-/// stay in the log.
+/// Opens a keeper over the file at a path for a long run, as `file_keep` does. If the program was killed before, some
+/// changes may be only in the store's log. They are copied into the file first, so that nothing depends on the log. If
+/// that fails, they stay in the log.
 pub fn folded_keep(rt: &HostRuntime, path: &str) -> Result<FileKeep, Stop> {
     if hangs_on_its_log(rt, path) {
-        let _ = close(file_keep(rt, path)?, Ok(()));
+        let _ = fold_path(rt, path, Wary, ROWS);
     }
-    file_keep(rt, path)
+    file_keep(rt, path, Wary)
 }
 
-/// Closes the file of a keeper, with all that was committed in the database file. The program ends as `end` says. If
-/// that is well but closing fails, it ends with that fault.
+/// Closes the file of a keeper; everything that was committed is then in the database file. Returns `end` if it is an
+/// error, otherwise the result of closing.
 pub fn close(keep: FileKeep, end: Result<(), Stop>) -> Result<(), Stop>
     ensures first { IfErr end (λ stop. result ≡ Err stop) }
 {

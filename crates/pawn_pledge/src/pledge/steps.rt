@@ -1,9 +1,15 @@
-ghost use Rattle.std.specs.Prelude.{◌≡◌, ◌≤◌, ◌<◌, length, Ok, OnOk};
-ghost use Rattle.pawn_pledge.specs.{Common.{Entry, first_of}, Step.{Changed, IsApplied, IsStep, ask_once, ask_step, bars, cancel_step, confirm_in}};
-ghost use Rattle.pawn_pledge.specs.Step.{decide_step, declare_bars, declare_step, decline_in, entry_of, entry_step, extend_step, hold_step, makes_booking};
-ghost use Rattle.pawn_pledge.specs.{Step.{numbered_step, pledge_step, redeem_step, sell_step, unless}, Words.{after_closing, booking_after, in_state}};
-ghost use Rattle.pawn_pledge.specs.{Words.{is_ahead, is_repeat, is_standing, issue_of, new_entry, with_extension, with_secret}, Pledge.end_of};
+//! The commands on a pledge, each with its refusals.
+
+ghost use Rattle.pawn_pledge.specs.Common.{Entry, first_of};
 ghost use Rattle.pawn_pledge.specs.Limits.{most_secrets};
+ghost use Rattle.pawn_pledge.specs.Pledge.{end_of};
+ghost use Rattle.pawn_pledge.specs.Step.{Changed, IsApplied, IsStep, ask_once, ask_step, bars, cancel_step, confirm_in};
+ghost use Rattle.pawn_pledge.specs.Step.{decide_step, declare_bars, declare_step, decline_in, entry_of, entry_step};
+ghost use Rattle.pawn_pledge.specs.Step.{extend_step, hold_step, makes_booking, numbered_step, pledge_step};
+ghost use Rattle.pawn_pledge.specs.Step.{redeem_step, sell_step, unless};
+ghost use Rattle.pawn_pledge.specs.Words.{after_closing, booking_after, in_state, is_ahead, is_repeat, is_active};
+ghost use Rattle.pawn_pledge.specs.Words.{issue_of, new_entry, with_extension, with_secret};
+ghost use Rattle.std.specs.Prelude.{◌≡◌, ◌≤◌, ◌<◌, length, Ok, OnOk};
 
 use super::Pledge;
 use crate::command::{Applied, Command, Decision, Done, Paper, Stamp};
@@ -15,8 +21,8 @@ use crate::status::is_small;
 use pawn_debt::{Day, DebtFault, Entry, MOST_PENCE, Sort};
 
 impl Pledge {
-    /// Carries out one command, and gives its answer or the first refusal that applies. If it is refused, the pledge is
-    /// unchanged. `Memory` refuses only a command that adds an entry, a secret or an extension.
+    /// Carries out one command, and returns its answer or the first refusal that applies. A refused command leaves the
+    /// pledge unchanged. Only a command that adds an entry, a secret or an extension is refused as `Memory`.
     pub fn apply(&mut self, stamp: &Stamp, command: &Command) -> Result<Done, Refusal>
         ensures step { IsStep (pledge_step self.old stamp.now command.now) self.old result self.new }
     {
@@ -26,8 +32,8 @@ impl Pledge {
         }
     }
 
-    /// Carries out one command as `apply` does, and also reports whether it changed the pledge. Some commands that ask
-    /// for what is so already, such as an entry sent again, are answered and change nothing.
+    /// Carries out one command as `apply` does, and also reports whether it changed the pledge. Some commands whose
+    /// effect is already there, such as an entry that is sent again, are answered and change nothing.
     pub fn apply_telling(&mut self, stamp: &Stamp, command: &Command) -> Result<Applied, Refusal>
         ensures step { IsApplied (pledge_step self.old stamp.now command.now) self.old result self.new }
     {
@@ -50,8 +56,8 @@ impl Pledge {
         }
     }
 
-    // The refusals that all commands share: a day before the last change, a closed pledge, and one that has passed. An
-    // entry that is sent again is answered before it meets them.
+    /// Checks the refusals that all commands share: a day before the last change, a closed pledge, and a pledge that
+    /// has passed. A repeated entry is answered before this check.
     fn gate(&self, day: Day) -> Result<(), Refusal>
         ensures answer { result ≡ first_of (bars self.now day) (Ok tt) }
         ensures later { OnOk result (self.now.standing.last ≤ day) }
@@ -68,7 +74,8 @@ impl Pledge {
         Ok(())
     }
 
-    // A drawing or a repayment. One whose number is taken is answered as the first time, or refused if it differs.
+    /// Enters a drawing or a repayment. If its number is taken, a repeat gets the answer of the first time, and an
+    /// entry that differs is refused.
     fn enter(&mut self, day: Day, seq: u64, sort: Sort, pence: u64) -> Result<Applied, Refusal>
         ensures step { IsApplied (numbered_step self.old day seq sort pence (entry_of self.old seq)) self.old result self.new }
     {
@@ -76,7 +83,7 @@ impl Pledge {
         self.enter_once(standing, day, seq, sort, pence)
     }
 
-    // Does what `enter` does, given the entry that has this number already, if there is one.
+    /// Does the same as `enter`, given `standing`, the entry that already has this number, if there is one.
     fn enter_once(
         &mut self,
         standing: Option<Entry>,
@@ -103,14 +110,14 @@ impl Pledge {
         }
     }
 
-    // Whether an entry's number is 0, or past the next.
+    /// Whether the number of a new entry is 0, or above the next number.
     fn is_ahead(&self, seq: u64) -> bool
         ensures value { result ≡ is_ahead self.now seq }
     {
         seq == 0 || seq > self.debt.count() as u64 + 1
     }
 
-    // The entry that would be entered next.
+    /// The entry that would be entered next.
     fn next_entry(&self, day: Day, sort: Sort, pence: u64) -> Entry
         ensures value { result ≡ new_entry self.now day sort pence }
     {
@@ -122,6 +129,7 @@ impl Pledge {
         }
     }
 
+    /// Enters a drawing as the next entry.
     fn draw(&mut self, day: Day, pence: u64) -> Result<Applied, Refusal>
         requires later { self.old.standing.last ≤ day }
         ensures step { IsApplied (entry_step self.old day Sort.Draw pence) self.old result self.new }
@@ -135,6 +143,7 @@ impl Pledge {
         Ok(Applied::of_change(Done::Entered(entry)))
     }
 
+    /// Enters a repayment as the next entry.
     fn repay(&mut self, day: Day, pence: u64) -> Result<Applied, Refusal>
         requires later { self.old.standing.last ≤ day }
         ensures step { IsApplied (entry_step self.old day Sort.Repay pence) self.old result self.new }
@@ -145,7 +154,7 @@ impl Pledge {
         Ok(Applied::of_change(Done::Entered(entry)))
     }
 
-    // Sets or clears the flag that bars redemption. If it is so already, nothing changes.
+    /// Puts the pledge on hold, or ends the hold. If the flag already has this value, nothing changes.
     fn hold(&mut self, day: Day, flag: bool) -> Result<Applied, Refusal>
         ensures step { IsApplied (unless (bars self.old day) (hold_step self.old day flag)) self.old result self.new }
     {
@@ -158,7 +167,7 @@ impl Pledge {
         Ok(Applied::of_change(Done::Held(flag)))
     }
 
-    // Issues the stamp's word as the new secret.
+    /// Issues the stamp's word as the new secret, on a declaration.
     fn declare(&mut self, stamp: &Stamp, paper: Paper) -> Result<Applied, Refusal>
         ensures step { IsApplied (unless (bars self.old stamp.now.day) (declare_step self.old stamp.now paper)) self.old result self.new }
     {
@@ -173,7 +182,7 @@ impl Pledge {
         self.issue(issued)
     }
 
-    // The refusals that only a declaration can meet.
+    /// Checks the refusals that only a declaration can have.
     fn may_declare(&self, paper: Paper, issued: &Issued) -> Result<(), Refusal>
         ensures answer { result ≡ first_of (declare_bars self.now paper issued.now.secret) (Ok tt) }
         ensures few { OnOk result (length self.now.secrets < most_secrets) }
@@ -190,7 +199,7 @@ impl Pledge {
         Ok(())
     }
 
-    // Adds a secret to the pledge, as its new live one.
+    /// Adds a secret to the pledge, which becomes the live one.
     fn issue(&mut self, issued: Issued) -> Result<Applied, Refusal>
         requires few { length self.old.secrets < most_secrets }
         requires later { self.old.standing.last ≤ issued.day }
@@ -207,7 +216,7 @@ impl Pledge {
         }
     }
 
-    // Puts a booking in place of any other.
+    /// Sets the booking, and replaces an earlier one.
     fn book(&mut self, day: Day, booking: &Booking) -> Result<Applied, Refusal>
         requires later { self.old.standing.last ≤ day }
         ensures step { IsApplied (makes_booking self.old day booking.now) self.old result self.new }
@@ -217,7 +226,7 @@ impl Pledge {
         Ok(Applied::of_change(Done::Booked(*booking)))
     }
 
-    // Asks for a day and a window.
+    /// Asks for a booking of a day and a window.
     fn ask(&mut self, day: Day, wanted: Day, window: u64) -> Result<Applied, Refusal>
         ensures step { IsApplied (unless (bars self.old day) (ask_step self.old day wanted window)) self.old result self.new }
     {
@@ -234,8 +243,8 @@ impl Pledge {
         self.ask_once(day, wanted, window)
     }
 
-    // Asks for a booking that nothing bars. One that is asked for or confirmed already, for this day and window, is
-    // answered again.
+    /// Asks for a booking whose refusals are checked. If an active booking (asked for or confirmed) already has this
+    /// day and window, the answer is that booking and nothing changes.
     fn ask_once(&mut self, day: Day, wanted: Day, window: u64) -> Result<Applied, Refusal>
         requires later { self.old.standing.last ≤ day }
         ensures step { IsApplied (ask_once self.old day wanted window self.old.standing.booking) self.old result self.new }
@@ -246,14 +255,14 @@ impl Pledge {
             state: BookingState::Asked,
         };
         if let Some(booking) = self.standing.booking {
-            if booking.day == wanted && booking.window == window && booking.state.is_standing() {
+            if booking.day == wanted && booking.window == window && booking.state.is_active() {
                 return Ok(Applied::of_answer(Done::Booked(booking)));
             }
         }
         self.book(day, &asked)
     }
 
-    // Cancels the booking. One that is cancelled already is answered again.
+    /// Cancels the booking. If it is already cancelled, the answer is that booking and nothing changes.
     fn cancel(&mut self, day: Day) -> Result<Applied, Refusal>
         ensures step { IsApplied (unless (bars self.old day) (cancel_step self.old day self.old.standing.booking)) self.old result self.new }
     {
@@ -270,7 +279,7 @@ impl Pledge {
         }
     }
 
-    // Confirms or refuses a booking.
+    /// Confirms or refuses a booking.
     fn decide(&mut self, day: Day, decision: Decision) -> Result<Applied, Refusal>
         ensures step { IsApplied (unless (bars self.old day) (decide_step self.old day decision self.old.standing.booking)) self.old result self.new }
     {
@@ -284,6 +293,7 @@ impl Pledge {
         }
     }
 
+    /// Confirms a booking that is asked for and whose day is not over. If it is already confirmed, nothing changes.
     fn confirm(&mut self, day: Day, booking: &Booking) -> Result<Applied, Refusal>
         requires later { self.old.standing.last ≤ day }
         ensures step { IsApplied (confirm_in self.old day booking.now booking.now.state) self.old result self.new }
@@ -300,6 +310,7 @@ impl Pledge {
         }
     }
 
+    /// Refuses an active booking. If it is already refused, nothing changes.
     fn decline(&mut self, day: Day, booking: &Booking) -> Result<Applied, Refusal>
         requires later { self.old.standing.last ≤ day }
         ensures step { IsApplied (decline_in self.old day booking.now booking.now.state) self.old result self.new }
@@ -313,7 +324,7 @@ impl Pledge {
         }
     }
 
-    // Closes the pledge on payment of what is owed, which is 0 for an account that was never drawn on.
+    /// Closes the pledge on payment of the sum owed, which is 0 for an account that was never drawn on.
     fn redeem(&mut self, day: Day, paid: u64) -> Result<Applied, Refusal>
         ensures step { IsApplied (unless (bars self.old day) (redeem_step self.old day paid)) self.old result self.new }
     {
@@ -331,7 +342,7 @@ impl Pledge {
         Ok(Applied::of_change(Done::Redeemed { day, paid }))
     }
 
-    // Closes the pledge by sale.
+    /// Closes the pledge by a sale for `net` pence.
     fn sell(&mut self, day: Day, net: u64) -> Result<Applied, Refusal>
         ensures step { IsApplied (unless (bars self.old day) (sell_step self.old day net)) self.old result self.new }
     {
@@ -353,7 +364,7 @@ impl Pledge {
         }))
     }
 
-    // Agrees on a later end of the period.
+    /// Extends the period to a later end. If `until` is already the end, nothing changes.
     fn extend(&mut self, day: Day, until: Day) -> Result<Applied, Refusal>
         ensures step { IsApplied (unless (bars self.old day) (extend_step self.old day until)) self.old result self.new }
     {
@@ -374,7 +385,7 @@ impl Pledge {
         self.extend_once(Extension { day, until })
     }
 
-    // Agrees on a later end that nothing bars but refused memory.
+    /// Extends the period, after every refusal except out of memory was checked.
     fn extend_once(&mut self, extension: Extension) -> Result<Applied, Refusal>
         requires later { self.old.standing.last ≤ extension.day }
         requires inside { extension.day ≤ end_of self.old }
@@ -395,7 +406,7 @@ impl Pledge {
 }
 
 impl Booking {
-    // The same booking in another state.
+    /// The same booking in another state.
     fn in_state(self, state: BookingState) -> Booking
         ensures value { result ≡ in_state self state }
     {
@@ -408,9 +419,9 @@ impl Booking {
 }
 
 impl BookingState {
-    // Whether a booking is asked for or confirmed.
-    fn is_standing(self) -> bool
-        ensures value { result ≡ is_standing self }
+    /// Whether a booking is active: asked for or confirmed.
+    fn is_active(self) -> bool
+        ensures value { result ≡ is_active self }
     {
         match self {
             BookingState::Asked | BookingState::Confirmed => true,
@@ -418,7 +429,7 @@ impl BookingState {
         }
     }
 
-    // The state once the pledge is closed.
+    /// The state of the booking after the pledge is closed.
     fn after_closing(self) -> BookingState
         ensures value { result ≡ after_closing self }
     {
@@ -431,7 +442,7 @@ impl BookingState {
 }
 
 impl Paper {
-    // How a secret is issued on the paper.
+    /// The way in which a secret is issued on this declaration.
     fn issue(self) -> Issue
         ensures value { result ≡ issue_of self }
     {
@@ -442,7 +453,7 @@ impl Paper {
     }
 }
 
-// A booking once its pledge is closed.
+/// The booking after its pledge is closed: an active one is cancelled.
 fn booking_after(booking: Option<Booking>) -> Option<Booking>
     ensures value { result ≡ booking_after booking }
 {
@@ -452,7 +463,7 @@ fn booking_after(booking: Option<Booking>) -> Option<Booking>
     }
 }
 
-// Whether an entry has this sort and sum, so that asking for it is a repeat.
+/// Whether an entry has this kind and sum, so that a request for it is a repeat.
 fn is_repeat(entry: &Entry, sort: Sort, pence: u64) -> bool
     ensures value { result ≡ is_repeat entry.now sort pence }
 {

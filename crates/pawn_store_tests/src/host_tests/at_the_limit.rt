@@ -1,5 +1,5 @@
-//! Each request at the row limit, over a list: one that adds a row is refused, and any other is answered. The file
-//! `tests/turns/at_the_limit.txt` has the same over the tables of a file.
+//! Each request at the row limit, over a list: a request that adds a row is refused, and any other is answered. The
+//! file `tests/turns/at_the_limit.txt` has the same over the tables of a file.
 
 use super::{bytes_of, service_of, stamp_on};
 use pawn_host::Service;
@@ -8,7 +8,7 @@ use std::alloc::Global;
 use std::process::Abort;
 use std::test::Fail;
 
-// A request and its reply: the fields that say who asks, the target, the body, and the body of the reply.
+/// A request and its reply: the fields that identify the caller, the target, the body, and the body of the reply.
 #[derive(Clone, Copy)]
 struct Line {
     by: &'static str,
@@ -34,16 +34,16 @@ const REFUSED: &[u8] = b"HTTP/1.1 503 Service Unavailable\r\n";
 
 const FULL: &str = "{\"code\":490,\"name\":\"Full\"}";
 
-// The text of a book without terms.
+/// The text of a book without terms.
 const EMPTY_BOOK: &str = book_text!("B,2,0,0,,,,,,,,,,,\n");
 
-// The text of a book with one pledge.
+/// The text of a book with one pledge.
 const ONE_RING: &str = book_text!(
     "B,2,1,1,,,,,,,,,,,\nT,1,0,0,0,,,,,,,,,,\n\
             P,1,A1,Gold ring,fixed,10000,2024-01-31,,no,1,no,2024-01-31,open,,\nS,1,1,2024-01-31,opening,00000000-0000-0000-0000-000000000009,,,,,,,,,\n"
 );
 
-// What fills the service, and is asked once more when it is full.
+/// The request that makes the book. It is repeated when the service is full.
 const BOOK: Line = Line {
     by: OPERATOR,
     target: "POST /books/7",
@@ -79,7 +79,7 @@ const DRAWING: Line = Line {
     reply: "{\"day\":\"2024-01-31\",\"pence\":300,\"seq\":1,\"sort\":\"draw\"}",
 };
 
-// Two books, terms, three pledges with a receipt each, two entries and a booking, which are twelve rows.
+/// Two books, terms, three pledges with a receipt each, two entries and a booking, which count as twelve rows.
 const FILLING: [Line; 9] = [
     BOOK,
     TERMS,
@@ -112,7 +112,7 @@ const FILLING: [Line; 9] = [
     },
 ];
 
-// Each request that adds a row.
+/// Each request that adds a row.
 const ADDING: [Line; 10] = [
     Line {
         by: OPERATOR,
@@ -176,7 +176,7 @@ const ADDING: [Line; 10] = [
     },
 ];
 
-// Each request that adds none: repeats, a booking that replaces one, and views.
+/// Requests that add no row: repeats, a booking that replaces one, and views.
 const OTHERS: [Line; 19] = [
     BOOK,
     TERMS,
@@ -271,7 +271,7 @@ const OTHERS: [Line; 19] = [
     },
 ];
 
-// A sale, which is possible only once the period is over.
+/// A sale, which is possible only after the end of the period.
 const LATER: [Line; 1] = [Line {
     by: BROKER,
     target: "POST /books/7/pledges/3/sell",
@@ -279,14 +279,14 @@ const LATER: [Line; 1] = [Line {
     reply: "{\"net\":9000,\"shortfall\":1000,\"surplus\":0}",
 }];
 
-// The bytes of a request.
+/// Returns the bytes of a request.
 fn request_of(alloc: Global, line: &Line) -> Result<String, Fail> {
     let (target, by, body) = (line.target, line.by, line.body);
     let length = body.len();
     Ok(format!(in alloc; "{target} HTTP/1.1\r\n{by}\r\nContent-Length: {length}\r\n\r\n{body}")?)
 }
 
-// Asks for each line on a day, with its place from 0 as the word, and checks the reply.
+/// Sends the request of each line on a day, with its place from 0 as the word, and checks the reply.
 fn plays(
     rt: &impl Abort,
     service: &mut Service<ListKeep>,
@@ -307,7 +307,7 @@ fn plays(
     Ok(())
 }
 
-// Fills a service that has room for twelve rows, and then asks it for everything else.
+/// Fills a service that has room for twelve rows, and then sends it all other requests.
 fn fills_up(rt: &impl Abort, service: &mut Service<ListKeep>, alloc: Global) -> Result<(), Fail> {
     let (first, later) = ("2024-01-31", "2024-08-01");
     for (day, lines, status) in [

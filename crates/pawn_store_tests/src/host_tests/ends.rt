@@ -1,4 +1,4 @@
-//! A reader, a writer and stamps that note when they are called.
+//! A reader, a writer and stamps that log their calls.
 ghost use Rattle.std.specs.Prelude.{Some};
 
 use pawn_book::Stamp;
@@ -6,8 +6,8 @@ use std::cell::Cell;
 use std::io;
 use std::io::{ErrorKind, Read, Write};
 
-/// The calls of a session in order, as hexadecimal digits: 1 is a read, 2 a stamp, and 3 a write. Several of a sort in
-/// a row are one digit.
+/// The calls of a session in order, as hexadecimal digits: 1 is a read, 2 a stamp, and 3 a write. Calls of the same
+/// kind that follow each other are one digit.
 #[derive(Drop)]
 pub struct Log {
     calls: Cell<u64>,
@@ -32,8 +32,8 @@ impl Log {
     }
 }
 
-/// The calls of a reader or a writer. If it is slow, a call moves one byte. Only the call numbered `fails_at` fails; the
-/// first is 1.
+/// The calls of a reader or a writer. If it is slow, a call moves one byte. Only call number `fails_at` fails; the
+/// first call has number 1.
 #[derive(Clone, Copy)]
 pub struct Calls {
     pub slow: bool,
@@ -42,7 +42,7 @@ pub struct Calls {
 }
 
 impl Calls {
-    // Counts one more call. Returns whether it fails.
+    /// Counts one more call. Returns whether it fails.
     fn fails(&mut self) -> bool {
         self.made = self.made.saturating_add(1);
         self.made == self.fails_at
@@ -72,7 +72,7 @@ impl Read for Source<'_> {
     }
 }
 
-/// A writer. A write that fails takes nothing, or is an error.
+/// A writer. A failing write writes nothing or returns an error.
 #[derive(Drop)]
 pub struct Sink<'a> {
     pub taken: Vec<u8>,
@@ -106,7 +106,7 @@ impl Write for Sink<'_> {
     }
 }
 
-/// These stamps, in order.
+/// An iterator over these stamps, in order.
 #[derive(Drop)]
 pub struct Stamps<'a> {
     pub stamps: &'a [Stamp],

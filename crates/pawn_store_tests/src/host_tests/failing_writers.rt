@@ -1,4 +1,4 @@
-//! Statements written to writers that fail at one call only, over a list and over tables.
+//! Tests of writers that fail at only one call, with statements over a list and over tables.
 ghost use Rattle.std.specs.Prelude.{Some};
 
 use super::turns::TURNS;
@@ -22,14 +22,14 @@ const REPAY: &str = "POST /books/7/pledges/1/repay HTTP/1.1";
 
 const BROKER: &str = "Pledge-Key: 22222222-2222-2222-2222-222222222222";
 
-// How a call fails: with an error, or by taking no byte of some.
+/// How a call fails: with an error, or by writing no byte although some were passed.
 #[derive(Clone, Copy)]
 enum Failure {
     Error,
     Nothing,
 }
 
-// A writer that takes so many bytes a call, fails at one call only, and counts its calls.
+/// A writer that writes at most `most` bytes in a call, fails at only one call, and counts its calls.
 #[derive(Drop)]
 struct Flaky {
     taken: Vec<u8>,
@@ -70,14 +70,14 @@ fn failing_at(alloc: Global, failing: usize, failure: Failure) -> Writing<Flaky>
     })
 }
 
-// Takes the ring of the first turns into book 7.
+/// Takes the ring of the first turns into book 7.
 fn takes_ring<K: Keep>(rt: &impl Abort, service: &mut Service<K>) {
     for turn in TURNS.iter().take(3) {
         service.answer_one(&stamp(rt, turn.word), turn.request.as_bytes());
     }
 }
 
-// Writes the statement of the only pledge.
+/// Writes the statement of the only pledge.
 fn states<K: Keep>(
     rt: &impl Abort,
     keep: &mut K,
@@ -92,7 +92,7 @@ fn states<K: Keep>(
     Ok(show_statement(keep, book, pledge, day, writer))
 }
 
-// The whole statement, and how many calls it takes.
+/// Returns the writer after the whole statement, with the text and the number of calls.
 fn whole_of<K: Keep>(rt: &impl Abort, alloc: Global, keep: &mut K) -> Result<Flaky, Fail> {
     let mut writer = failing_at(alloc, 0, Failure::Error);
     let came = states(rt, keep, &mut writer)?;
@@ -100,7 +100,7 @@ fn whole_of<K: Keep>(rt: &impl Abort, alloc: Global, keep: &mut K) -> Result<Fla
     Ok(writer.into_inner())
 }
 
-// Makes that call fail, and checks that the statement ends there, with its beginning written.
+/// Makes this call fail, and checks that the statement ends there, with a prefix of it written.
 fn stops_at<K: Keep>(
     rt: &impl Abort,
     alloc: Global,
@@ -122,7 +122,7 @@ fn stops_at<K: Keep>(
     Ok(())
 }
 
-// Checks the whole statement. Returns how many calls it takes.
+/// Checks the whole statement. Returns how many calls it takes.
 fn calls_of<K: Keep>(rt: &impl Abort, alloc: Global, keep: &mut K) -> Result<usize, Fail> {
     let whole = whole_of(rt, alloc, keep)?;
     assert_eq!(rt; whole.taken.as_slice(), STATEMENT);
@@ -130,7 +130,7 @@ fn calls_of<K: Keep>(rt: &impl Abort, alloc: Global, keep: &mut K) -> Result<usi
     Ok(whole.calls)
 }
 
-// Makes each call fail in turn, in both ways.
+/// Makes each call fail in turn, in both ways.
 fn stops_at_each<K: Keep>(rt: &impl Abort, alloc: Global, keep: &mut K) -> Result<(), Fail> {
     for at in 1..=calls_of(rt, alloc, keep)? {
         stops_at(rt, alloc, keep, STATEMENT, at, Failure::Error)?;
@@ -146,14 +146,14 @@ fn no_failed_write_is_tried_again(rt: HostRuntime) -> Result<(), Fail> {
     stops_at_each(&rt, rt.alloc(), &mut service.keep)
 }
 
-// The request that enters the repayment of a penny with this number.
+/// Returns the request that enters a repayment of one penny with this number.
 fn repayment(alloc: Global, seq: u32) -> Result<String, Fail> {
     let body = format!(in alloc; "{{\"pence\":1,\"seq\":{seq}}}")?;
     let (to, by, length) = (REPAY, BROKER, body.len());
     Ok(format!(in alloc; "{to}\r\n{by}\r\nContent-Length: {length}\r\n\r\n{body}")?)
 }
 
-// Enters so many repayments of a penny, each by a request.
+/// Enters this many repayments of one penny, each by a request.
 fn repays<K: Keep>(
     rt: &impl Abort,
     alloc: Global,
@@ -171,7 +171,7 @@ fn repays<K: Keep>(
     Ok(())
 }
 
-// Checks that the whole statement has this text.
+/// Checks that the whole statement has this text.
 fn has_text<K: Keep>(
     rt: &impl Abort,
     alloc: Global,
@@ -183,8 +183,8 @@ fn has_text<K: Keep>(
     Ok(())
 }
 
-// Makes a write fail among the last lines of a statement, which come from the second page of its entries. After that
-// the same statement is written whole.
+/// Makes a write fail among the last lines of a statement, which come from the second page of its entries. After that
+/// the same statement is written completely.
 fn states_again<K: Keep>(rt: &impl Abort, alloc: Global, keep: &mut K) -> Result<(), Fail> {
     let whole = whole_of(rt, alloc, keep)?;
     let (text, at) = (whole.taken.as_slice(), whole.calls.saturating_sub(10));
@@ -192,7 +192,7 @@ fn states_again<K: Keep>(rt: &impl Abort, alloc: Global, keep: &mut K) -> Result
     has_text(rt, alloc, keep, text)
 }
 
-// Makes a write fail and the statement be written again. After that a change is made.
+/// Makes a write fail, has the statement written again, and then makes a change.
 fn goes_on<K: Keep>(rt: &impl Abort, alloc: Global, service: &mut Service<K>) -> Result<(), Fail> {
     takes_ring(rt, service);
     repays(rt, alloc, service, 70)?;
@@ -209,7 +209,7 @@ fn a_writer_that_fails_leaves_the_tables(rt: HostRuntime) -> Result<(), Fail> {
     goes_on(&rt, rt.alloc(), &mut service_over(&rt, rt.alloc(), keep))
 }
 
-// How many bytes a write took, or the sort of the inner writer's error.
+/// Returns how many bytes a write took, or the kind of the inner writer's error.
 fn answer_of(answer: io::Result<usize>) -> Result<usize, ErrorKind> {
     match answer {
         Ok(n) => Ok(n),
@@ -217,7 +217,7 @@ fn answer_of(answer: io::Result<usize>) -> Result<usize, ErrorKind> {
     }
 }
 
-// Writes to a writer that takes seven bytes a call, and whose second call answers so.
+/// Makes writes to a writer that writes seven bytes in a call, and whose second call has this result.
 fn writes_once(rt: &impl Abort, writer: &mut Writing<Flaky>, second: Result<usize, ErrorKind>) {
     let first = (answer_of(writer.write(b"Pledge 12")), writer.has_failed());
     assert_eq!(rt; first, (Ok(7), false));

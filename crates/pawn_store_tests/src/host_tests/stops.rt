@@ -1,7 +1,7 @@
-//! A file fails at some call of a run, as when the machine stops and what was not synced is lost. The tests check what
-//! is there when the store is opened again. Each call of either file is such a stop in turn, from the first, at which
-//! the empty store is opened, until a run meets none. The script `tests/store/disk.py` shows it over files of the
-//! system.
+//! A file fails at some call of a run, as when the machine stops and everything that was not synced is lost. The tests
+//! check what is there when the store is opened again. Each call of either file is such a stop in turn, from the first,
+//! at which the empty store is opened, until a run meets none. The script `tests/store/disk.py` shows the same over
+//! files of the system.
 
 use super::turns::{EXPORT, EXPORT_OTHER, TURNS};
 use super::{ROWS, bytes_of, service_of, service_over, stamp};
@@ -15,7 +15,7 @@ use std::alloc::Global;
 use std::process::Abort;
 use std::test::Fail;
 
-// What a service shows: the counts of a check of its keeper, and the texts of the two books.
+/// What a service shows: the counts of a check of its keeper, and the texts of the two books.
 #[derive(Drop)]
 struct Shown {
     counts: Result<Counts, CheckFault>,
@@ -40,14 +40,14 @@ fn are_same(one: &Shown, other: &Shown) -> bool {
         && bytes_of(&one.other) == bytes_of(&other.other)
 }
 
-// What a list shows after none of the turns, after the first, and so on to all of them.
+/// Returns what a list shows after none of the turns, after the first, and so on up to all of them.
 fn shown_after_each(rt: &impl Abort, alloc: Global) -> Result<Vec<Shown>, Fail> {
     let (mut service, mut all) = (service_of(rt, alloc, ROWS), Vec::new(alloc));
     show_each(rt, &mut service, &mut all)?;
     Ok(all)
 }
 
-// Adds what the service shows before the turns and after each.
+/// Adds what the service shows before the turns and after each of them.
 fn show_each<K: Keep>(
     rt: &impl Abort,
     service: &mut Service<K>,
@@ -61,7 +61,7 @@ fn show_each<K: Keep>(
     Ok(())
 }
 
-// How many turns a service answers before the first that it does not.
+/// Returns how many turns a service answers before the first that it does not answer.
 fn played<K: Keep>(rt: &impl Abort, service: &mut Service<K>) -> usize {
     let mut answered = 0usize;
     for turn in TURNS {
@@ -74,14 +74,14 @@ fn played<K: Keep>(rt: &impl Abort, service: &mut Service<K>) -> usize {
     answered
 }
 
-// What is done with a service, over whatever keeper.
+/// Work with a service over any keeper.
 trait Task {
     type Found;
 
     fn run<K: Keep>(&self, rt: &impl Abort, service: &mut Service<K>) -> Self::Found;
 }
 
-// Plays the turns. What is found is how many are answered before the first that is not.
+/// Plays the turns. The result is how many are answered before the first that is not.
 #[derive(Drop)]
 struct Playing;
 
@@ -93,7 +93,7 @@ impl Task for Playing {
     }
 }
 
-// Looks at what the service shows.
+/// The result is what the service shows.
 #[derive(Drop)]
 struct Looking;
 
@@ -105,7 +105,7 @@ impl Task for Looking {
     }
 }
 
-// Does a task with a service over a store.
+/// Does a task with a service over a store.
 #[derive(Drop)]
 struct Serving<'a, R: Abort, T: Task> {
     rt: &'a R,
@@ -124,8 +124,8 @@ impl<R: Abort, T: Task> Visit for Serving<'_, R, T> {
     }
 }
 
-// A run over disks. It has how many turns were answered before the first that was not, or none if the store was not
-// opened. It also has whether no call failed, and what a stop then leaves of the disks.
+/// A run over disks: how many turns were answered before the first that was not (`None` if the store was not opened),
+/// whether no call failed, and what a stop then leaves of the disks.
 #[derive(Drop)]
 struct Run {
     answered: Option<usize>,
@@ -143,7 +143,7 @@ fn run_on(rt: &impl Abort, alloc: Global, disks: Disks) -> Option<Run> {
     })
 }
 
-// Whether what is shown is what the list shows after one of these turns.
+/// Returns whether what is shown equals what the list shows after one of these turns.
 fn is_among(wanted: &[Shown], first: usize, last: usize, found: &Shown) -> bool {
     let mut stands = false;
     for (turns, shown) in wanted.iter().enumerate() {
@@ -152,8 +152,9 @@ fn is_among(wanted: &[Shown], first: usize, last: usize, found: &Shown) -> bool 
     stands
 }
 
-// Makes a file stop at that call. Then what was answered is there, with or without the turn in hand, or no book if the
-// stop came before the store was opened. Returns whether no call failed.
+/// Makes a file stop at this call, and checks what is there afterwards: the effect of all answered turns, with or
+/// without that of the turn that was being processed, or no book if the stop came before the store was opened. Returns
+/// whether no call failed.
 fn stops(
     rt: &impl Abort,
     alloc: Global,
@@ -178,7 +179,7 @@ fn stops(
     Ok(is_whole)
 }
 
-// Makes a file stop at its first call, at its second, and so on, until a run meets no stop.
+/// Makes a file stop at its first call, at its second, and so on, until a run meets no stop.
 fn stops_at_each_call(rt: &impl Abort, alloc: Global, failing: Failing) -> Result<(), Fail> {
     let wanted = shown_after_each(rt, alloc)?;
     until_whole(|calls| stops(rt, alloc, wanted.as_slice(), failing, calls))

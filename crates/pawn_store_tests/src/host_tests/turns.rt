@@ -11,8 +11,8 @@ pub struct Turn {
 /// The day of all turns.
 pub const DAY: &str = "2024-01-31";
 
-/// A ring is pawned and seen by its receipt, and the receipt is declared lost. The bearer asks to come, and redeems the
-/// ring, which cancels the booking. Another book is filled by an import.
+/// A ring is pawned and shown to the bearer of its receipt, and the receipt is declared lost. The bearer asks for a
+/// visit, and redeems the ring, which cancels the booking. Another book is filled by an import.
 pub const TURNS: [Turn; 9] = [
     Turn {
         word: 0,

@@ -1,9 +1,12 @@
-ghost use Rattle.{std.specs.Prelude.map, pawn_table_keeper.specs.Common.{with_head, HandsOver, item_of}};
+//! Passes items that were read to a visitor.
+ghost use Rattle.pawn_table_keeper.specs.Common.{with_head, HandsOver, item_of};
+ghost use Rattle.std.specs.Prelude.{map};
 
 use pawn_book::{Flow, Part, SheetItem, Visitor};
 use pawn_tables::Line;
 
-// Hands items to the visitor until it wants no more.
+/// Passes the items to the visitor in order, until it answers `Stop`. Returns the visitor's last answer, or `Go` if
+/// there are no items.
 pub(super) fn hand_all<T, V: Visitor<T>>(items: &[T], visitor: &mut V) -> Flow
     ensures hands { HandsOver V.step visitor.old items.now result visitor.new }
 {
@@ -16,7 +19,7 @@ pub(super) fn hand_all<T, V: Visitor<T>>(items: &[T], visitor: &mut V) -> Flow
     Flow::Go
 }
 
-// Hands the items of a part's lines to the visitor until it wants no more.
+/// Passes the items of a part's lines to the visitor until it answers `Stop`.
 pub(super) fn hand_lines<V: Visitor<SheetItem>>(part: Part, lines: &[Line], visitor: &mut V) -> Flow
     ensures hands { HandsOver V.step visitor.old (map (item_of part) lines.now) result visitor.new }
 {
@@ -30,8 +33,8 @@ pub(super) fn hand_lines<V: Visitor<SheetItem>>(part: Part, lines: &[Line], visi
     Flow::Go
 }
 
-// Hands the part's heading, which gives how many lines there are, and then the lines' items. The lines must be all that
-// the part has.
+/// Passes the part's heading, which has the number of the lines, and then the lines' items, until the visitor answers
+/// `Stop`. The caller passes all lines of the part.
 pub(super) fn hand_whole<V: Visitor<SheetItem>>(part: Part, lines: &[Line], visitor: &mut V) -> Flow
     ensures hands { HandsOver V.step visitor.old (with_head part (map (item_of part) lines.now)) result visitor.new }
 {

@@ -1,6 +1,9 @@
+//! Reads the lists of a pledge in pages, and passes their elements to a visitor.
+ghost use Rattle.pawn_table_keeper.specs.Common.{get, pledge_in, entries_of, extensions_of, secrets_of, Database};
+ghost use Rattle.pawn_table_keeper.specs.Common.{page_end, page_behind};
+ghost use Rattle.pawn_table_keeper.specs.Handing.{Hands, ReadsOfBook};
+ghost use Rattle.pawn_tables.specs.Entries.{IsEntriesPage, behind};
 ghost use Rattle.std.specs.Prelude.{◌≡◌, IfErr, IfOk};
-ghost use Rattle.pawn_table_keeper.specs.{Common.{get, pledge_in, entries_of, extensions_of, secrets_of, Database, page_end, page_behind}, Handing.Hands};
-ghost use Rattle.{pawn_table_keeper.specs.Handing.ReadsOfBook, pawn_tables.specs.Entries.{IsEntriesPage, behind}};
 ghost use Rattle.pawn_book.specs.declared.fault.KeepError.TheVariants as Keeper;
 
 use super::handing::hand_all;
@@ -12,11 +15,11 @@ use pawn_pledge::{Extensions, MOST_EXTENSIONS, MOST_SECRETS, Secrets};
 use pawn_tables::{PAGE_ROWS, entries_page, extensions_page, secrets_page};
 use sqlite::Alter;
 
-// How many elements a full page has, as a 32-bit number.
+/// How many elements a full page has, as a 32-bit number.
 const PLACES: u32 = PAGE_ROWS as u32;
 
 impl<S: Alter> TableKeep<S> {
-    // A page of a pledge's entries: those numbered `from` or more.
+    /// A page of a pledge's entries: those numbered `from` or more.
     fn entries_from(
         &mut self,
         book: Number,
@@ -33,8 +36,8 @@ impl<S: Alter> TableKeep<S> {
         page
     }
 
-    // Hands the entries of a pledge to the visitor until it wants no more. Each page begins after the number of the
-    // last entry before it, so a gap in the numbers does not end the walk.
+    /// Passes the entries of a pledge to the visitor until it answers `Stop`. Each page begins after the number of the
+    /// last entry of the page before, so a gap in the numbers does not end the walk.
     pub(super) fn hand_entries<V: Visitor<Entry>>(
         &mut self,
         book: Number,
@@ -58,7 +61,7 @@ impl<S: Alter> TableKeep<S> {
         Err(TOO_MANY)
     }
 
-    // A page of a pledge's secrets: those at places after `behind`.
+    /// A page of a pledge's secrets: those at places greater than `behind`.
     fn secrets_behind(
         &mut self,
         book: Number,
@@ -75,7 +78,7 @@ impl<S: Alter> TableKeep<S> {
         page
     }
 
-    // Hands the secrets of a pledge to the visitor until it wants no more.
+    /// Passes the secrets of a pledge to the visitor until it answers `Stop`.
     pub(super) fn hand_secrets<V: Visitor<Issued>>(
         &mut self,
         book: Number,
@@ -97,7 +100,7 @@ impl<S: Alter> TableKeep<S> {
         Err(TOO_MANY)
     }
 
-    // A page of a pledge's extensions: those at places after `behind`.
+    /// A page of a pledge's extensions: those at places greater than `behind`.
     fn extensions_behind(
         &mut self,
         book: Number,
@@ -114,7 +117,7 @@ impl<S: Alter> TableKeep<S> {
         page
     }
 
-    // Hands the extensions of a pledge to the visitor until it wants no more.
+    /// Passes the extensions of a pledge to the visitor until it answers `Stop`.
     pub(super) fn hand_extensions<V: Visitor<Extension>>(
         &mut self,
         book: Number,
@@ -137,8 +140,8 @@ impl<S: Alter> TableKeep<S> {
     }
 }
 
-// The number from which the next page of entries begins: one more than the last entry's. It is an error if 32 bits
-// can't hold it.
+/// The number at which the next page of entries begins: one more than the last entry's, or `from` if the page is empty.
+/// `BEYOND` if 32 bits cannot hold it.
 fn behind_entries(from: u32, page: &[Entry]) -> Result<u32, KeepError>
     ensures value { IfOk result (λ n. n ≡ page_end behind from page.now) }
     ensures beyond { IfErr result (λ e. e ≡ Keeper.Store Database) }

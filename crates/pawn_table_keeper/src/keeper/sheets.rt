@@ -1,6 +1,9 @@
+//! Reads a day's sheet in pages, and passes its items to a visitor.
+ghost use Rattle.pawn_table_keeper.specs.Common.{get, pledges_of, day_sheet, part_items, window_sheet, windows_sheet};
+ghost use Rattle.pawn_table_keeper.specs.Common.{with_head, IsLinesPage, NamesWindows, page_end};
+ghost use Rattle.pawn_table_keeper.specs.Handing.{Hands, ReadsOfBook};
+ghost use Rattle.pawn_table_keeper.specs.Windows.{named_sheet, named_sheets};
 ghost use Rattle.std.specs.Prelude.{◌≡◌, length};
-ghost use Rattle.pawn_table_keeper.specs.Common.{get, pledges_of, day_sheet, part_items, window_sheet, windows_sheet, with_head, IsLinesPage, NamesWindows};
-ghost use Rattle.pawn_table_keeper.specs.{Common.page_end, Handing.{Hands, ReadsOfBook}, Windows.{named_sheet, named_sheets}};
 
 use super::handing::{hand_lines, hand_whole};
 use super::{TOO_MANY, TableKeep};
@@ -12,7 +15,7 @@ use pawn_tables::{Line, PAGE_ROWS, count_in, lines_page, windows_in};
 use sqlite::Alter;
 
 impl<S: Alter> TableKeep<S> {
-    // How many items a part of a day's sheet has.
+    /// How many items a part of a day's sheet has, without its heading.
     fn count_part(&mut self, book: Number, day: Day, part: Part) -> Result<u64, KeepError>
         ensures tells { ReadsOfBook S.Store self.old self.new book result (λ h count. count ≡ length (part_items part day (pledges_of (get h.books book)))) }
     {
@@ -23,7 +26,7 @@ impl<S: Alter> TableKeep<S> {
         count
     }
 
-    // A page of a part's lines: those of the pledges with numbers above `above`.
+    /// A page of a part's lines: those of the pledges with numbers greater than `above`.
     fn lines_above(
         &mut self,
         book: Number,
@@ -40,7 +43,7 @@ impl<S: Alter> TableKeep<S> {
         page
     }
 
-    // Hands a part's items to the visitor until it wants no more.
+    /// Passes a part's items to the visitor until it answers `Stop`.
     fn hand_part<V: Visitor<SheetItem>>(
         &mut self,
         book: Number,
@@ -65,8 +68,8 @@ impl<S: Alter> TableKeep<S> {
         Err(TOO_MANY)
     }
 
-    // Hands a part's heading and then its items, until the visitor wants no more. The tables are asked how many items
-    // there are.
+    /// Passes a part's heading and then its items to the visitor, until it answers `Stop`. The number of the items is
+    /// counted by a query.
     fn hand_counted<V: Visitor<SheetItem>>(
         &mut self,
         book: Number,
@@ -85,8 +88,8 @@ impl<S: Alter> TableKeep<S> {
         }
     }
 
-    // Hands a part's heading and then its items, until the visitor wants no more. If they fit on one page, the page
-    // gives how many there are, and the tables are not asked to count.
+    /// Passes a part's heading and then its items to the visitor, until it answers `Stop`. If the first page is not
+    /// full, it has all items, and no query counts them.
     fn hand_headed<V: Visitor<SheetItem>>(
         &mut self,
         book: Number,
@@ -104,7 +107,8 @@ impl<S: Alter> TableKeep<S> {
         self.hand_counted(book, day, part, visitor)
     }
 
-    // Hands a window's heading and items to the visitor until it wants no more; nothing if nobody comes in that window.
+    /// Passes a window's heading and items to the visitor until it answers `Stop`; nothing if the window has no
+    /// confirmed booking.
     fn hand_window<V: Visitor<SheetItem>>(
         &mut self,
         book: Number,
@@ -126,7 +130,7 @@ impl<S: Alter> TableKeep<S> {
         self.hand_counted(book, day, part, visitor)
     }
 
-    // The windows in which somebody comes on a day.
+    /// The windows of a day that have a confirmed booking, each once, in any order.
     fn windows_on(&mut self, book: Number, day: Day) -> Result<Rows<u64>, KeepError>
         ensures tells { ReadsOfBook S.Store self.old self.new book result (λ h windows. NamesWindows day (pledges_of (get h.books book)) windows) }
     {
@@ -137,7 +141,7 @@ impl<S: Alter> TableKeep<S> {
         windows
     }
 
-    // Hands a window's items to the visitor until it wants no more, if the window is one of these.
+    /// Passes a window's heading and items to the visitor until it answers `Stop`, if the window is among `windows`.
     fn hand_named<V: Visitor<SheetItem>>(
         &mut self,
         book: Number,
@@ -156,7 +160,8 @@ impl<S: Alter> TableKeep<S> {
         }
     }
 
-    // Hands the items of these windows to the visitor until it wants no more.
+    /// Passes the headings and items of these windows to the visitor, in the order of the windows, until it answers
+    /// `Stop`.
     fn hand_these<V: Visitor<SheetItem>>(
         &mut self,
         book: Number,
@@ -176,7 +181,8 @@ impl<S: Alter> TableKeep<S> {
         Ok(Flow::Go)
     }
 
-    // Hands the windows' items to the visitor until it wants no more. Only those windows are read in which somebody comes.
+    /// Passes the headings and items of all windows to the visitor until it answers `Stop`. Only windows that have a
+    /// confirmed booking are read.
     fn hand_windows<V: Visitor<SheetItem>>(
         &mut self,
         book: Number,
@@ -189,7 +195,8 @@ impl<S: Alter> TableKeep<S> {
         self.hand_these(book, day, windows.as_slice(), visitor)
     }
 
-    // Hands the items of a day's sheet to the visitor until it wants no more.
+    /// Passes a day's sheet to the visitor until it answers `Stop`: the windows, then the visits that are asked, then
+    /// the pledges whose period ends.
     pub(super) fn hand_sheet<V: Visitor<SheetItem>>(
         &mut self,
         book: Number,
@@ -210,7 +217,7 @@ impl<S: Alter> TableKeep<S> {
     }
 }
 
-// The number above which the next page of lines begins: that of the last line.
+/// The number after which the next page of lines begins: that of the last line, or `above` if the page is empty.
 fn behind_lines(above: u32, page: &[Line]) -> u32
     ensures value { result ≡ page_end (λ l. l.number) above page.now }
 {

@@ -1,15 +1,18 @@
+//! Joins what was read of a pledge into its brief.
+ghost use Rattle.pawn_tables.specs.Common.{IsDayNumber, brief_of, PledgeValue, end_of, last_secret, live_under, Issued};
+ghost use Rattle.pawn_tables.specs.Finding.{IsRead};
+ghost use Rattle.pawn_tables.specs.ListEnds.{AreListEnds, last_issued};
+ghost use Rattle.pawn_tables.specs.PledgeRows.{AreSides, HasSecret, IsBriefTold, row_of};
 ghost use Rattle.std.specs.Prelude.{◌≡◌, List, length};
-ghost use Rattle.pawn_tables.specs.{Common.{IsDayNumber, brief_of, PledgeValue, end_of, last_secret, live_under, Issued}, Finding.IsRead, ListEnds.AreListEnds};
-ghost use Rattle.pawn_tables.specs.{ListEnds.last_issued, PledgeRows.{AreSides, HasSecret, IsBriefTold, row_of}};
 
-use super::pledges::{ends_of, parts_beside, record_of};
+use super::pledges::{ends_of, joined_rows, record_of};
 use crate::cells::{NO_RECORD, day_of};
 use crate::joining::{LastSecret, ListEnds, RowsBeside};
 use crate::records::PledgeRow;
 use pawn_book::{Brief, BriefFields, Closing, KeepError, Number, Secret};
 use pawn_pledge::Counts;
 
-// The last secret alone.
+/// The secret itself, without its place and how it was issued.
 fn secret_of(last: Option<LastSecret>) -> Option<Secret>
     ensures value { (secrets : List Issued) → last ≡ last_issued secrets → result ≡ last_secret secrets }
 {
@@ -19,7 +22,7 @@ fn secret_of(last: Option<LastSecret>) -> Option<Secret>
     }
 }
 
-// The live secret: the last one, unless the pledge is redeemed.
+/// The live secret: the last one, unless the pledge is redeemed.
 fn live_of(closing: Closing, last: Option<LastSecret>) -> Option<Secret>
     ensures value { (secrets : List Issued) → last ≡ last_issued secrets → result ≡ live_under closing (last_secret secrets) }
 {
@@ -29,8 +32,8 @@ fn live_of(closing: Closing, last: Option<LastSecret>) -> Option<Secret>
     }
 }
 
-// How many secrets there are, by the place of the last.
-fn place_of(last: Option<LastSecret>) -> u64
+/// How many secrets there are: the place of the last one, or 0.
+fn secret_count(last: Option<LastSecret>) -> u64
     ensures value { (secrets : List Issued) → last ≡ last_issued secrets → result ≡ length secrets }
 {
     match last {
@@ -39,19 +42,19 @@ fn place_of(last: Option<LastSecret>) -> u64
     }
 }
 
-// How many entries, secrets and extensions there are.
+/// How many entries, secrets and extensions there are.
 fn counts_of(list_ends: ListEnds) -> Counts
     ensures value { (p : PledgeValue) → AreListEnds list_ends p → result ≡ (brief_of p).counts }
 {
     Counts {
         entries: list_ends.entries as usize,
-        secrets: place_of(list_ends.last) as usize,
+        secrets: secret_count(list_ends.last) as usize,
         extensions: list_ends.extensions as usize,
     }
 }
 
-// The fields of the brief of what was read of a pledge. The pledge must have terms, totals and a secret, and the end of
-// its period must be a day.
+/// The fields of the brief, from what was read of a pledge. `NoRecord` if its terms, its totals or its last secret is
+/// missing, or if the end of its period is no day.
 fn fields_of(
     number: Number,
     row: PledgeRow,
@@ -61,7 +64,7 @@ fn fields_of(
     ensures read { (p : PledgeValue) → number ≡ p.agreement.number → row ≡ row_of p
         → AreSides sides p → AreListEnds list_ends p → IsRead result (brief_of p) (HasSecret p × IsDayNumber (end_of p)) }
 {
-    let Some((terms, booking, totals)) = parts_beside(sides) else {
+    let Some((terms, booking, totals)) = joined_rows(sides) else {
         return Err(NO_RECORD);
     };
     if list_ends.last.is_none() {
@@ -80,8 +83,8 @@ fn fields_of(
     })
 }
 
-/// The brief of what was read of a pledge, if it is within the limits; otherwise `NoRecord`.
-pub(crate) fn join(
+/// The brief, from what was read of a pledge. `NoRecord` if a part is missing or the brief is not within its limits.
+pub(crate) fn join_brief(
     number: Number,
     row: PledgeRow,
     sides: RowsBeside,

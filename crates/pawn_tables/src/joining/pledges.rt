@@ -1,5 +1,8 @@
+//! Joins what was read of a pledge into the pledge, and compares the stored totals and end with those that follow.
+ghost use Rattle.pawn_tables.specs.Common.{totals_of, PledgeValue, debt_of, end_of, IsReachable};
+ghost use Rattle.pawn_tables.specs.Finding.{IsRead};
+ghost use Rattle.pawn_tables.specs.PledgeRows.{AreLists, AreSides, row_of};
 ghost use Rattle.std.specs.Prelude.{◌≡◌, ◌↔◌, IfOk, IfSome, IsTrue, Some};
-ghost use Rattle.pawn_tables.specs.{Common.{totals_of, PledgeValue, debt_of, end_of, IsStanding}, Finding.IsRead, PledgeRows.{AreLists, AreSides, row_of}};
 
 use crate::cells::NO_RECORD;
 use crate::joining::{Lists, RowsBeside};
@@ -7,7 +10,7 @@ use crate::records::PledgeRow;
 use pawn_book::{Agreement, Booking, KeepError, Number, Parts, Pledge, Standing, Terms};
 use pawn_debt::Totals;
 
-// Whether the stored end of the period and totals are those that follow from the pledge's record.
+/// Whether the stored end of the period and totals are those that follow from the pledge's record.
 fn agrees(pledge: &Pledge, ends: u64, totals: Totals) -> bool
     ensures answer { IsTrue result ↔ ((ends ≡ end_of pledge.now) × (totals ≡ totals_of (debt_of pledge.now))) }
 {
@@ -16,14 +19,14 @@ fn agrees(pledge: &Pledge, ends: u64, totals: Totals) -> bool
     end == ends && owed == totals
 }
 
-// The end of the period, as the row has it.
+/// The day number of the end of the period, as it is stored.
 pub(super) fn ends_of(row: &PledgeRow) -> u64
     ensures value { result ≡ row.now.ends }
 {
     row.ends
 }
 
-// The agreement and the standing of a pledge, put together from what was read.
+/// The agreement and the standing (the fields that can change) of a pledge, from what was read.
 pub(super) fn record_of(
     number: Number,
     row: PledgeRow,
@@ -58,8 +61,8 @@ pub(super) fn record_of(
     (agreement, standing)
 }
 
-// The record of a pledge, put together from what was read.
-fn parts_of(
+/// The record of a pledge, from what was read.
+fn joined_parts(
     number: Number,
     row: PledgeRow,
     terms: Terms,
@@ -84,8 +87,8 @@ fn parts_of(
     }
 }
 
-// The terms, the booking and the totals of a pledge. It must have terms and totals.
-pub(super) fn parts_beside(sides: RowsBeside) -> Option<(Terms, Option<Booking>, Totals)>
+/// The terms, the booking and the totals of a pledge; `None` if terms or totals are missing.
+pub(super) fn joined_rows(sides: RowsBeside) -> Option<(Terms, Option<Booking>, Totals)>
     ensures value { (p : PledgeValue) → AreSides sides p → result ≡ Some (p.agreement.terms, p.standing.booking, totals_of (debt_of p)) }
     ensures totals { IfSome result (λ parts. sides.totals ≡ Some parts.2) }
 {
@@ -95,8 +98,8 @@ pub(super) fn parts_beside(sides: RowsBeside) -> Option<(Terms, Option<Booking>,
     }
 }
 
-// The pledge, if what is stored of it agrees.
-fn agreeing(pledge: Pledge, ends: u64, totals: Totals) -> Result<Pledge, KeepError>
+/// The pledge, if the stored end and totals are those that follow from its record; otherwise `NoRecord`.
+fn expect_totals(pledge: Pledge, ends: u64, totals: Totals) -> Result<Pledge, KeepError>
     ensures read { IsRead result pledge ((ends ≡ end_of pledge) × (totals ≡ totals_of (debt_of pledge))) }
     ensures agrees { IfOk result (λ p. (ends ≡ end_of p) × (totals ≡ totals_of (debt_of p))) }
 {
@@ -107,25 +110,25 @@ fn agreeing(pledge: Pledge, ends: u64, totals: Totals) -> Result<Pledge, KeepErr
     }
 }
 
-/// The pledge of what was read of it. `NoRecord` if no pledge can have this record, or if the stored end or totals are
-/// not those that follow from it.
-pub(crate) fn join(
+/// The pledge, from what was read of it. `NoRecord` if terms or totals are missing, if no pledge can have this record,
+/// or if the stored end or totals are not those that follow from it.
+pub(crate) fn join_pledge(
     number: Number,
     row: PledgeRow,
     sides: RowsBeside,
     lists: Lists,
 ) -> Result<Pledge, KeepError>
-    ensures read { (p : PledgeValue) → number ≡ p.agreement.number → row ≡ row_of p → AreSides sides p → AreLists lists p → IsRead result p (IsStanding p) }
+    ensures read { (p : PledgeValue) → number ≡ p.agreement.number → row ≡ row_of p → AreSides sides p → AreLists lists p → IsRead result p (IsReachable p) }
     ensures ends { IfOk result (λ p. row.ends ≡ end_of p) }
     ensures totals { IfOk result (λ p. sides.totals ≡ Some (totals_of (debt_of p))) }
 {
-    let Some((terms, booking, totals)) = parts_beside(sides) else {
+    let Some((terms, booking, totals)) = joined_rows(sides) else {
         return Err(NO_RECORD);
     };
     let ends = ends_of(&row);
-    let parts = parts_of(number, row, terms, booking, lists);
+    let parts = joined_parts(number, row, terms, booking, lists);
     let Ok(pledge) = Pledge::of_parts(parts) else {
         return Err(NO_RECORD);
     };
-    agreeing(pledge, ends, totals)
+    expect_totals(pledge, ends, totals)
 }

@@ -1,4 +1,4 @@
-//! Imports into a book that is kept in lists. Which rows make a book is shown by the script `tests/answers/borders.py`.
+//! Tests of imports into a book in a list. The script `tests/answers/borders.py` shows which rows make a book.
 use super::{KEY, OPERATOR, answer_to, asked, day, make, number};
 use crate::acting::acted;
 use pawn_book::{
@@ -15,7 +15,7 @@ const IMPORT: u128 = 77;
 
 const ANOTHER: u128 = 88;
 
-// A text with a pledge that was repaid in part, whose receipt was declared lost, and whose bearer has a booking.
+/// A text with a pledge that was partly repaid, whose receipt was declared lost, and whose bearer has a booking.
 const ROWS: &str = book_text!(
     "B,2,1,1,,,,,,,,,,,\nT,1,0,0,0,,,,,,,,,,\n\
         P,1,A1,Gold ring,fixed,10000,2024-01-31,,no,1,no,2024-02-01,open,,\nS,1,1,2024-01-31,opening,00000000-0000-0000-0000-000000000003,,,,,,,,,\n\
@@ -26,7 +26,7 @@ fn rows(alloc: Global) -> Result<ReplayableRows, Fail> {
     Ok(read_book(alloc, ROWS.as_bytes()).ok().ok_or("no book")?)
 }
 
-// The answer to an import of the rows into book 7 under a key.
+/// Returns the answer to an import of the rows into book 7 under a key of the import.
 fn imports(alloc: Global, keep: &mut ListKeep, key: u128) -> Result<Result<Reply, Refusal>, Fail> {
     let (book, day) = (number(7)?, day()?);
     let (key, operator) = (Secret::of_word(key), Secret::of_word(OPERATOR));
@@ -42,7 +42,7 @@ fn imports(alloc: Global, keep: &mut ListKeep, key: u128) -> Result<Result<Reply
     }
 }
 
-// A keeper with book 7 and room for so many rows.
+/// Returns a keeper with book 7 and room for this many rows.
 fn made(alloc: Global, limit: u64) -> Result<ListKeep, Fail> {
     let mut keep = ListKeep::new(alloc, limit.min(100));
     let turn = asked(1, make(), Ok(Reply::BookMade(number(7)?)));
@@ -52,7 +52,7 @@ fn made(alloc: Global, limit: u64) -> Result<ListKeep, Fail> {
     Ok(keep)
 }
 
-// Whether what was imported can be read again as it was.
+/// Returns whether the imported rows can be read as they were.
 fn is_read(alloc: Global, keep: &mut ListKeep) -> Result<bool, Fail> {
     let book = number(7)?;
     let imported = Imported {
@@ -70,7 +70,7 @@ fn is_read(alloc: Global, keep: &mut ListKeep) -> Result<bool, Fail> {
     Ok(is_filled && found? == Some(number(1)?) && keep.rows()? == 7)
 }
 
-// The book, its terms and its pledge, with an entry, two secrets and a booking, are seven rows.
+/// The book, its terms and its pledge, with an entry, two secrets and a booking, count as seven rows.
 #[test]
 fn an_import_fills_a_book_once(rt: HostRuntime) -> Result<(), Fail> {
     let alloc = rt.alloc();
@@ -88,7 +88,7 @@ fn an_import_fills_a_book_once(rt: HostRuntime) -> Result<(), Fail> {
     Ok(())
 }
 
-// What putting the rows into book 7 by this key comes to.
+/// Returns the answer to an import of the rows into book 7 with this key of the book.
 fn put_by(alloc: Global, keep: &mut ListKeep, key: u128) -> Result<Result<Reply, Refusal>, Fail> {
     let (book, day) = (number(7)?, day()?);
     let (key, own) = (Secret::of_word(key), Secret::of_word(IMPORT));
@@ -96,7 +96,7 @@ fn put_by(alloc: Global, keep: &mut ListKeep, key: u128) -> Result<Result<Reply,
     Ok(import(alloc, keep, &stamp, book, key, own, rows))
 }
 
-// Whether the day sheet of the booking's day has the booking.
+/// Returns whether the sheet of the booking's day lists the booking.
 fn is_on_its_sheet(alloc: Global, keep: &mut ListKeep) -> Result<bool, Fail> {
     let (window, count) = (3, 1);
     let sheet = [
@@ -123,7 +123,7 @@ fn rows_are_put_by_the_books_key_alone(rt: HostRuntime) -> Result<(), Fail> {
     Ok(())
 }
 
-// Checks that a copy of the rows has their terms and their pledge.
+/// Checks that a copy of the rows has their terms and their pledge.
 fn is_whole(rt: &impl Abort, copy: &BookRows) -> Result<(), Fail> {
     assert!(rt; replayable(copy));
     assert!(rt; !copy.terms.is_empty());

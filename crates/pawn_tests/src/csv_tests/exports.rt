@@ -1,4 +1,4 @@
-//! The text of a book without terms and pledges.
+//! Tests of exporting a book without terms and pledges.
 ghost use Rattle.std.specs.Prelude.{Some};
 
 use crate::acting::acted;
@@ -12,7 +12,7 @@ use std::test::Fail;
 
 const TEXT: &str = book_text!("B,2,0,0,,,,,,,,,,,\n");
 
-// A writer that takes one byte, and then fails.
+/// A writer that writes one byte, and then fails.
 #[derive(Drop)]
 struct OneByte {
     taken: Vec<u8>,
@@ -39,7 +39,7 @@ fn number(n: u64) -> Result<Number, Fail> {
     Ok(Number::new(n).ok_or("no number")?)
 }
 
-// The request to make book 7, by the operator's key.
+/// Returns the request to make book 7, with the operator's key.
 fn making(alloc: Global, key: Secret) -> Result<Request, Fail> {
     let (book, capacity) = (number(7)?, Capacity::new(1).ok_or("no capacity")?);
     let new_book = NewBook {
@@ -51,7 +51,7 @@ fn making(alloc: Global, key: Secret) -> Result<Request, Fail> {
     Ok(Request { book, caller })
 }
 
-// Makes book 7.
+/// Makes book 7.
 fn makes(alloc: Global, keep: &mut ListKeep) -> Result<(), Fail> {
     let (key, day) = (Secret::of_word(2), RequestDay::of_text(b"2024-01-31")?);
     let answer = {
@@ -64,7 +64,7 @@ fn makes(alloc: Global, keep: &mut ListKeep) -> Result<(), Fail> {
     }
 }
 
-// A keeper of book 7.
+/// Returns a keeper that has book 7.
 fn one_book(alloc: Global) -> Result<ListKeep, Fail> {
     let mut keep = ListKeep::new(alloc, 100);
     match makes(alloc, &mut keep) {

@@ -1,4 +1,4 @@
-//! Readers of a text that fail.
+//! Tests of readers that fail inside a text.
 ghost use Rattle.std.specs.Prelude.{Some};
 
 use super::EXAMPLE;
@@ -8,7 +8,7 @@ use std::io;
 use std::io::{ErrorKind, Read};
 use std::test::Fail;
 
-// A reader of a text that fails at its end.
+/// A reader that returns these bytes, and then fails.
 #[derive(Drop)]
 struct Torn<'a> {
     bytes: &'a [u8],
@@ -25,7 +25,7 @@ impl Read for Torn<'_> {
     }
 }
 
-// Whether reading the text fails with `Read` at that row.
+/// Returns whether reading the text fails with `Read` at this row.
 fn is_torn(alloc: Global, bytes: &[u8], row: u64) -> bool {
     match read_book(alloc, Torn { bytes }) {
         Ok(_) => false,
@@ -33,7 +33,7 @@ fn is_torn(alloc: Global, bytes: &[u8], row: u64) -> bool {
     }
 }
 
-// A row that was read whole is judged before the reader fails.
+/// The fault of a reader is reported at the row after the complete ones.
 #[test]
 fn a_reader_that_fails_is_told_of_at_the_row(rt: HostRuntime) -> Result<(), Fail> {
     let alloc = rt.alloc();

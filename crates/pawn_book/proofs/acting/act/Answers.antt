@@ -1,5 +1,6 @@
-use Rattle.{std.proofs.Common.{rules, ◌≡◌, Err, subst, sym}, pawn_book.specs.Plans.{Acts, Commits, IsLeftByAct, IsLeftByCommit, Plans}}
 use Rattle.pawn_book.proofs.ActLemmas.{made_acts, made_left, refused_acts, step_of, unmade_acts, unmade_left}
+use Rattle.pawn_book.specs.Plans.{Acts, Commits, IsLeftByAct, IsLeftByCommit, Plans}
+use Rattle.std.proofs.Common.{rules, ◌≡◌, Err, subst, sym}
 use Rattle.pawn_book.proofs.acting.act.Goals as goal
 
 pub returns-in_err-planned-clause-acts : goal.returns-in_err-planned-clause-acts

@@ -1,4 +1,5 @@
-use Rattle.{std.proofs.Common.{inl, inr, refl}, pawn_book.proofs.ActLemmas.{refused_left, saved_left}}
+use Rattle.pawn_book.proofs.ActLemmas.{refused_left, saved_left}
+use Rattle.std.proofs.Common.{inl, inr, refl}
 use Rattle.pawn_book.specs.declared.refusal.Refusal.TheVariants as no
 use Rattle.pawn_book.proofs.acting.commit.Goals as goal
 

@@ -1,6 +1,9 @@
-use Rattle.{std.proofs.Common.{◌≡◌, ◌∙◌, ap, Err, Ok, rules, subst, sym}, pawn_book.specs.{Common.pledge_step, Plans.{FindsRoom, IsOutcome, Plans, outcome_of}}}
+use Rattle.pawn_book.proofs.CommandPlans.{number_plans, number_refused}
+use Rattle.pawn_book.proofs.Reading.{ok_is, reads_then}
 use Rattle.pawn_book.specs.BookStep.{broker_commands, judged_outcome, pledge_from}
-use Rattle.pawn_book.proofs.{CommandPlans.{number_plans, number_refused}, Reading.{ok_is, reads_then}}
+use Rattle.pawn_book.specs.Common.{pledge_step}
+use Rattle.pawn_book.specs.Plans.{FindsRoom, IsOutcome, Plans, outcome_of}
+use Rattle.std.proofs.Common.{◌≡◌, ◌∙◌, ap, Err, Ok, rules, subst, sym}
 use Rattle.pawn_book.proofs.commands.plan_number.Goals as goal
 
 pub returns-clause-reads : goal.returns-clause-reads

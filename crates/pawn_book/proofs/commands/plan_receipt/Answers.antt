@@ -1,5 +1,6 @@
-use Rattle.std.proofs.Common.{rules}
-use Rattle.{std.proofs.Common.{◌∙◌, ap, Ok}, pawn_book.proofs.{CommandPlans.receipt_plans, Reading.{ok_is, reads_as}}}
+use Rattle.pawn_book.proofs.CommandPlans.{receipt_plans}
+use Rattle.pawn_book.proofs.Reading.{ok_is, reads_as}
+use Rattle.std.proofs.Common.{rules, ◌∙◌, ap, Ok}
 use Rattle.pawn_book.proofs.commands.plan_receipt.Goals as goal
 
 pub returns-in-Ok-Some-clause-reads : goal.returns-in-Ok-Some-clause-reads

@@ -1,4 +1,5 @@
-use Rattle.std.proofs.{Common.{arith, rules}, lemmas.Grind.{common_steps}}
+use Rattle.std.proofs.Common.{arith, rules}
+use Rattle.std.proofs.lemmas.Grind.{common_steps}
 use Rattle.pawn_book.proofs.gates.find_live.Goals as goal
 
 pub returns-in-Ok-Some-clause-reads : goal.returns-in-Ok-Some-clause-reads

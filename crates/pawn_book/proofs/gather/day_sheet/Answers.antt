@@ -1,4 +1,6 @@
-use Rattle.{std.proofs.Common.{◌∙◌, ap, sym, ◌++◌, append-nil, refl}, pawn_book.proofs.{Reading.reads_as, VisitLemmas.gathered}}
+use Rattle.pawn_book.proofs.Reading.{reads_as}
+use Rattle.pawn_book.proofs.VisitLemmas.{gathered}
+use Rattle.std.proofs.Common.{◌∙◌, ap, sym, ◌++◌, append-nil, refl}
 use Rattle.pawn_book.proofs.gather.day_sheet.Goals as goal
 
 pub returns-clause-reads : goal.returns-clause-reads

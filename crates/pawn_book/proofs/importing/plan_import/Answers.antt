@@ -1,5 +1,5 @@
-use Rattle.std.proofs.Common.{rules}
-use Rattle.{std.proofs.Common.{◌∙◌, sym}, pawn_book.proofs.Plans.{import_plans, planned_so}}
+use Rattle.pawn_book.proofs.Plans.{import_plans, planned_so}
+use Rattle.std.proofs.Common.{rules, ◌∙◌, sym}
 use Rattle.pawn_book.proofs.importing.plan_import.Goals as goal
 
 pub returns-else-not-is_empty-clause-plans : goal.returns-else-not-is_empty-clause-plans

@@ -1,4 +1,5 @@
-use Rattle.pawn_book.proofs.{SlotAccepted.traces_are_accepted, SlotRuns.{bearers_join, slots_are_held}}
+use Rattle.pawn_book.proofs.SlotAccepted.{traces_are_accepted}
+use Rattle.pawn_book.proofs.SlotRuns.{bearers_join, slots_are_held}
 use Rattle.pawn_book.proofs.laws.slots_are_held.Goals as goal
 
 pub returns : goal.returns

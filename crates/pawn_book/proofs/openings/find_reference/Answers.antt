@@ -1,4 +1,7 @@
-use Rattle.{std.proofs.{Common.{◌∙◌, ap, Ok}, lemmas.Result.IfOk-weaker}, pawn_book.proofs.{Plans.found_by_number, Reading.{ok_is, reads_then}}}
+use Rattle.pawn_book.proofs.Plans.{found_by_number}
+use Rattle.pawn_book.proofs.Reading.{ok_is, reads_then}
+use Rattle.std.proofs.Common.{◌∙◌, ap, Ok}
+use Rattle.std.proofs.lemmas.Result.{IfOk-weaker}
 use Rattle.pawn_book.proofs.openings.find_reference.Goals as goal
 
 pub returns-in-Ok-Some-clause-reads : goal.returns-in-Ok-Some-clause-reads

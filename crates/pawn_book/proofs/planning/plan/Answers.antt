@@ -1,4 +1,5 @@
-use Rattle.std.proofs.{Common.{arith, rules}, lemmas.Grind.{common_steps}}
+use Rattle.std.proofs.Common.{arith, rules}
+use Rattle.std.proofs.lemmas.Grind.{common_steps}
 use Rattle.pawn_book.proofs.planning.plan.Goals as goal
 
 pub returns-in-TakePledge-clause-reads : goal.returns-in-TakePledge-clause-reads

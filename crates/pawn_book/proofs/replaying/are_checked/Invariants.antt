@@ -1,4 +1,5 @@
-use Rattle.{std.proofs.Common.drop, pawn_book.specs.Common.{Each, IsChecked, Rates}}
+use Rattle.pawn_book.specs.Common.{Each, IsChecked, Rates}
+use Rattle.std.proofs.Common.{drop}
 use Rattle.pawn_book.proofs.replaying.are_checked.Given as goal
 
 abbrev pub invariant-loop-rates : goal.invariant-loop-rates

@@ -1,4 +1,5 @@
-use Rattle.{std.proofs.Common.{◌+◌, drop}, pawn_book.specs.Rows.AreNumberedFrom}
+use Rattle.pawn_book.specs.Rows.{AreNumberedFrom}
+use Rattle.std.proofs.Common.{◌+◌, drop}
 use Rattle.pawn_book.proofs.replaying.are_numbered.Given as goal
 
 abbrev pub invariant-loop-place : goal.invariant-loop-place

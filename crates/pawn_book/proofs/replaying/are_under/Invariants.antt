@@ -1,4 +1,6 @@
-use Rattle.{std.proofs.Common.drop, pawn_book.specs.{Common.{Each, PledgeValue}, Rows.IsUnder}}
+use Rattle.pawn_book.specs.Common.{Each, PledgeValue}
+use Rattle.pawn_book.specs.Rows.{IsUnder}
+use Rattle.std.proofs.Common.{drop}
 use Rattle.pawn_book.proofs.replaying.are_under.Given as goal
 
 abbrev pub invariant-loop-parts : goal.invariant-loop-parts

@@ -1,4 +1,6 @@
-use Rattle.{std.proofs.Common.drop, pawn_book.specs.{Common.DoNotFall, Rows.version_of}}
+use Rattle.pawn_book.specs.Common.{DoNotFall}
+use Rattle.pawn_book.specs.Rows.{version_of}
+use Rattle.std.proofs.Common.{drop}
 use Rattle.pawn_book.proofs.replaying.do_not_fall.Given as goal
 
 abbrev pub invariant-loop-parts : goal.invariant-loop-parts

@@ -1,4 +1,6 @@
-use Rattle.{std.proofs.Common.{◌≡◌, drop}, pawn_book.specs.{Common.list_any, Rows.{references_of, is_same_text}}}
+use Rattle.pawn_book.specs.Common.{list_any}
+use Rattle.pawn_book.specs.Rows.{references_of, is_same_text}
+use Rattle.std.proofs.Common.{◌≡◌, drop}
 use Rattle.pawn_book.proofs.replaying.has_reference.Given as goal
 
 abbrev pub invariant-loop-parts : goal.invariant-loop-parts

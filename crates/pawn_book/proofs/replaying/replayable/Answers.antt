@@ -1,4 +1,7 @@
-use Rattle.{std.proofs.Common.{List, subst, sym}, pawn_book.{specs.{Common.{PledgeValue, Rates}, Rows.AreReplayable}, proofs.Sounds.sound_filled}}
+use Rattle.pawn_book.proofs.Sounds.{sound_filled}
+use Rattle.pawn_book.specs.Common.{PledgeValue, Rates}
+use Rattle.pawn_book.specs.Rows.{AreReplayable}
+use Rattle.std.proofs.Common.{List, subst, sym}
 use Rattle.pawn_book.proofs.replaying.replayable.Goals as goal
 
 pub returns-clause-sound : goal.returns-clause-sound

@@ -1,4 +1,6 @@
-use Rattle.{std.proofs.Common.drop, pawn_book.specs.{Common.{Each, PledgeValue}, Sound.HasTextsAndWords}}
+use Rattle.pawn_book.specs.Common.{Each, PledgeValue}
+use Rattle.pawn_book.specs.Sound.{HasTextsAndWords}
+use Rattle.std.proofs.Common.{drop}
 use Rattle.pawn_book.proofs.rows.know_records.Given as goal
 
 abbrev pub invariant-loop-parts : goal.invariant-loop-parts

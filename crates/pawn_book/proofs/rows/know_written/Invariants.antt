@@ -1,4 +1,5 @@
-use Rattle.{std.proofs.Common.drop, pawn_book.specs.Sound.AreWords}
+use Rattle.pawn_book.specs.Sound.{AreWords}
+use Rattle.std.proofs.Common.{drop}
 use Rattle.pawn_book.proofs.rows.know_written.Given as goal
 
 abbrev pub invariant-loop-issued : goal.invariant-loop-issued

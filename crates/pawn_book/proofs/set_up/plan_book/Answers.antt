@@ -1,5 +1,10 @@
-use Rattle.{std.{proofs.Common.{◌∙◌, ap, Ok, Some, subst, sym}, specs.FinMap.get}, pawn_book.specs.{Books.{BookMade, MakeBook}, Plans.Plans}}
-use Rattle.pawn_book.{specs.BookStep.make_book, proofs.{Plans.{book_plans, no_head}, Reading.{ok_is, reads_as}}}
+use Rattle.pawn_book.proofs.Plans.{book_plans, no_head}
+use Rattle.pawn_book.proofs.Reading.{ok_is, reads_as}
+use Rattle.pawn_book.specs.BookStep.{make_book}
+use Rattle.pawn_book.specs.Books.{BookMade, MakeBook}
+use Rattle.pawn_book.specs.Plans.{Plans}
+use Rattle.std.proofs.Common.{◌∙◌, ap, Ok, Some, subst, sym}
+use Rattle.std.specs.FinMap.{get}
 use Rattle.pawn_book.proofs.set_up.plan_book.Goals as goal
 
 pub returns-in-Ok-clause-reads : goal.returns-in-Ok-clause-reads

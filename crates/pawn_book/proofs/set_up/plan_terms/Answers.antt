@@ -1,4 +1,6 @@
-use Rattle.{std.proofs.Common.{◌∙◌, ap, Ok, sym}, pawn_book.proofs.{Plans.next_plans, Reading.{ok_is, reads_as}}}
+use Rattle.pawn_book.proofs.Plans.{next_plans}
+use Rattle.pawn_book.proofs.Reading.{ok_is, reads_as}
+use Rattle.std.proofs.Common.{◌∙◌, ap, Ok, sym}
 use Rattle.pawn_book.proofs.set_up.plan_terms.Goals as goal
 
 pub returns-in-Ok-clause-reads : goal.returns-in-Ok-clause-reads

@@ -1,9 +1,20 @@
-use Rattle.std.{proofs.Common.{◌≡◌, ℕ, List, [], ◌∷◌, map, sum_by, refl, sym, ap, ◌∙◌, if◌then◌else◌, Option, None, Some, nat_lt}, specs.Ordering.nat_cmp}
-use Rattle.std.{proofs.lemmas.Cmp.nat_cmp_total, specs.FinMap.{FinMap, empty, entries, entries-insert, find, get, get-entries, insert, len-empty, len-entries}}
-use Rattle.{std.specs.FinMap.put, pawn_book.specs.{Common.Stamp, BookStep.{BookValue, Makes, Outcome, Refuses, Says, book_step, changed_book, out_of}}}
-use Rattle.pawn_book.specs.{Books.{Full, Request}, HostStep.{Host, book_rows, host_after, host_step, with_book, within_limit}, Runs.{Said, Answered}}
-use Rattle.pawn_book.specs.{Shards.handed, WorkedShards.{a_ring, asked, book_of, first_shard, of_seven, one_host, second_shard, shard, told_of_run}}
-use Rattle.{pawn_terms.specs.Calendar.{civil_after, days_of_months, days_of_years}, pawn_debt.specs.Due.due_after, pawn_base.proofs.ListLemmas.no_elements}
+use Rattle.pawn_base.proofs.ListLemmas.{no_elements}
+use Rattle.pawn_book.specs.BookStep.{BookValue, Makes, Outcome, Refuses, Says, book_step, changed_book, out_of}
+use Rattle.pawn_book.specs.Books.{Full, Request}
+use Rattle.pawn_book.specs.Common.{Stamp}
+use Rattle.pawn_book.specs.HostStep.{Host, book_rows, host_after, host_step, with_book, within_limit}
+use Rattle.pawn_book.specs.Runs.{Said, Answered}
+use Rattle.pawn_book.specs.Shards.{handed}
+use Rattle.pawn_book.specs.WorkedShards.{a_ring, asked, book_of, first_shard, of_seven, one_host, second_shard, shard}
+use Rattle.pawn_book.specs.WorkedShards.{told_of_run}
+use Rattle.pawn_debt.specs.Due.{due_after}
+use Rattle.pawn_terms.specs.Calendar.{civil_after, days_of_months, days_of_years}
+use Rattle.std.proofs.Common.{◌≡◌, ℕ, List, [], ◌∷◌, map, sum_by, refl, sym, ap, ◌∙◌, if◌then◌else◌, Option, None, Some}
+use Rattle.std.proofs.Common.{nat_lt}
+use Rattle.std.proofs.lemmas.Cmp.{nat_cmp_total}
+use Rattle.std.specs.FinMap.{FinMap, empty, entries, entries-insert, find, get, get-entries, insert, len-empty}
+use Rattle.std.specs.FinMap.{len-entries, put}
+use Rattle.std.specs.Ordering.{nat_cmp}
 use Rattle.pawn_book.proofs.worked.worked_shards.Goals as goal
 
 -- the books of a host as a list
@@ -45,7 +56,7 @@ listed_after es b (Refuses why) = es
 listed_after es b (Says out) = es
 listed_after es b (Makes change reply) = put_book b (changed_book (found es b) change) es
 
--- what a host with these books tells
+-- the answers of a host with these books
 abbrev listed_told : Books → ℕ → List (Stamp × Request) → List (Said ⊥)
 listed_told es limit [] = []
 listed_told es limit (a ∷ asked) =

@@ -1,4 +1,6 @@
-use Rattle.{std.proofs.Common.refl, pawn_terms.specs.Calendar.{civil_after, days_of_months, days_of_years}, pawn_debt.specs.Due.due_after}
+use Rattle.pawn_debt.specs.Due.{due_after}
+use Rattle.pawn_terms.specs.Calendar.{civil_after, days_of_months, days_of_years}
+use Rattle.std.proofs.Common.{refl}
 use Rattle.pawn_book.proofs.worked.worked_slots.Goals as goal
 
 pub returns : goal.returns

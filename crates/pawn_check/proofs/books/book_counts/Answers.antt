@@ -1,5 +1,7 @@
-use Rattle.{std.proofs.Common.{rules, ◌≡◌, Err, ap}, pawn_book.{specs.declared.change.BookHead.BookHead, proofs.Reading.{reads_then, reads_both}}}
+use Rattle.pawn_book.proofs.Reading.{reads_then, reads_both}
+use Rattle.pawn_book.specs.declared.change.BookHead.{BookHead}
 use Rattle.pawn_check.proofs.Fronts.{handed_on, has_counts, sound_book}
+use Rattle.std.proofs.Common.{rules, ◌≡◌, Err, ap}
 use Rattle.pawn_check.proofs.books.book_counts.Goals as goal
 
 pub returns-in_err-find_terms-clause-reads : goal.returns-in_err-find_terms-clause-reads

@@ -1,6 +1,9 @@
-use Rattle.{std.proofs.Common.{◌≡◌, ◌+◌, ◌-◌, inl, inr, ℕ, Some, None, refl, sym, subst, arith}, pawn_book.specs.{Sound.AreSound, Keeping.IsNextBook}}
-use Rattle.{pawn_book.proofs.Reading.{reads_as, reads_then, reads_both}, pawn_check.{specs.Judging.AreCounted, proofs.Meeting.{AreMet, all_are_met, fits}}}
-use Rattle.pawn_check.proofs.Meeting.{next_is, none_are_met, one_is_left, one_more}
+use Rattle.pawn_book.proofs.Reading.{reads_as, reads_then, reads_both}
+use Rattle.pawn_book.specs.Keeping.{IsNextBook}
+use Rattle.pawn_book.specs.Sound.{AreSound}
+use Rattle.pawn_check.proofs.Meeting.{AreMet, all_are_met, fits, next_is, none_are_met, one_is_left, one_more}
+use Rattle.pawn_check.specs.Judging.{AreCounted}
+use Rattle.std.proofs.Common.{◌≡◌, ◌+◌, ◌-◌, inl, inr, ℕ, Some, None, refl, sym, subst, arith}
 use Rattle.pawn_check.proofs.books.check.Goals as goal
 
 pub loop-book-init : goal.loop-book-init

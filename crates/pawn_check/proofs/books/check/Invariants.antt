@@ -1,4 +1,7 @@
-use Rattle.{std.proofs.Common.{◌≡◌, ◌≤◌, ◌*◌, ◌-◌, unwrap_or}, pawn_book.specs.{Keeping.Reads, HostStep.rows}, pawn_check.proofs.Meeting.AreMet}
+use Rattle.pawn_book.specs.HostStep.{rows}
+use Rattle.pawn_book.specs.Keeping.{Reads}
+use Rattle.pawn_check.proofs.Meeting.{AreMet}
+use Rattle.std.proofs.Common.{◌≡◌, ◌≤◌, ◌*◌, ◌-◌, unwrap_or}
 use Rattle.pawn_check.proofs.books.check.Given as goal
 
 abbrev pub invariant-loop-book : goal.invariant-loop-book

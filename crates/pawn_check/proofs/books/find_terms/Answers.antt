@@ -1,5 +1,7 @@
-use Rattle.{std.proofs.{Common.{◌≡◌, length, arith}, lemmas.Bool.Decides.nat_tests}, pawn_book.proofs.Reading.{reads_as, reads_then}}
+use Rattle.pawn_book.proofs.Reading.{reads_as, reads_then}
 use Rattle.pawn_check.proofs.Fronts.{all_checked, next_checked}
+use Rattle.std.proofs.Common.{◌≡◌, length, arith}
+use Rattle.std.proofs.lemmas.Bool.Decides.{nat_tests}
 use Rattle.pawn_check.proofs.books.find_terms.Goals as goal
 
 pub loop-version-preserved : goal.loop-version-preserved

@@ -1,5 +1,10 @@
-use Rattle.{std.{proofs.Common.{◌≡◌, take, Some}, specs.FinMap.get}, pawn_book.specs.{BookStep.BookValue, Keeping.Reads}, pawn_base.specs.Lists.Each}
-use Rattle.pawn_terms.specs.{Terms.IsChecked, declared.terms.Rates.Rates}
+use Rattle.pawn_base.specs.Lists.{Each}
+use Rattle.pawn_book.specs.BookStep.{BookValue}
+use Rattle.pawn_book.specs.Keeping.{Reads}
+use Rattle.pawn_terms.specs.Terms.{IsChecked}
+use Rattle.pawn_terms.specs.declared.terms.Rates.{Rates}
+use Rattle.std.proofs.Common.{◌≡◌, take, Some}
+use Rattle.std.specs.FinMap.{get}
 use Rattle.pawn_check.proofs.books.find_terms.Given as goal
 
 abbrev pub invariant-loop-version : goal.invariant-loop-version

@@ -1,5 +1,7 @@
-use Rattle.{std.proofs.{Common.{rules, ◌≡◌, ◌≤◌, ◌<◌, Err, length, arith}, lemmas.Bool.Decides.nat_tests}, pawn_book.proofs.Reading.{reads_as, reads_then}}
+use Rattle.pawn_book.proofs.Reading.{reads_as, reads_then}
 use Rattle.pawn_check.proofs.Fronts.{front_all, front_next, handed_on}
+use Rattle.std.proofs.Common.{rules, ◌≡◌, ◌≤◌, ◌<◌, Err, length, arith}
+use Rattle.std.proofs.lemmas.Bool.Decides.{nat_tests}
 use Rattle.pawn_check.proofs.pledges.pledges_rows.Goals as goal
 
 pub returns-in_err-step-clause-reads : goal.returns-in_err-step-clause-reads

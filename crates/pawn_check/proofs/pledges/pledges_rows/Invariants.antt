@@ -1,5 +1,8 @@
-use Rattle.{std.{proofs.Common.{◌≡◌, ◌≤◌, ◌*◌, length, take, Some}, specs.FinMap.get}, pawn_book.specs.{BookStep.BookValue, Keeping.Reads}}
+use Rattle.pawn_book.specs.BookStep.{BookValue}
+use Rattle.pawn_book.specs.Keeping.{Reads}
 use Rattle.pawn_check.specs.Judging.{IsFront}
+use Rattle.std.proofs.Common.{◌≡◌, ◌≤◌, ◌*◌, length, take, Some}
+use Rattle.std.specs.FinMap.{get}
 use Rattle.pawn_check.proofs.pledges.pledges_rows.Given as goal
 
 abbrev pub invariant-loop-place : goal.invariant-loop-place

@@ -1,4 +1,5 @@
-use Rattle.pawn_csv.{specs.Common.fields_of, proofs.ColumnLemmas.{column_is, no_column}}
+use Rattle.pawn_csv.proofs.ColumnLemmas.{column_is, no_column}
+use Rattle.pawn_csv.specs.Common.{fields_of}
 use Rattle.pawn_csv.proofs.columns.column.Goals as goal
 
 pub returns-in-Some : goal.returns-in-Some

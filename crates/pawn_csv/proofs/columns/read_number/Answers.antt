@@ -1,5 +1,7 @@
-use Rattle.{pawn_csv.proofs.Basics.{◌≡◌, ◌∙◌, sym, ap, arith, decimal, nat_tests}, std.proofs.lemmas.Fmt.{parse-decimal, IsAscii-decimal}}
-use Rattle.std.{specs.Cmp.Lexicographic.other_text, proofs.lemmas.Str.IsUtf8-from_ascii}
+use Rattle.pawn_csv.proofs.Basics.{◌≡◌, ◌∙◌, sym, ap, arith, decimal, nat_tests}
+use Rattle.std.proofs.lemmas.Fmt.{parse-decimal, IsAscii-decimal}
+use Rattle.std.proofs.lemmas.Str.{IsUtf8-from_ascii}
+use Rattle.std.specs.Cmp.Lexicographic.{other_text}
 use Rattle.pawn_csv.proofs.columns.read_number.Goals as goal
 
 pub returns-in_default : goal.returns-in_default

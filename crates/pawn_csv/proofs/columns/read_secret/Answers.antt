@@ -1,5 +1,8 @@
-use Rattle.pawn_csv.{proofs.{Basics.{rules, ◌∙◌, sym, ap, List, ℕ}, ColumnLemmas.{no_secret, same_secret}}, specs.Common.secret_text}
-use Rattle.{std.specs.Cmp.Lexicographic.{same_text, other_text}, uuid.specs.Text.{hyphenated_text, lower}}
+use Rattle.pawn_csv.proofs.Basics.{rules, ◌∙◌, sym, ap, List, ℕ}
+use Rattle.pawn_csv.proofs.ColumnLemmas.{no_secret, same_secret}
+use Rattle.pawn_csv.specs.Common.{secret_text}
+use Rattle.std.specs.Cmp.Lexicographic.{same_text, other_text}
+use Rattle.uuid.specs.Text.{hyphenated_text, lower}
 use Rattle.pawn_csv.proofs.columns.read_secret.Goals as goal
 
 pub returns-in_default : goal.returns-in_default

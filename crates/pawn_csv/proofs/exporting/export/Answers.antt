@@ -1,4 +1,6 @@
-use Rattle.pawn_csv.{specs.Common.get, proofs.{Basics.reads_then, ExportLemmas.book_exported}}
+use Rattle.pawn_csv.proofs.Basics.{reads_then}
+use Rattle.pawn_csv.proofs.ExportLemmas.{book_exported}
+use Rattle.pawn_csv.specs.Common.{get}
 use Rattle.pawn_csv.proofs.exporting.export.Goals as goal
 
 pub returns-clause-exports : goal.returns-clause-exports

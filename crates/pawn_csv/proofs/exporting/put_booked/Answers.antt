@@ -1,4 +1,6 @@
-use Rattle.pawn_csv.{proofs.Basics.{ℕ, List, sym, subst, append-nil}, specs.{Sent.{PutsRow, text_of_row}, Types.Row}}
+use Rattle.pawn_csv.proofs.Basics.{ℕ, List, sym, subst, append-nil}
+use Rattle.pawn_csv.specs.Sent.{PutsRow, text_of_row}
+use Rattle.pawn_csv.specs.Types.{Row}
 use Rattle.pawn_csv.proofs.exporting.put_booked.Goals as goal
 
 pub returns-in-Some : goal.returns-in-Some

@@ -1,4 +1,6 @@
-use Rattle.pawn_csv.{proofs.{Basics.{refl, rules, reads_as}, ListLemmas.{few_of, list_share, entry_lines}}, specs.Exports.entry_row_text}
+use Rattle.pawn_csv.proofs.Basics.{refl, rules, reads_as}
+use Rattle.pawn_csv.proofs.ListLemmas.{few_of, list_share, entry_lines}
+use Rattle.pawn_csv.specs.Exports.{entry_row_text}
 use Rattle.pawn_csv.proofs.exporting.put_entries.Goals as goal
 
 pub returns-clause-shares : goal.returns-clause-shares

@@ -1,4 +1,6 @@
-use Rattle.pawn_csv.{proofs.{Basics.{refl, rules, reads_as}, ListLemmas.{few_of, list_share, extension_lines}}, specs.Exports.extension_line}
+use Rattle.pawn_csv.proofs.Basics.{refl, rules, reads_as}
+use Rattle.pawn_csv.proofs.ListLemmas.{few_of, list_share, extension_lines}
+use Rattle.pawn_csv.specs.Exports.{extension_line}
 use Rattle.pawn_csv.proofs.exporting.put_extensions.Goals as goal
 
 pub returns-clause-shares : goal.returns-clause-shares

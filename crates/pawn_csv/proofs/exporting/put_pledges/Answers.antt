@@ -1,5 +1,8 @@
-use Rattle.pawn_csv.{proofs.Basics.{◌≡◌, ◌<◌, length, arith, subst, ℕ, nat_tests, reads_as, reads_both, reads_then, Err, rules}, specs.Common.{get, pledges_of}}
-use Rattle.pawn_csv.proofs.CountLemmas.{has_number, record_missing, records_all, records_cut, records_front, records_next}
+use Rattle.pawn_csv.proofs.Basics.{◌≡◌, ◌<◌, length, arith, subst, ℕ, nat_tests, reads_as, reads_both, reads_then, Err}
+use Rattle.pawn_csv.proofs.Basics.{rules}
+use Rattle.pawn_csv.proofs.CountLemmas.{has_number, record_missing, records_all, records_cut, records_front}
+use Rattle.pawn_csv.proofs.CountLemmas.{records_next}
+use Rattle.pawn_csv.specs.Common.{get, pledges_of}
 use Rattle.pawn_csv.proofs.exporting.put_pledges.Goals as goal
 
 pub returns-in_default-clause-shares : goal.returns-in_default-clause-shares

@@ -1,5 +1,8 @@
-use Rattle.pawn_csv.{proofs.{Basics.take, ListLemmas.lines_from}, specs.{Common.{IsSound, Reads, Whole, get, pledges_of}, Sent.PutsRowsShare}}
+use Rattle.pawn_csv.proofs.Basics.{take}
 use Rattle.pawn_csv.proofs.CountLemmas.{record_lines}
+use Rattle.pawn_csv.proofs.ListLemmas.{lines_from}
+use Rattle.pawn_csv.specs.Common.{IsSound, Reads, Whole, get, pledges_of}
+use Rattle.pawn_csv.specs.Sent.{PutsRowsShare}
 use Rattle.pawn_csv.proofs.exporting.put_pledges.Given as goal
 
 abbrev pub invariant-loop-index : goal.invariant-loop-index

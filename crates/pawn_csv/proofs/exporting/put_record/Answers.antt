@@ -1,5 +1,6 @@
-use Rattle.pawn_csv.{proofs.{Basics.{◌≡◌, Err, rules, reads_as, reads_then, reads_both}, RecordLemmas.{brief_at, cut_secrets}}, specs.Common.{get, pledge_in}}
-use Rattle.pawn_csv.proofs.RecordLemmas.{cut_entries, cut_extensions, record_whole}
+use Rattle.pawn_csv.proofs.Basics.{◌≡◌, Err, rules, reads_as, reads_then, reads_both}
+use Rattle.pawn_csv.proofs.RecordLemmas.{brief_at, cut_secrets, cut_entries, cut_extensions, record_whole}
+use Rattle.pawn_csv.specs.Common.{get, pledge_in}
 use Rattle.pawn_csv.proofs.exporting.put_record.Goals as goal
 
 pub returns-in_err-put_secrets-clause-shares : goal.returns-in_err-put_secrets-clause-shares

@@ -1,4 +1,6 @@
-use Rattle.pawn_csv.{proofs.{Basics.{◌≡◌, Err, rules, reads_as, reads_then}, ExportLemmas.{rows_cut, rows_whole}}, specs.Common.get}
+use Rattle.pawn_csv.proofs.Basics.{◌≡◌, Err, rules, reads_as, reads_then}
+use Rattle.pawn_csv.proofs.ExportLemmas.{rows_cut, rows_whole}
+use Rattle.pawn_csv.specs.Common.{get}
 use Rattle.pawn_csv.proofs.exporting.put_rows.Goals as goal
 
 pub returns-clause-shares : goal.returns-clause-shares

@@ -1,5 +1,7 @@
-use Rattle.pawn_csv.{proofs.{Basics.{refl, rules, reads_as}, ListLemmas.few_of}, specs.{Common.{call_end, get, pledge_in, secrets_of}, Exports.secret_line}}
-use Rattle.pawn_csv.proofs.ListLemmas.{list_share, secret_lines}
+use Rattle.pawn_csv.proofs.Basics.{refl, rules, reads_as}
+use Rattle.pawn_csv.proofs.ListLemmas.{few_of, list_share, secret_lines}
+use Rattle.pawn_csv.specs.Common.{call_end, get, pledge_in, secrets_of}
+use Rattle.pawn_csv.specs.Exports.{secret_line}
 use Rattle.pawn_csv.proofs.exporting.put_secrets.Goals as goal
 
 pub returns-clause-shares : goal.returns-clause-shares

@@ -1,6 +1,8 @@
-use Rattle.pawn_csv.proofs.Basics.{◌≡◌, ◌<◌, ◌∙◌, ℕ, length, arith, nat_tests, reads_as, reads_then, subst, sym, Err, rules}
-use Rattle.{pawn_csv.specs.Common.{get, terms_of}, pawn_book.proofs.Places.terms_at_place}
+use Rattle.pawn_book.proofs.Places.{terms_at_place}
+use Rattle.pawn_csv.proofs.Basics.{◌≡◌, ◌<◌, ◌∙◌, ℕ, length, arith, nat_tests, reads_as, reads_then, subst, sym, Err}
+use Rattle.pawn_csv.proofs.Basics.{rules}
 use Rattle.pawn_csv.proofs.CountLemmas.{stands_there, versions_all, versions_front, versions_next}
+use Rattle.pawn_csv.specs.Common.{get, terms_of}
 use Rattle.pawn_csv.proofs.exporting.put_versions.Goals as goal
 
 pub returns-in_err-terms-clause-shares : goal.returns-in_err-terms-clause-shares

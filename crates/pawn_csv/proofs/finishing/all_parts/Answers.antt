@@ -1,4 +1,7 @@
-use Rattle.pawn_csv.{proofs.{Basics.{◌≡◌, ◌∙◌, List, ◌∷◌, ◌++◌, ap, sym, subst, rules}, FinishLemmas.no_parts}, specs.{Finishing.AreRawOf, Types.RawPledge}}
+use Rattle.pawn_csv.proofs.Basics.{◌≡◌, ◌∙◌, List, ◌∷◌, ◌++◌, ap, sym, subst, rules}
+use Rattle.pawn_csv.proofs.FinishLemmas.{no_parts}
+use Rattle.pawn_csv.specs.Finishing.{AreRawOf}
+use Rattle.pawn_csv.specs.Types.{RawPledge}
 use Rattle.pawn_csv.proofs.finishing.all_parts.Goals as goal
 
 pub returns-in_default-clause-none : goal.returns-in_default-clause-none

@@ -1,4 +1,5 @@
-use Rattle.pawn_csv.{proofs.Basics.{◌≡◌, ◌++◌}, specs.Finishing.AreRawOf}
+use Rattle.pawn_csv.proofs.Basics.{◌≡◌, ◌++◌}
+use Rattle.pawn_csv.specs.Finishing.{AreRawOf}
 use Rattle.pawn_csv.proofs.finishing.all_parts.Given as goal
 
 abbrev pub invariant-loop-raw : goal.invariant-loop-raw

@@ -1,4 +1,5 @@
-use Rattle.pawn_csv.proofs.{FitLemmas.{books_are_held, texts_are_read, texts_of_hosts_are_read}, TakenLemmas.texts_are_read_as}
+use Rattle.pawn_csv.proofs.FitLemmas.{books_are_held, texts_are_read, texts_of_hosts_are_read}
+use Rattle.pawn_csv.proofs.TakenLemmas.{texts_are_read_as}
 use Rattle.pawn_csv.proofs.laws.laws_of_texts.Goals as goal
 
 pub returns : goal.returns

@@ -1,5 +1,8 @@
+use Rattle.pawn_csv.proofs.BookLemmas.{text_is}
+use Rattle.pawn_csv.proofs.ReadLemmas.{bom_passed, end_fault}
+use Rattle.pawn_csv.specs.Order.{begun_of}
+use Rattle.pawn_csv.specs.Reading.{IsFaultOf}
 use Rattle.std.proofs.Common.{◌≡◌, Err, rules}
-use Rattle.pawn_csv.{proofs.{BookLemmas.text_is, ReadLemmas.{bom_passed, end_fault}}, specs.{Order.begun_of, Reading.IsFaultOf}}
 use Rattle.pawn_csv.proofs.reading.read_book.Goals as goal
 
 pub returns-in_err-row-clause-fault : goal.returns-in_err-row-clause-fault

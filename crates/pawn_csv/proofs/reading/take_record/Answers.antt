@@ -1,4 +1,6 @@
-use Rattle.pawn_csv.{specs.{Common.fields_of, Order.begun_of}, proofs.ReadLemmas.placed_is}
+use Rattle.pawn_csv.proofs.ReadLemmas.{placed_is}
+use Rattle.pawn_csv.specs.Common.{fields_of}
+use Rattle.pawn_csv.specs.Order.{begun_of}
 use Rattle.pawn_csv.proofs.reading.take_record.Goals as goal
 
 pub returns-in-Some : goal.returns-in-Some

@@ -1,7 +1,10 @@
-use Rattle.pawn_csv.{proofs.Basics.{◌≡◌, ◌∙◌, ◌+◌, [], refl, sym, subst, arith}, specs.{Common.{Reached, fields_of, source_of}, Types.Cause}}
-use Rattle.pawn_csv.specs.{Reading.{AreTakenBefore, IsFaultOf}, Order.begun_of}
-use Rattle.pawn_csv.proofs.ReadLemmas.{so_far_before, so_far_more, so_far_end, so_far_refused}
-use Rattle.pawn_csv.proofs.ReadLemmas.{EndsAt, where_told, reader_fault}
+use Rattle.pawn_csv.proofs.Basics.{◌≡◌, ◌∙◌, ◌+◌, [], refl, sym, subst, arith}
+use Rattle.pawn_csv.proofs.ReadLemmas.{so_far_before, so_far_more, so_far_end, so_far_refused, EndsAt, where_told}
+use Rattle.pawn_csv.proofs.ReadLemmas.{reader_fault}
+use Rattle.pawn_csv.specs.Common.{Reached, fields_of, source_of}
+use Rattle.pawn_csv.specs.Order.{begun_of}
+use Rattle.pawn_csv.specs.Reading.{AreTakenBefore, IsFaultOf}
+use Rattle.pawn_csv.specs.Types.{Cause}
 use Rattle.pawn_csv.proofs.reading.take_records.Goals as goal
 
 pub loop-index-init : goal.loop-index-init

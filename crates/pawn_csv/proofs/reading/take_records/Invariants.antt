@@ -1,5 +1,8 @@
-use Rattle.pawn_csv.{proofs.{Basics.{◌≡◌, List, ℕ, Some, true}, ReadLemmas.SoFar}, specs.{Common.{default_config, source_of}, Order.begun_of}}
 use Rattle.csv.specs.Reading.{Ready}
+use Rattle.pawn_csv.proofs.Basics.{◌≡◌, List, ℕ, Some, true}
+use Rattle.pawn_csv.proofs.ReadLemmas.{SoFar}
+use Rattle.pawn_csv.specs.Common.{default_config, source_of}
+use Rattle.pawn_csv.specs.Order.{begun_of}
 use Rattle.csv.specs.declared.reader.Trim.TheVariants as trim
 use Rattle.pawn_csv.proofs.reading.take_records.Given as goal
 

@@ -1,4 +1,7 @@
-use Rattle.pawn_csv.{proofs.Basics.{◌≡◌, [], arith, length, refl, ext_get_or, nat_tests}, specs.{Common.fields_of, Types.COLUMNS, Rows.header}}
+use Rattle.pawn_csv.proofs.Basics.{◌≡◌, [], arith, length, refl, ext_get_or, nat_tests}
+use Rattle.pawn_csv.specs.Common.{fields_of}
+use Rattle.pawn_csv.specs.Rows.{header}
+use Rattle.pawn_csv.specs.Types.{COLUMNS}
 use Rattle.pawn_csv.proofs.spelling.is_header.Goals as goal
 
 pub returns : goal.returns

@@ -1,4 +1,7 @@
-use Rattle.pawn_csv.{proofs.Basics.{◌≡◌, ℕ, ◌<◌}, specs.{Common.fields_of, Spelling.column_at, Rows.header}}
+use Rattle.pawn_csv.proofs.Basics.{◌≡◌, ℕ, ◌<◌}
+use Rattle.pawn_csv.specs.Common.{fields_of}
+use Rattle.pawn_csv.specs.Rows.{header}
+use Rattle.pawn_csv.specs.Spelling.{column_at}
 use Rattle.pawn_csv.proofs.spelling.is_header.Given as goal
 
 abbrev pub invariant-loop-place : goal.invariant-loop-place

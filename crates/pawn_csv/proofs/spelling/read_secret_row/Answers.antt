@@ -1,5 +1,11 @@
-use Rattle.pawn_csv.{proofs.Basics.{◌≡◌, ◌∙◌, ℕ, List, ap, arith, get_or, refl, sym, codes}, specs.{Common.{Issued, fields_of}, Rows.{FitsColumns, row_fields}}}
-use Rattle.{pawn_csv.{specs.{Reading.IsNoRow, Types.Row, Spelling.column_at}, proofs.RowLemmas.{blank_follow, columns_are}}, pawn_base.proofs.ListLemmas.◌&◌}
+use Rattle.pawn_base.proofs.ListLemmas.{◌&◌}
+use Rattle.pawn_csv.proofs.Basics.{◌≡◌, ◌∙◌, ℕ, List, ap, arith, get_or, refl, sym, codes}
+use Rattle.pawn_csv.proofs.RowLemmas.{blank_follow, columns_are}
+use Rattle.pawn_csv.specs.Common.{Issued, fields_of}
+use Rattle.pawn_csv.specs.Reading.{IsNoRow}
+use Rattle.pawn_csv.specs.Rows.{FitsColumns, row_fields}
+use Rattle.pawn_csv.specs.Spelling.{column_at}
+use Rattle.pawn_csv.specs.Types.{Row}
 use Rattle.pawn_csv.proofs.spelling.read_secret_row.Goals as goal
 
 -- columns that begin with the letter of a secret, and spell none

@@ -1,4 +1,7 @@
-use Rattle.{pawn_csv.{proofs.{Basics.{◌∙◌, arith, refl, sym}, RowLemmas.{blank_follow, columns_are}}, specs.Common.fields_of}, pawn_base.proofs.ListLemmas.◌&◌}
+use Rattle.pawn_base.proofs.ListLemmas.{◌&◌}
+use Rattle.pawn_csv.proofs.Basics.{◌∙◌, arith, refl, sym}
+use Rattle.pawn_csv.proofs.RowLemmas.{blank_follow, columns_are}
+use Rattle.pawn_csv.specs.Common.{fields_of}
 use Rattle.pawn_csv.proofs.spelling.read_terms_row.Goals as goal
 
 pub returns : goal.returns

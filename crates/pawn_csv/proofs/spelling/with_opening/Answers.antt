@@ -1,4 +1,6 @@
-use Rattle.{pawn_csv.proofs.{Basics.{◌∙◌, sym}, RowLemmas.columns_are}, pawn_base.proofs.ListLemmas.◌&◌}
+use Rattle.pawn_base.proofs.ListLemmas.{◌&◌}
+use Rattle.pawn_csv.proofs.Basics.{◌∙◌, sym}
+use Rattle.pawn_csv.proofs.RowLemmas.{columns_are}
 use Rattle.pawn_csv.proofs.spelling.with_opening.Goals as goal
 
 pub returns : goal.returns

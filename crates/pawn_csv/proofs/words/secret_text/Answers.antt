@@ -1,4 +1,6 @@
-use Rattle.{pawn_csv.{proofs.Basics.{ℕ, List, ap, ◌∙◌}, specs.Common.secret_text}, uuid.specs.Text.{hyphenated_text, lower}}
+use Rattle.pawn_csv.proofs.Basics.{ℕ, List, ap, ◌∙◌}
+use Rattle.pawn_csv.specs.Common.{secret_text}
+use Rattle.uuid.specs.Text.{hyphenated_text, lower}
 use Rattle.pawn_csv.proofs.words.secret_text.Goals as goal
 
 pub returns : goal.returns

@@ -1,5 +1,8 @@
-use Rattle.{pawn_csv.{proofs.Basics.refl, specs.Common.{escaped, fields_text, is_blank}}, pawn_terms.specs.Calendar.{civil_after, days_of_months}}
-use Rattle.{pawn_terms.specs.Calendar.days_of_years, uuid.specs.Text.by_index, std.specs.Fmt.digits}
+use Rattle.pawn_csv.proofs.Basics.{refl}
+use Rattle.pawn_csv.specs.Common.{escaped, fields_text, is_blank}
+use Rattle.pawn_terms.specs.Calendar.{civil_after, days_of_months, days_of_years}
+use Rattle.std.specs.Fmt.{digits}
+use Rattle.uuid.specs.Text.{by_index}
 use Rattle.pawn_csv.proofs.worked.worked_texts.Goals as goal
 
 pub returns : goal.returns

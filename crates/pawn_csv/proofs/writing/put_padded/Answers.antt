@@ -1,4 +1,6 @@
-use Rattle.pawn_csv.{proofs.{Basics.{arith, nat_tests}, PadLemmas.next_padded}, specs.Types.COLUMNS}
+use Rattle.pawn_csv.proofs.Basics.{arith, nat_tests}
+use Rattle.pawn_csv.proofs.PadLemmas.{next_padded}
+use Rattle.pawn_csv.specs.Types.{COLUMNS}
 use Rattle.pawn_csv.proofs.writing.put_padded.Goals as goal
 
 pub loop-place-preserved : goal.loop-place-preserved

@@ -1,4 +1,6 @@
-use Rattle.pawn_csv.{proofs.Basics.{◌≡◌, ◌-◌, ◌++◌, map, take}, specs.{Types.COLUMNS, Rows.empty_columns}}
+use Rattle.pawn_csv.proofs.Basics.{◌≡◌, ◌-◌, ◌++◌, map, take}
+use Rattle.pawn_csv.specs.Rows.{empty_columns}
+use Rattle.pawn_csv.specs.Types.{COLUMNS}
 use Rattle.pawn_csv.proofs.writing.put_padded.Given as goal
 
 abbrev pub invariant-loop-place : goal.invariant-loop-place

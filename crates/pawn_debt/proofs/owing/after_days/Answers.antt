@@ -1,4 +1,5 @@
-use Rattle.{std.proofs.Common.{◌≡◌, ◌-◌, arith}, pawn_debt.proofs.DueLemmas.{days_inside, after_days-is}}
+use Rattle.pawn_debt.proofs.DueLemmas.{days_inside, after_days-is}
+use Rattle.std.proofs.Common.{◌≡◌, ◌-◌, arith}
 use Rattle.pawn_debt.proofs.owing.after_days.Goals as goal
 
 pub returns-clause-owed : goal.returns-clause-owed

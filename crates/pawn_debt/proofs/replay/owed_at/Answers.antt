@@ -1,4 +1,5 @@
-use Rattle.{std.proofs.Common.{refl, ◌∙◌, arith}, pawn_debt.proofs.KeptLemmas.{owed-later, millionths-later}}
+use Rattle.pawn_debt.proofs.KeptLemmas.{owed-later, millionths-later}
+use Rattle.std.proofs.Common.{refl, ◌∙◌, arith}
 use Rattle.pawn_debt.proofs.replay.owed_at.Goals as goal
 
 pub returns-clause-owed : goal.returns-clause-owed

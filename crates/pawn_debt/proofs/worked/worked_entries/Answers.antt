@@ -1,4 +1,6 @@
-use Rattle.{std.proofs.Common.refl, pawn_terms.specs.Calendar.{civil_after, days_of_years, days_of_months}, pawn_debt.specs.Due.{due_after, after_days}}
+use Rattle.pawn_debt.specs.Due.{due_after, after_days}
+use Rattle.pawn_terms.specs.Calendar.{civil_after, days_of_years, days_of_months}
+use Rattle.std.proofs.Common.{refl}
 use Rattle.pawn_debt.proofs.worked.worked_entries.Goals as goal
 
 pub returns-clause-starts : goal.returns-clause-starts

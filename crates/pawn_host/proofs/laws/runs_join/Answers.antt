@@ -1,4 +1,5 @@
-use Rattle.pawn_host.proofs.{CrashLemmas.host_after-append, RunMore.replies-append}
+use Rattle.pawn_host.proofs.CrashLemmas.{host_after-append}
+use Rattle.pawn_host.proofs.RunMore.{replies-append}
 use Rattle.pawn_host.proofs.laws.runs_join.Goals as goal
 
 pub returns : goal.returns

@@ -1,7 +1,11 @@
-use Rattle.{std.proofs.Common.{arith, ap, length, ◌∙◌}, pawn_host.specs.{Common.prepend_known, declared.session.Rest.TheVariants.{CutOff, NoMemory, Stopped}}}
-use Rattle.pawn_host.{specs.{declared.session.Cause.TheVariants.Read, Ends.left_of, Unanswered.unanswered}, proofs.FindLemmas.{kept_more, head_more}}
-use Rattle.pawn_host.proofs.{FindLemmas.{found_short, found_request}, ReadLemmas.{short_has_no_whole, fetched_more, fetched_last, fetched_nothing}}
-use Rattle.pawn_host.proofs.ReadLemmas.{fetched_other}
+use Rattle.pawn_host.proofs.FindLemmas.{kept_more, head_more, found_short, found_request}
+use Rattle.pawn_host.proofs.ReadLemmas.{short_has_no_whole, fetched_more, fetched_last, fetched_nothing, fetched_other}
+use Rattle.pawn_host.specs.Common.{prepend_known}
+use Rattle.pawn_host.specs.Ends.{left_of}
+use Rattle.pawn_host.specs.Unanswered.{unanswered}
+use Rattle.pawn_host.specs.declared.session.Cause.TheVariants.{Read}
+use Rattle.pawn_host.specs.declared.session.Rest.TheVariants.{CutOff, NoMemory, Stopped}
+use Rattle.std.proofs.Common.{arith, ap, length, ◌∙◌}
 use Rattle.pawn_host.proofs.session.await_body.Goals as goal
 
 pub loop-reader-preserved : goal.loop-reader-preserved

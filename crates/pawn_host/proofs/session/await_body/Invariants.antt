@@ -1,5 +1,9 @@
-use Rattle.{std.proofs.Common.{◌≡◌, ◌-◌}, pawn_host.specs.{Common.{Keeps, prepend_known}, Finding.HasHead, Ends.{left_of, read_failed, reads}}}
-use Rattle.pawn_host.{specs.Unanswered.unanswered, proofs.ReadLemmas.FetchedSoFar}
+use Rattle.pawn_host.proofs.ReadLemmas.{FetchedSoFar}
+use Rattle.pawn_host.specs.Common.{Keeps, prepend_known}
+use Rattle.pawn_host.specs.Ends.{left_of, read_failed, reads}
+use Rattle.pawn_host.specs.Finding.{HasHead}
+use Rattle.pawn_host.specs.Unanswered.{unanswered}
+use Rattle.std.proofs.Common.{◌≡◌, ◌-◌}
 use Rattle.pawn_host.proofs.session.await_body.Given as goal
 
 abbrev pub invariant-loop-reader : goal.invariant-loop-reader

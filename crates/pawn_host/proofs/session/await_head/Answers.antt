@@ -1,7 +1,13 @@
-use Rattle.{std.proofs.Common.{ap, length, sym, ◌∙◌, ◌≡◌, []}, pawn_host.specs.Common.{Fault, Partial, prepend_known}}
-use Rattle.pawn_host.specs.{declared.session.{Rest.TheVariants.{AtEnd, CutOff, NoMemory, Stopped}, Cause.TheVariants.Read}, Ends.left_of, Unanswered.unanswered}
-use Rattle.pawn_host.proofs.FindLemmas.{found_faulty, found_end, found_cut, kept_more, answers_at, empty_by_test, full_by_test}
-use Rattle.pawn_host.proofs.ReadLemmas.{partial_has_no_whole, fetched_more, fetched_last, fetched_nothing, fetched_other}
+use Rattle.pawn_host.proofs.FindLemmas.{found_faulty, found_end, found_cut, kept_more, answers_at, empty_by_test}
+use Rattle.pawn_host.proofs.FindLemmas.{full_by_test}
+use Rattle.pawn_host.proofs.ReadLemmas.{partial_has_no_whole, fetched_more, fetched_last, fetched_nothing}
+use Rattle.pawn_host.proofs.ReadLemmas.{fetched_other}
+use Rattle.pawn_host.specs.Common.{Fault, Partial, prepend_known}
+use Rattle.pawn_host.specs.Ends.{left_of}
+use Rattle.pawn_host.specs.Unanswered.{unanswered}
+use Rattle.pawn_host.specs.declared.session.Cause.TheVariants.{Read}
+use Rattle.pawn_host.specs.declared.session.Rest.TheVariants.{AtEnd, CutOff, NoMemory, Stopped}
+use Rattle.std.proofs.Common.{ap, length, sym, ◌∙◌, ◌≡◌, []}
 use Rattle.pawn_host.proofs.session.await_head.Goals as goal
 
 pub loop-head-preserved : goal.loop-head-preserved

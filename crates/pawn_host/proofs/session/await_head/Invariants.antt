@@ -1,5 +1,8 @@
-use Rattle.{std.proofs.Common.{◌≡◌, ◌-◌}, pawn_host.specs.{Common.{Keeps, prepend_known}, Ends.{left_of, read_failed, reads}, Unanswered.unanswered}}
 use Rattle.pawn_host.proofs.ReadLemmas.{FetchedSoFar}
+use Rattle.pawn_host.specs.Common.{Keeps, prepend_known}
+use Rattle.pawn_host.specs.Ends.{left_of, read_failed, reads}
+use Rattle.pawn_host.specs.Unanswered.{unanswered}
+use Rattle.std.proofs.Common.{◌≡◌, ◌-◌}
 use Rattle.pawn_host.proofs.session.await_head.Given as goal
 
 abbrev pub invariant-loop-head : goal.invariant-loop-head

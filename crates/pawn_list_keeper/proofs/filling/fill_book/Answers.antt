@@ -1,5 +1,8 @@
-use Rattle.{std.proofs.Common.{◌∙◌, Some, ap, refl}, pawn_list_keeper.specs.{Common.{BookValue, ImportBook}, declared.kept.Kept.Kept, Listed.listed_book}}
 use Rattle.pawn_list_keeper.proofs.ListSaves.{filled_is, set_changes}
+use Rattle.pawn_list_keeper.specs.Common.{BookValue, ImportBook}
+use Rattle.pawn_list_keeper.specs.Listed.{listed_book}
+use Rattle.pawn_list_keeper.specs.declared.kept.Kept.{Kept}
+use Rattle.std.proofs.Common.{◌∙◌, Some, ap, refl}
 use Rattle.pawn_list_keeper.proofs.filling.fill_book.Goals as goal
 
 pub returns-clause-ok : goal.returns-clause-ok

@@ -1,4 +1,5 @@
-use Rattle.{std.proofs.Common.{◌≡◌, drop, take}, pawn_list_keeper.specs.Common.{Each, IsChecked, Rates}}
+use Rattle.pawn_list_keeper.specs.Common.{Each, IsChecked, Rates}
+use Rattle.std.proofs.Common.{◌≡◌, drop, take}
 use Rattle.pawn_list_keeper.proofs.filling.terms_of.Given as goal
 
 abbrev pub invariant-loop-numbers : goal.invariant-loop-numbers

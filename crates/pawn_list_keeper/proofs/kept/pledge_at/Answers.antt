@@ -1,5 +1,6 @@
-use Rattle.{std.proofs.Common.{◌≡◌, ◌+◌, ◌-◌, ◌≤◌, length, ap, sym, ◌∙◌, arith, Some}, pawn_book.proofs.Places.pledge_past}
+use Rattle.pawn_book.proofs.Places.{pledge_past}
 use Rattle.pawn_list_keeper.proofs.ListReads.{pledge_from_place}
+use Rattle.std.proofs.Common.{◌≡◌, ◌+◌, ◌-◌, ◌≤◌, length, ap, sym, ◌∙◌, arith, Some}
 use Rattle.pawn_list_keeper.proofs.kept.pledge_at.Goals as goal
 
 pub returns-then-place-pledges : goal.returns-then-place-pledges

@@ -1,4 +1,5 @@
-use Rattle.{std.proofs.Common.take, pawn_list_keeper.specs.Common.{Go, Handed}}
+use Rattle.pawn_list_keeper.specs.Common.{Go, Handed}
+use Rattle.std.proofs.Common.{take}
 use Rattle.pawn_list_keeper.proofs.reading.hand.Given as goal
 
 abbrev pub invariant-loop-item : goal.invariant-loop-item

@@ -1,4 +1,6 @@
-use Rattle.{std.proofs.Common.{subst, sym}, pawn_list_keeper.{specs.Listed.{IsLeastAbove, listed_book}, proofs.NextLemmas.{all_of, least_more, one_more}}}
+use Rattle.pawn_list_keeper.proofs.NextLemmas.{all_of, least_more, one_more}
+use Rattle.pawn_list_keeper.specs.Listed.{IsLeastAbove, listed_book}
+use Rattle.std.proofs.Common.{subst, sym}
 use Rattle.pawn_list_keeper.proofs.reading.next_number.Goals as goal
 
 pub returns : goal.returns

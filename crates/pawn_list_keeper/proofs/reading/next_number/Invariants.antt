@@ -1,4 +1,5 @@
-use Rattle.{std.proofs.Common.{take, map}, pawn_list_keeper.specs.Listed.{IsLeastAbove, listed_book}}
+use Rattle.pawn_list_keeper.specs.Listed.{IsLeastAbove, listed_book}
+use Rattle.std.proofs.Common.{take, map}
 use Rattle.pawn_list_keeper.proofs.reading.next_number.Given as goal
 
 abbrev pub invariant-loop-kept : goal.invariant-loop-kept

@@ -1,5 +1,7 @@
-use Rattle.{std.proofs.Common.{◌≡◌, ◌∙◌, ap, sym, Some, option_map}, pawn_list_keeper.specs.Common.{PledgeValue, is_same_text}}
-use Rattle.{pawn_list_keeper.proofs.PledgePlaces.{reference_here, reference_next, reference_past}, pawn_pledge.specs.declared.record.Agreement.Agreement}
+use Rattle.pawn_list_keeper.proofs.PledgePlaces.{reference_here, reference_next, reference_past}
+use Rattle.pawn_list_keeper.specs.Common.{PledgeValue, is_same_text}
+use Rattle.pawn_pledge.specs.declared.record.Agreement.{Agreement}
+use Rattle.std.proofs.Common.{◌≡◌, ◌∙◌, ap, sym, Some, option_map}
 use Rattle.pawn_list_keeper.proofs.reading.number_with.Goals as goal
 
 pub returns-then-eq : goal.returns-then-eq

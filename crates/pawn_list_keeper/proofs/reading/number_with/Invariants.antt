@@ -1,4 +1,5 @@
-use Rattle.{std.proofs.Common.{◌≡◌, drop}, pawn_list_keeper.specs.Common.with_reference}
+use Rattle.pawn_list_keeper.specs.Common.{with_reference}
+use Rattle.std.proofs.Common.{◌≡◌, drop}
 use Rattle.pawn_list_keeper.proofs.reading.number_with.Given as goal
 
 abbrev pub invariant-loop-pledge : goal.invariant-loop-pledge

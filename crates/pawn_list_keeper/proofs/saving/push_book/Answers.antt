@@ -1,5 +1,8 @@
-use Rattle.{std.proofs.{Common.{◌∙◌, ◌++◌, ◌∷◌, [], ap, map}, lemmas.List.map-append}, pawn_list_keeper.{specs.Listed.listed_book, proofs.ListReads.entry_made}}
+use Rattle.pawn_list_keeper.proofs.ListReads.{entry_made}
 use Rattle.pawn_list_keeper.proofs.ListSaves.{push_changes}
+use Rattle.pawn_list_keeper.specs.Listed.{listed_book}
+use Rattle.std.proofs.Common.{◌∙◌, ◌++◌, ◌∷◌, [], ap, map}
+use Rattle.std.proofs.lemmas.List.{map-append}
 use Rattle.pawn_list_keeper.proofs.saving.push_book.Goals as goal
 
 pub returns-clause-ok : goal.returns-clause-ok

@@ -1,5 +1,9 @@
-use Rattle.{std.proofs.Common.{ℕ, Some, ap, refl}, pawn_list_keeper.specs.{Common.{AddTerms, BookValue}, declared.kept.Kept.Kept, Listed.listed_book}}
-use Rattle.pawn_list_keeper.proofs.{ListReads.kept_same, ListSaves.set_changes}
+use Rattle.pawn_list_keeper.proofs.ListReads.{kept_same}
+use Rattle.pawn_list_keeper.proofs.ListSaves.{set_changes}
+use Rattle.pawn_list_keeper.specs.Common.{AddTerms, BookValue}
+use Rattle.pawn_list_keeper.specs.Listed.{listed_book}
+use Rattle.pawn_list_keeper.specs.declared.kept.Kept.{Kept}
+use Rattle.std.proofs.Common.{ℕ, Some, ap, refl}
 use Rattle.pawn_list_keeper.proofs.saving.push_terms.Goals as goal
 
 pub returns-in-Ok-clause-ok : goal.returns-in-Ok-clause-ok

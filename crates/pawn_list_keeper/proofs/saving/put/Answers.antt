@@ -1,5 +1,6 @@
-use Rattle.{std.proofs.Common.{◌≡◌, ◌+◌, ◌-◌, ◌<◌, length, ◌∙◌, sym, arith}, pawn_book.proofs.Sounds.put_next}
+use Rattle.pawn_book.proofs.Sounds.{put_next}
 use Rattle.pawn_list_keeper.proofs.PledgePlaces.{put_from_place}
+use Rattle.std.proofs.Common.{◌≡◌, ◌+◌, ◌-◌, ◌<◌, length, ◌∙◌, sym, arith}
 use Rattle.pawn_list_keeper.proofs.saving.put.Goals as goal
 
 pub returns-then-place-len-clause-ok : goal.returns-then-place-len-clause-ok

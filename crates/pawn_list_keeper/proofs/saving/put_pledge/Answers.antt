@@ -1,6 +1,10 @@
-use Rattle.std.proofs.{Common.{◌∙◌, ◌+◌, ◌≤◌, ℕ, Some, ap, length, refl, subst}, lemmas.Result.{on_err_weaker, on_ok_weaker}}
-use Rattle.pawn_list_keeper.{specs.{Common.{BookValue, PutPledge, put_from}, declared.kept.Kept.Kept, Listed.listed_book}, proofs.ListReads.kept_same}
+use Rattle.pawn_list_keeper.proofs.ListReads.{kept_same}
 use Rattle.pawn_list_keeper.proofs.ListSaves.{kept_at_place, set_changes}
+use Rattle.pawn_list_keeper.specs.Common.{BookValue, PutPledge, put_from}
+use Rattle.pawn_list_keeper.specs.Listed.{listed_book}
+use Rattle.pawn_list_keeper.specs.declared.kept.Kept.{Kept}
+use Rattle.std.proofs.Common.{◌∙◌, ◌+◌, ◌≤◌, ℕ, Some, ap, length, refl, subst}
+use Rattle.std.proofs.lemmas.Result.{on_err_weaker, on_ok_weaker}
 use Rattle.pawn_list_keeper.proofs.saving.put_pledge.Goals as goal
 
 pub put-requires : goal.put-requires

@@ -1,5 +1,7 @@
-use Rattle.{std.proofs.Common.{◌∙◌, ◌+◌, sym, subst, take}, pawn_list_keeper.{specs.Common.{Go, HandsOver, part_item, part_items}, proofs.PartLemmas.item_goes}}
-use Rattle.pawn_list_keeper.proofs.{PartLemmas.{item_skips, item_stops}, sheet.hand_part.Goals.{in-Some+in-Go, in_default}}
+use Rattle.pawn_list_keeper.proofs.PartLemmas.{item_goes, item_skips, item_stops}
+use Rattle.pawn_list_keeper.proofs.sheet.hand_part.Goals.{in-Some+in-Go, in_default}
+use Rattle.pawn_list_keeper.specs.Common.{Go, HandsOver, part_item, part_items}
+use Rattle.std.proofs.Common.{◌∙◌, ◌+◌, sym, subst, take}
 use Rattle.pawn_list_keeper.proofs.sheet.hand_part.Goals as goal
 
 pub returns-in-Stop : goal.returns-in-Stop

@@ -1,4 +1,5 @@
-use Rattle.{std.proofs.Common.take, pawn_list_keeper.specs.Common.{Go, HandsOver, part_items}}
+use Rattle.pawn_list_keeper.specs.Common.{Go, HandsOver, part_items}
+use Rattle.std.proofs.Common.{take}
 use Rattle.pawn_list_keeper.proofs.sheet.hand_part.Given as goal
 
 abbrev pub invariant-loop-pledge : goal.invariant-loop-pledge

@@ -1,6 +1,8 @@
-use Rattle.{std.proofs.{Common.{◌≡◌, ◌≢◌, ◌∙◌, List, length, sym, subst, arith}, lemmas.Bool.Decides.nat_tests}, pawn_list_keeper.specs.Common.{Go, HandsOver}}
-use Rattle.pawn_list_keeper.{specs.Common.{SheetItem, part_item, part_items}, proofs.{HandLemmas.hands_none, PartLemmas.{length-filter_map, window_none}}}
-use Rattle.pawn_list_keeper.proofs.PartLemmas.{window_some}
+use Rattle.pawn_list_keeper.proofs.HandLemmas.{hands_none}
+use Rattle.pawn_list_keeper.proofs.PartLemmas.{length-filter_map, window_none, window_some}
+use Rattle.pawn_list_keeper.specs.Common.{Go, HandsOver, SheetItem, part_item, part_items}
+use Rattle.std.proofs.Common.{◌≡◌, ◌≢◌, ◌∙◌, List, length, sym, subst, arith}
+use Rattle.std.proofs.lemmas.Bool.Decides.{nat_tests}
 use Rattle.pawn_book.specs.declared.sheet.Part.TheVariants as part
 use Rattle.pawn_list_keeper.proofs.sheet.hand_window.Goals as goal
 

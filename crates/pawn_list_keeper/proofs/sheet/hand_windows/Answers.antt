@@ -1,4 +1,6 @@
-use Rattle.{std.proofs.Common.{◌≤◌, ◌+◌, arith}, pawn_list_keeper.{specs.Common.{Go, Stop, window_sheet}, proofs.PartLemmas.{window_next, windows_stop}}}
+use Rattle.pawn_list_keeper.proofs.PartLemmas.{window_next, windows_stop}
+use Rattle.pawn_list_keeper.specs.Common.{Go, Stop, window_sheet}
+use Rattle.std.proofs.Common.{◌≤◌, ◌+◌, arith}
 use Rattle.pawn_list_keeper.proofs.sheet.hand_windows.Goals as goal
 
 pub returns-in-Stop : goal.returns-in-Stop

@@ -1,4 +1,5 @@
-use Rattle.{std.proofs.Common.◌≤◌, pawn_list_keeper.specs.Common.{Go, HandsOver, flat_map, window_sheet, windows_below}}
+use Rattle.pawn_list_keeper.specs.Common.{Go, HandsOver, flat_map, window_sheet, windows_below}
+use Rattle.std.proofs.Common.{◌≤◌}
 use Rattle.pawn_list_keeper.proofs.sheet.hand_windows.Given as goal
 
 abbrev pub invariant-loop-window : goal.invariant-loop-window

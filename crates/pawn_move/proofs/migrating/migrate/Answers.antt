@@ -1,5 +1,8 @@
-use Rattle.{std.proofs.Common.{Err, Ok, rules, ◌≡◌}, pawn_opening.specs.Common.state, pawn_tables.proofs.OneHost.tables_stand_for_one_host}
+use Rattle.pawn_move.proofs.Indexed.{stays_indexed, went_indexed}
 use Rattle.pawn_move.proofs.Migrates.{failed, not_indexed, not_told, older, stays, stays_owed, went, went_owed}
+use Rattle.pawn_opening.specs.Common.{state}
+use Rattle.pawn_tables.proofs.OneHost.{tables_stand_for_one_host}
+use Rattle.std.proofs.Common.{Err, Ok, rules, ◌≡◌}
 use Rattle.pawn_move.proofs.migrating.migrate.Goals as goal
 
 pub returns-in_err-from-clause-migrates : goal.returns-in_err-from-clause-migrates
@@ -40,3 +43,11 @@ pub returns-in-Ok-clause-judges : goal.returns-in-Ok-clause-judges
 returns-in-Ok-clause-judges g c =
     went_owed (state g.S.Store c.args.conn.now) (state g.S.Store c.schema_of.new.conn) (λ now trees left. g.met.S.Store.settled _ trees now left)
     (state g.S.Store c.move_store.new.conn) c.in_ok-from.from c.in_ok-from.ensures.tells c.in-Ok.ensures.moves c.in-Ok.ensures.judges
+
+pub returns-then-from-eq-SCHEMA-clause-indexed : goal.returns-then-from-eq-SCHEMA-clause-indexed
+returns-then-from-eq-SCHEMA-clause-indexed g c = stays_indexed (state g.S.Store c.args.conn.now) (state g.S.Store c.schema_of.new.conn)
+    (state g.S.Store c.add_indexes.new.conn) c.in_ok-from.from c.in_ok-from.ensures.tells c.in_default.ensures.indexed
+
+pub returns-in-Ok-clause-indexed : goal.returns-in-Ok-clause-indexed
+returns-in-Ok-clause-indexed g c = went_indexed (state g.S.Store c.args.conn.now) (state g.S.Store c.schema_of.new.conn)
+    (state g.S.Store c.move_store.new.conn) c.in_ok-from.from c.in_ok-from.from c.in_ok-from.ensures.tells c.in-Ok.ensures.moves c.in-Ok.ensures.indexed

@@ -1,5 +1,8 @@
-use Rattle.{std.proofs.Common.{Err, None, is_ok, rules, ℕ, ◌≡◌, inl, inr, ◌⊎◌}, pawn_tables.specs.Common.get, pawn_move.specs.Moving.AreAllOwed}
+use Rattle.pawn_move.proofs.Indexed.{last_of_four, last_of_three}
 use Rattle.pawn_move.proofs.Moved.{first_moved, first_not_put, first_owed, second_moved, second_not_judged, second_owed}
+use Rattle.pawn_move.specs.Moving.{AreAllOwed}
+use Rattle.pawn_tables.specs.Common.{get}
+use Rattle.std.proofs.Common.{Err, None, is_ok, rules, ℕ, ◌≡◌, inl, inr, ◌⊎◌}
 use Rattle.pawn_move.proofs.migrating.move_tables.Goals as goal
 
 second : {n : ℕ} → (n ≡ 1) ⊎ (n ≡ 2) → (n ≡ 1 → ⊥) → n ≡ 2
@@ -28,19 +31,31 @@ returns-in_ok-put_books-clause-judges g c =
 
 -- ---- from the second
 
-pub returns-in_err-judge_books-clause-moves : goal.returns-in_err-judge_books-clause-moves
-returns-in_err-judge_books-clause-moves g c = let failed : c.from_residual-in_err-judge_books.result ≡ Err c.in_err-judge_books.field-0.0 = search rules in
+pub returns-in_err-check_books-clause-moves : goal.returns-in_err-check_books-clause-moves
+returns-in_err-check_books-clause-moves g c = let failed : c.from_residual-in_err-check_books.result ≡ Err c.in_err-check_books.field-0.0 = search rules in
     rw (second c.requires.older c.if-from-eq1.false, failed)
-    (second_not_judged _ _ c.in_ok-make_extensions-2.ensures.lent.leaves c.in_ok-make_extensions-2.ensures.made _ c.in_err-judge_books.field-0.0
-    (λ h done. get h.books 0 ≡ None → AreAllOwed h) c.in_err-judge_books.ensures.carried.leaves c.in_err-judge_books.ensures.judges)
+    (second_not_judged _ _ c.in_ok-make_extensions-2.ensures.lent.leaves c.in_ok-make_extensions-2.ensures.made _ c.in_err-check_books.field-0.0
+    (λ h done. get h.books 0 ≡ None → AreAllOwed h) c.in_err-check_books.ensures.carried.leaves c.in_err-check_books.ensures.judges)
 
-pub returns-in_ok-judge_books-clause-moves : goal.returns-in_ok-judge_books-clause-moves
-returns-in_ok-judge_books-clause-moves g c =
+pub returns-in_ok-check_books-clause-moves : goal.returns-in_ok-check_books-clause-moves
+returns-in_ok-check_books-clause-moves g c =
     rw (second c.requires.older c.if-from-eq1.false) (second_moved _ _ c.in_ok-make_extensions-2.ensures.lent.leaves c.in_ok-make_extensions-2.ensures.made _ _
-    (is_ok c.finish-else-from-eq1.result) c.finish-else-from-eq1.result c.in_ok-judge_books.ensures.carried.leaves c.finish-else-from-eq1.ensures.lent.leaves
-    c.in_ok-judge_books.ensures.judges c.finish-else-from-eq1.ensures.no_row c.finish-else-from-eq1.ensures.noted)
+    (is_ok c.finish-else-from-eq1.result) c.finish-else-from-eq1.result c.in_ok-check_books.ensures.carried.leaves c.finish-else-from-eq1.ensures.lent.leaves
+    c.in_ok-check_books.ensures.judges c.finish-else-from-eq1.ensures.no_row c.finish-else-from-eq1.ensures.noted)
 
-pub returns-in_ok-judge_books-clause-judges : goal.returns-in_ok-judge_books-clause-judges
-returns-in_ok-judge_books-clause-judges g c = rw (second c.requires.older c.if-from-eq1.false)
+pub returns-in_ok-check_books-clause-judges : goal.returns-in_ok-check_books-clause-judges
+returns-in_ok-check_books-clause-judges g c = rw (second c.requires.older c.if-from-eq1.false)
     (second_owed _ _ c.in_ok-make_extensions-2.ensures.lent.leaves c.in_ok-make_extensions-2.ensures.made _ _ (is_ok c.finish-else-from-eq1.result)
-    c.finish-else-from-eq1.result c.in_ok-judge_books.ensures.carried.leaves c.finish-else-from-eq1.ensures.lent.leaves c.in_ok-judge_books.ensures.judges)
+    c.finish-else-from-eq1.result c.in_ok-check_books.ensures.carried.leaves c.finish-else-from-eq1.ensures.lent.leaves c.in_ok-check_books.ensures.judges)
+
+-- ---- and the indexes are made last
+
+pub returns-in_ok-put_books-clause-indexed : goal.returns-in_ok-put_books-clause-indexed
+returns-in_ok-put_books-clause-indexed g c = last_of_four c.args.lacking _ _ _ _ _ c.finish.result (is_ok c.finish.result)
+    c.in_ok-make_totals.ensures.lent.leaves c.in_ok-make_extensions.ensures.lent.leaves c.in_ok-put_books.ensures.carried.leaves
+    c.finish.ensures.lent.leaves c.finish.ensures.indexed
+
+pub returns-in_ok-check_books-clause-indexed : goal.returns-in_ok-check_books-clause-indexed
+returns-in_ok-check_books-clause-indexed g c = last_of_three c.args.lacking _ _ _ _ c.finish-else-from-eq1.result (is_ok c.finish-else-from-eq1.result)
+    c.in_ok-make_extensions-2.ensures.lent.leaves c.in_ok-check_books.ensures.carried.leaves
+    c.finish-else-from-eq1.ensures.lent.leaves c.finish-else-from-eq1.ensures.indexed

@@ -1,5 +1,8 @@
-use Rattle.{std.proofs.Common.{subst, sym}, sqlite.specs.Files.file_state, pawn_opening.{specs.FilesStand.HoldsIn, proofs.Found.{as_found, finds_database}}}
+use Rattle.pawn_opening.proofs.Found.{as_found, finds_database}
 use Rattle.pawn_opening.proofs.Seen.{untouched}
+use Rattle.pawn_opening.specs.FilesStand.{HoldsIn}
+use Rattle.sqlite.specs.Files.{file_state}
+use Rattle.std.proofs.Common.{subst, sym}
 use Rattle.pawn_opening.proofs.connecting.connect_path.Goals as goal
 
 pub returns-in-Ok-clause-holds : goal.returns-in-Ok-clause-holds

@@ -1,4 +1,5 @@
-use Rattle.pawn_opening.{specs.Common.state, proofs.Filled.filled}
+use Rattle.pawn_opening.proofs.Filled.{filled}
+use Rattle.pawn_opening.specs.Common.{state}
 use Rattle.pawn_opening.proofs.filling.fill.Goals as goal
 
 pub returns-clause-filled : goal.returns-clause-filled

@@ -1,4 +1,5 @@
-use Rattle.pawn_opening.{specs.Common.state, proofs.Creating.adds_totals}
+use Rattle.pawn_opening.proofs.Creating.{adds_totals}
+use Rattle.pawn_opening.specs.Common.{state}
 use Rattle.pawn_opening.proofs.laying.make_totals.Goals as goal
 
 pub returns-clause-made : goal.returns-clause-made

@@ -1,4 +1,5 @@
-use Rattle.pawn_opening.{specs.Common.state, proofs.MetaRows.{noted, on_ran}}
+use Rattle.pawn_opening.proofs.MetaRows.{noted, on_ran}
+use Rattle.pawn_opening.specs.Common.{state}
 use Rattle.pawn_opening.proofs.noting.note.Goals as goal
 
 pub returns-clause-noted : goal.returns-clause-noted

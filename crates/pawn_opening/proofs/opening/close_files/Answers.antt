@@ -5,5 +5,6 @@ pub returns-in-Ok-clause-kept : goal.returns-in-Ok-clause-kept
 returns-in-Ok-clause-kept g c clean h committed = closes c.args.conn c.in-Ok.files h (c.in-Ok.ensures.copied clean) committed
 
 pub returns-in-Err-clause-refuses : goal.returns-in-Err-clause-refuses
-returns-in-Err-clause-refuses g c = unclosed c.args.conn c.in-Err.store c.in-Err.error c.refused.result c.refused.ensures.store c.refused.ensures.told
+returns-in-Err-clause-refuses g c = unclosed c.args.conn c.in-Err.store c.in-Err.error c.opening_fault.result c.opening_fault.ensures.store
+    c.opening_fault.ensures.told
     c.in-Err.ensures.err.0 c.in-Err.ensures.err.1

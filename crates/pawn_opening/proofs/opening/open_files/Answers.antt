@@ -1,5 +1,8 @@
-use Rattle.{std.proofs.Common.{arith, inr}, sqlite.specs.Files.{file_state, image_of}, pawn_opening.proofs.Found.{accepted, as_found, finds_host, finds_none}}
-use Rattle.{pawn_opening.{proofs.Found.refused, specs.Common.HasCleanDisk}, sqlite_trees.proofs.Doubt.no_doubt}
+use Rattle.pawn_opening.proofs.Found.{accepted, as_found, finds_host, finds_none, refused}
+use Rattle.pawn_opening.specs.Common.{HasCleanDisk}
+use Rattle.sqlite.specs.Files.{file_state, image_of}
+use Rattle.sqlite_trees.proofs.Doubt.{no_doubt}
+use Rattle.std.proofs.Common.{arith, inr}
 use Rattle.pawn_opening.proofs.opening.open_files.Goals as goal
 
 pub returns-in-Ok-prepare-clause-blank : goal.returns-in-Ok-prepare-clause-blank

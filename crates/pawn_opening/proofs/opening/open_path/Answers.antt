@@ -1,5 +1,7 @@
-use Rattle.{std.proofs.Common.{inl, inr, rules, subst, sym}, sqlite.specs.Files.file_state, pawn_opening.specs.FilesStand.{IsBlank, IsRefusedStore, OpensFound}}
-use Rattle.pawn_opening.{specs.FilesStand.StandsIn, proofs.Seen.untouched}
+use Rattle.pawn_opening.proofs.Seen.{untouched}
+use Rattle.pawn_opening.specs.FilesStand.{IsBlank, IsRefusedStore, OpensFound, StandsIn}
+use Rattle.sqlite.specs.Files.{file_state}
+use Rattle.std.proofs.Common.{inl, inr, rules, subst, sym}
 use Rattle.pawn_opening.proofs.opening.open_path.Goals as goal
 
 pub returns-in-Ok-open_files-clause-refuses : goal.returns-in-Ok-open_files-clause-refuses

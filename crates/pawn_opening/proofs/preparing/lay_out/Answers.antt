@@ -1,5 +1,9 @@
-use Rattle.{std.proofs.Common.{Err, Ok, rules, subst, ◌≡◌}, pawn_opening.{specs.{Common.state, Opened.LaysOut}, proofs.{Begun.is_begun, LaidOut.laid_out}}}
-use Rattle.{pawn_opening.proofs.LaidOut.{not_committed, not_filled}, pawn_tables.proofs.OneHost.tables_stand_for_one_host}
+use Rattle.pawn_opening.proofs.Begun.{is_begun}
+use Rattle.pawn_opening.proofs.LaidOut.{laid_out, not_committed, not_filled}
+use Rattle.pawn_opening.specs.Common.{state}
+use Rattle.pawn_opening.specs.Opened.{LaysOut}
+use Rattle.pawn_tables.proofs.OneHost.{tables_stand_for_one_host}
+use Rattle.std.proofs.Common.{Err, Ok, rules, subst, ◌≡◌}
 use Rattle.pawn_opening.proofs.preparing.lay_out.Goals as goal
 
 pub returns-in-Ok : goal.returns-in-Ok
@@ -16,18 +20,19 @@ pub returns-in-Err-commit : goal.returns-in-Err-commit
 returns-in-Err-commit g c = record {
   laid_out = let was = is_begun g.S.Store c.args.conn.now _ c.transaction-tx.ensures.begun c.requires.rests (search rules) c.know_settled.ensures.live in
       let same : c.commit.new.self.0 ≡ c.conn-2-1.given.0 = search rules in
-      subst (λ n. LaysOut (state g.S.Store c.args.conn.now) (state g.S.Store n) c.args.limit (Err c.refused-in-Err-commit.result)) same
+      subst (λ n. LaysOut (state g.S.Store c.args.conn.now) (state g.S.Store n) c.args.limit (Err c.opening_fault-in-Err-commit.result)) same
       (not_committed (state g.S.Store c.args.conn.now) (state g.S.Store c.commit.new.self.0) (state g.S.Store c.transaction-tx.result.conn.now)
       (state g.S.Store c.fill.new.tx.conn.now) c.args.limit was c.commit.ensures.ended c.in_default.ensures.lent.leaves c.in_default.ensures.filled
-      c.commit.ensures.survives c.refused-in-Err-commit.result c.refused-in-Err-commit.ensures.store c.in-Err-commit.error c.in-Err-commit.ensures.err);
+      c.commit.ensures.survives c.opening_fault-in-Err-commit.result c.opening_fault-in-Err-commit.ensures.store c.in-Err-commit.error
+      c.in-Err-commit.ensures.err);
 }
 
 pub returns-in-Err : goal.returns-in-Err
 returns-in-Err g c = record {
   laid_out = let was = is_begun g.S.Store c.args.conn.now _ c.transaction-tx.ensures.begun c.requires.rests (search rules) c.know_settled.ensures.live in
       let same : c.rollback.new.self.0 ≡ c.conn-1.given.0 = search rules in
-      subst (λ n. LaysOut (state g.S.Store c.args.conn.now) (state g.S.Store n) c.args.limit (Err c.refused.result)) same
+      subst (λ n. LaysOut (state g.S.Store c.args.conn.now) (state g.S.Store n) c.args.limit (Err c.opening_fault.result)) same
       (not_filled (state g.S.Store c.args.conn.now) (state g.S.Store c.rollback.new.self.0) (state g.S.Store c.transaction-tx.result.conn.now)
       (state g.S.Store c.fill.new.tx.conn.now) c.args.limit was c.rollback.ensures.ended
-      c.refused.result c.refused.ensures.store c.in-Err.ensures.lent.leaves c.rollback.ensures.undone c.rollback.ensures.survives);
+      c.opening_fault.result c.opening_fault.ensures.store c.in-Err.ensures.lent.leaves c.rollback.ensures.undone c.rollback.ensures.survives);
 }

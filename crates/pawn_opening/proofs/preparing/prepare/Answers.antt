@@ -1,5 +1,8 @@
-use Rattle.{std.proofs.Common.{Err, rules, subst, sym, ◌≡◌}, pawn_opening.{specs.{Common.state, Opened.Recognises}, proofs.Prepared.{when_empty, when_other}}}
-use Rattle.{pawn_opening.proofs.Prepared.when_ours, pawn_tables.proofs.OneHost.tables_stand_for_one_host}
+use Rattle.pawn_opening.proofs.Prepared.{when_empty, when_other, when_ours}
+use Rattle.pawn_opening.specs.Common.{state}
+use Rattle.pawn_opening.specs.Opened.{Recognises}
+use Rattle.pawn_tables.proofs.OneHost.{tables_stand_for_one_host}
+use Rattle.std.proofs.Common.{Err, rules, subst, sym, ◌≡◌}
 use Rattle.pawn_opening.proofs.preparing.prepare.Goals as goal
 
 pub returns-then-is_empty : goal.returns-then-is_empty

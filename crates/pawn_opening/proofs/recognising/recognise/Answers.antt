@@ -1,10 +1,11 @@
-use Rattle.pawn_opening.{specs.Common.state, proofs.Recognised.{judged, unjudged}}
+use Rattle.pawn_opening.proofs.Recognised.{judged, unjudged}
+use Rattle.pawn_opening.specs.Common.{state}
 use Rattle.pawn_opening.proofs.recognising.recognise.Goals as goal
 
 pub returns-in-Ok : goal.returns-in-Ok
 returns-in-Ok g c = record {
   recognised = judged (state g.S.Store c.args.conn.now)
-      (state g.S.Store c.schema_noted.new.conn) c.in-Ok.noted c.judge.result c.in-Ok.ensures.tells c.judge.ensures.judged;
+      (state g.S.Store c.schema_noted.new.conn) c.in-Ok.noted c.expect_ours.result c.in-Ok.ensures.tells c.expect_ours.ensures.judged;
 }
 
 pub returns-in-Err : goal.returns-in-Err

@@ -1,4 +1,7 @@
-use Rattle.{std.proofs.Common.{rules, subst}, pawn_opening.{specs.{Common.state, Refusing.IsNumberRead}, proofs.Recognised.{failed, told, untold}}}
+use Rattle.pawn_opening.proofs.Recognised.{failed, told, untold}
+use Rattle.pawn_opening.specs.Common.{state}
+use Rattle.pawn_opening.specs.Refusing.{IsNumberRead}
+use Rattle.std.proofs.Common.{rules, subst}
 use Rattle.pawn_opening.proofs.recognising.schema_noted.Goals as goal
 
 pub returns-in-Ok : goal.returns-in-Ok
@@ -11,7 +14,7 @@ returns-in-Ok g c = record {
 pub returns-in-Err : goal.returns-in-Err
 returns-in-Err g c = record {
   tells = failed (state g.S.Store c.args.conn.now) (state g.S.Store c.query_all.new.self) (c.query_all.ensures.mode c.requires.rests)
-      c.query_all.ensures.survives (search rules) c.in-Err.error c.in-Err.ensures.err c.refused.result c.refused.ensures.store;
+      c.query_all.ensures.survives (search rules) c.in-Err.error c.in-Err.ensures.err c.opening_fault.result c.opening_fault.ensures.store;
 }
 
 pub returns-in-Err-SqlInputError : goal.returns-in-Err-SqlInputError

@@ -1,5 +1,8 @@
-use Rattle.{std.proofs.Common.{ap, refl}, pawn_pledge.{specs.{Common.{Due, owing_of}, Pledge.debt_of}, proofs.Briefs.brief_is_within}}
 use Rattle.pawn_debt.proofs.EntryLemmas.{due-from-last}
+use Rattle.pawn_pledge.proofs.Briefs.{brief_is_within}
+use Rattle.pawn_pledge.specs.Common.{Due, owing_of}
+use Rattle.pawn_pledge.specs.Pledge.{debt_of}
+use Rattle.std.proofs.Common.{ap, refl}
 use Rattle.pawn_pledge.proofs.laws.laws_of_briefs.Goals as goal
 
 pub returns-clause-owes : goal.returns-clause-owes

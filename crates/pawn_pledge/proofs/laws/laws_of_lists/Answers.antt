@@ -1,4 +1,5 @@
-use Rattle.pawn_pledge.proofs.{Growth.lists_grow, Steps.lists_of_step}
+use Rattle.pawn_pledge.proofs.Growth.{lists_grow}
+use Rattle.pawn_pledge.proofs.Steps.{lists_of_step}
 use Rattle.pawn_pledge.proofs.laws.laws_of_lists.Goals as goal
 
 pub returns-clause-entries : goal.returns-clause-entries

@@ -1,4 +1,5 @@
-use Rattle.pawn_pledge.proofs.{Steps.lists_of_step, Receipts.{earlier_are_spent, never_live_again}}
+use Rattle.pawn_pledge.proofs.Receipts.{earlier_are_spent, never_live_again}
+use Rattle.pawn_pledge.proofs.Steps.{lists_of_step}
 use Rattle.pawn_pledge.proofs.laws.laws_of_receipts.Goals as goal
 
 pub returns-clause-grow : goal.returns-clause-grow

@@ -1,4 +1,5 @@
-use Rattle.{std.proofs.Common.{sym, ◌∙◌}, pawn_pledge.proofs.Pushes.AreDistinct-step}
+use Rattle.pawn_pledge.proofs.Pushes.{AreDistinct-step}
+use Rattle.std.proofs.Common.{sym, ◌∙◌}
 use Rattle.pawn_pledge.proofs.parts.are_distinct.Goals as goal
 
 pub loop-i-preserved : goal.loop-i-preserved

@@ -1,4 +1,5 @@
-use Rattle.{std.proofs.Common.drop, pawn_pledge.specs.Replayable.AreDistinctSecrets}
+use Rattle.pawn_pledge.specs.Replayable.{AreDistinctSecrets}
+use Rattle.std.proofs.Common.{drop}
 use Rattle.pawn_pledge.proofs.parts.are_distinct.Given as goal
 
 abbrev pub invariant-loop-i : goal.invariant-loop-i

@@ -1,4 +1,6 @@
-use Rattle.{std.proofs.Common.drop, pawn_pledge.specs.{Common.{Each, Entry}, Replayable.IsDrawnBy}}
+use Rattle.pawn_pledge.specs.Common.{Each, Entry}
+use Rattle.pawn_pledge.specs.Replayable.{IsDrawnBy}
+use Rattle.std.proofs.Common.{drop}
 use Rattle.pawn_pledge.proofs.parts.are_drawn.Given as goal
 
 abbrev pub invariant-loop-e : goal.invariant-loop-e

@@ -1,4 +1,7 @@
-use Rattle.{std.proofs.Common.drop, pawn_pledge.specs.{Replayable.IsLaterIssue, declared.record.Issued.Issued, Common.Each}}
+use Rattle.pawn_pledge.specs.Common.{Each}
+use Rattle.pawn_pledge.specs.Replayable.{IsLaterIssue}
+use Rattle.pawn_pledge.specs.declared.record.Issued.{Issued}
+use Rattle.std.proofs.Common.{drop}
 use Rattle.pawn_pledge.proofs.parts.are_later_issues.Given as goal
 
 abbrev pub invariant-loop-i : goal.invariant-loop-i

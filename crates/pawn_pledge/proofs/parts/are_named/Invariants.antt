@@ -1,4 +1,6 @@
-use Rattle.{std.proofs.Common.{◌≤◌, drop}, pawn_pledge.specs.{Common.{Each, last_stamp_day}, declared.record.Extension.Extension}}
+use Rattle.pawn_pledge.specs.Common.{Each, last_stamp_day}
+use Rattle.pawn_pledge.specs.declared.record.Extension.{Extension}
+use Rattle.std.proofs.Common.{◌≤◌, drop}
 use Rattle.pawn_pledge.proofs.parts.are_named.Given as goal
 
 abbrev pub invariant-loop-extension : goal.invariant-loop-extension

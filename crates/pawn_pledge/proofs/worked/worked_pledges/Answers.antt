@@ -1,4 +1,5 @@
-use Rattle.{std.proofs.Common.refl, pawn_pledge.specs.Common.{civil_after, days_of_months, days_of_years, due_after}}
+use Rattle.pawn_pledge.specs.Common.{civil_after, days_of_months, days_of_years, due_after}
+use Rattle.std.proofs.Common.{refl}
 use Rattle.pawn_pledge.proofs.worked.worked_pledges.Goals as goal
 
 pub returns-clause-starts : goal.returns-clause-starts

@@ -1,4 +1,6 @@
-use Rattle.{std.{proofs.Common.{refl, arith, codes}, specs.Fmt.digits}, uuid.specs.Text.by_index}
+use Rattle.std.proofs.Common.{refl, arith, codes}
+use Rattle.std.specs.Fmt.{digits}
+use Rattle.uuid.specs.Text.{by_index}
 use Rattle.pawn_pledge.proofs.worked.worked_texts.Goals as goal
 
 pub returns-clause-secrets : goal.returns-clause-secrets

@@ -1,4 +1,5 @@
-use Rattle.std.proofs.{Common.{◌≡◌, ◌∙◌, sym, arith}, lemmas.Fmt.decimal_injective}
+use Rattle.std.proofs.Common.{◌≡◌, ◌∙◌, sym, arith}
+use Rattle.std.proofs.lemmas.Fmt.{decimal_injective}
 use Rattle.pawn_program.proofs.settings.port_of.Goals as goal
 
 pub returns-then-port-gt-LAST_PORT-clause-none : goal.returns-then-port-gt-LAST_PORT-clause-none

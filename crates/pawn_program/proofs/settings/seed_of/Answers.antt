@@ -1,5 +1,7 @@
-use Rattle.std.proofs.{Common.{◌≡◌, ℕ, List, [], length, Option, Some, None, refl, sym, ◌∙◌, arith}, lemmas.Grind.common_steps}
-use Rattle.pawn_program.{specs.Settings.{hex_bytes, seed_of}, proofs.HexLemmas.{after_bytes, byte_more, no_byte, all_bytes}}
+use Rattle.pawn_program.proofs.HexLemmas.{after_bytes, byte_more, no_byte, all_bytes}
+use Rattle.pawn_program.specs.Settings.{hex_bytes, seed_of}
+use Rattle.std.proofs.Common.{◌≡◌, ℕ, List, [], length, Option, Some, None, refl, sym, ◌∙◌, arith}
+use Rattle.std.proofs.lemmas.Grind.{common_steps}
 use Rattle.pawn_program.proofs.settings.seed_of.Goals as goal
 
 -- a text of 64 bytes is read

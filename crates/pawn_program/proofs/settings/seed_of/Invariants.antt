@@ -1,4 +1,6 @@
-use Rattle.{std.proofs.Common.{◌≡◌, ◌*◌, length, take, drop}, pawn_program.{specs.Settings.hex_bytes, proofs.HexLemmas.after_bytes}}
+use Rattle.pawn_program.proofs.HexLemmas.{after_bytes}
+use Rattle.pawn_program.specs.Settings.{hex_bytes}
+use Rattle.std.proofs.Common.{◌≡◌, ◌*◌, length, take, drop}
 use Rattle.pawn_program.proofs.settings.seed_of.Given as goal
 
 abbrev pub invariant-loop-i : goal.invariant-loop-i

@@ -1,5 +1,7 @@
-use Rattle.{std.proofs.{Common.{refl, Err, IsOk, MatchResult, Ok, Result}, lemmas.Str.IsUtf8-from_ascii}, pawn_reply.specs.Common.IsAscii}
 use Rattle.pawn_reply.proofs.DayLemmas.{day_ascii}
+use Rattle.pawn_reply.specs.Common.{IsAscii}
+use Rattle.std.proofs.Common.{refl, Err, IsOk, MatchResult, Ok, Result}
+use Rattle.std.proofs.lemmas.Str.{IsUtf8-from_ascii}
 use Rattle.pawn_reply.proofs.done.day_text.Goals as goal
 
 ok_by : {A E : Type 0} (X : Type 0) (P : A → Type 0) (Q : E → Type 0) (r : Result A E) → MatchResult r P (λ e. (X → ⊥) × Q e) → X → IsOk r

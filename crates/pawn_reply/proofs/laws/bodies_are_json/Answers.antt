@@ -1,5 +1,8 @@
-use Rattle.{std.proofs.Common.refl, serde_json.proofs.OnLiterals.serde_json_on_literals, pawn_reply.proofs.BodyLemmas.{opened_text-json, refusal_text-json}}
-use Rattle.pawn_reply.proofs.DoneLemmas.{entered_text-json, held_text-json, declared_text-json, booked_text-json, redeemed_text-json, extended_text-json}
+use Rattle.pawn_reply.proofs.BodyLemmas.{opened_text-json, refusal_text-json}
+use Rattle.pawn_reply.proofs.DoneLemmas.{entered_text-json, held_text-json, declared_text-json, booked_text-json}
+use Rattle.pawn_reply.proofs.DoneLemmas.{redeemed_text-json, extended_text-json}
+use Rattle.serde_json.proofs.OnLiterals.{serde_json_on_literals}
+use Rattle.std.proofs.Common.{refl}
 use Rattle.pawn_reply.proofs.laws.bodies_are_json.Goals as goal
 
 pub returns : goal.returns

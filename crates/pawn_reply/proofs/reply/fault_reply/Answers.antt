@@ -1,4 +1,8 @@
-use Rattle.{std.{proofs.Common.{sym, ap}, specs.Fmt.digits}, pawn_reply.specs.{Types.HeadFault, Reply.fault_text, Fault.wire_fault}}
+use Rattle.pawn_reply.specs.Fault.{wire_fault}
+use Rattle.pawn_reply.specs.Reply.{fault_text}
+use Rattle.pawn_reply.specs.Types.{HeadFault}
+use Rattle.std.proofs.Common.{sym, ap}
+use Rattle.std.specs.Fmt.{digits}
 use Rattle.pawn_reply.proofs.reply.fault_reply.Goals as goal
 
 pub returns-in-BadHead : goal.returns-in-BadHead

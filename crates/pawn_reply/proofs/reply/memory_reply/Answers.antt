@@ -1,4 +1,5 @@
-use Rattle.std.{proofs.Common.refl, specs.Fmt.digits}
+use Rattle.std.proofs.Common.{refl}
+use Rattle.std.specs.Fmt.{digits}
 use Rattle.pawn_reply.proofs.reply.memory_reply.Goals as goal
 
 pub returns : goal.returns

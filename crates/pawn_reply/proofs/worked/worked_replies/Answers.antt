@@ -1,4 +1,6 @@
-use Rattle.{std.{proofs.Common.refl, specs.Fmt.digits}, uuid.proofs.OnLiterals.uuid_on_literals}
+use Rattle.std.proofs.Common.{refl}
+use Rattle.std.specs.Fmt.{digits}
+use Rattle.uuid.proofs.OnLiterals.{uuid_on_literals}
 use Rattle.pawn_reply.proofs.worked.worked_replies.Goals as goal
 
 pub returns-clause-statuses : goal.returns-clause-statuses

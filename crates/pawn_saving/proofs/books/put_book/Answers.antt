@@ -1,4 +1,6 @@
-use Rattle.pawn_saving.proofs.{Writing.rules, StatementWrites.on_ran, BookStatements.book_wrote}
+use Rattle.pawn_saving.proofs.BookStatements.{book_wrote}
+use Rattle.pawn_saving.proofs.StatementWrites.{on_ran}
+use Rattle.pawn_saving.proofs.Writing.{rules}
 use Rattle.pawn_saving.proofs.books.put_book.Goals as goal
 
 pub returns-clause-wrote : goal.returns-clause-wrote

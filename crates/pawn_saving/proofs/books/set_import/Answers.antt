@@ -1,4 +1,6 @@
-use Rattle.pawn_saving.proofs.{Writing.rules, StatementWrites.on_ran, BookStatements.import_wrote}
+use Rattle.pawn_saving.proofs.BookStatements.{import_wrote}
+use Rattle.pawn_saving.proofs.StatementWrites.{on_ran}
+use Rattle.pawn_saving.proofs.Writing.{rules}
 use Rattle.pawn_saving.proofs.books.set_import.Goals as goal
 
 pub returns-clause-wrote : goal.returns-clause-wrote

@@ -1,4 +1,5 @@
-use Rattle.pawn_saving.proofs.{BookStatements.pledges_count_wrote, StatementWrites.on_ran}
+use Rattle.pawn_saving.proofs.BookStatements.{pledges_count_wrote}
+use Rattle.pawn_saving.proofs.StatementWrites.{on_ran}
 use Rattle.pawn_saving.proofs.books.set_pledges_count.Goals as goal
 
 pub returns-clause-wrote : goal.returns-clause-wrote

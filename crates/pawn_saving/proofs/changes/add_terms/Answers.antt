@@ -1,6 +1,10 @@
-use Rattle.pawn_saving.proofs.Writing.{[], arith, length, length-append, refl, subst, ℕ, ◌++◌, ◌+◌, ◌∙◌, ◌∷◌, ◌≡◌, state, Rates, with_change, rows, with_rows}
-use Rattle.pawn_saving.{proofs.{Writing.{number, terms_cells}, Hosting.as_lists, Basics.clean_before}, specs.Counted.{IsWrittenPart, listed_as}}
-use Rattle.pawn_saving.{specs.Common.AddTerms, proofs.BookChanges.{longer_written, only_book, other_books}}
+use Rattle.pawn_saving.proofs.Basics.{clean_before}
+use Rattle.pawn_saving.proofs.BookChanges.{longer_written, only_book, other_books}
+use Rattle.pawn_saving.proofs.Hosting.{as_lists}
+use Rattle.pawn_saving.proofs.Writing.{[], arith, length, length-append, refl, subst, ℕ, ◌++◌, ◌+◌, ◌∙◌, ◌∷◌, ◌≡◌}
+use Rattle.pawn_saving.proofs.Writing.{state, Rates, with_change, rows, with_rows, number, terms_cells}
+use Rattle.pawn_saving.specs.Common.{AddTerms}
+use Rattle.pawn_saving.specs.Counted.{IsWrittenPart, listed_as}
 use Rattle.pawn_saving.proofs.changes.add_terms.Goals as goal
 
 pub returns-clause-wrote : goal.returns-clause-wrote

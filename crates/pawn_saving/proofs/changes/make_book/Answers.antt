@@ -1,4 +1,7 @@
-use Rattle.pawn_saving.{proofs.{Writing.{refl, state, rows}, Hosting.as_lists, BookChanges.made_written}, specs.Counted.listed_as}
+use Rattle.pawn_saving.proofs.BookChanges.{made_written}
+use Rattle.pawn_saving.proofs.Hosting.{as_lists}
+use Rattle.pawn_saving.proofs.Writing.{refl, state, rows}
+use Rattle.pawn_saving.specs.Counted.{listed_as}
 use Rattle.pawn_saving.proofs.changes.make_book.Goals as goal
 
 pub returns-clause-wrote : goal.returns-clause-wrote

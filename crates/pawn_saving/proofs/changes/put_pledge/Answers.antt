@@ -1,4 +1,6 @@
-use Rattle.pawn_saving.proofs.{Writing.{rules, subst, sym}, Basics.clean_before, StoredReads.{can_within, none_stored, some_stored}}
+use Rattle.pawn_saving.proofs.Basics.{clean_before}
+use Rattle.pawn_saving.proofs.StoredReads.{can_within, none_stored, some_stored}
+use Rattle.pawn_saving.proofs.Writing.{rules, subst, sym}
 use Rattle.pawn_tables.specs.StandsFor.{StandsFor}
 use Rattle.pawn_saving.proofs.changes.put_pledge.Goals as goal
 

@@ -1,5 +1,9 @@
-use Rattle.{pawn_saving.proofs.{Writing.state, Counter.{count_told, counts}}, one_table.proofs.Parts.{inside_after_row, kept_by_row, open_by_row}}
-use Rattle.{std.proofs.Common.{false, IsTrue}, pawn_tables.specs.Common.{HasCleanDisk, IsLent, State}, sqlite.specs.State.{Survives, KeepsCommit}}
+use Rattle.one_table.proofs.Parts.{inside_after_row, kept_by_row, open_by_row}
+use Rattle.pawn_saving.proofs.Counter.{count_told, counts}
+use Rattle.pawn_saving.proofs.Writing.{state}
+use Rattle.pawn_tables.specs.Common.{HasCleanDisk, IsLent, State}
+use Rattle.sqlite.specs.State.{Survives, KeepsCommit}
+use Rattle.std.proofs.Common.{false, IsTrue}
 use Rattle.pawn_saving.proofs.counting.count_up.Goals as goal
 
 pub returns-in-Ok-get-clause-wrote : goal.returns-in-Ok-get-clause-wrote

@@ -1,5 +1,7 @@
-use Rattle.pawn_saving.{proofs.{Writing.{arith, refl, rules, subst, sym, ◌+◌, ◌<◌, ◌^◌, state}, Hosting.recounted}, specs.Counted.{ListsHost, listed_as}}
 use Rattle.pawn_saving.proofs.Basics.{clean_before}
+use Rattle.pawn_saving.proofs.Hosting.{recounted}
+use Rattle.pawn_saving.proofs.Writing.{arith, refl, rules, subst, sym, ◌+◌, ◌<◌, ◌^◌, state}
+use Rattle.pawn_saving.specs.Counted.{ListsHost, listed_as}
 use Rattle.pawn_saving.proofs.counting.count_within.Goals as goal
 
 pub returns-clause-counts : goal.returns-clause-counts

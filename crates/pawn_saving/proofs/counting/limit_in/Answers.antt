@@ -1,5 +1,9 @@
-use Rattle.pawn_saving.proofs.{Writing.{subst, sym, ◌∙◌, state}, Counter.{if_small, limit_shown, limit_told}, WriteTexts.{READ_LIMIT, texts}}
-use Rattle.{one_table.proofs.Parts.plain_rests, pawn_tables.specs.Common.understood, sqlite.proofs.Callers.IsPlain}
+use Rattle.one_table.proofs.Parts.{plain_rests}
+use Rattle.pawn_saving.proofs.Counter.{if_small, limit_shown, limit_told}
+use Rattle.pawn_saving.proofs.WriteTexts.{READ_LIMIT, texts}
+use Rattle.pawn_saving.proofs.Writing.{subst, sym, ◌∙◌, state}
+use Rattle.pawn_tables.specs.Common.{understood}
+use Rattle.sqlite.proofs.Callers.{IsPlain}
 use Rattle.pawn_saving.proofs.counting.limit_in.Goals as goal
 
 pub returns-in-Ok-get-clause-found : goal.returns-in-Ok-get-clause-found

@@ -1,4 +1,5 @@
-use Rattle.pawn_saving.proofs.{Writing.rules, StatementWrites.{on_ran, secret_wrote}}
+use Rattle.pawn_saving.proofs.StatementWrites.{on_ran, secret_wrote}
+use Rattle.pawn_saving.proofs.Writing.{rules}
 use Rattle.pawn_saving.proofs.entries.put_secret.Goals as goal
 
 pub returns-clause-wrote : goal.returns-clause-wrote

@@ -1,6 +1,11 @@
-use Rattle.pawn_saving.proofs.Writing.{refl, subst, sym, true, ◌++◌, ◌∙◌, ◌∷◌, state, rows, with_rows, number, placed_from, terms_cells, terms_tree}
-use Rattle.pawn_saving.proofs.{Hosting.as_lists, RowsInOrder.{lent_anyway, lent_carried, of_three, is_carried}, BookChanges.{only_book, other_books}}
-use Rattle.pawn_saving.{specs.{Counted.listed_as, Common.ListsOurs}, proofs.ImportWrites.{brought_numbered, filled_counted, unbooked, with_own_row, with_terms}}
+use Rattle.pawn_saving.proofs.BookChanges.{only_book, other_books}
+use Rattle.pawn_saving.proofs.Hosting.{as_lists}
+use Rattle.pawn_saving.proofs.ImportWrites.{brought_numbered, filled_counted, unbooked, with_own_row, with_terms}
+use Rattle.pawn_saving.proofs.RowsInOrder.{lent_anyway, lent_carried, of_three, is_carried}
+use Rattle.pawn_saving.proofs.Writing.{refl, subst, sym, true, ◌++◌, ◌∙◌, ◌∷◌, state, rows, with_rows, number}
+use Rattle.pawn_saving.proofs.Writing.{placed_from, terms_cells, terms_tree}
+use Rattle.pawn_saving.specs.Common.{ListsOurs}
+use Rattle.pawn_saving.specs.Counted.{listed_as}
 use Rattle.pawn_saving.proofs.importing.import_book.Goals as goal
 
 pub returns-clause-wrote : goal.returns-clause-wrote

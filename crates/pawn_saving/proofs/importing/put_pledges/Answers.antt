@@ -1,4 +1,5 @@
-use Rattle.pawn_saving.proofs.{Writing.{length, rules, ◌∙◌, ◌≤◌, state}, ImportWrites.{all_pledges_put, one_pledge_put}}
+use Rattle.pawn_saving.proofs.ImportWrites.{all_pledges_put, one_pledge_put}
+use Rattle.pawn_saving.proofs.Writing.{length, rules, ◌∙◌, ◌≤◌, state}
 use Rattle.pawn_saving.proofs.importing.put_pledges.Goals as goal
 
 pub loop-parts-preserved : goal.loop-parts-preserved

@@ -1,4 +1,5 @@
-use Rattle.pawn_saving.proofs.{Writing.{◌≡◌, state}, ImportWrites.ArePledgesPut}
+use Rattle.pawn_saving.proofs.ImportWrites.{ArePledgesPut}
+use Rattle.pawn_saving.proofs.Writing.{◌≡◌, state}
 use Rattle.pawn_saving.proofs.importing.put_pledges.Given as goal
 
 abbrev pub invariant-loop-parts : goal.invariant-loop-parts

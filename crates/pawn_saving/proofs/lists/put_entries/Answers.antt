@@ -1,4 +1,5 @@
-use Rattle.pawn_saving.proofs.{Writing.{ap, length, map, rules, ◌∙◌, ◌≤◌, state, entry_cells, under, take_all}, RowsInOrder.{one_put, take_map}}
+use Rattle.pawn_saving.proofs.RowsInOrder.{one_put, take_map}
+use Rattle.pawn_saving.proofs.Writing.{ap, length, map, rules, ◌∙◌, ◌≤◌, state, entry_cells, under, take_all}
 use Rattle.pawn_tables.specs.Common.{Entry}
 use Rattle.pawn_saving.proofs.lists.put_entries.Goals as goal
 

@@ -1,4 +1,5 @@
-use Rattle.pawn_saving.proofs.{Writing.{map, take, ◌≡◌, state, entry_cells, under}, RowsInOrder.ArePut}
+use Rattle.pawn_saving.proofs.RowsInOrder.{ArePut}
+use Rattle.pawn_saving.proofs.Writing.{map, take, ◌≡◌, state, entry_cells, under}
 use Rattle.pawn_saving.proofs.lists.put_entries.Given as goal
 
 abbrev pub invariant-loop-entry : goal.invariant-loop-entry

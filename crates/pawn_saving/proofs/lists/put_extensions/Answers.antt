@@ -1,5 +1,7 @@
-use Rattle.pawn_saving.proofs.{Writing.{ap, arith, length, rules, ℕ, ◌∙◌, ◌≤◌, state, extension_cells, placed_from, under, take_all}, RowsInOrder.one_put}
-use Rattle.{pawn_saving.proofs.RowsInOrder.take_placed, pawn_tables.specs.Common.Extension}
+use Rattle.pawn_saving.proofs.RowsInOrder.{one_put, take_placed}
+use Rattle.pawn_saving.proofs.Writing.{ap, arith, length, rules, ℕ, ◌∙◌, ◌≤◌, state, extension_cells, placed_from}
+use Rattle.pawn_saving.proofs.Writing.{under, take_all}
+use Rattle.pawn_tables.specs.Common.{Extension}
 use Rattle.pawn_saving.proofs.lists.put_extensions.Goals as goal
 
 pub loop-extension-preserved : goal.loop-extension-preserved

@@ -1,4 +1,5 @@
-use Rattle.pawn_saving.proofs.{Writing.{take, ◌+◌, ◌≡◌, state, extension_cells, placed_from, under}, RowsInOrder.ArePut}
+use Rattle.pawn_saving.proofs.RowsInOrder.{ArePut}
+use Rattle.pawn_saving.proofs.Writing.{take, ◌+◌, ◌≡◌, state, extension_cells, placed_from, under}
 use Rattle.pawn_saving.proofs.lists.put_extensions.Given as goal
 
 abbrev pub invariant-loop-extension : goal.invariant-loop-extension

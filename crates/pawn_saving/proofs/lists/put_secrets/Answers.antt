@@ -1,5 +1,7 @@
-use Rattle.pawn_saving.proofs.{Writing.{ap, arith, length, rules, ℕ, ◌∙◌, ◌≤◌, state, placed_from, secret_cells, under, take_all}, RowsInOrder.one_put}
-use Rattle.{pawn_saving.proofs.RowsInOrder.take_placed, pawn_tables.specs.Common.Issued}
+use Rattle.pawn_saving.proofs.RowsInOrder.{one_put, take_placed}
+use Rattle.pawn_saving.proofs.Writing.{ap, arith, length, rules, ℕ, ◌∙◌, ◌≤◌, state, placed_from, secret_cells, under}
+use Rattle.pawn_saving.proofs.Writing.{take_all}
+use Rattle.pawn_tables.specs.Common.{Issued}
 use Rattle.pawn_saving.proofs.lists.put_secrets.Goals as goal
 
 pub loop-issued-preserved : goal.loop-issued-preserved

@@ -1,4 +1,5 @@
-use Rattle.pawn_saving.proofs.{Writing.{take, ◌+◌, ◌≡◌, state, placed_from, secret_cells, under}, RowsInOrder.ArePut}
+use Rattle.pawn_saving.proofs.RowsInOrder.{ArePut}
+use Rattle.pawn_saving.proofs.Writing.{take, ◌+◌, ◌≡◌, state, placed_from, secret_cells, under}
 use Rattle.pawn_saving.proofs.lists.put_secrets.Given as goal
 
 abbrev pub invariant-loop-issued : goal.invariant-loop-issued

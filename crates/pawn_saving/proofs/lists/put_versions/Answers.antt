@@ -1,5 +1,6 @@
-use Rattle.pawn_saving.proofs.Writing.{ap, arith, length, rules, ℕ, ◌∙◌, ◌∷◌, ◌≤◌, state, Rates, number, placed_from, terms_cells, take_all}
 use Rattle.pawn_saving.proofs.RowsInOrder.{one_put, take_placed}
+use Rattle.pawn_saving.proofs.Writing.{ap, arith, length, rules, ℕ, ◌∙◌, ◌∷◌, ◌≤◌, state, Rates, number, placed_from}
+use Rattle.pawn_saving.proofs.Writing.{terms_cells, take_all}
 use Rattle.pawn_saving.proofs.lists.put_versions.Goals as goal
 
 pub loop-rates-preserved : goal.loop-rates-preserved

@@ -1,4 +1,5 @@
-use Rattle.pawn_saving.proofs.{Writing.{take, ◌+◌, ◌∷◌, ◌≡◌, state, number, placed_from, terms_cells}, RowsInOrder.ArePut}
+use Rattle.pawn_saving.proofs.RowsInOrder.{ArePut}
+use Rattle.pawn_saving.proofs.Writing.{take, ◌+◌, ◌∷◌, ◌≡◌, state, number, placed_from, terms_cells}
 use Rattle.pawn_saving.proofs.lists.put_versions.Given as goal
 
 abbrev pub invariant-loop-rates : goal.invariant-loop-rates

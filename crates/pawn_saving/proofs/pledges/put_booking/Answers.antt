@@ -1,4 +1,5 @@
-use Rattle.pawn_saving.proofs.{Writing.state, StatementWrites.{booking_wrote, on_ran}}
+use Rattle.pawn_saving.proofs.StatementWrites.{booking_wrote, on_ran}
+use Rattle.pawn_saving.proofs.Writing.{state}
 use Rattle.pawn_saving.proofs.pledges.put_booking.Goals as goal
 
 pub returns-clause-wrote : goal.returns-clause-wrote

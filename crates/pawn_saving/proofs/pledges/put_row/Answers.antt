@@ -1,6 +1,9 @@
-use Rattle.pawn_saving.proofs.{Writing.{ap, [], ◌∷◌, ◌∙◌, number}, StatementWrites.{bound_number, bound_optional, on_ran, row_wrote, bound_value}}
-use Rattle.pawn_tables.specs.{Common.{Text, credit_of}, Rows.{closed_amount, closed_day, closed_number, flag_number, kind_number, or_null}}
-use Rattle.pawn_pledge.specs.declared.record.{Agreement.Agreement, Standing.Standing}
+use Rattle.pawn_pledge.specs.declared.record.Agreement.{Agreement}
+use Rattle.pawn_pledge.specs.declared.record.Standing.{Standing}
+use Rattle.pawn_saving.proofs.StatementWrites.{bound_number, bound_optional, on_ran, row_wrote, bound_value}
+use Rattle.pawn_saving.proofs.Writing.{ap, [], ◌∷◌, ◌∙◌, number}
+use Rattle.pawn_tables.specs.Common.{Text, credit_of}
+use Rattle.pawn_tables.specs.Rows.{closed_amount, closed_day, closed_number, flag_number, kind_number, or_null}
 use Rattle.pawn_saving.proofs.pledges.put_row.Goals as goal
 
 pub returns-clause-wrote : goal.returns-clause-wrote

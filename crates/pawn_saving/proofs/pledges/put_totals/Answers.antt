@@ -1,4 +1,5 @@
-use Rattle.pawn_saving.proofs.{Writing.rules, StatementWrites.{new_totals_wrote, on_ran}}
+use Rattle.pawn_saving.proofs.StatementWrites.{new_totals_wrote, on_ran}
+use Rattle.pawn_saving.proofs.Writing.{rules}
 use Rattle.pawn_saving.proofs.pledges.put_totals.Goals as goal
 
 pub returns-clause-wrote : goal.returns-clause-wrote

@@ -1,5 +1,7 @@
-use Rattle.pawn_saving.proofs.{Writing.{ap, [], ◌∷◌, ◌∙◌, number}, StatementWrites.{bound_number, bound_optional, on_ran, bound_value}}
-use Rattle.{pawn_saving.proofs.PledgeStatements.row_set, pawn_pledge.specs.declared.record.Standing.{Standing}}
+use Rattle.pawn_pledge.specs.declared.record.Standing.{Standing}
+use Rattle.pawn_saving.proofs.PledgeStatements.{row_set}
+use Rattle.pawn_saving.proofs.StatementWrites.{bound_number, bound_optional, on_ran, bound_value}
+use Rattle.pawn_saving.proofs.Writing.{ap, [], ◌∷◌, ◌∙◌, number}
 use Rattle.pawn_tables.specs.Rows.{closed_amount, closed_day, closed_number, flag_number, or_null}
 use Rattle.pawn_saving.proofs.pledges.set_row.Goals as goal
 

@@ -1,5 +1,7 @@
-use Rattle.pawn_saving.proofs.{Writing.{state, booking_cells, under, bookings_tree}, PledgePartWrites.{none_stands, now_stands, stood_before}}
-use Rattle.{one_table.proofs.Parts.on_ok, pawn_tables.specs.Common.Booking}
+use Rattle.one_table.proofs.Parts.{on_ok}
+use Rattle.pawn_saving.proofs.PledgePartWrites.{none_stands, now_stands, stood_before}
+use Rattle.pawn_saving.proofs.Writing.{state, booking_cells, under, bookings_tree}
+use Rattle.pawn_tables.specs.Common.{Booking}
 use Rattle.pawn_saving.proofs.putting.put_any_booking.Goals as goal
 
 pub returns-in-Some-clause-wrote : goal.returns-in-Some-clause-wrote

@@ -1,5 +1,8 @@
-use Rattle.pawn_saving.{proofs.{Writing.{◌++◌, state, with_rows, entries_tree, secrets_tree}, RowsInOrder.of_three}, specs.Putting.{entries_past, secrets_past}}
-use Rattle.{pawn_saving.proofs.PledgePartWrites.lists_put, one_table.proofs.Parts.on_ok}
+use Rattle.one_table.proofs.Parts.{on_ok}
+use Rattle.pawn_saving.proofs.PledgePartWrites.{lists_put}
+use Rattle.pawn_saving.proofs.RowsInOrder.{of_three}
+use Rattle.pawn_saving.proofs.Writing.{◌++◌, state, with_rows, entries_tree, secrets_tree}
+use Rattle.pawn_saving.specs.Putting.{entries_past, secrets_past}
 use Rattle.pawn_saving.proofs.putting.put_lists.Goals as goal
 
 pub returns-clause-wrote : goal.returns-clause-wrote

@@ -1,5 +1,9 @@
-use Rattle.pawn_saving.proofs.{Writing.{None, refl, ◌∷◌, state, with_rows, bookings_tree, pledges_tree, totals_tree}, RowsInOrder.{of_three, is_carried}}
-use Rattle.{pawn_saving.{specs.Putting.{row_under, totals_under}, proofs.{PledgePartWrites.sides_put, Basics.IsPermutation-refl}}, one_table.proofs.Parts.on_ok}
+use Rattle.one_table.proofs.Parts.{on_ok}
+use Rattle.pawn_saving.proofs.Basics.{IsPermutation-refl}
+use Rattle.pawn_saving.proofs.PledgePartWrites.{sides_put}
+use Rattle.pawn_saving.proofs.RowsInOrder.{of_three, is_carried}
+use Rattle.pawn_saving.proofs.Writing.{None, refl, ◌∷◌, state, with_rows, bookings_tree, pledges_tree, totals_tree}
+use Rattle.pawn_saving.specs.Putting.{row_under, totals_under}
 use Rattle.pawn_saving.proofs.putting.put_sides.Goals as goal
 
 pub returns-clause-wrote : goal.returns-clause-wrote

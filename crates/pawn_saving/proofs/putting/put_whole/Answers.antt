@@ -1,4 +1,7 @@
-use Rattle.pawn_saving.{proofs.{Writing.{refl, state}, RowsInOrder.was_clean, PledgePartWrites.whole_put}, specs.Putting.{beside, sides_of}}
+use Rattle.pawn_saving.proofs.PledgePartWrites.{whole_put}
+use Rattle.pawn_saving.proofs.RowsInOrder.{was_clean}
+use Rattle.pawn_saving.proofs.Writing.{refl, state}
+use Rattle.pawn_saving.specs.Putting.{beside, sides_of}
 use Rattle.pawn_saving.proofs.putting.put_whole.Goals as goal
 
 pub returns-clause-wrote : goal.returns-clause-wrote

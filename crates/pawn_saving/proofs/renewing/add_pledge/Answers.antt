@@ -1,8 +1,17 @@
-use Rattle.pawn_saving.proofs.{Writing.{None, ap, arith, length, refl, subst, sym, ◌+◌, ◌∙◌, ◌≡◌, state, pledge_in, put_from, rows}, Hosting.as_lists}
-use Rattle.pawn_saving.{specs.{Counted.{listed_as, IsWrittenPart}, Putting.{beside, whole_pledge}}, proofs.{Basics.clean_before, BookChanges.only_book}}
-use Rattle.pawn_saving.proofs.{BookChanges.other_books, PledgeChanges.{put_length, stood}, PledgeWrites.{next_number, next_written, none_booked}}
-use Rattle.pawn_book.{specs.{Changes.with_change, declared.change.Change.TheVariants.PutPledge, BookStep.pledge_from}, proofs.RowSums.part}
+use Rattle.pawn_book.proofs.RowSums.{part}
+use Rattle.pawn_book.specs.BookStep.{pledge_from}
+use Rattle.pawn_book.specs.Changes.{with_change}
+use Rattle.pawn_book.specs.declared.change.Change.TheVariants.{PutPledge}
 use Rattle.pawn_pledge.specs.Pledge.{PledgeValue}
+use Rattle.pawn_saving.proofs.Basics.{clean_before}
+use Rattle.pawn_saving.proofs.BookChanges.{only_book, other_books}
+use Rattle.pawn_saving.proofs.Hosting.{as_lists}
+use Rattle.pawn_saving.proofs.PledgeChanges.{put_length, stood}
+use Rattle.pawn_saving.proofs.PledgeWrites.{next_number, next_written, none_booked}
+use Rattle.pawn_saving.proofs.Writing.{None, ap, arith, length, refl, subst, sym, ◌+◌, ◌∙◌, ◌≡◌, state, pledge_in}
+use Rattle.pawn_saving.proofs.Writing.{put_from, rows}
+use Rattle.pawn_saving.specs.Counted.{listed_as, IsWrittenPart}
+use Rattle.pawn_saving.specs.Putting.{beside, whole_pledge}
 use Rattle.pawn_saving.proofs.renewing.add_pledge.Goals as goal
 
 pub returns-clause-wrote : goal.returns-clause-wrote

@@ -1,5 +1,10 @@
-use Rattle.pawn_saving.proofs.{Hosting.as_lists, PledgeChanges.stood, PledgeWrites.{continues_it, old_sides, others, renewed_written}, RowsInOrder.was_clean}
-use Rattle.pawn_saving.{proofs.Writing.{Some, ap, refl, sym, ◌∙◌, ◌≡◌, state, pledge_in, rows}, specs.{Counted.listed_as, Putting.with_sides}}
+use Rattle.pawn_saving.proofs.Hosting.{as_lists}
+use Rattle.pawn_saving.proofs.PledgeChanges.{stood}
+use Rattle.pawn_saving.proofs.PledgeWrites.{continues_it, old_sides, others, renewed_written}
+use Rattle.pawn_saving.proofs.RowsInOrder.{was_clean}
+use Rattle.pawn_saving.proofs.Writing.{Some, ap, refl, sym, ◌∙◌, ◌≡◌, state, pledge_in, rows}
+use Rattle.pawn_saving.specs.Counted.{listed_as}
+use Rattle.pawn_saving.specs.Putting.{with_sides}
 use Rattle.pawn_saving.proofs.renewing.renew_pledge.Goals as goal
 
 pub returns-clause-wrote : goal.returns-clause-wrote

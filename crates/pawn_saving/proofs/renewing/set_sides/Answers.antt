@@ -1,6 +1,10 @@
-use Rattle.pawn_saving.proofs.{Writing.{◌∷◌, state, with_rows, bookings_tree, pledges_tree, totals_tree}, RowsInOrder.{of_three, is_carried}}
-use Rattle.{pawn_saving.{specs.Putting.{row_under, totals_under}, proofs.PledgePartWrites.sides_set}, one_table.proofs.Parts.on_ok}
-use Rattle.{pawn_tables.specs.Common.debt_of, pawn_debt.specs.Kept.totals_of}
+use Rattle.one_table.proofs.Parts.{on_ok}
+use Rattle.pawn_debt.specs.Kept.{totals_of}
+use Rattle.pawn_saving.proofs.PledgePartWrites.{sides_set}
+use Rattle.pawn_saving.proofs.RowsInOrder.{of_three, is_carried}
+use Rattle.pawn_saving.proofs.Writing.{◌∷◌, state, with_rows, bookings_tree, pledges_tree, totals_tree}
+use Rattle.pawn_saving.specs.Putting.{row_under, totals_under}
+use Rattle.pawn_tables.specs.Common.{debt_of}
 use Rattle.pawn_saving.proofs.renewing.set_sides.Goals as goal
 
 pub returns-clause-wrote : goal.returns-clause-wrote

@@ -1,5 +1,7 @@
-use Rattle.{std.proofs.Common.{Err, Ok, rules}, pawn_tables.{specs.Common.state, proofs.OneHost.tables_stand_for_one_host}, pawn_saving.proofs.Saved.begins}
-use Rattle.pawn_saving.proofs.Saved.{given_back, saves_committed, saves_refused, saves_undone}
+use Rattle.pawn_saving.proofs.Saved.{begins, given_back, saves_committed, saves_refused, saves_undone}
+use Rattle.pawn_tables.proofs.OneHost.{tables_stand_for_one_host}
+use Rattle.pawn_tables.specs.Common.{state}
+use Rattle.std.proofs.Common.{Err, Ok, rules}
 use Rattle.pawn_saving.proofs.saving.save.Goals as goal
 
 pub returns-in-Ok-commit-clause-saves : goal.returns-in-Ok-commit-clause-saves

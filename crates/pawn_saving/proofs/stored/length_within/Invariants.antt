@@ -1,4 +1,6 @@
-use Rattle.pawn_saving.{proofs.{Writing.{◌≡◌, get, state, pledge_in}, StoredReads.IsSoFar}, specs.Stored.length_in}
+use Rattle.pawn_saving.proofs.StoredReads.{IsSoFar}
+use Rattle.pawn_saving.proofs.Writing.{◌≡◌, get, state, pledge_in}
+use Rattle.pawn_saving.specs.Stored.{length_in}
 use Rattle.pawn_saving.proofs.stored.length_within.Given as goal
 
 abbrev pub invariant-loop-length : goal.invariant-loop-length

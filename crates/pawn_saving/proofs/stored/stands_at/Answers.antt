@@ -1,5 +1,6 @@
-use Rattle.{pawn_saving.proofs.{Writing.{refl, ◌∙◌, get, pledge_in}, StoredReads.{entry_placed, tells_within}}, pawn_tables.specs.Common.entries_of}
-use Rattle.pawn_tables.specs.Common.{extensions_of, secrets_of}
+use Rattle.pawn_saving.proofs.StoredReads.{entry_placed, tells_within}
+use Rattle.pawn_saving.proofs.Writing.{refl, ◌∙◌, get, pledge_in}
+use Rattle.pawn_tables.specs.Common.{entries_of, extensions_of, secrets_of}
 use Rattle.pawn_saving.proofs.stored.stands_at.Goals as goal
 
 pub returns-in_ok-entry_in-in-Entries-clause-reads : goal.returns-in_ok-entry_in-in-Entries-clause-reads

@@ -1,4 +1,5 @@
-use Rattle.pawn_store.{specs.Running.store_of, proofs.Runs.nothing_answered}
+use Rattle.pawn_store.proofs.Runs.{nothing_answered}
+use Rattle.pawn_store.specs.Running.{store_of}
 use Rattle.pawn_store.proofs.laws.opened_has_answered_nothing.Goals as goal
 
 pub returns : goal.returns

@@ -1,5 +1,9 @@
-use Rattle.{std.proofs.Common.subst, sqlite_wal.specs.Reads.AreClean, pawn_opening.specs.Closed.{AreClosedFor, HasCommitted, IsLeftUnclosed}}
-use Rattle.{pawn_book.specs.HostStep.Host, pawn_tables.specs.StandsFor.StandsFor, sqlite.specs.Files.file_state}
+use Rattle.pawn_book.specs.HostStep.{Host}
+use Rattle.pawn_opening.specs.Closed.{AreClosedFor, HasCommitted, IsLeftUnclosed}
+use Rattle.pawn_tables.specs.StandsFor.{StandsFor}
+use Rattle.sqlite.specs.Files.{file_state}
+use Rattle.sqlite_wal.specs.Reads.{AreClean}
+use Rattle.std.proofs.Common.{subst}
 use Rattle.pawn_store.proofs.opening.close_keep.Goals as goal
 
 pub returns-in-Ok-clause-kept : goal.returns-in-Ok-clause-kept

@@ -1,6 +1,12 @@
-use Rattle.{std.proofs.Common.{subst, sym}, sqlite.specs.{State.HasCleanDisk, Files.file_state}, pawn_book.specs.HostStep.Host}
-use Rattle.{pawn_opening.specs.{FilesStand.{IsBlank, OpensFound, StandsIn}, Opened.{OpensAs, empty_host}}, sqlite_wal.specs.Files.image_at}
-use Rattle.pawn_store.{specs.Running.Reopens, proofs.Runs.reopens}
+use Rattle.pawn_book.specs.HostStep.{Host}
+use Rattle.pawn_opening.specs.FilesStand.{IsBlank, OpensFound, StandsIn}
+use Rattle.pawn_opening.specs.Opened.{OpensAs, empty_host}
+use Rattle.pawn_store.proofs.Runs.{reopens}
+use Rattle.pawn_store.specs.Running.{Reopens}
+use Rattle.sqlite.specs.Files.{file_state}
+use Rattle.sqlite.specs.State.{HasCleanDisk}
+use Rattle.sqlite_wal.specs.Files.{image_at}
+use Rattle.std.proofs.Common.{subst, sym}
 use Rattle.pawn_store.proofs.opening.keep_at_path.Goals as goal
 
 pub returns-in-Ok-clause-blank : goal.returns-in-Ok-clause-blank

@@ -1,4 +1,6 @@
-use Rattle.{pawn_host.specs.Ends.left_of, pawn_writing.specs.Ends.written_bytes, pawn_store.proofs.Runs.session_over_tables}
+use Rattle.pawn_host.specs.Ends.{left_of}
+use Rattle.pawn_store.proofs.Runs.{session_over_tables}
+use Rattle.pawn_writing.specs.Ends.{written_bytes}
 use Rattle.pawn_store.proofs.running.answer_over_tables.Goals as goal
 
 pub returns-clause-session : goal.returns-clause-session

@@ -1,4 +1,6 @@
-use Rattle.{std.proofs.{Common.refl, lemmas.Result.IfOk-weaker}, pawn_store.proofs.Runs.acts_over_tables}
+use Rattle.pawn_store.proofs.Runs.{acts_over_tables}
+use Rattle.std.proofs.Common.{refl}
+use Rattle.std.proofs.lemmas.Result.{IfOk-weaker}
 use Rattle.pawn_store.proofs.running.run_over_tables.Goals as goal
 
 pub returns-clause-headline : goal.returns-clause-headline

@@ -1,4 +1,6 @@
-use Rattle.pawn_tables.proofs.{Reading.{rules, ◌∙◌, ◌≡◌, found, found_is}, LineReads.confirmed_shown, ReadTexts.{COUNT_CONFIRMED, texts}}
+use Rattle.pawn_tables.proofs.LineReads.{confirmed_shown}
+use Rattle.pawn_tables.proofs.ReadTexts.{COUNT_CONFIRMED, texts}
+use Rattle.pawn_tables.proofs.Reading.{rules, ◌∙◌, ◌≡◌, found, found_is}
 use Rattle.pawn_tables.proofs.books.confirmed_in.Goals as goal
 
 pub returns-clause-finds : goal.returns-clause-finds

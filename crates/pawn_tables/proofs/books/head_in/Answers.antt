@@ -1,4 +1,7 @@
-use Rattle.pawn_tables.proofs.{Reading.{◌∙◌, found, found_is}, BookReads.head_shown, ReadTexts.{READ_HEAD, texts}, SoundBooks.{head_unsound, keys_in}}
+use Rattle.pawn_tables.proofs.BookReads.{head_shown}
+use Rattle.pawn_tables.proofs.ReadTexts.{READ_HEAD, texts}
+use Rattle.pawn_tables.proofs.Reading.{◌∙◌, found, found_is}
+use Rattle.pawn_tables.proofs.SoundBooks.{head_unsound, keys_in}
 use Rattle.pawn_tables.proofs.books.head_in.Goals as goal
 
 pub returns-clause-finds : goal.returns-clause-finds

@@ -1,5 +1,8 @@
-use Rattle.pawn_tables.proofs.{Reading.{◌∙◌, IsNextBook, found_as, found_debts}, BookReads.{is_next, next_shown}, Lent.debts_of, ReadTexts.FIND_NEXT_BOOK}
-use Rattle.pawn_tables.proofs.{ReadTexts.texts, SoundBooks.next_unsound}
+use Rattle.pawn_tables.proofs.BookReads.{is_next, next_shown}
+use Rattle.pawn_tables.proofs.Lent.{debts_of}
+use Rattle.pawn_tables.proofs.ReadTexts.{FIND_NEXT_BOOK, texts}
+use Rattle.pawn_tables.proofs.Reading.{◌∙◌, IsNextBook, found_as, found_debts}
+use Rattle.pawn_tables.proofs.SoundBooks.{next_unsound}
 use Rattle.pawn_tables.proofs.books.next_in.Goals as goal
 
 pub returns-clause-told : goal.returns-clause-told

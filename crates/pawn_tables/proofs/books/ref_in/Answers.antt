@@ -1,4 +1,6 @@
-use Rattle.pawn_tables.proofs.{Reading.{◌∙◌, ref_shown, found, found_is}, ReadTexts.{FIND_REFERENCE, texts}, SoundBooks.ref_unsound}
+use Rattle.pawn_tables.proofs.ReadTexts.{FIND_REFERENCE, texts}
+use Rattle.pawn_tables.proofs.Reading.{◌∙◌, ref_shown, found, found_is}
+use Rattle.pawn_tables.proofs.SoundBooks.{ref_unsound}
 use Rattle.pawn_tables.proofs.books.ref_in.Goals as goal
 
 pub returns-clause-finds : goal.returns-clause-finds

@@ -1,4 +1,6 @@
-use Rattle.pawn_tables.proofs.{Reading.{◌∙◌, found, found_is}, BookReads.rows_shown, ReadTexts.{READ_ROWS, texts}}
+use Rattle.pawn_tables.proofs.BookReads.{rows_shown}
+use Rattle.pawn_tables.proofs.ReadTexts.{READ_ROWS, texts}
+use Rattle.pawn_tables.proofs.Reading.{◌∙◌, found, found_is}
 use Rattle.pawn_tables.proofs.books.rows_in.Goals as goal
 
 pub returns-clause-finds : goal.returns-clause-finds

@@ -1,5 +1,10 @@
-use Rattle.pawn_tables.proofs.{Joins.joined_told, Lent.{first_unfound, both_found}, Reading.{Err, Ok, Some, ap, option_map, rules, subst, sym, ◌∙◌, ◌≡◌, get}}
-use Rattle.pawn_tables.{proofs.{Reading.pledge_in, SoundReads.{brief_unsound, unjoined}}, specs.{Common.brief_of, ListEnds.AreListEnds, PledgeRows.IsBriefTold}}
+use Rattle.pawn_tables.proofs.Joins.{joined_told}
+use Rattle.pawn_tables.proofs.Lent.{first_unfound, both_found}
+use Rattle.pawn_tables.proofs.Reading.{Err, Ok, Some, ap, option_map, rules, subst, sym, ◌∙◌, ◌≡◌, get, pledge_in}
+use Rattle.pawn_tables.proofs.SoundReads.{brief_unsound, unjoined}
+use Rattle.pawn_tables.specs.Common.{brief_of}
+use Rattle.pawn_tables.specs.ListEnds.{AreListEnds}
+use Rattle.pawn_tables.specs.PledgeRows.{IsBriefTold}
 use Rattle.pawn_tables.proofs.briefs.brief_in.Goals as goal
 
 pub returns-in_err-told-clause-finds : goal.returns-in_err-told-clause-finds

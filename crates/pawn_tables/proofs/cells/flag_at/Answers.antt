@@ -1,4 +1,5 @@
-use Rattle.{std.proofs.Common.rules, pawn_tables.specs.Rows.flag_number}
+use Rattle.pawn_tables.specs.Rows.{flag_number}
+use Rattle.std.proofs.Common.{rules}
 use Rattle.pawn_tables.proofs.cells.flag_at.Goals as goal
 
 pub returns-in_err-number_at : goal.returns-in_err-number_at

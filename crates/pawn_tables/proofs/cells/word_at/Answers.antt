@@ -1,4 +1,5 @@
-use Rattle.{std.proofs.Common.{rules, ◌∙◌}, pawn_tables.proofs.Words.word_read}
+use Rattle.pawn_tables.proofs.Words.{word_read}
+use Rattle.std.proofs.Common.{rules, ◌∙◌}
 use Rattle.pawn_tables.proofs.cells.word_at.Goals as goal
 
 pub returns-in-Ok-from_slice : goal.returns-in-Ok-from_slice

@@ -1,4 +1,6 @@
-use Rattle.pawn_tables.proofs.{Reading.{◌∙◌, credit_shown, found_debts, found_is}, ReadTexts.{READ_CREDIT, texts}, SoundReads.credit_unsound}
+use Rattle.pawn_tables.proofs.ReadTexts.{READ_CREDIT, texts}
+use Rattle.pawn_tables.proofs.Reading.{◌∙◌, credit_shown, found_debts, found_is}
+use Rattle.pawn_tables.proofs.SoundReads.{credit_unsound}
 use Rattle.pawn_tables.proofs.credits.credit_in.Goals as goal
 
 pub returns-clause-finds : goal.returns-clause-finds

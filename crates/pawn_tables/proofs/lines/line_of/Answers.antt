@@ -1,5 +1,7 @@
-use Rattle.pawn_tables.{proofs.RowReading.{ap, arith, length, refl, rules, ◌<◌, ◌∙◌, ◌≡◌, IsNumber, line_cells, Line, always_read, cell_at}, specs.Rows.number}
+use Rattle.pawn_tables.proofs.RowReading.{ap, arith, length, refl, rules, ◌<◌, ◌∙◌, ◌≡◌, IsNumber, line_cells, Line}
+use Rattle.pawn_tables.proofs.RowReading.{always_read, cell_at}
 use Rattle.pawn_tables.specs.Common.{Row, column, Part}
+use Rattle.pawn_tables.specs.Rows.{number}
 use Rattle.pawn_book.specs.declared.sheet.Part.TheVariants as part_of
 use Rattle.pawn_tables.proofs.lines.line_of.Goals as goal
 

@@ -1,4 +1,5 @@
-use Rattle.pawn_tables.proofs.RowReading.{rules, ℕ, ◌∙◌, IsNumber, IsLineOf, line_cells, Line, mapped, placed_err, placed_more, placed_whole}
+use Rattle.pawn_tables.proofs.RowReading.{rules, ℕ, ◌∙◌, IsNumber, IsLineOf, line_cells, Line, mapped, placed_err}
+use Rattle.pawn_tables.proofs.RowReading.{placed_more, placed_whole}
 use Rattle.pawn_tables.proofs.lines.read_lines.Goals as goal
 
 pub loop-row-preserved : goal.loop-row-preserved

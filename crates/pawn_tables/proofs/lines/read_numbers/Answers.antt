@@ -1,5 +1,6 @@
-use Rattle.pawn_tables.proofs.RowReading.{Err, arith, refl, rules, ℕ, ⊤, ◌∙◌, number_cells, always_all, each_any, mapped, placed_err, placed_more, placed_whole}
-use Rattle.pawn_tables.{proofs.RowReading.cell_at, specs.{Finding.IsRead}}
+use Rattle.pawn_tables.proofs.RowReading.{Err, arith, refl, rules, ℕ, ⊤, ◌∙◌, number_cells, always_all, each_any}
+use Rattle.pawn_tables.proofs.RowReading.{mapped, placed_err, placed_more, placed_whole, cell_at}
+use Rattle.pawn_tables.specs.Finding.{IsRead}
 use Rattle.pawn_tables.proofs.lines.read_numbers.Goals as goal
 
 pub loop-row-preserved : goal.loop-row-preserved

@@ -1,4 +1,6 @@
-use Rattle.pawn_tables.proofs.{Reading.{◌∙◌, found, found_is}, ListElementReads.{entry_shown, entry_unsound}, ReadTexts.{READ_ENTRY, texts}}
+use Rattle.pawn_tables.proofs.ListElementReads.{entry_shown, entry_unsound}
+use Rattle.pawn_tables.proofs.ReadTexts.{READ_ENTRY, texts}
+use Rattle.pawn_tables.proofs.Reading.{◌∙◌, found, found_is}
 use Rattle.pawn_tables.proofs.list_elements.entry_in.Goals as goal
 
 pub returns-clause-finds : goal.returns-clause-finds

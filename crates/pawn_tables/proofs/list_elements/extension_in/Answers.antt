@@ -1,4 +1,6 @@
-use Rattle.pawn_tables.proofs.{Reading.{◌∙◌, found, found_is}, ListElementReads.{extension_shown, extension_unsound}, ReadTexts.{READ_EXTENSION, texts}}
+use Rattle.pawn_tables.proofs.ListElementReads.{extension_shown, extension_unsound}
+use Rattle.pawn_tables.proofs.ReadTexts.{READ_EXTENSION, texts}
+use Rattle.pawn_tables.proofs.Reading.{◌∙◌, found, found_is}
 use Rattle.pawn_tables.proofs.list_elements.extension_in.Goals as goal
 
 pub returns-clause-finds : goal.returns-clause-finds

@@ -1,4 +1,6 @@
-use Rattle.pawn_tables.proofs.{Reading.{◌∙◌, IsWord, found, found_is}, ReadTexts.{READ_SECRET, texts}, SoundReads.words_in}
+use Rattle.pawn_tables.proofs.ReadTexts.{READ_SECRET, texts}
+use Rattle.pawn_tables.proofs.Reading.{◌∙◌, IsWord, found, found_is}
+use Rattle.pawn_tables.proofs.SoundReads.{words_in}
 use Rattle.pawn_tables.proofs.ListElementReads as reads
 use Rattle.pawn_tables.proofs.list_elements.secret_in.Goals as goal
 

@@ -1,4 +1,6 @@
-use Rattle.pawn_tables.proofs.{Reading.{◌∙◌, found, found_is}, ListEndReads.count_shown, ReadTexts.{COUNT_ENTRIES, texts}}
+use Rattle.pawn_tables.proofs.ListEndReads.{count_shown}
+use Rattle.pawn_tables.proofs.ReadTexts.{COUNT_ENTRIES, texts}
+use Rattle.pawn_tables.proofs.Reading.{◌∙◌, found, found_is}
 use Rattle.pawn_tables.proofs.list_ends.entry_count.Goals as goal
 
 pub returns-clause-finds : goal.returns-clause-finds

@@ -1,5 +1,6 @@
-use Rattle.pawn_tables.proofs.{Reading.{length, ℕ, ◌∙◌, ◌≡◌, get, pledge_in, extensions_of, found, found_as}, ListEndReads.{place_count, place_shown}}
+use Rattle.pawn_tables.proofs.ListEndReads.{place_count, place_shown}
 use Rattle.pawn_tables.proofs.ReadTexts.{READ_LAST_PLACE, texts}
+use Rattle.pawn_tables.proofs.Reading.{length, ℕ, ◌∙◌, ◌≡◌, get, pledge_in, extensions_of, found, found_as}
 use Rattle.pawn_tables.proofs.list_ends.extension_count.Goals as goal
 
 pub returns-clause-finds : goal.returns-clause-finds

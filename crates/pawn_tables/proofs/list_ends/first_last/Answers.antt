@@ -1,5 +1,8 @@
-use Rattle.{std.proofs.Common.{arith, rules}, pawn_tables.specs.{Common.{IsWord, IsDayNumber}, ListEnds.last_cells, declared.joining.LastSecret.LastSecret}}
 use Rattle.pawn_tables.proofs.ListsOfRows.{first_err_of, first_of}
+use Rattle.pawn_tables.specs.Common.{IsWord, IsDayNumber}
+use Rattle.pawn_tables.specs.ListEnds.{last_cells}
+use Rattle.pawn_tables.specs.declared.joining.LastSecret.{LastSecret}
+use Rattle.std.proofs.Common.{arith, rules}
 use Rattle.pawn_tables.proofs.list_ends.first_last.Goals as goal
 
 pub returns-in_err-last_of : goal.returns-in_err-last_of

@@ -1,4 +1,5 @@
-use Rattle.{std.proofs.Common.{rules, refl, arith}, pawn_tables.proofs.RowCells.cell_at}
+use Rattle.pawn_tables.proofs.RowCells.{cell_at}
+use Rattle.std.proofs.Common.{rules, refl, arith}
 use Rattle.pawn_tables.proofs.list_ends.last_of.Goals as goal
 
 pub returns-in_err-place : goal.returns-in_err-place

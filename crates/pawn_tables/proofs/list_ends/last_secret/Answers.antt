@@ -1,5 +1,7 @@
-use Rattle.pawn_tables.proofs.{Reading.{◌∙◌, get, pledge_in, secrets_of, found, found_is}, ListEndReads.{last_unsound, last_word, secret_shown}}
-use Rattle.pawn_tables.proofs.{ReadTexts.{READ_LAST_SECRET, texts}, SoundReads.words_in}
+use Rattle.pawn_tables.proofs.ListEndReads.{last_unsound, last_word, secret_shown}
+use Rattle.pawn_tables.proofs.ReadTexts.{READ_LAST_SECRET, texts}
+use Rattle.pawn_tables.proofs.Reading.{◌∙◌, get, pledge_in, secrets_of, found, found_is}
+use Rattle.pawn_tables.proofs.SoundReads.{words_in}
 use Rattle.pawn_tables.proofs.list_ends.last_secret.Goals as goal
 
 pub returns-clause-finds : goal.returns-clause-finds

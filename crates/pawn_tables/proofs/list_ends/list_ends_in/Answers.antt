@@ -1,4 +1,6 @@
-use Rattle.pawn_tables.proofs.{Reading.{rules, get, pledge_in}, Lent.{first_unfound, next_found, next_unfound, one_found}, ListEndReads.list_ends_told}
+use Rattle.pawn_tables.proofs.Lent.{first_unfound, next_found, next_unfound, one_found}
+use Rattle.pawn_tables.proofs.ListEndReads.{list_ends_told}
+use Rattle.pawn_tables.proofs.Reading.{rules, get, pledge_in}
 use Rattle.pawn_tables.proofs.list_ends.list_ends_in.Goals as goal
 
 pub returns-in_err-entries-clause-finds : goal.returns-in_err-entries-clause-finds

@@ -1,4 +1,5 @@
-use Rattle.pawn_tables.{proofs.RowReading.{arith, rules, IsEntryTold, first_err}, specs.Rows.entry_cells}
+use Rattle.pawn_tables.proofs.RowReading.{arith, rules, IsEntryTold, first_err}
+use Rattle.pawn_tables.specs.Rows.{entry_cells}
 use Rattle.pawn_tables.proofs.lists.first_entry.Goals as goal
 
 pub returns-in_err-entry_of : goal.returns-in_err-entry_of

@@ -1,4 +1,5 @@
-use Rattle.pawn_tables.{proofs.RowReading.{arith, rules, IsDayNumber, Extension, first_err}, specs.Rows.extension_cells}
+use Rattle.pawn_tables.proofs.RowReading.{arith, rules, IsDayNumber, Extension, first_err}
+use Rattle.pawn_tables.specs.Rows.{extension_cells}
 use Rattle.pawn_tables.proofs.lists.first_extension.Goals as goal
 
 pub returns-in_err-extension_of : goal.returns-in_err-extension_of

@@ -1,4 +1,5 @@
-use Rattle.pawn_tables.{proofs.RowReading.{arith, rules, IsDayNumber, Issued, IsWord, first_err_of, first_of}, specs.Rows.secret_cells}
+use Rattle.pawn_tables.proofs.RowReading.{arith, rules, IsDayNumber, Issued, IsWord, first_err_of, first_of}
+use Rattle.pawn_tables.specs.Rows.{secret_cells}
 use Rattle.pawn_tables.proofs.lists.first_issued.Goals as goal
 
 pub returns-in_err-issued_of : goal.returns-in_err-issued_of

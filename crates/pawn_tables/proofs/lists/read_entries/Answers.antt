@@ -1,4 +1,6 @@
-use Rattle.pawn_tables.{proofs.RowReading.{rules, ℕ, ◌∙◌, Entry, IsEntryTold, each_any, mapped, placed_err, placed_more, placed_whole}, specs.Rows.entry_cells}
+use Rattle.pawn_tables.proofs.RowReading.{rules, ℕ, ◌∙◌, Entry, IsEntryTold, each_any, mapped, placed_err, placed_more}
+use Rattle.pawn_tables.proofs.RowReading.{placed_whole}
+use Rattle.pawn_tables.specs.Rows.{entry_cells}
 use Rattle.pawn_tables.proofs.lists.read_entries.Goals as goal
 
 pub loop-row-preserved : goal.loop-row-preserved

@@ -1,4 +1,5 @@
-use Rattle.pawn_tables.{proofs.RowReading.{ℕ, Entry, AreReadTo}, specs.Rows.entry_cells}
+use Rattle.pawn_tables.proofs.RowReading.{ℕ, Entry, AreReadTo}
+use Rattle.pawn_tables.specs.Rows.{entry_cells}
 use Rattle.pawn_tables.proofs.lists.read_entries.Given as goal
 
 abbrev pub invariant-loop-row : goal.invariant-loop-row

@@ -1,4 +1,6 @@
-use Rattle.pawn_tables.{proofs.RowReading.{rules, IsDayNumber, Extension, each_any, placed_err, placed_more, placed_whole}, specs.Rows.extension_cells}
+use Rattle.pawn_tables.proofs.RowReading.{rules, IsDayNumber, Extension, each_any, placed_err, placed_more}
+use Rattle.pawn_tables.proofs.RowReading.{placed_whole}
+use Rattle.pawn_tables.specs.Rows.{extension_cells}
 use Rattle.pawn_tables.proofs.lists.read_extensions.Goals as goal
 
 pub loop-row-preserved : goal.loop-row-preserved

@@ -1,4 +1,5 @@
-use Rattle.pawn_tables.{proofs.RowReading.{Extension, AreReadTo}, specs.Rows.extension_cells}
+use Rattle.pawn_tables.proofs.RowReading.{Extension, AreReadTo}
+use Rattle.pawn_tables.specs.Rows.{extension_cells}
 use Rattle.pawn_tables.proofs.lists.read_extensions.Given as goal
 
 abbrev pub invariant-loop-row : goal.invariant-loop-row

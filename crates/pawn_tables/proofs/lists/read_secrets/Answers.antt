@@ -1,4 +1,5 @@
-use Rattle.pawn_tables.{proofs.RowReading.{rules, IsDayNumber, Issued, IsWord, placed_err, placed_more, placed_whole}, specs.Rows.secret_cells}
+use Rattle.pawn_tables.proofs.RowReading.{rules, IsDayNumber, Issued, IsWord, placed_err, placed_more, placed_whole}
+use Rattle.pawn_tables.specs.Rows.{secret_cells}
 use Rattle.pawn_tables.proofs.lists.read_secrets.Goals as goal
 
 pub loop-row-preserved : goal.loop-row-preserved

@@ -1,4 +1,5 @@
-use Rattle.pawn_tables.{proofs.RowReading.{Issued, IsWord, AreReadTo}, specs.Rows.secret_cells}
+use Rattle.pawn_tables.proofs.RowReading.{Issued, IsWord, AreReadTo}
+use Rattle.pawn_tables.specs.Rows.{secret_cells}
 use Rattle.pawn_tables.proofs.lists.read_secrets.Given as goal
 
 abbrev pub invariant-loop-row : goal.invariant-loop-row

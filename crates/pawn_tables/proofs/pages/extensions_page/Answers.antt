@@ -1,5 +1,6 @@
-use Rattle.pawn_tables.proofs.{Reading.{◌+◌, ◌∙◌, found, found_is}, ListPageReads.{extensions_page_shown, extensions_page_unsound}}
+use Rattle.pawn_tables.proofs.ListPageReads.{extensions_page_shown, extensions_page_unsound}
 use Rattle.pawn_tables.proofs.ReadTexts.{READ_EXTENSIONS_PAGE, texts}
+use Rattle.pawn_tables.proofs.Reading.{◌+◌, ◌∙◌, found, found_is}
 use Rattle.pawn_tables.proofs.pages.extensions_page.Goals as goal
 
 pub returns-clause-finds : goal.returns-clause-finds

@@ -1,5 +1,6 @@
-use Rattle.pawn_tables.proofs.{Reading.{◌+◌, ◌∙◌, found, found_is}, ListPageReads.{page_words, secrets_page_shown, secrets_page_unsound}}
+use Rattle.pawn_tables.proofs.ListPageReads.{page_words, secrets_page_shown, secrets_page_unsound}
 use Rattle.pawn_tables.proofs.ReadTexts.{READ_SECRETS_PAGE, texts}
+use Rattle.pawn_tables.proofs.Reading.{◌+◌, ◌∙◌, found, found_is}
 use Rattle.pawn_tables.proofs.pages.secrets_page.Goals as goal
 
 pub returns-clause-finds : goal.returns-clause-finds

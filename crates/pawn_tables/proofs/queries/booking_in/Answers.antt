@@ -1,4 +1,6 @@
-use Rattle.pawn_tables.proofs.{Reading.{◌∙◌, booking_shown, found, found_is}, ReadTexts.{READ_BOOKING, texts}, SoundReads.booking_unsound}
+use Rattle.pawn_tables.proofs.ReadTexts.{READ_BOOKING, texts}
+use Rattle.pawn_tables.proofs.Reading.{◌∙◌, booking_shown, found, found_is}
+use Rattle.pawn_tables.proofs.SoundReads.{booking_unsound}
 use Rattle.pawn_tables.proofs.queries.booking_in.Goals as goal
 
 pub returns-clause-finds : goal.returns-clause-finds

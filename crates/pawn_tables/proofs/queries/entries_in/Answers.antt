@@ -1,4 +1,7 @@
-use Rattle.pawn_tables.proofs.{Reading.{◌∙◌, entries_shown, found_debts, found_is}, Lent.debts_of, ReadTexts.{READ_ENTRIES, texts}, SoundReads.entries_unsound}
+use Rattle.pawn_tables.proofs.Lent.{debts_of}
+use Rattle.pawn_tables.proofs.ReadTexts.{READ_ENTRIES, texts}
+use Rattle.pawn_tables.proofs.Reading.{◌∙◌, entries_shown, found_debts, found_is}
+use Rattle.pawn_tables.proofs.SoundReads.{entries_unsound}
 use Rattle.pawn_tables.proofs.queries.entries_in.Goals as goal
 
 pub returns-clause-told : goal.returns-clause-told

@@ -1,4 +1,6 @@
-use Rattle.pawn_tables.proofs.{Reading.{◌∙◌, extensions_shown, found, found_is}, ReadTexts.{READ_EXTENSIONS, texts}, SoundReads.extensions_unsound}
+use Rattle.pawn_tables.proofs.ReadTexts.{READ_EXTENSIONS, texts}
+use Rattle.pawn_tables.proofs.Reading.{◌∙◌, extensions_shown, found, found_is}
+use Rattle.pawn_tables.proofs.SoundReads.{extensions_unsound}
 use Rattle.pawn_tables.proofs.queries.extensions_in.Goals as goal
 
 pub returns-clause-finds : goal.returns-clause-finds

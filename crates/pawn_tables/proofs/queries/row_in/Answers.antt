@@ -1,4 +1,6 @@
-use Rattle.pawn_tables.proofs.{Reading.{◌∙◌, pledge_shown, found, found_is}, ReadTexts.{READ_PLEDGE, texts}, SoundReads.row_unsound}
+use Rattle.pawn_tables.proofs.ReadTexts.{READ_PLEDGE, texts}
+use Rattle.pawn_tables.proofs.Reading.{◌∙◌, pledge_shown, found, found_is}
+use Rattle.pawn_tables.proofs.SoundReads.{row_unsound}
 use Rattle.pawn_tables.proofs.queries.row_in.Goals as goal
 
 pub returns-clause-finds : goal.returns-clause-finds

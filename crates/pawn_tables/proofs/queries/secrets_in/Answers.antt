@@ -1,4 +1,6 @@
-use Rattle.pawn_tables.proofs.{Reading.{◌∙◌, secrets_shown, found, found_is}, ReadTexts.{READ_SECRETS, texts}, SoundReads.{secrets_unsound, words_in}}
+use Rattle.pawn_tables.proofs.ReadTexts.{READ_SECRETS, texts}
+use Rattle.pawn_tables.proofs.Reading.{◌∙◌, secrets_shown, found, found_is}
+use Rattle.pawn_tables.proofs.SoundReads.{secrets_unsound, words_in}
 use Rattle.pawn_tables.proofs.queries.secrets_in.Goals as goal
 
 pub returns-clause-finds : goal.returns-clause-finds

@@ -1,4 +1,7 @@
-use Rattle.pawn_tables.proofs.{Reading.{◌∙◌, terms_shown, found_debts, found_is}, Lent.debts_of, ReadTexts.{READ_TERMS, texts}, SoundReads.terms_unsound}
+use Rattle.pawn_tables.proofs.Lent.{debts_of}
+use Rattle.pawn_tables.proofs.ReadTexts.{READ_TERMS, texts}
+use Rattle.pawn_tables.proofs.Reading.{◌∙◌, terms_shown, found_debts, found_is}
+use Rattle.pawn_tables.proofs.SoundReads.{terms_unsound}
 use Rattle.pawn_tables.proofs.queries.terms_in.Goals as goal
 
 pub returns-clause-told : goal.returns-clause-told

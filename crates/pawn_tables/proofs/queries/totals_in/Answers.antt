@@ -1,4 +1,6 @@
-use Rattle.pawn_tables.proofs.{Reading.{◌∙◌, totals_shown, found, found_is}, ReadTexts.{READ_TOTALS, texts}, SoundReads.totals_unsound}
+use Rattle.pawn_tables.proofs.ReadTexts.{READ_TOTALS, texts}
+use Rattle.pawn_tables.proofs.Reading.{◌∙◌, totals_shown, found, found_is}
+use Rattle.pawn_tables.proofs.SoundReads.{totals_unsound}
 use Rattle.pawn_tables.proofs.queries.totals_in.Goals as goal
 
 pub returns-clause-finds : goal.returns-clause-finds

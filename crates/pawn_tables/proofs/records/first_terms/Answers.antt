@@ -1,4 +1,6 @@
-use Rattle.pawn_tables.{proofs.RowReading.{arith, rules, first_err}, specs.{Rows.terms_cells, Common.IsChecked}}
+use Rattle.pawn_tables.proofs.RowReading.{arith, rules, first_err}
+use Rattle.pawn_tables.specs.Common.{IsChecked}
+use Rattle.pawn_tables.specs.Rows.{terms_cells}
 use Rattle.pawn_tables.proofs.records.first_terms.Goals as goal
 
 pub returns-in_err-terms_of : goal.returns-in_err-terms_of

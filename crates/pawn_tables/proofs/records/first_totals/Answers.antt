@@ -1,4 +1,6 @@
-use Rattle.pawn_tables.{proofs.RowReading.{arith, rules, IsDayNumber, first_err}, specs.{Rows.totals_cells, Common.Totals}}
+use Rattle.pawn_tables.proofs.RowReading.{arith, rules, IsDayNumber, first_err}
+use Rattle.pawn_tables.specs.Common.{Totals}
+use Rattle.pawn_tables.specs.Rows.{totals_cells}
 use Rattle.pawn_tables.proofs.records.first_totals.Goals as goal
 
 pub returns-in_err-totals_of : goal.returns-in_err-totals_of

@@ -1,7 +1,10 @@
-use Rattle.pawn_tables.{proofs.Reading.{ap, map, refl, rules, sym, ◌∙◌, ◌≡◌, found}, specs.Lines.{asked_line, confirmed_line, ends_line, line_cells}}
-use Rattle.pawn_tables.proofs.LineReads.{asked_numbers, asked_page_shown, asked_says, asked_told, confirmed_numbers, confirmed_page_shown, confirmed_says}
-use Rattle.pawn_tables.proofs.{LineReads.{confirmed_told, ends_numbers, ends_page_shown, ends_says, ends_told}, NextLines.lines_found}
+use Rattle.pawn_tables.proofs.LineReads.{asked_numbers, asked_page_shown, asked_says, asked_told, confirmed_numbers}
+use Rattle.pawn_tables.proofs.LineReads.{confirmed_page_shown, confirmed_says, confirmed_told, ends_numbers}
+use Rattle.pawn_tables.proofs.LineReads.{ends_page_shown, ends_says, ends_told}
+use Rattle.pawn_tables.proofs.NextLines.{lines_found}
 use Rattle.pawn_tables.proofs.ReadTexts.{READ_ASKED_PAGE, READ_CONFIRMED_PAGE, READ_ENDS_PAGE, texts}
+use Rattle.pawn_tables.proofs.Reading.{ap, map, refl, rules, sym, ◌∙◌, ◌≡◌, found}
+use Rattle.pawn_tables.specs.Lines.{asked_line, confirmed_line, ends_line, line_cells}
 use Rattle.pawn_book.specs.declared.sheet.Part.TheVariants as part_of
 use Rattle.pawn_tables.proofs.sheets.lines_page.Goals as goal
 

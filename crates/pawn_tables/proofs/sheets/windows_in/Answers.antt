@@ -1,5 +1,8 @@
-use Rattle.pawn_tables.{proofs.{Reading.{map, ◌∙◌, get, pledges_of, found, found_as}, ReadTexts.{READ_WINDOWS, texts}}, specs.Lines.NamesWindows}
-use Rattle.pawn_tables.{specs.Heads.number_cells, proofs.WindowReads.windows_shown}
+use Rattle.pawn_tables.proofs.ReadTexts.{READ_WINDOWS, texts}
+use Rattle.pawn_tables.proofs.Reading.{map, ◌∙◌, get, pledges_of, found, found_as}
+use Rattle.pawn_tables.proofs.WindowReads.{windows_shown}
+use Rattle.pawn_tables.specs.Heads.{number_cells}
+use Rattle.pawn_tables.specs.Lines.{NamesWindows}
 use Rattle.pawn_tables.proofs.sheets.windows_in.Goals as goal
 
 pub returns-clause-finds : goal.returns-clause-finds

@@ -1,4 +1,6 @@
-use Rattle.pawn_tables.proofs.{Reading.rules, Joins.sides_told, Lent.{first_unfound, next_found, next_unfound, one_found}}
+use Rattle.pawn_tables.proofs.Joins.{sides_told}
+use Rattle.pawn_tables.proofs.Lent.{first_unfound, next_found, next_unfound, one_found}
+use Rattle.pawn_tables.proofs.Reading.{rules}
 use Rattle.pawn_tables.proofs.whole.sides_in.Goals as goal
 
 pub returns-in_err-terms-clause-finds : goal.returns-in_err-terms-clause-finds

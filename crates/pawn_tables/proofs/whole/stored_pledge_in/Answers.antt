@@ -1,5 +1,7 @@
-use Rattle.pawn_tables.proofs.{Reading.{ap, arith, refl, rules, sym, ◌∙◌, ◌≡◌, get, pledge_in}, Joins.{row_is, told_of, version_fits}, Lent.both_found}
-use Rattle.pawn_tables.proofs.{Lent.first_unfound, Basics.PledgeRow}
+use Rattle.pawn_tables.proofs.Basics.{PledgeRow}
+use Rattle.pawn_tables.proofs.Joins.{row_is, told_of, version_fits}
+use Rattle.pawn_tables.proofs.Lent.{both_found, first_unfound}
+use Rattle.pawn_tables.proofs.Reading.{ap, arith, refl, rules, sym, ◌∙◌, ◌≡◌, get, pledge_in}
 use Rattle.pawn_tables.proofs.whole.stored_pledge_in.Goals as goal
 
 pub returns-in_err-row-clause-finds : goal.returns-in_err-row-clause-finds

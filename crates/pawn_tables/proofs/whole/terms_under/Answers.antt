@@ -1,4 +1,5 @@
-use Rattle.pawn_tables.proofs.{Reading.{arith, rules, ◌≡◌, state}, Joins.none_under}
+use Rattle.pawn_tables.proofs.Joins.{none_under}
+use Rattle.pawn_tables.proofs.Reading.{arith, rules, ◌≡◌, state}
 use Rattle.pawn_tables.proofs.whole.terms_under.Goals as goal
 
 pub returns-in_default-clause-finds : goal.returns-in_default-clause-finds

@@ -1,9 +1,16 @@
-use Rattle.std.{proofs.Common.{◌≡◌, ℕ, List, [], ◌∷◌, map, flat_map, sum_by, refl, sym, ap, ◌∙◌, arith}, specs.FinMap.{entries-insert, put, len-empty}}
-use Rattle.{std.{specs.FinMap.len-entries, proofs.lemmas.Cmp.nat_cmp_total}, pawn_tables.specs.Common.{empty, entries, nat_cmp, Row, PledgeValue, BookValue}}
-use Rattle.pawn_tables.{proofs.Basics.nil_from_length, specs.{Meta.meta_rows, Rows.{book_row, terms_listed, pledge_listed, entries_listed, secrets_listed}}}
-use Rattle.pawn_tables.specs.{Rows.{booking_listed, totals_listed, extensions_listed}, StandsFor.{of_books, of_pledges}, WorkedTables.stored_book}
-use Rattle.{pawn_tables.specs.WorkedTables.host_of_stored_book, pawn_terms.specs.Calendar.{days_of_years, days_of_months, civil_after}}
-use Rattle.{pawn_debt.specs.Due.due_after, pawn_book.specs.HostStep.book_rows}
+use Rattle.pawn_book.specs.HostStep.{book_rows}
+use Rattle.pawn_debt.specs.Due.{due_after}
+use Rattle.pawn_tables.proofs.Basics.{nil_from_length}
+use Rattle.pawn_tables.specs.Common.{empty, entries, nat_cmp, Row, PledgeValue, BookValue}
+use Rattle.pawn_tables.specs.Meta.{meta_rows}
+use Rattle.pawn_tables.specs.Rows.{book_row, terms_listed, pledge_listed, entries_listed, secrets_listed}
+use Rattle.pawn_tables.specs.Rows.{booking_listed, totals_listed, extensions_listed}
+use Rattle.pawn_tables.specs.StandsFor.{of_books, of_pledges}
+use Rattle.pawn_tables.specs.WorkedTables.{stored_book, host_of_stored_book}
+use Rattle.pawn_terms.specs.Calendar.{days_of_years, days_of_months, civil_after}
+use Rattle.std.proofs.Common.{◌≡◌, ℕ, List, [], ◌∷◌, map, flat_map, sum_by, refl, sym, ap, ◌∙◌, arith}
+use Rattle.std.proofs.lemmas.Cmp.{nat_cmp_total}
+use Rattle.std.specs.FinMap.{entries-insert, put, len-empty, len-entries}
 use Rattle.pawn_tables.proofs.worked.worked_tables.Goals as goal
 
 no_entries : entries (empty {X = BookValue} {R = nat_cmp}) ≡ []

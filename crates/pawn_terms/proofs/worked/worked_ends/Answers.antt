@@ -1,4 +1,5 @@
-use Rattle.{std.proofs.Common.refl, pawn_terms.specs.Calendar.{civil_after, days_of_years, days_of_months}}
+use Rattle.pawn_terms.specs.Calendar.{civil_after, days_of_years, days_of_months}
+use Rattle.std.proofs.Common.{refl}
 use Rattle.pawn_terms.proofs.worked.worked_ends.Goals as goal
 
 pub returns-clause-six_months : goal.returns-clause-six_months

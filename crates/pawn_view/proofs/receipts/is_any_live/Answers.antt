@@ -1,5 +1,7 @@
-use Rattle.{std.proofs.Common.{ap, sym, not}, pawn_view.{specs.Common.{get, live_at, pledge_in}, proofs.PresentedLemmas.{any_known, unknown_more}}}
 use Rattle.pawn_book.proofs.Reading.{reads_then}
+use Rattle.pawn_view.proofs.PresentedLemmas.{any_known, unknown_more}
+use Rattle.pawn_view.specs.Common.{get, live_at, pledge_in}
+use Rattle.std.proofs.Common.{ap, sym, not}
 use Rattle.pawn_view.proofs.receipts.is_any_live.Goals as goal
 
 pub returns-in-Some-clause-reads : goal.returns-in-Some-clause-reads

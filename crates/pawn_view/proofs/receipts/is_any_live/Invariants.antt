@@ -1,4 +1,5 @@
-use Rattle.{std.proofs.Common.{◌≡◌, true, take, map}, pawn_view.specs.Common.{Reads, are_unknown, get, live_at, pledge_in}}
+use Rattle.pawn_view.specs.Common.{Reads, are_unknown, get, live_at, pledge_in}
+use Rattle.std.proofs.Common.{◌≡◌, true, take, map}
 use Rattle.pawn_view.proofs.receipts.is_any_live.Given as goal
 
 abbrev pub invariant-loop-receipt : goal.invariant-loop-receipt

@@ -1,5 +1,8 @@
-use Rattle.{std.proofs.Common.{◌≡◌, Err, rules}, pawn_book.proofs.Reading.{reads_as, reads_then}, pawn_view.specs.{Common.call_end, Shown.live_pledges}}
+use Rattle.pawn_book.proofs.Reading.{reads_as, reads_then}
 use Rattle.pawn_view.proofs.PresentedLemmas.{statement_stops, statement_then}
+use Rattle.pawn_view.specs.Common.{call_end}
+use Rattle.pawn_view.specs.Shown.{live_pledges}
+use Rattle.std.proofs.Common.{◌≡◌, Err, rules}
 use Rattle.pawn_view.proofs.receipts.put_from.Goals as goal
 
 pub returns-clause-shares : goal.returns-clause-shares

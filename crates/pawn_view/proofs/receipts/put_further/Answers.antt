@@ -1,5 +1,7 @@
-use Rattle.{std.proofs.Common.{◌≡◌, Err, rules}, pawn_view.{specs.Common.{get, live_at, pledge_in}, proofs.PresentedLemmas.{further_goes_on, further_stops}}}
 use Rattle.pawn_book.proofs.Reading.{reads_then}
+use Rattle.pawn_view.proofs.PresentedLemmas.{further_goes_on, further_stops}
+use Rattle.pawn_view.specs.Common.{get, live_at, pledge_in}
+use Rattle.std.proofs.Common.{◌≡◌, Err, rules}
 use Rattle.pawn_view.proofs.receipts.put_further.Goals as goal
 
 pub returns-in_err-put_shown-clause-shares : goal.returns-in_err-put_shown-clause-shares

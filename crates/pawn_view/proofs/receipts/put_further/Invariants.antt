@@ -1,4 +1,6 @@
-use Rattle.{std.proofs.Common.{take, map}, pawn_view.specs.{Common.{IsSound, PutsShare, Reads, Whole, get, live_at, pledge_in}, Text.further_texts}}
+use Rattle.pawn_view.specs.Common.{IsSound, PutsShare, Reads, Whole, get, live_at, pledge_in}
+use Rattle.pawn_view.specs.Text.{further_texts}
+use Rattle.std.proofs.Common.{take, map}
 use Rattle.pawn_view.proofs.receipts.put_further.Given as goal
 
 abbrev pub invariant-loop-receipt : goal.invariant-loop-receipt

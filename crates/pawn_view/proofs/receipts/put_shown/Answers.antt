@@ -1,4 +1,6 @@
-use Rattle.{pawn_view.{specs.Common.{call_end, get, pledge_in}, proofs.PresentedLemmas.shown_statement}, pawn_book.proofs.Reading.reads_then}
+use Rattle.pawn_book.proofs.Reading.{reads_then}
+use Rattle.pawn_view.proofs.PresentedLemmas.{shown_statement}
+use Rattle.pawn_view.specs.Common.{call_end, get, pledge_in}
 use Rattle.pawn_view.proofs.receipts.put_shown.Goals as goal
 
 pub returns-in-Ok-Some-clause-shares : goal.returns-in-Ok-Some-clause-shares

@@ -1,5 +1,8 @@
-use Rattle.{std.proofs.Common.{◌∙◌, sym}, pawn_view.{specs.{Common.are_unknown, Shown.live_pledges}, proofs.PresentedLemmas.dead_first_shows}}
 use Rattle.pawn_book.proofs.Reading.{reads_then}
+use Rattle.pawn_view.proofs.PresentedLemmas.{dead_first_shows}
+use Rattle.pawn_view.specs.Common.{are_unknown}
+use Rattle.pawn_view.specs.Shown.{live_pledges}
+use Rattle.std.proofs.Common.{◌∙◌, sym}
 use Rattle.pawn_view.proofs.receipts.show_others.Goals as goal
 
 pub returns-clause-shows : goal.returns-clause-shows

@@ -1,5 +1,7 @@
-use Rattle.pawn_view.{specs.{Common.{get, live_at, pledge_in}, Shown.live_pledges}, proofs.PresentedLemmas.{live_first_shows, dead_first, rest_of, shows_all}}
 use Rattle.pawn_book.proofs.Reading.{reads_then}
+use Rattle.pawn_view.proofs.PresentedLemmas.{live_first_shows, dead_first, rest_of, shows_all}
+use Rattle.pawn_view.specs.Common.{get, live_at, pledge_in}
+use Rattle.pawn_view.specs.Shown.{live_pledges}
 use Rattle.pawn_view.proofs.receipts.show_presented.Goals as goal
 
 pub returns-in-Some-clause-shows : goal.returns-in-Some-clause-shows

@@ -1,4 +1,7 @@
-use Rattle.{std.proofs.Common.rules, pawn_view.{specs.Common.get, proofs.SheetLemmas.sheet_shows}, pawn_book.proofs.Reading.reads_then}
+use Rattle.pawn_book.proofs.Reading.{reads_then}
+use Rattle.pawn_view.proofs.SheetLemmas.{sheet_shows}
+use Rattle.pawn_view.specs.Common.{get}
+use Rattle.std.proofs.Common.{rules}
 use Rattle.pawn_view.proofs.sheets.show_day_sheet.Goals as goal
 
 pub returns-clause-shows : goal.returns-clause-shows

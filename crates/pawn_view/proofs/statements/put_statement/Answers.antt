@@ -1,6 +1,10 @@
-use Rattle.{std.proofs.Common.{rules, sym, subst, ◌≡◌, Err}, pawn_view.specs.Common.{Front, Whole, PutsShare, Writing, call_end, entries_of, extensions_of}}
-use Rattle.pawn_view.{specs.{Text.{entry_line, extended_line, statement_text}, Shown.pledge_at}, proofs.SoundLemmas.told_of_sound}
-use Rattle.{pawn_view.proofs.StatementLemmas.{elements_put, elements_writer, statement_cut, statement_whole}, pawn_book.proofs.Reading.{reads_as, reads_then}}
+use Rattle.pawn_book.proofs.Reading.{reads_as, reads_then}
+use Rattle.pawn_view.proofs.SoundLemmas.{told_of_sound}
+use Rattle.pawn_view.proofs.StatementLemmas.{elements_put, elements_writer, statement_cut, statement_whole}
+use Rattle.pawn_view.specs.Common.{Front, Whole, PutsShare, Writing, call_end, entries_of, extensions_of}
+use Rattle.pawn_view.specs.Shown.{pledge_at}
+use Rattle.pawn_view.specs.Text.{entry_line, extended_line, statement_text}
+use Rattle.std.proofs.Common.{rules, sym, subst, ◌≡◌, Err}
 use Rattle.pawn_view.proofs.statements.put_statement.Goals as goal
 
 pub returns-in_err-visit_extensions-clause-shares : goal.returns-in_err-visit_extensions-clause-shares

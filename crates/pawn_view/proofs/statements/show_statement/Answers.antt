@@ -1,4 +1,6 @@
-use Rattle.{pawn_view.{specs.Shown.pledge_at, proofs.StatementLemmas.statement_shows}, pawn_book.proofs.Reading.reads_then}
+use Rattle.pawn_book.proofs.Reading.{reads_then}
+use Rattle.pawn_view.proofs.StatementLemmas.{statement_shows}
+use Rattle.pawn_view.specs.Shown.{pledge_at}
 use Rattle.pawn_view.proofs.statements.show_statement.Goals as goal
 
 pub returns-clause-shows : goal.returns-clause-shows

@@ -1,4 +1,6 @@
-use Rattle.{std.proofs.Common.refl, pawn_view.specs.{Common.{civil_after, days_of_months, days_of_years, digits, due_after}, Text.date_text}}
+use Rattle.pawn_view.specs.Common.{civil_after, days_of_months, days_of_years, digits, due_after}
+use Rattle.pawn_view.specs.Text.{date_text}
+use Rattle.std.proofs.Common.{refl}
 use Rattle.pawn_view.proofs.worked.worked_words.Goals as goal
 
 pub returns-clause-amounts : goal.returns-clause-amounts

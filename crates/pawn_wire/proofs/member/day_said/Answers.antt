@@ -1,5 +1,7 @@
-use Rattle.{std.{proofs.Common.{◌≡◌, ℕ, Result, Ok, Err, IsOk, IfOk, Some, sym, ap, ◌∙◌}, specs.Result.result_ok}, pawn_terms.specs.declared.day.BadDay.BadDay}
+use Rattle.pawn_terms.specs.declared.day.BadDay.{BadDay}
 use Rattle.pawn_wire.proofs.NamedLemmas.{day_said-some, day_said-none}
+use Rattle.std.proofs.Common.{◌≡◌, ℕ, Result, Ok, Err, IsOk, IfOk, Some, sym, ap, ◌∙◌}
+use Rattle.std.specs.Result.{result_ok}
 use Rattle.pawn_wire.proofs.member.day_said.Goals as goal
 
 same_day : (r : Result ℕ BadDay) (day : ℕ) → IfOk r (λ d. d ≡ day) → IsOk r → result_ok r ≡ Some day

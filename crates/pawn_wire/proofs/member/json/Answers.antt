@@ -1,5 +1,7 @@
-use Rattle.std.proofs.{Common.{◌≡◌, List, ℕ, Bool, true, false, None, refl, inr, IsUtf8, if◌then◌else◌}, lemmas.Str.{IsUtf8-from_is_utf8, is_utf8-from_IsUtf8}}
-use Rattle.pawn_wire.specs.{Common.{is_utf8, read}, Member.json_of}
+use Rattle.pawn_wire.specs.Common.{is_utf8, read}
+use Rattle.pawn_wire.specs.Member.{json_of}
+use Rattle.std.proofs.Common.{◌≡◌, List, ℕ, Bool, true, false, None, refl, inr, IsUtf8, if◌then◌else◌}
+use Rattle.std.proofs.lemmas.Str.{IsUtf8-from_is_utf8, is_utf8-from_IsUtf8}
 use Rattle.pawn_wire.proofs.member.json.Goals as goal
 
 pub returns-in-Ok : goal.returns-in-Ok

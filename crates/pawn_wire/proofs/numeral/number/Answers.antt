@@ -1,4 +1,5 @@
-use Rattle.{std.proofs.Common.arith, pawn_wire.proofs.DigitLemmas.{short_numeral, value_bound, value_more}}
+use Rattle.pawn_wire.proofs.DigitLemmas.{short_numeral, value_bound, value_more}
+use Rattle.std.proofs.Common.{arith}
 use Rattle.pawn_wire.proofs.numeral.number.Goals as goal
 
 pub overflow_mul-number : goal.overflow_mul-number

@@ -1,4 +1,5 @@
-use Rattle.{std.proofs.Common.{◌≡◌, take}, pawn_wire.specs.Common.digits_value}
+use Rattle.pawn_wire.specs.Common.{digits_value}
+use Rattle.std.proofs.Common.{◌≡◌, take}
 use Rattle.pawn_wire.proofs.numeral.number.Given as goal
 
 abbrev pub invariant-loop-digit : goal.invariant-loop-digit

@@ -1,4 +1,7 @@
-use Rattle.{std.proofs.{Common.arith, lemmas.{Str.IsUtf8-from_ascii, Grind.common_steps}}, pawn_wire.specs.Common.IsAscii}
+use Rattle.pawn_wire.specs.Common.{IsAscii}
+use Rattle.std.proofs.Common.{arith}
+use Rattle.std.proofs.lemmas.Grind.{common_steps}
+use Rattle.std.proofs.lemmas.Str.{IsUtf8-from_ascii}
 use Rattle.pawn_wire.proofs.place.place_of.Goals as goal
 
 pub returns-in_default : goal.returns-in_default

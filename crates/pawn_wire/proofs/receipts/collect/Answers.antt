@@ -1,5 +1,8 @@
-use Rattle.{std.proofs.Common.{Some, refl, sym, ap, ◌∙◌, inr}, pawn_wire.{specs.Receipts.receipt_said, proofs.{FieldLemmas.no_span, ReceiptLemmas.collect_hit}}}
-use Rattle.pawn_wire.proofs.{ReceiptLemmas.{collect_other, collect_bad}, receipts.collect.Goals.{then-is_named+in-Some+in_ok-push, else-is_named}}
+use Rattle.pawn_wire.proofs.FieldLemmas.{no_span}
+use Rattle.pawn_wire.proofs.ReceiptLemmas.{collect_hit, collect_other, collect_bad}
+use Rattle.pawn_wire.proofs.receipts.collect.Goals.{then-is_named+in-Some+in_ok-push, else-is_named}
+use Rattle.pawn_wire.specs.Receipts.{receipt_said}
+use Rattle.std.proofs.Common.{Some, refl, sym, ap, ◌∙◌, inr}
 use Rattle.pawn_wire.proofs.receipts.collect.Goals as goal
 
 pub loop-field-preserved : goal.loop-field-preserved

@@ -1,4 +1,6 @@
-use Rattle.{std.proofs.Common.{◌≡◌, Some, map, take}, pawn_wire.specs.{Common.header_bytes, Receipts.{all_said, receipt_values}}}
+use Rattle.pawn_wire.specs.Common.{header_bytes}
+use Rattle.pawn_wire.specs.Receipts.{all_said, receipt_values}
+use Rattle.std.proofs.Common.{◌≡◌, Some, map, take}
 use Rattle.pawn_wire.proofs.receipts.collect.Given as goal
 
 abbrev pub invariant-loop-field : goal.invariant-loop-field

@@ -1,4 +1,5 @@
-use Rattle.{std.proofs.Common.sym, pawn_wire.proofs.ReceiptLemmas.{receipt_said-some, receipt_said-none}}
+use Rattle.pawn_wire.proofs.ReceiptLemmas.{receipt_said-some, receipt_said-none}
+use Rattle.std.proofs.Common.{sym}
 use Rattle.pawn_wire.proofs.receipts.receipt_of.Goals as goal
 
 pub returns-in-Ok : goal.returns-in-Ok

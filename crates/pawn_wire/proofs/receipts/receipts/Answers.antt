@@ -1,5 +1,8 @@
-use Rattle.{std.proofs.Common.{◌≡◌, ◌≤◌, arith, ◌∙◌, length}, pawn_wire.specs.{Common.MOST_RECEIPTS, Fields.pairs_of, Receipts.receipt_values}}
 use Rattle.pawn_wire.proofs.ReceiptLemmas.{few_said}
+use Rattle.pawn_wire.specs.Common.{MOST_RECEIPTS}
+use Rattle.pawn_wire.specs.Fields.{pairs_of}
+use Rattle.pawn_wire.specs.Receipts.{receipt_values}
+use Rattle.std.proofs.Common.{◌≡◌, ◌≤◌, arith, ◌∙◌, length}
 use Rattle.pawn_wire.proofs.receipts.receipts.Goals as goal
 
 pub returns : goal.returns

@@ -1,4 +1,5 @@
-use Rattle.{std.proofs.Common.{◌≡◌, map, take}, pawn_wire.specs.Route.{with_routes, plain}}
+use Rattle.pawn_wire.specs.Route.{with_routes, plain}
+use Rattle.std.proofs.Common.{◌≡◌, map, take}
 use Rattle.pawn_wire.proofs.router.add_all.Given as goal
 
 abbrev pub invariant-loop-text : goal.invariant-loop-text

@@ -1,4 +1,5 @@
-use Rattle.{std.proofs.Common.{sym, ◌∙◌}, pawn_wire.proofs.RouteLemmas.{walk_ascii, first_given, second_part}}
+use Rattle.pawn_wire.proofs.RouteLemmas.{walk_ascii, first_given, second_part}
+use Rattle.std.proofs.Common.{sym, ◌∙◌}
 use Rattle.pawn_wire.proofs.router.first_two.Goals as goal
 
 pub returns-in_default-next-clause-first : goal.returns-in_default-next-clause-first

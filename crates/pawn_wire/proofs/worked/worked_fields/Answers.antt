@@ -1,4 +1,6 @@
-use Rattle.{std.proofs.Common.refl, uuid.proofs.OnLiterals.uuid_on_literals, pawn_wire.specs.Named.number_said}
+use Rattle.pawn_wire.specs.Named.{number_said}
+use Rattle.std.proofs.Common.{refl}
+use Rattle.uuid.proofs.OnLiterals.{uuid_on_literals}
 use Rattle.pawn_wire.proofs.worked.worked_fields.Goals as goal
 
 pub returns-clause-keys : goal.returns-clause-keys

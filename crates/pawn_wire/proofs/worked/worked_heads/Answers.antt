@@ -1,4 +1,5 @@
-use Rattle.{std.proofs.Common.refl, httparse.specs.Grammar.{print_request, trim_ows}}
+use Rattle.httparse.specs.Grammar.{print_request, trim_ows}
+use Rattle.std.proofs.Common.{refl}
 use Rattle.pawn_wire.proofs.worked.worked_heads.Goals as goal
 
 pub returns-clause-heads : goal.returns-clause-heads

@@ -1,5 +1,9 @@
-use Rattle.{std.proofs.Common.refl, pawn_wire.specs.{Common.{chars, civil_after, days_of_months, days_of_years, is_utf8}, Named.{day_said, number_said}}}
-use Rattle.{pawn_wire.specs.Route.table_rows, matchit.proofs.OnLiterals.matchit_on_literals, serde_json.proofs.OnLiterals.serde_json_on_literals}
+use Rattle.matchit.proofs.OnLiterals.{matchit_on_literals}
+use Rattle.pawn_wire.specs.Common.{chars, civil_after, days_of_months, days_of_years, is_utf8}
+use Rattle.pawn_wire.specs.Named.{day_said, number_said}
+use Rattle.pawn_wire.specs.Route.{table_rows}
+use Rattle.serde_json.proofs.OnLiterals.{serde_json_on_literals}
+use Rattle.std.proofs.Common.{refl}
 use Rattle.uuid.proofs.OnLiterals.{uuid_on_literals}
 use Rattle.pawn_wire.proofs.worked.worked_requests.Goals as goal
 

@@ -1,5 +1,8 @@
-use Rattle.{std.proofs.Common.refl, matchit.proofs.OnLiterals.matchit_on_literals, pawn_wire.specs.{Named.{day_said, number_said}, Route.table_rows}}
+use Rattle.matchit.proofs.OnLiterals.{matchit_on_literals}
 use Rattle.pawn_wire.specs.Common.{civil_after, days_of_years, days_of_months}
+use Rattle.pawn_wire.specs.Named.{day_said, number_said}
+use Rattle.pawn_wire.specs.Route.{table_rows}
+use Rattle.std.proofs.Common.{refl}
 use Rattle.pawn_wire.proofs.worked.worked_targets.Goals as goal
 
 pub returns-clause-targets : goal.returns-clause-targets

@@ -1,4 +1,6 @@
-use Rattle.{std.proofs.Common.refl, pawn_wire.specs.{Common.{civil_after, days_of_years, days_of_months}, Named.{number_said, day_said}}}
+use Rattle.pawn_wire.specs.Common.{civil_after, days_of_years, days_of_months}
+use Rattle.pawn_wire.specs.Named.{number_said, day_said}
+use Rattle.std.proofs.Common.{refl}
 use Rattle.pawn_wire.proofs.worked.worked_texts.Goals as goal
 
 pub returns-clause-numbers : goal.returns-clause-numbers

@@ -1,5 +1,8 @@
-use Rattle.{std.proofs.Common.{◌∙◌, [], ap, refl}, pawn_pledge.specs.declared.brief.BriefFields.BriefFields, pawn_book.specs.declared.visit.Flow.TheVariants.Go}
-use Rattle.{pawn_book.specs.Keeping.entries_of, pawn_writing.proofs.ListLemmas.none_shared}
+use Rattle.pawn_book.specs.Keeping.{entries_of}
+use Rattle.pawn_book.specs.declared.visit.Flow.TheVariants.{Go}
+use Rattle.pawn_pledge.specs.declared.brief.BriefFields.{BriefFields}
+use Rattle.pawn_writing.proofs.ListLemmas.{none_shared}
+use Rattle.std.proofs.Common.{◌∙◌, [], ap, refl}
 use Rattle.pawn_writing.proofs.lists.visit_entries.Goals as goal
 
 pub returns-then-fields-eq0-clause-reads : goal.returns-then-fields-eq0-clause-reads

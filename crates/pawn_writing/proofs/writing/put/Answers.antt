@@ -1,4 +1,5 @@
-use Rattle.{std.proofs.Common.{◌∙◌, sym}, pawn_writing.proofs.PutLemmas.puts_sent}
+use Rattle.pawn_writing.proofs.PutLemmas.{puts_sent}
+use Rattle.std.proofs.Common.{◌∙◌, sym}
 use Rattle.pawn_writing.proofs.writing.put.Goals as goal
 
 pub returns-then-not-has_failed : goal.returns-then-not-has_failed

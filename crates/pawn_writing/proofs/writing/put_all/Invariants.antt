@@ -1,4 +1,6 @@
-use Rattle.{std.{proofs.Common.take, specs.List.flat_map}, pawn_writing.specs.Ends.Puts}
+use Rattle.pawn_writing.specs.Ends.{Puts}
+use Rattle.std.proofs.Common.{take}
+use Rattle.std.specs.List.{flat_map}
 use Rattle.pawn_writing.proofs.writing.put_all.Given as goal
 
 abbrev pub invariant-loop-piece : goal.invariant-loop-piece

@@ -1,5 +1,7 @@
-use Rattle.std.{proofs.{Common.{arith, ◌∙◌}, lemmas.Grind.common_steps}, specs.contracts.io.Error.the_row as error_row}
 use Rattle.pawn_writing.proofs.EndsLemmas.{sent_more, not_failed}
+use Rattle.std.proofs.Common.{arith, ◌∙◌}
+use Rattle.std.proofs.lemmas.Grind.{common_steps}
+use Rattle.std.specs.contracts.io.Error.{the_row as error_row}
 use Rattle.pawn_writing.proofs.writing.send.Goals as goal
 
 pub loop-sent-preserved : goal.loop-sent-preserved

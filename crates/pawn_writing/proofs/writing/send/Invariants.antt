@@ -1,4 +1,6 @@
-use Rattle.{std.{proofs.Common.{length, ◌-◌, ◌≡◌, ◌≤◌, false, take}, specs.Io.KnownBytes.Appends}, pawn_writing.specs.Ends.{write_failed, written_bytes}}
+use Rattle.pawn_writing.specs.Ends.{write_failed, written_bytes}
+use Rattle.std.proofs.Common.{length, ◌-◌, ◌≡◌, ◌≤◌, false, take}
+use Rattle.std.specs.Io.KnownBytes.{Appends}
 use Rattle.pawn_writing.proofs.writing.send.Given as goal
 
 abbrev pub invariant-loop-sent : goal.invariant-loop-sent

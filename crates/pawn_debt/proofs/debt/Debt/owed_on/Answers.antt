@@ -1,4 +1,5 @@
-use Rattle.{std.proofs.Common.◌∙◌, pawn_debt.proofs.KeptLemmas.{owed-later, millionths-later}}
+use Rattle.pawn_debt.proofs.KeptLemmas.{owed-later, millionths-later}
+use Rattle.std.proofs.Common.{◌∙◌}
 use Rattle.pawn_debt.proofs.debt.Debt.owed_on.Goals as goal
 
 pub returns-clause-owed : goal.returns-clause-owed

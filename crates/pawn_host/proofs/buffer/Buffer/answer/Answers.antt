@@ -1,4 +1,5 @@
-use Rattle.std.proofs.{Common.{arith}, lemmas.Grind.{common_steps}}
+use Rattle.std.proofs.Common.{arith}
+use Rattle.std.proofs.lemmas.Grind.{common_steps}
 use Rattle.pawn_host.proofs.buffer.Buffer.answer.Goals as goal
 
 pub returns : goal.returns

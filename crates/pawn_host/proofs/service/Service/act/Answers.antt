@@ -1,5 +1,7 @@
-use Rattle.pawn_host.{specs.Keeps.{service_operator, start_of}, proofs.{CrashLemmas.goes_read, RunLemmas.{acted_refused, acted_unmade, acted_done}}}
-use Rattle.{pawn_host.proofs.RunLemmas.{goes_unmade, err_is}, pawn_book.proofs.ActLemmas.{refused_acts, made_acts, unmade_acts, made_left, unmade_left}}
+use Rattle.pawn_book.proofs.ActLemmas.{refused_acts, made_acts, unmade_acts, made_left, unmade_left}
+use Rattle.pawn_host.proofs.CrashLemmas.{goes_read}
+use Rattle.pawn_host.proofs.RunLemmas.{acted_refused, acted_unmade, acted_done, goes_unmade, err_is}
+use Rattle.pawn_host.specs.Keeps.{service_operator, start_of}
 use Rattle.pawn_host.proofs.service.Service.act.Goals as goal
 
 pub returns-in-Err-clause-acted : goal.returns-in-Err-clause-acted

@@ -1,8 +1,14 @@
-use Rattle.{std.proofs.Common.{ℕ, arith, refl, ap, subst, Bool, Ok, Err, ◌∙◌, take, ◌+◌}, pawn_host.specs.Common.{write_failed, written_bytes}}
-use Rattle.pawn_host.specs.{Finding.StopsBy, Keeps.{host_by, service_keep, start_after, start_of}, Ends.{left_of, read_failed, reads}, Unanswered.unanswered}
-use Rattle.pawn_host.proofs.SessionLemmas.{over, over_leaves, ended_limit, ended_dry, broken_write, ended_closed, goes_on, acted_at, starts, taken_none}
-use Rattle.pawn_host.proofs.{SessionLemmas.{taken_more, are_taken, open_then, given_by, left_behind}, ReadLemmas.{read_none, read_then, read_more, read_all}}
 use Rattle.pawn_host.proofs.CrashLemmas.{goes_none}
+use Rattle.pawn_host.proofs.ReadLemmas.{read_none, read_then, read_more, read_all}
+use Rattle.pawn_host.proofs.SessionLemmas.{over, over_leaves, ended_limit, ended_dry, broken_write, ended_closed}
+use Rattle.pawn_host.proofs.SessionLemmas.{goes_on, acted_at, starts, taken_none, taken_more, are_taken, open_then}
+use Rattle.pawn_host.proofs.SessionLemmas.{given_by, left_behind}
+use Rattle.pawn_host.specs.Common.{write_failed, written_bytes}
+use Rattle.pawn_host.specs.Ends.{left_of, read_failed, reads}
+use Rattle.pawn_host.specs.Finding.{StopsBy}
+use Rattle.pawn_host.specs.Keeps.{host_by, service_keep, start_after, start_of}
+use Rattle.pawn_host.specs.Unanswered.{unanswered}
+use Rattle.std.proofs.Common.{ℕ, arith, refl, ap, subst, Bool, Ok, Err, ◌∙◌, take, ◌+◌}
 use Rattle.pawn_host.proofs.service.Service.answer_all.Goals as goal
 
 pub loop-acted-init : goal.loop-acted-init

@@ -1,5 +1,10 @@
-use Rattle.{std.proofs.Common.{◌≡◌, ◌≤◌, ◌*◌, ◌^◌, false}, pawn_host.specs.{Common.{prepend_known, write_failed, written_bytes}, Keeps.{Serves, StaysOpen}}}
-use Rattle.pawn_host.{specs.{Ends.{left_of, read_failed, reads}, Unanswered.unanswered}, proofs.{ReadLemmas.ReadSoFar, SessionLemmas.{SoFar, TakenSoFar}}}
+use Rattle.pawn_host.proofs.ReadLemmas.{ReadSoFar}
+use Rattle.pawn_host.proofs.SessionLemmas.{SoFar, TakenSoFar}
+use Rattle.pawn_host.specs.Common.{prepend_known, write_failed, written_bytes}
+use Rattle.pawn_host.specs.Ends.{left_of, read_failed, reads}
+use Rattle.pawn_host.specs.Keeps.{Serves, StaysOpen}
+use Rattle.pawn_host.specs.Unanswered.{unanswered}
+use Rattle.std.proofs.Common.{◌≡◌, ◌≤◌, ◌*◌, ◌^◌, false}
 use Rattle.pawn_host.proofs.service.Service.answer_all.Given as goal
 
 abbrev pub invariant-loop-acted : goal.invariant-loop-acted

@@ -1,5 +1,8 @@
-use Rattle.{std.proofs.Common.refl, pawn_host.{specs.Keeps.{service_operator, start_of}, proofs.CrashLemmas.goes_read}}
-use Rattle.pawn_host.proofs.{RunLemmas.{acted_refused, view_request, err_is, gate_refused}, SessionLemmas.acted_at}
+use Rattle.pawn_host.proofs.CrashLemmas.{goes_read}
+use Rattle.pawn_host.proofs.RunLemmas.{acted_refused, view_request, err_is, gate_refused}
+use Rattle.pawn_host.proofs.SessionLemmas.{acted_at}
+use Rattle.pawn_host.specs.Keeps.{service_operator, start_of}
+use Rattle.std.proofs.Common.{refl}
 use Rattle.pawn_host.proofs.service.Service.gate_and_show.Goals as goal
 
 pub returns-clause-acted : goal.returns-clause-acted

@@ -1,5 +1,8 @@
-use Rattle.{std.proofs.Common.{◌∙◌, ap, arith, ◌+◌, ℕ, refl, take_all}, pawn_host.specs.Keeps.{start_of, start_after, answer_bytes, host_by}}
-use Rattle.pawn_host.proofs.{SessionLemmas.{acted_at, open_then}, HeadlineLemmas.run_of_slots, RunMore.run_turn}
+use Rattle.pawn_host.proofs.HeadlineLemmas.{run_of_slots}
+use Rattle.pawn_host.proofs.RunMore.{run_turn}
+use Rattle.pawn_host.proofs.SessionLemmas.{acted_at, open_then}
+use Rattle.pawn_host.specs.Keeps.{start_of, start_after, answer_bytes, host_by}
+use Rattle.std.proofs.Common.{◌∙◌, ap, arith, ◌+◌, ℕ, refl, take_all}
 use Rattle.pawn_host.proofs.service.Service.run.Goals as goal
 
 pub loop-item-preserved : goal.loop-item-preserved

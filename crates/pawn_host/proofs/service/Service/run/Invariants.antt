@@ -1,4 +1,5 @@
-use Rattle.{std.proofs.Common.{◌≡◌, take, map, length, vec_len, vec_capacity}, pawn_host.specs.Keeps.{answer_bytes, StaysOpen, Serves, IsRun}}
+use Rattle.pawn_host.specs.Keeps.{answer_bytes, StaysOpen, Serves, IsRun}
+use Rattle.std.proofs.Common.{◌≡◌, take, map, length, vec_len, vec_capacity}
 use Rattle.pawn_host.proofs.service.Service.run.Given as goal
 
 abbrev pub invariant-loop-item : goal.invariant-loop-item

@@ -1,5 +1,10 @@
-use Rattle.{std.proofs.Common.{◌∙◌, ℕ, ap, Vec, Global, codes}, pawn_host.{specs.{Common.{reply_text, Refusal}, Keeps.start_of}, proofs.CrashLemmas.goes_read}}
-use Rattle.pawn_host.proofs.{RunLemmas.all_written, RowsLemmas.{acted_rows, no_text, rows_request}, ViewLemmas.view_acted}
+use Rattle.pawn_host.proofs.CrashLemmas.{goes_read}
+use Rattle.pawn_host.proofs.RowsLemmas.{acted_rows, no_text, rows_request}
+use Rattle.pawn_host.proofs.RunLemmas.{all_written}
+use Rattle.pawn_host.proofs.ViewLemmas.{view_acted}
+use Rattle.pawn_host.specs.Common.{reply_text, Refusal}
+use Rattle.pawn_host.specs.Keeps.{start_of}
+use Rattle.std.proofs.Common.{◌∙◌, ℕ, ap, Vec, Global, codes}
 use Rattle.pawn_host.proofs.service.Service.show_rows.Goals as goal
 
 pub returns-clause-acted : goal.returns-clause-acted
@@ -7,10 +12,10 @@ returns-clause-acted g c = λ honest h sound at with_key bytes read.
     let start = start_of g.K.Keep.keeping c.args.self.now h in
     let goes = goes_read c.export-shown.ensures.exports honest h at sound in
     let shows = c.export-shown.ensures.exports.tells honest h at sound in
-    view_acted start c.args.stamp.now bytes c.tell_view.result _ (rows_request c.args.book c.args.key) Refusal.NoSuchBook
-    (reply_text 200 (codes "text/csv; charset=utf-8") c.into_inner.result.items) c.export-shown.result read c.tell_view.ensures.tells goes (λ store. cc)
+    view_acted start c.args.stamp.now bytes c.view_answer.result _ (rows_request c.args.book c.args.key) Refusal.NoSuchBook
+    (reply_text 200 (codes "text/csv; charset=utf-8") c.into_inner.result.items) c.export-shown.result read c.view_answer.ensures.tells goes (λ store. cc)
     (λ u is tells. let whole = rw is at shows in
-    acted_rows start c.args.stamp.now bytes c.tell_view.result _ c.args.book c.args.key
+    acted_rows start c.args.stamp.now bytes c.view_answer.result _ c.args.book c.args.key
     whole.0 c.into_inner.result.items read with_key whole.1 (all_written c.new-rows.result.sink.writer.inner.items
     c.export-shown.new.rows.sink.writer.inner.items c.into_inner.result.items whole.0 (ap (λ (v : Vec ℕ Global). v.items) c.into_inner.ensures.answer) whole.2.0
     (ap (λ (v : Vec ℕ Global). v.items) c.new-rows.ensures.inner ∙ c.new.ensures.items))

@@ -1,5 +1,10 @@
-use Rattle.{std.proofs.Common.{◌∙◌, ℕ, ap, Vec, Global}, pawn_host.{specs.{Common.{reply_text, Refusal}, Keeps.start_of}, proofs.CrashLemmas.goes_read}}
-use Rattle.pawn_host.proofs.{RunLemmas.{all_written, plain}, SheetLemmas.{acted_sheet, no_sheet, sheet_request}, ViewLemmas.view_acted}
+use Rattle.pawn_host.proofs.CrashLemmas.{goes_read}
+use Rattle.pawn_host.proofs.RunLemmas.{all_written, plain}
+use Rattle.pawn_host.proofs.SheetLemmas.{acted_sheet, no_sheet, sheet_request}
+use Rattle.pawn_host.proofs.ViewLemmas.{view_acted}
+use Rattle.pawn_host.specs.Common.{reply_text, Refusal}
+use Rattle.pawn_host.specs.Keeps.{start_of}
+use Rattle.std.proofs.Common.{◌∙◌, ℕ, ap, Vec, Global}
 use Rattle.pawn_host.proofs.service.Service.show_sheet.Goals as goal
 
 pub returns-clause-acted : goal.returns-clause-acted
@@ -7,9 +12,9 @@ returns-clause-acted g c = λ honest h sound at with_key bytes read.
     let start = start_of g.K.Keep.keeping c.args.self.now h in
     let goes = goes_read c.show_day_sheet-shown.ensures.shows honest h at sound in
     let shows = c.show_day_sheet-shown.ensures.shows.tells honest h at in
-    view_acted start c.args.stamp.now bytes c.tell_view.result _ (sheet_request c.args.book c.args.key c.args.day) Refusal.NoSuchBook (reply_text 200 plain
-    c.into_inner.result.items) c.show_day_sheet-shown.result read c.tell_view.ensures.tells goes (λ store. cc) (λ u is tells. let whole = rw is at shows in
-    acted_sheet start c.args.stamp.now bytes c.tell_view.result _ c.args.book c.args.key c.args.day c.day.result
+    view_acted start c.args.stamp.now bytes c.view_answer.result _ (sheet_request c.args.book c.args.key c.args.day) Refusal.NoSuchBook (reply_text 200 plain
+    c.into_inner.result.items) c.show_day_sheet-shown.result read c.view_answer.ensures.tells goes (λ store. cc) (λ u is tells. let whole = rw is at shows in
+    acted_sheet start c.args.stamp.now bytes c.view_answer.result _ c.args.book c.args.key c.args.day c.day.result
     whole.0 c.into_inner.result.items read with_key c.day.ensures.value whole.1
     (all_written c.new-writer.result.inner.items c.show_day_sheet-shown.new.writer.inner.items c.into_inner.result.items whole.0 (ap (λ (v : Vec ℕ Global).
     v.items) c.into_inner.ensures.answer) whole.2.0 (ap (λ (v : Vec ℕ Global). v.items) c.new-writer.ensures.inner ∙ c.new.ensures.items))

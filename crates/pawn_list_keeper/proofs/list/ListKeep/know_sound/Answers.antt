@@ -1,4 +1,6 @@
-use Rattle.{std.proofs.Common.subst, pawn_book.specs.Sound.IsSound, pawn_list_keeper.specs.Listed.host_of}
+use Rattle.pawn_book.specs.Sound.{IsSound}
+use Rattle.pawn_list_keeper.specs.Listed.{host_of}
+use Rattle.std.proofs.Common.{subst}
 use Rattle.pawn_list_keeper.proofs.list.ListKeep.know_sound.Goals as goal
 
 pub returns : goal.returns

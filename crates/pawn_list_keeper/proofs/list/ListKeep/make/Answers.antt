@@ -1,6 +1,8 @@
-use Rattle.{std.proofs.Common.{◌≡◌, ◌+◌, ◌≤◌, List, arith, map, refl, subst, sym}, pawn_book.specs.Sound.IsSound}
-use Rattle.pawn_list_keeper.{specs.{declared.kept.Kept.Kept, Listed.{Fits, added_rows, host_of, listed_book, replaced_rows}}, proofs.ListSaves.change_counted}
-use Rattle.pawn_list_keeper.proofs.ListSaves.{change_fits, change_full, change_saved}
+use Rattle.pawn_book.specs.Sound.{IsSound}
+use Rattle.pawn_list_keeper.proofs.ListSaves.{change_counted, change_fits, change_full, change_saved}
+use Rattle.pawn_list_keeper.specs.Listed.{Fits, added_rows, host_of, listed_book, replaced_rows}
+use Rattle.pawn_list_keeper.specs.declared.kept.Kept.{Kept}
+use Rattle.std.proofs.Common.{◌≡◌, ◌+◌, ◌≤◌, List, arith, map, refl, subst, sym}
 use Rattle.pawn_list_keeper.proofs.list.ListKeep.make.Goals as goal
 
 pub rows_with-rows-requires : goal.rows_with-rows-requires

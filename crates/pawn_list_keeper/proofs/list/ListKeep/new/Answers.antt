@@ -1,4 +1,6 @@
-use Rattle.{std.proofs.Common.{map, subst, sym}, pawn_list_keeper.{specs.Listed.{IsListed, listed_book}, proofs.ListSaves.kept_empty}}
+use Rattle.pawn_list_keeper.proofs.ListSaves.{kept_empty}
+use Rattle.pawn_list_keeper.specs.Listed.{IsListed, listed_book}
+use Rattle.std.proofs.Common.{map, subst, sym}
 use Rattle.pawn_list_keeper.proofs.list.ListKeep.new.Goals as goal
 
 pub invariant_of-result : goal.invariant_of-result

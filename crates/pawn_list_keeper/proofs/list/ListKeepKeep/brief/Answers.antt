@@ -1,5 +1,7 @@
-use Rattle.{std.proofs.Common.{◌∙◌, ap, map, option_map}, pawn_list_keeper.specs.{Common.{brief_of, pledge_in}, Listed.{book_at, listed_book}}}
 use Rattle.pawn_list_keeper.proofs.ListKeeping.{book_read, list_reads}
+use Rattle.pawn_list_keeper.specs.Common.{brief_of, pledge_in}
+use Rattle.pawn_list_keeper.specs.Listed.{book_at, listed_book}
+use Rattle.std.proofs.Common.{◌∙◌, ap, map, option_map}
 use Rattle.pawn_list_keeper.proofs.list.ListKeepKeep.brief.Goals as goal
 
 pub returns-clause-reads : goal.returns-clause-reads

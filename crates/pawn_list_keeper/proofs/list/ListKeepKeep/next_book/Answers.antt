@@ -1,4 +1,6 @@
-use Rattle.{std.proofs.Common.{map, subst}, pawn_list_keeper.{specs.Listed.{IsLeastAbove, listed_book}, proofs.ListKeeping.{list_reads, next_read}}}
+use Rattle.pawn_list_keeper.proofs.ListKeeping.{list_reads, next_read}
+use Rattle.pawn_list_keeper.specs.Listed.{IsLeastAbove, listed_book}
+use Rattle.std.proofs.Common.{map, subst}
 use Rattle.pawn_list_keeper.proofs.list.ListKeepKeep.next_book.Goals as goal
 
 pub returns-clause-reads : goal.returns-clause-reads

@@ -1,4 +1,5 @@
-use Rattle.{std.proofs.Common.refl, pawn_list_keeper.specs.Listed.host_of}
+use Rattle.pawn_list_keeper.specs.Listed.{host_of}
+use Rattle.std.proofs.Common.{refl}
 use Rattle.pawn_list_keeper.proofs.list.ListKeepKeep.save.Goals as goal
 
 pub make-requires : goal.make-requires

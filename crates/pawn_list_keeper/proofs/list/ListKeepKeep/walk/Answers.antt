@@ -1,5 +1,7 @@
-use Rattle.{std.proofs.Common.{◌∙◌, ap, map, subst}, pawn_list_keeper.specs.{Common.{IsShare, Whole, pledges_of}, Listed.{book_at, listed_book}}}
 use Rattle.pawn_list_keeper.proofs.ListKeeping.{book_read, list_reads}
+use Rattle.pawn_list_keeper.specs.Common.{IsShare, Whole, pledges_of}
+use Rattle.pawn_list_keeper.specs.Listed.{book_at, listed_book}
+use Rattle.std.proofs.Common.{◌∙◌, ap, map, subst}
 use Rattle.pawn_list_keeper.proofs.list.ListKeepKeep.walk.Goals as goal
 
 pub returns-clause-reads : goal.returns-clause-reads

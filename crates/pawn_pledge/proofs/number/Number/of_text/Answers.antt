@@ -1,5 +1,8 @@
-use Rattle.std.proofs.{Common.{◌≡◌, ◌∙◌, sym, ap, arith, decimal}, lemmas.{Fmt.{IsAscii-decimal, parse-decimal}, Bool.false≢true, Str.IsUtf8-from_ascii}}
 use Rattle.pawn_pledge.proofs.NumberLemmas.{not_same}
+use Rattle.std.proofs.Common.{◌≡◌, ◌∙◌, sym, ap, arith, decimal}
+use Rattle.std.proofs.lemmas.Bool.{false≢true}
+use Rattle.std.proofs.lemmas.Fmt.{IsAscii-decimal, parse-decimal}
+use Rattle.std.proofs.lemmas.Str.{IsUtf8-from_ascii}
 use Rattle.pawn_pledge.proofs.number.Number.of_text.Goals as goal
 
 pub returns-in_default-clause-none : goal.returns-in_default-clause-none

@@ -1,4 +1,7 @@
-use Rattle.{std.proofs.Common.{Option, ap, subst, ◌∙◌}, pawn_pledge.specs.{Common.Entry, Step.{IsApplied, entry_of, numbered_step}, Pledge.PledgeValue}}
+use Rattle.pawn_pledge.specs.Common.{Entry}
+use Rattle.pawn_pledge.specs.Pledge.{PledgeValue}
+use Rattle.pawn_pledge.specs.Step.{IsApplied, entry_of, numbered_step}
+use Rattle.std.proofs.Common.{Option, ap, subst, ◌∙◌}
 use Rattle.pawn_pledge.proofs.pledge.Pledge.enter.Goals as goal
 
 pub returns : goal.returns

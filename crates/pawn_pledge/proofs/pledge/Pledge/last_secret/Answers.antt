@@ -1,4 +1,5 @@
-use Rattle.std.proofs.{Common.{arith}, lemmas.Grind.{elements}}
+use Rattle.std.proofs.Common.{arith}
+use Rattle.std.proofs.lemmas.Grind.{elements}
 use Rattle.pawn_pledge.proofs.pledge.Pledge.last_secret.Goals as goal
 
 pub returns : goal.returns

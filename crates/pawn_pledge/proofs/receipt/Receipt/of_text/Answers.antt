@@ -1,5 +1,7 @@
-use Rattle.std.proofs.{Common.{◌≡◌, ◌+◌, List, ℕ, ◌∷◌, ◌++◌, Some, None, drop, sym, ap, ◌∙◌, arith}, lemmas.List.take_rest}
-use Rattle.pawn_pledge.{specs.Secret.secret_of_text, proofs.TextLemmas.{has_hyphen, cut_at, cut_by}}
+use Rattle.pawn_pledge.proofs.TextLemmas.{has_hyphen, cut_at, cut_by}
+use Rattle.pawn_pledge.specs.Secret.{secret_of_text}
+use Rattle.std.proofs.Common.{◌≡◌, ◌+◌, List, ℕ, ◌∷◌, ◌++◌, Some, None, drop, sym, ap, ◌∙◌, arith}
+use Rattle.std.proofs.lemmas.List.{take_rest}
 use Rattle.pawn_pledge.proofs.receipt.Receipt.of_text.Goals as goal
 
 pub returns-in_default-clause-err : goal.returns-in_default-clause-err

@@ -1,4 +1,7 @@
-use Rattle.{std.proofs.{Common.{ℕ, List, ap, ◌∙◌}, lemmas.Result.IfOk-weaker}, uuid.specs.Text.{hyphenated_text, lower}, pawn_pledge.specs.Secret.secret_text}
+use Rattle.pawn_pledge.specs.Secret.{secret_text}
+use Rattle.std.proofs.Common.{ℕ, List, ap, ◌∙◌}
+use Rattle.std.proofs.lemmas.Result.{IfOk-weaker}
+use Rattle.uuid.specs.Text.{hyphenated_text, lower}
 use Rattle.pawn_pledge.proofs.secret.Secret.text.Goals as goal
 
 pub returns : goal.returns

@@ -1,4 +1,5 @@
-use Rattle.{std.proofs.Common.{refl, arith}, pawn_program.proofs.StampLemmas.{taken_in_order, taken_are_fewer}}
+use Rattle.pawn_program.proofs.StampLemmas.{taken_in_order, taken_are_fewer}
+use Rattle.std.proofs.Common.{refl, arith}
 use Rattle.pawn_program.proofs.stamps.Stamps.new.Goals as goal
 
 pub returns-clause-stamps : goal.returns-clause-stamps

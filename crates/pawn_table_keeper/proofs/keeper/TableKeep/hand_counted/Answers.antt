@@ -1,6 +1,7 @@
-use Rattle.{std.proofs.Common.{Err, List, Ok, [], ap, length, refl, rules, ◌∷◌, ◌∙◌, ◌≡◌}, pawn_table_keeper.specs.Common.{get, Host, pledges_of, part_head}}
-use Rattle.pawn_table_keeper.{specs.{Common.{part_items, SheetItem, with_head, Go, Stop}, Handing.keeping_of}, proofs.Handings.{hands_after, hands_ended}}
-use Rattle.pawn_table_keeper.proofs.Handings.{hands_item, hands_then, hands_unread}
+use Rattle.pawn_table_keeper.proofs.Handings.{hands_after, hands_ended, hands_item, hands_then, hands_unread}
+use Rattle.pawn_table_keeper.specs.Common.{get, Host, pledges_of, part_head, part_items, SheetItem, with_head, Go, Stop}
+use Rattle.pawn_table_keeper.specs.Handing.{keeping_of}
+use Rattle.std.proofs.Common.{Err, List, Ok, [], ap, length, refl, rules, ◌∷◌, ◌∙◌, ◌≡◌}
 use Rattle.pawn_table_keeper.proofs.keeper.TableKeep.hand_counted.Goals as goal
 
 pub returns-in_err-count : goal.returns-in_err-count

@@ -1,8 +1,15 @@
-use Rattle.{std.proofs.Common.{Err, List, [], ap, arith, length, refl, rules, ℕ, ◌++◌, ◌+◌, ◌<◌, ◌∙◌, ◌≡◌, ◌≤◌, map-id}, pawn_tables.proofs.Basics.nat_tests}
-use Rattle.{pawn_tables.{specs.Entries.{IsEntriesPage, behind, entries_from}, proofs.NextEntries.from_zero}, pawn_table_keeper.specs.Common.{get, pledge_in}}
-use Rattle.pawn_table_keeper.{specs.{Common.{Host, Keeping, Reads, entries_of, most_page_rows, page_end}, Handing.keeping_of}, proofs.Handings.begins_at}
-use Rattle.pawn_table_keeper.proofs.{Handings.{ends_by, fails_at, goes_by, handed_past, stops_by}, TooMany.too_many_entries, Walks.errs_database}
-use Rattle.{pawn_book.proofs.Reading.{reads_as, reads_none}, pawn_debt.specs.{Limits.most_entries, declared.entry.Entry.Entry}}
+use Rattle.pawn_book.proofs.Reading.{reads_as, reads_none}
+use Rattle.pawn_debt.specs.Limits.{most_entries}
+use Rattle.pawn_debt.specs.declared.entry.Entry.{Entry}
+use Rattle.pawn_table_keeper.proofs.Handings.{begins_at, ends_by, fails_at, goes_by, handed_past, stops_by}
+use Rattle.pawn_table_keeper.proofs.TooMany.{too_many_entries}
+use Rattle.pawn_table_keeper.proofs.Walks.{errs_database}
+use Rattle.pawn_table_keeper.specs.Common.{get, pledge_in, Host, Keeping, Reads, entries_of, most_page_rows, page_end}
+use Rattle.pawn_table_keeper.specs.Handing.{keeping_of}
+use Rattle.pawn_tables.proofs.Basics.{nat_tests}
+use Rattle.pawn_tables.proofs.NextEntries.{from_zero}
+use Rattle.pawn_tables.specs.Entries.{IsEntriesPage, behind, entries_from}
+use Rattle.std.proofs.Common.{Err, List, [], ap, arith, length, refl, rules, ℕ, ◌++◌, ◌+◌, ◌<◌, ◌∙◌, ◌≡◌, ◌≤◌, map-id}
 use Rattle.pawn_table_keeper.proofs.keeper.TableKeep.hand_entries.Goals as goal
 
 abbrev listed : ℕ → ℕ → Host → List Entry

@@ -1,4 +1,6 @@
-use Rattle.pawn_table_keeper.{specs.{Common.{get, pledge_in, entries_of}, Handing.keeping_of}, proofs.Handings.HandedTo}
+use Rattle.pawn_table_keeper.proofs.Handings.{HandedTo}
+use Rattle.pawn_table_keeper.specs.Common.{get, pledge_in, entries_of}
+use Rattle.pawn_table_keeper.specs.Handing.{keeping_of}
 use Rattle.pawn_tables.specs.Entries.{entries_from}
 use Rattle.pawn_table_keeper.proofs.keeper.TableKeep.hand_entries.Given as goal
 

@@ -1,7 +1,12 @@
-use Rattle.{std.proofs.Common.{Err, List, arith, drop, length, refl, rules, ℕ, ◌*◌, ◌<◌, ◌≤◌}, pawn_tables.proofs.Basics.nat_tests}
-use Rattle.pawn_table_keeper.{specs.{Common.{get, pledge_in, Host, extensions_of, most_page_rows}, Handing.keeping_of}, proofs.Handings.{fails_at, handed_past}}
-use Rattle.{pawn_table_keeper.proofs.{PageHandings.{pages_end, pages_go, pages_stop}, TooMany.too_many_extensions}, pawn_pledge.specs.Limits.most_extensions}
+use Rattle.pawn_pledge.specs.Limits.{most_extensions}
 use Rattle.pawn_pledge.specs.declared.record.Extension.{Extension}
+use Rattle.pawn_table_keeper.proofs.Handings.{fails_at, handed_past}
+use Rattle.pawn_table_keeper.proofs.PageHandings.{pages_end, pages_go, pages_stop}
+use Rattle.pawn_table_keeper.proofs.TooMany.{too_many_extensions}
+use Rattle.pawn_table_keeper.specs.Common.{get, pledge_in, Host, extensions_of, most_page_rows}
+use Rattle.pawn_table_keeper.specs.Handing.{keeping_of}
+use Rattle.pawn_tables.proofs.Basics.{nat_tests}
+use Rattle.std.proofs.Common.{Err, List, arith, drop, length, refl, rules, ℕ, ◌*◌, ◌<◌, ◌≤◌}
 use Rattle.pawn_table_keeper.proofs.keeper.TableKeep.hand_extensions.Goals as goal
 
 abbrev listed : ℕ → ℕ → Host → List Extension

@@ -1,4 +1,6 @@
-use Rattle.pawn_table_keeper.{specs.{Common.{get, pledge_in, extensions_of}, Handing.keeping_of}, proofs.PageHandings.HandedPages}
+use Rattle.pawn_table_keeper.proofs.PageHandings.{HandedPages}
+use Rattle.pawn_table_keeper.specs.Common.{get, pledge_in, extensions_of}
+use Rattle.pawn_table_keeper.specs.Handing.{keeping_of}
 use Rattle.pawn_table_keeper.proofs.keeper.TableKeep.hand_extensions.Given as goal
 
 abbrev pub invariant-loop-turn : goal.invariant-loop-turn

@@ -1,6 +1,10 @@
-use Rattle.{std.proofs.Common.{Err, Ok, ap, arith, length, map, refl, rules, sym, ◌<◌}, pawn_tables.proofs.Basics.nat_tests, pawn_table_keeper.specs.Common.get}
-use Rattle.pawn_table_keeper.specs.{Common.{Host, pledges_of, part_items, with_head, IsLinesPage, item_of, most_page_rows}, Handing.keeping_of}
-use Rattle.pawn_table_keeper.proofs.{Handings.{hands_after, hands_over, hands_unread}, SheetPages.whole_page}
+use Rattle.pawn_table_keeper.proofs.Handings.{hands_after, hands_over, hands_unread}
+use Rattle.pawn_table_keeper.proofs.SheetPages.{whole_page}
+use Rattle.pawn_table_keeper.specs.Common.{get, Host, pledges_of, part_items, with_head, IsLinesPage, item_of}
+use Rattle.pawn_table_keeper.specs.Common.{most_page_rows}
+use Rattle.pawn_table_keeper.specs.Handing.{keeping_of}
+use Rattle.pawn_tables.proofs.Basics.{nat_tests}
+use Rattle.std.proofs.Common.{Err, Ok, ap, arith, length, map, refl, rules, sym, ◌<◌}
 use Rattle.pawn_table_keeper.proofs.keeper.TableKeep.hand_headed.Goals as goal
 
 pub returns-in_err-page : goal.returns-in_err-page

@@ -1,6 +1,10 @@
-use Rattle.{std.proofs.Common.{false, sym, true, ◌==◌, ◌∙◌, ◌≡◌}, pawn_table_keeper.specs.Common.{get, list_any, pledges_of, window_sheet}}
-use Rattle.pawn_table_keeper.{specs.{Handing.keeping_of, Windows.named_sheet}, proofs.{Handings.{hands_as, hands_nothing}, SheetPages.{is_named, not_named}}}
 use Rattle.pawn_book.proofs.Reading.{reads_none}
+use Rattle.pawn_table_keeper.proofs.Handings.{hands_as, hands_nothing}
+use Rattle.pawn_table_keeper.proofs.SheetPages.{is_named, not_named}
+use Rattle.pawn_table_keeper.specs.Common.{get, list_any, pledges_of, window_sheet}
+use Rattle.pawn_table_keeper.specs.Handing.{keeping_of}
+use Rattle.pawn_table_keeper.specs.Windows.{named_sheet}
+use Rattle.std.proofs.Common.{false, sym, true, ◌==◌, ◌∙◌, ◌≡◌}
 use Rattle.pawn_table_keeper.proofs.keeper.TableKeep.hand_named.Goals as goal
 
 pub returns-then-contains : goal.returns-then-contains

@@ -1,7 +1,13 @@
-use Rattle.{pawn_book.{proofs.Reading.reads_as, specs.Limits.most_pledges}, pawn_tables.{proofs.Basics.{nat_tests, length-map}, specs.declared.line.Line.Line}}
-use Rattle.pawn_table_keeper.{proofs.{Handings.{ends_by, fails_at, goes_by, handed_past, stops_by}, TooMany.too_many_lines}, specs.Common.{get, Host, Keeping}}
-use Rattle.pawn_table_keeper.specs.Common.{Reads, pledges_of, part_items, Part, SheetItem, IsLinesPage, item_of, items_past, most_page_rows, page_end}
-use Rattle.{pawn_table_keeper.specs.Handing.keeping_of, std.proofs.Common.{Err, List, [], arith, length, map, refl, rules, ℕ, ◌++◌, ◌<◌, ◌≡◌, ◌≤◌}}
+use Rattle.pawn_book.proofs.Reading.{reads_as}
+use Rattle.pawn_book.specs.Limits.{most_pledges}
+use Rattle.pawn_table_keeper.proofs.Handings.{ends_by, fails_at, goes_by, handed_past, stops_by}
+use Rattle.pawn_table_keeper.proofs.TooMany.{too_many_lines}
+use Rattle.pawn_table_keeper.specs.Common.{get, Host, Keeping, Reads, pledges_of, part_items, Part, SheetItem}
+use Rattle.pawn_table_keeper.specs.Common.{IsLinesPage, item_of, items_past, most_page_rows, page_end}
+use Rattle.pawn_table_keeper.specs.Handing.{keeping_of}
+use Rattle.pawn_tables.proofs.Basics.{nat_tests, length-map}
+use Rattle.pawn_tables.specs.declared.line.Line.{Line}
+use Rattle.std.proofs.Common.{Err, List, [], arith, length, map, refl, rules, ℕ, ◌++◌, ◌<◌, ◌≡◌, ◌≤◌}
 use Rattle.pawn_table_keeper.proofs.keeper.TableKeep.hand_part.Goals as goal
 
 abbrev listed : ℕ → ℕ → Part → Host → List SheetItem

@@ -1,4 +1,6 @@
-use Rattle.pawn_table_keeper.{specs.{Common.{get, pledges_of, part_items, items_past}, Handing.keeping_of}, proofs.Handings.HandedTo}
+use Rattle.pawn_table_keeper.proofs.Handings.{HandedTo}
+use Rattle.pawn_table_keeper.specs.Common.{get, pledges_of, part_items, items_past}
+use Rattle.pawn_table_keeper.specs.Handing.{keeping_of}
 use Rattle.pawn_table_keeper.proofs.keeper.TableKeep.hand_part.Given as goal
 
 abbrev pub invariant-loop-turn : goal.invariant-loop-turn

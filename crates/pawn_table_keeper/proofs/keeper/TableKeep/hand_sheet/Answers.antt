@@ -1,5 +1,8 @@
-use Rattle.{std.proofs.Common.{Err, List, Ok, refl, rules, ℕ, ◌++◌}, pawn_table_keeper.specs.Common.{get, Host, pledges_of, part_items, windows_sheet}}
-use Rattle.pawn_table_keeper.{specs.{Common.{with_head, Part, SheetItem, Stop}, Handing.keeping_of}, proofs.Handings.{hands_ended, hands_then}}
+use Rattle.pawn_table_keeper.proofs.Handings.{hands_ended, hands_then}
+use Rattle.pawn_table_keeper.specs.Common.{get, Host, pledges_of, part_items, windows_sheet, with_head, Part, SheetItem}
+use Rattle.pawn_table_keeper.specs.Common.{Stop}
+use Rattle.pawn_table_keeper.specs.Handing.{keeping_of}
+use Rattle.std.proofs.Common.{Err, List, Ok, refl, rules, ℕ, ◌++◌}
 use Rattle.pawn_book.specs.declared.sheet.Part.TheVariants as part_of
 use Rattle.pawn_table_keeper.proofs.keeper.TableKeep.hand_sheet.Goals as goal
 

@@ -1,5 +1,8 @@
-use Rattle.{std.proofs.Common.{Err, Ok, arith, refl, rules}, pawn_table_keeper.specs.{Common.{get, pledges_of, Stop}, Handing.keeping_of, Windows.named_sheet}}
 use Rattle.pawn_table_keeper.proofs.Handings.{windows_end, windows_go}
+use Rattle.pawn_table_keeper.specs.Common.{get, pledges_of, Stop}
+use Rattle.pawn_table_keeper.specs.Handing.{keeping_of}
+use Rattle.pawn_table_keeper.specs.Windows.{named_sheet}
+use Rattle.std.proofs.Common.{Err, Ok, arith, refl, rules}
 use Rattle.pawn_table_keeper.proofs.keeper.TableKeep.hand_these.Goals as goal
 
 pub returns-in_err-hand_named : goal.returns-in_err-hand_named

@@ -1,5 +1,7 @@
-use Rattle.{std.proofs.Common.{Ok, ◌≤◌}, pawn_table_keeper.specs.{Common.{get, flat_map, pledges_of, windows_below, Go, IsUnsoundAt}, Handing.keeping_of}}
-use Rattle.pawn_table_keeper.specs.{Handing.HandsRows, Windows.named_sheet}
+use Rattle.pawn_table_keeper.specs.Common.{get, flat_map, pledges_of, windows_below, Go, IsUnsoundAt}
+use Rattle.pawn_table_keeper.specs.Handing.{keeping_of, HandsRows}
+use Rattle.pawn_table_keeper.specs.Windows.{named_sheet}
+use Rattle.std.proofs.Common.{Ok, ◌≤◌}
 use Rattle.pawn_table_keeper.proofs.keeper.TableKeep.hand_these.Given as goal
 
 abbrev pub invariant-loop-window : goal.invariant-loop-window

@@ -1,7 +1,10 @@
-use Rattle.{std.proofs.Common.{Err, Ok, [], ap, arith, length, map, refl, rules, sym, ◌<◌, ◌∙◌, ◌≡◌, ◌≢◌}, pawn_tables.proofs.Basics.nat_tests}
-use Rattle.pawn_table_keeper.specs.Common.{get, Host, pledges_of, part_items, window_items, window_sheet, with_head, IsLinesPage, item_of, most_page_rows}
-use Rattle.pawn_table_keeper.{specs.Handing.keeping_of, proofs.{Handings.{hands_after, hands_nothing, hands_over, hands_unread}, SheetPages.some_items}}
-use Rattle.pawn_table_keeper.proofs.SheetPages.{some_page, whole_page}
+use Rattle.pawn_table_keeper.proofs.Handings.{hands_after, hands_nothing, hands_over, hands_unread}
+use Rattle.pawn_table_keeper.proofs.SheetPages.{some_items, some_page, whole_page}
+use Rattle.pawn_table_keeper.specs.Common.{get, Host, pledges_of, part_items, window_items, window_sheet, with_head}
+use Rattle.pawn_table_keeper.specs.Common.{IsLinesPage, item_of, most_page_rows}
+use Rattle.pawn_table_keeper.specs.Handing.{keeping_of}
+use Rattle.pawn_tables.proofs.Basics.{nat_tests}
+use Rattle.std.proofs.Common.{Err, Ok, [], ap, arith, length, map, refl, rules, sym, ◌<◌, ◌∙◌, ◌≡◌, ◌≢◌}
 use Rattle.pawn_book.specs.declared.sheet.Part.TheVariants as part_of
 use Rattle.pawn_table_keeper.proofs.keeper.TableKeep.hand_window.Goals as goal
 

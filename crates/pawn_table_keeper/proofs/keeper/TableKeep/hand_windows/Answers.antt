@@ -1,5 +1,9 @@
-use Rattle.{std.proofs.Common.{Err, refl, rules}, pawn_table_keeper.specs.{Common.{get, Host, pledges_of, windows_sheet, NamesWindows}, Handing.keeping_of}}
-use Rattle.pawn_table_keeper.{specs.Windows.named_sheets, proofs.{Handings.{hands_after, hands_unread}, SheetPages.named_all}}
+use Rattle.pawn_table_keeper.proofs.Handings.{hands_after, hands_unread}
+use Rattle.pawn_table_keeper.proofs.SheetPages.{named_all}
+use Rattle.pawn_table_keeper.specs.Common.{get, Host, pledges_of, windows_sheet, NamesWindows}
+use Rattle.pawn_table_keeper.specs.Handing.{keeping_of}
+use Rattle.pawn_table_keeper.specs.Windows.{named_sheets}
+use Rattle.std.proofs.Common.{Err, refl, rules}
 use Rattle.pawn_table_keeper.proofs.keeper.TableKeep.hand_windows.Goals as goal
 
 pub returns-in_err-windows : goal.returns-in_err-windows

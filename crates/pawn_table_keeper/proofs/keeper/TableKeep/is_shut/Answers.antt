@@ -1,6 +1,11 @@
-use Rattle.{std.proofs.Common.{Err, rules, ◌≡◌}, pawn_table_keeper.{specs.Common.state, proofs.ShutStores.{asked, left_by, told_shut}}}
-use Rattle.pawn_table_keeper.proofs.keeper.TableKeep.is_shut.Goals.{in-Err-SqliteFailure-Closed, in_default, in_default-2, in_default-3}
-use Rattle.sqlite.specs.{declared.error.{Error.TheVariants.SqliteFailure, ErrorCode.TheVariants.Closed}, Outline.Outline}
+use Rattle.pawn_table_keeper.proofs.ShutStores.{asked, left_by, told_shut}
+use Rattle.pawn_table_keeper.proofs.keeper.TableKeep.is_shut.Goals.{in-Err-SqliteFailure-Closed, in_default}
+use Rattle.pawn_table_keeper.proofs.keeper.TableKeep.is_shut.Goals.{in_default-2, in_default-3}
+use Rattle.pawn_table_keeper.specs.Common.{state}
+use Rattle.sqlite.specs.Outline.{Outline}
+use Rattle.sqlite.specs.declared.error.Error.TheVariants.{SqliteFailure}
+use Rattle.sqlite.specs.declared.error.ErrorCode.TheVariants.{Closed}
+use Rattle.std.proofs.Common.{Err, rules, ◌≡◌}
 use Rattle.pawn_table_keeper.proofs.keeper.TableKeep.is_shut.Goals as goal
 
 pub returns-clause-reads : goal.returns-clause-reads

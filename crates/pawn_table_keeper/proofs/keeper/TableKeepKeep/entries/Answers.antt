@@ -1,5 +1,7 @@
-use Rattle.{std.proofs.Common.{Err, ap, rules, ◌≡◌}, pawn_table_keeper.specs.{Common.{get, pledge_in, entries_of, call_end}, Handing.keeping_of}}
 use Rattle.pawn_table_keeper.proofs.Handings.{visits_of}
+use Rattle.pawn_table_keeper.specs.Common.{get, pledge_in, entries_of, call_end}
+use Rattle.pawn_table_keeper.specs.Handing.{keeping_of}
+use Rattle.std.proofs.Common.{Err, ap, rules, ◌≡◌}
 use Rattle.pawn_table_keeper.proofs.keeper.TableKeepKeep.entries.Goals as goal
 
 pub returns-in_err-hand_entries-clause-reads : goal.returns-in_err-hand_entries-clause-reads

@@ -1,5 +1,7 @@
-use Rattle.{std.proofs.Common.{Err, ap, rules, ◌≡◌}, pawn_table_keeper.specs.{Common.{get, pledges_of, day_sheet, call_end}, Handing.keeping_of}}
 use Rattle.pawn_table_keeper.proofs.Handings.{visits_of}
+use Rattle.pawn_table_keeper.specs.Common.{get, pledges_of, day_sheet, call_end}
+use Rattle.pawn_table_keeper.specs.Handing.{keeping_of}
+use Rattle.std.proofs.Common.{Err, ap, rules, ◌≡◌}
 use Rattle.pawn_table_keeper.proofs.keeper.TableKeepKeep.sheet_each.Goals as goal
 
 pub returns-in_err-hand_sheet-clause-reads : goal.returns-in_err-hand_sheet-clause-reads

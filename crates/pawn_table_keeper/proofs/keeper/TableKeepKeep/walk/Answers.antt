@@ -1,7 +1,12 @@
-use Rattle.{std.proofs.Common.{Err, None, Option, Some, arith, refl, rules, slice_get, sym, ℕ, ◌+◌, ◌<◌, ◌∙◌, ◌≡◌}, pawn_tables.proofs.Basics.nat_tests}
-use Rattle.pawn_table_keeper.{specs.{Common.{get, pledge_in, Keeping, Reads, pledges_of, PledgeValue}, Handing.keeping_of}, proofs.TooMany.too_many_pledges}
-use Rattle.{pawn_table_keeper.proofs.Walks.{ended, failed, more, stopped, walked_past}, pawn_book.{specs.Limits.most_pledges, proofs.Reading.reads_as}}
-use Rattle.pawn_book.proofs.{Reading.reads_none, Places.pledge_at}
+use Rattle.pawn_book.proofs.Places.{pledge_at}
+use Rattle.pawn_book.proofs.Reading.{reads_as, reads_none}
+use Rattle.pawn_book.specs.Limits.{most_pledges}
+use Rattle.pawn_table_keeper.proofs.TooMany.{too_many_pledges}
+use Rattle.pawn_table_keeper.proofs.Walks.{ended, failed, more, stopped, walked_past}
+use Rattle.pawn_table_keeper.specs.Common.{get, pledge_in, Keeping, Reads, pledges_of, PledgeValue}
+use Rattle.pawn_table_keeper.specs.Handing.{keeping_of}
+use Rattle.pawn_tables.proofs.Basics.{nat_tests}
+use Rattle.std.proofs.Common.{Err, None, Option, Some, arith, refl, rules, slice_get, sym, ℕ, ◌+◌, ◌<◌, ◌∙◌, ◌≡◌}
 use Rattle.pawn_table_keeper.proofs.keeper.TableKeepKeep.walk.Goals as goal
 
 -- the pledge that was read stands at the place

@@ -1,4 +1,6 @@
-use Rattle.pawn_table_keeper.{specs.{Common.{get, pledges_of}, Handing.keeping_of}, proofs.Walks.Walked}
+use Rattle.pawn_table_keeper.proofs.Walks.{Walked}
+use Rattle.pawn_table_keeper.specs.Common.{get, pledges_of}
+use Rattle.pawn_table_keeper.specs.Handing.{keeping_of}
 use Rattle.pawn_table_keeper.proofs.keeper.TableKeepKeep.walk.Given as goal
 
 abbrev pub invariant-loop-place : goal.invariant-loop-place

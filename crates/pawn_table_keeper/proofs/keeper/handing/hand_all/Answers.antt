@@ -1,5 +1,6 @@
-use Rattle.{std.proofs.Common.{rules, subst, map-id}, pawn_table_keeper.{specs.Common.{HandsOver, Go, Stop}, proofs.PageHandings.{page_goes, page_stops}}}
-use Rattle.pawn_table_keeper.proofs.PageHandings.{page_whole}
+use Rattle.pawn_table_keeper.proofs.PageHandings.{page_goes, page_stops, page_whole}
+use Rattle.pawn_table_keeper.specs.Common.{HandsOver, Go, Stop}
+use Rattle.std.proofs.Common.{rules, subst, map-id}
 use Rattle.pawn_table_keeper.proofs.keeper.handing.hand_all.Goals as goal
 
 pub returns-in-Stop : goal.returns-in-Stop

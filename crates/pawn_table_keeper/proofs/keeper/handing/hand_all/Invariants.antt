@@ -1,4 +1,5 @@
-use Rattle.{std.proofs.Common.{map, take}, pawn_table_keeper.specs.Common.{Handed, Go}}
+use Rattle.pawn_table_keeper.specs.Common.{Handed, Go}
+use Rattle.std.proofs.Common.{map, take}
 use Rattle.pawn_table_keeper.proofs.keeper.handing.hand_all.Given as goal
 
 abbrev pub invariant-loop-item : goal.invariant-loop-item

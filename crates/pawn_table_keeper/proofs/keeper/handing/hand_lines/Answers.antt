@@ -1,4 +1,6 @@
-use Rattle.{std.proofs.Common.rules, pawn_table_keeper.{specs.Common.item_of, proofs.PageHandings.{page_goes, page_stops, page_whole}}}
+use Rattle.pawn_table_keeper.proofs.PageHandings.{page_goes, page_stops, page_whole}
+use Rattle.pawn_table_keeper.specs.Common.{item_of}
+use Rattle.std.proofs.Common.{rules}
 use Rattle.pawn_table_keeper.proofs.keeper.handing.hand_lines.Goals as goal
 
 pub returns-in-Stop : goal.returns-in-Stop

@@ -1,4 +1,5 @@
-use Rattle.{std.proofs.Common.{map, take}, pawn_table_keeper.specs.Common.{Handed, Go, item_of}}
+use Rattle.pawn_table_keeper.specs.Common.{Handed, Go, item_of}
+use Rattle.std.proofs.Common.{map, take}
 use Rattle.pawn_table_keeper.proofs.keeper.handing.hand_lines.Given as goal
 
 abbrev pub invariant-loop-line : goal.invariant-loop-line

@@ -1,4 +1,5 @@
-use Rattle.pawn_terms.{specs.Calendar.civil_of, proofs.TextLemmas.{civil_of-stamp, day_text-read, civil_of-read}}
+use Rattle.pawn_terms.proofs.TextLemmas.{civil_of-stamp, day_text-read, civil_of-read}
+use Rattle.pawn_terms.specs.Calendar.{civil_of}
 use Rattle.pawn_terms.proofs.day.Day.of_text.Goals as goal
 
 pub returns-in-Some-clause-succeeds : goal.returns-in-Some-clause-succeeds

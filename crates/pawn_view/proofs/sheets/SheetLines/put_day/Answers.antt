@@ -1,4 +1,6 @@
-use Rattle.{pawn_view.{specs.Common.{call_end, get, pledges_of}, proofs.SheetLemmas.{lines_handed, day_put}}, pawn_book.proofs.Reading.reads_as}
+use Rattle.pawn_book.proofs.Reading.{reads_as}
+use Rattle.pawn_view.proofs.SheetLemmas.{lines_handed, day_put}
+use Rattle.pawn_view.specs.Common.{call_end, get, pledges_of}
 use Rattle.pawn_view.proofs.sheets.SheetLines.put_day.Goals as goal
 
 pub returns-clause-shares : goal.returns-clause-shares

@@ -1,5 +1,6 @@
-use Rattle.{std.proofs.Common.{arith, sym, ◌∙◌, ap, ◌+◌}, pawn_wire.proofs.FieldLemmas.{no_span, count_hit, count_other}}
+use Rattle.pawn_wire.proofs.FieldLemmas.{no_span, count_hit, count_other}
 use Rattle.pawn_wire.proofs.fields.Fields.count.Goals.{then-is_named, else-is_named}
+use Rattle.std.proofs.Common.{arith, sym, ◌∙◌, ap, ◌+◌}
 use Rattle.pawn_wire.proofs.fields.Fields.count.Goals as goal
 
 pub loop-field-preserved : goal.loop-field-preserved

@@ -1,4 +1,6 @@
-use Rattle.{std.proofs.Common.{◌≡◌, ◌≤◌, length, map, take}, pawn_wire.specs.{Common.header_bytes, Fields.values_of}}
+use Rattle.pawn_wire.specs.Common.{header_bytes}
+use Rattle.pawn_wire.specs.Fields.{values_of}
+use Rattle.std.proofs.Common.{◌≡◌, ◌≤◌, length, map, take}
 use Rattle.pawn_wire.proofs.fields.Fields.count.Given as goal
 
 abbrev pub invariant-loop-field : goal.invariant-loop-field

@@ -1,5 +1,7 @@
-use Rattle.{std.proofs.Common.◌≡◌, pawn_wire.{specs.Types.Missing, proofs.FieldLemmas.{no_span, find_first, find_again, find_other}}}
+use Rattle.pawn_wire.proofs.FieldLemmas.{no_span, find_first, find_again, find_other}
 use Rattle.pawn_wire.proofs.fields.Fields.find.Goals.{then-is_named+in-Missing, then-is_named+in_default, else-is_named}
+use Rattle.pawn_wire.specs.Types.{Missing}
+use Rattle.std.proofs.Common.{◌≡◌}
 use Rattle.pawn_wire.proofs.fields.Fields.find.Goals as goal
 
 -- src/fields.rt:22:5

@@ -1,4 +1,6 @@
-use Rattle.{std.proofs.Common.{map, take}, pawn_wire.specs.{Common.header_bytes, Fields.{values_of, IsFound}}}
+use Rattle.pawn_wire.specs.Common.{header_bytes}
+use Rattle.pawn_wire.specs.Fields.{values_of, IsFound}
+use Rattle.std.proofs.Common.{map, take}
 use Rattle.pawn_wire.proofs.fields.Fields.find.Given as goal
 
 abbrev pub invariant-loop-field : goal.invariant-loop-field

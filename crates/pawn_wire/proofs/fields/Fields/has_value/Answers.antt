@@ -1,4 +1,6 @@
-use Rattle.{std.proofs.Common.{◌||◌, sym, ◌∙◌}, pawn_wire.{specs.Common.str_eq_ignore_ascii_case, proofs.FieldLemmas.{no_span, says_more}}}
+use Rattle.pawn_wire.proofs.FieldLemmas.{no_span, says_more}
+use Rattle.pawn_wire.specs.Common.{str_eq_ignore_ascii_case}
+use Rattle.std.proofs.Common.{◌||◌, sym, ◌∙◌}
 use Rattle.pawn_wire.proofs.fields.Fields.has_value.Goals as goal
 
 pub loop-field-preserved : goal.loop-field-preserved

@@ -1,4 +1,6 @@
-use Rattle.{std.proofs.Common.{◌≡◌, map, take}, pawn_wire.specs.{Common.{header_bytes, list_any, str_eq_ignore_ascii_case}, Fields.values_of}}
+use Rattle.pawn_wire.specs.Common.{header_bytes, list_any, str_eq_ignore_ascii_case}
+use Rattle.pawn_wire.specs.Fields.{values_of}
+use Rattle.std.proofs.Common.{◌≡◌, map, take}
 use Rattle.pawn_wire.proofs.fields.Fields.has_value.Given as goal
 
 abbrev pub invariant-loop-field : goal.invariant-loop-field

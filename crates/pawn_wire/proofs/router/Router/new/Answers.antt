@@ -1,4 +1,5 @@
-use Rattle.{std.proofs.Common.{◌∙◌, ap}, pawn_wire.specs.Route.{with_routes, table_rows, table}}
+use Rattle.pawn_wire.specs.Route.{with_routes, table_rows, table}
+use Rattle.std.proofs.Common.{◌∙◌, ap}
 use Rattle.pawn_wire.proofs.router.Router.new.Goals as goal
 
 pub returns-in-Ok : goal.returns-in-Ok

@@ -1,5 +1,0 @@
-use Rattle.std.proofs.Common.{rules}
-use Rattle.pawn_move.proofs.telling.judge.Goals as goal
-
-pub returns : goal.returns
-returns c = search rules

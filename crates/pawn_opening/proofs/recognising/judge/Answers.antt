@@ -1,5 +1,0 @@
-use Rattle.std.proofs.Common.{rules}
-use Rattle.pawn_opening.proofs.recognising.judge.Goals as goal
-
-pub returns-then-number-from-2 : goal.returns-then-number-from-2
-returns-then-number-from-2 c = search rules

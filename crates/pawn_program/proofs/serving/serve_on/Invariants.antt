@@ -1,9 +1,0 @@
-use Rattle.{std.proofs.Common.{◌≡◌, ◌+◌}, pawn_host.specs.Keeps.{StaysOpen, Serves}, pawn_program.specs.{Serving.AreServed, Clock.GivesDated}}
-use Rattle.pawn_program.proofs.serving.serve_on.Given as goal
-
-abbrev pub invariant-loop-turn : goal.invariant-loop-turn
-invariant-loop-turn g l = record {
-  counted : l.served.answered + l.served.failed ≡ l.turn;
-  stays : StaysOpen g.K.Keep.keeping l.fn.service l.service;
-  served : Serves g.K.Keep.keeping l.fn.service l.service (λ start. AreServed GivesDated l.fn.stamps l.stamps start l.served.answered);
-}
