@@ -1,0 +1,159 @@
+"""Books: making one, and a new key for one whose key has leaked."""
+import json
+import os
+import tempfile
+import uuid
+
+import asking
+import proxy
+import services
+from copies import OLD
+from files import read_note, sync, write_note
+from locks import alone, alone_with, alone_with_settings
+from reading import contents_of
+from settings import MAIN, SETTINGS, Stop, Store, book_number, say, store_name, store_names
+
+CAPACITY = 2
+
+
+def key_of_file(path):
+    with open(path) as file:
+        said = file.read().strip()
+    try:
+        return str(uuid.UUID(said))
+    except ValueError:
+        raise Stop(f"{path} does not hold a key: a key is 32 hexadecimal digits with or without hyphens") from None
+
+
+def hand_over(key, what, path):
+    """A key is written to a file that its owner alone can read, or printed once."""
+    if path is None:
+        say(f"{what}: {key}")
+        say("This is the only time that it is shown. Give it to the broker by a way that nobody else can read")
+        return
+    handle, new = tempfile.mkstemp(prefix=".key-", dir=os.path.dirname(os.path.abspath(path)))
+    with open(handle, "w") as file:
+        file.write(key + "\n")
+        file.flush()
+        os.fsync(file.fileno())
+    os.rename(new, path)
+    sync(os.path.dirname(os.path.abspath(path)))
+    say(f"{what} is in {path}")
+
+
+def stores_with(book):
+    """The stores of this machine that have rows of a book; and those whose files a command was replacing when it was
+    killed, since they may have some."""
+    found = []
+    for name in store_names():
+        store = Store(name)
+        if store.is_here and os.path.exists(store.path + OLD):
+            found.append(name)
+        elif store.is_here and os.path.exists(store.path) and book in contents_of(store.path).books:
+            found.append(name)
+    return found
+
+
+# ---- a new book
+
+
+def pending_folder():
+    """Where commands write down what they have begun."""
+    folder = os.path.join(SETTINGS, "pending")
+    os.makedirs(folder, 0o700, exist_ok=True)
+    return folder
+
+
+def pending_file(book):
+    return os.path.join(pending_folder(), f"{book}.json")
+
+
+def claim(book, where, made):
+    """Writes down what a book is being made with, its key too, before it is made. So a command that was killed makes
+    the book with the same key when it is run again, and no other command makes the same book elsewhere."""
+    path = pending_file(book)
+    if not os.path.exists(path):
+        stop_if_taken(book, where)
+        write_note(path, {**made, "key": made["key"] or str(uuid.uuid4()), "store": where})
+    begun = read_note(path)
+    if made["key"] not in (None, begun["key"]) or {**begun, **made, "key": 0, "store": where} != {**begun, "key": 0}:
+        raise Stop(
+            f"book {book} was being made in the store {begun['store']} as {begun['name']!r}, with capacity "
+            f"{begun['capacity']}. Run that command again to end it. If no such book is wanted, remove {path} and its "
+            f"line in {proxy.BOOKS_MAP}, as long as the store has no such book"
+        )
+    return {member: begun[member] for member in ("capacity", "key", "name")}
+
+
+def stop_if_taken(book, where):
+    line, there = proxy.book_lines().get(book), stores_with(book)
+    if there:
+        raise Stop(f"book {book} is in the store {there[0]} already. Choose another number")
+    if line not in (None, where):
+        raise Stop(f"book {book} has a line in {proxy.BOOKS_MAP} for the store {line}. Choose another number")
+
+
+def make_book(number, where=MAIN, name=None, capacity=CAPACITY, key_file=None, key_to=None):
+    """The verb `book`. The line of the map is written before the book is made: a book that answers always has it."""
+    book = book_number(number)
+    made = {"capacity": capacity, "key": key_of_file(key_file) if key_file else None, "name": name}
+    if store_name(where) not in store_names():
+        raise Stop(f"there is no store {where}. Make it first: `pawnd-admin store {where}`")
+    store = Store(where)
+    with alone_with(where):
+        with alone_with_settings():
+            was_there, given = os.path.exists(pending_file(book)), made["key"] is not None
+            made = claim(book, where, made)
+            turned = proxy.store_of(book) != where
+            proxy.turn({book}, where)
+        if turned or was_there:
+            proxy.reload_nginx()
+        services.ask(store, "POST", f"/books/{book}", json.dumps(made), Pledge_Key=services.operators_key())
+        if not given or key_to:
+            hand_over(made["key"], f"the key of book {book}", key_to)
+        os.unlink(pending_file(book))
+    say(f"book {book} ({made['name']}) is in the store {where}")
+
+
+# ---- a key that has leaked
+
+
+def own_key(book, inside_file):
+    """The key that a book was made with: the rules give it one for ever."""
+    store = Store(proxy.store_of(book))
+    if inside_file:
+        return key_of_file(inside_file)
+    if not store.is_here:
+        raise Stop(f"the store {store.name} is on another machine: write the key that book {book} was made with into a "
+                   "file, and add --inside-file FILE")
+    books = contents_of(store.path).books
+    if book not in books:
+        raise Stop(f"the store {store.name} has no book {book}")
+    return str(uuid.UUID(bytes=books[book]["key"]))
+
+
+def new_key(number, key_to=None, inside_file=None):
+    """The verb `new-key`. The new key is handed over before it is in force, so that a command that is killed never
+    leaves a book with a key that nobody knows."""
+    book = book_number(number)
+    inside, outside = own_key(book, inside_file), str(uuid.uuid4())
+    with alone(pending_folder(), proxy.KEYS_MAP):
+        hand_over(outside, f"the new key of book {book}", key_to)
+        with alone_with_settings():
+            proxy.write_exchanges({**proxy.exchanges(), book: (outside, inside)})
+        proxy.reload_nginx()
+        stop_unless_exchanged(book, inside, outside)
+    say(f"the new key of book {book} is in force, and every earlier one is refused")
+
+
+def stop_unless_exchanged(book, inside, outside):
+    """Asks the proxy with both keys for a pledge that no book has."""
+    if proxy.nginx_master() is None:
+        return
+    said = [asking.code_through_proxy(book, key) for key in (inside, outside)]
+    if said != [401, 403] and not set(said) & {502, 503, 504}:
+        raise Stop(
+            f"the proxy does not exchange the keys: asked with the old one and with the new one it answers {said[0]} "
+            f"and {said[1]}, in place of 401 and 403. Do its files include {proxy.KEYS_MAP}? Mend them, then run the "
+            "command again"
+        )

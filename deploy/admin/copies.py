@@ -1,0 +1,340 @@
+"""Copies of stores, made while a store is served too: making one, looking them over, and removing old ones."""
+import contextlib
+import datetime
+import os
+import re
+import shutil
+import time
+
+from files import (
+    BLOCK, LOG, copy_file, copy_store, files_of_store, give_to, open_plain, read_note, room_for, room_in,
+    size_of_store, sync, sync_folder, time_name, write_note,
+)
+from locks import alone_if_free, alone_with, copies_folder
+from reading import head_of_log
+from settings import COPIES, REMOVED, STORE_NAME, STORES, Stop, copies_to_keep, say, store_file, the_store, warn
+from tables import check_and_fold, counts_of, in_words, sums_of
+
+NOTE = "copy.json"
+TIME = "%Y%m%dT%H%M%SZ"
+COPY_NAME = re.compile(r"\d{8}T\d{6}Z")
+PART = ".part-"
+# How long a command tries to copy a store whose log is begun anew during each attempt, in seconds.
+COPY_PATIENCE = float(os.environ.get("COPY_PATIENCE", "300"))
+# A copy that is dated later than this from now was made while the clock was wrong, or the clock is wrong now.
+SLACK = datetime.timedelta(minutes=5)
+
+
+# ---- looking over what there is
+
+
+def utc_now():
+    return datetime.datetime.now(datetime.timezone.utc)
+
+
+def time_of(name):
+    return datetime.datetime.strptime(name, TIME).replace(tzinfo=datetime.timezone.utc)
+
+
+class Copy:
+    """A copy that was finished: its folder, and what was written down when it was made."""
+
+    def __init__(self, folder):
+        self.folder, self.name = os.path.realpath(folder), os.path.basename(os.path.realpath(folder))
+        self.path = os.path.join(self.folder, "books.db")
+        try:
+            note = read_note(os.path.join(self.folder, NOTE))
+            self.store, self.made, self.counts = note["store"], note["made"], note["counts"]
+            self.books = {int(book): it for book, it in note["books"].items()}
+        except (OSError, ValueError, KeyError, TypeError, AttributeError) as why:
+            raise Stop(f"{folder} is not a finished copy: {NOTE} in it cannot be read ({why})") from None
+        if not os.path.exists(self.path):
+            raise Stop(f"{folder} is not a whole copy: it has no books.db")
+
+    @property
+    def is_future(self):
+        return time_of(self.made) > utc_now() + SLACK
+
+
+def copies_of(name):
+    """The finished copies of a store, oldest first, and those apart that are dated in the future: they are never the
+    newest, and are never removed."""
+    folder, past, future = os.path.join(COPIES, name), [], []
+    for it in sorted(os.listdir(folder)) if os.path.isdir(folder) else ():
+        with contextlib.suppress(Stop, ValueError):
+            if COPY_NAME.fullmatch(it):
+                copy = Copy(os.path.join(folder, it))
+                (future if copy.is_future else past).append(copy)
+    return past, future
+
+
+def removed_books():
+    """What `remove-book` kept of the books that it took out."""
+    folder, found = os.path.join(COPIES, REMOVED), []
+    for it in sorted(os.listdir(folder)) if os.path.isdir(folder) else ():
+        with contextlib.suppress(Stop):
+            if not it.startswith("."):
+                found.append(Copy(os.path.join(folder, it)))
+    return found
+
+
+def stores_with_copies():
+    names = os.listdir(COPIES) if os.path.isdir(COPIES) else []
+    return sorted(
+        name for name in names
+        if name != REMOVED and STORE_NAME.fullmatch(name) and os.path.isdir(os.path.join(COPIES, name))
+    )
+
+
+def the_copy(name, said):
+    """The copy that the operator names: by its folder, by its time, or as `newest`."""
+    if said == "newest":
+        past, _ = copies_of(name)
+        if not past:
+            raise Stop(f"there is no copy of the store {name} in {os.path.join(COPIES, name)}")
+        return past[-1]
+    if COPY_NAME.fullmatch(said):
+        said = os.path.join(COPIES, name, said)
+    if not os.path.isdir(said):
+        raise Stop(f"there is no copy {said}. `ls {os.path.join(COPIES, name)}` lists those of the store {name}")
+    return Copy(said)
+
+
+# ---- making one
+
+
+def renew(source, target):
+    """Makes a file equal to another: only the blocks that differ are written."""
+    with open_plain(source) as old, open(target, "r+b") as new:
+        while True:
+            wanted = old.read(BLOCK)
+            if new.read(len(wanted)) != wanted:
+                new.seek(old.tell() - len(wanted))
+                new.write(wanted)
+            if len(wanted) < BLOCK:
+                new.truncate()
+                return
+
+
+def copy_served(path, target):
+    """Copies a store that may be written meanwhile, as it is at one moment.
+
+    The database is written only with pages that the log holds, and then the log is begun anew with another head. So a
+    database and a log that were read between two looks at one head belong together. If the log was begun anew
+    meanwhile, the blocks that differ by now are read again, which takes less time than the first attempt."""
+    end, tries = time.monotonic() + COPY_PATIENCE, 0
+    while True:
+        head = head_of_log(path)
+        if tries:
+            renew(path, target)
+        else:
+            copy_file(path, target)
+        with contextlib.suppress(FileNotFoundError):
+            os.unlink(target + LOG)
+        if os.path.lexists(path + LOG):
+            copy_file(path + LOG, target + LOG)
+        tries += 1
+        if head_of_log(target) == head == head_of_log(path):
+            return tries
+        if time.monotonic() > end:
+            raise Stop(
+                f"no copy was made: the log of {path} was begun anew during each of {tries} attempts within "
+                f"{COPY_PATIENCE:.0f} seconds. Run the command again when there is less to do"
+            )
+
+
+def finish_copy(part, target, store, made):
+    """Checks a copy on a second copy of it, so that the first stays as it was made; writes down what it holds; and
+    gives it its name, by one rename."""
+    path = os.path.join(part, "books.db")
+    scratch = os.path.join(part, "scratch.db")
+    copy_store(path, scratch)
+    counts = check_and_fold(scratch)
+    sums = sums_of(scratch)
+    os.unlink(scratch)
+    if counts != counts_of(sums):
+        raise Stop(f"{part}: `pawnd check` counts {in_words(counts)}, and SQLite {in_words(counts_of(sums))}")
+    note = {
+        "store": store,
+        "made": made,
+        "counts": counts,
+        "bytes": {os.path.basename(it): os.path.getsize(it) for it in files_of_store(path)},
+        "books": sums,
+    }
+    write_note(os.path.join(part, NOTE), note)
+    sync_folder(part)
+    os.rename(part, target)
+    sync(os.path.dirname(target))
+    return Copy(target)
+
+
+def make_copy(name, path):
+    """A new copy of a store. The caller holds its lock."""
+    folder = copies_folder(name)
+    with room_for(folder, 2 * size_of_store(path) + BLOCK, f"a copy of {path} and a second one to check it"):
+        with room_in(folder, PART) as part:
+            made = time_name(folder)
+            copy_served(path, os.path.join(part, "books.db"))
+            return finish_copy(part, os.path.join(folder, made), name, made)
+
+
+def copy(name):
+    """The verb `copy`."""
+    store, keep = the_store(name), copies_to_keep()
+    with alone_with(name):
+        # The unit that runs this at night may not write to the stores.
+        can_settle = os.access(STORES, os.W_OK)
+        if can_settle:
+            mend(name)
+        if not os.path.exists(store.path):
+            raise Stop(f"there is no store at {store.path}. Is its disk there? `pawnd-admin restore {name} newest`")
+        before, future = copies_of(name)
+        made = make_copy(name, store.path)
+        say(f"{made.folder}: {in_words(made.counts)}")
+        forget_old(name, keep)
+        if can_settle:
+            settle_all(name)
+    for it in future:
+        warn(f"{it.folder} is dated in the future: is the clock right? It is not counted as a copy. When the clock is "
+             "right, rename it to a time that has passed, or remove it")
+    if before and any(made.counts[it] < before[-1].counts[it] for it in made.counts):
+        warn(f"the copy before, {before[-1].name}, held more: {in_words(before[-1].counts)}. If no book was taken out "
+             "and no copy was put back since, a log may have been lost. Both copies stay")
+
+
+# ---- removing old ones
+
+
+def newest_of_all():
+    """The newest copy of each store, and what was kept of removed books."""
+    return [past[-1] for past in (copies_of(name)[0] for name in stores_with_copies()) if past] + removed_books()
+
+
+def forget_old(name, keep):
+    """Removes the copies beyond the newest ones, but none that has more of a book than all newer copies have: it is
+    the last good copy of that book."""
+    past, _ = copies_of(name)
+    covered = {}
+    for copy in [*newest_of_all(), *past[-keep:]]:
+        cover(covered, copy)
+    for copy in reversed(past[:-keep]):
+        if any(it["rows"] > covered.get(book, 0) for book, it in copy.books.items()):
+            cover(covered, copy)
+            continue
+        gone = os.path.join(os.path.dirname(copy.folder), PART + "old-" + copy.name)
+        os.rename(copy.folder, gone)
+        shutil.rmtree(gone)
+
+
+def cover(covered, copy):
+    for book, it in copy.books.items():
+        covered[book] = max(covered.get(book, 0), it["rows"])
+
+
+# ---- what a store had before its files were replaced
+
+# The names beside the kept folder of a store: its note, and the file in a folder that was never in force.
+NOTE_END, UNUSED = ".json", "never-in-force"
+# How the names end of the files of a store that are replaced one by one.
+NEW, OLD = ".new", ".old"
+
+
+class Kept:
+    """What a store had before a command put other files in its place."""
+
+    def __init__(self, folder):
+        self.folder = folder
+        self.store, _, self.time = os.path.basename(folder)[1:].partition("-before-")
+        self.note = read_note(folder + NOTE_END) if os.path.exists(folder + NOTE_END) else {}
+        # A folder without files is one whose removal was cut off.
+        self.was_in_force = bool(os.path.isdir(folder) and files_of_store(os.path.join(folder, "books.db"))) and (
+            not os.path.exists(os.path.join(folder, UNUSED + os.path.basename(folder)))
+        )
+
+    def missing(self):
+        """The books that have no copy yet, made since, with as many rows as they had here."""
+        found = {}
+        for copy in newest_of_all():
+            if copy.store == REMOVED or copy.made >= self.time:
+                cover(found, copy)
+        return sorted(int(book) for book, rows in self.note.get("books", {}).items() if found.get(int(book), 0) < rows)
+
+    def forget(self):
+        shutil.rmtree(self.folder, ignore_errors=True)
+        os.unlink(self.folder + NOTE_END)
+
+
+def kept_of(name=None):
+    """What is kept of a store, or of all."""
+    names = sorted(os.listdir(STORES)) if os.path.isdir(STORES) else []
+    form = re.compile(rf"\.{name or '[a-z][a-z0-9]*'}-before-\d{{8}}T\d{{6}}Z")
+    found = sorted({it.removesuffix(NOTE_END) for it in names})
+    return [Kept(os.path.join(STORES, it)) for it in found if form.fullmatch(it)]
+
+
+def mend(name):
+    """Puts the old files of a store back, if a command was killed while it replaced them one by one."""
+    path = store_file(name)
+    if os.path.exists(path + OLD) and not os.path.exists(path):
+        kept = [it for it in kept_of(name) if it.was_in_force][-1]
+        log = os.path.join(kept.folder, "books.db" + LOG)
+        if os.path.exists(log) and not os.path.exists(path + LOG):
+            copy_file(log, path + LOG + NEW)
+            give_to(name, os.path.dirname(path))
+            sync(path + LOG + NEW)
+            os.rename(path + LOG + NEW, path + LOG)
+        os.rename(path + OLD, path)
+        sync(os.path.dirname(path))
+        kept.forget()
+    for left in (path + OLD, path + NEW, path + LOG + NEW):
+        with contextlib.suppress(FileNotFoundError):
+            os.unlink(left)
+
+
+def settle_kept(name):
+    """Ends what commands left that replaced the files of a store, as far as it can be ended now."""
+    mend(name)
+    for it in kept_of(name):
+        if not it.was_in_force:
+            it.forget()
+        elif it.note.get("why") == "restore" or not it.note:
+            keep_as_copy(it)
+        elif not it.missing():
+            it.forget()
+            say(f"{it.folder}, which the store {name} had before `{it.note['command']}`, is gone: each of its books has a "
+                "copy")
+    for left in os.listdir(STORES):
+        if left.startswith(f"..{name}-before-"):
+            os.unlink(os.path.join(STORES, left))
+
+
+def settle_all(first):
+    """The same for all stores that no other command works on, since a part of a split can be in any of them."""
+    for name in [first, *sorted({it.store for it in kept_of()} - {first})]:
+        with alone_if_free(name) as free:
+            if free:
+                settle_kept(name)
+
+
+def keep_as_copy(kept):
+    """What a restored copy took the place of becomes a copy itself, or is put among the copies as it is where the
+    program does not find it sound."""
+    folder = copies_folder(kept.store)
+    path = os.path.join(kept.folder, "books.db")
+    with room_for(folder, 2 * size_of_store(path) + BLOCK, f"a copy of {path}"), room_in(folder, PART) as part:
+        made = time_name(folder)
+        copy_store(path, os.path.join(part, "books.db"))
+        try:
+            if not os.path.exists(path):
+                raise Stop(f"{kept.folder} has a log without its database")
+            target = finish_copy(part, os.path.join(folder, made), kept.store, made).folder
+        except Stop as why:
+            target = os.path.join(folder, "unsound-" + made)
+            for name in set(os.listdir(part)) - {os.path.basename(it) for it in files_of_store(path)}:
+                os.unlink(os.path.join(part, name))
+            sync_folder(part)
+            os.rename(part, target)
+            sync(folder)
+            warn(str(why))
+    say(f"{target}: what the store {kept.store} had before. Remove it when nobody misses anything")
+    kept.forget()

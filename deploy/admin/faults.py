@@ -1,0 +1,121 @@
+"""What is wrong beside the stores themselves: books and lines that do not fit, full disks, and what commands left that
+did not end."""
+import contextlib
+import os
+
+import copies
+import proxy
+from files import free_bytes, is_moveable, read_note, size_of_store, work_prefix
+from locks import alone_if_free
+from settings import COPIES, MAIN, SETTINGS, STORES, store_file, store_names
+
+# A disk is too small with less than this part of it, or with less than what is wanted for a copy.
+SMALL_PART, SMALL_DISK = 0.05, 1 << 30
+
+
+def faults_of_books(lines, found):
+    """Books without a line, lines without a book, and books that are in two stores. `found` has the books of each
+    store that could be read."""
+    wrong, notes = [], []
+    known = store_names()
+    for book, name in sorted(lines.items()):
+        if name not in known:
+            wrong.append(f"book {book} has a line for the store {name}, and there is no such store: mend "
+                         f"{proxy.BOOKS_MAP}, or `pawnd-admin store {name}`")
+        elif found.get(name) is not None and book not in found[name]:
+            wrong.append(f"book {book} has a line for the store {name}, and is not there: {missing_book(book, found)}")
+    for name, books in sorted(found.items()):
+        for book in sorted(books or ()):
+            place = lines.get(book, MAIN)
+            if place == name:
+                continue
+            if book not in lines:
+                wrong.append(f"book {book} is in the store {name} and has no line, so nobody reaches it there: if it "
+                             f"belongs there, write the line `{book} {name};` into {proxy.BOOKS_MAP}, then "
+                             "`pawnd-admin reload`"
+                             + (". The store main has such a book too: see first which of the two is the newer"
+                                if book in (found.get(MAIN) or ()) else ""))
+            elif found.get(place) is not None and book in found[place]:
+                notes.append(f"book {book} is in two stores: {place} answers, and nobody reaches the rows in {name}")
+    return wrong, notes
+
+
+def missing_book(book, found):
+    """What to do about a line without a book."""
+    others = [it for it, books in found.items() if books and book in books]
+    if others:
+        return (f"{' and '.join(others)} has rows of it. If a command was interrupted, run it again. Else "
+                f"`pawnd-admin restore-book {book} COPY NEW`. If the line were removed, rows in main would answer, "
+                "however old they are")
+    return "`pawnd-admin restore-book` if a copy has it. If it was never made, remove its line"
+
+
+def removed_books_that_are_back(found):
+    for copy in copies.removed_books():
+        for book in copy.books:
+            for name in [it for it, books in found.items() if books and book in books]:
+                yield f"book {book} was taken out at {copy.made}, and is in the store {name} again"
+
+
+# ---- disks and leftovers
+
+
+def faults_of_disks():
+    """The disks of STORES and COPIES, which need room for two copies of the largest store, and those that are a store's
+    own, which need room for the store's new files."""
+    wrong, disks, needed = [], {}, {STORES: 0, COPIES: 0}
+    for name in store_names():
+        with contextlib.suppress(OSError):
+            size = size_of_store(store_file(name))
+            needed[STORES] = needed[COPIES] = max(needed[COPIES], 2 * size)
+            if not is_moveable(name):
+                needed[os.path.join(STORES, name)] = size
+    for folder, size in needed.items():
+        if not os.path.isdir(folder):
+            wrong.append(f"{folder} is missing. Is its disk there?")
+            continue
+        disk = os.statvfs(folder)
+        free, whole = free_bytes(folder), disk.f_frsize * disk.f_blocks
+        disks[folder] = {"free": free, "bytes": whole}
+        wanted = max(min(int(SMALL_PART * whole), SMALL_DISK), size)
+        if free < wanted:
+            wrong.append(f"the disk of {folder} is nearly full: {free:,} bytes are free, and {wanted:,} are wanted "
+                         f"for the files that come next: {wanted - free:,} are missing. `du -xh {folder} | sort -h` "
+                         "shows what fills it")
+    return disks, wrong
+
+
+def leftovers():
+    """What interrupted commands left, and what is kept on purpose."""
+    for name in store_names():
+        with alone_if_free(name) as free:
+            if free:
+                for folder, prefix in ((STORES, work_prefix(name)), (os.path.join(COPIES, name), copies.PART)):
+                    for it in sorted(os.listdir(folder)) if os.path.isdir(folder) else ():
+                        if it.startswith(prefix):
+                            yield (f"{os.path.join(folder, it)} is left from a command that did not end. The next "
+                                   "such command on this store removes it")
+    for name in copies.stores_with_copies():
+        for it in sorted(os.listdir(os.path.join(COPIES, name))):
+            if it.startswith("unsound-"):
+                yield (f"{os.path.join(COPIES, name, it)} is what the store {name} had before a copy was put back. "
+                       "Remove it when nobody misses anything")
+    for it in copies.kept_of():
+        if it.was_in_force:
+            missing = it.missing()
+            yield (f"{it.folder} is what the store {it.store} had before `{it.note.get('command', 'a command')}`. It "
+                   + (f"stays until books {', '.join(map(str, missing[:9]))} have a copy: `pawnd-admin copy` of their "
+                      "stores" if missing else f"goes with the next `pawnd-admin copy {it.store}`"))
+
+
+def pending():
+    """What was begun and did not end, or has not ended yet."""
+    folder = os.path.join(SETTINGS, "pending")
+    for name in sorted(os.listdir(folder)) if os.path.isdir(folder) else ():
+        note = {}
+        with contextlib.suppress(OSError, ValueError):
+            note = read_note(os.path.join(folder, name))
+        with alone_if_free(note.get("store", MAIN)) as free:
+            if free and name.endswith(".json") and os.path.exists(os.path.join(folder, name)):
+                command = note.get("command", f"book {name[:-5]} --store {note.get('store', '?')} ..")
+                yield f"a command did not end: run it again, `pawnd-admin {command}`"

@@ -1,0 +1,235 @@
+"""Files: copying, writing a whole file, rooms for what is being made, and full disks."""
+import contextlib
+import ctypes
+import errno
+import fcntl
+import json
+import os
+import pwd
+import shutil
+import stat
+import tempfile
+import time
+
+from settings import STORES, Stop
+
+LOG = "-wal"
+BLOCK = 1 << 20
+# The order to the file system to let two files share their bytes: FICLONE of linux/fs.h.
+SHARE_BYTES = 0x40049409
+# linux/fs.h: exchange two names in one step.
+RENAME_EXCHANGE = 2
+AT_FDCWD = -100
+
+
+# ---- space
+
+
+def disk_full(folder, wanted, purpose):
+    free = free_bytes(folder)
+    missing = f"{wanted - free:,} bytes are missing" if wanted > free else "something else fills it at the same time"
+    return Stop(
+        f"the disk of {folder} is full: {purpose} takes {wanted:,} bytes, {free:,} are free, and {missing}. Make room "
+        "there, then run the command again"
+    )
+
+
+def free_bytes(folder):
+    """How much root may still write."""
+    disk = os.statvfs(folder)
+    return disk.f_frsize * (disk.f_bfree if os.geteuid() == 0 else disk.f_bavail)
+
+
+@contextlib.contextmanager
+def room_for(folder, wanted, purpose):
+    """Refuses before anything is written where the disk has too little space, and names the disk when it fills up
+    within the block all the same."""
+    if free_bytes(folder) < wanted:
+        raise disk_full(folder, wanted, purpose)
+    try:
+        yield
+    except OSError as why:
+        if why.errno not in (errno.ENOSPC, errno.EDQUOT):
+            raise
+        raise disk_full(folder, wanted, purpose) from why
+    except Exception as why:
+        # SQLite and the program report a full disk in words of their own.
+        if free_bytes(folder) < min(wanted, BLOCK):
+            raise disk_full(folder, wanted, purpose) from why
+        raise
+
+
+@contextlib.contextmanager
+def room_for_store(name, made, purpose, size):
+    """Room for what is made in STORES, and for the new files of a store of this size. If the store's folder is a disk of
+    its own, they are written there beside the old ones."""
+    with room_for(STORES, made + BLOCK, purpose):
+        if is_moveable(name):
+            yield
+            return
+        with room_for(os.path.join(STORES, name), size + BLOCK, f"a new file for the store {name}"):
+            yield
+
+
+def size_of_store(path):
+    return sum(os.path.getsize(part) for part in files_of_store(path))
+
+
+# ---- copying
+
+
+def open_plain(path):
+    """A plain file, and not what a link of that name leads to: the folder of a store belongs to the store's user."""
+    file = open(path, "rb", opener=lambda name, flags: os.open(name, flags | os.O_NOFOLLOW | os.O_NONBLOCK))
+    if not stat.S_ISREG(os.fstat(file.fileno()).st_mode):
+        file.close()
+        raise Stop(f"{path} is not a plain file")
+    return file
+
+
+def copy_file(source, target):
+    """A new file with the same bytes, which shares them where the file system can do so."""
+    with open_plain(source) as old, open(target, "xb") as new:
+        try:
+            fcntl.ioctl(new, SHARE_BYTES, old.fileno())
+        except OSError:
+            shutil.copyfileobj(old, new, BLOCK)
+
+
+def files_of_store(path):
+    """The database and its log, as far as they exist."""
+    return [path + end for end in ("", LOG) if os.path.lexists(path + end)]
+
+
+def copy_store(source, target):
+    for path in files_of_store(source):
+        copy_file(path, target + path.removeprefix(source))
+
+
+def sync(*paths):
+    for path in paths:
+        handle = os.open(path, os.O_RDONLY)
+        try:
+            os.fsync(handle)
+        finally:
+            os.close(handle)
+
+
+def sync_folder(folder):
+    """Everything in a folder, and the folder."""
+    sync(*(os.path.join(folder, name) for name in os.listdir(folder)), folder)
+
+
+# ---- whole files
+
+
+def write_whole(path, text, mode=None):
+    """Writes a file aside and renames it into place. The rename is the only step that others see. A file that has the
+    text already stays, and its time with it."""
+    folder, name = os.path.split(path)
+    with contextlib.suppress(FileNotFoundError), open(path) as file:
+        if file.read() == text and mode in (None, os.fstat(file.fileno()).st_mode & 0o777):
+            return
+    if mode is None:
+        mode = os.stat(path).st_mode & 0o777 if os.path.exists(path) else 0o600
+    for left in os.listdir(folder):
+        if left.startswith(f".{name}.new-"):
+            os.unlink(os.path.join(folder, left))
+    handle, new = tempfile.mkstemp(prefix=f".{name}.new-", dir=folder)
+    try:
+        with open(handle, "w") as file, room_for(folder, len(text.encode()), path):
+            file.write(text)
+            file.flush()
+            os.fchmod(file.fileno(), mode)
+            os.fsync(file.fileno())
+        os.rename(new, path)
+    except BaseException:
+        with contextlib.suppress(FileNotFoundError):
+            os.unlink(new)
+        raise
+    sync(folder)
+
+
+def write_note(path, note):
+    write_whole(path, json.dumps(note, indent=1) + "\n", 0o600)
+
+
+def read_note(path):
+    with open(path) as file:
+        return json.load(file)
+
+
+# ---- folders
+
+
+def owner_of(name):
+    """The user of a store, or whoever runs this where the machine has no such user."""
+    with contextlib.suppress(KeyError):
+        user = pwd.getpwnam("pawnd-" + name)
+        return user.pw_uid, user.pw_gid
+    return os.geteuid(), os.getegid()
+
+
+def give_to(name, folder):
+    """The folder of a store and the store's files in it become its user's."""
+    if os.geteuid() == 0:
+        files = [os.path.join(folder, it) for it in os.listdir(folder) if it.startswith("books.db")]
+        for path in (*files, folder):
+            os.chown(path, *owner_of(name), follow_symlinks=False)
+    os.chmod(folder, 0o700)
+
+
+def take_back(folder):
+    """A folder that was a store's becomes root's."""
+    if os.geteuid() == 0:
+        for path in (folder, *(os.path.join(folder, it) for it in os.listdir(folder))):
+            os.chown(path, 0, 0, follow_symlinks=False)
+
+
+def is_moveable(name):
+    """Whether the folder of a store is an ordinary folder of STORES, and not a disk of its own."""
+    folder = os.path.join(STORES, name)
+    return not os.path.lexists(folder) or (
+        not os.path.islink(folder) and not os.path.ismount(folder) and os.stat(folder).st_dev == os.stat(STORES).st_dev
+    )
+
+
+def work_prefix(name):
+    """How the names of folders begin that hold what is being made for a store."""
+    return f".{name}-making-"
+
+
+def sweep(folder, prefix):
+    """Removes what an earlier command left behind when it was killed. The caller holds the lock of the store."""
+    for name in os.listdir(folder) if os.path.isdir(folder) else ():
+        if name.startswith(prefix):
+            shutil.rmtree(os.path.join(folder, name), ignore_errors=True)
+
+
+@contextlib.contextmanager
+def room_in(folder, prefix):
+    """A folder of root's for files that are being made, which is gone after the block if it still has its name."""
+    sweep(folder, prefix)
+    room = tempfile.mkdtemp(prefix=prefix, dir=folder)
+    try:
+        yield room
+    finally:
+        shutil.rmtree(room, ignore_errors=True)
+
+
+def exchange(first, second):
+    """Two folders of one disk exchange their names in one step."""
+    libc = ctypes.CDLL(None, use_errno=True)
+    words = AT_FDCWD, os.fsencode(first), AT_FDCWD, os.fsencode(second), RENAME_EXCHANGE
+    if libc.renameat2(*words):
+        number = ctypes.get_errno()
+        raise OSError(number, os.strerror(number), first)
+
+
+def time_name(folder, before=""):
+    """The time as the name of a new file or folder there, of the form that copies have."""
+    while True:
+        name = time.strftime("%Y%m%dT%H%M%SZ", time.gmtime())
+        if not os.path.lexists(os.path.join(folder, before + name)):
+            return name
+        time.sleep(0.1)

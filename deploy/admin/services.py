@@ -1,0 +1,127 @@
+"""The services of stores: starting, stopping, and asking them."""
+import contextlib
+import http.client
+import os
+import subprocess
+import time
+
+from files import LOG
+from locks import held, is_open
+from proxy import run
+from settings import SETTINGS, Stop, warn
+
+# Opening reads the whole file: half a minute for a million pledges.
+START_PATIENCE = 300
+PROBE = "/days/2024-01-01"
+PROBE_ANSWER = b'"code":709'
+
+
+def unit_of(name):
+    return f"pawnd@{name}.service"
+
+
+def stop(store):
+    """The service ends, and nothing starts it until `start`. A stop at any moment is safe."""
+    run("systemctl", "mask", "--runtime", unit_of(store.name), fails=f"the store {store.name} was not stopped")
+    run("systemctl", "stop", unit_of(store.name), fails=f"the store {store.name} was not stopped")
+    if os.path.exists(store.path) and is_open(store.path):
+        raise Stop(
+            f"{store.path} is still open in a program that is not {unit_of(store.name)}: `fuser {store.path}` names "
+            "it. End it, then run the command again"
+        )
+
+
+def start(store):
+    run("systemctl", "unmask", "--runtime", unit_of(store.name), fails=f"the store {store.name} was not started")
+    run("systemctl", "start", unit_of(store.name), fails=f"the store {store.name} was not started. Look at "
+        f"`journalctl -u {unit_of(store.name)}`, then `systemctl start {unit_of(store.name)}`")
+    end = time.monotonic() + START_PATIENCE
+    while not answers(store.address) and not (store.volume and is_open(store.path)):
+        if time.monotonic() > end:
+            raise Stop(
+                f"the store {store.name} does not answer on {store.address} after {START_PATIENCE} seconds: look at "
+                f"`journalctl -u {unit_of(store.name)}`"
+            )
+        time.sleep(0.05)
+
+
+@contextlib.contextmanager
+def stopped(store):
+    """The store is stopped within the block, and served again after it, however the block ends. Nobody else opens its
+    file meanwhile: another machine, where its folder is a replicated one, or an operator by hand."""
+    try:
+        stop(store)
+        with held(store.path):
+            yield
+    except BaseException:
+        warn(f"the store {store.name} is started again")
+        with contextlib.suppress(Stop):
+            start(store)
+        raise
+    start(store)
+
+
+def answers(address, patience=5):
+    """Whether the service there answers a request without a key as it does."""
+    with contextlib.suppress(OSError, http.client.HTTPException):
+        connection = http.client.HTTPConnection(address, timeout=patience)
+        with contextlib.closing(connection):
+            connection.request("GET", "/books/1" + PROBE, headers={"Connection": "close"})
+            return PROBE_ANSWER in connection.getresponse().read()
+    return False
+
+
+def await_start(store):
+    """A service listens when it has read its file. As long as it is being started it is waited for."""
+    end = time.monotonic() + START_PATIENCE
+    while not answers(store.address) and time.monotonic() < end:
+        if not store.is_here or not is_unit("is-active", unit_of(store.name)):
+            return
+        time.sleep(0.1)
+
+
+def ask(store, method, target, body=None, **fields):
+    """The body of a reply that says that the request was done."""
+    await_start(store)
+    connection = http.client.HTTPConnection(store.address, timeout=600)
+    heads = {name.replace("_", "-"): value for name, value in fields.items()}
+    try:
+        connection.request(method, target, body, {"Connection": "close", **heads})
+        reply = connection.getresponse()
+        said = reply.read()
+    except (OSError, http.client.HTTPException) as why:
+        raise Stop(
+            f"the store {store.name} at {store.address} does not answer ({why}). Look at `pawnd-admin status`, then "
+            "run the command again"
+        ) from None
+    finally:
+        connection.close()
+    if reply.status != 200:
+        raise Stop(f"the store {store.name} refuses: {said.decode(errors='replace').strip()}")
+    return said
+
+
+def has_port_rule(store):
+    """Whether nftables keeps the store's user to the store's port."""
+    ran = subprocess.run(
+        ["nft", "list", "table", "inet", f"pawnd-{store.name}"], stdin=subprocess.DEVNULL, capture_output=True,
+        text=True, timeout=30,
+    )
+    return f"tcp sport != {store.port} drop" in ran.stdout
+
+
+def operators_key():
+    with open(os.path.join(SETTINGS, "operator.key")) as file:
+        return file.read().strip()
+
+
+def log_bytes(path):
+    return os.path.getsize(path + LOG) if os.path.exists(path + LOG) else 0
+
+
+def is_unit(state, name):
+    """What `systemctl is-active` or `is-enabled` says of a unit."""
+    ran = subprocess.run(
+        ["systemctl", state, "--quiet", name], stdin=subprocess.DEVNULL, capture_output=True, timeout=30
+    )
+    return ran.returncode == 0

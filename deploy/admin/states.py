@@ -1,0 +1,242 @@
+"""How everything is: what a monitor and an operator look at. It copies nothing and waits for no lock."""
+import concurrent.futures
+import contextlib
+import functools
+import json
+import os
+import subprocess
+
+import copies
+import proxy
+import replicas
+import services
+from asking import PATIENCE, answers_through_proxy, state_of_proxy
+from faults import faults_of_books, faults_of_disks, leftovers, pending, removed_books_that_are_back
+from reading import contents_of
+from settings import MAIN, OFFSITE, SETTINGS, Stop, Store, say, store_names
+
+# What is WRONG: a copy so many hours old, on this machine and off it; so much of the limit of rows.
+OLD_COPY, OLD_OFFSITE, MANY_ROWS = 26, 50, 0.8
+
+
+# ---- one store
+
+
+def newest_copy(name, wrong):
+    past, future = copies.copies_of(name)
+    for it in future:
+        wrong.append(
+            f"{it.folder} is dated in the future, and is not counted as a copy: is the clock right? When it is, "
+            "rename that folder to a time that has passed, or remove it"
+        )
+    if not past:
+        wrong.append(f"has no copy: `pawnd-admin copy {name}`")
+        return None
+    hours = (copies.utc_now() - copies.time_of(past[-1].made)).total_seconds() / 3600
+    if hours > OLD_COPY:
+        wrong.append(f"has no copy of the last {OLD_COPY} hours: `journalctl -u pawnd-copy@{name}`")
+    return {"name": past[-1].name, "hours": round(hours, 1), "count": len(past), **past[-1].counts}
+
+
+@functools.cache
+def is_sent(name):
+    return services.is_unit("is-enabled", f"pawnd-offsite@{name}.timer")
+
+
+def newest_offsite(name, wrong, notes):
+    """The newest copy off this machine, by the file that the sending unit writes when it has ended well."""
+    path = os.path.join(OFFSITE, name)
+    if not os.path.exists(path):
+        if is_sent(name):
+            wrong.append(f"no copy was sent off this machine yet: `journalctl -u pawnd-offsite@{name}`")
+        elif any(map(is_sent, store_names())):
+            wrong.append(f"is not sent off this machine, as others are: `systemctl enable --now "
+                         f"pawnd-offsite@{name}.timer`, then `systemctl start pawnd-offsite@{name}`")
+        else:
+            notes.append("no copy goes off this machine: a fire takes the copies with the books")
+        return None
+    hours = (copies.utc_now().timestamp() - os.path.getmtime(path)) / 3600
+    if hours > OLD_OFFSITE:
+        wrong.append(f"no copy was sent off this machine for {hours:.0f} hours: `journalctl -u pawnd-offsite@{name}`")
+    if hours < -1:
+        wrong.append(f"{path} is dated in the future: is the clock right?")
+    with open(path) as file:
+        return {"name": file.read().strip(), "hours": round(hours, 1)}
+
+
+def state_of_units(store, wrong):
+    name = store.name
+    if services.is_unit("is-active", services.unit_of(name)) and not services.has_port_rule(store):
+        wrong.append(
+            "its rule in nftables is gone, so an intruder in it could take another store's port: `systemctl reload "
+            f"{services.unit_of(name)}`"
+        )
+    if store.volume:
+        wrong += replicas.faults(store)
+    elif not services.is_unit("is-enabled", services.unit_of(name)):
+        wrong.append(
+            f"its service is not enabled, or a command that stopped it did not end: run that command again, or "
+            f"`systemctl unmask --runtime {services.unit_of(name)}`, then `systemctl enable --now "
+            f"{services.unit_of(name)}`"
+        )
+    if not services.is_unit("is-active", f"pawnd-copy@{name}.timer"):
+        wrong.append(f"no copies are made of it: `systemctl enable --now pawnd-copy@{name}.timer`")
+
+
+def state_of_file(store, state, wrong):
+    """What the store holds, and what is wrong with that."""
+    if os.path.exists(store.path + copies.OLD):
+        wrong.append("a command that replaces its files did not end: run it again")
+        return {}
+    if not os.path.exists(store.path):
+        wrong.append(f"its file {store.path} is missing. Is its disk there? `pawnd-admin restore {store.name} newest`")
+        return {}
+    found = contents_of(store.path)
+    rows, limit = found.meta["rows"], found.meta["limit"]
+    counts = {"books": len(found.books), "pledges": sum(it["pledges"] for it in found.books.values()), "rows": rows}
+    state.update(counts, limit=limit, bytes=os.path.getsize(store.path), log_bytes=services.log_bytes(store.path))
+    if rows > MANY_ROWS * limit:
+        wrong.append(f"has {rows:,} of {limit:,} rows, and refuses new ones at the limit: give it fewer books by "
+                     "`pawnd-admin split`")
+    copy = state.get("copy")
+    # What a command took out on purpose is kept until there is a copy without it.
+    by_command = copy and any(it.was_in_force and it.time > copy["name"] for it in copies.kept_of(store.name))
+    if copy and not by_command and any(counts[it] < copy[it] for it in counts):
+        wrong.append(
+            f"holds less than its newest copy, {copy['name']}: a log may have been lost. Before it is used any "
+            f"further, compare them, and put the copy back: `pawnd-admin restore {store.name} {copy['name']}`"
+        )
+    return found.books
+
+
+@contextlib.contextmanager
+def told(wrong, what=""):
+    """What goes wrong within the block is one complaint among the others."""
+    try:
+        yield
+    except (Stop, OSError, ValueError, KeyError, TypeError, AttributeError, subprocess.SubprocessError) as why:
+        wrong.append(f"{what}{why}" if isinstance(why, Stop) else f"{what}{type(why).__name__}: {why}")
+
+
+def through_proxy(name, lines, state, wrong):
+    book = next((it for it, place in sorted(lines.items()) if place == name), None)
+    if name == MAIN:
+        book = next(it for it in range(1, 10**9) if it not in lines)
+    state["answers_through_proxy"] = None
+    if book:
+        why = answers_through_proxy(book)
+        state["answers_through_proxy"] = why is None
+        if why:
+            wrong.append(f"does not answer through the proxy: {why}")
+
+
+def how_it_answers(store, lines, state, wrong, notes):
+    """Whether the store answers, directly and through the proxy."""
+    if replicas.is_elsewhere(store):
+        state["elsewhere"] = True
+        notes.append("is served by another machine, which has its folder too")
+        return
+    with told(wrong):
+        through_proxy(store.name, lines, state, wrong)
+    if not store.is_here:
+        return
+    state["answers"] = services.answers(store.address, PATIENCE)
+    if not state["answers"]:
+        wrong.append(
+            f"does not answer on {store.address}: `systemctl status {services.unit_of(store.name)}` and `journalctl -u "
+            f"{services.unit_of(store.name)}` say why"
+        )
+
+
+def state_of(name, lines):
+    """One store, whatever is wrong with the others: its state, what is wrong, what is worth knowing, its books."""
+    state, wrong, notes, books = {"store": name}, [], [], None
+    with told(wrong):
+        store = Store(name)
+        state["address"], state["here"] = store.address, store.is_here
+        with told(wrong):
+            how_it_answers(store, lines, state, wrong, notes)
+        if not store.is_here:
+            notes.append(f"is on another machine, at {store.address}: `pawnd-admin status` there says how it is")
+            if is_sent(name):
+                wrong.append("is on another machine, and this one still sends its old copies as the newest: `systemctl "
+                             f"disable --now pawnd-offsite@{name}.timer`")
+            return state, [f"store {name}: {it}" for it in wrong], [f"store {name}: {it}" for it in notes], None
+        with told(wrong):
+            state_of_units(store, wrong)
+        with told(wrong):
+            state["copy"] = newest_copy(name, wrong)
+        with told(wrong):
+            state["offsite"] = newest_offsite(name, wrong, notes)
+        books = state_of_file(store, state, wrong)
+    return state, [f"store {name}: {it}" for it in wrong], [f"store {name}: {it}" for it in notes], books
+
+
+# ---- all of it
+
+
+def look():
+    wrong, notes, lines, proxy_state = [], [], {}, {"runs": None, "certificate_days": None}
+    with told(wrong):
+        lines = proxy.book_lines()
+    with concurrent.futures.ThreadPoolExecutor(16) as pool:
+        of_proxy = pool.submit(state_of_proxy)
+        looked = list(pool.map(lambda name: state_of(name, lines), store_names()))
+        with told(wrong, "the proxy: "):
+            proxy_state, more_wrong, more_notes = of_proxy.result()
+            wrong += more_wrong
+            notes += more_notes
+    for _, more_wrong, more_notes, _ in looked:
+        wrong += more_wrong
+        notes += more_notes
+    found, disks = {state["store"]: books for state, _, _, books in looked}, {}
+    with told(wrong):
+        more_wrong, more_notes = faults_of_books(lines, found)
+        wrong += more_wrong
+        notes += more_notes
+    with told(wrong):
+        wrong += pending()
+    with told(wrong):
+        notes += [*leftovers(), *removed_books_that_are_back(found)]
+    with told(wrong):
+        disks, more_wrong = faults_of_disks()
+        wrong += more_wrong
+    if not store_names():
+        wrong.append(f"there is no store in {SETTINGS}/stores")
+    return {
+        "stores": [state for state, *_ in looked], "lines": len(lines), "exchanged_keys": len(proxy.exchanges()),
+        "proxy": proxy_state, "disks": disks, "notes": notes, "wrong": wrong,
+    }
+
+
+def in_text(told):
+    for it in told["stores"]:
+        copy, offsite = it.get("copy"), it.get("offsite")
+        parts = [f"{it['store']} at {it.get('address', '?')}"]
+        if it.get("elsewhere"):
+            parts.append("served by another machine")
+        elif it.get("here"):
+            parts.append("answers" if it.get("answers") else "DOES NOT ANSWER")
+            parts.append("and through the proxy" if it.get("answers_through_proxy") else "not asked through the proxy"
+                         if it.get("answers_through_proxy") is None else "NOT THROUGH THE PROXY")
+        if "rows" in it:
+            parts.append(f"{it['books']:,} books, {it['pledges']:,} pledges, {it['rows']:,} of {it['limit']:,} rows, "
+                         f"{it['bytes']:,} bytes and {it['log_bytes']:,} of log")
+        if it.get("here"):
+            parts.append(f"newest copy {copy['name']} ({copy['hours']} hours)" if copy else "no copy")
+            parts.append(f"newest off this machine {offsite['hours']} hours" if offsite else "none off this machine")
+        yield "; ".join(parts)
+    yield (f"proxy: {'runs' if told['proxy']['runs'] else 'DOES NOT RUN'}; certificate: "
+           f"{told['proxy']['certificate_days']} days; {told['lines']} books with a line; {told['exchanged_keys']} "
+           "exchanged keys")
+    for folder, disk in told["disks"].items():
+        yield f"{folder}: {disk['free']:,} of {disk['bytes']:,} bytes free"
+    yield from (f"note: {line}" for line in told["notes"])
+    yield from (f"WRONG: {line}" for line in told["wrong"])
+
+
+def status(as_json=False):
+    """The verb `status`: it ends with 1 if something keeps a broker from working."""
+    told = look()
+    say(json.dumps(told, indent=1) if as_json else "\n".join(in_text(told)))
+    return 1 if told["wrong"] else 0
