@@ -1,36 +1,59 @@
-/** How old the book in the page is, the bar while it is read, and the button that reads it anew. */
-import { byId } from "/shared/dom.js";
-import { tellFault } from "/shared/faults.js";
-import { ledger, ledgerState, onLedger, readLedger } from "./ledger.js";
+/** How old the book in the page is, how much of it has come while it is read, and the button that reads it anew. */
+import { byId } from "../shared/dom.js";
+import { tellFault } from "../shared/faults.js";
+import { ledger } from "./ledger.js";
 
 const MINUTE = 60_000;
 
+export const clockOf = (time) => new Date(time).toLocaleTimeString("en-GB", { hour: "2-digit", minute: "2-digit" });
+
 function ageInWords(readAt) {
   const minutes = Math.floor((Date.now() - readAt) / MINUTE);
-  const clock = new Date(readAt).toLocaleTimeString("en-GB", { hour: "2-digit", minute: "2-digit" });
+  const clock = clockOf(readAt);
   if (minutes === 0) return `The book was read less than a minute ago, at ${clock}.`;
   return `The book was read ${minutes === 1 ? "a minute" : `${minutes} minutes`} ago, at ${clock}.`;
 }
 
-/** Says how old the book is, and why a newer one is missing. */
-export function showAge() {
-  const { readAt, fault, reading } = ledgerState();
-  byId("book-bar").hidden = !reading;
-  byId("read-book").disabled = reading;
-  const age = ledger() ? ageInWords(readAt) : "The book was not read yet.";
-  byId("book-age").textContent = reading
-    ? "The book is being read."
-    : fault
-    ? `${age} It could not be read anew: ${tellFault(fault, "broker")}`
-    : age;
-  byId("book-age").classList.toggle("stale", fault !== null && !reading);
+const megabytes = (bytes) => (bytes / 1e6).toFixed(1);
+
+/** How much of the book has come: "1.2 of 3.3 MB". */
+function progressInWords() {
+  const { progress } = ledger;
+  return progress?.whole > 0 ? `${megabytes(progress.count)} of ${megabytes(progress.whole)} MB` : "it is asked for";
 }
 
-export function setUpAge() {
-  onLedger(({ sort, part }) => {
-    if (sort === "progress") byId("book-bar").value = part;
-    else showAge();
-    if (sort === "reading") byId("book-bar").value = 0;
-  });
-  byId("read-book").addEventListener("click", () => readLedger().catch(() => {}));
+/** That a reading of the book is waited for, and how far it is. */
+export const waitingInWords = () => `The book is being read: ${progressInWords()}.`;
+
+/** Why a list of the book is not there: how far the reading is, or why there is none. */
+export function missingInWords() {
+  if (ledger.reading) return `${waitingInWords()} What stands here is told then.`;
+  return ledger.fault
+    ? `The book could not be read: ${tellFault(ledger.fault, "broker")}`
+    : "What stands here is told once the book is read.";
+}
+
+function ageLine() {
+  const { book, readAt, fault, reading } = ledger;
+  if (reading) {
+    return book ? `${waitingInWords()} Until then it is that of ${clockOf(readAt)}.` : waitingInWords();
+  }
+  const none = "The book was not read yet. Pledges are found by number or receipt, and taken.";
+  const age = book ? ageInWords(readAt) : none;
+  return fault ? `${age} It could not be read anew: ${tellFault(fault, "broker")}` : age;
+}
+
+/** Says how old the book is, and why a newer one is missing. */
+export function showAge() {
+  const { fault, reading, progress } = ledger;
+  byId("book-bar").hidden = reading === null;
+  byId("book-bar").value = progress?.whole > 0 ? progress.count / progress.whole : 0;
+  byId("read-book").disabled = reading !== null;
+  byId("book-age").textContent = ageLine();
+  byId("book-age").classList.toggle("stale", fault !== null && reading === null);
+}
+
+export function setUpAge(readAnew) {
+  ledger.listen(showAge);
+  byId("read-book").addEventListener("click", readAnew);
 }

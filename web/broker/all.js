@@ -1,19 +1,16 @@
 /** All pledges: found by number, reference, a part of the article or a receipt; narrowed to a group; in an order. */
-import { byId, foreign, make } from "/shared/dom.js";
-import { inShort, today } from "/shared/days.js";
-import { makeNotice, run } from "/shared/forms.js";
-import { inPounds } from "/shared/money.js";
-import { statusOn } from "/shared/period.js";
-import { isReceiptLike } from "/shared/receipts.js";
+import { inShort, today } from "../shared/days.js";
+import { byId, foreign, make } from "../shared/dom.js";
+import { makeNotice, run } from "../shared/forms.js";
+import { inPounds } from "../shared/money.js";
+import { statusOn } from "../shared/period.js";
+import { isReceiptLike } from "../shared/receipts.js";
+import { STATUSES } from "../shared/statuses.js";
+import { missingInWords } from "./age.js";
 import { found, GROUPS, ORDERS } from "./groups.js";
 import { ledger } from "./ledger.js";
 import { openReceipt } from "./pledge.js";
 import { Rows } from "./rows.js";
-
-const STATES = {
-  inside: "in its period", grace: "in grace", realisable: "can be sold", passed: "passed", redeemed: "redeemed",
-  sold: "sold",
-};
 
 const form = () => byId("searching");
 
@@ -29,18 +26,33 @@ function drawRow(pledge) {
       make("span", { className: "reference" }, foreign(reference)),
     ),
     make("span", { className: "row-sum" }, inPounds(pence)),
-    make("span", { className: "row-state" }, STATES[statusOn(pledge, today())],
+    make("span", { className: "row-state" }, STATUSES[statusOn(pledge, today())].name,
       make("span", { className: "reference" }, when)));
+}
+
+const inThousands = (count) => count.toLocaleString("en-GB");
+
+/** What is out on loan on these pledges, and the charges on it, as the end of a line. */
+function lentOn(pledges) {
+  const owed = pledges.map((pledge) => ledger.owed(pledge)).filter(Boolean);
+  if (owed.length === 0) return ". Nothing is out on loan on them.";
+  const lent = owed.reduce((total, { principal }) => total + principal, 0);
+  const charges = owed.reduce((total, one) => total + one.charges, 0);
+  const which = owed.length === 1 ? "1 open one" : `${inThousands(owed.length)} open ones`;
+  return `. Out on loan on ${which}: ${inPounds(lent)}, with ${inPounds(charges)} of charges today.`;
 }
 
 /** Finds and shows what the form says. */
 function search(stay = false) {
-  const book = ledger();
-  if (book === null) return;
+  const { book } = ledger;
+  if (book === null) {
+    byId("search-count").textContent = missingInWords();
+    return;
+  }
   const { text, group, order } = Object.fromEntries(new FormData(form()));
   const pledges = found(book, { text, group, order }, today());
   byId("search-count").textContent =
-    `${pledges.length.toLocaleString("en-GB")} of ${book.pledges.length.toLocaleString("en-GB")} pledges`;
+    `${inThousands(pledges.length)} of ${inThousands(book.pledges.length)} pledges${lentOn(pledges)}`;
   rows.show(pledges, stay);
 }
 

@@ -2,23 +2,25 @@
  * The broker's page: opening the book, and going from part to part. The address names the part, the pledge and the day,
  * and no secret.
  */
-import { byId } from "/shared/dom.js";
-import { inShort, today } from "/shared/days.js";
-import { onSend, tell } from "/shared/forms.js";
-import { setUpAge, showAge } from "./age.js";
+import { onClock } from "../shared/clock.js";
+import { inShort, today } from "../shared/days.js";
+import { byId } from "../shared/dom.js";
+import { explainWaiting, onSend, tell } from "../shared/forms.js";
+import { startPage } from "../shared/start.js";
+import { clockOf, setUpAge, showAge, waitingInWords } from "./age.js";
 import { setUpAll, showAll } from "./all.js";
-import { showDue } from "./due.js";
+import { setUpDue, showDue } from "./due.js";
 import { setUpFiles } from "./files.js";
 import { clearChoices, setUpFinding } from "./find.js";
-import { forgetLedger, ledgerState, onLedger, readIfOld, readLedger } from "./ledger.js";
+import { ledger } from "./ledger.js";
 import { clearPledge, redrawPledge, showPledge } from "./pledge.js";
 import { setUpScanner } from "./scanner.js";
 import { askBook, begin, current, end, keepSession } from "./session.js";
 import { keepShop, setUpShop, shop, showShop } from "./shop.js";
 import { clearTaking, setUpTaking, showTaking } from "./take.js";
 import { setUpTerms, showTerms } from "./terms.js";
-import { setUpTill, showTill } from "./till.js";
-import { clearToday, redrawToday, setUpToday, showToday } from "./today.js";
+import { redrawTill, setUpTill, showTill } from "./till.js";
+import { clearToday, redrawToday, refreshToday, setUpToday, showToday } from "./today.js";
 
 /** What each part does when it is gone to. What follows an equals sign in the address is handed to it. */
 const PARTS = {
@@ -27,11 +29,19 @@ const PARTS = {
 };
 /** What each part draws anew when the book was read or mended. */
 const FROM_BOOK = {
-  today: redrawToday, take: showTaking, pledge: redrawPledge, all: showAll, due: showDue, till: showTill,
+  today: redrawToday, take: showTaking, pledge: redrawPledge, all: showAll, due: showDue, till: redrawTill,
 };
+/** These parts have nothing but what the book tells. */
+const LISTS = ["all", "due", "till"];
+/** Lists of these parts are emptied when another part is gone to. */
+const EMPTIED = ["due", "till"];
 const TICK = 20_000;
+/** The sheets are looked at as often as this, in milliseconds, while they are shown. */
+const REFRESH = 60_000;
 
 let day = today();
+let refreshed = 0;
+let isOpening = false;
 
 function place() {
   const [name, detail] = location.hash.replace("#", "").split("=");
@@ -42,14 +52,17 @@ function showWhose() {
   const { name, till } = shop();
   const whose = [`Book ${current().book}`, name, till].filter(Boolean).join(", ");
   byId("whose-book").textContent = whose;
-  byId("paper-head").textContent = `${whose}. Printed on ${inShort(today())}.`;
+  byId("paper-head").textContent = `${whose}. Printed on ${inShort(today())} at ${clockOf(Date.now())}.`;
 }
 
 /** The page's title, which names the pledge where one is shown, and the part that is marked among all. */
 function mark({ name, detail }) {
-  for (const link of byId("places").children) {
-    if (link.hash === `#${name}`) link.setAttribute("aria-current", "page");
-    else link.removeAttribute("aria-current");
+  const places = byId("places");
+  for (const link of places.children) {
+    if (link.hash === `#${name}`) {
+      link.setAttribute("aria-current", "page");
+      places.scrollLeft = link.offsetLeft - (places.clientWidth - link.offsetWidth) / 2;
+    } else link.removeAttribute("aria-current");
   }
   const heading = byId(name).querySelector("h1");
   heading.tabIndex = -1;
@@ -72,63 +85,95 @@ async function showPart({ focus }) {
   const heading = mark({ name, detail });
   if (focus) heading.focus();
   if (name !== "pledge") clearChoices();
-  for (const part of ["due", "till"]) if (part !== name) byId(`${part}-lists`).replaceChildren();
+  for (const part of EMPTIED) if (part !== name) byId(`${part}-lists`).replaceChildren();
+  refreshed = Date.now();
   await PARTS[name](detail);
   if (place().name === name && current() !== null) mark(place());
 }
 
 /** Opens the book: the key is tried by today's sheet, and the whole book is read after it. */
-onSend(byId("open"), "broker", async (fields) => {
-  begin(fields);
+async function openBook(fields) {
+  isOpening = true;
   try {
+    begin(fields);
     await askBook("GET", `/days/${today()}`);
   } catch (fault) {
     end();
     throw fault;
+  } finally {
+    isOpening = false;
   }
+  day = today();
   keepSession();
   if (fields.shop.trim()) keepShop({ name: fields.shop });
   byId("open").reset();
-  await showPart({ focus: true });
-  readLedger().catch(() => {});
+  const shown = showPart({ focus: true });
+  ledger.read().catch(() => {});
+  await shown;
   return "";
-});
+}
 
-byId("close-book").addEventListener("click", () => {
+function closeBook() {
   end();
-  forgetLedger();
+  ledger.forget();
   clearPledge();
   clearTaking();
   clearToday();
   for (const list of ["due-lists", "terms-list", "till-lists", "choices"]) byId(list).replaceChildren();
-  for (const notice of document.querySelectorAll(".notice")) tell(notice, "");
+  for (const notice of document.querySelectorAll(".notice")) if (notice.id !== "clock-line") tell(notice, "");
   byId("searching").reset();
   history.replaceState(null, "", location.pathname);
   showPart({ focus: false });
-});
-
-/** A tab that was left open notices the new day, and an old book is read anew. */
-function tick() {
-  if (current() === null || document.hidden) return;
-  readIfOld();
-  showAge();
-  if (day === today()) return;
-  day = today();
-  showPart({ focus: false });
 }
 
-onLedger(({ sort }) => {
-  if (current() === null || sort === "progress") return;
-  const { name, detail } = place();
-  if (["read", "mended"].includes(sort) && !ledgerState().reading) FROM_BOOK[name]?.(detail);
-});
+/** Goes to a part by its tab. The tab of the part that is shown already has it shown anew. */
+function goByTab({ target }) {
+  if (target.hash && target.hash === location.hash) showPart({ focus: true });
+}
 
-[
-  setUpAge, setUpToday, setUpTaking, setUpFinding, setUpAll, setUpTill, setUpTerms, setUpFiles,
-  setUpScanner,
-].forEach((setUp) => setUp());
-setUpShop(showWhose);
-addEventListener("hashchange", () => showPart({ focus: true }));
-document.addEventListener("visibilitychange", tick);
-setInterval(tick, TICK);
-showPart({ focus: false }).then(() => current() && readLedger().catch(() => {}));
+/** A tab that was left open notices the new day and new requests, and an old book is read anew. */
+function tick() {
+  if (current() === null || isOpening || document.hidden) return;
+  ledger.readIfOld();
+  showAge();
+  if (day !== today()) {
+    day = today();
+    showPart({ focus: false });
+  } else if (place().name === "today" && Date.now() - refreshed >= REFRESH) {
+    refreshed = Date.now();
+    refreshToday();
+  }
+}
+
+/** A part draws anew what the book tells, or how far its first reading is. */
+function drawFromBook({ sort }) {
+  if (current() === null) return;
+  const { name, detail } = place();
+  if (ledger.book === null) {
+    if (LISTS.includes(name)) FROM_BOOK[name](detail);
+    return;
+  }
+  if (!["read", "mended"].includes(sort) || ledger.reading) return;
+  FROM_BOOK[name]?.(detail);
+  if (name === "today" && sort === "read") refreshToday();
+}
+
+startPage(() => {
+  setUpAge(() => ledger.read().catch(() => {}));
+  [setUpToday, setUpTaking, setUpFinding, setUpAll, setUpDue, setUpTill, setUpTerms, setUpFiles, setUpScanner].forEach(
+    (setUp) => setUp()
+  );
+  setUpShop(showWhose);
+  explainWaiting(() => (ledger.isAwaited ? waitingInWords() : null));
+  ledger.listen(drawFromBook);
+  onSend(byId("open"), "broker", openBook);
+  byId("close-book").addEventListener("click", closeBook);
+  byId("places").addEventListener("click", goByTab);
+  addEventListener("hashchange", () => showPart({ focus: true }));
+  addEventListener("beforeprint", () => { if (current() !== null) showWhose(); });
+  document.addEventListener("visibilitychange", tick);
+  onClock(() => { if (day !== today()) tick(); });
+  setInterval(tick, TICK);
+  showPart({ focus: false });
+  if (current() !== null) ledger.read().catch(() => {});
+});

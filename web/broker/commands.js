@@ -2,20 +2,26 @@
  * The commands on a pledge, each with its form. What would be refused now stands apart, with the reason; the service
  * decides.
  */
-import { make } from "/shared/dom.js";
-import { inShort, inWords } from "/shared/days.js";
-import { buttons, field, fold } from "/shared/forms.js";
-import { readPounds } from "/shared/money.js";
-import { recordEntry } from "/shared/payments.js";
-import { bookingInWords } from "/shared/summary.js";
-import { Unreadable } from "/shared/unreadable.js";
-import { windowInWords } from "/shared/windows.js";
+import { inWords } from "../shared/days.js";
+import { make } from "../shared/dom.js";
+import { lookFirst } from "../shared/faults.js";
+import { buttons, field, fold } from "../shared/forms.js";
+import { readPounds } from "../shared/money.js";
+import { recordEntry } from "../shared/payments.js";
+import { isOpen, isToCome } from "../shared/statuses.js";
+import { bookingInWords } from "../shared/summary.js";
+import { windowInWords } from "../shared/windows.js";
+import { extension } from "./extending.js";
 import { redemption } from "./redeem.js";
+import { renewal } from "./renewing.js";
 import { printing, replacement } from "./replacing.js";
 import { sale } from "./sale.js";
+import { askFrom } from "./shop.js";
+import { slipsFold } from "./slips.js";
+import { tagging } from "./tag.js";
 
 /** One command: its name, why not now or null, the parts of its form, and what it does with the form's fields. */
-function foldOf({ title, barred, parts, act }, desk) {
+function commandFold({ title, barred, parts, act }, desk) {
   const form = make("form", { autocomplete: "off" }, barred && make("p", { className: "barred" }, barred), ...parts);
   return fold(title, form, (fields, place) => desk.perform(() => act(fields), place));
 }
@@ -25,7 +31,8 @@ const button = (text, value = "", className = "") => make("button", { value, cla
 const amountField = (label) => field(label, make("input", { name: "amount", inputMode: "decimal", required: true }));
 
 const entry = (shown, desk, sort, amount) => recordEntry({
-  shown, sort, pence: readPounds(amount), read: desk.read, send: (body) => desk.command(sort, body, true),
+  shown, sort, pence: readPounds(amount), askFrom: askFrom(), read: () => desk.read(),
+  send: (body) => desk.command(sort, body, true),
 });
 
 const repayment = (statement, desk) => ({
@@ -57,7 +64,7 @@ const isSameVisit = (one, other) =>
 
 /** Decides on the visit that is shown, if it is still the one that stands; and tells the one that was decided on. */
 async function decide(shown, yes, desk) {
-  const { booking } = await desk.read();
+  const { booking } = await lookFirst(desk.read());
   if (!isSameVisit(shown, booking)) {
     const now = booking ? ` Now it stands so: ${bookingInWords(booking)}.` : "";
     return {
@@ -76,10 +83,9 @@ async function decide(shown, yes, desk) {
 }
 
 function visit({ booking }, desk) {
-  const waits = booking && ["asked", "confirmed"].includes(booking.state);
   return {
     title: "Visit",
-    barred: waits ? null : "No visit of this pledge waits for an answer.",
+    barred: isToCome(booking) ? null : "No visit of this pledge waits for an answer.",
     parts: [
       lead(booking ? `${bookingInWords(booking)}.` : "The pawnor asks for a day and a time."),
       buttons(button("Confirm", "yes"), button("Refuse", "no", "plain")),
@@ -87,19 +93,6 @@ function visit({ booking }, desk) {
     act: ({ button: value }) => decide(booking, value === "yes", desk),
   };
 }
-
-const extension = ({ status, ends }, desk) => ({
-  title: "Extend the period",
-  barred: status === "inside" ? null : "The period is over.",
-  parts: [lead(`You and the pawnor agree on a later end than ${inWords(ends)}. It can’t be made earlier again.`),
-    field("New end", make("input", { type: "date", name: "until", min: ends, required: true })),
-    buttons(button("Extend"))],
-  act: async ({ until }) => {
-    if (until <= ends) throw new Unreadable(`The new end is to be after ${inShort(ends)}.`, "until");
-    const { said } = await desk.command("extend", { until }, true);
-    return `The period ends on ${inWords(said.ends)}.`;
-  },
-});
 
 const hold = ({ held }, desk) => ({
   title: held ? "Release the hold" : "Put on hold",
@@ -115,20 +108,24 @@ const hold = ({ held }, desk) => ({
   },
 });
 
+const ALL = [
+  visit, repayment, drawing, redemption, renewal, extension, hold, printing, tagging, replacement, sale,
+];
+
 /**
  * The folds of all commands: those for now first. Of a pledge that is over only the receipt can be printed, if it has
  * one.
  */
 export function commandsOf(statement, desk) {
-  const open = ["inside", "grace", "realisable"].includes(statement.status);
   const over = make("p", { className: "empty" }, "This pledge is over: nothing more is done on it.");
-  if (!open) return statement.status === "redeemed" ? [over] : [over, foldOf(printing(statement, desk), desk)];
-  const all = [
-    visit, repayment, drawing, redemption, extension, hold, printing, replacement, sale,
-  ].map((of) => of(statement, desk));
-  const now = all.filter(({ barred }) => !barred).map((one) => foldOf(one, desk));
-  const later = all.filter(({ barred }) => barred).map((one) => foldOf(one, desk));
+  if (!isOpen(statement.status)) {
+    return statement.status === "redeemed" ? [over] : [over, commandFold(printing(statement, desk), desk)];
+  }
+  const all = ALL.map((of) => of(statement, desk));
+  const now = all.filter(({ barred }) => !barred).map((one) => commandFold(one, desk));
+  const later = all.filter(({ barred }) => barred).map((one) => commandFold(one, desk));
   return [
-    make("h2", {}, "What you can do now"), ...now, ...(later.length > 0 ? [make("h3", {}, "Not now"), ...later] : [])
+    make("h2", {}, "What you can do now"), ...now, slipsFold(statement),
+    ...(later.length > 0 ? [make("h3", {}, "Not now"), ...later] : [])
   ];
 }

@@ -1,9 +1,11 @@
-/** What is due: in grace, ending soon, to be sold, and passed, from the book in the page. */
-import { byId, make } from "/shared/dom.js";
-import { inShort, seenFrom, today } from "/shared/days.js";
-import { inPounds } from "/shared/money.js";
-import { firstDayAfter, willPass } from "/shared/period.js";
-import { dueOf } from "./groups.js";
+/** What is due: in grace, ending soon, to be sold, and passed, from the book in the page; by day, or to be pulled. */
+import { inShort, seenFrom, today } from "../shared/days.js";
+import { byId, foreign, make } from "../shared/dom.js";
+import { inPounds } from "../shared/money.js";
+import { firstDayAfter, willPass } from "../shared/period.js";
+import { missingInWords } from "./age.js";
+import { dueOf, placeOf } from "./groups.js";
+import { keep, kept } from "./kept.js";
 import { ledger } from "./ledger.js";
 import { articleCell, numberCell, section } from "./tables.js";
 
@@ -11,6 +13,7 @@ import { articleCell, numberCell, section } from "./tables.js";
 const turn = (pledge) => `${willPass(pledge) ? "passes" : "can be sold"} on ${inShort(firstDayAfter(pledge))}`;
 
 const ended = ({ ends }, now) => `${inShort(ends)}, ${seenFrom(now, ends)}`;
+const since = (pledge) => inShort(firstDayAfter(pledge));
 
 /** Each group: its title, what is said where it is empty, and the day that counts for it. */
 const SECTIONS = {
@@ -28,34 +31,78 @@ const SECTIONS = {
     title: "Ends within 30 days, after those", empty: "No period ends on the days after those.", head: "Period’s end",
     day: ended, more: turn,
   },
-  sale: {
-    title: "Can be sold now", empty: "Nothing can be sold today.", head: "Since",
-    day: (pledge) => inShort(firstDayAfter(pledge)),
-  },
-  passed: {
-    title: "Passed to you", empty: "No article has passed to you.", head: "Since",
-    day: (pledge) => inShort(firstDayAfter(pledge)),
-  },
+  sale: { title: "Can be sold now", empty: "Nothing can be sold today.", head: "Since", day: since },
+  passed: { title: "Passed to you", empty: "No article has passed to you.", head: "Since", day: since, isTicked: true },
 };
 
-function rowOf(pledge, { day, more }, now) {
+/** The numbers of the passed pledges that this shop has dealt with. This machine alone keeps them. */
+const dealtWith = () => new Set(kept("dealt", []));
+
+function tick(number, isDone) {
+  const numbers = dealtWith();
+  if (isDone) numbers.add(number);
+  else numbers.delete(number);
+  keep("dealt", [...numbers]);
+}
+
+/** A box that ticks off a passed pledge. */
+function tickBox({ number }, isDone) {
+  const box = make("input", { type: "checkbox", checked: isDone });
+  box.addEventListener("change", () => { tick(number, box.checked); showDue(); });
+  return make("label", { className: "choice tick screen" }, box, make("span", {}, "Dealt with"));
+}
+
+/** What is owed today; of a passed pledge, on which nothing is owed, what was lent. */
+const sumOf = (pledge) => ledger.owed(pledge)?.owing ?? pledge.pence;
+
+function rowOf(pledge, { day, more, isTicked }, now) {
   const under = more ? make("span", { className: "reference" }, more(pledge)) : null;
   return make("tr", {}, numberCell(pledge), articleCell(pledge),
-    make("td", { className: "number" }, inPounds(pledge.pence)),
-    make("td", { className: "when" }, day(pledge, now), under));
+    make("td", { className: "number" }, inPounds(sumOf(pledge))),
+    make("td", { className: "when" }, day(pledge, now), under, isTicked ? tickBox(pledge, false) : null));
+}
+
+function sectionOf(told, pledges, now) {
+  const total = pledges.reduce((sum, pledge) => sum + sumOf(pledge), 0);
+  return section({
+    title: told.title, empty: told.empty, items: pledges,
+    count: pledges.length === 0 ? "0" : `${pledges.length}: ${inPounds(total)}`,
+    heads: [["No."], ["Article and reference"], [told.isTicked ? "Credit" : "Owed", "number"], [told.head]],
+    row: (pledge) => rowOf(pledge, told, now),
+  });
+}
+
+/** The passed pledges that were ticked off, in a fold from which they can be taken back. */
+function dealtFold(pledges) {
+  const lines = pledges.map((pledge) => make("li", {}, numberCell(pledge).firstChild, " ", foreign(pledge.article), " ",
+    tickBox(pledge, true)));
+  return make("details", { className: "action screen" },
+    make("summary", {}, `Passed and dealt with: ${pledges.length}`), make("ul", { className: "lines told" }, ...lines));
+}
+
+/** By the day that counts, or by reference, as bags are pulled from their shelves. */
+function inOrder(pledges) {
+  if (byId("due-order").elements.order.value !== "reference") return pledges;
+  const key = (pledge) => placeOf(pledge);
+  return [...pledges].sort((one, other) => (key(one) < key(other) ? -1 : key(one) > key(other) ? 1 : 0));
 }
 
 export function showDue() {
-  const book = ledger();
-  if (book === null) return;
+  if (ledger.book === null) {
+    byId("due-lead").textContent = missingInWords();
+    return;
+  }
   const now = today();
-  const lists = dueOf(book, now);
-  byId("due-lead").textContent =
-    `On ${inShort(now)}. Sums are what was lent, or the account’s limit: `
-      + `what is owed stands in each pledge’s statement.`;
-  byId("due-lists").replaceChildren(...Object.entries(SECTIONS).map(([name, told]) => section({
-    title: told.title, empty: told.empty, items: lists[name],
-    heads: [["No."], ["Article and reference"], ["Sum", "number"], [told.head]],
-    row: (pledge) => rowOf(pledge, told, now),
-  })));
+  const lists = dueOf(ledger.book, now);
+  const done = dealtWith();
+  const dealt = lists.passed.filter(({ number }) => done.has(number));
+  lists.passed = lists.passed.filter(({ number }) => !done.has(number));
+  byId("due-lead").textContent = `On ${inShort(now)}. Sums are what is owed today, with charges, by the book as it was `
+    + "read; of what has passed to you, the credit.";
+  byId("due-lists").replaceChildren(
+    ...Object.entries(SECTIONS).map(([name, told]) => sectionOf(told, inOrder(lists[name]), now)),
+    ...(dealt.length > 0 ? [dealtFold(dealt)] : []),
+  );
 }
+
+export const setUpDue = () => byId("due-order").addEventListener("change", showDue);

@@ -1,41 +1,24 @@
-/** Finding a pledge by its number, the broker's reference, or a receipt or link that is scanned or typed. */
-import { byId, foreign, make } from "/shared/dom.js";
-import { Refused } from "/shared/faults.js";
-import { onSend } from "/shared/forms.js";
-import { isReceiptLike } from "/shared/receipts.js";
-import { Unreadable } from "/shared/unreadable.js";
-import { pledgeOf, readLedger, theLedger, withReference } from "./ledger.js";
-import { goTo, openReceipt } from "./pledge.js";
-import { askBook } from "./session.js";
+/**
+ * Finding a pledge by its number, the broker's reference, or a receipt or link that is scanned or typed. The service
+ * alone knows numbers and receipts, so they wait for no book; a reference is looked for in the book.
+ */
+import { byId, foreign, make } from "../shared/dom.js";
+import { onSend } from "../shared/forms.js";
+import { isReceiptLike } from "../shared/receipts.js";
+import { Unreadable } from "../shared/unreadable.js";
+import { ledger } from "./ledger.js";
+import { goTo, hidePledge, openReceipt } from "./pledge.js";
+import { statementOf } from "./reading.js";
 
-const NO_SUCH_PLEDGE = 403;
 const NUMBER = /^[1-9]\d{0,8}$/;
 /** At most so many pledges are offered. */
 const MOST = 20;
 
-/** Whether the book has a pledge of this number now. */
-async function stands(number) {
-  if (pledgeOf(number)) return true;
-  try {
-    await askBook("GET", `/pledges/${number}`);
-    return true;
-  } catch (fault) {
-    if (fault instanceof Refused && fault.code === NO_SUCH_PLEDGE) return false;
-    throw fault;
-  }
-}
-
-/** What is meant, the pledges of this reference first. */
-async function meantBy(wanted) {
-  const meant = withReference(wanted).map(({ number }) => ({ number, as: "reference" }));
-  const number = NUMBER.test(wanted) ? Number(wanted) : null;
-  const isThere = meant.some((one) => one.number === number);
-  if (number !== null && !isThere && await stands(number)) meant.push({ number, as: "number" });
-  return meant;
-}
+/** What was typed and opened as a number before the book could tell whether it is a reference, too. */
+let opened = null;
 
 function choice({ number, as }) {
-  const pledge = pledgeOf(number);
+  const pledge = ledger.pledge(number);
   const what = pledge ? [": ", foreign(pledge.article), ", reference ", foreign(pledge.reference)] : [];
   return make(
     "li", {}, make("a", { href: `#pledge=${number}`, className: "pledge-link" }, `Pledge ${number}`), ...what,
@@ -43,30 +26,81 @@ function choice({ number, as }) {
   );
 }
 
-async function find({ wanted: typed }) {
-  const wanted = typed.trim();
-  byId("choices").replaceChildren();
-  if (isReceiptLike(wanted)) return openReceipt(wanted);
-  await theLedger();
-  let meant = await meantBy(wanted);
-  if (meant.length === 0) {
-    await readLedger();
-    meant = await meantBy(wanted);
-  }
-  if (meant.length === 0) throw new Unreadable(
+const showChoices = (meant) =>
+  byId("choices").replaceChildren(make("ul", { className: "lines card" }, ...meant.slice(0, MOST).map(choice)));
+
+/** The pledges of a reference: by the book as it was read, or else as it is read now. */
+async function named(wanted) {
+  const isNew = ledger.book === null;
+  await ledger.theBook();
+  const found = ledger.withReference(wanted);
+  if (found.length > 0 || isNew) return found;
+  await ledger.awaitReading();
+  return ledger.withReference(wanted);
+}
+
+/** The pledge of a number, where no other has that number as its reference. */
+async function findNumber(wanted) {
+  const number = Number(wanted);
+  const statement = await statementOf(number);
+  const others = ledger.withReference(wanted).filter((pledge) => pledge.number !== number);
+  if (statement === null) return others.length > 0 ? offer(others, null) : findReference(wanted);
+  if (others.length > 0) return offer(others, number);
+  opened = ledger.book === null ? { wanted, number } : null;
+  await goTo(number, statement);
+  return "";
+}
+
+async function findReference(wanted) {
+  const found = await named(wanted);
+  if (found.length === 0) throw new Unreadable(
     "The book has no pledge of that number or reference. “All pledges” finds parts of an article or reference.",
     "wanted",
   );
+  return offer(found, null);
+}
+
+/** Goes to the one pledge that is meant, or offers those that can be: by their reference first. */
+async function offer(found, number) {
+  const meant = found.map((pledge) => ({ number: pledge.number, as: "reference" }));
+  if (number !== null) meant.push({ number, as: "number" });
   if (meant.length === 1) {
     await goTo(meant[0].number);
     return "";
   }
   byId("found").hidden = true;
-  byId("choices").replaceChildren(make("ul", { className: "lines card" }, ...meant.slice(0, MOST).map(choice)));
+  showChoices(meant);
   byId("choices").querySelector("a").focus();
   return { sentence: "More than one pledge can be meant.", tone: "quiet" };
 }
 
-export const clearChoices = () => byId("choices").replaceChildren();
+/** Finds what was typed. Where that fails no other pledge, found before, stays in its place. */
+async function find({ wanted: typed }) {
+  const wanted = typed.trim();
+  clearChoices();
+  try {
+    if (isReceiptLike(wanted)) return await openReceipt(wanted);
+    return await (NUMBER.test(wanted) ? findNumber(wanted) : findReference(wanted));
+  } catch (fault) {
+    hidePledge();
+    throw fault;
+  }
+}
 
-export const setUpFinding = () => onSend(byId("finding"), "broker", find);
+/** Once the book is read, the pledges are offered that have the number as their reference. */
+function offerOthers() {
+  if (opened === null || location.hash !== `#pledge=${opened.number}`) return;
+  const others = ledger.withReference(opened.wanted).filter(({ number }) => number !== opened.number);
+  opened = null;
+  if (others.length > 0) showChoices(others.map(({ number }) => ({ number, as: "reference" })));
+}
+
+export function clearChoices() {
+  opened = null;
+  byId("choices").replaceChildren();
+}
+
+export function setUpFinding() {
+  onSend(byId("finding"), "broker", find);
+  ledger.listen(({ sort }) => { if (sort === "read") offerOthers(); });
+}

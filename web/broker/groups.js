@@ -1,7 +1,8 @@
 /** The groups of pledges by how they stand on a day, and what finds them. */
-import { plusDays } from "/shared/days.js";
-import { statusOn } from "/shared/period.js";
-import { numberOf, receiptsIn } from "/shared/receipts.js";
+import { plusDays } from "../shared/days.js";
+import { statusOn } from "../shared/period.js";
+import { numberOf, receiptsIn } from "../shared/receipts.js";
+import { isOpen, isToCome } from "../shared/statuses.js";
 
 const stands = (...wanted) => (now) => (pledge) => wanted.includes(statusOn(pledge, now));
 
@@ -13,15 +14,16 @@ function endsSoon(now) {
   return ({ state, ends }) => state === "open" && ends >= now && ends <= last;
 }
 
-const isHeld = (now) => (pledge) => pledge.held && ["inside", "grace", "realisable"].includes(statusOn(pledge, now));
+const stillOpen = (now) => (pledge) => isOpen(statusOn(pledge, now));
 
-const somebodyComes = (now) => ({ state, booking }) =>
-  state === "open" && booking !== null && ["asked", "confirmed"].includes(booking.state) && booking.day >= now;
+const isHeld = (now) => (pledge) => pledge.held && stillOpen(now)(pledge);
+
+const somebodyComes = (now) => ({ state, booking }) => state === "open" && isToCome(booking) && booking.day >= now;
 
 /** The groups that a list can be narrowed to: for a day, whether a pledge is in it. */
 export const GROUPS = {
   all: { name: "All", of: () => () => true },
-  open: { name: "Open", of: stands("inside", "grace", "realisable") },
+  open: { name: "Open", of: stillOpen },
   due: { name: `Ends within ${SOON} days`, of: endsSoon },
   grace: { name: "In grace", of: stands("grace") },
   sale: { name: "Can be sold", of: stands("realisable") },
@@ -62,7 +64,7 @@ function textOf(pledge) {
 }
 
 /** Numbers in a reference count as numbers: A2 stands before A10. */
-function placeOf(pledge) {
+export function placeOf(pledge) {
   pledge.place ??= pledge.reference.toLowerCase().replace(/\d+/g, (digits) => digits.padStart(15, "0"));
   return pledge.place;
 }

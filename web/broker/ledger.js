@@ -1,143 +1,264 @@
 /**
  * The book in the page: read whole from the export, the only list that the service has, and mended after each command
- * by the
- * statement of its pledge. It finds and sorts. What is said of one pledge is its statement, read just then.
+ * by the statement of its pledge. It finds and sorts. What is said of one pledge is its statement, read just then.
  */
-import { today } from "/shared/days.js";
-import { readBook } from "/shared/book.js";
-import { folded } from "/shared/texts.js";
-import { askBook } from "./session.js";
+import { readBook, readHead } from "../shared/book.js";
+import { today } from "../shared/days.js";
+import { owedOn } from "../shared/owing.js";
+import { statusOn } from "../shared/period.js";
+import { isOpen } from "../shared/statuses.js";
+import { folded } from "../shared/texts.js";
+import { askBook, current } from "./session.js";
 
 /** The book is read anew by itself when it is as old as this, in milliseconds. */
 const OLD = 10 * 60_000;
-/** What another changed is a reason to read it anew, but not more often than this. */
+/** What another changed is a reason to read it anew, but not more often than this, nor for a tenth of the time. */
 const SOON = 30_000;
-
-let book = null;
-let readAt = 0;
-let reading = null;
-let fault = null;
-let isStale = false;
-const listeners = [];
-
-/** Is told whenever the book was read or mended, is being read, or could not be. */
-export const onLedger = (listener) => listeners.push(listener);
-
-const told = (change) => listeners.forEach((listener) => listener(change));
-
-/** The book, or null before it was read. */
-export const ledger = () => book;
-
-/** When it was read, in milliseconds; why the last reading failed, or null; and whether it is being read. */
-export const ledgerState = () => ({ readAt, fault, reading: reading !== null });
-
-export function forgetLedger() {
-  book = reading = fault = null;
-  isStale = false;
-  readAt = 0;
-  told({ sort: "forgotten" });
-}
-
-/** Puts what was read in the page, unless another book was opened meanwhile. */
-async function read() {
-  const mine = reading;
-  try {
-    const { text } = await askBook(
-      "GET", "/export", { watch: (part) => mine === reading && told({ sort: "progress", part }) },
-    );
-    const found = readBook(text);
-    if (mine !== reading) return;
-    [book, readAt, fault, isStale] = [found, Date.now(), null, false];
-  } catch (why) {
-    if (mine === reading) fault = why;
-    throw why;
-  }
-}
-
-/** Reads the book anew. Who asks while it is being read gets that reading. */
-export function readLedger() {
-  if (reading) return reading.done;
-  const mine = { done: null };
-  reading = mine;
-  told({ sort: "reading" });
-  mine.done = read().finally(() => {
-    if (reading !== mine) return;
-    reading = null;
-    told({ sort: fault ? "failed" : "read" });
-  });
-  return mine.done;
-}
-
-/** The book, read if it was not yet. */
-export async function theLedger() {
-  if (book === null) await readLedger();
-  return book;
-}
-
-/** Reads the book anew where it is old, or another changed it. */
-export function readIfOld() {
-  const age = Date.now() - readAt;
-  if (book && !reading && (age >= OLD || (isStale && age >= SOON))) readLedger().catch(() => {});
-}
-
-/** Another changed the book: it is read anew, at once or a little later. */
-export function anotherChanged() {
-  isStale = true;
-  readIfOld();
-}
-
-/** The pledge of a number, or null. */
-export const pledgeOf = (number) => book?.pledges[number - 1] ?? null;
-
-/** The pledges of a reference, without regard to case and to blanks at its ends. */
-export function withReference(reference) {
-  const wanted = folded(reference);
-  return book ? book.pledges.filter((pledge) => folded(pledge.reference) === wanted) : [];
-}
+const AT_ONCE = 2000;
+const SHARE = 10;
+/** A large book is a while in the making before its first byte comes. */
+const SILENCE = 60_000;
 
 const isPair = (one, other) => one?.day === other?.day && one?.window === other?.window && one?.state === other?.state;
 
-/**
- * Whether a statement tells what the book in the page does not know: after a command of this page's own, another entry
- * beside its own.
- */
-export function isNews(statement, own) {
-  const pledge = pledgeOf(statement.number);
-  if (!pledge) return book !== null;
-  if (own) return statement.entries.length > pledge.entries.length + 1;
-  const state = ["redeemed", "sold"].includes(statement.status) ? statement.status : "open";
-  return pledge.state !== state || pledge.held !== statement.held || pledge.ends !== statement.ends
-    || pledge.entries.length !== statement.entries.length || !isPair(pledge.booking, statement.booking);
+/** What is not known of a pledge before the book was read. */
+export const UNKNOWN = { reference: null, fiveDays: null, terms: null, agreed: undefined };
+
+class Ledger {
+  constructor() {
+    this.listeners = [];
+    this.awaited = 0;
+    this.reckoned = new WeakMap();
+    this.clear();
+  }
+
+  /**
+   * `book` is null before it was read; `head` is the terms and the number of pledges, which come first; `again` are the
+   * mends since the reading began that is under way, which does not know of them.
+   */
+  clear() {
+    Object.assign(this, {
+      book: null, head: null, readAt: 0, triedAt: 0, took: 0, reading: null, fault: null, isStale: false, again: [],
+      progress: null,
+    });
+  }
+
+  /** Calls the listener whenever the book was read or mended, is being read, or could not be. */
+  listen(listener) {
+    this.listeners.push(listener);
+  }
+
+  /** Whether an act of this page waits until the book is read. */
+  get isAwaited() {
+    return this.awaited > 0 && this.reading !== null;
+  }
+
+  /** Reads the book for an act that waits for it. */
+  async awaitReading() {
+    this.awaited += 1;
+    try {
+      await this.read();
+    } finally {
+      this.awaited -= 1;
+    }
+  }
+
+  /** Reads the book from now on: a reading that began before may not have what is asked for. */
+  async readAgain() {
+    if (this.reading) await this.reading.done.catch(() => {});
+    await this.read();
+  }
+
+  tell(change) {
+    this.listeners.forEach((listener) => listener(change));
+  }
+
+  forget() {
+    this.clear();
+    this.tell({ sort: "forgotten" });
+  }
+
+  /** Keeps the head that a reading found which began then, if none that began later was found. */
+  keepHead(head, began) {
+    if (head === null || began < (this.head?.began ?? -1)) return;
+    this.head = { ...head, began };
+    if (this.book) this.book.terms = head.terms;
+  }
+
+  /** The head as it stands now: the beginning of the book's text, of which the rest is given up. */
+  async readHead() {
+    const [began, session] = [performance.now(), current()];
+    const { text } = await askBook("GET", "/export", { silence: SILENCE, enough: (part) => readHead(part) !== null });
+    const head = readHead(text);
+    if (session === current()) this.keepHead(head, began);
+    return head;
+  }
+
+  /** Puts what was read in the page, unless another book was opened meanwhile. */
+  async fetchBook(mine) {
+    const began = performance.now();
+    let isHeadKnown = false;
+    const watch = ({ count, whole, text }) => {
+      if (mine !== this.reading) return;
+      if (!isHeadKnown && readHead(text) !== null) {
+        isHeadKnown = true;
+        this.keepHead(readHead(text), began);
+      }
+      this.progress = { count, whole };
+      this.tell({ sort: "progress" });
+    };
+    try {
+      const { text } = await askBook("GET", "/export", { watch, silence: SILENCE, isLarge: true });
+      const found = readBook(text);
+      if (mine !== this.reading) return;
+      Object.assign(this, { book: found, readAt: Date.now(), took: performance.now() - began, fault: null });
+      if (this.head.terms.length > found.terms.length) found.terms = this.head.terms;
+      this.isStale = false;
+      this.again.splice(0).forEach((mend) => mend());
+    } catch (why) {
+      if (mine === this.reading) this.fault = why;
+      throw why;
+    }
+  }
+
+  /** Reads the book anew. Who asks while it is being read gets that reading. */
+  read() {
+    if (this.reading) return this.reading.done;
+    const mine = { done: null };
+    this.reading = mine;
+    this.triedAt = Date.now();
+    this.again = [];
+    this.progress = null;
+    this.tell({ sort: "reading" });
+    mine.done = this.fetchBook(mine).finally(() => {
+      if (this.reading !== mine) return;
+      this.reading = null;
+      this.tell({ sort: this.fault ? "failed" : "read" });
+    });
+    return mine.done;
+  }
+
+  /** The book, read if it was not yet. */
+  async theBook() {
+    if (this.book === null) await this.awaitReading();
+    return this.book;
+  }
+
+  /**
+   * Reads the book anew where it is old, where another changed it, or where it could not be read at first. What another
+   * changed is read as soon as is said, but not all the time.
+   */
+  readIfOld(soonest = SOON) {
+    const age = Date.now() - this.readAt;
+    const soon = Math.max(soonest, SHARE * this.took);
+    const isOld = this.book !== null && (age >= OLD || (this.isStale && age >= soon));
+    const hasFailed = this.book === null && this.fault !== null && Date.now() - this.triedAt >= SOON;
+    if (!this.reading && (isOld || hasFailed)) this.read().catch(() => {});
+  }
+
+  /** Another changed the book: it is read anew, at once or a little later; sooner where it lacks a pledge. */
+  anotherChanged({ isMissing = false } = {}) {
+    this.isStale = true;
+    this.readIfOld(isMissing ? AT_ONCE : SOON);
+  }
+
+  /** The pledge of a number, or null. */
+  pledge(number) {
+    return this.book?.pledges[number - 1] ?? null;
+  }
+
+  /** The pledges of a reference, without regard to case and to blanks at its ends. */
+  withReference(reference) {
+    const wanted = folded(reference);
+    return this.book ? this.book.pledges.filter((pledge) => folded(pledge.reference) === wanted) : [];
+  }
+
+  /** The terms that a pledge keeps, or null where they are not known. */
+  termsOf(pledge) {
+    return this.book?.terms.find(({ version }) => version === pledge?.version) ?? null;
+  }
+
+  /** What the book tells of a pledge beside its statement. */
+  known(number) {
+    const pledge = this.pledge(number);
+    if (!pledge) return UNKNOWN;
+    const { reference, fiveDays, agreed } = pledge;
+    return { reference, fiveDays, agreed, terms: this.termsOf(pledge) };
+  }
+
+  /**
+   * What is owed on a pledge today, reckoned from the book; null where nothing is owed any more or its terms are not
+   * known. It is reckoned once, for as long as the pledge stays as it is.
+   */
+  owed(pledge) {
+    const now = today();
+    const { entries, ends, state } = pledge;
+    const before = this.reckoned.get(pledge);
+    if (before?.now === now && before.entries === entries && before.ends === ends && before.state === state) {
+      return before.owed;
+    }
+    const terms = isOpen(statusOn(pledge, now)) ? this.termsOf(pledge) : null;
+    const owed = terms && owedOn({ ...pledge, credit: pledge.pence }, terms, now);
+    this.reckoned.set(pledge, { now, entries, ends, state, owed });
+    return owed;
+  }
+
+  /**
+   * Whether a statement tells what the book in the page does not know: after a command of this page's own, another
+   * entry beside its own.
+   */
+  isNews(statement, own) {
+    const pledge = this.pledge(statement.number);
+    if (!pledge) return this.book !== null;
+    if (own) return statement.entries.length > pledge.entries.length + 1;
+    const state = ["redeemed", "sold"].includes(statement.status) ? statement.status : "open";
+    return pledge.state !== state || pledge.held !== statement.held || pledge.ends !== statement.ends
+      || pledge.entries.length !== statement.entries.length || !isPair(pledge.booking, statement.booking);
+  }
+
+  /** Changes the book in the page, and once more when the reading is done that is under way. */
+  change(mend) {
+    if (this.reading) this.again.push(mend);
+    if (this.book) mend();
+  }
+
+  /** Mends the book by a pledge's statement. */
+  mend(statement) {
+    const { number, entries, extensions, ends, held, booking, closing, status } = statement;
+    const closed = closing && { state: status, closed: closing.day, amount: closing.paid ?? closing.net };
+    this.change(() => {
+      const pledge = this.pledge(number);
+      if (pledge) Object.assign(pledge, { entries, extensions, ends, held, booking }, closed);
+    });
+    if (this.pledge(number)) this.tell({ sort: "mended", number });
+  }
+
+  /** Adds a pledge that was taken just now, with its first receipt and the version of its terms. */
+  addTaken({ opening, statement, receipt, version }) {
+    const { number, article, kind, credit, taken, ends, held, booking, entries, extensions } = statement;
+    this.change(() => {
+      if (number !== this.book.pledges.length + 1) return;
+      this.book.pledges.push({
+        number, article, kind, pence: credit, taken, ends, held, booking, entries, extensions,
+        reference: opening.ref, agreed: opening.agreed, fiveDays: opening.five_days, version, changed: taken,
+        state: "open", closed: null, amount: null,
+        secrets: [{ day: taken, paper: "opening", secret: receipt.slice(receipt.indexOf("-") + 1) }],
+      });
+    });
+    if (this.pledge(number) === null && this.book) this.anotherChanged({ isMissing: true });
+    this.tell({ sort: "mended", number });
+  }
+
+  /** Notes the receipt that a declaration made. */
+  addReceipt(receipt, paper) {
+    const [number] = receipt.split("-");
+    const secret = receipt.slice(number.length + 1);
+    this.change(() => {
+      const secrets = this.pledge(Number(number))?.secrets;
+      if (secrets && secrets.every((one) => one.secret !== secret)) secrets.push({ day: today(), paper, secret });
+    });
+  }
 }
 
-/** Mends the book by a pledge's statement. */
-export function mend(statement) {
-  const pledge = pledgeOf(statement.number);
-  if (!pledge) return;
-  const { entries, extensions, ends, held, booking, closing, status } = statement;
-  const closed = closing && { state: status, closed: closing.day, amount: closing.paid ?? closing.net };
-  Object.assign(pledge, { entries, extensions, ends, held, booking }, closed);
-  told({ sort: "mended", number: statement.number });
-}
-
-/** Adds a pledge that was taken just now, with its first receipt. */
-export function addTaken(opening, statement, receipt) {
-  if (!book || statement.number !== book.pledges.length + 1) return;
-  const { number, article, kind, credit, taken, ends, held, booking, entries, extensions } = statement;
-  book.pledges.push({
-    number, article, kind, pence: credit, taken, ends, held, booking, entries, extensions,
-    reference: opening.ref, agreed: opening.agreed,
-    fiveDays: opening.five_days, version: book.terms.length, changed: taken, state: "open", closed: null, amount: null,
-    secrets: [{ day: taken, paper: "opening", secret: receipt.slice(receipt.indexOf("-") + 1) }],
-  });
-  told({ sort: "mended", number });
-}
-
-/** Notes the receipt that a declaration made. */
-export function addReceipt(receipt, paper) {
-  const [number] = receipt.split("-");
-  pledgeOf(Number(number))?.secrets.push({ day: today(), paper, secret: receipt.slice(number.length + 1) });
-}
-
-/** The terms that a pledge keeps, or null where they are not known. */
-export const termsOf = (pledge) => book?.terms.find(({ version }) => version === pledge?.version) ?? null;
+/** The book of this page. */
+export const ledger = new Ledger();

@@ -1,151 +1,206 @@
 /** One pledge of the book, with its statement and its commands. What is said of it was read just then. */
-import { byId, foreign } from "/shared/dom.js";
-import { inShort } from "/shared/days.js";
-import { Refused } from "/shared/faults.js";
-import { fieldsOf, makeNotice, run, sayAfter, tell } from "/shared/forms.js";
-import { inPounds } from "/shared/money.js";
-import { liveReceipt } from "/shared/book.js";
-import { numberOf, receiptsTyped } from "/shared/receipts.js";
-import { readStatement } from "/shared/statement.js";
-import { summaryOf } from "/shared/summary.js";
-import { Unreadable } from "/shared/unreadable.js";
+import { refusalOf } from "../shared/codes.js";
+import { byId, foreign, make } from "../shared/dom.js";
+import { Refused } from "../shared/faults.js";
+import { fieldsOf, foldOf, makeNotice, redrawFolds, run, sayAfter, tell, tellLater } from "../shared/forms.js";
+import { inPounds } from "../shared/money.js";
+import { numberOf } from "../shared/receipts.js";
+import { reckoningForm } from "../shared/reckoning.js";
+import { isOpen } from "../shared/statuses.js";
+import { summaryOf } from "../shared/summary.js";
+import { Unreadable } from "../shared/unreadable.js";
 import { commandsOf } from "./commands.js";
-import { anotherChanged, isNews, mend, pledgeOf, readLedger, termsOf, theLedger } from "./ledger.js";
-import { owedCard } from "./owedcard.js";
+import { ledger } from "./ledger.js";
+import { heldBy, statementOf } from "./reading.js";
+import { isLive, newestReceipt, readReceipt, toldOfReceipts, whyDead } from "./papers.js";
 import { receiptSheet } from "./receipt.js";
 import { REDEEM } from "./redeem.js";
 import { askBook, askHeld, current } from "./session.js";
 
-const NO_SUCH_RECEIPT = 402;
-const OPEN = ["inside", "grace", "realisable"];
+const ONE = "That is no whole receipt, or more than one. Scan or type one at a time.";
 
-let statement = null;
-/** A receipt that was found live, until another pledge is looked at; and what is said once its pledge is shown. */
-let paper = null;
-let message = null;
-/** Whether the book told its part when the pledge was drawn. */
-let drawnByBook = false;
-const notice = makeNotice();
+/** The pledge that is shown, and what the forms of its commands use. */
+class Desk {
+  constructor() {
+    this.notice = makeNotice();
+    // The number of the pledge on which an act is under way, whose forms are not drawn anew meanwhile; or null.
+    this.actingOn = null;
+    this.perform = this.perform.bind(this);
+    this.forget();
+  }
+
+  /**
+   * `paper` is a receipt that was found live, until another pledge is looked at; `fresh` a statement that was read just
+   * before its pledge is shown; `message` what is said once it is shown; `drawn` the number whose forms are on the page.
+   */
+  forget() {
+    Object.assign(this, { statement: null, drawn: null, paper: null, fresh: null, message: null, isDrawnByBook: false });
+    tell(this.notice, "");
+  }
+
+  get number() {
+    return this.statement.number;
+  }
+
+  /** What the book tells of the pledge beside its statement. */
+  get known() {
+    return ledger.known(this.number);
+  }
+
+  /** The statement of the pledge as it stands now. */
+  async read(number = this.number) {
+    const statement = await statementOf(number);
+    if (statement === null) throw refusalOf("NoSuchPledge");
+    return statement;
+  }
+
+  /** Asks for a command on the pledge. */
+  command(name, body, harmless) {
+    return askBook("POST", `/pledges/${this.number}/${name}`, { body, harmless });
+  }
+
+  redeem(receipt, paid) {
+    return askHeld(receipt, "/redeem", { body: { paid }, harmless: false });
+  }
+
+  held(receipt) {
+    return heldBy(receipt);
+  }
+
+  isLive(receipt) {
+    return isLive(receipt, this.number);
+  }
+
+  newestReceipt() {
+    return newestReceipt(this.number);
+  }
+
+  toldOfReceipts() {
+    return toldOfReceipts(this.number);
+  }
+
+  /** The receipt that was scanned for this pledge, or an empty text. */
+  get scanned() {
+    return this.paper && this.statement && numberOf(this.paper) === this.number ? this.paper : "";
+  }
+
+  place() {
+    const { reference } = this.known;
+    const which = `Pledge ${this.number} of book ${current().book}`;
+    return [which, ...(reference ? [", reference ", foreign(reference)] : [])];
+  }
+
+  /**
+   * Draws the pledge anew. A fold that is open stays open, but for the one in which something was just done; and the
+   * focus stays where it was.
+   */
+  draw(done = null) {
+    const { statement, known } = this;
+    const focused = document.activeElement;
+    const wasRead = byId("statement").contains(focused);
+    this.isDrawnByBook = known.reference !== null;
+    byId("statement").replaceChildren(...summaryOf({ statement, known, place: this.place() }));
+    this.drawReckoning();
+    const commands = byId("commands");
+    redrawFolds(commands, () => commands.replaceChildren(this.notice, ...commandsOf(statement, this)), done);
+    byId("found").hidden = false;
+    if (wasRead) byId("statement").querySelector("h2").focus({ preventScroll: true });
+    if (focused === this.notice) focused.focus({ preventScroll: true });
+  }
+
+  /** Draws the form that reckons, with the day that was typed. */
+  drawReckoning() {
+    const place = byId("owed-on");
+    const typed = place.querySelector("[name=day]")?.value;
+    const form = reckoningForm({ statement: this.statement, known: this.known, reader: "broker" });
+    const title = make("h2", {}, "What will be owed on another day");
+    place.replaceChildren(
+      ...(form ? [make("section", { className: "card screen", id: "reckoning" }, title, form)] : [])
+    );
+    if (form && typed) form.elements.day.value = typed;
+  }
+
+  /** Shows the pledge as it stands, with what may be done. What this page did itself is no news. */
+  async look(number, { own = false, done = null } = {}) {
+    const session = current();
+    const found = this.fresh?.number === number ? this.fresh : await this.read(number);
+    this.fresh = null;
+    if (session !== current()) return;
+    const news = ledger.isNews(found, own);
+    // What was typed for one pledge is not carried to another.
+    if (this.drawn !== number) byId("commands").replaceChildren();
+    this.drawn = number;
+    this.statement = found;
+    ledger.mend(found);
+    this.draw(done);
+    if (news) ledger.anotherChanged({ isMissing: ledger.pledge(number) === null });
+  }
+
+  /** Runs an act on the pledge, shows the pledge as it stands then, and says what came of it. */
+  async perform(act, { form, notice: line, title }) {
+    const { number } = this;
+    const fields = fieldsOf(form);
+    byId("new-receipt").replaceChildren();
+    tell(this.notice, "");
+    let said;
+    this.actingOn = number;
+    const fault = await run({
+      notice: line, within: byId("commands"), reader: "broker", act: async () => { said = await act(); return said; },
+    });
+    this.actingOn = null;
+    if (fault instanceof Unreadable || this.statement?.number !== number) return;
+    let place = title;
+    try {
+      await this.look(number, { own: !(fault instanceof Refused), done: title });
+    } catch {
+      // The forms may be drawn anew once the book is read: what came of the act is said above them.
+      place = null;
+      tell(line, "");
+    }
+    sayAfter({ within: byId("commands"), notice: this.notice, title: place, fields, said, fault, reader: "broker" });
+  }
+
+  /** Shows a receipt of the pledge, to be printed, once it was found live and the book tells its terms. */
+  async showReceipt(receipt, statement = this.statement) {
+    await ledger.theBook();
+    if (ledger.pledge(this.number) === null) await ledger.awaitReading();
+    const { known } = this;
+    if (!known.terms) throw new Error("the book does not tell the pledge’s terms");
+    byId("new-receipt").replaceChildren(receiptSheet({ statement, receipt, known }));
+    byId("new-receipt").scrollIntoView();
+  }
+
+  /** Says what was to be said once the pledge is shown; else the pledge that was found has the focus. */
+  sayMessage() {
+    const said = this.message;
+    this.message = null;
+    if (said === null) {
+      if (!byId("found").contains(document.activeElement)) byId("statement").querySelector("h2").focus();
+      return;
+    }
+    const details = said.fold && foldOf(byId("commands"), said.fold);
+    if (details) details.open = true;
+    tell(this.notice, said.message, said.tone);
+    this.notice.focus();
+    tellLater(this.notice, said);
+  }
+}
+
+const desk = new Desk();
 
 export function clearPledge() {
-  statement = paper = message = null;
+  desk.forget();
   byId("found").hidden = true;
   for (const part of ["statement", "owed-on", "commands", "new-receipt"]) byId(part).replaceChildren();
   byId("finding").reset();
-  tell(notice, "");
 }
-
-async function read(number) {
-  const { text } = await askBook("GET", `/pledges/${number}`);
-  return readStatement(text);
-}
-
-function placeOf({ number }) {
-  const pledge = pledgeOf(number);
-  return [`Pledge ${number} of book ${current().book}`, ...(pledge ? [", reference ", foreign(pledge.reference)] : [])];
-}
-
-function draw() {
-  drawnByBook = pledgeOf(statement.number) !== null;
-  byId("statement").replaceChildren(...summaryOf(statement, placeOf(statement)));
-  byId("owed-on").replaceChildren(...owedCard(statement));
-  byId("commands").replaceChildren(notice, ...commandsOf(statement, desk));
-  byId("found").hidden = false;
-}
-
-/** Reads the pledge as it stands, and shows it with what may be done. What this page did itself is no news. */
-async function look(number, own = false) {
-  const found = await read(number);
-  const news = isNews(found, own);
-  statement = found;
-  mend(statement);
-  draw();
-  if (news) anotherChanged();
-}
-
-/** Asks for a command on the pledge that is shown. */
-const command = (name, body, harmless) => askBook("POST", `/pledges/${statement.number}/${name}`, { body, harmless });
-
-const foldOf = (title) =>
-  [...byId("commands").querySelectorAll("details")].find((one) => one.firstChild.textContent === title) ?? null;
-
-/** Runs an act on the pledge that is shown, shows the pledge as it stands then, and says what came of it. */
-async function perform(act, { form, notice: line, title }) {
-  const { number } = statement;
-  const fields = fieldsOf(form);
-  byId("new-receipt").replaceChildren();
-  tell(notice, "");
-  let said;
-  const fault = await run(
-    { notice: line, within: byId("commands"), reader: "broker", act: async () => { said = await act(); return said; } }
-  );
-  if (fault instanceof Unreadable) return;
-  try {
-    await look(number, !(fault instanceof Refused));
-  } catch {
-    return;
-  }
-  sayAfter({ within: byId("commands"), notice, title, fields, said, fault, reader: "broker" });
-}
-
-/** Shows a receipt of the pledge that is shown, to be printed, once it was found live and the book tells its terms. */
-async function showReceipt(receipt) {
-  const pledge = pledgeOf(statement.number) ?? (await theLedger(), pledgeOf(statement.number));
-  const terms = termsOf(pledge);
-  if (!terms) throw new Error("the book does not tell the pledge’s terms");
-  byId("new-receipt").replaceChildren(receiptSheet({ statement, receipt, pledge, terms }));
-  byId("new-receipt").scrollIntoView();
-}
-
-/** Whether a receipt opens the pledge that is shown. */
-async function isLive(receipt) {
-  try {
-    return readStatement((await askHeld(receipt, "")).text).number === statement.number;
-  } catch (fault) {
-    if (fault instanceof Refused && fault.code === NO_SUCH_RECEIPT) return false;
-    throw fault;
-  }
-}
-
-/** The live receipt of the pledge that is shown, by the book in the page or else read anew, or null. */
-async function newestReceipt() {
-  await theLedger();
-  for (const again of [false, true]) {
-    if (again) await readLedger();
-    const pledge = pledgeOf(statement.number);
-    const receipt = pledge && liveReceipt(pledge);
-    if (receipt && await isLive(receipt)) return receipt;
-  }
-  return null;
-}
-
-const PAPERS = {
-  opening: "when the pledge was taken", sworn: "on a sworn declaration", written: "on a written statement",
-};
-
-/** What the book tells of the receipts of the pledge that is shown. */
-function toldOfReceipts() {
-  const { secrets } = pledgeOf(statement.number);
-  const { day, paper: sort } = secrets.at(-1);
-  const count = secrets.length === 1 ? "one receipt" : `${secrets.length} receipts`;
-  return `The pledge has had ${count}. The newest was made on ${inShort(day)}, ${PAPERS[sort]}.`;
-}
-
-/** What the commands' forms use. */
-const desk = {
-  perform, command, showReceipt, newestReceipt, toldOfReceipts, isLive,
-  read: () => read(statement.number),
-  held: async (receipt) => readStatement((await askHeld(receipt, "")).text),
-  redeem: (receipt, paid) => askHeld(receipt, "/redeem", { body: { paid }, harmless: false }),
-  pledge: () => pledgeOf(statement.number),
-  paper: () => (paper && statement && numberOf(paper) === statement.number ? paper : ""),
-};
 
 /**
- * Goes to a pledge, by the address; or shows it as it stands now where it is there already. The empty form is no place
- * to go back to.
+ * Goes to a pledge, by the address; or shows it as it stands now where it is there already. Its statement may have been
+ * read just now. The empty form is no place to go back to.
  */
-export function goTo(number) {
+export function goTo(number, statement = null) {
+  desk.fresh = statement;
   const hash = `#pledge=${number}`;
   if (location.hash === hash) return showPledge(String(number));
   if (location.hash === "#pledge") location.replace(hash);
@@ -153,94 +208,64 @@ export function goTo(number) {
   return null;
 }
 
-/** Why a receipt is not live, by the book as it stands. */
-async function whyDead(receipt) {
-  await readLedger();
-  const pledge = pledgeOf(numberOf(receipt));
-  if (!pledge) return `This receipt is not live: book ${current().book} has no pledge ${numberOf(receipt)}.`;
-  const place = pledge.secrets.findIndex(({ secret }) => receipt.endsWith(secret));
-  if (place < 0) {
-    return `This receipt is not live: pledge ${pledge.number} never had it. Compare it with the paper, `
-      + `letter by letter.`;
-  }
-  if (place < pledge.secrets.length - 1) {
-    return `This receipt is not live: a newer one took its place on ${inShort(pledge.secrets[place + 1].day)}. `
-      + `Don’t hand out the article for it.`;
-  }
-  return `This receipt is not live: pledge ${pledge.number} was redeemed with it on ${inShort(pledge.closed)}.`;
+/** What is said of a live receipt. On a hold, or once the pledge is over, the article is not handed out for it. */
+function liveMessage({ status, owed, held }) {
+  if (!isOpen(status)) return { message: "This receipt is live, but its pledge is over.", tone: "quiet", fold: null };
+  const live = `This receipt is live. ${inPounds(owed.owing)} is owed today.`;
+  const barred = `${live} But the pledge is on hold: don’t hand out the article.`;
+  if (held) return { message: barred, tone: "bad", fold: null };
+  return { message: live, tone: "good", fold: REDEEM };
 }
 
 /** Opens the pledge of a receipt, or of the link of its code, and says whether the receipt is live. */
 export async function openReceipt(typed) {
-  const receipts = receiptsTyped(typed);
-  if (receipts.length !== 1) throw new Unreadable(
-    "That is no whole receipt, or more than one. Scan or type one at a time.", "wanted",
-  );
-  const [{ book, receipt }] = receipts;
-  if (book && book !== current().book) throw new Unreadable(
-    `That receipt is of book ${book}, and this is book ${current().book}.`, "wanted",
-  );
+  const receipt = readReceipt(typed, "wanted", ONE);
   const number = numberOf(receipt);
-  try {
-    const held = readStatement((await askHeld(receipt, "")).text);
-    paper = receipt;
-    const owed = OPEN.includes(held.status) ? ` ${inPounds(held.owed.owing)} is owed today.` : "";
-    message = {
-      sentence: `This receipt is live.${owed}`, tone: "good", fold: OPEN.includes(held.status) ? REDEEM : null,
-    };
-  } catch (fault) {
-    if (!(fault instanceof Refused && fault.code === NO_SUCH_RECEIPT)) throw fault;
-    paper = null;
-    message = { sentence: await whyDead(receipt), tone: "bad", fold: null };
-    if (!pledgeOf(number)) throw new Unreadable(message.sentence, "wanted");
+  const held = await heldBy(receipt);
+  if (held !== null) {
+    desk.paper = receipt;
+    desk.message = liveMessage(held);
+    await goTo(number, held);
+    return "";
   }
-  await goTo(number);
+  desk.paper = null;
+  const { sentence, statement, later } = await whyDead(receipt);
+  if (statement === null) throw new Unreadable(sentence, "wanted", later);
+  desk.message = { message: sentence, tone: "bad", fold: null, later };
+  await goTo(number, statement);
   return "";
 }
 
-/** Says what was to be said once the pledge is shown. */
-function sayMessage() {
-  if (!message) return;
-  const { sentence, tone, fold } = message;
-  message = null;
-  const details = fold && foldOf(fold);
-  if (details) details.open = true;
-  tell(notice, sentence, tone);
-  notice.focus();
+/** Shows no pledge any more. */
+export function hidePledge() {
+  byId("found").hidden = true;
+  byId("new-receipt").replaceChildren();
+  desk.statement = null;
 }
 
 /** Shows the pledge that the address names as it stands now; without a number the form that finds one. */
-export async function showPledge(number) {
-  if (number === undefined) {
-    byId("found").hidden = true;
-    byId("new-receipt").replaceChildren();
-    statement = null;
+export async function showPledge(detail) {
+  if (detail === undefined) {
+    hidePledge();
     return;
   }
-  if (paper && numberOf(paper) !== Number(number)) paper = null;
-  if (statement?.number !== Number(number)) {
+  const number = Number(detail);
+  if (desk.paper && numberOf(desk.paper) !== number) desk.paper = null;
+  if (desk.statement?.number !== number) {
     byId("new-receipt").replaceChildren();
     byId("found").hidden = true;
-    tell(notice, "");
+    tell(desk.notice, "");
   }
   const line = byId("finding").querySelector(".notice");
-  const fault = await run(
-    { notice: line, within: byId("finding"), reader: "broker", act: () => look(Number(number)) },
-  );
+  const fault = await run({ notice: line, within: byId("finding"), reader: "broker", act: () => desk.look(number) });
   if (fault) {
     byId("found").hidden = true;
-    message = null;
-  }
-  sayMessage();
+    desk.message = null;
+  } else if (desk.statement?.number === number) desk.sayMessage();
 }
 
-/**
- * Once the book was read it names the reference, the terms and the days of grace of a pledge that was shown without
- * them.
- */
+/** Once the book was read it names the reference, the terms and the days of grace of a pledge that is shown. */
 export function redrawPledge() {
-  if (statement && !drawnByBook && pledgeOf(statement.number) && !byId("commands").querySelector("details[open]")) {
-    draw();
-  }
+  if (!desk.statement || desk.isDrawnByBook || desk.actingOn === desk.number) return;
+  if (ledger.pledge(desk.number)) desk.draw();
 }
-

@@ -1,10 +1,11 @@
 /** A receipt on paper: one page of A5, with the square code of the pawnor's link. */
-import { facts, foreign, make } from "/shared/dom.js";
-import { inShort, inWords } from "/shared/days.js";
-import { inPounds } from "/shared/money.js";
-import { pictureOf } from "/shared/qr.js";
-import { linkTo } from "/shared/receipts.js";
-import { interestInWords, keepingInWords } from "/shared/terms.js";
+import { inShort, inWords } from "../shared/days.js";
+import { facts, foreign, make } from "../shared/dom.js";
+import { inPounds } from "../shared/money.js";
+import { pictureOf } from "../shared/qr.js";
+import { linkTo } from "../shared/receipts.js";
+import { isOpen } from "../shared/statuses.js";
+import { interestInWords, keepingInWords } from "../shared/terms.js";
 import { current } from "./session.js";
 import { shop } from "./shop.js";
 
@@ -13,14 +14,12 @@ const CARE = "Keep this paper safe. Whoever has it can redeem the pledge. If it 
   + "a new receipt makes this one worthless.";
 const SPENT = "The pledge can’t be redeemed any more. This paper shows what became of it.";
 
-function codeOf(link) {
-  const picture = pictureOf(link, "The square code of the link below");
-  return picture ? make(
-    "figure", {}, picture, make("figcaption", {}, "Point a telephone’s camera here to see the pledge."),
-  ) : null;
-}
+const codeOf = (link) => make(
+  "figure", {}, pictureOf(link, "The square code of the link below"),
+  make("figcaption", {}, "Point a telephone’s camera here to see the pledge."),
+);
 
-function factsOf({ kind, credit, taken, ends }, { fiveDays, agreed }, terms) {
+function factsOf({ kind, credit, taken, ends }, { fiveDays, agreed, terms }) {
   return facts([
     [kind === "fixed" ? "Lent" : "Credit up to", inPounds(credit)],
     ["Taken on", inWords(taken)],
@@ -49,26 +48,24 @@ function headOf(number, reference) {
 }
 
 /**
- * The receipt of a pledge, with a button that prints it: by its statement, the receipt's text, the pledge of the book,
- * which has
- * what the statement does not tell, and the terms that the pledge keeps.
+ * The receipt of a pledge, with a button that prints it: by its statement, the receipt's text, and what the book tells
+ * of the pledge beside its statement.
  */
-export function receiptSheet({ statement, receipt, pledge, terms }) {
+export function receiptSheet({ statement, receipt, known }) {
   const { name, till } = shop();
-  const link = linkTo(
-    { origin: location.origin, book: current().book, receipt, shop: name, rate: interestInWords(terms) }
-  );
+  const { terms, fiveDays, reference } = known;
+  const { origin } = location;
+  const link = linkTo({ origin, book: current().book, receipt, shop: name, reference, terms, fiveDays });
   const print = make("button", { type: "button" }, "Print the receipt");
   print.addEventListener("click", () => window.print());
   const sign = (who) => make("div", { className: "sign" }, who);
-  const canRedeem = ["inside", "grace", "realisable"].includes(statement.status);
   const sheet = make("article", { className: "paper" },
-    headOf(statement.number, pledge.reference),
+    headOf(statement.number, reference),
     make("h2", {}, foreign(statement.article)),
-    make("div", { className: "body" }, factsOf(statement, pledge, terms), codeOf(link)),
+    make("div", { className: "body" }, factsOf(statement, known), codeOf(link)),
     make("p", { className: "label" }, "Receipt"), make("p", { className: "secret" }, receipt),
     make("p", { className: "label" }, "See your pledge at"), make("p", { className: "address" }, link),
-    make("p", { className: "care" }, canRedeem ? CARE : SPENT),
+    make("p", { className: "care" }, isOpen(statement.status) ? CARE : SPENT),
     make("div", { className: "signs" },
       sign(till ? `For the shop, ${till}` : "For the shop"), sign("Customer’s name"), sign("Received by")));
   return make("div", { className: "receipt" }, make("div", { className: "buttons screen" }, print), sheet);

@@ -2,51 +2,38 @@
  * Redemption by the paper, at the counter: the receipt is looked at, the amount is compared with what is owed, and it
  * is asked once more.
  */
-import { make } from "/shared/dom.js";
-import { inWords } from "/shared/days.js";
-import { Lost, Refused } from "/shared/faults.js";
-import { buttons, field } from "/shared/forms.js";
-import { inPounds, readPounds } from "/shared/money.js";
-import { confirmed, NOTHING_DONE } from "/shared/questions.js";
-import { receiptsTyped } from "/shared/receipts.js";
-import { Unreadable } from "/shared/unreadable.js";
-import { current } from "./session.js";
+import { refusalOf } from "../shared/codes.js";
+import { inWords } from "../shared/days.js";
+import { make } from "../shared/dom.js";
+import { Lost, lookFirst } from "../shared/faults.js";
+import { buttons, field } from "../shared/forms.js";
+import { inPounds, readPounds } from "../shared/money.js";
+import { confirmed, NOTHING_DONE } from "../shared/questions.js";
+import { numberOf } from "../shared/receipts.js";
+import { Unreadable } from "../shared/unreadable.js";
+import { readReceipt, whyDead } from "./papers.js";
 
 export const REDEEM = "Redeem by the paper";
-const NO_SUCH_RECEIPT = 402;
+const ONE = "Scan or type the one receipt that the customer brings, or the link of its code.";
 
-function readReceipt(typed, number) {
-  const receipts = receiptsTyped(typed);
-  if (receipts.length !== 1) throw new Unreadable(
-    "Scan or type the one receipt that the customer brings, or the link of its code.", "receipt",
-  );
-  const [{ book, receipt }] = receipts;
-  if (book && book !== current().book) throw new Unreadable(
-    `That receipt is of book ${book}, and this is book ${current().book}.`, "receipt",
-  );
-  if (!receipt.startsWith(`${number}-`)) throw new Unreadable(
-    `That receipt is of pledge ${receipt.split("-")[0]}, and this is pledge ${number}. Find it by the receipt.`,
-    "receipt",
+function receiptOf(typed, number) {
+  const receipt = readReceipt(typed, "receipt", ONE);
+  if (numberOf(receipt) !== number) throw new Unreadable(
+    `That receipt is of pledge ${numberOf(receipt)}, and this is pledge ${number}. Find it by the receipt.`, "receipt",
   );
   return receipt;
 }
 
 /** What the receipt opens as it stands now. */
 async function look(desk, receipt) {
-  try {
-    return await desk.held(receipt);
-  } catch (fault) {
-    if (!(fault instanceof Refused && fault.code === NO_SUCH_RECEIPT)) throw fault;
-    throw new Unreadable(
-      "This receipt is not live: a newer one took its place, the pledge is redeemed, or a letter is wrong. "
-        + "Don’t hand out the article for it.",
-      "receipt",
-    );
-  }
+  const held = await lookFirst(desk.held(receipt));
+  if (held !== null) return held;
+  const { sentence, later } = await whyDead(receipt);
+  throw new Unreadable(sentence, "receipt", later);
 }
 
 function compare({ owed, held }, paid) {
-  if (held) throw new Unreadable("The pledge is on hold, so it can’t be redeemed. Release the hold first.");
+  if (held) throw refusalOf("Held");
   if (paid !== owed.owing) {
     throw new Unreadable(
       `${inPounds(owed.owing)} is owed today, and redeeming wants all of it. You typed ${inPounds(paid)}.`, "amount",
@@ -81,7 +68,7 @@ async function settleLost(desk, fault) {
 }
 
 async function redeem(fields, statement, desk) {
-  const receipt = readReceipt(fields.receipt, statement.number);
+  const receipt = receiptOf(fields.receipt, statement.number);
   const held = await look(desk, receipt);
   const paid = readPounds(fields.amount);
   compare(held, paid);
@@ -97,7 +84,7 @@ async function redeem(fields, statement, desk) {
 
 export function redemption(statement, desk) {
   const receipt = make(
-    "input", { name: "receipt", value: desk.paper(), autocapitalize: "none", spellcheck: false, required: true },
+    "input", { name: "receipt", value: desk.scanned, autocapitalize: "none", spellcheck: false, required: true },
   );
   const amount = make("input", { name: "amount", inputMode: "decimal", required: true });
   const nothing = statement.owed.owing === 0;

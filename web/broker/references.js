@@ -1,5 +1,5 @@
 /** The broker's references: the next free one of a series. */
-import { folded } from "/shared/texts.js";
+import { folded } from "../shared/texts.js";
 
 const SERIES = /^(.*?)(\d{1,9})(\D{0,3})$/;
 /** So many pledges before the last are looked at. */

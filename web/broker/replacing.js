@@ -1,9 +1,10 @@
 /** A receipt printed again, and a lost one replaced by a new one. */
-import { make } from "/shared/dom.js";
-import { Lost } from "/shared/faults.js";
-import { buttons } from "/shared/forms.js";
-import { confirmed, NOTHING_DONE } from "/shared/questions.js";
-import { addReceipt } from "./ledger.js";
+import { make } from "../shared/dom.js";
+import { Lost } from "../shared/faults.js";
+import { buttons } from "../shared/forms.js";
+import { confirmed, NOTHING_DONE } from "../shared/questions.js";
+import { ledger } from "./ledger.js";
+import { current } from "./session.js";
 
 const lead = (text) => make("p", { className: "lead" }, text);
 
@@ -44,7 +45,7 @@ const UNSEEN = "A new receipt was made, but could not be looked at just now, so 
 
 /** Shows a receipt that was made just now, if it is live. */
 async function showNew(receipt, paper, desk) {
-  addReceipt(receipt, paper);
+  ledger.addReceipt(receipt, paper);
   try {
     if (!await desk.isLive(receipt)) return { sentence: OVERTAKEN, tone: "bad" };
     await desk.showReceipt(receipt);
@@ -54,23 +55,59 @@ async function showNew(receipt, paper, desk) {
   }
 }
 
+/** By its book and pledge: how many receipts the book told of before a declaration whose reply was lost; null if it told none. */
+const lost = new Map();
+
+const placeOf = (number) => `${current().book}/${number}`;
+const receiptsOf = (number) => ledger.pledge(number)?.secrets.length ?? null;
+
+const MADE_ALREADY = "The new receipt was made already, by the press whose reply was lost. ";
+const LOST_BEFORE = "The reply to the press before was lost, so a new receipt may have been made then. “Print the "
+  + "receipt again” shows the newest one. If you make another, that one is worth nothing.";
+
+/**
+ * Before a declaration is sent again whose reply was lost, the book is read: a receipt that was made is shown. Gives
+ * what is said then, or null where the book tells of no new receipt.
+ */
+async function madeBefore(desk) {
+  const { number } = desk;
+  const before = lost.get(placeOf(number)) ?? null;
+  if (before === null) return null;
+  await ledger.readAgain();
+  if (receiptsOf(number) <= before) return null;
+  const receipt = await desk.newestReceipt();
+  if (receipt === null) return null;
+  await desk.showReceipt(receipt);
+  lost.delete(placeOf(number));
+  return `${MADE_ALREADY}It stands below. ${desk.toldOfReceipts()}`;
+}
+
 async function declare({ paper }, desk) {
+  const { number } = desk;
+  const made = await madeBefore(desk);
+  if (made) return made;
   const before = paper === "sworn"
     ? "You have the sworn declaration before you."
     : "You have the written statement before you.";
   const yes = await confirmed({
     title: "Make a new receipt?",
-    lines: ["The receipt that the pawnor had is worth nothing from then on, whoever has it.", before],
+    lines: [
+      "The receipt that the pawnor had is worth nothing from then on, whoever has it.", before,
+      ...(lost.has(placeOf(number)) ? [LOST_BEFORE] : []),
+    ],
     yes: "Make a new receipt", no: "Not now",
   });
   if (!yes) return NOTHING_DONE;
+  const count = receiptsOf(number);
   let receipt;
   try {
     receipt = (await desk.command("declare", { paper }, false)).said.receipt;
   } catch (fault) {
-    if (fault instanceof Lost) return { sentence: LOST, tone: "bad" };
-    throw fault;
+    if (!(fault instanceof Lost)) throw fault;
+    lost.set(placeOf(number), count);
+    return { sentence: LOST, tone: "bad" };
   }
+  lost.delete(placeOf(number));
   return showNew(receipt, paper, desk);
 }
 

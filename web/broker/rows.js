@@ -1,6 +1,6 @@
 /** A long list of which the rows in view are drawn and no others. All rows are of one height. */
-import { make } from "/shared/dom.js";
-import { printWhole } from "/shared/printing.js";
+import { make } from "../shared/dom.js";
+import { printWhole } from "../shared/printing.js";
 
 /** How many rows are drawn beyond each edge of what is in view. */
 const BEYOND = 8;

@@ -1,41 +1,70 @@
 /** The sale of an article whose period is over. */
-import { make } from "/shared/dom.js";
-import { inWords } from "/shared/days.js";
-import { buttons, field } from "/shared/forms.js";
-import { inPounds, readPounds } from "/shared/money.js";
-import { firstDayAfter, willPass } from "/shared/period.js";
-import { confirmed, NOTHING_DONE } from "/shared/questions.js";
+import { inWords } from "../shared/days.js";
+import { make } from "../shared/dom.js";
+import { Lost, lookFirst } from "../shared/faults.js";
+import { buttons, field } from "../shared/forms.js";
+import { inPounds, readPounds } from "../shared/money.js";
+import { firstDayAfter, willPass } from "../shared/period.js";
+import { confirmed, NOTHING_DONE } from "../shared/questions.js";
 
 /** Why the article can't be sold now: the first day on which it can, or that it never will be. */
-function barredOf({ status, ends }, pledge) {
+function barredOf({ status, taken, ends, credit }, { fiveDays }) {
   if (status === "realisable") return null;
-  if (!pledge) return `The period ends on ${inWords(ends)}. The first day of a sale is told once the book is read.`;
-  const standing = { ...pledge, ends };
+  if (fiveDays === null && status === "inside") {
+    return `The period ends on ${inWords(ends)}. The first day of a sale is told once the book is read.`;
+  }
+  const standing = { taken, ends, pence: credit, fiveDays: fiveDays ?? status === "grace" };
   const first = inWords(firstDayAfter(standing));
   if (willPass(standing)) return `It is not sold: if it is not redeemed before, the article passes to you on ${first}.`;
   return `It can be sold on ${first} first, if it is not redeemed or extended before.`;
 }
 
+/** What the proceeds leave, and whose that is. */
+function outcome(net, owing) {
+  if (net > owing) return `The surplus is ${inPounds(net - owing)}: it is the pawnor’s.`;
+  if (net < owing) {
+    return `That is ${inPounds(owing - net)} less than is owed. The book notes the shortfall, and keeps no debt of it.`;
+  }
+  return "That is exactly what is owed.";
+}
+
+function done({ net, surplus, shortfall }) {
+  if (surplus > 0) return `Sold for ${inPounds(net)}: ${inPounds(surplus)} more than was owed, which is the pawnor’s.`;
+  if (shortfall > 0) return `Sold for ${inPounds(net)}: ${inPounds(shortfall)} less than was owed.`;
+  return `Sold for ${inPounds(net)}, exactly what was owed.`;
+}
+
+/** After a lost reply the statement tells whether it was done. */
+async function settleLost(desk, fault) {
+  const after = await desk.read().catch(() => { throw fault; });
+  if (after.status === "sold") return `The reply was lost, but the pledge, read again, is sold. ${done(after.closing)}`;
+  throw fault;
+}
+
 async function sell({ amount }, desk) {
   const net = readPounds(amount);
+  const { owed } = await lookFirst(desk.read());
   const yes = await confirmed({
     title: "Record the sale?",
     lines: [
       `The article was sold, and ${inPounds(net)} is left after the costs of the sale.`,
+      owed ? `${inPounds(owed.owing)} is owed today. ${outcome(net, owed.owing)}` : null,
       "The pledge is closed by it. It can’t be taken back.",
     ],
     yes: `Sold for ${inPounds(net)}`, no: "Not now",
   });
   if (!yes) return NOTHING_DONE;
-  const { said } = await desk.command("sell", { net }, false);
-  if (said.surplus > 0) return `Sold for ${inPounds(said.net)}: ${inPounds(said.surplus)} more than was owed.`;
-  if (said.shortfall > 0) return `Sold for ${inPounds(said.net)}: ${inPounds(said.shortfall)} less than was owed.`;
-  return `Sold for ${inPounds(said.net)}, exactly what was owed.`;
+  try {
+    return done((await desk.command("sell", { net }, false)).said);
+  } catch (fault) {
+    if (fault instanceof Lost) return settleLost(desk, fault);
+    throw fault;
+  }
 }
 
 export const sale = (statement, desk) => ({
   title: "Sale",
-  barred: barredOf(statement, desk.pledge()),
+  barred: barredOf(statement, desk.known),
   parts: [make("p", { className: "lead" }, "What the article brought, less the costs of its sale. It may be nothing."),
     field("Net proceeds, in pounds", make("input", { name: "amount", inputMode: "decimal", required: true })),
     buttons(make("button", { className: "grave" }, "Record the sale"))],

@@ -1,8 +1,8 @@
 /**
  * A scanner types as a keyboard does. What it types while no field has the focus is found, if it looks like a receipt.
  */
-import { byId } from "/shared/dom.js";
-import { isReceiptLike } from "/shared/receipts.js";
+import { byId } from "../shared/dom.js";
+import { isReceiptLike } from "../shared/receipts.js";
 import { current } from "./session.js";
 
 /** Keys that are further apart than this, in milliseconds, are not one text. */
@@ -15,7 +15,7 @@ let last = 0;
 function find(text) {
   location.hash = "pledge";
   byId("finding").elements.wanted.value = text;
-  byId("finding").requestSubmit();
+  byId("finding").querySelector("button").click();
 }
 
 function onKey(event) {

@@ -1,6 +1,7 @@
 /** The open book: its number and its key, kept for this tab alone. */
-import { ask } from "/shared/api.js";
-import { Unreadable } from "/shared/unreadable.js";
+import { ask } from "../shared/api.js";
+import { isBook } from "../shared/receipts.js";
+import { Unreadable } from "../shared/unreadable.js";
 
 const KEPT = "broker";
 const KEY = /^[\x21-\x7e]{32,47}$/;
@@ -10,7 +11,7 @@ let session = JSON.parse(sessionStorage.getItem(KEPT) ?? "null");
 export const current = () => session;
 
 export function begin({ book, key }) {
-  if (!/^[1-9]\d{0,8}$/.test(book.trim())) throw new Unreadable("The book is a number from 1 to 999,999,999.", "book");
+  if (!isBook(book.trim())) throw new Unreadable("The book is a number from 1 to 999,999,999.", "book");
   if (!KEY.test(key.trim())) throw new Unreadable(
     "That is no key. A key is 32 digits from 0 to 9 and a to f, in groups of 8, 4, 4, 4 and 12.", "key",
   );
@@ -25,20 +26,17 @@ export function end() {
   sessionStorage.removeItem(KEPT);
 }
 
-/** Asks for the open book. A body is a text, or what is sent as JSON. */
-export function askBook(method, what, { body, harmless, importKey, watch } = {}) {
+/** Asks for the open book. A body is a text, or what is sent as JSON; the rest is that of `ask`. */
+export function askBook(method, what, { body, importKey, ...more } = {}) {
   const fields = { "Pledge-Key": session.key, ...(importKey && { "Import-Key": importKey }) };
   const sent = body === undefined || typeof body === "string" ? body : JSON.stringify(body);
-  return ask({ method, path: `/books/${session.book}${what}`, fields, body: sent, harmless, watch });
+  return ask({ method, path: `/books/${session.book}${what}`, fields, body: sent, ...more });
 }
 
 /** Asks for the open book as the bearer of a receipt does, who needs no key. */
 export function askHeld(receipt, what, { body, harmless } = {}) {
   const method = what === "" ? "GET" : "POST";
-  return ask(
-    {
-      method, path: `/books/${session.book}/held${what}`, fields: { "Pledge-Receipt": receipt },
-      body: body && JSON.stringify(body), harmless,
-    }
-  );
+  const fields = { "Pledge-Receipt": receipt };
+  const path = `/books/${session.book}/held${what}`;
+  return ask({ method, path, fields, body: body && JSON.stringify(body), harmless });
 }

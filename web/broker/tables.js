@@ -1,6 +1,6 @@
 /** Tables of pledges in sections: the first rows, the others when they are asked for, and all of them on paper. */
-import { foreign, make } from "/shared/dom.js";
-import { printWhole } from "/shared/printing.js";
+import { foreign, make } from "../shared/dom.js";
+import { printWhole } from "../shared/printing.js";
 
 /** How many rows a section shows first, so that six sections are not above some two hundred rows. */
 const FIRST = 20;

@@ -1,37 +1,39 @@
 /**
  * Taking a pledge, and printing its receipt. What is printed was looked at just before: a live receipt of a pledge that
- * was taken now.
+ * was taken now, with the terms that it keeps. None of it waits for the whole book.
  */
-import { byId, foreign, make } from "/shared/dom.js";
-import { inShort, inWords, sixMonthsAfter, today } from "/shared/days.js";
-import { Refused } from "/shared/faults.js";
-import { onSend } from "/shared/forms.js";
-import { inPounds, readPounds } from "/shared/money.js";
-import { confirmed, NOTHING_DONE } from "/shared/questions.js";
-import { isReceiptLike } from "/shared/receipts.js";
-import { readStatement } from "/shared/statement.js";
-import { stateInWords } from "/shared/summary.js";
-import { readText } from "/shared/texts.js";
-import { Unreadable } from "/shared/unreadable.js";
-import { addTaken, ledger, pledgeOf, readLedger, termsOf, theLedger, withReference } from "./ledger.js";
+import { CODES, isRefusal, refusalOf } from "../shared/codes.js";
+import { inShort, inWords, sixMonthsAfter, today } from "../shared/days.js";
+import { byId, foreign } from "../shared/dom.js";
+import { Lost, lookFirst } from "../shared/faults.js";
+import { onSend, tell } from "../shared/forms.js";
+import { inPounds, MOST, readPounds } from "../shared/money.js";
+import { confirmed, NOTHING_DONE } from "../shared/questions.js";
+import { isReceiptLike } from "../shared/receipts.js";
+import { folded, readText } from "../shared/texts.js";
+import { Unreadable } from "../shared/unreadable.js";
+import { ledger } from "./ledger.js";
 import { openReceipt } from "./pledge.js";
-import { receiptSheet } from "./receipt.js";
+import { statementOf } from "./reading.js";
 import { nextReference } from "./references.js";
-import { askBook, askHeld } from "./session.js";
+import { askBook } from "./session.js";
+import { refuseStanding } from "./standing.js";
+import { settle } from "./taken.js";
 
-const NO_SUCH_PLEDGE = 403;
-const NO_SUCH_RECEIPT = 402;
-const TERMS_STAND = 406;
 /** From this many pence on, the question says that the sum is large. */
 const VERY_LARGE = 1_000_000;
-
-/** A rate that no terms may have: terms that are put with it are never accepted. */
-const NO_RATE = 20_001;
 
 const form = () => byId("taking");
 const place = () => byId("taken-receipt");
 
+/** An opening whose reply was lost, and the number of the last pledge before it. Sent again it is taken once. */
+let lost = null;
+/** Whether the form says that the book has no terms; and the line in which it says so. */
+let wantsTerms = false;
+let notice;
+
 export function clearTaking() {
+  lost = null;
   place().replaceChildren();
   form().reset();
 }
@@ -53,155 +55,113 @@ function openingOf({ article, ref, kind, amount, agreed, five }) {
   };
 }
 
+/** Throws where the service takes no such amount, before it is asked about. */
+function refuseAmount({ pence }) {
+  if (pence === 0 || pence > MOST) throw refusalOf("BadAmount");
+}
+
 /** Asks with all that will stand, since nothing of it can be changed. */
 function agreedTo({ article, ref, kind, pence, agreed, five_days: fiveDays }) {
   const six = sixMonthsAfter(today());
   const end = agreed && agreed > six ? agreed : six;
-  const lines = [
-    [foreign(article), ", reference ", foreign(ref), "."],
-    kind === "fixed" ? `${inPounds(pence)} is lent.` : `A running account up to ${inPounds(pence)}.`,
-    `The period ends on ${inWords(end)}${fiveDays ? ", with five days of grace" : ""}.`,
-    agreed && agreed <= six
-      ? `The agreed end, ${inShort(agreed)}, counts for nothing: six months run to ${inShort(six)}.`
-      : null,
-    pence >= VERY_LARGE ? "That is a large sum: look at it again." : null,
-    "It can’t be changed or taken back.",
-  ];
-  return confirmed(
-    {
-      title: `Take this pledge for ${inPounds(pence)}?`, lines: lines.filter(Boolean),
-      yes: `Take it for ${inPounds(pence)}`, no: "Not now",
-    }
-  );
+  return confirmed({
+    title: `Take this pledge for ${inPounds(pence)}?`,
+    lines: [
+      [foreign(article), ", reference ", foreign(ref), "."],
+      kind === "fixed" ? `${inPounds(pence)} is lent.` : `A running account up to ${inPounds(pence)}.`,
+      `The period ends on ${inWords(end)}${fiveDays ? ", with five days of grace" : ""}.`,
+      agreed && agreed <= six
+        ? `The agreed end, ${inShort(agreed)}, counts for nothing: six months run to ${inShort(six)}.`
+        : null,
+      pence >= VERY_LARGE ? "That is a large sum: look at it again." : null,
+      "It can’t be changed or taken back. A slip is mended by redeeming it the same day by its receipt.",
+    ],
+    yes: `Take it for ${inPounds(pence)}`, no: "Not now",
+  });
 }
 
-/** The statement of a pledge, or null where the book has none of that number. */
-async function statementOf(number) {
-  try {
-    return readStatement((await askBook("GET", `/pledges/${number}`)).text);
-  } catch (fault) {
-    if (fault instanceof Refused && fault.code === NO_SUCH_PLEDGE) return null;
-    throw fault;
-  }
-}
-
-/** Others may have taken pledges since the book was read. Then it is read anew. Gives the number of the last one. */
+/** The number of the book's last pledge just now: what is known of it, and what others took since. */
 async function lastNumber() {
-  const { pledges } = await theLedger();
-  if (await statementOf(pledges.length + 1)) await readLedger();
-  return ledger().pledges.length;
-}
-
-/** Shows which pledge has a reference, since when, and how it stands, and says so. */
-async function tellStanding(number, reference) {
-  const statement = await statementOf(number);
-  const link = make("a", { href: `#pledge=${number}`, className: "pledge-link" }, `Open pledge ${number}`);
-  place().replaceChildren(make("section", { className: "card screen" },
-    make("h2", {}, "This reference stands already"),
-    make(
-      "p", {}, foreign(reference), ` is pledge ${number}: `, foreign(statement.article),
-      `, taken on ${inWords(statement.taken)}.`,
-    ),
-    make(
-      "p", {},
-      `${stateInWords(statement)}. If this is the pledge that you mean, open it: `,
-      "its receipt can be printed again there, where it has one.",
-    ),
-    make("p", {}, link)));
-  throw new Unreadable(
-    `Pledge ${number} has this reference since ${inShort(statement.taken)}. `
-      + "Nothing new was taken, and nothing is printed. Choose another reference.",
-    "ref",
-  );
-}
-
-async function refuseStanding(reference) {
-  const [standing] = withReference(reference);
-  if (standing) await tellStanding(standing.number, standing.reference);
-}
-
-/**
- * Whether newer terms than the page knows stand: the next version, put with a rate that is always refused, is refused
- * by its number then.
- */
-async function hasNewerTerms() {
-  const version = ledger().terms.length + 1;
-  if (version > 99) return false;
-  try {
-    await askBook(
-      "POST", "/terms", { body: { version, rate: NO_RATE, keep_before: 0, keep_after: 0 }, harmless: true },
-    );
-    return true;
-  } catch (fault) {
-    if (fault instanceof Refused) return fault.code === TERMS_STAND;
-    throw fault;
-  }
-}
-
-/** What the receipt opens now, or null where it is not live. */
-async function heldStatement(receipt) {
-  try {
-    return readStatement((await askHeld(receipt, "")).text);
-  } catch (fault) {
-    if (fault instanceof Refused && fault.code === NO_SUCH_RECEIPT) return null;
-    throw fault;
-  }
-}
-
-/** Whether a receipt is a live one of a pledge that was taken now, and stands as it was sent. */
-function isTakenNow({ held, opening, said, known }) {
-  return said.number > known && held !== null && held.number === said.number && held.status === "inside"
-    && held.entries.length === 0
-    && held.article === opening.article && held.kind === opening.kind && held.credit === opening.pence
-    && held.booking === null;
-}
-
-async function settle({ opening, said, known }) {
-  const held = await heldStatement(said.receipt);
-  if (!isTakenNow({ held, opening, said, known })) {
-    await readLedger();
-    await tellStanding(said.number, opening.ref);
-  }
-  if (await hasNewerTerms()) await readLedger();
-  addTaken(opening, held, said.receipt);
-  if (pledgeOf(said.number) === null) await readLedger();
-  const pledge = pledgeOf(said.number);
-  const link = make("a", { href: `#pledge=${said.number}`, className: "pledge-link" }, `Pledge ${said.number}`);
-  const stands = make("p", { className: "taken screen" }, link, " stands: ", foreign(opening.article), ".");
-  place().replaceChildren(
-    stands, receiptSheet({ statement: held, receipt: said.receipt, pledge, terms: termsOf(pledge) }),
-  );
-  form().reset();
-  showTaking();
-  place().scrollIntoView();
-  return `Taken as pledge ${said.number}. Its receipt is ready to print.`;
+  const { count } = ledger.head ?? await ledger.readHead();
+  return await statementOf(count + 1) ? (await ledger.readHead()).count : count;
 }
 
 /** The pledge was taken, or stood: it is not to be taken again. */
 const UNSEEN = "It could not be looked at just now, so no receipt is shown. Open it in a minute: "
   + "its receipt can be printed there.";
 
+/** Shows the receipt of what was taken, and empties the form for the next pledge. */
+async function show(sent) {
+  const said = await settle(sent);
+  lost = null;
+  form().reset();
+  showTaking();
+  place().scrollIntoView();
+  return said;
+}
+
+const isEqual = (one, other) => JSON.stringify(one) === JSON.stringify(other);
+
+const AGAIN = "Don’t choose another reference: press the button again. The same is not taken twice, and the receipt is "
+  + "shown then.";
+
+/** After a lost reply: the pledge is looked for by its reference in the book, which is read anew. */
+async function findLost({ opening, known, before }) {
+  try {
+    await ledger.awaitReading();
+    if (ledger.withReference(opening.ref).length === 0) await ledger.awaitReading();
+  } catch {
+    return { sentence: `The reply was lost, so the pledge may have been taken. ${AGAIN}`, tone: "bad" };
+  }
+  const found = ledger.withReference(opening.ref).find(({ number }) => number > known);
+  if (!found) return { sentence: `The reply was lost, and the book has no such pledge so far. ${AGAIN}`, tone: "bad" };
+  const receipt = `${found.number}-${found.secrets[0].secret}`;
+  const said = await show({ opening, said: { number: found.number, receipt }, known, before });
+  return `The reply was lost, but the pledge was taken. ${said}`;
+}
+
+async function send(opening, again) {
+  const known = again?.known ?? await lookFirst(lastNumber());
+  const before = again?.before ?? ledger.head;
+  try {
+    const { said } = await askBook("POST", "/pledges", { body: opening, harmless: true });
+    lost = null;
+    return { opening, said, known, before };
+  } catch (fault) {
+    if (fault instanceof Lost) lost = { opening, known, before };
+    if (isRefusal(fault, CODES.RefTaken)) ledger.anotherChanged();
+    throw fault;
+  }
+}
+
 async function take(fields) {
   place().replaceChildren();
+  wantsTerms = false;
   for (const typed of [fields.ref, fields.article]) if (isReceiptLike(typed)) return openReceipt(typed);
   const opening = openingOf(fields);
-  await theLedger();
-  await refuseStanding(opening.ref);
-  if (!await agreedTo(opening)) return NOTHING_DONE;
-  const known = await lastNumber();
-  await refuseStanding(opening.ref);
-  const { said } = await askBook("POST", "/pledges", { body: opening, harmless: true });
+  refuseAmount(opening);
+  const again = lost && isEqual(lost.opening, opening) ? lost : null;
+  await refuseStanding(opening.ref, again?.known);
+  if (!again && !await agreedTo(opening)) return NOTHING_DONE;
+  let sent;
   try {
-    return await settle({ opening, said, known });
+    sent = await send(opening, again);
+  } catch (fault) {
+    wantsTerms = isRefusal(fault, CODES.NoTerms);
+    if (!(fault instanceof Lost)) throw fault;
+    return findLost(lost);
+  }
+  try {
+    return await show(sent);
   } catch (fault) {
     if (fault instanceof Unreadable) throw fault;
-    return { sentence: `Pledge ${said.number} has this reference. ${UNSEEN}`, tone: "bad" };
+    return { sentence: `Pledge ${sent.said.number} has this reference. ${UNSEEN}`, tone: "bad" };
   }
 }
 
 /** Offers the next reference where the last ones are a series. */
 function offerReference() {
-  const next = ledger() && nextReference(ledger().pledges);
+  const next = ledger.book && nextReference(ledger.book.pledges);
   byId("next-reference").hidden = !next;
   if (next) byId("next-reference").replaceChildren("Use ", foreign(next));
   byId("next-reference").value = next ?? "";
@@ -209,14 +169,15 @@ function offerReference() {
 
 /** Says while typing that a reference stands. */
 function warnStanding() {
-  const [standing] = withReference(form().elements.ref.value);
+  const { value } = form().elements.ref;
+  const [standing] = lost && folded(lost.opening.ref) === folded(value) ? [] : ledger.withReference(value);
   byId("reference-stands").replaceChildren(
     ...(standing ? [`Pledge ${standing.number} has this reference: `, foreign(standing.article), "."] : [])
   );
 }
 
 export function setUpTaking() {
-  onSend(form(), "broker", take);
+  notice = onSend(form(), "broker", take);
   form().elements.ref.addEventListener("input", warnStanding);
   byId("next-reference").addEventListener("click", ({ currentTarget }) => {
     form().elements.ref.value = currentTarget.value;
@@ -226,6 +187,10 @@ export function setUpTaking() {
 
 export function showTaking() {
   form().elements.agreed.min = today();
+  if (wantsTerms && ledger.head?.terms.length > 0) {
+    wantsTerms = false;
+    tell(notice, "");
+  }
   offerReference();
   warnStanding();
 }

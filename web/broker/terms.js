@@ -1,10 +1,10 @@
 /** The book's terms: the versions that stand, and the next. */
-import { byId, make } from "/shared/dom.js";
-import { Refused } from "/shared/faults.js";
-import { onSend, run } from "/shared/forms.js";
-import { inPounds } from "/shared/money.js";
-import { Unreadable } from "/shared/unreadable.js";
-import { ledger, readLedger, theLedger } from "./ledger.js";
+import { byId, make } from "../shared/dom.js";
+import { Refused } from "../shared/faults.js";
+import { onSend, run } from "../shared/forms.js";
+import { inPounds } from "../shared/money.js";
+import { Unreadable } from "../shared/unreadable.js";
+import { ledger } from "./ledger.js";
 import { askBook } from "./session.js";
 
 /** Rates are kept in millionths a day, which is so many places of a per cent; charges in millionths of a penny. */
@@ -27,9 +27,9 @@ function inDecimal(value, places) {
 }
 
 const readTerms = ({ rate, before, after }) => ({
-  rate: readDecimal(rate, RATE_PLACES, "rate"), keep_before: readDecimal(
-    before, CHARGE_PLACES, "before",
-  ), keep_after: readDecimal(after, CHARGE_PLACES, "after"),
+  rate: readDecimal(rate, RATE_PLACES, "rate"),
+  keep_before: readDecimal(before, CHARGE_PLACES, "before"),
+  keep_after: readDecimal(after, CHARGE_PLACES, "after"),
 });
 
 /** What a hundred pounds cost for thirty days. */
@@ -47,9 +47,9 @@ function row({ version, rate, keepBefore, keepAfter }) {
   return make("tr", {}, ...cells.map((cell) => make("td", {}, cell)));
 }
 
-/** Shows the versions that stand in the book as it was read. */
+/** Shows the versions that stand, by the book's head. */
 function draw() {
-  versions = ledger().terms;
+  versions = ledger.head.terms;
   const heads = [
     "Version", "Interest a day", "Keeping a day", "After the end",
   ].map((head) => make("th", { scope: "col" }, head));
@@ -65,7 +65,7 @@ function draw() {
 }
 
 async function readAnew() {
-  await readLedger();
+  await ledger.readHead();
   draw();
 }
 
@@ -107,9 +107,12 @@ export function setUpTerms() {
   });
 }
 
-/** Shows the terms that the book in the page has. */
+/** Shows the terms. They come first in the book, so nothing waits for the rest of it. */
 export function showTerms() {
-  return run(
-    { notice, within: byId("new-terms"), reader: "broker", act: async () => { await theLedger(); draw(); return ""; } }
-  );
+  const act = async () => {
+    if (ledger.head === null) await ledger.readHead();
+    draw();
+    return "";
+  };
+  return run({ notice, within: byId("new-terms"), reader: "broker", act });
 }

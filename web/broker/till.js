@@ -1,94 +1,170 @@
 /**
  * The till: what was taken, drawn, repaid, redeemed and sold on a day, so that the drawer can be compared with the
- * book.
+ * book. What was repaid and redeemed is parted into charges and what was lent.
  */
-import { byId, facts, make } from "/shared/dom.js";
-import { inWords, plusDays, seenFrom, today } from "/shared/days.js";
-import { onSend } from "/shared/forms.js";
-import { inPounds } from "/shared/money.js";
+import { inWords, today } from "../shared/days.js";
+import { byId, facts, make } from "../shared/dom.js";
+import { buttons, field, onSend } from "../shared/forms.js";
+import { inPounds, readPounds } from "../shared/money.js";
+import { chargesPaid, owedOn } from "../shared/owing.js";
+import { missingInWords } from "./age.js";
+import { putDay, setUpDayForm, showDayOf } from "./dayform.js";
+import { keep, kept } from "./kept.js";
 import { ledger } from "./ledger.js";
 import { shop } from "./shop.js";
 import { articleCell, numberCell, section } from "./tables.js";
 
-const dayField = () => byId("till-day").elements.day;
+/** The day whose till is drawn, or null. */
+let drawn = null;
 
-const sum = (lines) => lines.reduce((total, { pence }) => total + pence, 0);
+const sum = (lines, name = "pence") => lines.reduce((total, line) => total + (line[name] ?? 0), 0);
+
+/** The charges in each entry of a pledge, and in what was paid when it was redeemed. */
+function chargesOf(pledge) {
+  const terms = ledger.termsOf(pledge);
+  const told = { ...pledge, credit: pledge.pence };
+  return {
+    inEntries: terms ? chargesPaid(told, terms) : [],
+    atLast: terms && pledge.state === "redeemed" ? owedOn(told, terms, pledge.closed).charges : 0,
+  };
+}
+
+function addEntries(lists, pledge, day) {
+  if (!pledge.entries.some((entry) => entry.day === day)) return;
+  const { inEntries } = chargesOf(pledge);
+  pledge.entries.forEach(({ day: on, sort, pence }, place) => {
+    if (on === day) lists[sort === "draw" ? "drawn" : "repaid"].push({ pledge, pence, charges: inEntries[place] });
+  });
+}
 
 /** What was done on a day, as lines of a pledge and an amount. Nothing is paid out when a running account is opened. */
 function tillOf(book, day) {
   const lists = { taken: [], drawn: [], repaid: [], redeemed: [], sold: [] };
   for (const pledge of book.pledges) {
     if (pledge.taken === day) lists.taken.push({ pledge, pence: pledge.kind === "fixed" ? pledge.pence : 0 });
-    for (const { day: on, sort, pence } of pledge.entries) {
-      if (on === day) lists[sort === "draw" ? "drawn" : "repaid"].push({ pledge, pence });
+    addEntries(lists, pledge, day);
+    if (pledge.closed === day) {
+      const { atLast } = chargesOf(pledge);
+      lists[pledge.state].push({ pledge, pence: pledge.amount, charges: atLast });
     }
-    if (pledge.closed === day) lists[pledge.state].push({ pledge, pence: pledge.amount });
   }
   const sums = Object.fromEntries(Object.entries(lists).map(([name, lines]) => [name, sum(lines)]));
-  return { lists, sums, out: sums.taken + sums.drawn, in: sums.repaid + sums.redeemed + sums.sold };
+  const charges = { repaid: sum(lists.repaid, "charges"), redeemed: sum(lists.redeemed, "charges") };
+  return { lists, sums, charges, out: sums.taken + sums.drawn, in: sums.repaid + sums.redeemed + sums.sold };
 }
 
+/** Each list: its title, which way the money went, what is said where it is empty, and whether charges are in it. */
 const SECTIONS = {
   taken: { title: "Taken", way: "Paid out", empty: "No pledge was taken." },
   drawn: { title: "Drawn", way: "Paid out", empty: "Nothing was drawn." },
-  repaid: { title: "Repaid", way: "Received", empty: "Nothing was repaid." },
-  redeemed: { title: "Redeemed", way: "Received", empty: "No pledge was redeemed." },
+  repaid: { title: "Repaid", way: "Received", empty: "Nothing was repaid.", isParted: true },
+  redeemed: { title: "Redeemed", way: "Received", empty: "No pledge was redeemed.", isParted: true },
   sold: { title: "Sold", way: "Net proceeds", empty: "Nothing was sold." },
 };
 
-const rowOf = ({ pledge, pence }) =>
-  make("tr", {}, numberCell(pledge), articleCell(pledge), make("td", { className: "number" }, inPounds(pence)));
+function rowOf({ pledge, pence, charges }, isParted) {
+  const parts = isParted ? make(
+    "span", { className: "reference" }, `${inPounds(charges)} charges, ${inPounds(pence - charges)} lent`
+  ) : null;
+  return make(
+    "tr", {}, numberCell(pledge), articleCell(pledge), make("td", { className: "number" }, inPounds(pence), parts),
+  );
+}
 
-function sectionOf([name, { title, way, empty }], { lists, sums }) {
+function sectionOf([name, { title, way, empty, isParted }], { lists, sums }) {
   return section({
     title, empty, items: lists[name], count: `${lists[name].length}: ${inPounds(sums[name])}`,
-    heads: [["No."], ["Article and reference"], [way, "number"]], row: rowOf,
+    heads: [["No."], ["Article and reference"], [way, "number"]], row: (line) => rowOf(line, isParted),
   });
+}
+
+/** What was received in two parts, as lines under it. */
+const partsOf = (name, { sums, charges }) => [
+  ["of it charges", inPounds(charges[name])], ["of it what was lent", inPounds(sums[name] - charges[name])],
+];
+
+/** The float: what the drawer had when the day began. This machine keeps it, for this till and this day alone. */
+const floatOf = (day) => kept("float", {})[day] ?? null;
+
+function keepFloat(day, pence) {
+  const days = Object.entries({ ...kept("float", {}), [day]: pence }).sort().slice(-31);
+  keep("float", Object.fromEntries(days));
+}
+
+const floatField = () => byId("till-lists").querySelector(".float [name=amount]");
+
+function floatForm(day) {
+  const pence = floatOf(day);
+  const amount = make("input", {
+    name: "amount", inputMode: "decimal", value: pence === null ? "" : inPounds(pence).slice(1), required: true,
+  });
+  const form = make("form", { className: "screen float", autocomplete: "off" },
+    field("Float: in the drawer when the day began, in pounds", amount, "Kept in this browser, for this day."),
+    buttons(make("button", { className: "plain" }, "Keep the float")));
+  onSend(form, "broker", async (fields) => {
+    keepFloat(day, readPounds(fields.amount));
+    show(day);
+    return "";
+  });
+  return form;
+}
+
+/** By how much the drawer changed, and what it should have where its float is known. */
+function drawerLine(till, day) {
+  const change = till.in - till.out;
+  const by = `${inPounds(Math.abs(change))} ${change < 0 ? "less" : "more"} than`;
+  const line = `The drawer has ${change === 0 ? "as much as" : by} at the day’s beginning, by the book.`;
+  const float = floatOf(day);
+  if (float === null) return line;
+  const should = float + change;
+  const has = should < 0 ? `${inPounds(-should)} less than nothing: count again` : inPounds(should);
+  return `${line} With its float of ${inPounds(float)} it should have ${has}.`;
 }
 
 /** The sums in a card: what came in, what went out, and by how much the drawer changed. */
 function sumsCard(till, day) {
   const { sums } = till;
-  const change = till.in - till.out;
   const told = facts([
     ["Taken: lent on fixed sums", inPounds(sums.taken)],
     ["Drawn", inPounds(sums.drawn)],
     ["Paid out", inPounds(till.out)],
-    ["Repaid", inPounds(sums.repaid)],
-    ["Redeemed", inPounds(sums.redeemed)],
+    ["Repaid", inPounds(sums.repaid)], ...partsOf("repaid", till),
+    ["Redeemed", inPounds(sums.redeemed)], ...partsOf("redeemed", till),
     ["Sold, net", inPounds(sums.sold)],
     ["Received", inPounds(till.in)],
   ]);
+  for (const row of told.children) if (row.firstChild.textContent.startsWith("of it ")) row.classList.add("part");
   const { till: name } = shop();
   const title = make(
     "h2", {}, day === today() ? "Sums of today" : `Sums of ${inWords(day)}`,
     name && make("span", { className: "count" }, name),
   );
-  const by = `${inPounds(Math.abs(change))} ${change < 0 ? "less" : "more"} than`;
-  const line = `The drawer has ${change === 0 ? "as much as" : by} at the day’s beginning, by the book.`;
-  return make("section", { className: "card sums" }, title, told, make("p", { className: "example" }, line));
+  const line = make("p", { className: "example" }, drawerLine(till, day));
+  return make("section", { className: "card sums" }, title, told, line, floatForm(day));
 }
 
 function show(day) {
-  const book = ledger();
-  dayField().value = day;
-  if (book === null) return;
-  const till = tillOf(book, day);
-  byId("till-title").textContent = day === today()
-    ? `Till, today, ${inWords(day)}`
-    : `Till, ${inWords(day)}, ${seenFrom(today(), day)}`;
+  showDayOf("till", day, { name: "Till", isToday: "today" });
+  if (ledger.book === null) {
+    byId("till-lists").replaceChildren(make("p", { className: "empty" }, missingInWords()));
+    return;
+  }
+  const till = tillOf(ledger.book, day);
+  const typed = floatField()?.value;
   byId("till-lists").replaceChildren(
     sumsCard(till, day), ...Object.entries(SECTIONS).map((one) => sectionOf(one, till))
   );
+  if (typed !== undefined && day === drawn) floatField().value = typed;
+  drawn = day;
 }
 
-export function setUpTill() {
-  onSend(byId("till-day"), "broker", async ({ day }, button) => {
-    const wanted = plusDays(day, Number(button?.value ?? 0));
-    location.hash = wanted === today() ? "till" : `till=${wanted}`;
-    return "";
-  });
-}
+export const setUpTill = () => setUpDayForm("till", async (day) => show(day));
 
 /** The till of the day that the address names, or of today. */
-export const showTill = (day) => show(day ?? today());
+export function showTill(day) {
+  putDay("till", day ?? today());
+  show(day ?? today());
+}
+
+/** The same once the book was read or mended; what was typed stays. */
+export const redrawTill = (day) => show(day ?? today());

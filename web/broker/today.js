@@ -1,21 +1,26 @@
 /** The sheet of a day: who comes, who asked to come and waits for an answer, and which periods end. */
-import { byId, foreign, make } from "/shared/dom.js";
-import { inShort, inWords, plusDays, seenFrom, today } from "/shared/days.js";
-import { onSend, run } from "/shared/forms.js";
-import { readSheet } from "/shared/sheet.js";
-import { windowInWords } from "/shared/windows.js";
+import { inShort, plusDays, seenFrom, today } from "../shared/days.js";
+import { byId, foreign, make } from "../shared/dom.js";
+import { run } from "../shared/forms.js";
+import { inPounds } from "../shared/money.js";
+import { readSheet } from "../shared/sheet.js";
+import { termsInWords } from "../shared/terms.js";
+import { windowInWords } from "../shared/windows.js";
+import { putDay, setUpDayForm, showDayOf } from "./dayform.js";
 import { waiting } from "./groups.js";
-import { anotherChanged, ledger, pledgeOf } from "./ledger.js";
-import { askBook } from "./session.js";
+import { ledger } from "./ledger.js";
+import { askBook, current } from "./session.js";
 import { pledgeLink } from "./tables.js";
 
 /** At most so many lines stand in a card. */
 const MOST = 40;
+/** The sheets of so many days after today are looked at, too, for visits that were asked for meanwhile. */
+const AHEAD = 7;
 
 let notice;
 let sheet = null;
-
-const dayField = () => byId("sheet-day").elements.day;
+/** The sheets that were read since this part was gone to, by their days. */
+const sheets = new Map();
 
 function card(title, lines, empty) {
   const shown = lines.slice(0, MOST);
@@ -26,96 +31,134 @@ function card(title, lines, empty) {
   return make("section", { className: "card" }, make("h2", {}, title), body);
 }
 
+/** What the book tells of a pledge: its reference, what is owed, its end with the days of grace, and its terms. */
+function detailOf(pledge) {
+  const { reference, ends, agreed, fiveDays } = pledge;
+  const owed = ledger.owed(pledge);
+  const terms = ledger.termsOf(pledge);
+  const end = `ends ${inShort(ends)}${agreed === ends ? ", as agreed" : ""}`;
+  const told = [
+    owed && `${inPounds(owed.owing)} owed today`, `${end}, with ${fiveDays ? "five" : "no"} days of grace`,
+    terms && termsInWords(terms),
+  ];
+  return make(
+    "span", { className: "reference" }, "reference ", foreign(reference), `; ${told.filter(Boolean).join("; ")}`,
+  );
+}
+
+/** A pledge's link with its article and what the book tells of it. */
+function named(number) {
+  const pledge = ledger.pledge(number);
+  const more = pledge ? [foreign(pledge.article), detailOf(pledge)] : [];
+  return make("span", { className: "links" }, pledgeLink(number), ...more);
+}
+
 function windowLine({ window, capacity, pledges }) {
   const count = make("span", { className: "count" }, `${pledges.length} of ${capacity}`);
-  return make(
-    "li", {}, make("span", { className: "time" }, windowInWords(window)), count,
-    make("span", { className: "links" }, ...pledges.map(pledgeLink)),
-  );
+  return make("li", {}, make("span", { className: "time" }, windowInWords(window)), count, ...pledges.map(named));
 }
+
+const keyOf = ({ day, window }) => `${day} ${String(window).padStart(2, "0")}`;
 
 /**
- * The visits that wait: those of the book in the page on other days, and those of this sheet, which was read just now.
+ * The visits that wait: those of the sheets that were read, and on other days those of the book in the page.
  */
-function asked(now) {
-  const others = waiting(ledger()).map(
-    ({ number, booking }) => ({ number, ...booking })
-  ).filter(({ day }) => day !== sheet.day);
-  const here = sheet.asked.map(({ number, window }) => ({ number, window, day: sheet.day }));
-  const key = ({ day, window }) => `${day} ${String(window).padStart(2, "0")}`;
-  const all = [...others, ...here].sort((one, other) => (key(one) < key(other) ? -1 : 1));
-  return all.map(({ number, window, day }) => {
-    const when = day < now ? `${inShort(day)}, which is over` : `${inShort(day)}, ${seenFrom(now, day)}`;
-    const pledge = pledgeOf(number);
-    const links = make("span", { className: "links" }, pledgeLink(number), pledge && foreign(pledge.article));
-    return make("li", {}, make("span", { className: "time" }, `${when}, ${windowInWords(window)}`), links);
-  });
+function asked() {
+  const others = ledger.book
+    ? waiting(ledger.book).map(({ number, booking }) => ({ number, ...booking })).filter(({ day }) => !sheets.has(day))
+    : [];
+  const read = [...sheets.values()].flatMap(
+    ({ day, asked: all }) => all.map(({ number, window }) => ({ number, window, day }))
+  );
+  return [...others, ...read].sort((one, other) => (keyOf(one) < keyOf(other) ? -1 : 1));
 }
 
-/** Before the book was read, only this day is known. */
-function waitingCard(now) {
-  if (ledger() !== null) return card(
-    "Waiting for an answer, on any day", asked(now), "Nobody waits for an answer, as the book was read.",
-  );
-  const lines = sheet.asked.map(
-    ({ number, window }) => make(
-      "li", {}, make("span", { className: "time" }, windowInWords(window)), pledgeLink(number),
-    )
-  );
-  const whole = card("Waiting for an answer, on this day", lines, "Nobody asked to come on this day.");
-  whole.append(make("p", { className: "empty" }, "Other days are told once the book is read."));
+function askedLine({ number, window, day }) {
+  const now = today();
+  const when = day < now ? `${inShort(day)}, which is over` : `${inShort(day)}, ${seenFrom(now, day)}`;
+  return make("li", {}, make("span", { className: "time" }, `${when}, ${windowInWords(window)}`), named(number));
+}
+
+/** Before the book was read, only the days whose sheets were read are known. */
+function waitingCard() {
+  const lines = asked().map(askedLine);
+  if (ledger.book !== null) {
+    return card("Waiting for an answer, on any day", lines, "Nobody waits for an answer, as the book was read.");
+  }
+  const whole = card("Waiting for an answer, as far as was read", lines, "Nobody asked to come, as far as was read.");
+  whole.append(make("p", { className: "empty" }, "Other days, and articles, are told once the book is read."));
   return whole;
 }
 
 function draw() {
-  const now = today();
-  byId("sheet-title").textContent = sheet.day === now
-    ? `Today, ${inWords(now)}`
-    : `${inWords(sheet.day)}, ${seenFrom(now, sheet.day)}`;
+  showDayOf("today", sheet.day, { isToday: "Today" });
   const cards = [
     card("Coming", sheet.windows.map(windowLine), "No visit is confirmed for this day."),
-    waitingCard(now),
-    card("Period ends", sheet.ends.map((number) => make("li", {}, pledgeLink(number))), "No period ends on this day."),
+    waitingCard(),
+    card("Period ends", sheet.ends.map((number) => make("li", {}, named(number))), "No period ends on this day."),
   ];
   // Where nothing is new, whatever has the focus or is being pressed stays.
   const isNew = cards.map(({ textContent }) => textContent).join("") !== byId("sheet").textContent;
   if (isNew) byId("sheet").replaceChildren(...cards);
 }
 
-/** Whether the sheet has an ask that the book in the page has not: somebody asked since it was read. */
-const hasNews = () => ledger() !== null && sheet.asked.some(({ number, window }) => {
-  const booking = pledgeOf(number)?.booking;
-  return booking?.day !== sheet.day || booking.window !== window || booking.state !== "asked";
+async function fetchSheet(day) {
+  const session = current();
+  const found = readSheet((await askBook("GET", `/days/${day}`)).text);
+  if (session === current()) sheets.set(day, found);
+  return found;
+}
+
+/** Whether a sheet has an ask that the book in the page has not: somebody asked since it was read. */
+const hasNews = ({ day, asked: all }) => ledger.book !== null && all.some(({ number, window }) => {
+  const booking = ledger.pledge(number)?.booking;
+  return booking?.day !== day || booking.window !== window || booking.state !== "asked";
 });
 
 async function read(day) {
-  dayField().value = day;
-  const { text } = await askBook("GET", `/days/${day}`);
-  sheet = readSheet(text);
+  const session = current();
+  const found = await fetchSheet(day);
+  if (session !== current()) return;
+  sheet = found;
   draw();
-  if (hasNews()) anotherChanged();
+  if (hasNews(found)) ledger.anotherChanged();
+}
+
+/**
+ * Looks at the sheet that is shown, and at those of the next days, without a word; what they tell anew is drawn. A look
+ * that fails leaves what is shown.
+ */
+export async function refreshToday() {
+  if (sheet === null) return;
+  const { day } = sheet;
+  const next = Array.from({ length: AHEAD + 1 }, (_, count) => plusDays(today(), count));
+  try {
+    for (const one of new Set([day, ...next])) await fetchSheet(one);
+  } catch {
+    return;
+  }
+  if (sheet?.day !== day) return;
+  sheet = sheets.get(day);
+  draw();
 }
 
 export function clearToday() {
   sheet = null;
+  sheets.clear();
   byId("sheet").replaceChildren();
 }
 
 export function setUpToday() {
-  notice = onSend(byId("sheet-day"), "broker", async ({ day }, button) => {
-    const wanted = plusDays(day, Number(button?.value ?? 0));
-    const hash = wanted === today() ? "#today" : `#today=${wanted}`;
-    if (location.hash === hash) await read(wanted);
-    else location.hash = hash;
-    return "";
-  });
+  notice = setUpDayForm("today", read);
 }
 
 /** The sheet of the day that the address names, or today's. */
-export function showToday(day) {
-  return run(
-    { notice, within: byId("sheet-day"), reader: "broker", act: async () => { await read(day ?? today()); return ""; } }
-  );
+export async function showToday(day) {
+  sheets.clear();
+  putDay("today", day ?? today());
+  const act = async () => { await read(day ?? today()); return ""; };
+  const fault = await run({ notice, within: byId("sheet-day"), reader: "broker", act });
+  if (fault === null) await refreshToday();
 }
 
 /** The list of who waits is drawn again when the book was read. */

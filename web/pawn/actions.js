@@ -1,13 +1,16 @@
 /** What a pawnor may do with a pledge: ask for a time to come, take that back, pay a part, redeem. */
-import { make } from "/shared/dom.js";
-import { inWords, seenFrom, today } from "/shared/days.js";
-import { Lost } from "/shared/faults.js";
-import { buttons, field, fold } from "/shared/forms.js";
-import { inPounds, readPounds } from "/shared/money.js";
-import { recordEntry } from "/shared/payments.js";
-import { confirmed, NOTHING_DONE } from "/shared/questions.js";
-import { Unreadable } from "/shared/unreadable.js";
-import { WINDOWS, windowInWords } from "/shared/windows.js";
+import { inWords, seenFrom, today } from "../shared/days.js";
+import { make } from "../shared/dom.js";
+import { Lost } from "../shared/faults.js";
+import { buttons, field, fold } from "../shared/forms.js";
+import { inPounds, readPounds } from "../shared/money.js";
+import { recordEntry } from "../shared/payments.js";
+import { lastSafeDay } from "../shared/period.js";
+import { confirmed, NOTHING_DONE } from "../shared/questions.js";
+import { reckoningForm } from "../shared/reckoning.js";
+import { isOpen, isToCome } from "../shared/statuses.js";
+import { Unreadable } from "../shared/unreadable.js";
+import { WINDOWS, windowInWords } from "../shared/windows.js";
 
 /** A form in a fold, which acts on the card when it is sent. */
 const foldOf = (card, title, parts, act) =>
@@ -18,13 +21,15 @@ const foldOf = (card, title, parts, act) =>
 /** What is said where the answer to a question was no. Nothing was changed, so nothing is looked at. */
 const NOT_NOW = { ...NOTHING_DONE, look: false };
 
-/** A visit after the period's end may come too late: it is asked about. */
-function agreedToLate({ ends }, day) {
-  if (day <= ends) return true;
+/** A visit after the period's end and its days of grace may come too late: it is asked about. */
+function agreedToLate({ statement, known }, day) {
+  const { ends, status } = statement;
+  const last = lastSafeDay({ ends, fiveDays: known.fiveDays ?? status === "grace" });
+  if (day <= last) return true;
   return confirmed({
     title: "Come after the time is over?",
     lines: [
-      `The time of this pledge is over after ${inWords(ends)}. On ${inWords(day)} the article may have been sold, `
+      `The time of this pledge is over after ${inWords(last)}. On ${inWords(day)} the article may have been sold, `
         + `or belong to the shop.`
     ],
     yes: "Ask for this day all the same", no: "Choose another day",
@@ -34,20 +39,22 @@ function agreedToLate({ ends }, day) {
 async function askForVisit(card, { day, window }) {
   if (!day) throw new Unreadable("Choose a day.", "day");
   if (day < today()) throw new Unreadable("That day is over. Choose a later one.", "day");
-  if (!await agreedToLate(card.statement, day)) return NOT_NOW;
+  if (!await agreedToLate(card, day)) return NOT_NOW;
   const { said } = await card.ask("/ask", { day, window: Number(window) }, true);
   const when = `${inWords(said.day)}, ${windowInWords(said.window)}`;
   if (said.booking === "confirmed") return `The shop has confirmed this time already: ${when}.`;
   return `Asked for ${when}. The shop says yes or no; look here again.`;
 }
 
+/** Whether a visit stands whose day is not over. */
+const stands = ({ booking }) => isToCome(booking) && booking.day >= today();
+
 function visitFold(card) {
-  const { booking } = card.statement;
   const day = make("input", { type: "date", name: "day", min: today(), required: true });
   const times = make(
     "select", { name: "window" }, ...WINDOWS.map((window) => make("option", { value: window }, windowInWords(window)))
   );
-  const standing = booking && ["asked", "confirmed"].includes(booking.state);
+  const standing = stands(card.statement);
   const lead = standing
     ? "A new time takes the place of the one that stands."
     : "Say when you would like to fetch it. The shop confirms it or not.";
@@ -62,7 +69,7 @@ function visitFold(card) {
 
 function cancelFold(card) {
   const { booking } = card.statement;
-  if (!booking || !["asked", "confirmed"].includes(booking.state)) return null;
+  if (!stands(card.statement)) return null;
   const when = `Your visit ${seenFrom(today(), booking.day)}, ${inWords(booking.day)}, is taken back. `
     + "You can ask for another.";
   const parts = [make("p", { className: "lead" }, when), buttons(make("button", {}, "Cancel the visit"))];
@@ -84,9 +91,8 @@ async function repay(card, { amount }) {
   });
   if (!yes) return { sentence: "Nothing was recorded.", tone: "quiet", look: false };
   return recordEntry({
-    shown: card.statement, sort: "repay", pence, read: () => card.read(), send: (body) => card.ask(
-      "/repay", body, true,
-    ),
+    shown: card.statement, sort: "repay", pence, askFrom: Infinity, read: () => card.read(),
+    send: (body) => card.ask("/repay", body, true),
   });
 }
 
@@ -131,10 +137,19 @@ function redeemFold(card) {
   return foldOf(card, "Redeem", [make("p", { className: "lead" }, lead), buttons(button)], () => redeem(card));
 }
 
+/** What will be owed on another day, where the receipt's link told the terms. */
+function reckoningFold({ statement, known }) {
+  const form = reckoningForm({ statement, known, reader: "pawnor" });
+  return form && make(
+    "details", { className: "action" }, make("summary", {}, "See what will be owed on another day"), form,
+  );
+}
+
 /** The folds for what may be done now; none where the pledge is over. */
 export function actionsOf(card) {
-  const open = ["inside", "grace", "realisable"].includes(card.statement.status);
-  if (!open) return [];
+  if (!isOpen(card.statement.status)) return [];
   const title = make("h3", {}, "What you can do now");
-  return [title, visitFold(card), cancelFold(card), repayFold(card), redeemFold(card)].filter((part) => part !== null);
+  return [
+    title, visitFold(card), cancelFold(card), reckoningFold(card), repayFold(card), redeemFold(card),
+  ].filter((part) => part !== null);
 }

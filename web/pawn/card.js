@@ -1,20 +1,45 @@
 /** One pledge of the pawnor's: how it stands, and what may be done. */
-import { ask } from "/shared/api.js";
-import { foreign, make } from "/shared/dom.js";
-import { Refused, tellFault } from "/shared/faults.js";
-import { fieldsOf, makeNotice, run, sayAfter, tell } from "/shared/forms.js";
-import { readStatement } from "/shared/statement.js";
-import { summaryOf } from "/shared/summary.js";
-import { Unreadable } from "/shared/unreadable.js";
+import { ask } from "../shared/api.js";
+import { CODES, isRefusal } from "../shared/codes.js";
+import { foreign, make } from "../shared/dom.js";
+import { tellFault } from "../shared/faults.js";
+import { fieldsOf, makeNotice, redrawFolds, run, sayAfter, tell } from "../shared/forms.js";
+import { readStatement } from "../shared/statement.js";
+import { summaryOf } from "../shared/summary.js";
+import { Unreadable } from "../shared/unreadable.js";
 import { actionsOf } from "./actions.js";
 
-const NO_SUCH_RECEIPT = 402;
-const MALFORMED = [NO_SUCH_RECEIPT, 706, 710];
+/** The refusals of a receipt that opens nothing. */
+const OPENS_NOTHING = [CODES.NoSuchReceipt, CODES.NoRoute, CODES.BadReceipt];
+
+/** Titles and sentences for a receipt that opens nothing: by what was seen of it before. */
+const DEAD = {
+  redeemed: [
+    "Redeemed, most likely",
+    "The receipt opens nothing any more, as it is when a pledge is redeemed. Ask the shop whether it was done.",
+  ],
+  seen: [
+    "This receipt was replaced or used",
+    "It opened its pledge before, and opens nothing now: a newer receipt replaced it, or the pledge was redeemed. "
+      + "Ask at the shop.",
+  ],
+  unseen: [
+    "This receipt opens no pledge",
+    "The number of the shop’s book, or a character of the receipt, may be wrong: compare both with the paper. Or a "
+      + "newer receipt replaced it, or the pledge was redeemed already. If the paper is right, ask at the shop.",
+  ],
+};
 
 /** A pledge on the page. It looks at the service whenever something was done. */
 export class Card {
-  constructor({ book, receipt, shop, rate }, forget) {
-    Object.assign(this, { book, receipt, shop, rate, statement: null, lostRedemption: false });
+  constructor(one, forget, changed) {
+    // A tab may have kept a receipt of a page before this one, with less beside it.
+    const { book, receipt, shop, rate, ref, terms = null, fiveDays = null } = one;
+    const known = { reference: ref || null, fiveDays, terms, agreed: undefined };
+    Object.assign(this, { one, book, receipt, shop, rate, known, changed, statement: null, lostRedemption: false });
+    // Whether its receipt was found to open nothing, and has opened nothing before.
+    this.neverOpened = false;
+    this.isShown = false;
     this.summary = make("div", { className: "summary" }, make("p", { className: "waiting" }, "One moment…"));
     this.notice = makeNotice();
     this.actions = make("div", { className: "actions" });
@@ -36,12 +61,19 @@ export class Card {
     );
   }
 
-  /** Reads the pledge as it stands, and shows it. */
-  async look() {
-    const { text } = await this.ask("");
-    this.statement = readStatement(text);
-    this.summary.replaceChildren(...summaryOf(this.statement, this.place(), "pawnor"), ...this.told());
-    this.actions.replaceChildren(...actionsOf(this));
+  /**
+   * Reads the pledge as it stands, and shows it. Folds that are open stay open, but for the one in which something was
+   * just done.
+   */
+  async look(done = null) {
+    this.statement = await this.read();
+    this.isShown = true;
+    this.neverOpened = false;
+    const { statement, known } = this;
+    this.summary.replaceChildren(
+      ...summaryOf({ statement, known, place: this.place(), reader: "pawnor" }), ...this.told()
+    );
+    redrawFolds(this.actions, () => this.actions.replaceChildren(...actionsOf(this)), done);
   }
 
   /** The statement as it stands now. */
@@ -54,48 +86,48 @@ export class Card {
     return [`Pledge ${this.statement.number}`, ...(this.shop ? [" at ", foreign(this.shop)] : [])];
   }
 
-  /** The rate, as the receipt's link carries it. */
+  /** What the receipt's link tells beside the statement: an older one the rate alone, in words. */
   told() {
+    const by = "Reference, days of grace, interest and safe keeping are as the receipt’s link says.";
+    if (this.known.terms) return [make("p", { className: "small" }, by)];
     return this.rate ? [
       make("p", { className: "small" }, "Interest, as the receipt’s link says: ", foreign(this.rate), ".")
     ] : [];
   }
 
   /** A look whose fault is said in place of the pledge. Gives whether there is a pledge. */
-  async show() {
+  async show(done = null) {
+    if (done === null) tell(this.notice, "");
     try {
-      await this.look();
-      return true;
+      await this.look(done);
     } catch (fault) {
       this.showFault(fault);
-      return false;
     }
+    this.changed();
+    return this.isShown;
+  }
+
+  /** What is owed today, in pence; 0 where that is not known, or nothing is owed any more. */
+  get owing() {
+    const { statement, isShown } = this;
+    return isShown && statement.owed && !statement.closing ? statement.owed.owing : 0;
   }
 
   showFault(fault) {
-    const unknown = fault instanceof Refused && MALFORMED.includes(fault.code);
+    this.isShown = false;
+    const opensNothing = isRefusal(fault, ...OPENS_NOTHING);
     const again = make("button", { type: "button", className: "plain" }, "Try again");
     again.addEventListener("click", () => this.show());
-    const [title, text] = this.inWords(fault, unknown);
+    this.neverOpened = opensNothing && this.statement === null;
+    const seen = this.lostRedemption ? "redeemed" : this.statement ? "seen" : "unseen";
+    const [title, text] = opensNothing
+      ? DEAD[seen]
+      : ["The pledge can’t be shown just now", tellFault(fault, "pawnor")];
     const which = `Receipt ${this.receipt}, number of the shop’s book: ${this.book}`;
     const place = make("p", { className: "place" }, which);
     const parts = [make("h2", {}, title), make("p", {}, text), place];
-    this.summary.replaceChildren(...parts, ...(unknown ? [] : [again]));
+    this.summary.replaceChildren(...parts, ...(opensNothing ? [] : [again]));
     this.actions.replaceChildren();
-  }
-
-  /** A title and a sentence for a fault of a look. */
-  inWords(fault, unknown) {
-    if (unknown && this.lostRedemption) {
-      return [
-        "Redeemed, most likely",
-        "The receipt opens nothing any more, as it is when a pledge is redeemed. Ask the shop whether it was done.",
-      ];
-    }
-    return [
-      unknown ? "This receipt was replaced or used" : "The pledge can’t be shown just now",
-      tellFault(fault, "pawnor"),
-    ];
   }
 
   /** Shows that the pledge is redeemed. Its receipt opens nothing any more, so there is nothing to look at. */
@@ -106,7 +138,9 @@ export class Card {
       heading, make("div", { className: "state good" }, make("p", { className: "line" }, sentence), more),
     );
     this.actions.replaceChildren();
+    this.isShown = false;
     heading.focus();
+    this.changed();
   }
 
   /**
@@ -121,7 +155,7 @@ export class Card {
       { notice, within: this.element, reader: "pawnor", act: async () => { said = await act(); return said; } }
     );
     if (fault instanceof Unreadable || said?.look === false) return;
-    await this.show();
+    await this.show(title);
     sayAfter({ within: this.actions, notice: this.notice, title, fields, said, fault, reader: "pawnor" });
   }
 }

@@ -1,26 +1,45 @@
 /** The pawnor's page: the cards of the receipts that this tab holds, and the form that shows another. */
-import { byId } from "/shared/dom.js";
-import { today } from "/shared/days.js";
-import { onSend } from "/shared/forms.js";
+import { onClock } from "../shared/clock.js";
+import { today } from "../shared/days.js";
+import { byId } from "../shared/dom.js";
+import { onSend, tell } from "../shared/forms.js";
+import { inPounds } from "../shared/money.js";
+import { startPage } from "../shared/start.js";
 import { Card } from "./card.js";
 import { keep, kept, ofTyped, takeFragment } from "./receipts.js";
 import { inTurn } from "./turns.js";
 
 const TICK = 20_000;
+const CUT = "That link is not whole, so it opens nothing: it should have the number of the shop’s book and the "
+  + "receipt. Scan the square code again, or type the receipt from the paper.";
 
 const cards = [];
 let day = today();
 
 function store() {
-  keep(cards.map(({ book, receipt, shop, rate }) => ({ book, receipt, shop, rate })));
-  byId("print-page").hidden = cards.length === 0;
+  keep(cards.map(({ one }) => one));
+  for (const button of ["look-again", "print-page"]) byId(button).hidden = cards.length === 0;
   byId("finder").open = cards.length === 0;
   byId("finder-title").textContent = cards.length === 0 ? "Show a pledge" : "Show another pledge";
+  showSum();
+}
+
+/** What is owed on several pledges together. */
+function showSum() {
+  const shown = cards.filter(({ owing }) => owing > 0);
+  byId("sum-line").hidden = shown.length < 2;
+  const sum = shown.reduce((total, { owing }) => total + owing, 0);
+  const missing = cards.some(({ isShown }) => !isShown) ? " What can’t be shown is not in it." : "";
+  byId("sum-line").textContent = `${inPounds(sum)} is owed today on ${shown.length} pledges together.${missing}`;
+}
+
+function drop(card) {
+  cards.splice(cards.indexOf(card), 1);
+  card.element.remove();
 }
 
 function forget(card) {
-  cards.splice(cards.indexOf(card), 1);
-  card.element.remove();
+  drop(card);
   store();
   byId("finder").querySelector("summary").focus();
 }
@@ -29,45 +48,64 @@ function forget(card) {
 function cardOf(one) {
   const there = cards.find(({ book, receipt }) => book === one.book && receipt === one.receipt);
   if (there) return there;
-  const card = new Card(one, forget);
+  const card = new Card(one, forget, showSum);
   cards.push(card);
   byId("cards").append(card.element);
   return card;
 }
 
-/** Puts the receipts' cards on the page, looks at each, and tells whether each shows a pledge. */
-const show = (receipts) => inTurn(receipts.map(cardOf).map((card) => () => card.show()));
+/** Looks at cards, and tells whether each shows a pledge. */
+const look = (some) => inTurn(some.map((card) => () => card.show()));
 
-async function showFragment() {
-  const receipts = takeFragment();
+async function showFragment(notice) {
+  const { receipts, book, isCut } = takeFragment();
+  if (isCut) {
+    byId("finder").open = true;
+    byId("find").elements.book.value ||= book;
+    tell(notice, CUT, "bad");
+  }
   if (receipts.length === 0) return;
-  receipts.forEach(cardOf);
+  const some = receipts.map(cardOf);
   store();
-  await show(receipts);
+  await look(some);
 }
 
-onSend(byId("find"), "pawnor", async (fields) => {
+async function find(fields) {
   const receipts = ofTyped(fields);
-  receipts.forEach(cardOf);
+  // A receipt that was mistyped does not stay above the pledge of the one that is typed after it.
+  const mistyped = cards.filter(({ neverOpened }) => neverOpened);
+  const some = receipts.map(cardOf);
+  mistyped.filter((card) => !some.includes(card)).forEach(drop);
   store();
-  const found = await show(receipts);
+  const found = await look(some);
   if (found.includes(false)) byId("finder").open = true;
   else byId("find").reset();
   return "";
-});
+}
+
 /** A tab that was left open notices the new day, on which more may be owed. */
 function tick() {
   if (document.hidden || day === today()) return;
   day = today();
-  show(cards);
+  look(cards);
 }
 
-document.addEventListener("visibilitychange", tick);
-setInterval(tick, TICK);
-byId("print-page").addEventListener("click", () => print());
-addEventListener("hashchange", showFragment);
-const before = kept();
-before.forEach(cardOf);
-store();
-show(before);
-showFragment();
+async function lookAgain() {
+  byId("look-again").disabled = true;
+  await look(cards);
+  byId("look-again").disabled = false;
+}
+
+startPage(() => {
+  const notice = onSend(byId("find"), "pawnor", find);
+  document.addEventListener("visibilitychange", tick);
+  onClock(tick);
+  setInterval(tick, TICK);
+  byId("look-again").addEventListener("click", lookAgain);
+  byId("print-page").addEventListener("click", () => print());
+  addEventListener("hashchange", () => showFragment(notice));
+  const before = kept().map(cardOf);
+  store();
+  look(before);
+  showFragment(notice);
+});

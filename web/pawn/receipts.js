@@ -1,19 +1,20 @@
 /**
  * The receipts that this tab holds: typed, pasted, or carried by a link's fragment, which reaches no server and no log.
  */
-import { isBook, ofFragment, receiptsTyped } from "/shared/receipts.js";
-import { Unreadable } from "/shared/unreadable.js";
+import { bookOf, isBook, ofFragment, receiptsTyped } from "../shared/receipts.js";
+import { Unreadable } from "../shared/unreadable.js";
 
 const KEPT = "receipts";
 
 /**
  * Takes the receipts out of the address, so that they stand in no bookmark and no shared link. The browser's history
- * may keep the link.
+ * may keep the link. Tells, too, whether the link was cut, and the book that it names.
  */
 export function takeFragment() {
-  const found = ofFragment(location.hash);
-  if (location.hash) history.replaceState(null, "", location.pathname);
-  return found;
+  const { hash } = location;
+  if (hash) history.replaceState(null, "", location.pathname);
+  const receipts = ofFragment(hash);
+  return { receipts, book: bookOf(hash), isCut: hash.length > 1 && receipts.length === 0 };
 }
 
 /**

@@ -1,7 +1,6 @@
 /**
  * Looks at many receipts in turn. A browser joins equal fields of a request into one, which the service takes for no
- * receipt, so one
- * request carries one receipt; and the proxy in front lets each caller ask so often and no more.
+ * receipt. So one request carries one receipt; and the proxy in front lets each caller ask so often and no more.
  */
 
 /** So many at once, so many without a wait, and then one in so many milliseconds. */

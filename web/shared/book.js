@@ -1,5 +1,5 @@
 /** A book, read from the text of comma-separated rows that the service exports: version 1, without extensions, or 2. */
-import { endOf } from "/shared/period.js";
+import { endOf } from "./period.js";
 
 /** The fields of a record that has quotes: a quote in a field stands twice. */
 function quotedFields(line) {
@@ -33,10 +33,9 @@ function pledgeOf(
 ) {
   return {
     number: Number(number), reference, article, kind, pence: Number(pence), taken, agreed: agreed || null,
-    fiveDays: fiveDays === "yes", version: Number(
-      version
-    ), held: held === "yes", changed, state, closed: closed || null,
-    amount: amount === "" ? null : Number(amount), secrets: [], entries: [], extensions: [], booking: null, ends: null,
+    fiveDays: fiveDays === "yes", version: Number(version), held: held === "yes", changed, state,
+    closed: closed || null, amount: amount === "" ? null : Number(amount), secrets: [], entries: [], extensions: [],
+    booking: null, ends: null,
   };
 }
 
@@ -69,6 +68,15 @@ export function readBook(text) {
   }
   for (const pledge of book.pledges) pledge.ends = endOf(pledge);
   return book;
+}
+
+/** A book's terms and how many pledges it has, which its text begins with; null where they have not all come. */
+export function readHead(text) {
+  const [, first, ...rest] = text.split("\n");
+  const [, , terms, pledges] = first?.split(",") ?? [];
+  if (pledges === undefined || rest.length <= Number(terms)) return null;
+  const rows = rest.slice(0, Number(terms)).map((line) => termsOf(line.split(",").slice(1)));
+  return { terms: rows, count: Number(pledges) };
 }
 
 /** The receipt that opens a pledge, or null where none does: the last secret's, until the pledge is redeemed. */

@@ -1,4 +1,5 @@
 /** Days are texts such as 2026-11-26, in the calendar of the service: UTC. */
+import { now } from "./clock.js";
 
 const WEEKDAYS = ["Sunday", "Monday", "Tuesday", "Wednesday", "Thursday", "Friday", "Saturday"];
 const MONTHS = [
@@ -10,8 +11,8 @@ const ONE_DAY = 86_400_000;
 const dateOf = (day) => new Date(`${day}T00:00:00Z`);
 const dayOf = (date) => date.toISOString().slice(0, 10);
 
-/** The service's day now. */
-export const today = () => dayOf(new Date());
+/** The service's day now, whatever this computer's clock says. */
+export const today = () => dayOf(new Date(now()));
 
 /** Thursday 26 November 2026. */
 export function inWords(day) {
@@ -42,8 +43,8 @@ function countSixMonths(day) {
   return dayOf(new Date(Date.UTC(year, month - 1 + 6, Math.min(date, last))));
 }
 
-/** 1 day, 2 days. */
-export const countDays = (count) => (count === 1 ? "1 day" : `${count} days`);
+/** 1 day, 2 days, 1,000 days. */
+export const countDays = (count) => (count === 1 ? "1 day" : `${count.toLocaleString("en-GB")} days`);
 
 /** When a day is, seen from another: today, tomorrow, in 12 days, 3 days ago. */
 export function seenFrom(from, day) {

@@ -1,8 +1,8 @@
 /** The payments and drawings of a pledge: the last ones, and the earlier ones when they are asked for, or printed. */
-import { make } from "/shared/dom.js";
-import { inShort } from "/shared/days.js";
-import { inPounds } from "/shared/money.js";
-import { printWhole } from "/shared/printing.js";
+import { make } from "./dom.js";
+import { inShort } from "./days.js";
+import { inPounds } from "./money.js";
+import { printWhole } from "./printing.js";
 
 /** How many entries are shown first, and how many more each time. */
 const FIRST = 12;

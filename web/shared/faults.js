@@ -1,6 +1,6 @@
 /** What can stand in the way of an answer, and how a person is told. */
-import { sentence } from "/shared/refusals.js";
-import { Unreadable } from "/shared/unreadable.js";
+import { sentence } from "./refusals.js";
+import { Unreadable } from "./unreadable.js";
 
 /** The service refused: its code, its name, and the total or the row that it named. Nothing was changed. */
 export class Refused extends Error {
@@ -16,7 +16,12 @@ export class NotReached extends Error {}
 /** The request may have reached the service, but no reply came back. */
 export class Lost extends Error {}
 
-/** A look that failed after a command was sent: of the command it says nothing. */
+/** What a look gives before a command is sent. Where the look reaches nobody, the command was not sent. */
+export const lookFirst = (look) => look.catch((fault) => {
+  throw fault instanceof NotReached ? new NotReached("command") : fault;
+});
+
+/** A look that failed, by itself or after a command was sent: of the command it says nothing. */
 const UNSEEN = "The service can’t be reached just now. Try again in a minute.";
 
 /** A fault as a sentence for the reader of a page, "pawnor" or "broker". */

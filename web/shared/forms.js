@@ -1,6 +1,11 @@
 /** Forms that ask the service, and the line under each that says what came of it. */
-import { make } from "/shared/dom.js";
-import { fieldOf, tellFault } from "/shared/faults.js";
+import { make } from "./dom.js";
+import { fieldOf, tellFault } from "./faults.js";
+
+/** After so many milliseconds it is said that the service has not answered yet. */
+const LONG = 4000;
+/** How often a line that waits is looked at. */
+const LOOK = 400;
 
 let made = 0;
 
@@ -17,9 +22,10 @@ export function tell(notice, text, tone = "quiet") {
 export const makeNotice = () =>
   make("p", { className: "notice quiet", role: "status", tabIndex: -1, id: newId("notice") });
 
-/** Ties a refusal to the field that it speaks of, and gives that field. */
+/** Ties a refusal to the field that it speaks of, in the notice's own form if it has one, and gives that field. */
 function markField(within, notice, name) {
-  const field = name && within.querySelector(`[name="${name}"]:not([type=radio])`);
+  const place = notice.closest("form") ?? within;
+  const field = name && place.querySelector(`[name="${name}"]:not([type=radio])`);
   if (!field) return null;
   field.setAttribute("aria-invalid", "true");
   field.setAttribute("aria-errormessage", notice.id);
@@ -33,16 +39,40 @@ function clearMarks(within) {
   }
 }
 
+let explained = () => null;
+
+/** Has a wait explained: the function gives a sentence, or null where it has none. */
+export const explainWaiting = (explain) => { explained = explain; };
+
+/** Says what the page waits for, and after a while that it still does. Gives what ends it. */
+function tellWaiting(notice) {
+  let begun = Date.now();
+  const say = () => {
+    if (document.querySelector("dialog")) begun = Date.now();
+    const isLong = Date.now() - begun >= LONG;
+    const text = explained() ?? (isLong ? "The service has not answered yet. Waiting a little longer…" : "One moment…");
+    if (notice.textContent !== text) tell(notice, text);
+  };
+  say();
+  const timer = setInterval(say, LOOK);
+  return () => clearInterval(timer);
+}
+
+/** Says in a notice the better sentence that was promised, if it still says the first. */
+export async function tellLater(notice, { message, later }) {
+  const better = await later;
+  if (better && notice.textContent === message) tell(notice, better, "bad");
+}
+
 /**
  * Runs an act with its buttons out of use, and says in the notice what came of it. The act gives the sentence of its
- * success, or
- * a sentence with its tone. Gives the fault, or null.
+ * success, or a sentence with its tone. Gives the fault, or null.
  */
 export async function run({ notice, within, reader, act }) {
   const buttons = [...within.querySelectorAll("button")].filter((button) => !button.disabled);
   buttons.forEach((button) => { button.disabled = true; });
   clearMarks(within);
-  tell(notice, "One moment…");
+  const endWaiting = tellWaiting(notice);
   let fault = null;
   let field = null;
   try {
@@ -52,7 +82,9 @@ export async function run({ notice, within, reader, act }) {
     fault = found;
     tell(notice, tellFault(fault, reader), "bad");
     field = markField(within, notice, fieldOf(fault));
+    tellLater(notice, fault);
   } finally {
+    endWaiting();
     buttons.forEach((button) => { button.disabled = false; });
   }
   const target = field?.isConnected ? field : notice;
@@ -86,21 +118,47 @@ export function fold(title, form, act) {
   return details;
 }
 
+/** The fold of this title within an element, or null. */
+export const foldOf = (within, title) =>
+  [...within.querySelectorAll("details")].find((one) => one.firstChild.textContent === title) ?? null;
+
 /** Puts what was typed back into a form that was made anew. */
 function fillAgain(form, fields) {
   for (const [name, value] of Object.entries(fields)) {
     const input = form.elements[name];
-    if (input && input.type !== "file") input.value = value;
+    if (input?.type === "checkbox") input.checked = true;
+    else if (input && input.type !== "file") input.value = value;
+  }
+}
+
+/**
+ * Has the folds within an element made anew. Those that were open are open again, with what was typed in them and with
+ * the focus; but not the one in which something was just done.
+ */
+export function redrawFolds(within, redraw, done = null) {
+  const open = [...within.querySelectorAll("details[open]")].map((details) => {
+    const form = details.querySelector("form");
+    return {
+      title: details.firstChild.textContent, fields: form ? fieldsOf(form) : {},
+      focused: details.contains(document.activeElement) ? document.activeElement.name : null,
+    };
+  });
+  redraw();
+  for (const { title, fields, focused } of open) {
+    const details = title === done ? null : foldOf(within, title);
+    const form = details?.querySelector("form");
+    if (details) details.open = true;
+    if (form) fillAgain(form, fields);
+    if (form && focused) form.elements[focused]?.focus?.();
   }
 }
 
 /**
  * Says what came of an act after which all folds were made anew: in the notice above them where it was done, else in
- * the fold of that
- * title, which is opened again with what was typed.
+ * the fold of that title, which is opened again with what was typed.
  */
 export function sayAfter({ within, notice, title, fields, said, fault, reader }) {
-  const details = [...within.querySelectorAll("details")].find((one) => one.firstChild.textContent === title);
+  const details = foldOf(within, title);
   const tone = fault ? "bad" : said?.tone ?? "good";
   const text = fault ? tellFault(fault, reader) : said?.sentence ?? said ?? "";
   if (tone === "good" || !details) {

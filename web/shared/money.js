@@ -1,5 +1,5 @@
 /** Amounts: whole pence in the pages and the service, pounds for people. */
-import { Unreadable } from "/shared/unreadable.js";
+import { Unreadable } from "./unreadable.js";
 
 /** Pence as people write pounds: 123456 is £1,234.56. */
 export function inPounds(pence) {
@@ -14,5 +14,8 @@ export function readPounds(text, field = "amount") {
   return Number(found[1].replaceAll(",", "")) * 100 + Number(found[2] ?? 0);
 }
 
-/** From this many pence on, an amount is asked about before it is sent. */
+/** From this many pence on, an amount is asked about before it is sent, where the shop did not set another sum. */
 export const LARGE = 100_000;
+
+/** The largest amount that the service takes, in pence. */
+export const MOST = 100_000_000;

@@ -1,5 +1,5 @@
 /** What is owed on a day, reckoned by the rules in whole numbers: the statement tells it for today alone. */
-import { daysBetween } from "/shared/days.js";
+import { daysBetween } from "./days.js";
 
 /** Charges are kept in millionths of a penny. */
 const PENNY = 1_000_000n;
@@ -15,34 +15,47 @@ function chargesBetween(from, to, { ends, rates, principal }) {
     + BigInt(days - before) * BigInt(rates.keepAfter);
 }
 
-/**
- * What an entry leaves: a repayment pays whole pence of charges first, then what is lent; the fraction of a penny
- * stays.
- */
-function afterEntry({ principal, millionths }, { sort, pence }) {
-  const amount = BigInt(pence);
-  if (sort === "draw") return { principal: principal + amount, millionths };
-  const whole = millionths / PENNY;
-  const paid = amount < whole ? amount : whole;
-  return { principal: principal - (amount - paid), millionths: millionths - paid * PENNY };
+/** What is owed on a later day, if nothing is entered between. */
+function carried({ at, principal, millionths }, { ends }, rates, day) {
+  if (day < at) throw new Error("what is owed is not told for a day before the last payment");
+  return { at: day, principal, millionths: millionths + chargesBetween(at, day, { ends, rates, principal }) };
 }
+
+/** How much of a repayment goes to charges: whole pence of them first. */
+function toCharges({ millionths }, pence) {
+  const whole = millionths / PENNY;
+  return pence < whole ? pence : whole;
+}
+
+/** What an entry leaves; the fraction of a penny stays. */
+function afterEntry(owed, { sort, pence }) {
+  const amount = BigInt(pence);
+  if (sort === "draw") return { ...owed, principal: owed.principal + amount };
+  const paid = toCharges(owed, amount);
+  return { ...owed, principal: owed.principal - (amount - paid), millionths: owed.millionths - paid * PENNY };
+}
+
+const atFirst = ({ kind, credit, taken }) =>
+  ({ at: taken, principal: kind === "fixed" ? BigInt(credit) : 0n, millionths: 0n });
 
 /**
  * The principal, the charges and their sum in pence on a day, of a pledge as its statement tells it and by the terms
- * that it keeps.
- * Throws where the day is before the day taken or before an entry.
+ * that it keeps. Throws where the day is before the day taken or before an entry.
  */
-export function owedOn({ kind, credit, taken, ends, entries }, rates, day) {
-  let at = taken;
-  let owed = { principal: kind === "fixed" ? BigInt(credit) : 0n, millionths: 0n };
-  for (const entry of [...entries, { day, sort: "draw", pence: 0 }]) {
-    if (entry.day < at) throw new Error("what is owed is not told for a day before the last payment");
-    owed = {
-      ...owed, millionths: owed.millionths + chargesBetween(at, entry.day, { ends, rates, principal: owed.principal }),
-    };
-    owed = afterEntry(owed, entry);
-    at = entry.day;
-  }
-  const charges = owed.millionths / PENNY;
-  return { principal: Number(owed.principal), charges: Number(charges), owing: Number(owed.principal + charges) };
+export function owedOn(statement, rates, day) {
+  let owed = atFirst(statement);
+  for (const entry of statement.entries) owed = afterEntry(carried(owed, statement, rates, entry.day), entry);
+  const { principal, millionths } = carried(owed, statement, rates, day);
+  const charges = millionths / PENNY;
+  return { principal: Number(principal), charges: Number(charges), owing: Number(principal + charges) };
+}
+
+/** For each entry of a pledge, how much of it went to charges, in pence: nothing of what was drawn. */
+export function chargesPaid(statement, rates) {
+  let owed = atFirst(statement);
+  return statement.entries.map((entry) => {
+    const before = carried(owed, statement, rates, entry.day);
+    owed = afterEntry(before, entry);
+    return entry.sort === "draw" ? 0 : Number(toCharges(before, BigInt(entry.pence)));
+  });
 }

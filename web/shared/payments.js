@@ -2,14 +2,15 @@
  * Drawings and repayments, recorded so that two clerks, or a clerk and a pawnor, don't take one for the other.
  *
  * The service can't tell two equal entries of one number apart: it answers the second as it answered the first. So the
- * pledge is
- * read before, and what came in between is shown; and it is read after, and compared with what must stand.
+ * pledge is read before, and what came in between is shown; and it is read after, and compared with what must stand.
  */
-import { inWords, today } from "/shared/days.js";
-import { entryInWords } from "/shared/entries.js";
-import { Lost } from "/shared/faults.js";
-import { inPounds, LARGE } from "/shared/money.js";
-import { confirmed } from "/shared/questions.js";
+import { refusalOf } from "./codes.js";
+import { inWords, today } from "./days.js";
+import { entryInWords } from "./entries.js";
+import { Lost, lookFirst } from "./faults.js";
+import { inPounds, LARGE, MOST } from "./money.js";
+import { confirmed } from "./questions.js";
+import { isOpen } from "./statuses.js";
 
 const NOTHING = { sentence: "Nothing was recorded.", tone: "quiet" };
 const WORDS = { draw: { done: "Drawn", as: "paid out" }, repay: { done: "Repaid", as: "received" } };
@@ -32,8 +33,34 @@ function cameBetween(shown, now) {
 
 const owedLine = ({ owed }) => (owed ? `${inPounds(owed.owing)} is owed now.` : "Nothing more is done on this pledge.");
 
+/** The refusal that the pledge, as it was read just now, must bring; or null. */
+function refusedNow({ status, owed, kind, credit }, sort, pence) {
+  if (!isOpen(status)) return refusalOf(status === "passed" ? "Passed" : "Closed");
+  if (sort === "draw" && kind === "fixed") return null;
+  if (pence === 0 || pence > MOST) return refusalOf("BadAmount");
+  if (sort === "repay") return pence > owed.owing ? refusalOf("OverOwing", { total: owed.owing }) : null;
+  return owed.principal + pence > credit ? refusalOf("OverLimit") : null;
+}
+
+/** Whether an amount is unlike the pledge: above its charges and half of what is lent, or above half of its limit. */
+function isUnlike({ owed, credit }, sort, pence) {
+  if (!owed) return false;
+  return sort === "repay" ? pence > owed.charges + owed.principal / 2 : pence > credit / 2;
+}
+
+/** How an entry that should not have been made is set right, since none can be taken back. */
+function mending({ kind, owed }, sort, pence) {
+  if (sort === "draw") return "An entry can’t be taken back: money drawn by mistake is recorded as repaid.";
+  if (pence === owed?.owing) {
+    return "That is all that is owed, but the pledge stays open after it. If the article goes out today, redeem the "
+      + "pledge by the paper in place of this.";
+  }
+  if (kind === "running") return "An entry can’t be taken back: what was repaid by mistake is drawn again.";
+  return "An entry can’t be taken back, and nothing is drawn again on a fixed sum.";
+}
+
 /** Asks where something came in between, or the amount is large. Gives whether to go on. */
-async function agreed({ shown, now, sort, pence }) {
+async function agreed({ shown, now, sort, pence, askFrom }) {
   const between = cameBetween(shown, now);
   const amount = inPounds(pence);
   if (between.length > 0) {
@@ -46,13 +73,11 @@ async function agreed({ shown, now, sort, pence }) {
       yes: `Yes, record ${amount} as well`, no: "No, record nothing",
     });
   }
-  if (pence < LARGE) return true;
-  return confirmed(
-    {
-      title: `Record ${amount} as ${WORDS[sort].as}?`, lines: [owedLine(now), "An entry can’t be taken back."],
-      yes: `Record ${amount}`, no: "Not now",
-    }
-  );
+  if (pence < askFrom && !(Number.isFinite(askFrom) && isUnlike(now, sort, pence))) return true;
+  return confirmed({
+    title: `Record ${amount} as ${WORDS[sort].as}?`, lines: [owedLine(now), mending(now, sort, pence)],
+    yes: `Record ${amount}`, no: "Not now",
+  });
 }
 
 /** Whether what is read after the entry is what must stand then. A new day adds charges of its own. */
@@ -105,12 +130,14 @@ function tellLost({ now, after, entry }) {
 
 /**
  * Records an entry on a pledge: `read` gives its statement as it stands, `send` sends the body, `sort` is draw or
- * repay. Gives what is to
- * be said, with its tone. Throws what the service or the line refuses.
+ * repay. An amount from `askFrom` on, or one that is unlike the pledge, is asked about; where it was asked about
+ * already, `askFrom` is Infinity. Gives what is to be said, with its tone. Throws what the service or the line refuses.
  */
-export async function recordEntry({ shown, read, send, sort, pence }) {
-  const now = await read();
-  if (!await agreed({ shown, now, sort, pence })) return NOTHING;
+export async function recordEntry({ shown, read, send, sort, pence, askFrom = LARGE }) {
+  const now = await lookFirst(read());
+  const refused = refusedNow(now, sort, pence);
+  if (refused) throw refused;
+  if (!await agreed({ shown, now, sort, pence, askFrom })) return NOTHING;
   const entry = { seq: now.nextSeq, sort, pence };
   const day = today();
   try {

@@ -1,7 +1,7 @@
 /**
  * When a pledge's period ends, and how the pledge stands on a day, by the rules, for pledges of the book in the page.
  */
-import { plusDays, sixMonthsAfter } from "/shared/days.js";
+import { plusDays, sixMonthsAfter } from "./days.js";
 
 /** Up to this credit in pence, an article whose period of six months is over is the broker's. */
 const SMALL = 7500;

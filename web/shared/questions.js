@@ -1,5 +1,5 @@
 /** A question before what can't be taken back. */
-import { make } from "/shared/dom.js";
+import { make } from "./dom.js";
 
 let asked = 0;
 
@@ -10,7 +10,8 @@ const lineOf = (line) => make("p", {}, ...(Array.isArray(line) ? line : [line]))
 export function confirmed({ title, lines, yes, no }) {
   asked += 1;
   const heading = make("h2", { id: `question-${asked}` }, title);
-  const dialog = make("dialog", { className: "question" }, heading, ...lines.map(lineOf));
+  const said = lines.filter(Boolean).map(lineOf);
+  const dialog = make("dialog", { className: "question" }, heading, ...said);
   const agree = make("button", { type: "button", className: "grave" }, yes);
   const refuse = make("button", { type: "button", className: "plain", autofocus: true }, no);
   dialog.append(make("div", { className: "buttons" }, agree, refuse));

@@ -4,11 +4,14 @@
 const DASHES = /[\u2010-\u2015\u2212\u00ad\ufe58\ufe63\uff0d]/g;
 /** Marks that are not seen, and braces and words that the service would also read. */
 const UNSEEN = /[\u200b-\u200f\u202a-\u202e\u2060\u2066-\u2069\ufeff{}]|urn:uuid:/gi;
-/** A number, a hyphen and 32 digits, with blanks and hyphens anywhere between. */
-const RECEIPT = /(?<![0-9a-z])([1-9]\d{0,8})[ \t\u00a0\u202f]*-[\s-]*((?:[0-9a-f][\s-]*){31}[0-9a-f])(?![0-9a-z])/gi;
+/** A number and 32 digits, with blanks or hyphens between them and anywhere among the digits. */
+const RECEIPT = /(?:^|[^0-9a-z])([1-9]\d{0,8})[\s-]+((?:[0-9a-f][\s-]*){31}[0-9a-f])(?![0-9a-z])/gi;
 const BOOK = /^[1-9]\d{0,8}$/;
-/** What a link may say beside the receipt, at most so many letters of it. */
-const LONGEST = { shop: 60, rate: 120 };
+const TERMS = /^(\d{1,5})\.(\d{1,8})\.(\d{1,8})$/;
+/** The texts that a link may say beside the receipt, at most so many letters of each. */
+const LONGEST = { shop: 60, rate: 120, ref: 40 };
+/** A longer link makes a code that a telephone reads badly, so what it says beside the receipt is left out. */
+const LONGEST_LINK = 280;
 
 const GROUPS = /^(.{8})(.{4})(.{4})(.{4})(.{12})$/;
 
@@ -29,15 +32,46 @@ export const numberOf = (receipt) => Number(receipt.split("-")[0]);
 
 export const isBook = (text) => BOOK.test(text);
 
-/** The receipts of a link's fragment with their book, and what the link says of the shop and its terms. */
-export function ofFragment(fragment) {
-  const said = new URLSearchParams(fragment.replace(/^#/, ""));
-  const book = (said.get("book") ?? "").trim();
-  if (!isBook(book)) return [];
-  const told = Object.fromEntries(
-    Object.entries(LONGEST).map(([name, longest]) => [name, (said.get(name) ?? "").trim().slice(0, longest)])
+function termsOf(text) {
+  const [, rate, keepBefore, keepAfter] = (TERMS.exec(text) ?? []).map(Number);
+  return rate === undefined ? null : { rate, keepBefore, keepAfter };
+}
+
+/** The days of grace as a link says them: true for five, false for none, null where it says nothing. */
+const GRACE = { 5: true, 0: false };
+
+/** What is told of a pledge beside its receipt; here nothing. */
+const UNTOLD = { shop: "", rate: "", ref: "", terms: null, fiveDays: null };
+
+/** What a link says of the shop, the reference and the terms. */
+function toldIn(said) {
+  const texts = Object.entries(LONGEST).map(
+    ([name, longest]) => [name, (said.get(name) ?? "").trim().slice(0, longest)]
   );
-  return said.getAll("receipt").flatMap(receiptsIn).map((receipt) => ({ book, receipt, ...told }));
+  return {
+    ...UNTOLD, ...Object.fromEntries(texts), terms: termsOf(said.get("terms") ?? ""),
+    fiveDays: GRACE[said.get("grace")] ?? null,
+  };
+}
+
+/** What a link's fragment says, by its names in small letters. */
+function saidIn(fragment) {
+  const typed = new URLSearchParams(fragment.replace(/^#/, ""));
+  return new URLSearchParams([...typed].map(([name, value]) => [name.toLowerCase(), value]));
+}
+
+/** The book that a link's fragment names, or an empty text. */
+export function bookOf(fragment) {
+  const book = (saidIn(fragment).get("book") ?? "").trim();
+  return isBook(book) ? book : "";
+}
+
+/** The receipts of a link's fragment with their book, and what the link says beside them. */
+export function ofFragment(fragment) {
+  const said = saidIn(fragment);
+  const book = bookOf(fragment);
+  if (book === "") return [];
+  return said.getAll("receipt").flatMap(receiptsIn).map((receipt) => ({ book, receipt, ...toldIn(said) }));
 }
 
 const LINK = /^\S*#\S*receipt=\S+$/i;
@@ -50,12 +84,22 @@ export function receiptsTyped(text) {
   return text.split(/[\n,;]+/).flatMap((line) => {
     const links = line.split(/\s+/).filter((word) => LINK.test(word));
     if (links.length > 0) return links.flatMap((link) => ofFragment(link.slice(link.indexOf("#"))));
-    return receiptsIn(line).map((receipt) => ({ book: null, receipt, shop: "", rate: "" }));
+    return receiptsIn(line).map((receipt) => ({ book: null, receipt, ...UNTOLD }));
   });
 }
 
-/** A link for the pawnor's page. What follows the # reaches no server and no log. */
-export function linkTo({ origin, book, receipt, shop, rate }) {
-  const said = new URLSearchParams({ book, receipt, ...(shop && { shop }), ...(rate && { rate }) });
-  return `${origin}/pawn/#${said}`;
+/**
+ * A link for the pawnor's page. What follows the # reaches no server and no log. It says what the service does not
+ * tell a pawnor: the terms, the days of grace, the shop's name and its reference, as far as there is room.
+ */
+export function linkTo({ origin, book, receipt, shop, reference, terms, fiveDays }) {
+  const { rate, keepBefore, keepAfter } = terms;
+  const more = [
+    ["terms", [rate, keepBefore, keepAfter].join(".")], ["grace", fiveDays ? "5" : "0"], ["shop", shop],
+    ["ref", reference],
+  ];
+  const linkOf = (said) => `${origin}/pawn/#${new URLSearchParams(said)}`;
+  const said = [["book", book], ["receipt", receipt]];
+  for (const pair of more) if (pair[1] && linkOf([...said, pair]).length <= LONGEST_LINK) said.push(pair);
+  return linkOf(said);
 }

@@ -2,7 +2,7 @@
  * Each refusal of the service as a sentence for a person: why it was refused, and what to do. If the pawnor reads
  * another, it stands beside.
  */
-import { inPounds } from "/shared/money.js";
+import { inPounds } from "./money.js";
 
 /** By code: the name, why, what to do next, and the same for the pawnor where it differs. */
 export const REFUSALS = {
@@ -32,7 +32,7 @@ export const REFUSALS = {
   205: {
     name: "EarlierDay",
     why: "The service’s clock is before the day of this pledge’s last change.",
-    next: "Wait for that day, and tell whoever runs the service that its clock was wrong.",
+    next: "Wait for that day, and tell the operator of the service that its clock was wrong.",
   },
   206: {
     name: "EntriesFull",
@@ -51,7 +51,7 @@ export const REFUSALS = {
   },
   303: {
     name: "Held",
-    why: "The pledge is on hold.",
+    why: "The pledge is on hold, so it can’t be redeemed.",
     next: "Release the hold first.",
     pawnor: "The pawnbroker holds this pledge, so it can’t be redeemed just now. Ask at the shop why.",
   },
@@ -80,7 +80,7 @@ export const REFUSALS = {
   309: {
     name: "DeclarationsFull",
     why: "This pledge has had 100 new receipts and takes no more.",
-    next: "Ask whoever runs the service.",
+    next: "Ask the operator of the service.",
   },
   310: { name: "WrongAmount", why: "That is not all that is owed today.", next: "Redeeming wants the whole amount." },
   311: {
@@ -153,7 +153,7 @@ export const REFUSALS = {
     why: "The book has terms or pledges already, so nothing was put into it.",
     next: "An import wants an empty book.",
   },
-  410: { name: "NotOperator", why: "Only the operator makes books.", next: "Ask whoever runs the service." },
+  410: { name: "NotOperator", why: "Only the operator makes books.", next: "Ask the operator of the service." },
   411: {
     name: "TermsFull",
     why: "The book has 99 versions of terms and takes no more.",
@@ -167,7 +167,7 @@ export const REFUSALS = {
   490: {
     name: "Full",
     why: "The service has no room for anything more.",
-    next: "Tell whoever runs it. What stands can still be read.",
+    next: "Tell the operator of the service. What is stored can still be read.",
     pawnor: "The service has no room for this just now. Tell the shop.",
   },
   491: {
@@ -178,7 +178,7 @@ export const REFUSALS = {
   492: {
     name: "Store",
     why: "The service could not reach its store.",
-    next: "Show the pledge again before you repeat anything, and tell whoever runs the service.",
+    next: "Show the pledge again before you repeat anything, and tell the operator of the service.",
     pawnor: "The service could not reach its books just now. Show your pledge again before you repeat anything.",
   },
   601: {
@@ -212,13 +212,13 @@ export const REFUSALS = {
   703: {
     name: "Transfer",
     why: "The request came in pieces, which the service does not take.",
-    next: "Tell whoever runs the service: the proxy in front of it is not set up.",
+    next: "Tell the operator of the service: the proxy in front of it is not set up.",
   },
   704: { name: "BadLength", why: "The request was longer or shorter than it said.", next: "Do it again." },
   705: {
     name: "BodyTooLong",
     why: "That is more than a mebibyte.",
-    next: "A larger book is moved by whoever runs the service.",
+    next: "A larger book is moved by the operator of the service.",
   },
   706: {
     name: "NoRoute",

@@ -1,5 +1,5 @@
 /** Terms in words that a person can reckon with. */
-import { inPounds } from "/shared/money.js";
+import { inPounds } from "./money.js";
 
 /** A month is told as thirty days. */
 const MONTH = 30;

@@ -2,7 +2,7 @@
  * Texts that go to the service: blanks at their ends are taken off, and their length is counted in bytes as the service
  * counts it.
  */
-import { Unreadable } from "/shared/unreadable.js";
+import { Unreadable } from "./unreadable.js";
 
 const bytesOf = (text) => new TextEncoder().encode(text).length;
 

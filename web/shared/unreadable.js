@@ -1,10 +1,10 @@
 /**
- * What a person typed is not of its form; the message says how it is written, and the field is the name of where it
- * stands.
+ * What a person typed is not of its form, or of no use. The message says why, `field` is the name of where it stands,
+ * and `later` promises a better sentence, or null.
  */
 export class Unreadable extends Error {
-  constructor(message, field = null) {
+  constructor(message, field = null, later = null) {
     super(message);
-    this.field = field;
+    Object.assign(this, { field, later });
   }
 }

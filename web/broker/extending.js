@@ -1,0 +1,57 @@
+/** A later end of the period. It can't be taken back, so both ends and the days between are asked about. */
+import { countDays, daysBetween, inShort, inWords, plusDays } from "../shared/days.js";
+import { make } from "../shared/dom.js";
+import { lookFirst } from "../shared/faults.js";
+import { buttons, field } from "../shared/forms.js";
+import { confirmed, NOTHING_DONE } from "../shared/questions.js";
+import { Unreadable } from "../shared/unreadable.js";
+
+/** A new end that is more days later than this is asked about loudly. */
+const LONG = 366;
+
+/** Throws where a new end is not after the one that stands; asks the end that was shown, and the one of now. */
+export function checkEnd(until, shown, now) {
+  if (now.ends !== shown.ends) throw new Unreadable(
+    `Somebody else moved the end to ${inWords(now.ends)} since the pledge was shown. Find it again, and look.`, "until",
+  );
+  if (until <= now.ends) throw new Unreadable(`The new end is to be after ${inShort(now.ends)}.`, "until");
+}
+
+/** The lines of a question about a new end. */
+export function endLines(ends, until) {
+  const days = daysBetween(ends, until);
+  const loud = make(
+    "strong", { className: "loud" }, `That is more than a year later, on ${inWords(until)}: look at the year again.`,
+  );
+  return [
+    `The period ends on ${inWords(ends)} now.`, `It is to end on ${inWords(until)}: ${countDays(days)} later.`,
+    days > LONG ? [loud] : null,
+    "The end can’t be made earlier again. A slip is mended only if the pledge is redeemed by its paper and taken anew.",
+  ];
+}
+
+async function extend({ until }, shown, desk) {
+  if (until <= shown.ends) checkEnd(until, shown, shown);
+  const now = await lookFirst(desk.read());
+  checkEnd(until, shown, now);
+  const days = countDays(daysBetween(now.ends, until));
+  const yes = await confirmed({
+    title: "Extend the period?", lines: endLines(now.ends, until), yes: `Extend it by ${days}`, no: "Not now",
+  });
+  if (!yes) return NOTHING_DONE;
+  const { said } = await desk.command("extend", { until }, true);
+  return `The period ends on ${inWords(said.ends)}.`;
+}
+
+export const extension = (statement, desk) => ({
+  title: "Extend the period",
+  barred: statement.status === "inside" ? null : "The period is over.",
+  parts: [
+    make("p", { className: "lead" }, `You and the pawnor agree on a later end than ${inWords(statement.ends)}. `
+      + "It can’t be made earlier again, so you are asked once more."),
+    field("New end", make("input", {
+      type: "date", name: "until", min: plusDays(statement.ends, 1), max: "2199-12-31", required: true,
+    })),
+    buttons(make("button", {}, "Extend"))],
+  act: (fields) => extend(fields, statement, desk),
+});

@@ -1,0 +1,15 @@
+/** What this machine keeps of a shop: nothing of it is secret, and nothing of it is the service's. */
+import { current } from "./session.js";
+
+const nameOf = (what) => `${what}-${current()?.book}`;
+
+/** What was kept under this name for the open book, or what is given in its place. */
+export function kept(what, otherwise) {
+  try {
+    return JSON.parse(localStorage.getItem(nameOf(what))) ?? otherwise;
+  } catch {
+    return otherwise;
+  }
+}
+
+export const keep = (what, value) => localStorage.setItem(nameOf(what), JSON.stringify(value));

@@ -1,0 +1,87 @@
+/** The receipts of a pledge: which one is live, and why another is not. */
+import { liveReceipt } from "../shared/book.js";
+import { inShort } from "../shared/days.js";
+import { numberOf, receiptsTyped } from "../shared/receipts.js";
+import { Unreadable } from "../shared/unreadable.js";
+import { clockOf } from "./age.js";
+import { ledger } from "./ledger.js";
+import { heldBy, statementOf } from "./reading.js";
+import { current } from "./session.js";
+
+const PAPERS = {
+  opening: "when the pledge was taken", sworn: "on a sworn declaration", written: "on a written statement",
+};
+
+/** Whether a receipt opens the pledge of this number. */
+export const isLive = async (receipt, number) => (await heldBy(receipt))?.number === number;
+
+/** The live receipt of a pledge, by the book in the page or else read anew, or null. */
+export async function newestReceipt(number) {
+  await ledger.theBook();
+  for (const again of [false, true]) {
+    if (again) await ledger.awaitReading();
+    const pledge = ledger.pledge(number);
+    const receipt = pledge && liveReceipt(pledge);
+    if (receipt && await isLive(receipt, number)) return receipt;
+  }
+  return null;
+}
+
+/** What the book tells of the receipts of a pledge. */
+export function toldOfReceipts(number) {
+  const { secrets } = ledger.pledge(number);
+  const { day, paper } = secrets[secrets.length - 1];
+  const count = secrets.length === 1 ? "one receipt" : `${secrets.length} receipts`;
+  return `The pledge has had ${count}. The newest was made on ${inShort(day)}, ${PAPERS[paper]}.`;
+}
+
+const DEAD = "This receipt is not live: ";
+const KEEP = "Don’t hand out the article for it.";
+const MISREAD = "Compare it and the number of its book with the paper, letter by letter.";
+
+/** Why a receipt is not live, by the book as it was read just now. */
+function whyByBook(receipt) {
+  const pledge = ledger.pledge(numberOf(receipt));
+  if (!pledge) return `${DEAD}book ${current().book} has no pledge ${numberOf(receipt)}.`;
+  const { number, secrets } = pledge;
+  const place = secrets.findIndex(({ secret }) => receipt.endsWith(secret));
+  if (place < 0) return `${DEAD}pledge ${number} never had it. ${MISREAD}`;
+  const next = secrets[place + 1];
+  if (next) return `${DEAD}a newer one took its place on ${inShort(next.day)}. ${KEEP}`;
+  return `${DEAD}pledge ${number} was redeemed with it on ${inShort(pledge.closed)}.`;
+}
+
+/** The same at once, by the statement, and by the book in the page as far as it was read before. */
+function whyAtOnce(receipt, statement) {
+  const number = numberOf(receipt);
+  if (!statement) return `${DEAD}book ${current().book} has no pledge ${number}.`;
+  if (statement.status === "redeemed") {
+    return `${DEAD}pledge ${number} was redeemed on ${inShort(statement.closing.day)}, and has no live receipt.`;
+  }
+  const secrets = ledger.pledge(number)?.secrets;
+  if (!secrets) return `${DEAD}a newer one took its place, a letter is wrong, or it is of another book. ${KEEP} Which it is, the book tells.`;
+  const place = secrets.findIndex(({ secret }) => receipt.endsWith(secret));
+  if (place >= 0) return `${DEAD}a newer one took its place. ${KEEP}`;
+  return `${DEAD}pledge ${number} never had it, by the book of ${clockOf(ledger.readAt)}. ${MISREAD}`;
+}
+
+/**
+ * Why a receipt is not live: what can be said at once, the pledge's statement or null, and the sentence that the book
+ * gives once it is read anew, or null where it can't be read.
+ */
+export async function whyDead(receipt) {
+  const statement = await statementOf(numberOf(receipt));
+  const later = ledger.readAgain().then(() => whyByBook(receipt), () => null);
+  return { sentence: whyAtOnce(receipt, statement), statement, later };
+}
+
+/** The one receipt that was typed or scanned, of this book. */
+export function readReceipt(typed, field, none) {
+  const receipts = receiptsTyped(typed);
+  if (receipts.length !== 1) throw new Unreadable(none, field);
+  const [{ book, receipt }] = receipts;
+  if (book && book !== current().book) throw new Unreadable(
+    `That receipt is of book ${book}, and this is book ${current().book}.`, field,
+  );
+  return receipt;
+}

@@ -1,0 +1,95 @@
+/**
+ * Renewing in one step: the charges of today are received, the period is extended, and the receipt is printed with its
+ * new end. They are two changes of the service, so what came of each is told.
+ */
+import { countDays, daysBetween, inWords, sixMonthsAfter, today } from "../shared/days.js";
+import { make } from "../shared/dom.js";
+import { Lost, lookFirst, NotReached } from "../shared/faults.js";
+import { buttons, field } from "../shared/forms.js";
+import { inPounds } from "../shared/money.js";
+import { recordEntry } from "../shared/payments.js";
+import { confirmed, NOTHING_DONE } from "../shared/questions.js";
+import { Unreadable } from "../shared/unreadable.js";
+import { checkEnd, endLines } from "./extending.js";
+
+/** The question about both, with what is owed just now. */
+const question = (now, until) => confirmed({
+  title: "Renew this pledge?",
+  lines: [
+    now.owed.charges > 0
+      ? `${inPounds(now.owed.charges)} of interest and safe keeping was received.`
+      : "No charges are owed today.",
+    `${inPounds(now.owed.principal)} stays lent.`,
+    ...endLines(now.ends, until),
+  ],
+  yes: now.owed.charges > 0
+    ? `Receive ${inPounds(now.owed.charges)}, and extend by ${countDays(daysBetween(now.ends, until))}`
+    : `Extend by ${countDays(daysBetween(now.ends, until))}`,
+  no: "Not now",
+});
+
+/** Receives the charges. Gives what is to be said in place of going on, or null. */
+async function receive(now, desk) {
+  if (now.owed.charges === 0) return null;
+  const said = await recordEntry({
+    shown: now, sort: "repay", pence: now.owed.charges, askFrom: Infinity, read: () => desk.read(),
+    send: (body) => desk.command("repay", body, true),
+  });
+  return said.tone === "good" ? null : said;
+}
+
+/** Shows the paper with the new end, as far as it can be. */
+async function showPaper(desk) {
+  try {
+    const receipt = await desk.newestReceipt();
+    if (receipt === null) return " No receipt of this pledge is live, so none is printed.";
+    await desk.showReceipt(receipt, await desk.read());
+    return " The paper with the new end stands below: print it, and take the old one back.";
+  } catch {
+    return " The paper can’t be shown just now: “Print the receipt again” shows it.";
+  }
+}
+
+async function renew({ until }, shown, desk) {
+  const now = await lookFirst(desk.read());
+  checkEnd(until, shown, now);
+  if (now.owed.owing !== shown.owed.owing) throw new Unreadable(
+    `${inPounds(now.owed.owing)} is owed now, and not what was shown. Find the pledge again, and look.`,
+  );
+  if (!await question(now, until)) return NOTHING_DONE;
+  const stopped = await receive(now, desk);
+  if (stopped) return { ...stopped, sentence: `${stopped.sentence} The period was not extended.` };
+  const received = now.owed.charges > 0 ? `${inPounds(now.owed.charges)} of charges was received. ` : "";
+  try {
+    const { said } = await desk.command("extend", { until }, true);
+    return `${received}The period ends on ${inWords(said.ends)}.${await showPaper(desk)}`;
+  } catch (fault) {
+    const isSure = !(fault instanceof Lost);
+    const why = fault instanceof NotReached || !isSure ? "the service did not answer" : "the service refused it";
+    return {
+      sentence: `${received}The period was ${isSure ? "not" : "perhaps not"} extended: ${why}. `
+        + "Look at the end above, and extend it by itself.",
+      tone: "bad",
+    };
+  }
+}
+
+export function renewal(statement, desk) {
+  const { status, owed, ends } = statement;
+  const until = make("input", {
+    type: "date", name: "until", min: ends, max: "2199-12-31", value: sixMonthsAfter(ends > today() ? ends : today()),
+    required: true,
+  });
+  const lead = owed.charges > 0
+    ? `Receive the charges of today, ${inPounds(owed.charges)}, and agree on a later end than ${inWords(ends)}.`
+    : `No charges are owed today. Agree on a later end than ${inWords(ends)}.`;
+  return {
+    title: "Renew",
+    barred: status === "inside" ? null : "The period is over.",
+    parts: [
+      make("p", { className: "lead" }, `${lead} Then the paper is printed with its new end.`), field("New end", until),
+      buttons(make("button", {}, "Renew the pledge")),
+    ],
+    act: (fields) => renew(fields, statement, desk),
+  };
+}

@@ -1,0 +1,35 @@
+/** How a slip is mended within the rules: no entry, no end and no pledge is ever taken back. */
+import { today } from "../shared/days.js";
+import { make } from "../shared/dom.js";
+import { inPounds } from "../shared/money.js";
+
+const TITLE = "If something was entered by mistake";
+
+/** The ways for this pledge, in sentences. */
+function waysOf({ kind, taken, owed, status }) {
+  const anew = "redeem it by its own receipt for what is owed, and take the pledge anew under another reference";
+  const running = status === "inside"
+    ? "A drawing of too much is recorded as repaid, and a repayment of too much is drawn again: what is owed is then "
+      + "as it was."
+    : "A drawing of too much is recorded as repaid.";
+  return [
+    taken === today()
+      ? `A pledge that was taken by mistake today: ${anew}. ${inPounds(owed.owing)} is owed today.`
+      : null,
+    kind === "running"
+      ? running
+      : "A repayment of too much can’t be drawn again on a fixed sum. If the pawnor agrees and brings the paper: "
+        + `${anew} for the sum that should be owed.`,
+    `An end that is too late: if the pawnor agrees and brings the paper, ${anew}.`,
+    "A hold is released, and a visit that was confirmed or refused is decided on again.",
+  ].filter(Boolean);
+}
+
+export function slipsFold(statement) {
+  const ways = waysOf(statement).map((way) => make("li", {}, way));
+  return make(
+    "details", { className: "action" }, make("summary", {}, TITLE),
+    make("div", { className: "told" }, make("p", { className: "lead" }, "Nothing in the book is ever taken back."),
+      make("ul", {}, ...ways)),
+  );
+}

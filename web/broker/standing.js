@@ -1,0 +1,37 @@
+/** A reference that stands already: which pledge has it, since when, and how it stands. */
+import { inShort, inWords } from "../shared/days.js";
+import { byId, foreign, make } from "../shared/dom.js";
+import { stateInWords } from "../shared/states.js";
+import { Unreadable } from "../shared/unreadable.js";
+import { ledger } from "./ledger.js";
+import { statementOf } from "./reading.js";
+
+/** Shows which pledge has a reference, since when, and how it stands, and says so. */
+export async function tellStanding(number, reference) {
+  const statement = await statementOf(number);
+  const link = make("a", { href: `#pledge=${number}`, className: "pledge-link" }, `Open pledge ${number}`);
+  byId("taken-receipt").replaceChildren(make("section", { className: "card screen" },
+    make("h2", {}, "This reference stands already"),
+    make(
+      "p", {}, foreign(reference), ` is pledge ${number}: `, foreign(statement.article),
+      `, taken on ${inWords(statement.taken)}.`,
+    ),
+    make(
+      "p", {},
+      `${stateInWords(statement, ledger.known(number))}. If this is the pledge that you mean, open it: `,
+      "its receipt can be printed again there, where it has one.",
+    ),
+    make("p", {}, link)));
+  throw new Unreadable(
+    `Pledge ${number} has this reference since ${inShort(statement.taken)}. `
+      + "Nothing new was taken, and nothing is printed. If it is the pledge that you mean, open it; if not, choose "
+      + "another reference.",
+    "ref",
+  );
+}
+
+/** Refuses a reference that stands by the book in the page, but for a pledge that came after this number. */
+export async function refuseStanding(reference, after = Infinity) {
+  const [standing] = ledger.withReference(reference);
+  if (standing && standing.number <= after) await tellStanding(standing.number, standing.reference);
+}

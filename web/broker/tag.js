@@ -1,0 +1,36 @@
+/** A tag for the bag: the pledge's number, reference, article and end, on a small paper of its own. */
+import { inShort } from "../shared/days.js";
+import { byId, foreign, make } from "../shared/dom.js";
+import { buttons } from "../shared/forms.js";
+import { inPounds } from "../shared/money.js";
+import { lastSafeDay } from "../shared/period.js";
+import { current } from "./session.js";
+
+/** The tag of a pledge, with a button that prints it. */
+export function tagOf(statement, { reference, fiveDays }) {
+  const print = make("button", { type: "button" }, "Print the tag");
+  print.addEventListener("click", () => window.print());
+  const { number, article, ends, credit, taken } = statement;
+  const until = lastSafeDay({ ends, fiveDays });
+  return make("div", { className: "receipt" }, make("div", { className: "buttons screen" }, print),
+    make("article", { className: "paper tag" },
+      make("p", { className: "tag-number" }, String(number)),
+      make("p", { className: "tag-reference" }, foreign(reference)),
+      make("p", { className: "tag-article" }, foreign(article)),
+      make("p", {}, `Book ${current().book}. ${inPounds(credit)}, taken ${inShort(taken)}.`),
+      make("p", { className: "tag-end" }, `Until ${inShort(until)}${fiveDays ? ", with grace" : ""}`)));
+}
+
+export const tagging = (statement, desk) => ({
+  title: "Print a tag for the bag",
+  barred: desk.known.reference === null ? "The reference is told once the book is read." : null,
+  parts: [
+    make("p", { className: "lead" }, "Number, reference, article and end, without the receipt. It opens nothing."),
+    buttons(make("button", { className: "plain" }, "Show the tag")),
+  ],
+  act: async () => {
+    byId("new-receipt").replaceChildren(tagOf(statement, desk.known));
+    byId("new-receipt").scrollIntoView();
+    return "The tag stands below, to be printed.";
+  },
+});

@@ -1,0 +1,64 @@
+/** A pledge that was taken just now: it is looked at by its receipt, and the receipt is shown with its terms. */
+import { byId, foreign, make } from "../shared/dom.js";
+import { ledger } from "./ledger.js";
+import { heldBy } from "./reading.js";
+import { receiptSheet } from "./receipt.js";
+import { tellStanding } from "./standing.js";
+import { tagOf } from "./tag.js";
+
+/** Whether a receipt is a live one of a pledge that was taken now, and stands as it was sent. */
+function isTakenNow({ held, opening, said, known }) {
+  return said.number > known && held !== null && held.number === said.number && held.status === "inside"
+    && held.entries.length === 0
+    && held.article === opening.article && held.kind === opening.kind && held.credit === opening.pence
+    && held.booking === null;
+}
+
+/**
+ * The terms of a pledge that was taken just now: the newest ones, where no others were put meanwhile, or else those
+ * that the whole book tells of it.
+ */
+async function termsTaken(number, before) {
+  const { terms } = await ledger.readHead();
+  if (terms.length === before.terms.length) return terms[terms.length - 1];
+  await ledger.awaitReading();
+  if (ledger.pledge(number) === null) await ledger.awaitReading();
+  const found = ledger.termsOf(ledger.pledge(number));
+  if (!found) throw new Error("the book does not tell the pledge’s terms");
+  return found;
+}
+
+const TURNS = { tag: "Show the tag for the bag", receipt: "Show the receipt" };
+
+/** The receipt, and in its place the tag once a button asks for it: one paper is shown, and printed, at a time. */
+function inTurn(receipt, tag) {
+  const turn = make("button", { type: "button", className: "plain screen" }, TURNS.tag);
+  tag.hidden = true;
+  turn.addEventListener("click", () => {
+    [tag.hidden, receipt.hidden] = [receipt.hidden, tag.hidden];
+    turn.textContent = tag.hidden ? TURNS.tag : TURNS.receipt;
+  });
+  return [turn, receipt, tag];
+}
+
+/** Shows that a pledge was taken, and its receipt. */
+export async function settle({ opening, said, known, before }) {
+  // The beginning of the book is asked for after that: the service makes the whole book for it, and more of it comes
+  // than is wanted, and both would delay what the receipt opens.
+  const held = await heldBy(said.receipt);
+  if (!isTakenNow({ held, opening, said, known })) {
+    ledger.anotherChanged();
+    await tellStanding(said.number, opening.ref);
+  }
+  const link = make("a", { href: `#pledge=${said.number}`, className: "pledge-link" }, `Pledge ${said.number}`);
+  const stands = make("p", { className: "taken screen" }, link, " stands: ", foreign(opening.article), ".");
+  byId("taken-receipt").replaceChildren(stands);
+  const terms = await termsTaken(said.number, before);
+  ledger.addTaken({ opening, statement: held, receipt: said.receipt, version: terms.version });
+  const { ref: reference, agreed, five_days: fiveDays } = opening;
+  const beside = { reference, agreed, fiveDays, terms };
+  byId("taken-receipt").append(
+    ...inTurn(receiptSheet({ statement: held, receipt: said.receipt, known: beside }), tagOf(held, beside))
+  );
+  return `Taken as pledge ${said.number}. Its receipt is ready to print.`;
+}

@@ -1,0 +1,13 @@
+/** The service's refusals that the pages tell apart, by the names that the service gives them. */
+import { Refused } from "./faults.js";
+
+export const CODES = {
+  BadAmount: 201, OverLimit: 203, OverOwing: 204, Held: 303, Passed: 304, Closed: 305, NoSuchReceipt: 402, NoSuchPledge: 403,
+  NoTerms: 405, RefTaken: 407, NoRoute: 706, BadReceipt: 710,
+};
+
+/** Whether a fault is one of these refusals. */
+export const isRefusal = (fault, ...codes) => fault instanceof Refused && codes.includes(fault.code);
+
+/** The refusal of this name, where a page knows before it asks that the service would give it. */
+export const refusalOf = (name, more = {}) => new Refused({ code: CODES[name], name, ...more });
