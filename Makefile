@@ -1,11 +1,14 @@
 # The commands of this repository. Each is a script of tools/ or tests/, which says more of itself.
-.PHONY: build demo serve pages check test fuzz bench release clean help
+.PHONY: build demo sandbox serve pages check test fuzz bench release clean help
 
 build:
 	@tools/build
 
 demo:
 	@exec tools/demo $(if $(FILE),"$(FILE)")
+
+sandbox:
+	@exec tools/sandbox
 
 serve:
 	@exec tools/serve

@@ -37,7 +37,7 @@ def pence(words, least=1):
 def text(words, most):
     """A text of so many bytes, which a count of characters says in part."""
     return {
-        "type": "string", "minLength": 1, "maxLength": most, "pattern": r"^[^\u0000-\u001f\u007f]*$",
+        "type": "string", "minLength": 1, "maxLength": most, "pattern": r"^[^\x00-\x1f\x7f]*$",
         "x-max-bytes": most,
         "description": f"{words} At least one byte and at most {most} bytes of UTF-8, without control characters.",
     }
@@ -52,18 +52,28 @@ def taken(words, **members):
 
 
 def told(words, **members):
-    """What a reply says, and no more."""
+    """What a reply says. A later release may add members, so a client passes over those that it does not know."""
     return {
         "type": "object", "description": words, "properties": dict(sorted(members.items())),
-        "required": sorted(members), "additionalProperties": False,
+        "required": sorted(members),
     }
 
 
-def lines(words, *forms):
-    """A text whose lines come in this order: how a line begins, its pattern, how often it stands, and what it says."""
+# The lines of a text after its first. A later release may add some.
+FURTHER = r"([^\n]*\n)*"
+
+
+def exactly(forms):
+    """The pattern of lines in this order, as this release writes them."""
     parts = {"once": "{}", "at most once": "({})?", "any number": "({})*"}
-    pattern = "".join(parts[often].format(form + r"\n") for _, form, often, _ in forms)
-    return {"type": "string", "description": words, "pattern": f"^{pattern}$",
+    return "".join(parts[often].format(form + r"\n") for _, form, often, _ in forms)
+
+
+def lines(words, *forms):
+    """A text whose lines come in this order: how a line begins, its pattern, how often it is there, and what it says.
+    `pattern` allows further lines, and `x-pattern` is exactly what this release writes."""
+    return {"type": "string", "description": words, "pattern": rf"^{forms[0][1]}\n{FURTHER}$",
+            "x-pattern": f"^{exactly(forms)}$",
             "x-lines": [{"line": line, "often": often, "says": says} for line, _, often, says in forms]}
 
 
@@ -77,7 +87,7 @@ def booking(words, *states):
 
 STATEMENT = [
     ("Pledge N", f"Pledge {NUMBER}", "once", "the number of the pledge"),
-    ("Article TEXT", r"Article [^\n]+", "once", "the article, as it was told when it was taken"),
+    ("Article TEXT", r"Article [^\n]+", "once", "the article, as it was described when it was taken"),
     (
         "Kind fixed MONEY, or Kind running MONEY", f"Kind (fixed|running) {MONEY}", "once",
         "the sum, or the limit of the account",
@@ -90,29 +100,29 @@ STATEMENT = [
     ),
     (
         "Status STATUS", "Status (inside|grace|passed|realisable|redeemed|sold)", "once",
-        "how the pledge stands on the day of the statement",
+        "the status of the pledge on the day of the statement",
     ),
     (
         "Principal MONEY", f"Principal {MONEY}", "at most once",
-        "what was lent and not paid back; not where the pledge is passed",
+        "what was lent and not paid back; missing if the pledge is passed",
     ),
     (
         "Charges MONEY", f"Charges {MONEY}", "at most once",
-        "interest and safe keeping, in whole pence; not where it is passed",
+        "interest and safe keeping, in whole pence; missing if the pledge is passed",
     ),
     (
         "Owing MONEY", f"Owing {MONEY}", "at most once",
-        "the two together; not where it is passed. A closed pledge still has the line, as of its last day",
+        "the two together; missing if the pledge is passed. A closed pledge still has the line, as of its closing day",
     ),
-    ("Held yes, or Held no", "Held (yes|no)", "once", "whether the broker holds it back from being redeemed"),
+    ("Held yes, or Held no", "Held (yes|no)", "once", "whether the pledge is on hold and cannot be redeemed"),
     (
         "Booking none, or Booking DAY WINDOW STATE", f"Booking (none|{DAY} [0-9]+ (asked|confirmed|refused|cancelled))",
         "once", "the booking to collect it",
     ),
-    ("Redeemed DAY paid MONEY", f"Redeemed {DAY} paid {MONEY}", "at most once", "where it is redeemed"),
+    ("Redeemed DAY paid MONEY", f"Redeemed {DAY} paid {MONEY}", "at most once", "if it is redeemed"),
     (
         "Sold DAY net MONEY surplus MONEY shortfall MONEY", f"Sold {DAY} net {MONEY} surplus {MONEY} shortfall {MONEY}",
-        "at most once", "where it is sold",
+        "at most once", "if it is sold",
     ),
     (
         "Entry SEQ DAY draw MONEY, or Entry SEQ DAY repay MONEY", f"Entry {NUMBER} {DAY} (draw|repay) {MONEY}",
@@ -125,7 +135,7 @@ SHEET = [
     (
         "Window W confirmed N of CAPACITY, and Pledge N for each",
         rf"Window [0-9]+ confirmed {NUMBER} of {NUMBER}\n(Pledge {NUMBER}\n)*Pledge {NUMBER}", "any number",
-        "the confirmed bookings of a window, where there are any",
+        "the confirmed bookings of a window, if there are any",
     ),
     ("Asked N", "Asked [0-9]+", "once", "how many bookings are asked for the day, and neither confirmed nor refused"),
     ("Pledge N window W", f"Pledge {NUMBER} window [0-9]+", "any number", "each of them"),
@@ -136,11 +146,12 @@ SHEET = [
 
 def presented():
     """The statements of receipts, with a blank line between two."""
-    one = lines("", *STATEMENT)["pattern"][1:-1]
+    one = exactly(STATEMENT)
     return {
-        "type": "string", "pattern": rf"^({one}|Unknown receipt\n)(\n({one}|Unknown receipt\n))*$",
-        "description": "For each receipt in the order presented its statement, or the line `Unknown receipt` where it "
-            "is not live. A blank line stands between two. See the lines of `Statement`.",
+        "type": "string", "pattern": rf"^({STATEMENT[0][1]}|Unknown receipt)\n{FURTHER}$",
+        "x-pattern": rf"^({one}|Unknown receipt\n)(\n({one}|Unknown receipt\n))*$",
+        "description": "For each receipt, in the order presented, its statement, or the line `Unknown receipt` if it "
+            "is not live, with a blank line between two. See the lines of `Statement`.",
     }
 
 
@@ -151,7 +162,7 @@ def rows():
         "description": "A book as comma-separated rows of 15 columns: the header, one `B` with its counts, the `T` of "
             "its versions of terms, and for each pledge its `P`, `S`, `E`, `X` and `K`. The rules say each column, "
             "under \"The book as a text\". It has the secret of every receipt. Lines end with LF alone, and a field is "
-            "quoted where it has a comma or a quotation mark, as RFC 4180 has it. An export can be longer than an "
+            "quoted if it has a comma or a quotation mark, as in RFC 4180. An export can be longer than an "
             "import may be.",
     }
 
@@ -185,7 +196,7 @@ SCHEMAS = {
         "examples": ["2024-01-31"],
     },
     "Key": {
-        "type": "string", "pattern": rf"^([0-9A-Fa-f]{{32}}|{HYPHENED}|\{{{HYPHENED}\}}|urn:uuid:{HYPHENED})$",
+        "type": "string", "pattern": rf"^([0-9A-Fa-f]{{32}}|{HYPHENED}|\{{{HYPHENED}\}}|[Uu][Rr][Nn]:[Uu][Uu][Ii][Dd]:{HYPHENED})$",
         "description": "128 bits, as 32 hexadecimal digits: plain, in groups of 8, 4, 4, 4 and 12 with hyphens, and so "
             "also in braces or behind `urn:uuid:`.",
         "examples": ["22222222-2222-2222-2222-222222222222"],
@@ -198,7 +209,7 @@ SCHEMAS = {
         "examples": ["3-da41597c-5157-488d-7724-e03fb8d84a37"],
     },
     "Window": whole(
-        "A part of the day in which to come, from 0 to 15. What hours it stands for is the broker's choice.", 0, 15,
+        "A part of the day in which to come, from 0 to 15. The broker decides which hours it is.", 0, 15,
     ),
     "Book": taken(
         "A new book.", capacity=whole("How many bookings the broker takes for one window of one day.", 1, 1000),
@@ -221,7 +232,7 @@ SCHEMAS = {
         "A pledge as it is taken.",
         agreed={
             "anyOf": [ref("schemas", "Day"), {"type": "null"}],
-            "description": "A later end of the period, where the parties agreed one. The period is never shorter than "
+            "description": "A later end of the period, if the parties agreed one. The period is never shorter than "
                 "six months.",
         },
         article=text("What is pledged, in words.", 80),
@@ -266,25 +277,26 @@ SCHEMAS = {
         ),
     ),
     "Redemption": taken(
-        "What is paid for the article.", paid=one_of_form("Pence", "All that is owing today, in pence, to the penny."),
+        "What is paid for the article.",
+        paid=one_of_form("Pence", "All that is owing today, in pence, to the penny; 0 if nothing is."),
     ),
-    "BookMade": told("The book stands.", book=whole("The number of the book.", 1, 999_999_999)),
-    "TermsMade": told("The version stands.", version=whole("Its number.", 1, 99)),
+    "BookMade": told("The book exists.", book=whole("The number of the book.", 1, 999_999_999)),
+    "TermsMade": told("The version exists.", version=whole("Its number.", 1, 99)),
     "PledgeTaken": told(
-        "The pledge stands.", number=whole("The number of the pledge in its book.", 1, 1_000_000),
+        "The pledge was taken.", number=whole("The number of the pledge in its book.", 1, 1_000_000),
         receipt=ref("schemas", "Receipt"),
     ),
     "Entry": told(
-        "The entry as it stands, also where it was entered before.",
+        "The entry, also if it was entered before.",
         day=one_of_form("Day", "The day on which it was entered."), pence=ref("schemas", "Pence"),
         seq=ref("schemas", "Seq"), sort={"enum": ["draw", "repay"], "description": "What it is."},
     ),
-    "HeldBack": told("The pledge is held back from being redeemed.", held={"const": True, "description": "It is."}),
-    "Released": told("The pledge is not held back.", held={"const": False, "description": "It is not held back."}),
+    "HeldBack": told("The pledge is on hold and cannot be redeemed.", held={"const": True, "description": "It is."}),
+    "Released": told("The pledge is not on hold.", held={"const": False, "description": "It is not on hold."}),
     "NewReceipt": told(
         "The receipt that is live from now on; every earlier one is worth nothing.", receipt=ref("schemas", "Receipt"),
     ),
-    "BookingAsked": booking("The booking as it stands. One that was confirmed before stays so.", "asked", "confirmed"),
+    "BookingAsked": booking("The booking. One that was confirmed before stays confirmed.", "asked", "confirmed"),
     "BookingCancelled": booking("The booking is cancelled.", "cancelled"),
     "BookingDecided": booking("The booking as the broker decided.", "confirmed", "refused"),
     "SaleMade": told(
@@ -305,7 +317,7 @@ SCHEMAS = {
     ),
     "Statements": presented(),
     "Sheet": lines(
-        "A day of the book in words. Lines end with LF; pledges stand in the order of their numbers.", *SHEET,
+        "A day of the book in words. Lines end with LF; pledges are in the order of their numbers.", *SHEET,
     ),
     "Rows": rows(), "RowsHandedIn": rows_handed_in(),
     "ProxyRefusal": told(
@@ -313,8 +325,8 @@ SCHEMAS = {
         proxy=whole("The status of this reply, once more.", 400, 599),
         handed_on={
             "type": "boolean",
-            "description": "Whether the request may have been done. Where it is false the service never heard of it, "
-                "so that it may be sent again, whatever it asks.",
+            "description": "Whether the request may have been done. If it is false, the service never received the request, so "
+                "that it may be sent again, whatever it is.",
         },
     ),
 }

@@ -11,7 +11,7 @@ BEARING = (
 )
 STATE = (
     "while it stands",
-    "Send it again: where nothing else changed the pledge in between, and it is still the same day, it is answered as "
+    "Send it again: if nothing else changed the pledge in between, and it is still the same day, it is answered as "
     "the first time, and nothing changes.",
 )
 VIEW = ("always", "It changes nothing, so it can be sent at any time.")
@@ -57,20 +57,20 @@ ROUTES = [
     ),
     Route(
         "post", "/books/{book}/terms", "addTerms", "broker", "Add a version of terms",
-        "Adds the next version of the book's terms. Pledges taken from then on have them; those that stand keep "
+        "Adds the next version of the book's terms. Pledges taken from then on have them; earlier pledges keep "
         "theirs.",
         "TermsMade", [401, 406, 411, 102, 103, 104], ALWAYS, "Terms",
     ),
     Route(
         "post", "/books/{book}/pledges", "takePledge", "broker", "Take a pledge",
         "Takes an article in pledge, under the newest terms, and issues its receipt. An equal opening under a "
-        "reference that stands is answered with the first number and the first receipt, which may since have been "
+        "reference that exists is answered with the first number and the first receipt, which may since have been "
         "replaced.",
         "PledgeTaken", [401, 407, 405, 201, 412], ALWAYS, "Opening",
     ),
     Route(
         "get", ON_PLEDGE, "showPledge", "broker", "Show a pledge",
-        "The statement of a pledge as it stands today, or of a closed one as on its closing day.", "Statement",
+        "The statement of a pledge for today, or for its closing day if it is closed.", "Statement",
         [401, 403], VIEW, kind=TEXT, rules="The statement",
     ),
     Route(
@@ -87,11 +87,11 @@ ROUTES = [
         "post", "/books/{book}/import", "importBook", "broker", "Fill an empty book",
         "Fills a book that has neither terms nor pledges with the rows of another, all at once or not at all. Whatever "
         "is the first fault of the text is told with its row.",
-        "Imported", [601, 602, 603, 604, 605, 606, 401, 409],
+        "Imported", [601, 602, 603, 606, 604, 605, 401, 409],
         (
             "always",
             "Send it again under the same `Import-Key`: it is answered with the number of pledges that came the first "
-            "time, whatever rows come now.",
+            "time, whatever rows come now, if their text has no fault.",
         ),
         "RowsHandedIn", rules="An import",
     ),
@@ -106,8 +106,8 @@ ROUTES = [
         [401, 403, *NUMBERED, *CHANGES, 201, 206, 204], ALWAYS, "Payment", rules="Commands on a pledge",
     ),
     Route(
-        "post", f"{ON_PLEDGE}/hold", "hold", "broker", "Hold a pledge back",
-        "Bars the pledge from being redeemed. A body is not looked at.", "HeldBack", [401, 403, *CHANGES], STATE,
+        "post", f"{ON_PLEDGE}/hold", "hold", "broker", "Put a pledge on hold",
+        "Puts the pledge on hold, so that it cannot be redeemed. A body is not looked at.", "HeldBack", [401, 403, *CHANGES], STATE,
         rules="Commands on a pledge",
     ),
     Route(
@@ -150,7 +150,7 @@ ROUTES = [
     ),
     Route(
         "get", ON_HELD, "showHeld", "bearer", "Show what is held",
-        "The statements of the receipts presented, in their order. It is refused only where none of them is live.",
+        "The statements of the receipts presented, in their order. It is refused only if none of them is live.",
         "Statements", [402], VIEW, kind=TEXT, receipts=32, rules="The statement",
     ),
     Route(

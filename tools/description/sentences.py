@@ -16,13 +16,15 @@ OF_WRITERS = {
     408: "Refuse this booking.",
     701: "Mend the head: at most 64 fields and 8,192 bytes.",
     703: "Send a `Content-Length`, and no chunks.",
-    704: "Send one `Content-Length`, of the bytes and not of the characters.",
+    704: "Send one `Content-Length`, in digits.",
     707: "Mend the method.",
     708: "Mend the member; a text has its limit in bytes.",
     710: "Give each receipt a field of its own, as it was issued.",
     711: "Send 32 receipts at most, or one with a command.",
     712: "Send the receipt.",
 }
+# Why, where the sentence of a page does not tell it exactly.
+WHY_TO_WRITERS = {704: "There are two `Content-Length`, or its value is not 1 to 19 digits."}
 
 
 def sentences():
@@ -30,7 +32,7 @@ def sentences():
     path = next(path for path in PLACES if os.path.exists(os.path.join(TOP, path)))
     with open(os.path.join(TOP, path), encoding="utf-8") as it:
         found = ENTRY.findall(it.read())
-    return {int(code): (name, plain(why), OF_WRITERS.get(int(code), plain(remedy)))
+    return {int(code): (name, WHY_TO_WRITERS.get(int(code), plain(why)), OF_WRITERS.get(int(code), plain(remedy)))
             for code, name, why, remedy in found}
 
 

@@ -164,7 +164,7 @@ STEPS = [
         200, "guitar", GUITAR_SHOWN,
     ),
     Step(
-        "2024-02-10", "hold", "/books/7/pledges/1/hold", AS_BROKER, None, None, "The ring is held back.", 200, "held",
+        "2024-02-10", "hold", "/books/7/pledges/1/hold", AS_BROKER, None, None, "The ring is put on hold.", 200, "held",
         {"held": True},
     ),
     Step(
