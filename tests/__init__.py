@@ -8,7 +8,7 @@ documents   what is written for people: the documents, the description, the exam
 operator    what an operator does: commands, units, machines, releases
 pages       the pages of web/, in a real browser
 process     the program as a process: its arguments, streams, memory and peers
-proxy       nginx by the files of deploy/, in front of shards
+proxy       nginx by the files of deploy/, in front of stores
 store       the file of a store and its log: stops, failing disks, older schemas
 
 Each file of an area is a script. It begins with what it shows, and takes names of its tests:

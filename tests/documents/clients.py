@@ -15,7 +15,7 @@ import time
 
 from tests.library.checks import expect, main, not_tried
 from tests.library.keys import BROKER, OPERATOR, SEED
-from tests.library.packages import provide
+from tests.library.packages import BUILDING, provide
 from tests.library.paths import PROGRAM, TOP
 from tests.library.program import Server, free_port
 from tests.library.requests import refusal, request
@@ -71,7 +71,7 @@ RUNS = {"node": "nodejs", "nginx": "nginx-light"}
 
 def has(program):
     """Whether a program is there, which is installed where that may be done."""
-    return not provide({program: RUNS[program]})
+    return not provide({program: RUNS[program], **(BUILDING if program == "nginx" else {})})
 
 
 @contextlib.contextmanager
@@ -98,15 +98,6 @@ def timed(who, asked):
     return said, taken
 
 
-def waits(who, asked):
-    """What comes of it, and whether it waited for a connection of its own, as it mostly does: it has three turns."""
-    for _ in range(3):
-        said, taken = timed(who, asked)
-        if taken > PATIENCE - 1:
-            break
-    return said, taken > PATIENCE - 1
-
-
 def output(*words, **how):
     ran = subprocess.run(words, stdin=subprocess.DEVNULL, capture_output=True, text=True, timeout=120, **how)
     expect(f"how {words[0]} ended", (ran.returncode, ran.stderr[-300:]), (0, ""))
@@ -127,8 +118,9 @@ def by_http_client(server, receipt, closes):
 
 
 def five_requests_by_each_client():
-    """All are answered. Those that keep a connection and open another wait for its end. Those that close each do
-    not."""
+    """All are answered. Those that close each connection wait for none. Those that keep one and open another mostly
+    wait for its end, which is shown and not required: it hangs on which reply comes first. What an idle connection does
+    to others is shown below."""
     with two_pledges() as (server, receipts):
         by_curl(server, ["curl", "-sS", "-H", f"Pledge-Receipt: {receipts[0]}"])
         for closes in (False, True):
@@ -141,8 +133,8 @@ def five_requests_by_each_client():
 
 def by_curl(server, curl):
     five, together = [held(server)] * 5, ["-Z", "--no-progress-meter"]
-    said, waited = waits("curl -Z, kept", lambda: output(*curl, *together, *five))
-    expect("the replies to curl -Z, and whether it waits for itself", (said.count("Pledge 1"), waited), (5, True))
+    said, _ = timed("curl -Z, kept", lambda: output(*curl, *together, *five))
+    expect("the replies to curl -Z", said.count("Pledge 1"), 5)
     for who, words in (("curl, one process", five), ("curl -Z, closed", [*together, "-H", CLOSE, *five])):
         said, taken = timed(who, lambda: output(*curl, *words))
         expect(f"the replies to {who}", (said.count("Pledge 1"), taken < PATIENCE - 1), (5, True))
@@ -158,8 +150,8 @@ def node(*words):
 def by_node(server, receipts):
     if not has("node"):
         return not_tried("the clients of node", "node is not installed")
-    said, waited = waits("node, fetch kept", lambda: node("fetch kept", held(server), receipts[0]))
-    expect("the replies to fetch, and whether it waits for itself", (said, waited), ("2 fetch kept\n" * 5, True))
+    said, _ = timed("node, fetch kept", lambda: node("fetch kept", held(server), receipts[0]))
+    expect("the replies to fetch", said, "2 fetch kept\n" * 5)
     for how, asked in (("fetch closed", receipts[:1]), ("http", receipts)):
         said, taken = timed(f"node, {how}", lambda: node(how, held(server), *asked))
         expect(f"the replies to {how}", (said, taken < PATIENCE - 1), (f"{len(asked) + 1} {how}\n" * 5, True))
@@ -239,6 +231,28 @@ def a_body_that_is_too_long():
             expect("the longest body", read_all(peer).endswith(b'{"code":602,"name":"Columns","row":1}'), True)
 
 
+def a_length_that_is_not_that_of_the_body():
+    """No reply comes to a body that is too short, and what comes after a body is read as the next request: neither is 704.
+    A body of no known length is sent in chunks."""
+    with two_pledges() as (server, _):
+        body = '{"keep_after":0,"keep_before":0,"rate":0,"version":1}'
+        whole = request("POST", "/books/7/terms", KEY, body=body)
+        begun = time.monotonic()
+        with server.connect() as peer:
+            peer.sendall(whole[:-1])
+            expect("the reply to a body without its last byte", read_all(peer), b"")
+        expect("the connection ended after the silence", time.monotonic() - begun > PATIENCE - 1, True)
+        with server.connect() as peer:
+            peer.sendall(whole + b"x\r\n\r\n")
+            codes = re.findall(rb'"(?:version|code)":\d+', read_all(peer))
+        expect("the replies to a body with more bytes after it", codes, [b'"version":1', b'"code":701'])
+        # The reply comes to the head, before a chunk is read.
+        head = whole.partition(b"\r\n\r\n")[0]
+        with server.connect() as peer:
+            peer.sendall(re.sub(rb"Content-Length: \d+", b"Transfer-Encoding: chunked", head) + b"\r\n\r\n")
+            expect("the reply to chunks", b'"code":703' in read_all(peer), True)
+
+
 def several_receipts():
     with two_pledges() as (server, receipts):
         fields = [word for it in receipts for word in ("-H", f"Pledge-Receipt: {it}")]
@@ -304,7 +318,7 @@ def what_the_proxy_says_by_itself():
             begun = time.monotonic()
             expect("a reply to another", by_proxy(port, "/books/7/held", **view)[0], 200)
             expect("it did not wait", time.monotonic() - begun < PATIENCE - 1, True)
-        expect("a target of another shape", by_proxy(port, "/books/7/held?x=1"), (404, not_handed_on(404), "2"))
+        expect("a target of another shape", by_proxy(port, "/books/7/held?x=1"), (404, not_handed_on(404), None))
         expect("a long body", by_proxy(port, "/books/7/import", b"x" * (BODY_BYTES + 1))[:2], (413, not_handed_on(413)))
         expect("a long head", by_proxy(port, "/books/7/held", X="x" * 40_000)[:2], (400, not_handed_on(400)))
         seen = [by_proxy(port, "/books/7/held", **view) for _ in range(40)]
@@ -315,7 +329,7 @@ def what_the_proxy_says_by_itself():
         server.program.kill()
         server.program.wait()
         away = by_proxy(port, "/books/7/pledges/1", **{"Pledge-Key": BROKER})
-        expect("a service that is not there", away, (502, not_handed_on(502), "2"))
+        expect("a service that is not there", away, (503, not_handed_on(503), "2"))
         expect("its schema", sorted(told["schemas"]["ProxyRefusal"]["required"]), ["handed_on", "proxy"])
 
 
@@ -383,5 +397,5 @@ def old_days_by_an_import():
 
 if __name__ == "__main__":
     main(five_requests_by_each_client, an_idle_connection_bars_the_others, how_connections_end, a_body_that_is_too_long,
-         several_receipts, two_senders_of_one_entry, what_the_proxy_says_by_itself, two_ways_to_try,
-         old_days_by_an_import)
+         a_length_that_is_not_that_of_the_body, several_receipts, two_senders_of_one_entry, what_the_proxy_says_by_itself,
+         two_ways_to_try, old_days_by_an_import)

@@ -1,4 +1,5 @@
-"""tools/contracts reads every clause of the sources, and lists what differs between two revisions and nothing else."""
+"""tools/contracts reads every clause, definition and limit of the sources, and lists what differs between two revisions and
+nothing else."""
 import os
 import re
 import shutil
@@ -42,6 +43,54 @@ pub(crate) fn stays(
 }
 """
 AFTER = BEFORE.replace("result ≤ 9", "result ≤ 10").replace("fn old", "fn new")
+LIMITS = """\
+//! The limits.
+
+/// The largest sum, in pence.
+pub const MOST_PENCE: u64 = 7_500;
+
+// A name.
+pub(crate) const NAME: &str =
+    "sum";
+
+#[cfg(test)]
+mod tests {
+    const SEED: u64 = 1;
+}
+"""
+SPECS = """\
+-- What a sum is.
+use Rattle.std.specs.Prelude.{ℕ, ◌≤◌}
+
+-- the largest sum
+abbrev pub most_pence : ℕ
+most_pence = 7500
+
+-- a sum within it
+pub record IsSum (n : ℕ) : Type 0 where
+  -- it is not above
+  pub low : n ≤ most_pence
+
+module _ {S : Type 0} where
+
+  abbrev pub kept : S → S
+  kept s = s
+"""
+RAISED = {
+    "crates/one/src/limits.rt": LIMITS.replace("7_500", "10_000").replace("SEED: u64 = 1", "SEED: u64 = 2"),
+    "crates/one/specs/Sums.antt": SPECS.replace("= 7500", "= 10000").replace("n ≤", "n <").replace("-- the largest", "-- the most"),
+}
+TOLD = """\
+changed  one: constant: MOST_PENCE
+    - MOST_PENCE: u64 = 7_500
+    + MOST_PENCE: u64 = 10_000
+changed  one: definition: IsSum
+    - pub record IsSum (n : ℕ) : Type 0 where pub low : n ≤ most_pence
+    + pub record IsSum (n : ℕ) : Type 0 where pub low : n < most_pence
+changed  one: definition: most_pence
+    - abbrev pub most_pence : ℕ most_pence = 7500
+    + abbrev pub most_pence : ℕ most_pence = 10000
+"""
 WANTED = """\
 gone     one: Sum: old
     - ensures value { result ≡ 1 }
@@ -86,10 +135,15 @@ def it_lists_what_differs():
         commit(folder, {"crates/two/src/sum.rt": AFTER})
         expect("what moved is not listed", told(tool, "HEAD~1", "HEAD"), (0, ""))
         expect("a revision that is not there", told(tool, "elsewhere")[0], 2)
+        commit(folder, {"crates/one/src/limits.rt": LIMITS, "crates/one/specs/Sums.antt": SPECS})
+        commit(folder, RAISED)
+        expect("a limit and a definition, without comments and tests", told(tool, "HEAD~1"), (0, TOLD))
+        commit(folder, {path.replace("Sums", "Others").replace("limits", "most"): text for path, text in RAISED.items()})
+        expect("what moved to another file is not listed", told(tool, "HEAD~1"), (0, ""))
 
 
-def it_reads_every_clause():
-    """Against a tree without sources each clause of this one is gone."""
+def it_reads_every_clause_and_definition():
+    """Against a tree without sources each clause and each definition of this one is gone."""
     with tempfile.TemporaryDirectory() as folder:
         shutil.copytree(os.path.join(TOP, "crates"), os.path.join(folder, "crates"), ignore=shutil.ignore_patterns("out"))
         os.makedirs(os.path.join(folder, "tools"))
@@ -103,6 +157,14 @@ def it_reads_every_clause():
         status, lines = told(tool, "HEAD~1")
         gone = re.findall(r"(?m)^    - (?:requires|ensures) ", lines)
         expect("how many clauses are told of", (status, len(gone)), (0, len(clauses) - 1))
+        form = r"^(abbrev )?pub (abbrev |record |data )?(?!use\b|mod\b)"
+        defined = subprocess.run(["git", "-C", folder, "grep", "-hP", form, "HEAD~1", "--", "crates/*/specs/*.antt"],
+                                 capture_output=True, text=True).stdout.split("\n")
+        names = {re.sub(r"^(?:(?:abbrev|pub|record|data) )*", "", line).split(" ")[0] for line in defined if line}
+        listed = set(re.findall(r"(?m)^gone     \w+: definition: (\S+)$", lines))
+        expect("definitions that are not told of", (sorted(names - listed)[:5], len(names) > 500), ([], True))
+        constants = set(re.findall(r"(?m)^gone     \w+: constant: (\w+)$", lines))
+        expect("limits that are told of", {"SMALL_CREDIT", "MOST_PENCE", "MOST_TERMS", "MOST_BODY"} <= constants, True)
 
 
-main(it_lists_what_differs, it_reads_every_clause)
+main(it_lists_what_differs, it_reads_every_clause_and_definition)

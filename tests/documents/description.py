@@ -29,12 +29,7 @@ UNSEEN = {(name, 491) for name in OPERATIONS} | {("takePledge", 412)}
 # What the rules name and no reply of a request tells: the reader of a request's body does not fail.
 UNTOLD = {607: "Read"}
 
-# The commands on a pledge, as the rules name them.
-NAMED = {
-    "draw": "draw", "repay": "repay", "repayHeld": "repay", "hold": "hold", "release": "release",
-    "declareLost": "declare", "askBooking": "ask", "cancelBooking": "cancel", "decideBooking": "decide",
-    "redeem": "redeem", "sell": "sell", "extend": "extend",
-}
+# The commands on a pledge: a body of each, that of a broker's and that of a bearer's.
 COMMANDS = {
     "draw": {"pence": 1, "seq": 2}, "repay": {"pence": 1, "seq": 2}, "hold": None, "release": None,
     "declareLost": {"paper": "sworn"}, "decideBooking": {"yes": True}, "sell": {"net": 1},
@@ -62,7 +57,8 @@ def text(*rows):
 
 
 def it_is_valid_and_what_its_generator_writes():
-    for word, path in (("openapi", PATH), ("clients", os.path.join(TOP, "docs/CLIENTS.md"))):
+    older = os.path.join(TOP, "docs/openapi-3.0.json")
+    for word, path in (("openapi", PATH), ("openapi-3.0", older), ("clients", os.path.join(TOP, "docs/CLIENTS.md"))):
         made = subprocess.run([os.path.join(TOP, "tools/describe"), word], capture_output=True, timeout=60)
         expect(f"tools/describe {word}", (made.returncode, made.stderr), (0, b""))
         with open(path, "rb") as it:
@@ -100,23 +96,6 @@ def its_refusals_and_routes_are_those_of_the_rules():
             f"the section of the rules of {operation.name}",
             operation.said["externalDocs"]["url"].removeprefix("RULES.md#") in headings, True,
         )
-
-
-def its_refusals_stand_in_the_order_of_the_rules():
-    """Of each command on a pledge, what is refused after the tests that all commands share."""
-    with open(os.path.join(TOP, "docs/RULES.md"), encoding="utf-8") as it:
-        table = it.read().split("| Command | Refusals in order | Effect |\n")[1].split("\n\n")[0]
-    wanted = {}
-    for line in table.splitlines()[1:]:
-        commands, refusals, _ = line.strip("| ").split(" | ")
-        for command in re.sub(r" \(.*\)| yes| no", "", commands).split(", "):
-            found = wanted.setdefault(command, [])
-            found += [int(code) for code in re.findall(r"\b[23]\d\d\b", refusals) if int(code) not in found]
-    expect("the commands", sorted(wanted), sorted(set(NAMED.values())))
-    for name, command in NAMED.items():
-        codes = OPERATIONS[name].codes
-        shared = [301, 302, 205, 305, 304] if command in ("draw", "repay") else [205, 305, 304]
-        expect(f"the refusals of {name}", [code for code in codes if 200 < code < 400], shared + wanted[command])
 
 
 def each_part_has_its_words():
@@ -591,7 +570,7 @@ def each_pair_and_each_example_was_seen():
 
 main(
     it_is_valid_and_what_its_generator_writes, each_part_has_its_words, each_part_has_its_form,
-    its_refusals_and_routes_are_those_of_the_rules, its_refusals_stand_in_the_order_of_the_rules,
+    its_refusals_and_routes_are_those_of_the_rules,
     its_refusals_are_those_of_the_pages, each_operation_stands_once_among_the_retries,
     its_story_is_what_the_program_answers, bodies_are_refused_where_the_description_refuses_them,
     members_that_are_ignored_are_read, texts_that_an_import_takes, heads_are_refused, each_refusal_is_met,

@@ -1,8 +1,8 @@
-"""The documents: each path that one names is there, each link leads to a file and to a heading of it, each definition
-that the glossary names stands in the file that it names, each clause of docs/PROVED.md in the contract of its call,
-each definition of specs has a name of its own, each definition that is quoted stands in the file that it is quoted
-from. They are short, and so are their sentences, and the lines of the crates. A measured figure stands in one of them, and docs/BENCH.md is what
-its script writes.
+"""The documents: each path that one names is there, each script of tests/ is on the map, each link leads to a file and to a
+heading of it, each definition that the glossary names stands in the file that it names, each clause of docs/PROVED.md in the
+contract of its call, each definition of specs has a name of its own, each definition that is quoted stands in the file that it
+is quoted from. The sentences of the documents that are read in need are short, and so are the lines of the crates. Each
+source begins with what is found in it. An import names one crate. A measured figure stands in one document, and docs/BENCH.md is what its script writes.
 """
 import csv
 import glob
@@ -18,22 +18,23 @@ MADE = ("build/", "data/", "dist/")
 DOCUMENTS = sorted(
     path for pattern in ("*.md", "*/*.md") for path in glob.glob(pattern, root_dir=TOP) if not path.startswith(MADE)
 )
-README_WORDS = 900
 COLUMNS = 160
-# All prose together, in words as `wc -w` counts them. What a script writes is no prose: these pages whole, and what
-# stands in others between `<!-- By PATH .. -->` and `<!-- until here -->`.
-PROSE_WORDS = 26_000
-WRITTEN = ("docs/CLAUSES.md",)
+# What a script writes, between `<!-- By PATH .. -->` and `<!-- until here -->`, is no prose.
 WRITTEN_PART = re.compile(r"<!-- By [^>]*-->.*?<!-- until here -->", re.S)
 # No sentence is longer in the documents that are read in need.
 SENTENCE_WORDS = 32
 READ_IN_NEED = ("README.md", "docs/RULES.md", "docs/OPERATING.md", "docs/DEPLOYING.md")
+# Expressions with a private meaning, which nothing that is read in the crates' sources and definitions uses.
+PRIVATE_WORDS = ("is told", "are told", "come about", "handed over", "hands on", "whoever", "is lent", "is no record", "let go of",
+                 "what came of", "ways out", "want of memory")
 # A figure is a number with one of these units. Two documents may have the same one only if each says another thing.
 UNITS = {"ms": "ms", "s": "s", "second": "s", "seconds": "s", "minute": "min", "minutes": "min", "hour": "h",
          "hours": "h", "kB": "kB", "KiB": "KiB", "MB": "MB", "MiB": "MiB", "GB": "GB", "rows": "rows"}
 NUMBER = r"\d[\d,]*(?:\.\d+)?"
 FIGURE = re.compile(rf"(?<![\w.,:/-])({NUMBER}) (?:to ({NUMBER}) )?({'|'.join(UNITS)})\b")
 COINCIDENCES = {"10 MB": "the length of a log, and that of a reply"}
+# An import of definitions or lemmas. Those of Rust's own are laid out by `rt fmt`, one crate each.
+IMPORT = re.compile(r"\s*(?:(?:pub|ghost|unfoldable) )*use Rattle\.(.*?);?\s*")
 CRATES = sorted(os.listdir(os.path.join(TOP, "crates")))
 ENDS = "md|rt|antt|py|sh|json|yaml|conf|map|edit|html|js|css|txt|svg|service|target|timer|sysusers|toml"
 # What looks like a path, within backticks or after a prompt: words with slashes between them, or a name with an end
@@ -45,8 +46,7 @@ NOT_HERE = re.compile(
     r"(application|text|x)/|.*\b(NAME|VERSION|BACKUP|ROOM|COPY|PATH|FOLDER|N)\b|(build|dist|data|out)/"
     r"|before-|copy\.json$|settings\.example$"
 )
-FOLDERS = ("crates", "tests", "tools", "deploy", "deploy/nginx", "deploy/nginx/pawnd", "deploy/systemd",
-           "deploy/examples", "docs", "web", *sorted(glob.glob("tests/*/", root_dir=TOP)))
+FOLDERS = ("crates", "tests", "tools", "deploy", "deploy/nginx", "deploy/systemd", "docs", "web", *sorted(glob.glob("tests/*/", root_dir=TOP)))
 
 
 def read(path):
@@ -106,6 +106,16 @@ def anchors(text):
     return {re.sub(r"[^\w\s-]", "", heading.lower()).strip().replace(" ", "-") for heading in headings}
 
 
+def each_script_is_on_the_map():
+    """A script of tests/ that docs/ARCHITECTURE.md does not name is found by nobody."""
+    part = read("docs/ARCHITECTURE.md").split("\n## Tests\n")[1].split("\n## ")[0]
+    for folder in sorted(glob.glob("tests/*/", root_dir=TOP)):
+        scripts = {os.path.basename(path)[:-3] for path in glob.glob(f"{folder}*.py", root_dir=TOP)}
+        lines = "".join(line for line in part.split("\n") if f"`{folder}`" in line)
+        missing = [] if folder == "tests/library/" else sorted(it for it in scripts if f"`{it}`" not in lines)
+        expect(f"scripts of {folder} that the map does not name", missing, [])
+
+
 def each_link_leads_somewhere():
     for document in DOCUMENTS:
         for target in re.findall(r"\]\(([^)\s]+)\)", read(document)):
@@ -119,10 +129,13 @@ def each_link_leads_somewhere():
                 raise Failed(f"{document} links to {target}, and {place} has no such heading")
 
 
-def each_installed_path_is_in_the_release():
-    """What docs/DEPLOYING.md copies from /opt/pawnd stands in the repository under the same path."""
-    for path in set(re.findall(r"/opt/pawnd/([\w./@*-]+)", read("docs/DEPLOYING.md"))) - {"pawnd"}:
-        expect(f"/opt/pawnd/{path}", bool(glob.glob(os.path.join(TOP, path.rstrip(".")))), True)
+def each_installed_path_is_in_the_package():
+    """What the documents name of the package's own files is put there by deploy/debian/build."""
+    texts, made = read("docs/DEPLOYING.md") + read("docs/OPERATING.md"), read("deploy/debian/build")
+    for path in set(re.findall(r"/usr/share/pawnd/([\w/-]+)", texts)):
+        expect(f"/usr/share/pawnd/{path}", os.path.exists(os.path.join(TOP, "deploy", path)), True)
+    for path in set(re.findall(r"/etc/nginx/sites-available/([\w-]+)", texts)):
+        expect(f"the site {path}", f"/etc/nginx/sites-available/{path} " in made, True)
 
 
 def each_word_is_defined_where_the_glossary_says():
@@ -189,12 +202,63 @@ def each_definition_has_one_name():
     print(f"        {len(places)} definitions", flush=True)
 
 
+def files_of_crates():
+    """The files of source, definitions and proofs, each with its text."""
+    for end in ("rt", "antt"):
+        for part in ("src", "specs", "proofs"):
+            for path in glob.glob(f"crates/*/{part}/**/*.{end}", root_dir=TOP, recursive=True):
+                yield path, read(path)
+
+
 def no_line_of_the_crates_is_long():
-    paths = [path for end in ("rt", "antt") for part in ("src", "specs", "proofs")
-             for path in glob.glob(os.path.join(TOP, f"crates/*/{part}/**/*.{end}"), recursive=True)]
-    long = [path for path in paths if any(len(line) > COLUMNS for line in read(os.path.relpath(path, TOP)).split("\n"))]
+    texts = dict(files_of_crates())
+    long = [path for path, text in texts.items() if any(len(line) > COLUMNS for line in text.split("\n"))]
     expect(f"files of crates with a line above {COLUMNS} columns", long, [])
-    expect("how many were read", len(paths) > 900, True)
+    expect("how many were read", len(texts) > 900, True)
+
+
+def imported_crates(line):
+    """The crates that an import of definitions or lemmas names."""
+    tree = IMPORT.fullmatch(line)
+    if tree is None:
+        return set()
+    if not tree[1].startswith("{"):
+        return {re.match(r"\w+", tree[1])[0]}
+    heads, depth, head = set(), 0, ""
+    for character in tree[1][1:-1] + ",":
+        if character == "," and depth == 0:
+            heads.add(re.match(r"\w*", head.strip())[0])
+            head = ""
+        else:
+            depth += (character == "{") - (character == "}")
+            head += character
+    return heads - {""}
+
+
+def comments(path, text):
+    """The comments of a source, or of definitions, one line each."""
+    form = r"^\s*//[/!]?(.*)$|\s// (.*)$" if path.endswith(".rt") else r"(?:^|\s)-- (.*)$"
+    return ["".join(found) for found in re.findall(form, text, re.M)]
+
+
+def each_source_says_what_is_in_it():
+    sources = [(path, text) for path, text in files_of_crates() if path.endswith(".rt")]
+    expect("sources whose first line is no `//!`", [path for path, text in sources if not text.startswith("//! ")], [])
+    said = [
+        (path, words) for path, text in files_of_crates() if "/src/" in path or "/specs/" in path
+        for line in comments(path, text) for words in PRIVATE_WORDS if words in line.lower()
+    ]
+    expect("comments with a private meaning", said, [])
+
+
+def each_import_names_one_crate():
+    """The lines of an import that is broken are read as one."""
+    mixed = []
+    for path, text in files_of_crates():
+        for line in re.sub(r",\s*\n\s*", ", ", text).split("\n"):
+            if len(imported_crates(line)) > 1:
+                mixed.append(f"{path}: {line.strip():.80}")
+    expect("imports that name several crates", mixed, [])
 
 
 def each_quotation_is_true():
@@ -205,18 +269,9 @@ def each_quotation_is_true():
     expect("how many there are", len(quoted) > 5, True)
 
 
-def prose(document, text):
+def prose(text):
     """What a person wrote of a document."""
-    return "" if document in WRITTEN else WRITTEN_PART.sub("", text)
-
-
-def the_prose_is_short():
-    expect(f"README.md has at most {README_WORDS} words", len(read("README.md").split()) <= README_WORDS, True)
-    words = {document: len(prose(document, read(document)).split()) for document in DOCUMENTS}
-    print(f"        {sum(words.values()):,} words in {len(DOCUMENTS)} documents", flush=True)
-    if sum(words.values()) > PROSE_WORDS:
-        longest = sorted(words.items(), key=lambda it: -it[1])
-        raise Failed(f"{sum(words.values()):,} words of prose, and at most {PROSE_WORDS:,} are wanted: {longest}")
+    return WRITTEN_PART.sub("", text)
 
 
 def sentences(text):
@@ -234,7 +289,7 @@ def too_long(text):
 
 def no_sentence_is_too_long():
     for document in READ_IN_NEED:
-        found = too_long(prose(document, read(document)))
+        found = too_long(prose(read(document)))
         expect(f"sentences of {document} with more than {SENTENCE_WORDS} words", found, [])
 
 
@@ -273,6 +328,14 @@ def each_figure_stands_in_one_document():
         raise Failed(f"{len(twice)} figures stand in two documents: {dict(sorted(twice.items()))}")
 
 
+def building_and_testing_take_the_same_time_everywhere():
+    """README.md and make help tell how long to allow for the first build and for the first run of the tests."""
+    form = re.compile(r"[Aa]llow\s+([\w ]+?)\s+on\s+four\s+processors")
+    allowed = {path: form.findall(read(path)) for path in ("README.md", "tools/help")}
+    expect("what README.md allows", len(allowed["README.md"]), 2)
+    expect("what make help allows, for the build and then for the tests", allowed["tools/help"], allowed["README.md"])
+
+
 def the_page_of_figures_is_what_its_script_writes():
     made = subprocess.run([sys.executable, os.path.join(TOP, "bench/page.py"), "--print"], capture_output=True)
     expect("bench/page.py --print", (made.returncode, made.stderr), (0, b""))
@@ -286,16 +349,28 @@ def these_checks_can_fail():
     expect("a long sentence", len(too_long(f"# Title\n\nShort. {long}. Short.\n- {long}\n| a | {long} |\n")), 3)
     expect("one that is not", too_long(f"{long[:-5]}.\n\n    {long}\n"), [])
     made = "One.\n<!-- By bench/page.py: gate -->\n1 2 3\n<!-- until here -->\ntwo\n"
-    expect("prose beside what a script writes", prose("README.md", made).split(), ["One.", "two"])
-    expect("a page that a script writes", prose(WRITTEN[0], made), "")
+    expect("prose beside what a script writes", prose(made).split(), ["One.", "two"])
+    for line, crates in (
+        ("use Rattle.std.proofs.Common.{refl, sym}", {"std"}),
+        ("ghost use Rattle.{std.specs.{Prelude.{Ok}, List.All}, pawn_base.specs.Text.IsText};", {"std", "pawn_base"}),
+        ("    pub use Rattle.{std.specs.List.All, std.specs.Int.w32}", {"std"}),
+        ("unfoldable pub use Rattle.{one.specs.A.b, two.specs.A.b as c}", {"one", "two"}),
+        ("use std::alloc::Global;", set()),
+    ):
+        expect(f"the crates of {line}", imported_crates(line), crates)
+    source = "//! One.\n/// Two is told.\nlet a = 1; // three\n"
+    expect("the comments of a source", comments("a.rt", source), [" One.", " Two is told.", "three"])
+    expect("those of definitions", comments("A.antt", "-- one\na = b -- two\nc = d\n"), ["one", "two"])
     texts = {"a": "It takes 1,200 ms, and 3 to 5 minutes.", "b": "1200 ms", "c": "5 minutes, 7 s", "d": "v1.7 s"}
     expect("figures that stand twice", said_twice(texts), {"1200 ms": ["a", "b"], "5 min": ["a", "c"]})
     expect("what was measured", len(measured_things()) > 20, True)
 
 
 main(
-    each_path_is_there, each_link_leads_somewhere, each_word_is_defined_where_the_glossary_says,
-    each_installed_path_is_in_the_release, each_clause_stands_in_its_contract, each_definition_has_one_name,
-    no_line_of_the_crates_is_long, each_quotation_is_true, these_checks_can_fail, the_prose_is_short,
-    no_sentence_is_too_long, each_figure_stands_in_one_document, the_page_of_figures_is_what_its_script_writes,
+    each_path_is_there, each_script_is_on_the_map, each_link_leads_somewhere, each_word_is_defined_where_the_glossary_says,
+    each_installed_path_is_in_the_package, each_clause_stands_in_its_contract, each_definition_has_one_name,
+    no_line_of_the_crates_is_long, each_source_says_what_is_in_it, each_import_names_one_crate, each_quotation_is_true,
+    these_checks_can_fail,
+    no_sentence_is_too_long, building_and_testing_take_the_same_time_everywhere, each_figure_stands_in_one_document,
+    the_page_of_figures_is_what_its_script_writes,
 )

@@ -40,6 +40,15 @@ def steps():
     return [(command, "\n".join(told)) for command, told in found]
 
 
+def a_script_on_the_same_program(room, environment):
+    """The command of docs/CHANGING.md that runs scripts on an unproved program builds nothing again."""
+    words, how = ["tools/unproved", "environment"], {"cwd": room, "env": environment, "stdin": subprocess.DEVNULL}
+    ran = subprocess.run(words, capture_output=True, text=True, timeout=120, **how)
+    lines = ran.stdout.splitlines()
+    expect("the program of the scripts", (ran.stderr, lines[0]), ("", os.path.join(room, "build/unproved/pawnd")))
+    expect("how the script ended", (ran.returncode, lines[-1].endswith(" passed, 0 failed")), (0, True))
+
+
 def the_demo_on_a_clean_clone():
     """It says first that nothing is proved, then how far it is, and then what the README tells, and the run of
     docs/THEOREM.md."""
@@ -59,10 +68,13 @@ def the_demo_on_a_clean_clone():
         taken = time.monotonic() - begun
         asks = ["git", "-C", room, "status", "--porcelain"]
         changed = subprocess.run(asks, capture_output=True, text=True, check=True, timeout=60).stdout
-    expect("how it ended", (ran.returncode, ran.stderr, changed), (0, "", ""))
+        a_script_on_the_same_program(room, environment)
+    expect("how it ended", (ran.returncode, changed), (0, ""))
+    progress = ran.stderr.splitlines()
+    expect("it says how far it is", [it for it in progress if not it.startswith("building without proof: ")], [])
+    expect("that it says so", len(progress) > 0, True)
     said = ran.stdout.split("\n")
     expect("its first line", all(word in said[0] for word in ("WITHOUT its proof", "rt try", "make serve")), True)
-    expect("it says how far it is", said[1].startswith("building without proof: "), True)
     rest = ran.stdout
     for command, told in lines:
         if command.startswith("curl "):
@@ -72,7 +84,9 @@ def the_demo_on_a_clean_clone():
     expect(
         "the requests of docs/THEOREM.md", re.findall(r"(?m)^(\d+)\. ", rest), [str(number) for number in range(1, 16)],
     )
-    expect("its end", "23 requests, 23 answered as expected" in said[-3], True)
+    expect("its end", "23 requests, 23 with an expected reply, 23 answered as expected" in said[-4], True)
+    expect("it says where the program is", said[-3].startswith("The program is /"), True)
+    expect("Ann's replies when she is alone", re.findall(r"  reply (\d+): the same \d+ bytes", rest), ["5", "9", "10", "15"])
     print(f"        the demo took {taken:.0f} seconds from git clone on", flush=True)
     # Beside other work it takes as much longer as that is more than the processors can do.
     expect(
@@ -120,12 +134,12 @@ def serve(command, port, data):
     """The service, started by the README's own command, on this port and in this folder."""
     program = subprocess.Popen(
         [*command.split(), f"PORT={port}", f"DATA={data}"], cwd=TOP, stdin=subprocess.DEVNULL, stdout=subprocess.PIPE,
-        text=True, env={**os.environ, "PAWND": PROGRAM}, start_new_session=True,
+        stderr=subprocess.PIPE, text=True, env={**os.environ, "PAWND": PROGRAM}, start_new_session=True,
     )
     for line in program.stdout:
         if line == f"listening {port}\n":
             return program
-    raise Failed(f"it ended with {program.wait()}")
+    raise Failed(f"it ended with {program.wait()}: {program.stderr.read()}")
 
 
 def ask(lines, port, folder, data):

@@ -43,6 +43,34 @@ def validators():
 VALIDATORS = validators()
 
 
+def exact(value):
+    """A schema that allows no more than this release writes: no further member of an object, no further line."""
+    if isinstance(value, list):
+        return [exact(it) for it in value]
+    if not isinstance(value, dict):
+        return value
+    made = {name: exact(it) for name, it in value.items()}
+    if "x-pattern" in made:
+        made["pattern"] = made["x-pattern"]
+    return {**made, "additionalProperties": False} if "properties" in made else made
+
+
+def exact_components():
+    """The components of the description, with exact schemas of replies. In a body further members are ignored."""
+    bodies = {
+        it["schema"]["$ref"].rpartition("/")[2]
+        for path in DESCRIPTION["paths"].values() for operation in path.values()
+        if isinstance(operation, dict) and "requestBody" in operation
+        for it in operation["requestBody"]["content"].values()
+    }
+    schemas = DESCRIPTION["components"]["schemas"]
+    made = {name: it if name in bodies else exact(it) for name, it in schemas.items()}
+    return {**DESCRIPTION["components"], "schemas": made}
+
+
+COMPONENTS = exact_components()
+
+
 def resolved(value):
     """What a reference within the description names, or else the value."""
     while "$ref" in value:
@@ -64,7 +92,7 @@ class Schema:
     def __init__(self, schema):
         self.schema = resolved(schema)
         self.validator = VALIDATORS and VALIDATORS.Draft202012Validator(
-            {**schema, "components": DESCRIPTION["components"]}
+            {**schema, "components": COMPONENTS}
         )
 
     def fault(self, value):

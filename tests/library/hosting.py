@@ -1,9 +1,10 @@
-"""nginx by the files of deploy/nginx, in front of shards of the program or of recorders in their place, on free ports
-of the loopback; and its clients over TLS."""
+"""nginx by the files of deploy/nginx within Debian's own nginx.conf, in front of stores of the program or of recorders in
+their place, on free ports of the loopback; and its clients over TLS."""
 import collections
 import contextlib
 import json
 import os
+import pathlib
 import random
 import shutil
 import signal
@@ -27,13 +28,13 @@ from tests.library.waiting import wait_for
 NAME = "books.example.org"
 # What each program comes in, as a package of Debian.
 PACKAGES = {"nginx": "nginx-light", "openssl": "openssl", "curl": "curl"}
+# The stores by their numbers, and the number of the store that has each book.
+STORES = {1: "main", 2: "east", 3: "west"}
 BOOKS = {7: 1, 8: 2, 9: 3}
 # In the system's memory, where it has a place for files there and no other is asked for.
 MEMORY = "/dev/shm" if os.access("/dev/shm", os.W_OK) and "TMPDIR" not in os.environ else None
 # More than the system keeps of a connection.
 LENGTH = 24_000_000
-# The operator's own files.
-SETTINGS = ("site.conf", "shards.conf", "books.map")
 # Addresses of the loopback, of which each is a caller of its own.
 ADDRESSES = (
     f"127.{first}.{second}.{third}" for first in range(1, 200) for second in range(1, 250) for third in range(1, 250)
@@ -117,7 +118,7 @@ class Caller:
 
 
 def steady_port():
-    """A free port below those of which the system gives connections their own, so that none takes it while a shard is
+    """A free port below those of which the system gives connections their own, so that none takes it while a store is
     away."""
     while True:
         port = random.randrange(15_000, 32_000)
@@ -126,7 +127,7 @@ def steady_port():
             return port
 
 
-class Shard:
+class Store:
     """`pawnd serve` over a file, on a port that stays the same."""
 
     def __init__(self, folder, key):
@@ -143,7 +144,7 @@ class Shard:
             umask=0o077,
         )
         if wait:
-            expect("the first line of a shard", self.program.stdout.readline(), f"listening {self.port}\n".encode())
+            expect("the first line of a store", self.program.stdout.readline(), f"listening {self.port}\n".encode())
         return self
 
     def kill(self):
@@ -159,7 +160,7 @@ class Shard:
 
 
 class Recorder:
-    """In a shard's place: it keeps what it was sent, and answers as it is told: shortly, at length, not at all, or by
+    """In a store's place: it keeps what it was sent, and answers as it is told: shortly, at length, not at all, or by
     closing the connection."""
 
     def __init__(self, *_):
@@ -225,11 +226,11 @@ def open_text(path):
 
 
 class Hosted:
-    """nginx in front of some shards. The files are those of deploy/nginx, but for paths, addresses and the map;
-    `changes` are pairs of texts in http.conf."""
+    """nginx in front of some stores. The files are those of deploy/nginx, but for paths, addresses and the settings;
+    `changes` are pairs of texts: of limits in pawnd-http.conf, or else in pawnd-server.conf."""
 
-    def __init__(self, shards=3, books=BOOKS, kind=Shard, changes=()):
-        self.many, self.books, self.kind, self.changes = shards, books, kind, changes
+    def __init__(self, stores=3, books=BOOKS, kind=Store, changes=()):
+        self.many, self.books, self.kind, self.changes = stores, books, kind, changes
 
     def __enter__(self):
         self.stack = contextlib.ExitStack()
@@ -251,111 +252,118 @@ class Hosted:
         with open(self.key, "w") as it:
             os.fchmod(it.fileno(), 0o600)
             it.write(OPERATOR + "\n")
-        self.shards = [
-            self.kind(os.path.join(self.room, "shards", str(number)), self.key) for number in range(1, self.many + 1)
+        self.stores = [
+            self.kind(os.path.join(self.room, "stores", STORES[number]), self.key) for number in range(1, self.many + 1)
         ]
-        for shard in self.shards:
-            self.stack.callback(shard.kill)
-            shard.start()
-        self.port, self.plain, self.waiting, self.workers = (steady_port() for _ in range(4))
+        for store in self.stores:
+            self.stack.callback(store.kill)
+            store.start()
+        self.port, self.plain = steady_port(), steady_port()
         self.configure()
         self.serve()
         return self
 
     def configure(self):
-        """The files of deploy/nginx in a folder of this server's own, the operator's files, and the pages beside
-        them."""
-        self.conf, self.places = os.path.join(self.room, "nginx"), os.path.join(self.room, "pawnd-places")
-        shutil.copytree(os.path.join(TOP, "deploy/nginx"), self.conf)
-        for name in SETTINGS:
-            shutil.copy(os.path.join(TOP, "deploy/examples", name), self.settings)
+        """Debian's nginx.conf and the files of deploy/nginx in a folder of this server's own, the settings, and the
+        pages beside them."""
+        self.conf = os.path.join(self.room, "nginx")
+        for folder in ("snippets", "sites-enabled", "modules-enabled", "conf.d"):
+            os.makedirs(os.path.join(self.conf, folder))
+        deploy = os.path.join(TOP, "deploy/nginx")
+        for name in os.listdir(deploy):
+            if name.startswith("pawnd-"):
+                shutil.copy(os.path.join(deploy, name), os.path.join(self.conf, "snippets"))
+        shutil.copy(os.path.join(deploy, "site"), os.path.join(self.conf, "sites-enabled/pawnd"))
+        shutil.copy(os.path.join(deploy, "main.conf"), os.path.join(self.conf, "modules-enabled/60-pawnd.conf"))
+        shutil.copy("/etc/nginx/nginx.conf", self.conf)
         shutil.copytree(os.path.join(TOP, "web"), os.path.join(self.room, "web"))
         for folder, folders, files in os.walk(os.path.join(self.room, "web")):
             for name in [".", *files]:
                 os.chmod(os.path.join(folder, name), 0o755)
         os.mkdir(os.path.join(self.room, "logs"))
-        self.cert = os.path.join(self.room, "cert.pem")
-        subprocess.run(
-            [
-                "openssl",
-                "req",
-                "-x509",
-                "-newkey",
-                "ec",
-                "-pkeyopt",
-                "ec_paramgen_curve:prime256v1",
-                "-nodes",
-                "-days",
-                "2",
-                "-subj",
-                f"/CN={NAME}",
-                "-addext",
-                f"subjectAltName=DNS:{NAME}",
-                "-keyout",
-                os.path.join(self.room, "cert.key"),
-                "-out",
-                self.cert,
-            ],
-            check=True,
-            capture_output=True,
-            timeout=60,
-        )
+        self.make_certificate()
+        self.write_settings()
+        self.put_into_room()
+        self.edit("snippets/pawnd-http.conf", *(it for it in self.changes if it[0].startswith("rate=")))
+        self.edit("snippets/pawnd-server.conf", *(it for it in self.changes if not it[0].startswith("rate=")))
+
+    def make_certificate(self):
+        folder = os.path.join(self.settings, "certificate")
+        os.mkdir(folder)
+        self.cert = os.path.join(folder, "fullchain.pem")
+        words = "openssl req -x509 -newkey ec -pkeyopt ec_paramgen_curve:prime256v1 -nodes -days 2".split()
+        words += ["-subj", f"/CN={NAME}", "-addext", f"subjectAltName=DNS:{NAME}"]
+        words += ["-keyout", os.path.join(folder, "privkey.pem"), "-out", self.cert]
+        subprocess.run(words, check=True, capture_output=True, timeout=60)
+
+    def write_settings(self):
+        """What the operator and `pawnd-admin` write: the name, the stores and the books that are not in `main`."""
+        upstream = "upstream store_{0} {{ zone store_{0} 64k; server 127.0.0.1:{1} max_conns=100 max_fails=0; }}\n"
+        stores = [upstream.format(STORES[number], store.port) for number, store in enumerate(self.stores, 1)]
+        lines = [f"{book} {STORES[store]};\n" for book, store in self.books.items() if store != 1]
+        for name, text in (
+            ("name.conf", f"server_name {NAME};\n"),
+            ("stores.conf", "".join(stores)),
+            ("books.map", "".join(lines)),
+            ("keys.map", ""),
+        ):
+            with open(os.path.join(self.settings, name), "w") as it:
+                it.write(text)
+
+    def put_into_room(self):
+        """Paths and addresses are those of this server."""
+        unused = " ".join(f"{it}_temp_path {self.room}/unused;" for it in ("fastcgi", "uwsgi", "scgi"))
         self.edit(
             "nginx.conf",
             ("/run/nginx.pid", f"{self.room}/nginx.pid"),
             ("/var/log/nginx/", f"{self.room}/logs/"),
-            ("/run/nginx-bodies;", f"{self.room}/bodies;"),
-            (
-                "/run/nginx-replies;",
-                f"{self.room}/replies; "
-                + " ".join(f"{it}_temp_path {self.room}/unused;" for it in ("fastcgi", "uwsgi", "scgi")),
-            ),
-            ("/etc/pawnd/", f"{self.settings}/"),
-            ("/var/lib/pawnd-places/", f"{self.places}/"),
-            ("127.0.0.1:8100", f"127.0.0.1:{self.waiting}"),
-            ("127.0.0.1:8099", f"127.0.0.1:{self.workers}"),
+            ("/etc/nginx/modules-enabled/", f"{self.conf}/modules-enabled/"),
+            ("/etc/nginx/conf.d/", f"{self.conf}/conf.d/"),
+            ("/etc/nginx/sites-enabled/", f"{self.conf}/sites-enabled/"),
+            ("http {", "http { " + unused),
         )
-        self.edit("pawnd/pause.conf", ("127.0.0.1:8100", f"127.0.0.1:{self.waiting}"))
-        self.edit("pawnd/plain.conf", ("/var/lib/acme", f"{self.room}/acme"))
+        self.edit("snippets/pawnd-http.conf", ("/etc/pawnd/", f"{self.settings}/"))
+        self.edit("snippets/pawnd-plain.conf", ("/var/www/html", f"{self.room}/acme"))
         self.edit(
-            "site.conf",
-            ("listen [::]:443 ssl http2 default_server;", ""),
-            ("listen [::]:80 default_server;", ""),
+            "sites-enabled/pawnd",
+            ("listen [::]:443 ssl http2;", ""),
+            ("listen [::]:80;", ""),
             ("listen 443 ", f"listen 127.0.0.1:{self.port} "),
-            ("listen 80 ", f"listen 127.0.0.1:{self.plain} "),
-            ("/etc/pawnd/certificate/fullchain.pem", self.cert),
-            ("/etc/pawnd/certificate/privkey.pem", os.path.join(self.room, "cert.key")),
-            ("/opt/pawnd/web", f"{self.room}/web"),
+            ("listen 80;", f"listen 127.0.0.1:{self.plain};"),
+            ("/etc/pawnd/", f"{self.settings}/"),
+            ("/usr/share/pawnd/web", f"{self.room}/web"),
+            ("/var/log/nginx/pawnd.log", f"{self.room}/logs/access.log"),
+            ("/run/pawnd-bodies;", f"{self.room}/bodies;"),
+            ("/run/pawnd-replies;", f"{self.room}/replies;"),
         )
-        line = open_text(os.path.join(self.settings, "shards.conf")).splitlines()[-1]
-        with open(os.path.join(self.settings, "shards.conf"), "a") as it:
-            for number in range(2, self.many + 1):
-                it.write(line.replace("shard1", f"shard{number}").replace("8101", f"810{number}") + "\n")
-        self.edit(
-            "shards.conf",
-            *((f"127.0.0.1:810{number}", f"127.0.0.1:{shard.port}") for number, shard in enumerate(self.shards, 1)),
-        )
-        with open(os.path.join(self.settings, "books.map"), "a") as it:
-            it.writelines(f"{book} shard{shard};\n" for book, shard in self.books.items())
-        self.lay()
-        self.edit("pawnd/http.conf", *self.changes)
-
-    def lay(self):
-        """The places of the map's books, as `shards reload` makes them."""
-        for folder in (self.places, *(os.path.join(self.places, f"shard{n}") for n in range(1, self.many + 1))):
-            os.mkdir(folder)
-            os.chmod(folder, 0o711)
-        for name in ("moving", "none"):
-            with open(os.path.join(self.places, name), "w"):
-                pass
-        for book, shard in self.books.items():
-            os.symlink(f"shard{shard}", os.path.join(self.places, str(book)))
 
     def edit(self, name, *pairs):
-        path = os.path.join(self.settings if name in SETTINGS else self.conf, name)
+        path = os.path.join(self.conf, name)
         text = put(open_text(path), *pairs)
         with open(path, "w") as it:
             it.write(text)
+
+    def set_map(self, name, *lines):
+        """Writes a map of the settings anew, and has nginx read it."""
+        with open(os.path.join(self.settings, name), "w") as it:
+            it.writelines(line + "\n" for line in lines)
+        self.reload()
+
+    def reload(self):
+        """nginx reads its files anew. Its workers of before take no connection any more."""
+        before = self.workers()
+        os.kill(self.nginx.pid, signal.SIGHUP)
+        wait_for(lambda: (now := self.workers()) and not now & before, "nginx has read its files anew", 30)
+
+    def workers(self):
+        """The workers that take connections."""
+        found = set()
+        with open(f"/proc/{self.nginx.pid}/task/{self.nginx.pid}/children") as it:
+            for pid in it.read().split():
+                with contextlib.suppress(OSError):
+                    if b"shutting down" not in pathlib.Path(f"/proc/{pid}/cmdline").read_bytes():
+                        found.add(pid)
+        return found
 
     def serve(self):
         words = [
@@ -401,8 +409,8 @@ class Hosted:
     def caller(self, address=None):
         return Caller(self.port, address)
 
-    def shard_of(self, book):
-        return self.shards[self.books[book] - 1]
+    def store_of(self, book):
+        return self.stores[self.books[book] - 1]
 
     def open_books(self, pledges=1):
         """Each book of the map with terms that charge nothing, and some pledges: their receipts, by book. All is
@@ -426,44 +434,6 @@ class Hosted:
             caller.close()
         operator.close()
         return receipts
-
-    def run_shards(self, *words, wanted=0, **environment):
-        return run_shards(*words, wanted=wanted, **self.environment(), **environment)
-
-    def restart(self, number):
-        """A shard as its unit stops it and starts it anew."""
-        shard = self.shards[number - 1]
-        shard.kill()
-        self.run_shards("fold", shard.path)
-        self.run_shards("begin", shard.path)
-        shard.start()
-
-    def environment(self):
-        """What `deploy/shards` is told of this host."""
-        own = {
-            "STORES": "shards",
-            "COPIES": "copies",
-            "ACCESS": "logs/access.log",
-            "CONF": "nginx/nginx.conf",
-            "PLACES": "pawnd-places",
-        }
-        return {"SETTINGS": self.settings, **{name: os.path.join(self.room, path) for name, path in own.items()}}
-
-
-def run_shards(*words, wanted=0, within=120, **environment):
-    """What `deploy/shards` prints, or what it complains of where it is to end with another status than 0 (None is
-    any)."""
-    ran = subprocess.run(
-        [os.path.join(TOP, "deploy/shards"), *map(str, words)],
-        capture_output=True,
-        text=True,
-        timeout=within,
-        stdin=subprocess.DEVNULL,
-        env={**os.environ, "PATH": PATHS, "PAWND": PROGRAM, **environment},
-    )
-    if wanted is not None and ran.returncode != wanted:
-        raise Failed(f"shards {words[0]} ended with {ran.returncode}: {ran.stdout[-300:]} {ran.stderr[-600:]}")
-    return ran.stdout if wanted == 0 else ran.stderr
 
 
 def open_pledge(caller, book, number, **changed):

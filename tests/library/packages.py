@@ -6,13 +6,19 @@ import subprocess
 
 from tests.library.checks import main, not_tried
 
-# What the scripts of the pages need, each program with its package.
-PACKAGES = {"nginx": "nginx-light", "chromium": "chromium", "chromedriver": "chromium-driver"}
+# What building the pages needs, each program or file with its package.
+BUILDING = {"esbuild": "esbuild", "/usr/share/nodejs/qrcode-generator/qrcode.js": "node-qrcode-generator"}
+# What the scripts of the pages need.
+PACKAGES = {"nginx": "nginx-light", "chromium": "chromium", "chromedriver": "chromium-driver", **BUILDING}
 PATHS = os.environ.get("PATH", "") + ":/usr/sbin"
 
 
+def is_here(name):
+    return os.path.exists(name) if os.path.isabs(name) else shutil.which(name, path=PATHS) is not None
+
+
 def missing(packages=PACKAGES):
-    return [name for name in packages if shutil.which(name, path=PATHS) is None]
+    return [name for name in packages if not is_here(name)]
 
 
 def provide(packages=PACKAGES):

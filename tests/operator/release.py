@@ -1,16 +1,15 @@
-"""`make release`: what it packs, that the sums are those of the files, and that the program starts where the kit is
-not, with the system's libraries alone."""
-import hashlib
+"""`make release`: the package that it makes, that lintian finds no error in it, what it says of itself, and that the
+program starts where the kit is not, with the system's libraries alone."""
+import contextlib
 import os
 import re
 import shutil
 import subprocess
-import tarfile
 import tempfile
 
-from tests.library.checks import Failed, expect, main
+from tests.library.checks import Failed, expect, main, not_tried
+from tests.library.packages import provide
 from tests.library.paths import TOP
-from tests.library.program import free_port
 
 LIBRARIES = "libc.so.6"
 
@@ -21,103 +20,91 @@ def text(path):
 
 
 VERSION = text(os.path.join(TOP, "VERSION")).strip()
-NAME = f"pawnd-{VERSION}-x86_64-linux"
+PACKAGE = os.path.join(TOP, f"dist/pawnd_{VERSION}_amd64.deb")
+
+
+def said_by(*words):
+    return subprocess.run(words, capture_output=True, text=True, check=True, timeout=120).stdout
 
 
 def unpacked(room):
-    """The folder of the release, unpacked."""
-    with tarfile.open(os.path.join(TOP, "dist", f"{NAME}.tar.gz")) as it:
-        expect("owners", {(one.uid, one.gid) for one in it.getmembers()}, {(0, 0)})
-        expect(
-            "what not everybody can read",
-            [one.name for one in it.getmembers() if one.mode & 0o055 not in (0o055, 0o044) or one.mode & 0o022], [],
-        )
-        it.extractall(room)
-    return os.path.join(room, NAME)
+    """A folder with the package's files."""
+    said_by("dpkg-deb", "-x", PACKAGE, room)
+    return room
+
+
+@contextlib.contextmanager
+def left_by_a_run():
+    """What a run of the examples leaves beside them, which is no part of a release."""
+    folder = os.path.join(TOP, "examples/__pycache__")
+    os.makedirs(folder, exist_ok=True)
+    path = os.path.join(folder, "left.pyc")
+    with open(path, "wb"):
+        pass
+    try:
+        yield
+    finally:
+        os.remove(path)
 
 
 def a_release_is_packed():
-    made = subprocess.run(
-        ["make", "-s", "-C", TOP, "release"], capture_output=True, text=True, timeout=10_000, umask=0o077,
-    )
+    with left_by_a_run():
+        made = subprocess.run(
+            ["make", "-s", "-C", TOP, "release"], capture_output=True, text=True, timeout=10_000, umask=0o077,
+        )
     if made.returncode:
         raise Failed(f"make release ended with {made.returncode}: {made.stdout[-300:]} {made.stderr[-300:]}")
-    with tempfile.TemporaryDirectory() as room:
-        top = unpacked(room)
-        for path in (
-            "pawnd", "serve", "check", "README.md", "CHANGELOG.md", "settings.example", "deploy/shards",
-            "deploy/keeping/moves.py", "deploy/examples/site.conf", "deploy/nginx/pawnd/http.conf",
-            "deploy/systemd/pawnd@.service", "docs/FILES.md", "docs/RULES.md", "docs/openapi.json",
-            "examples/README.md",
-        ):
-            expect(f"{path} is there", os.path.isfile(os.path.join(top, path)), True)
-        sums = dict(reversed(line.split(maxsplit=1)) for line in text(os.path.join(top, "SHA256SUMS")).splitlines())
-        found = {os.path.relpath(os.path.join(at, it), top) for at, _, files in os.walk(top) for it in files}
-        expect("the files that have a sum", set(sums), found - {"SHA256SUMS"})
-        for path, sum in sums.items():
-            with open(os.path.join(top, path), "rb") as it:
-                expect(f"the sum of {path}", hashlib.sha256(it.read()).hexdigest(), sum)
+    expect("it is all that there is", os.listdir(os.path.join(TOP, "dist")), [os.path.basename(PACKAGE)])
+    listed = [line.split(None, 5) for line in said_by("dpkg-deb", "-c", PACKAGE).splitlines()]
+    expect("owners", {line[1] for line in listed}, {"root/root"})
+    expect("what not everybody can read", [line for line in listed if line[0][7] != "r" or line[0][8] == "w"], [])
+    paths = {line[5].lstrip(".") for line in listed}
+    for path in (
+        "/usr/bin/pawnd", "/usr/bin/pawnd-admin", "/usr/share/pawnd/admin/settings.py", "/usr/share/pawnd/web/index.html",
+        "/usr/share/doc/pawnd/DEPLOYING.md", "/usr/share/doc/pawnd/openapi.json", "/usr/share/doc/pawnd/examples/README.md",
+        "/usr/share/doc/pawnd/RELEASE", "/lib/systemd/system/pawnd@.service", "/usr/lib/sysusers.d/pawnd.conf",
+        "/etc/nginx/sites-available/pawnd", "/etc/nginx/snippets/pawnd-http.conf", "/etc/pawnd/name.conf",
+    ):
+        expect(f"{path} is there", path in paths, True)
+    settings = {path for path in paths if path.startswith("/etc/") and not path.endswith("/")}
+    expect("what the operator may edit", set(said_by("dpkg-deb", "-I", PACKAGE, "conffiles").split()), settings)
+    expect("no compiled Python", [path for path in paths if "__pycache__" in path], [])
+
+
+def lintian_finds_no_error():
+    if provide({"lintian": "lintian"}):
+        not_tried("the package by lintian", "it is not installed")
+        return
+    ran = subprocess.run(
+        ["lintian", "--allow-root", "--fail-on", "error", PACKAGE], capture_output=True, text=True, timeout=300
+    )
+    expect("its errors", [line for line in ran.stdout.splitlines() if line.startswith("E:")], [])
+    expect(f"lintian {ran.stderr[-200:]}", ran.returncode, 0)
 
 
 def it_says_what_it_is():
-    asks = ["git", "-C", TOP, "rev-parse", "HEAD"]
-    commit = subprocess.run(asks, capture_output=True, text=True, check=True).stdout.strip()
-    kit = subprocess.run(["rt", "version"], capture_output=True, text=True, check=True).stdout.strip()
+    commit = said_by("git", "-C", TOP, "rev-parse", "HEAD").strip()
+    kit = said_by("rt", "version").strip()
     with tempfile.TemporaryDirectory() as room:
-        top = unpacked(room)
-        said = text(os.path.join(top, "RELEASE"))
-        for line in (
-            f"pawnd {VERSION}", f"Commit         {commit}", f"Proved with    {kit}",
-            f"Libraries      {LIBRARIES} GLIBC_",
-        ):
-            expect(f"it says {line}", line in said, True)
-        expect(
-            "what it says of the gate",
-            bool(re.search(r"The gate       (\d+ passed, \d+ failed|not run on this commit)\n", said)), True,
-        )
-        expect(
-            "no key in the settings", bool(re.search(r"[0-9a-f]{8}-", text(os.path.join(top, "settings.example")))),
-            False,
-        )
-
-
-def it_serves_from_its_own_folder():
-    port, environment = free_port(), {name: value for name, value in os.environ.items() if name != "PAWND"}
-    with tempfile.TemporaryDirectory() as room:
-        top = unpacked(room)
-        service = subprocess.Popen(
-            ["./serve"], cwd=top, stdin=subprocess.DEVNULL, stdout=subprocess.PIPE, text=True,
-            env={**environment, "PORT": str(port), "DATA": os.path.join(room, "data")},
-        )
-        try:
-            said = list(iter(service.stdout.readline, f"listening {port}\n"))
-            line = next(line for line in said if line.strip().startswith("curl "))
-            expect(
-                "a first book", subprocess.run(["bash", "-c", line], capture_output=True, text=True, timeout=30).stdout,
-                '{"book":7}',
-            )
-        finally:
-            service.kill()
-            service.communicate()
-        checked = subprocess.run(
-            ["./check"], cwd=top, capture_output=True, text=True, timeout=60,
-            env={**environment, "DATA": os.path.join(room, "data")},
-        )
-        expect("its check", checked.stdout, "books 1 pledges 0 rows 1\n")
+        said = text(os.path.join(unpacked(room), "usr/share/doc/pawnd/RELEASE"))
+    for line in (f"pawnd {VERSION}", f"Commit         {commit}", f"Proved with    {kit}", f"Libraries      {LIBRARIES} GLIBC_"):
+        expect(f"it says {line}", line in said, True)
+    gate = re.search(r"The gate       (\d+ passed, \d+ failed|not run on this commit)\n", said)
+    expect("what it says of the gate", bool(gate), True)
+    expect("its version", said_by("dpkg-deb", "-f", PACKAGE, "Version").strip(), VERSION)
 
 
 def the_systems_libraries_are_enough():
     if os.geteuid():
-        print("not tried: a root of its own for the program, which asks for the rights of root")
+        not_tried("a root of its own for the program", "it needs the rights of root")
         return
     with tempfile.TemporaryDirectory() as room:
-        program = os.path.join(unpacked(room), "pawnd")
-        listed = subprocess.run(["ldd", program], capture_output=True, text=True, check=True).stdout
-        libraries = re.findall(r"(/\S+) \(0x", listed)
-        expect(
-            "no library of the kit", [it for it in libraries if not it.startswith(("/lib/", "/lib64/", "/usr/lib/"))],
-            [],
-        )
+        program = os.path.join(unpacked(room), "usr/bin/pawnd")
+        libraries = re.findall(r"(/\S+) \(0x", said_by("ldd", program))
+        others = [it for it in libraries if not it.startswith(("/lib/", "/lib64/", "/usr/lib/"))]
+        expect("no library of the kit", others, [])
+        asked = said_by("dpkg-deb", "-f", PACKAGE, "Depends")
+        expect("the C library is asked for", bool(re.match(r"libc6 \(>= 2\.\d+\),", asked)), True)
         root = os.path.join(room, "root")
         for path in libraries:
             os.makedirs(root + os.path.dirname(path), exist_ok=True)
@@ -130,4 +117,4 @@ def the_systems_libraries_are_enough():
         expect("it starts", (ran.returncode, ran.stdout, ran.stderr), (0, "books 0 pledges 0 rows 0\n", ""))
 
 
-main(a_release_is_packed, it_says_what_it_is, it_serves_from_its_own_folder, the_systems_libraries_are_enough)
+main(a_release_is_packed, lintian_finds_no_error, it_says_what_it_is, the_systems_libraries_are_enough)

@@ -19,32 +19,26 @@ def the_units_are_as_systemd_reads_them():
     if not shutil.which("systemd-analyze"):
         not_tried("the units by systemd-analyze verify", "systemd is not installed")
         return
+    # What they start need not be installed here.
+    started = ("/usr/bin/pawnd-admin", "/usr/bin/pawnd", "/usr/share/pawnd/", "/etc/pawnd/on-failure")
     with tempfile.TemporaryDirectory() as room:
+        units = []
         for name in os.listdir(os.path.join(TOP, "deploy/systemd")):
+            if name == "port-rule":
+                continue
             with open(os.path.join(TOP, "deploy/systemd", name)) as it:
-                text = (
-                    it.read()
-                    .replace("/opt/pawnd/pawnd", PROGRAM)
-                    .replace("/opt/pawnd/deploy", os.path.join(TOP, "deploy"))
-                    .replace("/etc/pawnd/on-failure", "/bin/true")
-                )
+                text = it.read()
+            for path in started:
+                text = re.sub(rf"^(Exec\w+=\S*?|ConditionFileIsExecutable=){path}\S*", r"\1/bin/true", text, flags=re.M)
             with open(os.path.join(room, name), "w") as it:
                 it.write(text)
-        units = [
-            "pawnd@1.service",
-            "pawnd.target",
-            "pawnd-failed@pawnd-1.service",
-            "pawnd-status.service",
-            "pawnd-status.timer",
-            *(f"pawnd-{it}@1.{end}" for it in ("backup", "send") for end in ("service", "timer")),
-        ]
+            if not name.endswith(".sysusers"):
+                units.append(os.path.join(room, name.replace("@.", "@main.")))
         ran = subprocess.run(
-            ["systemd-analyze", "verify", "--man=no", *(os.path.join(room, it) for it in units)],
-            capture_output=True,
-            text=True,
-            timeout=60,
+            ["systemd-analyze", "verify", "--man=no", *units], capture_output=True, text=True, timeout=60
         )
         expect("systemd-analyze verify", (ran.returncode, ran.stdout, ran.stderr), (0, "", ""))
+        expect("how many there are", len(units), 12)
 
 
 def allowed_calls(unit):
@@ -71,7 +65,7 @@ def allowed_calls(unit):
 
 
 def the_program_makes_no_call_that_its_unit_bars():
-    """A shard that is opened, written to, read and opened again, and what it asked of the system."""
+    """A store that is opened, written to, read and opened again, and what it asked of the system."""
     if not shutil.which("systemd-analyze") or provide({"strace": "strace"}):
         not_tried("the calls of the system against the unit's filter", "there is no systemd or no strace")
         return
@@ -105,27 +99,30 @@ def the_program_makes_no_call_that_its_unit_bars():
 
 
 def a_copy_makes_no_call_that_its_unit_bars():
-    """The same of a copy of a shard that is served, with its guard and its check."""
+    """The same of a copy of a store that is served, with its check."""
     if not shutil.which("systemd-analyze") or provide({"strace": "strace"}):
         not_tried("the calls of a copy against the unit's filter", "there is no systemd or no strace")
         return
-    with tempfile.TemporaryDirectory() as room, Server(os.path.join(room, "books.db")):
-        trace = os.path.join(room, "trace")
-        words = [
-            os.path.join(TOP, "deploy/shards"),
-            "backup",
-            os.path.join(room, "books.db"),
-            os.path.join(room, "copies"),
-        ]
-        by_debians = ["strace", "-f", "-qq", "-o", trace, "/usr/bin/python3"]
-        ran = subprocess.run(
-            [*by_debians, *words], capture_output=True, text=True, timeout=60, env={**os.environ, "PAWND": PROGRAM}
-        )
-        expect(f"the copy {ran.stderr}", ran.returncode, 0)
+    with tempfile.TemporaryDirectory() as room:
+        folders = {name: os.path.join(room, name.lower()) for name in ("SETTINGS", "STORES", "COPIES")}
+        os.makedirs(os.path.join(folders["SETTINGS"], "stores"))
+        os.makedirs(os.path.join(folders["STORES"], "main"))
+        os.makedirs(folders["COPIES"])
+        with Server(os.path.join(folders["STORES"], "main/books.db")) as server:
+            with open(os.path.join(folders["SETTINGS"], "stores/main.conf"), "w") as it:
+                it.write(f"PORT={server.port}\n")
+            server.session().open_book()
+            trace = os.path.join(room, "trace")
+            words = ["strace", "-f", "-qq", "-o", trace, "/usr/bin/python3", os.path.join(TOP, "deploy/admin/pawnd-admin")]
+            ran = subprocess.run(
+                [*words, "copy", "main"], capture_output=True, text=True, timeout=120,
+                env={**os.environ, **folders, "PAWND": PROGRAM},
+            )
+            expect(f"the copy {ran.stderr}", ran.returncode, 0)
         with open(trace) as it:
             made = {found[1] for line in it if (found := re.match(r"(?:\d+ +)?(\w+)\(", line))}
-        expect("calls that the unit bars", sorted(made - allowed_calls("pawnd-backup@.service") - {"execve"}), [])
-        expect("it was seen at work", {"flock", "pidfd_send_signal", "setsid"} <= made, True)
+        expect("calls that the unit bars", sorted(made - allowed_calls("pawnd-copy@.service") - {"execve"}), [])
+        expect("it was seen at work", {"flock", "fsync"} <= made, True)
 
 
 main(

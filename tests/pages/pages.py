@@ -74,10 +74,10 @@ def what_nginx_sends_and_notes():
     with a_pledge_by_its_receipt() as (pages, receipt):
         browser.says("Gold ring", "#cards")
         for path, status, keeping in (
-            ("/", 200, "no-cache"), ("/pawn/", 200, "no-cache"), ("/shared/api.js", 200, "no-cache"),
+            ("/", 200, "no-cache"), ("/pawn/", 200, "no-cache"), ("/pawn/pawn.js", 200, "no-cache"),
             ("/books/7/held", 400, "no-store"), ("/books/07/held", 404, "no-store"),
             ("/books/7/held?receipt=" + receipt, 404, "no-store"), ("/books/7/../7/held", 404, "no-store"),
-            ("/nginx.conf", 404, "no-cache"), ("/README.md", 404, "no-cache"),
+            ("/nginx.conf", 404, "no-cache"), ("/README.md", 404, "no-cache"), ("/shared/api.js", 404, "no-cache"),
         ):
             connection = http.client.HTTPConnection("127.0.0.1", pages.port, timeout=10)
             connection.request("GET", path)

@@ -1,14 +1,12 @@
 """What the broker's page once said at the counter that was not so, each as it was found; in a real browser, in front of
 the program."""
-import os
-
 from tests.library.checks import expect
-from tests.library.dates import six_months_after, today
+from tests.library.dates import today
 from tests.library.pages.browser import Pages
 from tests.library.pages.steps import (
     a_pledge_at_the_counter, ago, agree, an_open_book, book_text, browser, command, entries, fill_book, find,
-    in_short, in_words, is_told_quietly, main, make_book, no_faults, open_book, part, receipts_made, secret_of,
-    send_taking, take_a_ring, the_book_is_read, unfold,
+    in_short, in_words, is_told_quietly, main, make_book, no_faults, open_book, part, receipts_made,
+    send_taking, take_a_ring, the_book_is_read, the_clock_goes_on, unfold,
 )
 
 
@@ -197,6 +195,7 @@ def redemption_by_the_paper():
         browser.says("£100.00 is owed today, and redeeming wants all of it.", "#commands")
         browser.shoot("broker-redeem")
         command("Repayment", "Record the repayment", amount="100")
+        agree()
         browser.says("£0.00 is owed now.", "#commands")
         expect("the pledge stands open", "Status inside" in pages.session.broker("GET", "/books/7/pledges/1")[1], True)
         part("today")
@@ -253,6 +252,7 @@ def who_waits_for_another_day():
             pages.session.bearer(receipt, "POST", "/books/7/held/ask", {"day": str(ago(-days)), "window": window})
         open_book(pages)
         browser.says("12:30 to 13:00", "#sheet")
+        browser.says(f"{in_short(ago(-9))}, in 9 days, 09:30 to 10:00", "#sheet")
         lines = browser.run("return [...document.querySelectorAll('#sheet .card')][1].innerText")
         order = [lines.index(f"Pledge {number}") for number in (3, 2, 1)]
         expect("by day and time", order == sorted(order), True)
@@ -289,7 +289,7 @@ def what_is_due():
                 ("Ends within 30 days, after those", 1), ("Can be sold now", 1), ("Passed to you", 1),
             ],
         )
-        expect("in grace", lists[0][1], f"1 Clock G1 £90.00 can be sold on {in_short(ago(-4))}")
+        expect("in grace", lists[0][1], f"1 Clock G1 £190.00 can be sold on {in_short(ago(-4))}")
         expect("with the day of the other", f"can be sold on {in_short(ago(-5))}" in lists[0][2], True)
         find("G4")
         unfold("Sale")
@@ -323,18 +323,6 @@ def a_visit_that_was_changed_is_not_confirmed_unseen():
 
 EXPORTS = "return performance.getEntriesByType('resource').filter(({ name }) => name.endsWith('/export')).length"
 
-# The page's clock goes on by so many seconds, and the page is looked at again.
-LATER = """
-const real = Object.getPrototypeOf(Date.prototype).constructor === Object ? Date : Object.getPrototypeOf(Date);
-const more = arguments[0] * 1000;
-window.Date = class Later extends real {
-  constructor(...given) { if (given.length) super(...given); else super(real.now() + more); }
-  static now() { return real.now() + more; }
-};
-document.dispatchEvent(new Event("visibilitychange"));
-"""
-
-
 def the_book_is_read_anew():
     """Where another changed it, and after ten minutes; and by the button."""
     with Pages() as pages:
@@ -347,212 +335,21 @@ def the_book_is_read_anew():
         find("1")
         browser.says("£90.00 owed today", "#statement")
         expect("not at once", browser.run(EXPORTS), 1)
-        browser.run(LATER, 31)
+        the_clock_goes_on(31)
         browser.until(EXPORTS.replace("length", "length === 2"), "the book after another's change")
         part("all")
         browser.says("2 of 2 pledges", "#all")
         pages.session.open_pledge(3)
-        browser.run(LATER, 500)
+        the_clock_goes_on(500)
         browser.says("The book was read 7 minutes ago", "#book-line")
         expect("not before ten minutes", browser.run(EXPORTS), 2)
-        browser.run(LATER, 700)
+        the_clock_goes_on(700)
         browser.says("3 of 3 pledges", "#all")
         pages.session.open_pledge(4)
         browser.press("#read-book")
         browser.says("4 of 4 pledges", "#all")
         expect("four times in all", browser.run(EXPORTS), 4)
         no_faults()
-
-
-def references_are_found():
-    with Pages() as pages:
-        make_book(pages)
-        for number, reference in enumerate(("A1", "X", "2", "J1 "), 1):
-            pages.session.open_pledge(number, ref=reference, article=f"Ring {number}")
-        open_book(pages)
-        find("j1")
-        browser.says("Ring 4", "#statement")
-        find(" J1 ")
-        browser.says("Ring 4", "#statement")
-        find("2")
-        browser.says("More than one pledge can be meant.", "#finding")
-        expect(
-            "the one of the reference first",
-            browser.run("return [...document.querySelectorAll('#choices a')].map((one) => one.textContent)"),
-            ["Pledge 3", "Pledge 2"],
-        )
-        browser.press("#choices a", "Pledge 3")
-        browser.says("Ring 3", "#statement")
-        find("3")
-        browser.says("Ring 3", "#statement")
-        take_a_ring(article="  Silver   spoon ", reference=" B1 ")
-        expect(
-            "trimmed when it is taken", ",B1,Silver spoon," in pages.session.broker("GET", "/books/7/export")[1], True,
-        )
-        part("take")
-        browser.fill("#taking", ref="b1")
-        browser.says("Pledge 5 has this reference: Silver spoon.", "#reference-stands")
-        browser.run("document.querySelector('#taking').reset()")
-        take_a_ring(article="Fork", reference="B2")
-        browser.press("#next-reference")
-        expect("the next of a series", browser.run("return document.querySelector('#take-ref').value"), "B3")
-        no_faults()
-
-
-def all_entries_can_be_seen():
-    with Pages() as pages:
-        make_book(pages)
-        pages.session.open_pledge(1)
-        for seq in range(1, 131):
-            pages.session.broker("POST", "/books/7/pledges/1/repay", {"pence": seq, "seq": seq})
-        open_book(pages)
-        find("1")
-        browser.says("The last 12 of 130 payments and drawings", "#statement")
-        browser.press("#statement button", "Show 100 earlier ones")
-        browser.says("The last 112 of 130 payments and drawings", "#statement")
-        browser.press("#statement button", "Show 18 earlier ones")
-        expect("all of them", browser.run("return document.querySelectorAll('#statement .entries tr').length"), 130)
-
-
-def back_reload_and_today():
-    with Pages() as pages:
-        make_book(pages)
-        pages.session.open_pledge(1)
-        pages.session.open_pledge(2, article="Silver spoon")
-        open_book(pages)
-        the_book_is_read()
-        later = ago(-5)
-        browser.fill("#sheet-day", day=str(later))
-        browser.press("#sheet-day button", "Show")
-        browser.says(f"{in_words(later)}, in 5 days", "#today")
-        browser.ask("POST", "/refresh", {})
-        browser.says(f"{in_words(later)}, in 5 days", "#today")
-        find("1")
-        browser.says("Gold ring", "#statement")
-        find("2")
-        browser.says("Silver spoon", "#statement")
-        expect("the title", browser.run("return document.title"), "Pledge 2, book 7")
-        browser.ask("POST", "/refresh", {})
-        browser.says("Silver spoon", "#statement")
-        browser.ask("POST", "/back", {})
-        browser.says("Gold ring", "#statement")
-        part("today")
-        browser.says(f"Today, {in_words(today())}", "#today")
-        expect("the heading has the focus", browser.run("return document.activeElement.id"), "sheet-title")
-        tomorrow = ago(-1)
-        browser.run(
-            "const real = Date; window.Date = class extends real { constructor(...given) { if (given.length) "
-            "super(...given); else super(real.now() + 86400000); } }; "
-            "document.dispatchEvent(new Event('visibilitychange'))"
-        )
-        browser.says(f"Today, {in_words(tomorrow)}", "#today")
-
-
-def what_is_typed_is_looked_at():
-    with an_open_book() as pages:
-        part("take")
-        for fields, says in (
-            ({"article": "   ", "ref": "A1", "amount": "1"}, "The article is empty."),
-            ({"article": "é" * 41, "ref": "A1", "amount": "1"}, "The article is too long by 2"),
-            ({"article": "Ring", "ref": "£" * 21, "amount": "1"}, "The reference is too long by 2"),
-            (
-                {"article": "Ring", "ref": "A1", "amount": "1", "agreed": str(today())},
-                "The agreed end is not after today",
-            ),
-        ):
-            browser.fill("#taking", **fields)
-            browser.press("#taking button", "Take the pledge")
-            browser.says(says, "#taking")
-            expect("its field is marked", browser.run("return document.activeElement.ariaInvalid"), "true")
-        browser.fill("#taking", article="Ring", ref="A1", amount="1,000,000", agreed=str(ago(-3)))
-        browser.press("#taking button", "Take the pledge")
-        for says in (
-            "Take this pledge for £1,000,000.00?", "counts for nothing", "That is a large sum",
-            f"The period ends on {in_words(six_months_after(today()))}"
-        ):
-            browser.says(says, "dialog")
-        browser.shoot("broker-large")
-        browser.press("dialog button", "Not now")
-        browser.says("Nothing was done.", "#taking")
-        is_told_quietly("#taking")
-        expect("nothing was taken", pages.session.broker("GET", "/books/7/pledges/1")[0], 404)
-        no_faults()
-
-
-def the_same_file_is_one_import():
-    with Pages() as pages:
-        make_book(pages, terms=False)
-        path = os.path.join(pages.room, "book.csv")
-        with open(path, "w") as it:
-            it.write(book_text([("Ring", "J9", 9000, ago(3), "", "no")]))
-        for _ in range(2):
-            open_book(pages)
-            part("files")
-            browser.fill("#importing", file=path)
-            browser.press("#importing button")
-            browser.says("The book is filled: 1 pledge came.", "#files")
-
-
-def a_shops_day():
-    """From opening to the till's sum: taken, drawn, repaid at the counter and by the pawnor, redeemed, sold."""
-    with Pages() as pages:
-        make_book(pages, terms=False)
-        fill_book(
-            pages,
-            book_text(
-                [("Old clock", "O1", 9000, ago(220), "", "no"), ("Old ring", "O2", 20000, ago(30), "", "no")],
-                rates=(0, 0, 0),
-            ),
-        )
-        open_book(pages)
-        the_book_is_read()
-        part("shop")
-        browser.fill("#shop-form", address="1 High Street, Leeds", till="Till 2")
-        browser.press("#shop-form button", "Keep these")
-        browser.says("Till 2", "#whose-book")
-        receipt, _ = take_a_ring(amount="100")
-        browser.says("1 High Street, Leeds", ".paper")
-        take_a_ring(article="Teapot", reference="A2", amount="500", kind="running")
-        find("A2")
-        command("Drawing", "Record the drawing", amount="200.50")
-        browser.says("Drawn: £200.50", "#commands")
-        find("A1")
-        command("Repayment", "Record the repayment", amount="30")
-        browser.says("Repaid: £30.00", "#commands")
-        pages.session.bearer(receipt, "POST", "/books/7/held/repay", {"pence": 500, "seq": 2})
-        find(f"2-{secret_of(2)}")
-        browser.says("This receipt is live.", "#commands")
-        browser.fill(".action[open] form", amount="200")
-        browser.press(".action[open] button", "Redeem")
-        agree()
-        browser.says("Redeemed on", "#commands")
-        find("O1")
-        command("Sale", "Record the sale", amount="120.25")
-        agree()
-        browser.says("Sold for £120.25", "#commands")
-        the_till_tells_it()
-
-
-def the_till_tells_it():
-    part("till")
-    browser.press("#read-book")
-    browser.says("Repaid2: £35.00", "#till-lists")
-    sums = browser.run(
-        "return Object.fromEntries([...document.querySelectorAll('.sums .facts > div')].map((one) => "
-        "[one.firstChild.textContent, one.lastChild.textContent]))"
-    )
-    expect(
-        "the sums", sums,
-        {
-            "Taken: lent on fixed sums": "£100.00", "Drawn": "£200.50", "Paid out": "£300.50", "Repaid": "£35.00",
-            "Redeemed": "£200.00", "Sold, net": "£120.25", "Received": "£355.25",
-        },
-    )
-    browser.says("The drawer has £54.75 more than at the day’s beginning", "#till-lists")
-    browser.shoot("broker-till")
-    browser.ask("POST", "/refresh", {})
-    browser.says("The drawer has £54.75 more", "#till-lists")
-    no_faults()
 
 
 main(
@@ -562,7 +359,6 @@ main(
         what_was_done_is_told_where_it_can_no_longer_be_looked_at, a_receipt_has_the_terms_of_its_pledge,
         a_new_receipt_that_another_replaced_is_not_printed, two_equal_payments_are_two, redemption_by_the_paper,
         a_receipt_is_printed_again, who_waits_for_another_day, what_is_due, the_book_is_read_anew,
-        a_visit_that_was_changed_is_not_confirmed_unseen, references_are_found, all_entries_can_be_seen,
-        back_reload_and_today, what_is_typed_is_looked_at, the_same_file_is_one_import, a_shops_day,
+        a_visit_that_was_changed_is_not_confirmed_unseen,
     ),
 )

@@ -2,16 +2,14 @@
 terms, periods, references, codes."""
 import datetime
 import re
-import shutil
-import subprocess
-import tempfile
 
 from tests.library.book_texts import row
-from tests.library.checks import expect
+from tests.library.checks import expect, not_tried
 from tests.library.dates import six_months_after, today
 from tests.library.keys import BROKER, OPERATOR
+from tests.library.packages import provide
 from tests.library.pages.browser import Pages
-from tests.library.pages.square_code import text_of_code
+from tests.library.pages.square_code import READER, text_of_code
 from tests.library.pages.steps import ago, book_text, browser, files, fill_book, in_words, main, no_faults, read
 
 # Texts that broke others' pages: a line that only some call a line, quotes, commas, markup, from right to left, a mark
@@ -31,6 +29,7 @@ def on_a_page(test):
     """A test of modules: a page is open, and its console says nothing."""
     def tried():
         with Pages() as pages:
+            pages.with_modules()
             browser.go(pages.address + "/")
             test(pages)
             no_faults()
@@ -242,13 +241,16 @@ def receipts_references_and_terms(_):
     spelled = [
         receipt, receipt.upper(), receipt.replace("-", "\u2013"), "3 - da41597c 5157 488d 7724 e03fb8d84a37",
         "3-{da41597c-5157-488d-7724-e03fb8d84a37}", "3-urn:uuid:da41597c-5157-488d-7724-e03fb8d84a37",
-        f"my receipt: {receipt}.", "\u200b" + receipt,
+        f"my receipt: {receipt}.", "\u200b" + receipt, receipt.replace("-", " "), receipt.replace("-", "  \t"),
     ]
     script = "const { receiptsIn } = await import('/shared/receipts.js'); return given[0].map(receiptsIn)"
     expect("one receipt in each", in_page(script, spelled), [[receipt]] * len(spelled))
     expect("two in one line", in_page(script, [f"{receipt} 4-{receipt[2:]}"]), [[receipt, f"4-{receipt[2:]}"]])
     none = ["A1", "3-da41", "2024-01-31", receipt[:-1], receipt + "0", "03-" + receipt[2:], "3-" + "g" * 32]
     expect("none in these", in_page(script, none), [[]] * len(none))
+    upper = f"#BOOK=7&RECEIPT={receipt.upper()}"
+    found = in_page("const { ofFragment } = await import('/shared/receipts.js'); return ofFragment(given[0])", upper)
+    expect("a link in capitals", [(one["book"], one["receipt"]) for one in found], [("7", receipt)])
     fragment = f"#book=7&receipt={receipt}&shop={'x' * 90}&rate=a&receipt=4-{receipt[2:]}"
     found = in_page("const { ofFragment } = await import('/shared/receipts.js'); return ofFragment(given[0])", fragment)
     expect(
@@ -282,35 +284,36 @@ def receipts_references_and_terms(_):
 
 @on_a_page
 def codes_of_links(_):
-    """Each version of the code, by the library's own reader; and by zbar, where it is installed."""
-    script = "const { modulesOf } = await import('/shared/qr.js'); return modulesOf(given[0])"
-    for length in (1, 106, 107, 122, 123, 134, 152, 180, 192, 200, 230, 271, 272, 321, 367, 425, 458, 520):
+    """Codes of each size that a link has, by another's reader."""
+    if provide(READER):
+        return not_tried("what the square codes say", "there is no zbarimg")
+    script = (
+        "const { pictureOf } = await import('/shared/qr.js'); const picture = pictureOf(given[0], 'A code'); "
+        "return [picture.firstChild.getAttribute('d'), picture.getAttribute('viewBox'), "
+        "picture.getAttribute('aria-label')]"
+    )
+    for length in (30, 106, 107, 122, 134, 152, 180, 200, 230, 250, 280):
         text = ("https://shop.example/pawn/#book=7&receipt=3-" + "da41597c" * 80)[:length]
-        code = in_page(script, text)
-        expect(
-            f"a code of {length} bytes",
-            text_of_code(
-                {(column, place) for place, line in enumerate(code) for column, dark in enumerate(line) if dark},
-                len(code),
-            ),
-            text,
-        )
-        if shutil.which("zbarimg") and length in (106, 192, 271):
-            expect(f"by zbar, of {length} bytes", by_zbar(code), text)
-    expect("a longer text has none", in_page(script, "a" * 521), None)
+        path, box, name = in_page(script, text)
+        expect(f"a code of {length} bytes", (text_of_code(path, box), name), (text, "A code"))
 
 
-def by_zbar(code):
-    """What another reader finds in a picture of the code."""
-    wide = [[False] * (len(code) + 8)] * 4
-    lines = [*wide, *([False] * 4 + line + [False] * 4 for line in code), *wide]
-    bits = "\n".join(" ".join(str(int(dark)) for dark in line for _ in range(6)) for line in lines for _ in range(6))
-    with tempfile.NamedTemporaryFile("w", suffix=".pbm") as it:
-        it.write(f"P1\n{len(lines) * 6} {len(lines) * 6}\n{bits}\n")
-        it.flush()
-        return subprocess.run(
-            ["zbarimg", "-q", "--raw", it.name], capture_output=True, text=True, timeout=30,
-        ).stdout.rstrip("\n")
+@on_a_page
+def links_hold_what_there_is_room_for(_):
+    script = "const { linkTo, ofFragment } = await import('/shared/receipts.js'); const link = linkTo(given[0]); " \
+        "return [link, ofFragment(link.slice(link.indexOf('#')))[0]]"
+    terms = {"rate": 2667, "keepBefore": 1000000, "keepAfter": 0}
+    receipt = "3-da41597c-5157-488d-7724-e03fb8d84a37"
+    given = {
+        "origin": "https://shop.example", "book": "7", "receipt": receipt, "shop": "High Street", "reference": "A/1",
+        "terms": terms, "fiveDays": True,
+    }
+    link, told = in_page(script, given)
+    expect("all of it", [told[name] for name in ("book", "receipt", "shop", "ref", "terms", "fiveDays")],
+           ["7", receipt, "High Street", "A/1", terms, True])
+    link, told = in_page(script, {**given, "shop": "\u00e9" * 60})
+    expect("a name without room is left out", (len(link) <= 280, told["shop"], told["ref"], told["terms"]),
+           (True, "", "A/1", terms))
 
 
 def no_text_becomes_code_or_markup():
@@ -324,7 +327,8 @@ def no_text_becomes_code_or_markup():
             f"{path}: whence it imports",
             [
                 source
-                for source in re.findall(r'from "([^"]+)"', read(path)) if not source.startswith(("/shared/", "./"))
+                for source in re.findall(r'from "([^"]+)"', read(path))
+                if not source.startswith(("../shared/", "./")) and source != "qrcode-generator"
             ],
             [],
         )
@@ -370,6 +374,6 @@ main(
     300, (each_refusal_has_a_sentence, no_text_becomes_code_or_markup),
     (
         days_and_amounts_as_people_write_them, statements_are_read, sheets_are_read, books_of_both_versions_are_read,
-        how_a_pledge_stands, receipts_references_and_terms, codes_of_links,
+        how_a_pledge_stands, receipts_references_and_terms, codes_of_links, links_hold_what_there_is_room_for,
     ),
 )

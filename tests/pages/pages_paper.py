@@ -1,20 +1,21 @@
 """What the pages put on paper: a receipt on one A5, and all else on A4 with all that it has; in a real browser, in
 front of the program."""
+import datetime
 import re
 import subprocess
 import tempfile
 
-from tests.library.checks import expect
+from tests.library.checks import expect, not_tried
 from tests.library.dates import six_months_after, today
 from tests.library.packages import PACKAGES, missing, provide
 from tests.library.pages.browser import Pages
-from tests.library.pages.square_code import text_of_code
+from tests.library.pages.square_code import READER, text_of_code
 from tests.library.pages.steps import (
     ago, an_open_book, book_text, browser, command, fill_book, find, in_short, in_words, main, make_book, no_faults,
     open_book, part, show_receipt, take_a_ring, the_book_is_read,
 )
 
-READER = {"pdftotext": "poppler-utils"}
+TEXTS = {"pdftotext": "poppler-utils"}
 A4, A5 = [210, 297], [148, 210]
 
 
@@ -27,7 +28,7 @@ def pages_of(pdf):
 
 def text_of(pdf):
     """What stands on the paper; nothing where there is no reader of it."""
-    if missing(READER):
+    if missing(TEXTS):
         return None
     with tempfile.NamedTemporaryFile(suffix=".pdf") as it:
         it.write(pdf)
@@ -60,15 +61,12 @@ def a_receipt_is_one_a5():
             article="Eighteen-carat gold ring with a sapphire and two small diamonds, in a red case",
             reference="GR-2026/0001", five="yes", agreed=str(ago(-300)),
         )
-        path = browser.run("return document.querySelector('.paper svg path').getAttribute('d')")
-        size = int(browser.run("return document.querySelector('.paper svg').getAttribute('viewBox').split(' ')[2]")) - 8
-        expect(
-            "the code",
-            text_of_code(
-                {(int(column), int(line)) for column, line in re.findall(r"M(\d+) (\d+)h1v1h-1z", path)}, size,
-            ),
-            link,
+        path, box = browser.run(
+            "const code = document.querySelector('.paper svg'); "
+            "return [code.firstChild.getAttribute('d'), code.getAttribute('viewBox')]"
         )
+        if not missing(READER):
+            expect("the code", text_of_code(path, box), link)
         says = (
             "High Street Pawnbrokers", "123 Upper High Street", "reference GR-2026/0001", "Lent £100.00",
             in_words(ago(-300)), "Days of grace after it Five", f"Agreed end {in_short(ago(-300))}",
@@ -85,6 +83,19 @@ def a_receipt_is_one_a5():
             "one page again",
             is_printed("receipt-again", A5, receipt, "Agreed end", never=("owed today", "Redeem by the paper")), 1,
         )
+        no_faults()
+
+
+def a_tag_is_a_small_paper():
+    """After a take, in the receipt's place, and without the receipt's secret."""
+    with an_open_book():
+        receipt, _ = take_a_ring(article="Gold ring", reference="HS/1", five="yes")
+        browser.press("#taken-receipt button", "Show the tag for the bag")
+        last = in_short(six_months_after(today()) + datetime.timedelta(days=5))
+        says = ("HS/1", "Gold ring", f"Until {last}", "Book 7. £100.00")
+        expect("one page", is_printed("tag", [100, 62], *says, never=(receipt.split("-", 1)[1], "Keep this paper")), 1)
+        browser.press("#taken-receipt button", "Show the receipt")
+        expect("and the receipt again", is_printed("receipt-back", A5, receipt), 1)
         no_faults()
 
 
@@ -153,6 +164,8 @@ def all_else_goes_on_a4():
         no_faults()
 
 
-if provide({**PACKAGES, **READER}) and missing(READER):
-    print("not tried: what stands on the paper, since there is no pdftotext", flush=True)
-main(115, (), (a_receipt_is_one_a5, a_receipt_without_more, all_else_goes_on_a4))
+provide({**PACKAGES, **TEXTS, **READER})
+for what, reader in (("what stands on the paper", TEXTS), ("what its square code says", READER)):
+    if missing(reader):
+        not_tried(what, f"there is no {missing(reader)[0]}")
+main(150, (), (a_receipt_is_one_a5, a_tag_is_a_small_paper, a_receipt_without_more, all_else_goes_on_a4))

@@ -12,6 +12,9 @@ from tests.library.pages.steps import (
 from tests.library.waiting import wait_for
 
 
+NOT_SENT = "What you asked for was not sent, so it was not done."
+
+
 def type_receipts(pages, receipts, book=""):
     browser.forget()
     browser.go(pages.address + "/pawn/")
@@ -56,11 +59,10 @@ def without_a_line():
             command("Record a part payment", "Record the payment", amount="10")
             browser.press("dialog button", "Yes, £10.00 was received")
             browser.says("The pledge can’t be shown just now", "#cards", patience=20)
-            words = ("Nothing was done", "was not done", "was not sent")
-            said = [one for one in words if one in browser.text("#cards")]
-        expect("no word that nothing was done", said, [])
+            browser.says(NOT_SENT, "#cards")
         browser.press("button", "Try again")
         browser.says("£100.00 owed today", "#cards")
+        expect("no entry", entries(pages, 1), [])
         command("Redeem", "Redeem for £100.00")
         browser.press("dialog button", "Not yet")
         browser.says("Nothing was done.", "#cards")
@@ -69,6 +71,38 @@ def without_a_line():
             browser.run("return [...document.querySelectorAll('.notice')].find((one) => one.textContent).className"),
             "notice quiet",
         )
+
+
+def a_payment_on_a_line_that_drops():
+    """Once it was sent, no word says that it was not done."""
+    with a_pledge_by_its_receipt() as (pages, receipt):
+        browser.says("£100.00 owed today", "#cards")
+        command("Record a part payment", "Record the payment", amount="10")
+        with pages.relay.loses("/repay", times=10):
+            browser.press("dialog button", "Yes, £10.00 was received")
+            wait_for(lambda: pages.relay.lost, "a reply that is lost", 10)
+            with browser.without_a_line():
+                browser.says("The pledge can’t be shown just now", "#cards", patience=30)
+                browser.says("The reply was lost, so this may have been done.", "#cards")
+                expect("no word that it was not sent", NOT_SENT in browser.text("#cards"), False)
+
+
+def a_receipt_that_is_typed_again_takes_the_place_of_the_mistyped_one():
+    """What was mistyped does not stand above the pledge; a pledge, and what cannot be reached, stays."""
+    with a_pledge_by_its_receipt() as (pages, receipt):
+        browser.says("Gold ring", "#cards")
+        other = pages.session.open_pledge(2, article="Silver spoon")
+        browser.press("#finder summary")
+        browser.fill("#find", receipts=other[:-1] + ("0" if other[-1] != "0" else "1"), book="7")
+        browser.press("#find button")
+        browser.says("This receipt opens no pledge", "#cards")
+        browser.fill("#find", receipts=other)
+        browser.press("#find button")
+        browser.says("Silver spoon", "#cards")
+        browser.rests()
+        expect("the mistyped one is gone", "opens no pledge" in browser.text("#cards"), False)
+        browser.says("Gold ring", "#cards")
+        no_faults()
 
 
 def a_payment_whose_reply_is_lost_for_good():
@@ -155,12 +189,13 @@ def the_link_names_the_shop():
         receipt, link = take_a_ring()
         expect(
             "the link", re.sub(r"^.*#", "", link),
-            f"book=7&receipt={receipt}&shop=High+Street+Pawnbrokers&rate=%C2%A38.00+in+30+days+on+%C2%A3100",
+            f"book=7&receipt={receipt}&terms=2667.0.0&grace=0&shop=High+Street+Pawnbrokers&ref=A1",
         )
         browser.forget()
         browser.go(link)
         browser.says("Pledge 1 at High Street Pawnbrokers", "#cards")
-        browser.says("Interest, as the receipt’s link says: £8.00 in 30 days on £100.", "#cards")
+        for says in ("£8.00 in 30 days on £100", "are as the receipt’s link says"):
+            browser.says(says, "#cards")
         browser.ask("POST", "/refresh", {})
         browser.says("Pledge 1 at High Street Pawnbrokers", "#cards")
         browser.shoot("pawn-shop")
@@ -175,8 +210,8 @@ def the_link_names_the_shop():
             [0, "Your pledge"],
         )
         browser.forget()
-        browser.go(f"{pages.address}/pawn/#book=7&receipt={receipt}")
-        browser.says("Gold ring", "#cards")
+        browser.go(f"{pages.address}/pawn/#book=7&receipt={receipt}&rate=%C2%A38.00+in+30+days+on+%C2%A3100")
+        browser.says("Interest, as the receipt’s link says: £8.00 in 30 days on £100.", "#cards")
         expect(
             "an older link, and no word of clerks",
             [word for word in ("book 7", "not live", "Running") if word in browser.text("#cards")], [],
@@ -187,7 +222,9 @@ def the_link_names_the_shop():
 main(
     300, (),
     (
-        two_equal_payments_are_two, what_the_page_says_of_links, without_a_line, a_payment_whose_reply_is_lost_for_good,
-        a_visit_after_the_end, receipts_as_people_write_them, forty_receipts_at_once, the_link_names_the_shop,
+        two_equal_payments_are_two, what_the_page_says_of_links, without_a_line,
+        a_payment_on_a_line_that_drops, a_receipt_that_is_typed_again_takes_the_place_of_the_mistyped_one,
+        a_payment_whose_reply_is_lost_for_good, a_visit_after_the_end, receipts_as_people_write_them,
+        forty_receipts_at_once, the_link_names_the_shop,
     ),
 )

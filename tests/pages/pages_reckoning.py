@@ -165,6 +165,7 @@ def what_will_be_owed_is_what_the_program_says():
     if rows["T"] != len(TERMS) or rows["P"] != DRAWN or rows["E"] < 500 or rows["X"] < 100:
         raise Failed(f"the drawn book is too poor: {rows}")
     with Pages() as pages:
+        pages.with_modules()
         browser.go(pages.address + "/")
         owed, wrong = browser.run_later(RECKON, text, told)
     expect("where the page reckons otherwise", wrong, [])

@@ -4,6 +4,7 @@ import os
 import socket
 import subprocess
 import tempfile
+import time
 
 from tests.library.checks import expect, main
 from tests.library.keys import OPERATOR, SEED
@@ -59,6 +60,27 @@ def a_key_may_stand_in_a_file():
             with open(path, "w", newline="") as it:
                 it.write(OPERATOR + end)
             expect(f"a line end {end!r}", how_it_ends("answer", ":memory:", DAY, SEED, path), wanted)
+
+
+def a_key_is_read_from_a_short_regular_file_alone():
+    """A pipe that nobody writes is not waited for, and of a file that is long, or has no end, little is read."""
+    with tempfile.TemporaryDirectory() as room:
+        pipe, long, link = (os.path.join(room, name) for name in ("pipe", "long", "link"))
+        os.mkfifo(pipe)
+        with open(long, "w") as it:
+            it.write(OPERATOR + "\n")
+            it.truncate(1 << 40)
+        os.symlink("/dev/zero", link)
+        for path in (pipe, long, link, "/dev/zero", "/dev/stdin", room):
+            begun = time.monotonic()
+            ended = how_it_ends("answer", ":memory:", DAY, SEED, path)
+            expect(f"a key in {path}", ended, fault(803, "BadKey"))
+            expect(f"it is told at once of {path}", time.monotonic() - begun < 10, True)
+        os.symlink(os.path.join(room, "key"), os.path.join(room, "linked"))
+        with open(os.path.join(room, "key"), "w") as it:
+            it.write(OPERATOR)
+        ended = how_it_ends("answer", ":memory:", DAY, SEED, os.path.join(room, "linked"))
+        expect("a key behind a link", ended, (0, ""))
 
 
 def stored(name):
@@ -226,7 +248,8 @@ def output_that_cannot_be_written_breaks_off():
 
 main(
     the_words_are_those_of_no_command, the_first_fault_of_answer_is_told, the_first_fault_of_serve_is_told,
-    a_key_may_stand_in_a_file, the_stored_run_over_a_file_is_answered_again_from_it,
+    a_key_may_stand_in_a_file, a_key_is_read_from_a_short_regular_file_alone,
+    the_stored_run_over_a_file_is_answered_again_from_it,
     a_check_where_nothing_is_makes_an_empty_store, files_that_are_no_store_of_ours_are_refused_and_stay,
     a_file_that_another_program_has_open_is_refused, paths_that_are_no_file_are_refused,
     a_port_that_is_taken_is_not_listened_on, input_that_cannot_be_read_breaks_off,

@@ -78,14 +78,18 @@ def accepts_that_all_fail_end_the_service():
     """Each counts as a connection, and the last of a million ends the program as if it had been answered."""
     with tempfile.TemporaryDirectory() as room:
         path = os.path.join(room, "books")
-        during = os.path.join(room, "during")
-        with Server(path, env=refusing.refusing("a", at=1, mode="on", error=errno.EMFILE, during=during)) as server:
+        during, counted = os.path.join(room, "during"), os.path.join(room, "counted")
+        how = refusing.refusing("a", at=1, mode="on", error=errno.EMFILE, during=during, count=counted)
+        with Server(path, env=how) as server:
             receipts = make_books(server)
             with open(during, "w"):
                 pass
             with server.connect() as peer:
                 peer.sendall(LAST)
                 expect("how it ended", ending(server), (0, ""))
+        with open(counted) as it:
+            refused = int(it.read())
+        expect("the connections that failed, all of a million but a few before", 1_000_000 - 20 < refused < 1_000_000, True)
         is_all_there(path, receipts)
 
 
@@ -203,14 +207,17 @@ def output_that_nobody_reads():
 
 
 def what_tests_start_ignores_no_signal():
-    """A script that ignores signals, as in the background of a shell or under nohup, starts programs that do not."""
+    """A script that ignores signals, as in the background of a shell or under nohup, starts programs that do not. Two
+    signals are the C library's own: no program can set them, so what a caller made of them does not count."""
     asks = "import subprocess, tests.library.checks; subprocess.run(['grep', 'SigIgn', '/proc/self/status'])"
     ignored = (signal.SIGHUP, signal.SIGINT, signal.SIGQUIT)
     ran = subprocess.run(
         [sys.executable, "-c", asks], cwd=TOP, stdout=subprocess.PIPE,
         timeout=60, preexec_fn=lambda: [signal.signal(number, signal.SIG_IGN) for number in ignored],
     )
-    expect("what is ignored", (ran.returncode, ran.stdout.split()), (0, [b"SigIgn:", b"0" * 16]))
+    expect("how it ended", ran.returncode, 0)
+    told = int(ran.stdout.split()[1], 16)
+    expect("what is ignored", [it for it in sorted(signal.valid_signals()) if told >> (it - 1) & 1], [])
 
 
 def signals_that_end_it_lose_nothing():
@@ -426,6 +433,7 @@ def paths_that_are_no_plain_file():
 
 
 def a_key_by_a_pipe():
+    """It is refused, since a pipe that nobody writes would hold up the start for ever. A key is read from a file."""
     out, into = os.pipe()
     os.write(into, OPERATOR.encode() + b"\n")
     os.close(into)
@@ -434,7 +442,7 @@ def a_key_by_a_pipe():
         pass_fds=(out,),
     )
     os.close(out)
-    expect("answer", (ran.returncode, ran.stdout, ran.stderr), (0, NONE, b""))
+    expect("answer", (ran.returncode, ran.stdout, ran.stderr), (1, b"", b"fault 803 BadKey\n"))
 
 
 def a_file_with_a_second_name():

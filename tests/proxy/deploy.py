@@ -1,4 +1,4 @@
-"""The files of deploy/ with the real nginx, in front of three shards: TLS, which shard a target comes to, what becomes
+"""The files of deploy/ with the real nginx, in front of three stores: TLS, which store a target comes to, what becomes
 of heads and bodies, and what the proxy says by itself."""
 import contextlib
 import datetime
@@ -6,21 +6,16 @@ import json
 import os
 import random
 import re
-import shutil
 import socket
 import subprocess
-import tempfile
 
-from tests.library.checks import Failed, expect, not_tried
+from tests.library.checks import Failed, expect
 from tests.library.dates import today
-from tests.library.hosting import BOOKS, NAME, PACKAGES, Caller, Hosted, Recorder, proxys, put, status
+from tests.library.hosting import BOOKS, NAME, PACKAGES, Caller, Hosted, Recorder, proxys, status
 from tests.library.keys import BROKER, KEY, OPERATOR
 from tests.library.packages import main_with
-from tests.library.paths import TOP
-from tests.library.program import free_port
-from tests.library.proxy.checks import no_secret_in_a_log, plainly
+from tests.library.proxy.checks import no_secret_in_a_log
 from tests.library.requests import request
-from tests.library.waiting import answers, wait_for
 
 NOT_HANDED_ON = b'{"proxy":%d,"handed_on":false}'
 # The program reads a target whole, and its book so.
@@ -53,7 +48,7 @@ def the_life_of_a_pledge_over_tls():
         opening = '{"ref":"A1","article":"Gold ring","kind":"fixed","pence":10000,"five_days":false}'
         taken = json.loads(by_curl(it, "/books/8/pledges", "-H", KEY, "-d", opening))["receipt"]
         a_visit_and_a_redemption(it, f"Pledge-Receipt: {taken}")
-        expect("the rows", [it.shard_of(8).export(8).count(f"\n{row},") for row in "PSEK"], [1, 1, 1, 1])
+        expect("the rows", [it.store_of(8).export(8).count(f"\n{row},") for row in "PSEK"], [1, 1, 1, 1])
         page = "<h1" in by_curl(it, "/pawn/") and "trusted-types" in by_curl(it, "/pawn/", "-D", "-")
         expect("a page at the same origin", page, True)
         what_is_not_for_everybody(it)
@@ -99,12 +94,12 @@ def what_is_not_for_everybody(it):
 
 
 def nothing_secret_is_noted():
-    """Whatever a client does wrong: receipts in paths and queries, bodies that are too long, a shard that is not
+    """Whatever a client does wrong: receipts in paths and queries, bodies that are too long, a store that is not
     there."""
     with Hosted() as it:
         receipts = [receipt for those in it.open_books(2).values() for receipt in those]
         one, caller = receipts[0], it.caller()
-        for shard in (it.shards[0], None):
+        for store in (it.stores[0], None):
             for target in (
                 f"/books/7/held?receipt={one}",
                 f"/books/7/held/{one}",
@@ -143,14 +138,14 @@ def nothing_secret_is_noted():
                 caller.close()
                 with contextlib.suppress(OSError, Failed):
                     caller.send(sent.encode())
-            if shard:
-                shard.kill()
+            if store:
+                store.kill()
         expect(
             "the log notes what was asked",
-            '"target":"/books/7/held","status":"502"' in it.log("access") and "(hidden)" in it.log("access"),
+            '"target":"/books/7/held","status":"503"' in it.log("access") and "(hidden)" in it.log("access"),
             True,
         )
-        expect("the error log notes that the shard was away", "Connection refused" in it.log("error"), True)
+        expect("the error log notes that the store was away", "Connection refused" in it.log("error"), True)
         no_secret_in_a_log(it, [*receipts, BROKER.replace("-", ""), BROKER.replace("-", "").upper()])
 
 
@@ -179,12 +174,17 @@ TRICKS = [
 
 # Those that are of the shape, or are once what names the proxy itself is taken off.
 SHAPED = (
-    *TRICKS[:6],
+    *TRICKS[:9],
     f"http://{NAME}/books/8/held",
     f"https://{NAME}:1/books/9/held",
     "http://evil/books/8",
     "/books/8/pledges/07",
 )
+
+
+def store_that_has(book):
+    """The number of the store of the book that a target was read to name: a book without a line is the first one's."""
+    return BOOKS.get(int(book[1]), 1) if book else None
 
 
 def each_target_comes_to_its_book_or_nowhere():
@@ -193,7 +193,7 @@ def each_target_comes_to_its_book_or_nowhere():
         for target in TRICKS:
             caller = it.caller("127.0.0.1")
             for version in ("1.1", "2"):
-                before = [len(shard.seen) for shard in it.shards]
+                before = [len(store.seen) for store in it.stores]
                 if version == "2":
                     asked_by_http_2(it, target)
                 else:
@@ -201,14 +201,13 @@ def each_target_comes_to_its_book_or_nowhere():
                         caller.send(request("GET", target, f"Host: {NAME}", "Connection: close"))
                 came = [
                     (number, head.split("\r\n")[0].split(" ")[1])
-                    for number, shard in enumerate(it.shards, 1)
-                    for head, _ in shard.seen[before[number - 1] :]
+                    for number, store in enumerate(it.stores, 1)
+                    for head, _ in store.seen[before[number - 1] :]
                 ]
                 expect(f"how often {target} was handed on", len(came) in (0, 1), True)
                 for number, got in came:
                     book = READ.fullmatch(got)
-                    wanted = BOOKS.get(int(book[1])) if book else None
-                    expect(f"the shard of {target}, which came as {got}", number, wanted)
+                    expect(f"the store of {target}, which came as {got}", number, store_that_has(book))
                     expect(f"{target} came as it was", got, re.sub(r"^https?://[^/]*", "", target))
                     landed.add(target)
         expect("what was handed on", sorted(landed), sorted(SHAPED))
@@ -239,16 +238,16 @@ def no_room_beside_the_shape(it):
         for _ in range(chance.choice([0, 1, 1, 1, 2, 3])):
             at = chance.randrange(len(target) + 1)
             target = target[:at] + chance.choice(pieces) + target[at + chance.choice([0, 0, 1]) :]
-        before = [len(shard.seen) for shard in it.shards]
+        before = [len(store.seen) for store in it.stores]
         with contextlib.suppress(OSError, Failed):
             caller.send(request(chance.choice(["GET", "POST"]), target, f"Host: {NAME}"))
-        for shard_number, shard in enumerate(it.shards, 1):
-            for head, _ in shard.seen[before[shard_number - 1] :]:
+        for store_number, store in enumerate(it.stores, 1):
+            for head, _ in store.seen[before[store_number - 1] :]:
                 book = READ.fullmatch(target)
                 expect(
-                    f"{target} at shard {shard_number}",
-                    (head.split(" ")[1], book and BOOKS.get(int(book[1]))),
-                    (target, shard_number),
+                    f"{target} at store {store_number}",
+                    (head.split(" ")[1], store_that_has(book)),
+                    (target, store_number),
                 )
                 came += 1
         if number % 15 == 0:
@@ -260,87 +259,19 @@ def no_room_beside_the_shape(it):
     expect("some were handed on", came > 100, True)
 
 
-def each_target_by_caddy():
-    """The same of the Caddyfile, where Caddy is installed; and whether a request was handed on."""
-    if not shutil.which("caddy"):
-        not_tried("the Caddyfile", "caddy is not installed")
-        return
-    shards, port = [Recorder().start() for _ in range(3)], free_port()
-    lines = "".join(f"\t\t{book} 127.0.0.1:{shards[shard - 1].port}\n" for book, shard in BOOKS.items())
-    with tempfile.TemporaryDirectory() as room:
-        with open(os.path.join(TOP, "deploy/Caddyfile")) as it:
-            text = put(
-                it.read(),
-                ("{\n\tservers {", f"{{\n\tadmin off\n\tauto_https off\n\thttp_port {port}\n\tservers {{"),
-                (f"\n{NAME} {{", f"\nhttp://:{port} {{"),
-                ("\t\tdefault moving\n", f"{lines}\t\t10 moving\n\t\tdefault moving\n"),
-                ("/opt/pawnd/web", os.path.join(TOP, "web")),
-            )
-        with open(os.path.join(room, "Caddyfile"), "w") as it:
-            it.write(text)
-        caddy = subprocess.Popen(
-            ["caddy", "run", "--config", os.path.join(room, "Caddyfile"), "--adapter", "caddyfile"],
-            env={**os.environ, "HOME": room, "XDG_DATA_HOME": room, "XDG_CONFIG_HOME": room},
-            stdin=subprocess.DEVNULL,
-            stdout=subprocess.DEVNULL,
-            stderr=subprocess.DEVNULL,
-        )
-        try:
-            wait_for(lambda: answers(f"http://127.0.0.1:{port}/"), "caddy", 30)
-            landed = [target for target in TRICKS if comes_to_its_book(port, target, shards)]
-            expect("what was handed on", landed, [*TRICKS[:6], "/books/8/pledges/07"])
-            expect(
-                "a book that is moving",
-                plainly(port, request("GET", "/books/10/held", "Host: x")).endswith(NOT_HANDED_ON % 503),
-                True,
-            )
-            shards[1].way = "close"
-            expect(
-                "no reply",
-                plainly(port, request("GET", "/books/8/held", "Host: x")).endswith(b'{"proxy":502,"handed_on":true}'),
-                True,
-            )
-            shards[1].kill()
-            expect(
-                "a shard that is away",
-                plainly(port, request("GET", "/books/8/held", "Host: x")).endswith(NOT_HANDED_ON % 502),
-                True,
-            )
-        finally:
-            caddy.kill()
-            caddy.wait()
-            for shard in shards:
-                shard.kill()
-
-
-def comes_to_its_book(port, target, shards):
-    """Whether a target is handed on: then once, as it was, and to the shard of its book."""
-    before = [len(shard.seen) for shard in shards]
-    plainly(port, request("GET", target, f"Host: {NAME}"))
-    came = [
-        (number, head.split(" ")[1])
-        for number, shard in enumerate(shards, 1)
-        for head, _ in shard.seen[before[number - 1] :]
-    ]
-    book = READ.fullmatch(target)
-    if came:
-        expect(f"{target}", came, [(BOOKS.get(int(book[1])) if book else None, target)])
-    return bool(came)
-
-
 # ---- heads, bodies, and what the proxy says by itself
 
 
 def heads_and_bodies():
     with Hosted(kind=Recorder) as it:
-        caller, shard = it.caller(), it.shards[1]
+        caller, store = it.caller(), it.stores[1]
 
         def sent(head, body=b""):
-            """What comes to the shard of a request, as its head and body, or what the proxy answered in its place."""
-            before = len(shard.seen)
+            """What comes to the store of a request, as its head and body, or what the proxy answered in its place."""
+            before = len(store.seen)
             caller.close()
             reply = caller.send(f"POST /books/8/held/repay HTTP/1.1\r\nHost: {NAME}\r\n{head}\r\n".encode() + body)
-            return shard.seen[before] if len(shard.seen) > before else (status(reply), reply.body)
+            return store.seen[before] if len(store.seen) > before else (status(reply), reply.body)
 
         head, body = sent("Transfer-Encoding: chunked\r\n", b'5\r\n{"seq\r\n4\r\n":1}\r\n0\r\n\r\n')
         expect(
@@ -424,17 +355,18 @@ def what_is_unknown_and_what_was_not_done():
     with Hosted(kind=Recorder, changes=(("proxy_read_timeout        60s", "proxy_read_timeout        1s"),)) as it:
         for way, wanted in (("close", 502), ("reset", 502), ("silence", 504)):
             for method in ("GET", "POST"):
-                it.shards[1].way, before = way, len(it.shards[1].seen)
+                it.stores[1].way, before = way, len(it.stores[1].seen)
                 reply = it.caller().ask(method, "/books/8/held", "Pledge-Receipt: 1-1")
                 expect(
                     f"{method}, {way}",
-                    (status(reply), reply.body, len(it.shards[1].seen) - before),
+                    (status(reply), reply.body, len(it.stores[1].seen) - before),
                     (wanted, b'{"proxy":%d,"handed_on":true}' % wanted, 1),
                 )
-                expect("when to ask again", reply.fields.get("retry-after"), "2")
-        it.shards[1].kill()
+                expect("it is not told to ask again", reply.fields.get("retry-after"), None)
+        it.stores[1].kill()
         reply = it.caller().ask("POST", "/books/8/held/repay", "Pledge-Receipt: 1-1", body={})
-        expect("a shard that is away", (status(reply), reply.body), (502, NOT_HANDED_ON % 502))
+        expect("a store that is away", (status(reply), reply.body), (503, NOT_HANDED_ON % 503))
+        expect("when to ask again", reply.fields.get("retry-after"), "2")
         expect("another", status(it.caller().ask("GET", "/books/9/held")), 200)
         for field in ("content-security-policy", "strict-transport-security", "x-content-type-options"):
             expect(f"{field} of a refusal", field in reply.fields, True)
@@ -468,7 +400,6 @@ TESTS = (
     the_life_of_a_pledge_over_tls,
     nothing_secret_is_noted,
     each_target_comes_to_its_book_or_nowhere,
-    each_target_by_caddy,
     heads_and_bodies,
     what_the_program_says_of_them,
     what_is_unknown_and_what_was_not_done,

@@ -1,5 +1,5 @@
-"""The files of deploy/ with the real nginx, in front of three shards: the same bytes as of one service, peers that are
-slow, silent or gone, a shard that is killed, and one behind a relay."""
+"""The files of deploy/ with the real nginx, in front of three stores: the same bytes as of one service, peers that are
+slow, silent or gone, a store that is killed, and one behind a relay."""
 import contextlib
 import json
 import multiprocessing
@@ -18,13 +18,13 @@ from tests.library.checks import expect
 from tests.library.dates import today
 from tests.library.described import IMPORT, OPERATIONS, chosen, compact
 from tests.library.hosting import (
-    BOOKS, LENGTH, NAME, PACKAGES, Caller, Hosted, Recorder, long_book, open_pledge, proxys, put, read_reply,
-    status, writers,
+    BOOKS, LENGTH, NAME, PACKAGES, Caller, Hosted, Recorder, long_book, open_pledge, open_text, proxys, put, read_reply,
+    status, steady_port, writers,
 )
 from tests.library.keys import BROKER, KEY, OPERATOR, SECRET
 from tests.library.packages import PATHS, main_with
 from tests.library.paths import TOP
-from tests.library.program import Server, free_port
+from tests.library.program import Server
 from tests.library.requests import request
 from tests.library.waiting import wait_for
 
@@ -87,12 +87,12 @@ def to(port):
 
 
 def the_same_bytes_as_of_one_service():
-    """Two thousand requests at random on four books: one program that has them all, and three shards behind the proxy.
+    """Two thousand requests at random on four books: one program that has them all, and three stores behind the proxy.
     (Each book is made without the proxy.)"""
     chance = random.Random(43)
     with Hosted(books={**BOOKS, 10: 2}) as hosted, Server() as one:
         worlds = World(to(one.port)), World(through(hosted))
-        made = [hosted.shard_of(book).port for book in BOOKS]
+        made = [hosted.store_of(book).port for book in BOOKS]
         for book, port in zip(BOOKS, made, strict=True):
             for world, at in zip(worlds, (one.port, port)):
                 world.send, kept = to(at), world.send
@@ -179,7 +179,7 @@ def trouble(port, ready):
 
 
 def medians(hosted, receipts, count=45):
-    """The times of a good client's requests, each on a connection of its own over TLS, at each shard."""
+    """The times of a good client's requests, each on a connection of its own over TLS, at each store."""
     times = []
     for number in range(count):
         book = (7, 8, 9)[number % 3]
@@ -194,12 +194,12 @@ def medians(hosted, receipts, count=45):
 def slow_peers_hold_nobody_up():
     with Hosted() as it:
         receipts = {book: those[0] for book, those in it.open_books().items() if book != 8}
-        shard = it.shards[1]
-        shard.kill()
-        os.remove(shard.path)
-        os.remove(shard.path + "-wal")
-        shard.start()
-        made = shard.session.ask(
+        store = it.stores[1]
+        store.kill()
+        os.remove(store.path)
+        os.remove(store.path + "-wal")
+        store.start()
+        made = store.session.ask(
             "POST", "/books/8", {"capacity": 2, "key": BROKER, "name": "High Street"}, Pledge_Key=OPERATOR
         )
         expect("a book with a long statement", made, (200, {"book": 8}))
@@ -236,14 +236,14 @@ def slow_peers_hold_nobody_up():
 
 
 def a_reader_that_reads_nothing():
-    """A long reply to a peer that takes none of it is off the shard's hands at once, and that peer has the whole of it
+    """A long reply to a peer that takes none of it is off the store's hands at once, and that peer has the whole of it
     when it reads."""
     with Hosted(kind=Recorder) as it:
-        it.shards[1].way = "at length"
+        it.stores[1].way = "at length"
         deaf = it.caller()
         deaf.connection = deaf.connect(window=65536)
         deaf.connection.sendall(request("GET", "/books/8/export", f"Host: {NAME}", KEY))
-        wait_for(lambda: it.shards[1].rid, "the shard is rid of its reply", 30)
+        wait_for(lambda: it.stores[1].rid, "the store is rid of its reply", 30)
         spools = [
             os.stat(os.path.join(folder, name)).st_mode & 0o077
             for folder, _, names in os.walk(os.path.join(it.room, "replies"))
@@ -265,107 +265,112 @@ def waiting_at(port):
 
 
 def a_hundred_in_flight_and_no_more():
-    """A shard that stands still: a hundred requests wait for it, those that were given up among them; further ones are
-    refused at once, and others' shards serve."""
+    """A store that stands still: a hundred requests wait for it, those that were given up among them; further ones are
+    refused at once, and others' stores serve."""
     with Hosted() as it:
         receipts = it.open_books()
         asked = request("GET", "/books/7/held", f"Host: {NAME}", f"Pledge-Receipt: {receipts[7][0]}")
-        os.kill(it.shards[0].program.pid, signal.SIGSTOP)
+        os.kill(it.stores[0].program.pid, signal.SIGSTOP)
         callers = [it.caller() for _ in range(100)]
         for caller in callers:
             caller.connection = caller.connect()
             caller.connection.sendall(asked)
-        wait_for(lambda: waiting_at(it.shards[0].port) >= 100, "a hundred requests in flight", 30)
+        wait_for(lambda: waiting_at(it.stores[0].port) >= 100, "a hundred requests in flight", 30)
         for caller in callers[:30]:
             caller.close()
         time.sleep(0.3)
         for _ in range(20):
             begun = time.monotonic()
             reply = it.caller().send(asked)
-            expect("one more", (proxys(reply), time.monotonic() - begun < 2), ((502, False), True))
+            expect("one more", (proxys(reply), time.monotonic() - begun < 2), ((503, False), True))
         expect(
-            "at another shard",
+            "at another store",
             status(it.caller().ask("GET", "/books/9/held", f"Pledge-Receipt: {receipts[9][0]}")),
             200,
         )
-        expect("the queue", waiting_at(it.shards[0].port) <= 100, True)
-        os.kill(it.shards[0].program.pid, signal.SIGCONT)
+        expect("the queue", waiting_at(it.stores[0].port) <= 100, True)
+        os.kill(it.stores[0].program.pid, signal.SIGCONT)
         expect("those that waited", [status(read_reply(caller.connection)) for caller in callers[30:]], [200] * 70)
         for caller in callers:
             caller.close()
 
 
-# ---- a shard that is killed
+# ---- a store that is killed
 
 
-def a_shard_is_killed_and_started():
+def a_store_is_killed_and_started():
     with Hosted() as it:
         it.open_books(2)
         with writers(it) as running:
             for _ in range(4):
                 time.sleep(0.7)
-                it.shards[1].kill()
+                it.stores[1].kill()
                 time.sleep(0.3)
-                it.shards[1].start()
+                it.stores[1].start()
             time.sleep(0.7)
         for writer in running:
             if writer.book != 8:
                 expect(f"what book {writer.book} noticed", (writer.not_done, writer.unknown, writer.cut), (0, 0, 0))
-            text = it.shard_of(writer.book).export(writer.book)
+            text = it.store_of(writer.book).export(writer.book)
             expect(
                 f"the entries of pledge {writer.number} of book {writer.book}",
                 text.count(f"\nE,{writer.number},") in (writer.acknowledged, writer.sent),
                 True,
             )
         mine = [writer for writer in running if writer.book == 8]
-        expect("what was not done", sum(writer.not_done for writer in mine), 0)
+        # What comes in while the store is down is answered at once; what it had taken has no reply.
+        told = {(status, handed_on) for writer in mine for _, status, handed_on in writer.told}
+        expect(f"what the callers of the killed store were told: {told}", told <= {(503, False), (502, True)}, True)
         print(
             f"        {sum(it.acknowledged for it in running)} repayments, 4 kills; "
             f"{sum(it.not_done for it in mine)} not handed on and {sum(it.unknown for it in mine)} unknown at the "
-            "killed shard, none at the others",
+            "killed store, none at the others",
             flush=True,
         )
 
 
-def a_shard_on_another_machine():
-    """The relay's nginx between the proxy and the third shard; what it refuses by itself comes through as it said
+def a_store_on_another_machine():
+    """The relay's nginx between the proxy and the third store; what it refuses by itself comes through as it said
     it."""
     with Hosted() as far, tempfile.TemporaryDirectory() as room:
         os.chmod(room, 0o711)
-        shutil.copytree(os.path.join(TOP, "deploy/nginx"), os.path.join(room, "nginx"))
-        port, conf = free_port(), os.path.join(room, "nginx/relay.conf")
-        with open(conf) as it:
-            text = put(
-                it.read(),
-                ("/run/nginx.pid", f"{room}/nginx.pid"),
-                ("/var/log/nginx/", f"{room}/"),
-                ("/run/nginx-bodies;", f"{room}/bodies;"),
-                ("10.0.0.3:8103", f"127.0.0.1:{port}"),
-                ("10.0.0.1", "127.0.0.1"),
-                ("127.0.0.1:8103", f"127.0.0.1:{far.shards[2].port}"),
-                (
-                    "/run/nginx-replies;",
-                    f"{room}/replies; "
-                    + " ".join(f"{it}_temp_path {room}/unused;" for it in ("fastcgi", "uwsgi", "scgi")),
-                ),
-            )
-        with open(conf, "w") as it:
-            it.write(text)
+        port, conf = steady_port(), os.path.join(room, "nginx")
+        shutil.copytree(far.conf, conf)
+        os.remove(os.path.join(conf, "sites-enabled/pawnd"))
+        at = f"127.0.0.1:{port}"
+        change(os.path.join(TOP, "deploy/nginx/relay-site"), os.path.join(conf, "sites-enabled/relay"), (
+            ("10.0.0.3:8103", at), ("10.0.0.1;", "127.0.0.1;"), ("east", "west"),
+            ("/run/pawnd-bodies;", f"{room}/bodies;"), ("/run/pawnd-replies;", f"{room}/replies;"),
+        ))
+        change(os.path.join(conf, "nginx.conf"), os.path.join(conf, "nginx.conf"), (
+            (far.conf, conf), (f"{far.room}/", f"{room}/"),
+        ))
+        os.mkdir(os.path.join(room, "logs"))
+        # The relay has the store's own address, and the proxy has the relay's.
+        own = os.path.join(room, "stores.conf")
+        change(os.path.join(far.settings, "stores.conf"), own, ())
+        http = os.path.join(conf, "snippets/pawnd-http.conf")
+        change(http, http, ((f"{far.settings}/stores.conf", own),))
         relay = subprocess.Popen(
-            ["nginx", "-c", conf, "-e", f"{room}/error.log", "-g", "daemon off;"],
+            ["nginx", "-c", os.path.join(conf, "nginx.conf"), "-e", f"{room}/error.log", "-g", "daemon off;"],
             env={**os.environ, "PATH": PATHS},
             stderr=subprocess.DEVNULL,
             start_new_session=True,
         )
         try:
             wait_for(lambda: os.path.exists(f"{room}/nginx.pid"), "the relay", 20)
-            far.edit("shards.conf", (f"127.0.0.1:{far.shards[2].port}", f"127.0.0.1:{port}"))
-            receipts = far.open_books(2)
-            far.run_shards("reload")
-            through_the_relay(far, receipts)
+            lines = open_text(own).replace(f"127.0.0.1:{far.stores[2].port}", at)
+            far.set_map("stores.conf", *lines.splitlines())
+            through_the_relay(far, far.open_books(2))
         finally:
             os.killpg(relay.pid, signal.SIGTERM)
             relay.wait(20)
+
+
+def change(source, target, pairs):
+    text = put(open_text(source), *pairs)
+    with open(target, "w") as it:
+        it.write(text)
 
 
 def through_the_relay(far, receipts):
@@ -380,10 +385,11 @@ def through_the_relay(far, receipts):
         )["seq"],
         1,
     )
-    far.shards[2].kill()
-    expect("what the relay says", proxys(far.caller().ask("GET", "/books/9/held", fields[0])), (502, False))
+    far.stores[2].kill()
+    reply = far.caller().ask("GET", "/books/9/held", fields[0])
+    expect("what the relay says", (status(reply), proxys(reply), reply.fields.get("retry-after")), (503, (503, False), "2"))
     expect("the others", status(far.caller().ask("GET", "/books/8/held", f"Pledge-Receipt: {receipts[8][0]}")), 200)
-    far.shards[2].start()
+    far.stores[2].start()
     expect("when it is there again", status(far.caller().ask("GET", "/books/9/held", fields[0])), 200)
 
 
@@ -392,8 +398,8 @@ TESTS = (
     slow_peers_hold_nobody_up,
     a_reader_that_reads_nothing,
     a_hundred_in_flight_and_no_more,
-    a_shard_is_killed_and_started,
-    a_shard_on_another_machine,
+    a_store_is_killed_and_started,
+    a_store_on_another_machine,
 )
 
 if __name__ == "__main__":

@@ -9,7 +9,9 @@ import time
 
 from tests.library.checks import expect, main
 from tests.library.filled_stores import DAY_OF_END, fill_store, receipt_of
-from tests.library.older_stores import WITHOUT_INDEXES, a_sound_migration, migrate, older_copy
+from tests.library.older_stores import (
+    BACK_TO_FIRST, BACK_TO_SECOND, WITHOUT_INDEXES, a_sound_migration, migrate, older_copy,
+)
 from tests.library.paths import PROGRAM, TOP
 from tests.library.program import Server, answer, check
 from tests.library.requests import keyed_request, request
@@ -18,6 +20,16 @@ from tests.library.tables import copied, opened, rows_by_python
 TEXTS = {
     "bookings_by_time": "CREATE INDEX bookings_by_time ON bookings (book, day, state, number, slot)",
     "pledges_by_end": "CREATE INDEX pledges_by_end ON pledges (book, closed, ends, number)",
+}
+# Indexes that have the program's names in a store of an older schema: the program's own, and others.
+TAKEN = {
+    "its own by end": (TEXTS["pledges_by_end"],),
+    "its own by time": (TEXTS["bookings_by_time"],),
+    "both of its own": tuple(TEXTS.values()),
+    "by end, of another column": ("CREATE INDEX pledges_by_end ON pledges (ref)",),
+    "by time, of another table": ("CREATE INDEX bookings_by_time ON terms (rate)",),
+    "by end, in capitals": ("CREATE INDEX PLEDGES_BY_END ON pledges (article)",),
+    "one of its own, one of others": (TEXTS["pledges_by_end"], "CREATE INDEX Bookings_By_Time ON secrets (day)"),
 }
 # What the kit's connection keeps plans of, by their texts, before it forgets one for another.
 PLANS, ROOM_LEFT = 64, 4
@@ -139,6 +151,24 @@ def what_others_put_there():
                 expect(f"a sheet beside {text}", said, [(200, sheet_in(tables, day_of(DAY_OF_END), DAY_OF_END))])
 
 
+def a_migration_leaves_an_index_of_the_name_as_it_is():
+    """As an opening does: what is lacking is made, by its name alone."""
+    for schema, back in ((1, BACK_TO_FIRST), (2, BACK_TO_SECOND)):
+        for name, texts in TAKEN.items():
+            with tempfile.TemporaryDirectory() as room:
+                path = made(room, each=10, bent=(*back, *texts))
+                before = rows(path)
+                expect(f"a migration from {schema}, {name}", migrate(path), a_sound_migration(schema))
+                there = {text.split()[2]: text for text in texts}
+                taken = {found.lower() for found in there}
+                wanted = {**{found: text for found, text in TEXTS.items() if found not in taken}, **there}
+                expect(f"the indexes after a migration from {schema}, {name}", indexes(path), wanted)
+                kept = {table: found for table, found in rows(path).items() if table in before and table != "meta"}
+                expect(f"the rows after a migration from {schema}, {name}", kept == {
+                    table: found for table, found in before.items() if table != "meta"}, True)
+                expect(f"a check after a migration from {schema}, {name}", check(path)[0], 0)
+
+
 def ask(held):
     return request("POST", "/books/1/held/ask", f"Pledge-Receipt: {held}", body='{"day":"2024-03-05","window":1}')
 
@@ -188,4 +218,4 @@ def each_text_keeps_its_plan():
 
 
 main(a_new_store_has_them, each_word_adds_what_is_lacking, a_sheet_is_what_the_rows_tell, what_others_put_there,
-     one_that_asks_that_rows_differ, a_kill_leaves_both_or_none, each_text_keeps_its_plan)
+     a_migration_leaves_an_index_of_the_name_as_it_is, one_that_asks_that_rows_differ, a_kill_leaves_both_or_none, each_text_keeps_its_plan)

@@ -86,6 +86,20 @@ def a_start_copies_the_log_in():
             is_whole_without_its_log(path, texts[-1])
 
 
+def a_start_through_a_link_copies_the_log_in():
+    """The log is next to the file that a symbolic link leads to."""
+    with tempfile.TemporaryDirectory() as room, tempfile.TemporaryDirectory() as other:
+        path, link = os.path.join(room, "books"), os.path.join(other, "link")
+        texts = killed(path, 5)
+        os.symlink(path, link)
+        expect("the log holds changes", lengths(path)[1] > 4096, True)
+        with Server(link) as server:
+            file, log = lengths(path)
+            expect("the file holds all", (file > 4096, log < 4096), (True, True))
+            expect("it serves", server.session().broker("GET", "/books/7/export"), (200, texts[-1]))
+        is_whole_without_its_log(path, texts[-1])
+
+
 def is_whole_without_its_log(path, text):
     if os.path.exists(path + "-wal"):
         os.remove(path + "-wal")
@@ -176,6 +190,7 @@ def an_older_log():
 
 
 main(
-    a_start_copies_the_log_in, an_orderly_end_copies_the_log_in, a_log_that_was_taken_away, a_log_that_was_cut,
-    a_log_in_which_one_bit_was_bent, a_log_of_another_store, an_older_log,
+    a_start_copies_the_log_in, a_start_through_a_link_copies_the_log_in, an_orderly_end_copies_the_log_in,
+    a_log_that_was_taken_away, a_log_that_was_cut, a_log_in_which_one_bit_was_bent, a_log_of_another_store,
+    an_older_log,
 )

@@ -1,57 +1,77 @@
 """The first day of docs/DEPLOYING.md on a machine, and a broker's requests there."""
 import json
 import os
+import time
 
-from tests.library.checks import expect
-from tests.library.operator.machines import commands
+from tests.library.checks import Failed, expect
+from tests.library.operator.documented import DEPLOYING, commands
 
-PAGE = "docs/DEPLOYING.md"
-VERSION = "pawnd-VERSION-x86_64-linux"
+NAME = "books.example.org"
+# In place of the maker of certificates, which is out of reach: a certificate by a maker of the machine's own, where
+# certbot puts it. Its words are certbot's.
+CERTBOT = r"""#!/bin/bash
+set -e
+while [ $# -gt 0 ]; do
+    case $1 in -d) name=$2 ;; -w) root=$2 ;; esac
+    shift
+done
+curl -sf -o /dev/null -H "Host: $name" "http://127.0.0.1/.well-known/acme-challenge/none" || [ $? = 22 ]
+mkdir -p "$root/.well-known/acme-challenge"
+echo proof-of-the-name >"$root/.well-known/acme-challenge/token"
+[ "$(curl -s -H "Host: $name" http://127.0.0.1/.well-known/acme-challenge/token)" = proof-of-the-name ]
+live=/etc/letsencrypt/live/$name
+mkdir -p "$live" /root/maker
+[ -e /root/maker/ca.pem ] || openssl req -x509 -newkey rsa:2048 -nodes -days 90 -subj "/CN=maker" \
+    -keyout /root/maker/ca.key -out /root/maker/ca.pem 2>/dev/null
+openssl req -new -newkey rsa:2048 -nodes -subj "/CN=$name" -keyout "$live/privkey.pem" -out /root/maker/asked 2>/dev/null
+openssl x509 -req -in /root/maker/asked -CA /root/maker/ca.pem -CAkey /root/maker/ca.key -CAcreateserial -days 90 \
+    -extfile <(echo "subjectAltName=DNS:$name") -out "$live/fullchain.pem" 2>/dev/null
+"""
 
 
-def unpack(machine, block, archive):
-    """A block that unpacks a release, which is a file of this machine."""
-    name = os.path.basename(archive).removesuffix(".tar.gz")
-    return machine.run(f"cd {os.path.dirname(archive)}\n" + block.replace(VERSION, name))
+def put_certbot(machine):
+    path = os.path.join(machine.root, "usr/local/bin/certbot")
+    with open(path, "w") as it:
+        it.write(CERTBOT)
+    os.chmod(path, 0o755)
 
 
-def first_day(machine, archive, shard_runs=True):
-    """Steps 1 to 7."""
-    install, users, shard, proxy, certificate, book, copies = commands(PAGE, "The first day")
-    unpack(machine, install, archive)
-    machine.run(users)
-    if not shard_runs:
-        return machine.run("".join(shard.splitlines(True)[:2]))
-    machine.run(shard)
-    machine.run(proxy)
-    machine.run(certificate)
-    machine.run(book)
-    return machine.run(copies)
+def first_day(machine, package):
+    """All commands of the section in turn. The package is in the folder in which they are run."""
+    put_certbot(machine)
+    machine.run(f"cp /root/packages/{os.path.basename(package)} /root/")
+    told = []
+    for block in commands(DEPLOYING, "The first day"):
+        told.append(machine.run(block))
+    machine.run(f"rm /root/{os.path.basename(package)}")
+    return told
 
 
-def ask(machine, target, *words, key="/etc/pawnd/7.json"):
-    """A request by the broker of a book, over TLS to the proxy of this machine: the reply's body and its status."""
-    at = f"--resolve books.example.org:443:127.0.0.1 https://books.example.org{target}"
-    code = machine.run(
-        f"""key=$(sed 's/.*"key":"\\([^"]*\\)".*/\\1/' {key})
-curl -sk -w '\\n%{{http_code}}' -H "Pledge-Key: $key" {' '.join(words)} {at}"""
-    )
-    body, _, status = code.rpartition("\n")
+def ask(machine, target, *words, key="/root/7.key", trusted=True):
+    """A request by the broker of a book, over TLS to the proxy of this machine: the reply's status and body, or 0 if there
+    is none."""
+    trust = "--cacert /root/maker/ca.pem" if trusted else "-k"
+    at = f"--resolve {NAME}:443:127.0.0.1 https://{NAME}{target}"
+    told = machine.run(f"""curl -s {trust} -w '\\n%{{http_code}}' -H "Pledge-Key: $(cat {key})" {' '.join(words)} {at} || true""")
+    body, _, status = told.rpartition("\n")
     return int(status), body
 
 
-def enter(machine, number, book=7):
+def enter(machine, number, book=7, key="/root/7.key"):
     """A pledge is taken."""
-    opening = json.dumps(
-        {"article": "Gold ring", "five_days": False, "kind": "fixed", "pence": 10000, "ref": f"A{number}"}
-    )
-    return ask(machine, f"/books/{book}/pledges", "-d", f"'{opening}'")
+    opening = {"article": "Gold ring", "five_days": False, "kind": "fixed", "pence": 10000, "ref": f"A{number}"}
+    return ask(machine, f"/books/{book}/pledges", "-d", f"'{json.dumps(opening)}'", key=key)
 
 
-def with_terms(machine):
-    expect(
-        "its terms",
-        ask(machine, "/books/7/terms", "-d", """'{"keep_after":0,"keep_before":0,"rate":0,"version":1}'"""),
-        (200, '{"version":1}'),
-    )
-    expect("a pledge", enter(machine, 1)[0], 200)
+def with_terms(machine, book=7, key="/root/7.key"):
+    terms = """'{"keep_after":0,"keep_before":0,"rate":0,"version":1}'"""
+    expect("its terms", ask(machine, f"/books/{book}/terms", "-d", terms, key=key), (200, '{"version":1}'))
+    expect("a pledge", enter(machine, 1, book, key)[0], 200)
+
+
+def answers_again(machine, wanted=200, within=60, target="/books/7/pledges/1", key="/root/7.key"):
+    end = time.monotonic() + within
+    while (told := ask(machine, target, key=key)[0]) != wanted:
+        if time.monotonic() > end:
+            raise Failed(f"{told} after {within} seconds: {machine.run('journalctl -n 30 --no-pager')}")
+        time.sleep(0.2)

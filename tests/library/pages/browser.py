@@ -124,6 +124,21 @@ class Pages:
     def __exit__(self, *_):
         self.stack.close()
 
+    def with_modules(self):
+        """Puts the modules beside the pages that were built of them, for tests of one module alone."""
+        web = os.path.join(self.room, "room", "web")
+        for folder in ("shared", "broker"):
+            for name in os.listdir(os.path.join(TOP, "web", folder)):
+                if not os.path.exists(os.path.join(web, folder, name)):
+                    shutil.copy(os.path.join(TOP, "web", folder, name), os.path.join(web, folder))
+        subprocess.run(
+            [
+                "esbuild", os.path.join(TOP, "web/shared/qr.js"), "--bundle", "--format=esm", "--allow-overwrite",
+                "--log-level=warning", f"--outfile={web}/shared/qr.js",
+            ],
+            env={**os.environ, "NODE_PATH": "/usr/share/nodejs"}, check=True, timeout=30,
+        )
+
     def end_nginx(self):
         os.killpg(self.nginx.pid, signal.SIGTERM)
         self.nginx.wait(timeout=20)
@@ -131,6 +146,9 @@ class Pages:
 
 class Browser:
     """One window of a headless chromium."""
+
+    def __init__(self):
+        self.more = []
 
     def __enter__(self):
         self.room = tempfile.TemporaryDirectory()
@@ -144,7 +162,7 @@ class Browser:
             "binary": shutil.which("chromium"), "prefs": {"download.default_directory": self.room.name},
             "args": [
                 "--headless=new", "--no-sandbox", "--disable-gpu", "--disable-background-networking",
-                "--disable-dev-shm-usage", "--lang=en-GB", "--host-resolver-rules=MAP * ~NOTFOUND, EXCLUDE localhost",
+                "--disable-dev-shm-usage", "--lang=en-GB", "--host-resolver-rules=MAP * ~NOTFOUND, EXCLUDE localhost", *self.more,
             ],
         }
         wanted = {"browserName": "chrome", "goog:loggingPrefs": {"browser": "ALL"}, "goog:chromeOptions": options}

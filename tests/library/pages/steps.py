@@ -166,6 +166,28 @@ def take_a_ring(article="Gold ring", reference="A1", amount="100", **more):
     return browser.text(".paper .secret").strip(), browser.text(".paper .address").strip()
 
 
+# The page's clock goes on by so many seconds, and the service's too, or it does not; and the page is looked at again.
+LATER = """
+const real = Object.getPrototypeOf(Date.prototype).constructor === Object ? Date : Object.getPrototypeOf(Date);
+const [more, service] = [arguments[0] * 1000, arguments[1]];
+window.Date = class Later extends real {
+  constructor(...given) { if (given.length) super(...given); else super(real.now() + more); }
+  static now() { return real.now() + more; }
+};
+const get = window.realGet ?? Headers.prototype.get;
+window.realGet = get;
+Headers.prototype.get = function told(name) {
+  const said = get.call(this, name);
+  return service && said && name === "Date" ? new real(real.parse(said) + more).toUTCString() : said;
+};
+document.dispatchEvent(new Event("visibilitychange"));
+"""
+
+
+def the_clock_goes_on(seconds, service=True):
+    browser.run(LATER, seconds, service)
+
+
 def the_book_is_read():
     browser.says("The book was read", "#book-line")
 

@@ -1,0 +1,171 @@
+"""The first example of each language: it shows pledges by their receipts, and its second request does not wait for the
+end of its first one's connection. And the requests for editors, each of which the service answers."""
+import glob
+import os
+import re
+import shutil
+import subprocess
+import tempfile
+import time
+
+from tests.library.checks import expect, main, not_tried
+from tests.library.keys import BROKER, OPERATOR
+from tests.library.packages import missing, provide
+from tests.library.paths import PROGRAM, TOP
+from tests.library.program import Server
+from tests.library.sessions import PATIENCE
+
+FIRST = os.path.join(TOP, "examples/first")
+# Each language: its example, how it is run, and Debian's packages for it.
+LANGUAGES = {
+    "Go": ("show.go", ["{room}/show"], {"go": "golang-go"}),
+    "Ruby": ("show.rb", ["ruby", "{example}"], {"ruby": "ruby"}),
+    "Perl": ("show.pl", ["perl", "{example}"], {"perl": "perl"}),
+    "PHP": ("show.php", ["php", "{example}"], {"php": "php-cli"}),
+    "Python": ("show.py", ["/usr/bin/python3", "{example}"], {"/usr/bin/python3": "python3"}),
+    "JavaScript": ("show.mjs", ["node", "{example}"], {"node": "nodejs"}),
+    "Java": ("Show.java", ["java", "-Djdk.httpclient.allowRestrictedHeaders=connection", "{example}"], {
+        "java": "openjdk-17-jdk-headless"}),
+}
+# What a language's library needs beside the language, by a file of it.
+LIBRARIES = {
+    "PHP": ("/usr/share/doc/php8.2-curl", "php-curl"), "Python": ("/usr/lib/python3/dist-packages/requests", "python3-requests"),
+}
+
+
+def has(language):
+    packages = dict(LANGUAGES[language][2])
+    file, package = LIBRARIES.get(language, ("/", ""))
+    if not os.path.exists(file):
+        packages[f"the library of {package}"] = package
+    provide(packages)
+    absent = missing(LANGUAGES[language][2]) or ([] if os.path.exists(file) else [package])
+    if absent:
+        not_tried(f"the example in {language}", f"there is no {absent[0]}")
+    return not absent
+
+
+def shown(language, room, server, receipts):
+    """What the example prints for these receipts, and the seconds that it takes."""
+    example, words, _ = LANGUAGES[language]
+    made = [word.format(room=room, example=os.path.join(FIRST, example)) for word in words]
+    begun = time.monotonic()
+    ran = subprocess.run(
+        [*made, f"http://localhost:{server.port}", "7", *receipts], stdin=subprocess.DEVNULL, capture_output=True, text=True,
+        timeout=120,
+    )
+    expect(f"how the example in {language} ends", (ran.returncode, ran.stderr), (0, ""))
+    return ran.stdout, time.monotonic() - begun
+
+
+def build_for_go(room):
+    how = {**os.environ, "GO111MODULE": "off", "GOCACHE": os.path.join(room, "cache"), "GOFLAGS": ""}
+    words = ["go", "build", "-o", os.path.join(room, "show"), os.path.join(FIRST, "show.go")]
+    subprocess.run(words, check=True, env=how, capture_output=True, timeout=200)
+
+
+def each_language_asks_twice_without_waiting():
+    with Server() as server, tempfile.TemporaryDirectory() as room:
+        session = server.session()
+        session.open_book()
+        receipts = [session.open_pledge(number) for number in (1, 2)]
+        session.close()
+        for language in LANGUAGES:
+            if not has(language):
+                continue
+            if language == "Go":
+                build_for_go(room)
+            _, once = shown(language, room, server, receipts[:1])
+            told, twice = shown(language, room, server, receipts)
+            print(f"        {once:.2f} s for one receipt, {twice:.2f} s for two, in {language}", flush=True)
+            expect(f"what {language} shows", (told.count("200"), told.count("Pledge 1\n"), told.count("Pledge 2\n")), (2, 1, 1))
+            expect(f"the second request of {language} does not wait", twice - once < PATIENCE - 1, True)
+
+
+def each_line_of_a_statement_is_read_by_the_expression():
+    """The regular expression of docs/CLIENTS.md, over the statements of all stories."""
+    with open(os.path.join(TOP, "docs/CLIENTS.md"), encoding="utf-8") as it:
+        (written,) = re.findall(r"(?m)^ +(\^\(\?:Pledge .*\$)$", it.read())
+    expression, seen = re.compile(written.replace("?<", "?P<")), set()
+    # In JavaScript and Java a point matches no U+2028, which an article may contain.
+    expect("a point that matches not each character of an article", re.search(r"(?<!\\)\.", written), None)
+    for path in glob.glob(os.path.join(TOP, "tests/turns/*.txt")):
+        with open(path, encoding="utf-8") as it:
+            replies = [line.rstrip("\n") for line in it if line.startswith("200 OK|Pledge ")]
+        for line in (line for reply in replies for line in reply.split("|")[1:] if line not in ("", "Unknown receipt")):
+            found = expression.match(line)
+            expect(f"the expression reads {line!r} of {os.path.basename(path)}", bool(found), True)
+            seen |= {name for name, value in found.groupdict().items() if value}
+    expect("groups that no story has", sorted(set(expression.groupindex) - seen), [])
+
+
+def a_story_of_the_page_is_played():
+    """The story that docs/CLIENTS.md shows, by the demo."""
+    with open(os.path.join(TOP, "docs/CLIENTS.md"), encoding="utf-8") as it:
+        story = re.search(r"(?m)((?:^ {6}(?:#|\d{4}-|\d{3} ).*\n)+)", it.read())[1]
+    with tempfile.TemporaryDirectory() as room:
+        path = os.path.join(room, "story.txt")
+        with open(path, "w", encoding="utf-8") as it:
+            it.write(re.sub(r"(?m)^ {6}", "", story))
+        ran = subprocess.run(
+            ["make", "-s", "demo", f"FILE={path}"], cwd=TOP, env={**os.environ, "PAWND": PROGRAM}, capture_output=True,
+            text=True, timeout=120,
+        )
+    expect("how it ends", (ran.returncode, ran.stderr), (0, ""))
+    expect("what it counts", "4 requests, 1 with an expected reply, 1 answered as expected" in ran.stdout, True)
+
+
+def the_rows_of_the_page_can_be_sold():
+    """The rows that docs/CLIENTS.md shows fill a book, and its pledge is sold."""
+    with open(os.path.join(TOP, "docs/CLIENTS.md"), encoding="utf-8") as it:
+        rows = re.search(r"(?m)((?:^ {6}(?:row|[BTPS]),.*\n)+)", it.read())[1]
+    with Server() as server:
+        session = server.session()
+        book = {"capacity": 2, "key": BROKER, "name": "High Street"}
+        expect("a book", session.ask("POST", "/books/7", book, Pledge_Key=OPERATOR), (200, {"book": 7}))
+        session.close()
+        words = ["curl", "-sS", "-H", "Connection: close", "-H", f"Pledge-Key: {BROKER}", "-H", f"Import-Key: {BROKER}"]
+        words += ["--data-binary", re.sub(r"(?m)^ {6}", "", rows), f"http://localhost:{server.port}/books/7/import"]
+        ran = subprocess.run(words, capture_output=True, text=True, timeout=60)
+        expect("the import", ran.stdout, '{"imported":1}')
+        session = server.session()
+        code, said = session.broker("POST", "/books/7/pledges/1/sell", {"net": 14000})
+        session.close()
+        expect("the sale", (code, sorted(said)), (200, ["net", "shortfall", "surplus"]))
+
+
+def requests_of_the_file(text, values):
+    """The requests of a file for editors: method, target, fields and body."""
+    for part in re.split(r"(?m)^###.*\n", text)[1:]:
+        head, _, body = part.strip().partition("\n\n")
+        for name, value in values.items():
+            head = head.replace("{{" + name + "}}", value)
+        first, *fields = head.split("\n")
+        yield (*first.split(" ", 1), dict(field.split(": ", 1) for field in fields), body)
+
+
+def the_requests_for_editors_are_answered():
+    with open(os.path.join(TOP, "examples/requests.http"), encoding="utf-8") as it:
+        text = it.read()
+    with Server() as server:
+        session = server.session()
+        session.open_book()
+        receipt = session.open_pledge(1)
+        session.close()
+        values = {"base": f"http://localhost:{server.port}", "book": "7", "key": BROKER, "receipt": receipt}
+        asked = list(requests_of_the_file(text, values))
+        expect("how many requests there are", len(asked), 7)
+        for method, address, fields, body in asked:
+            words = ["curl", "-sS", "-o", "/dev/null", "-w", "%{http_code}", "-X", method, address]
+            words += [word for name, value in fields.items() for word in ("-H", f"{name}: {value}")]
+            ran = subprocess.run(words + (["-d", body] if body else []), capture_output=True, text=True, timeout=60)
+            wanted = "409" if address.endswith("/ask") else "200"
+            expect(f"{method} {address}", ran.stdout in (wanted, "200"), True)
+
+
+if not shutil.which("curl"):
+    provide({"curl": "curl"})
+main(
+    each_language_asks_twice_without_waiting, the_requests_for_editors_are_answered,
+    each_line_of_a_statement_is_read_by_the_expression, a_story_of_the_page_is_played, the_rows_of_the_page_can_be_sold,
+)

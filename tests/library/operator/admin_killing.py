@@ -1,0 +1,136 @@
+"""Each verb of `pawnd-admin` is killed just before one of its steps, as by a power cut or by the operator, and run
+again. A step is whatever changes something: admin_run.py says what, and lists those of a run. Some of them are drawn at
+random; a number on the command line says how many of each verb, and a second one the seed. `make fuzz` takes all.
+
+After a kill each book is in no fewer places than before. What is served then, after a boot or when somebody starts the
+stores, is what was acknowledged, or nothing. The verb that is run again ends what was begun."""
+import os
+import random
+import shutil
+import sys
+
+from tests.library.checks import Failed, expect
+from tests.library.operator.admin_machine import Machine
+from tests.library.operator.admin_places import books_in, expect_no_fewer_places, places_of
+
+NUMBERS = [int(word) for word in sys.argv[1:] if word.isdigit()]
+POINTS = NUMBERS[0] if NUMBERS else 2
+SEED = NUMBERS[1] if len(NUMBERS) > 1 else 1
+KEPT = "etc", "lib", "backups", "system", "units"
+
+
+class Story:
+    """A machine with three books in `main` and one in `west`, which is laid out anew before each kill."""
+
+    def __init__(self, machine):
+        self.machine = machine
+        machine.store("west")
+        self.callers = {number: machine.book(number, "west" if number == 10 else "main", pledges=2)
+                        for number in (7, 8, 9, 10)}
+        for caller in self.callers.values():
+            caller.repay()
+        machine.admin("copy", "main"), machine.admin("copy", "west")
+        self.copy = os.path.basename(machine.newest("main"))
+        for caller in self.callers.values():
+            caller.repay()
+        self.keep()
+
+    def stop(self):
+        for name in os.listdir(self.machine.stores):
+            if name[0] != ".":
+                self.machine.systemctl("stop", f"pawnd@{name}")
+
+    def keep(self):
+        self.stop()
+        for name in KEPT:
+            shutil.copytree(self.machine.place(name), self.machine.place("kept", name), symlinks=True)
+        self.keys = {number: caller.key for number, caller in self.callers.items()}
+        self.counts = {number: dict(caller.acknowledged) for number, caller in self.callers.items()}
+        self.boot()
+
+    def lay_out(self):
+        """Everything as it was when the story began."""
+        self.stop()
+        for name in KEPT:
+            shutil.rmtree(self.machine.place(name))
+            shutil.copytree(self.machine.place("kept", name), self.machine.place(name), symlinks=True)
+        for number, caller in self.callers.items():
+            caller.key = self.keys[number]
+            caller.acknowledged, caller.sent = dict(self.counts[number]), dict(self.counts[number])
+        self.boot()
+        self.machine.admin("reload")
+
+    def boot(self):
+        """What is enabled is started, as far as it can be; a mask that holds until a boot is gone."""
+        units = self.machine.place("units")
+        for name in os.listdir(units):
+            if name.startswith("masked-"):
+                os.unlink(os.path.join(units, name))
+        for name in os.listdir(units):
+            store = name.removeprefix("enabled-pawnd@").removesuffix(".service")
+            if name.startswith("enabled-pawnd@") and os.path.exists(self.machine.path(store)):
+                self.machine.systemctl("start", f"pawnd@{store}")
+                self.machine.await_store(store)
+
+
+def expect_right_or_away(caller):
+    """What is served is what was acknowledged, and its changes count; or the proxy says that its store is away."""
+    status, said = caller.request("GET", "/pledges/1")
+    if status in (502, 503, 504) or isinstance(said, dict) and "proxy" in said:
+        return
+    if status != 200:
+        raise Failed(f"book {caller.book} after a boot: {status} {said}")
+    caller.look_up()
+    caller.repay()
+
+
+def killed(words, after, goes_back=()):
+    """A verb at some of its steps. `after` says how it is when the verb has ended; books of `goes_back` are put back to
+    what a copy has of them."""
+    draw = random.Random(f"{SEED} {words}")
+    with Machine() as it:
+        story = Story(it)
+        words = [{"COPY": story.copy, "NEW": it.place("new-key")}.get(word, word) for word in words]
+        it.admin_with(*words, KILL_AT="0", STEPS=it.place("steps"))
+        after(story)
+        steps = it.steps()
+        drawn = sorted(draw.sample(range(1, len(steps) + 1), min(POINTS, len(steps))))
+        for step in drawn:
+            story.lay_out()
+            try:
+                kill_once(story, words, step, draw.choice(("boot", "start", "nothing")), goes_back)
+                after(story)
+                for number, caller in story.callers.items():
+                    if number not in goes_back:
+                        caller.look_up()
+            except Failed as why:
+                raise Failed(f"killed before step {step} of {len(steps)}, {steps[step - 1][:200]}: {why}") from None
+    print(f"        {len(drawn)} of {len(steps)} steps", flush=True)
+
+
+def kill_once(story, words, step, then, goes_back):
+    """Kills the verb. Then the machine is booted, or somebody starts the stores and does not reload nginx, or nobody
+    does anything; and the verb is run again."""
+    it = story.machine
+    before = places_of(it)
+    it.admin_with(*words, KILL_AT=str(step), wanted=-9)
+    expect_no_fewer_places(before, places_of(it), story.callers)
+    it.status()
+    if then != "nothing":
+        story.boot()
+        if then == "boot":
+            it.admin("reload")
+        for number, caller in story.callers.items():
+            if number not in goes_back:
+                expect_right_or_away(caller)
+    it.admin(*words)
+
+
+def expect_well(story, main, west, allowed=()):
+    it = story.machine
+    expect("the books", (books_in(it.path("main")), books_in(it.path("west"))), (main, west))
+    wrong = [line for line in it.status()["wrong"] if not any(some in line for some in allowed)]
+    expect("what is wrong", wrong, [])
+    expect("what commands left", it.leftovers(), [])
+# The books of `main` and of `west`.
+ALL = {7, 8, 9}, {10}

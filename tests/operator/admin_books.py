@@ -1,0 +1,130 @@
+"""`pawnd-admin` and single books: one is made, one comes back out of a copy, a key has leaked, a broker leaves."""
+import os
+import stat
+import uuid
+
+from tests.library.checks import expect
+from tests.library.operator.admin_machine import PACKAGES, Caller, Machine, await_load, load
+from tests.library.operator.admin_places import books_in
+from tests.library.packages import main_with
+
+REFUSED = 404, {"code": 401, "name": "NoSuchBook"}
+
+
+def a_store_and_books():
+    """A book is made with a key that is shown once, or that is written to a file; a number that is taken is refused."""
+    with Machine() as it:
+        it.store("west")
+        shown = it.admin("book", 7, "--name", "High Street").split("the key of book 7: ")[1].split("\n")[0]
+        expect("the key that was shown", Caller(it, 7, shown).request("GET", "/pledges/1")[1]["code"], 403)
+        it.admin("book", 8, "--name", "Low Street", "--store", "west", "--key-to", it.place("key-8"))
+        expect("its mode", stat.S_IMODE(os.stat(it.place("key-8")).st_mode), 0o600)
+        with open(it.place("key-8")) as file:
+            said = Caller(it, 8, file.read().strip()).request("GET", "/pledges/1")
+        expect("the key in the file", said[1]["code"], 403)
+        for number in (7, 8):
+            for store in ("main", "west"):
+                said = it.admin("book", number, "--name", "Other", "--store", store, wanted=1)
+                expect(f"a number that is taken: {said}", "Choose another number" in said, True)
+        expect("the books", (books_in(it.path("main")), books_in(it.path("west"))), ({7}, {8}))
+        expect("no key is left", os.listdir(it.place("etc/pending")), [])
+        for word in ("Main", "removed", "a-b", "x" * 21):
+            it.admin("store", word, wanted=1)
+        expect("the stores", sorted(os.listdir(it.stores)), ["main", "west"])
+        it.admin("copy", "main"), it.admin("copy", "west")
+        expect("what is wrong", it.status()["wrong"], [])
+        expect("what commands left", it.leftovers(), [])
+
+
+def one_book_out_of_a_copy():
+    """It comes back as it was, in a new store; the others go on, and its rows in the old store answer no more."""
+    with Machine() as it:
+        callers = {number: it.book(number, pledges=2) for number in (7, 8)}
+        for _ in range(4):
+            callers[7].repay(), callers[8].repay()
+        old_key = callers[7].key
+        it.admin("copy", "main")
+        copy, before = it.newest("main"), callers[7].export()
+        it.admin("new-key", 7, "--key-to", it.place("new"))
+        with open(it.place("new")) as file:
+            callers[7].key = file.read().strip()
+        for _ in range(3):
+            callers[7].repay()
+        with load(callers[8]):
+            it.admin("restore-book", 7, copy, "west")
+            await_load(callers[8])
+        expect("book 7", callers[7].export(), before)
+        expect("its old key stays refused", callers[7].request("GET", "/export", key=old_key), REFUSED)
+        callers[7].acknowledged[1] = callers[7].sent[1] = 4
+        callers[7].repay(), callers[7].look_up(), callers[8].look_up()
+        notes = it.status()["notes"]
+        in_two = [line for line in notes if "book 7 is in two stores: west answers" in line]
+        expect(f"it is in two stores: {notes}", len(in_two), 1)
+        expect("the stores", (books_in(it.path("main")), books_in(it.path("west"))), ({7, 8}, {7}))
+        it.admin("restore-book", 7, copy, "west", wanted=1)
+        it.admin("restore-book", 9, copy, "north", wanted=1)
+        expect("no store for a book that is not there", os.path.exists(it.path("north")), False)
+        it.admin("remove-book", 7)
+        expect("book 7 when it was taken out", callers[7].request("GET", "/export"), REFUSED)
+        expect("nor does an older state of it answer", books_in(it.path("main")), {8})
+
+
+def a_broker_who_leaves():
+    """The last state is kept, as a text and as a store, the book answers no more, and the others go on."""
+    with Machine() as it:
+        callers = {number: it.book(number, pledges=2) for number in (7, 8)}
+        with load(callers[8]):
+            callers[7].repay(), await_load(callers[8])
+            before = callers[7].export()
+            it.admin("remove-book", 7)
+            await_load(callers[8])
+        callers[8].look_up()
+        expect("the book", callers[7].request("GET", "/export"), REFUSED)
+        folder = os.path.join(it.copies, "removed", os.listdir(os.path.join(it.copies, "removed"))[0])
+        with open(os.path.join(folder, "book.csv")) as file:
+            expect("its text", file.read(), before)
+        it.admin("restore-book", 7, folder, "west")
+        expect("the book when it is back", callers[7].export(), before)
+        it.admin("remove-book", 9, wanted=1)
+        expect("what commands left", it.leftovers(), [])
+
+
+def spellings(key):
+    """A key in each form that the program reads."""
+    plain = uuid.UUID(key).hex
+    for text in (key, plain, "{" + key + "}", "urn:uuid:" + key, "urn:UUID:" + key):
+        yield from (text, text.upper(), f"  {text}", f"\t{text}\t")
+
+
+def a_leaked_key():
+    """The old key is refused in each spelling, the new one is taken in each, and a second leak ends the first."""
+    with Machine() as it:
+        caller, other = it.book(7, pledges=1), it.book(8, pledges=1)
+        for spelling in spellings(caller.key):
+            expect(f"{spelling!r} before", caller.request("GET", "/pledges/1", key=spelling)[0], 200)
+        keys = [caller.key]
+        for turn in range(3):
+            with load(other):
+                await_load(other)
+                it.admin("new-key", 7, "--key-to", it.place(f"new-{turn}"))
+                await_load(other)
+            with open(it.place(f"new-{turn}")) as file:
+                keys.append(file.read().strip())
+            caller.key = keys[-1]
+            expect("a repayment with the new key", caller.repay(), True)
+            for key in keys[:-1]:
+                for spelling in spellings(key):
+                    expect(f"{spelling!r} when it leaked", caller.request("GET", "/pledges/1", key=spelling), REFUSED)
+            for spelling in spellings(keys[-1]):
+                expect(f"{spelling!r} now", caller.request("GET", "/pledges/1", key=spelling)[0], 200)
+        modes = {stat.S_IMODE(os.stat(it.place(name)).st_mode) for name in ("etc/keys.map", "new-0")}
+        expect("the modes", modes, {0o600})
+        it.admin("split", "main", "west", 7), it.admin("restore", "main", it.newest("main"))
+        caller.look_up(), other.look_up()
+        expect("after a split", caller.request("GET", "/pledges/1", key=keys[0]), REFUSED)
+        expect("at another book it is any key", Caller(it, 8, keys[0]).request("GET", "/pledges/1"), REFUSED)
+        expect("exchanged keys", it.status()["exchanged_keys"], 1)
+
+
+if __name__ == "__main__":
+    main_with(PACKAGES, a_store_and_books, one_book_out_of_a_copy, a_broker_who_leaves, a_leaked_key)

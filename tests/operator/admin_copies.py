@@ -1,0 +1,281 @@
+"""`pawnd-admin copy` and `restore`: copies of a store that is written all the time, copies that were looked into, old
+ones that are removed, and a restore onto an empty machine."""
+import contextlib
+import datetime
+import json
+import os
+import shutil
+import sqlite3
+import subprocess
+
+from tests.library.checks import Failed, expect
+from tests.library.filled_stores import fill_store
+from tests.library.keys import BROKER
+from tests.library.operator.admin_machine import PACKAGES, Caller, Machine, await_load, load
+from tests.library.operator.admin_places import rows_of
+from tests.library.packages import main_with
+from tests.library.paths import PROGRAM
+
+TIME = "%Y%m%dT%H%M%SZ"
+
+
+def copies(machine, name="main"):
+    return sorted(it for it in os.listdir(os.path.join(machine.copies, name)) if it[0] == "2")
+
+
+def note_of(copy):
+    with open(os.path.join(copy, "copy.json")) as file:
+        return json.load(file)
+
+
+def copies_under_load():
+    """Each copy holds what was acknowledged before it was begun, nothing that was not sent before it ended, and no
+    request is held up or refused."""
+    with Machine() as it:
+        callers = [it.book(number, pledges=2) for number in (7, 8)]
+        with load(*callers):
+            for _ in range(5):
+                await_load(*callers, more=10)
+                before = {caller.book: sum(caller.acknowledged.values()) for caller in callers}
+                it.admin("copy", "main")
+                after = {caller.book: sum(caller.sent.values()) for caller in callers}
+                found = {book: rows - 2 for book, rows in rows_of(os.path.join(it.newest("main"), "books.db")).items()}
+                expect(f"{before} {found} {after}",
+                       all(before[book] <= found[book] <= after[book] for book in found), True)
+        for caller in callers:
+            caller.look_up()
+        expect("what commands left", it.leftovers(), [])
+
+
+def a_large_store_that_is_written_without_a_pause():
+    """The log is begun anew many times while the database is copied. The copy is of one moment all the same, or the
+    command says that there is none."""
+    with Machine(COPY_PATIENCE="60") as it:
+        caller = it.book(5000, pledges=1)
+        it.systemctl("stop", "pawnd@main")
+        os.unlink(it.path("main"))
+        fill_store(it.path("main"), 100, 150, entries=3, bookings=True)
+        it.systemctl("start", "pawnd@main")
+        caller = Caller(it, 1, BROKER)
+        caller.acknowledged, caller.sent = {1: 3}, {1: 3}
+        others = [Caller(it, book, BROKER) for book in range(2, 6)]
+        for other in others:
+            other.acknowledged, other.sent = {1: 3, 2: 3}, {1: 3, 2: 3}
+        with load(caller, *others):
+            for _ in range(3):
+                await_load(caller, more=20)
+                before = caller.acknowledged[1]
+                it.admin("copy", "main")
+                found = rows_of(os.path.join(it.newest("main"), "books.db"))[1] - 150 * 4
+                expect(f"{before} {found + 3} {caller.sent[1]}", before <= found + 3 <= caller.sent[1], True)
+
+
+def a_log_that_is_begun_anew():
+    """Between the copy of the database and that of the log: the first attempt is of two moments, so that there is a
+    second one. Without the look at the log there would be no right copy."""
+    with Machine() as it:
+        callers = [it.book(number, pledges=2) for number in (7, 8, 9)]
+        with load(*callers):
+            for plant in ("the_log_is_begun_anew", "nobody_looks_at_the_log"):
+                await_load(*callers)
+                before = {caller.book: sum(caller.acknowledged.values()) for caller in callers}
+                said, is_right = "", False
+                with contextlib.suppress(Failed):
+                    said = it.admin_with("copy", "main", PLANT=plant)
+                    found = rows_of(os.path.join(it.newest("main"), "books.db"))
+                    after = {caller.book: sum(caller.sent.values()) for caller in callers}
+                    is_right = all(before[book] <= found.get(book, 0) - 2 <= after[book] for book in before)
+                expect(f"a right copy, {plant}: {said}", is_right, plant == "the_log_is_begun_anew")
+                if said:
+                    expect(f"a second attempt: {said}", "attempts: 1\n" in said, plant != "the_log_is_begun_anew")
+
+
+def a_copy_without_its_log_is_noticed():
+    """The next copy that lacks what the one before had is kept beside it, and the operator is told."""
+    with Machine() as it:
+        caller = it.book(7, pledges=3)
+        it.admin("copy", "main")
+        for _ in range(5):
+            caller.repay()
+        said = it.admin_with("copy", "main", PLANT="the_log_is_not_copied")
+        expect(f"a copy without its log: {said}", "a log may have been lost" in said, True)
+
+
+def a_copy_may_be_looked_into():
+    """SQLite and the program bring the log of a copy into its database. It is the same copy then, and is put back; one
+    of whose rows one was changed is not."""
+    with Machine() as it:
+        caller = it.book(7, pledges=2)
+        caller.repay()
+        it.admin("copy", "main")
+        copy, before = it.newest("main"), caller.export()
+        path = os.path.join(copy, "books.db")
+        subprocess.run(["sqlite3", path, "SELECT count(*) FROM pledges"], check=True, capture_output=True)
+        caller.repay()
+        it.admin("restore", "main", copy)
+        expect("after sqlite3", caller.export(), before)
+        subprocess.run([PROGRAM, "check", path], check=True, capture_output=True)
+        it.admin("restore", "main", copy)
+        expect("after pawnd check", caller.export(), before)
+        tables = sqlite3.connect(path, isolation_level=None)
+        tables.execute("UPDATE pledges SET article = 'Brass ring' WHERE number = 2")
+        tables.close()
+        said = it.admin("restore", "main", copy, wanted=1)
+        expect(f"one that was changed: {said}", "books 7 are not what they were" in said, True)
+        expect("the store after that", caller.export(), before)
+        os.unlink(os.path.join(copy, "copy.json"))
+        it.admin("restore", "main", copy, wanted=1)
+        expect("without its note it is no copy", caller.export(), before)
+
+
+def without_its_log_a_copy_is_refused():
+    """The program finds the database alone sound, but it lacks what was done last."""
+    with Machine() as it:
+        caller = it.book(7, pledges=2)
+        it.admin("copy", "main")
+        copy = it.newest("main")
+        os.unlink(os.path.join(copy, "books.db-wal"))
+        said = it.admin("restore", "main", copy, wanted=1)
+        expect(f"what is said: {said}", "pawnd-admin restore:" in said, True)
+        caller.look_up()
+
+
+def what_stood_there_becomes_a_copy():
+    """The wrong copy was put back: what the store had is found among its copies, also where it was damaged."""
+    with Machine() as it:
+        caller = it.book(7, pledges=2)
+        it.admin("copy", "main")
+        early = it.newest("main")
+        for _ in range(3):
+            caller.repay()
+        before = caller.export()
+        it.admin("restore", "main", "newest")
+        expect("an older state", caller.entries(), 0)
+        replaced = [name for name in copies(it) if rows_of(it.place("backups/main", name, "books.db")) == {7: 5}]
+        it.admin("restore", "main", replaced[0])
+        expect("what it was before", caller.export(), before)
+        it.systemctl("stop", "pawnd@main")
+        with open(it.path("main"), "r+b") as file:
+            file.seek(0)
+            file.write(b"x" * 5000)
+        said = it.admin("restore", "main", os.path.basename(early))
+        unsound = [name for name in os.listdir(it.place("backups/main")) if name.startswith("unsound-")]
+        expect(f"a damaged store is kept as it was: {said}", len(unsound), 1)
+        with open(it.place("backups/main", unsound[0], "books.db"), "rb") as file:
+            expect("its bytes", file.read(9), b"x" * 9)
+        expect("status names it", "unsound-" in str(it.status()["notes"]), True)
+        expect("what commands left", it.leftovers(), [])
+
+
+def a_database_that_is_lost():
+    """Its log alone is left. A copy is put back, and the log is kept beside the copies. Also what was kept may be lost:
+    a command was killed while it removed it."""
+    with Machine() as it:
+        caller = it.book(7, pledges=1)
+        it.admin("copy", "main")
+        it.systemctl("stop", "pawnd@main")
+        os.unlink(it.path("main"))
+        expect("what is left", os.listdir(it.place("lib/main")), ["books.db-wal"])
+        it.admin("restore", "main", "newest")
+        caller.look_up()
+        os.mkdir(it.place("lib/.main-before-20260101T000000Z"))
+        it.write("lib/.main-before-20260101T000000Z.json", '{"why": "restore", "command": "restore main newest"}')
+        it.admin("copy", "main")
+        expect("what commands left", it.leftovers(), [])
+        expect("the copies", all(os.path.exists(os.path.join(it.copies, "main", name, "books.db"))
+                                 for name in copies(it)), True)
+
+
+def redate(machine, old, new, name="main"):
+    """A copy gets another time, as if it had been made then."""
+    folder = os.path.join(machine.copies, name)
+    os.rename(os.path.join(folder, old), os.path.join(folder, new))
+    note = note_of(os.path.join(folder, new))
+    with open(os.path.join(folder, new, "copy.json"), "w") as file:
+        json.dump({**note, "made": new}, file)
+
+
+def days_ago(days):
+    return (datetime.datetime.now(datetime.timezone.utc) - datetime.timedelta(days=days)).strftime(TIME)
+
+
+def old_copies_are_removed():
+    """As many stay as pawnd.conf says. One that is dated in the future is none of them, and never the newest. The last
+    one that has a book stays, however old."""
+    with Machine() as it:
+        it.write("etc/pawnd.conf", "# how many copies stay\nKEEP=3\n")
+        caller = it.book(7, pledges=1)
+        it.book(8, pledges=1)
+        for days in (9, 8, 7):
+            it.admin("copy", "main")
+            redate(it, copies(it)[-1], days_ago(days))
+        it.systemctl("stop", "pawnd@main")
+        for end in ("", "-wal"):
+            os.rename(it.path("main") + end, it.place("lost" + end))
+        shutil.rmtree(it.place("lib/main"))
+        it.admin("store", "main")
+        again = it.book(7, key=caller.key, pledges=1)
+        for days in (6, 5, 4, 3, 2):
+            it.admin("copy", "main")
+            redate(it, copies(it)[-1], days_ago(days))
+        expect("the last copies, and the last that has book 8", copies(it),
+               sorted([*(name for name in copies(it) if name >= days_ago(4.5)), copies(it)[0]]))
+        expect("how many", len(copies(it)), 4)
+        expect("the last that has book 8", set(rows_of(it.place("backups/main", copies(it)[0], "books.db"))), {7, 8})
+        ahead = days_ago(-3000)
+        it.admin("copy", "main")
+        redate(it, copies(it)[-1], ahead)
+        for _ in range(4):
+            again.repay(), it.admin("copy", "main")
+        expect("one from the future is none of the three", (len(copies(it)), ahead in copies(it)), (5, True))
+        expect("nor the newest", it.status()["stores"][0]["copy"]["name"] < ahead, True)
+        expect("and status says so", "dated in the future" in str(it.status()["wrong"]), True)
+        it.admin("restore", "main", "newest")
+        again.look_up()
+        it.write("etc/pawnd.conf", "KEEP=none\n")
+        expect("KEEP has to be a number", "KEEP=none" in it.admin("copy", "main", wanted=1), True)
+
+
+def onto_an_empty_machine():
+    """From the copies and the settings alone: each change that was acknowledged before the copies is there."""
+    with Machine() as old, Machine(empty=True) as new:
+        callers = [old.book(7, pledges=2), old.book(8, pledges=2)]
+        with load(*callers):
+            await_load(*callers)
+            old.admin("split", "main", "west", 8)
+            await_load(*callers)
+            leaked = callers[1].key
+        old.admin("new-key", 8, "--key-to", old.place("new"))
+        with open(old.place("new")) as file:
+            callers[1].key = file.read().strip()
+        for name in ("main", "west"):
+            old.admin("copy", name)
+        old.end()
+        for name in ("books.map", "keys.map", "operator.key"):
+            shutil.copy(os.path.join(old.settings, name), new.settings)
+        for name in ("main", "west"):
+            shutil.copytree(old.newest(name), new.place("carried", name))
+            new.admin("restore", name, new.place("carried", name))
+        new.start_nginx()
+        for caller in callers:
+            caller.machine = new
+            caller.look_up()
+            expect("a change", caller.repay(), True)
+        expect("the leaked key", callers[1].request("GET", "/pledges/1", key=leaked)[0], 404)
+        expect("what is wrong", new.status()["wrong"], [])
+
+
+if __name__ == "__main__":
+    main_with(
+        PACKAGES,
+        copies_under_load,
+        a_large_store_that_is_written_without_a_pause,
+        a_log_that_is_begun_anew,
+        a_copy_without_its_log_is_noticed,
+        a_copy_may_be_looked_into,
+        without_its_log_a_copy_is_refused,
+        what_stood_there_becomes_a_copy,
+        a_database_that_is_lost,
+        old_copies_are_removed,
+        onto_an_empty_machine,
+    )

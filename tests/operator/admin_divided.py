@@ -1,0 +1,190 @@
+"""`pawnd-admin split` while brokers work: every change that was acknowledged is looked up afterwards, faults are
+planted, and disks are full."""
+import os
+import random
+
+from tests.library.checks import expect, not_tried
+from tests.library.operator.admin_machine import PACKAGES, Machine, await_load, load
+from tests.library.operator.admin_places import books_in, expect_no_fewer_places, places_of
+from tests.library.packages import main_with
+
+
+def expect_all_is_well(machine):
+    expect("what is wrong", machine.status()["wrong"], [])
+    expect("what commands left", machine.leftovers(), [])
+
+
+def a_store_is_divided_under_load():
+    """Both parts answer afterwards, nothing that was acknowledged is missing, and no book was in fewer places at any
+    time. Then the store is divided again."""
+    with Machine() as it:
+        callers = {number: it.book(number, pledges=2) for number in (7, 8, 9, 10)}
+        with load(*callers.values()):
+            await_load(*callers.values())
+            before = places_of(it)
+            it.admin("split", "main", "west", 8, 10)
+            await_load(*callers.values())
+        expect_no_fewer_places(before, places_of(it), callers)
+        expect("the books", (books_in(it.path("main")), books_in(it.path("west"))), ({7, 9}, {8, 10}))
+        for caller in callers.values():
+            caller.look_up()
+        with load(*callers.values()):
+            it.admin("split", "west", "north", 10)
+            await_load(*callers.values())
+        for caller in callers.values():
+            caller.look_up()
+        expect("the map", sorted(it.lines().items()), [(8, "west"), (10, "north")])
+        for words in (("main", "east", 8), ("main", "west", 7), ("main", "main", 7), ("main", "east", 77)):
+            it.admin("split", *words, wanted=1)
+        expect("no store for a split that is refused", sorted(it.lines().values()), ["north", "west"])
+        expect_all_is_well(it)
+
+
+def parts_that_are_not_the_whole_are_refused():
+    """Faults that are planted in the division of a store: the old store is served again as it was."""
+    with Machine() as it:
+        callers = {number: it.book(number, pledges=2) for number in (7, 8)}
+        for caller in callers.values():
+            for _ in range(3):
+                caller.repay(2)
+        before = {number: caller.export() for number, caller in callers.items()}
+        for plant in ("an_entry_is_lost", "an_article_is_changed", "a_book_stays_behind"):
+            for words in (("split", "main", "west", 8), ("remove-book", 8)):
+                said = it.admin_with(*words, PLANT=plant, wanted=1)
+                expect(f"{plant}: {said}", "not what they were" in said, True)
+                expect(f"the books after {words}", books_in(it.path("main")), {7, 8})
+                for number, caller in callers.items():
+                    expect(f"book {number} after {words}", caller.export(), before[number])
+        expect("the map", it.lines(), {})
+        it.admin("copy", "main")
+        expect_all_is_well(it)
+
+
+def a_part_without_a_copy_keeps_the_original():
+    """The copies of both parts fail on a full disk. Both are served, the original stays, and goes when both have a
+    copy."""
+    with Machine() as it:
+        callers = {number: it.book(number, pledges=1) for number in (7, 8)}
+        said = it.admin_with("split", "main", "west", 8, PLANT="no_copy_can_be_made", wanted=1)
+        expect(f"what is said: {said}", "`pawnd-admin copy west`" in said, True)
+        for caller in callers.values():
+            caller.repay(), caller.look_up()
+        kept = [name for name in os.listdir(it.stores) if "-before-" in name and "." not in name[1:]]
+        expect("what is kept", [books_in(os.path.join(it.stores, name, "books.db")) for name in kept], [{7, 8}])
+        it.admin("copy", "west")
+        expect("one part has no copy", "stays until books 7" in str(it.status()["notes"]), True)
+        expect("what is kept", os.path.isdir(os.path.join(it.stores, kept[0])), True)
+        said = it.admin("copy", "main")
+        expect(f"it is gone: {said}", (os.path.exists(os.path.join(it.stores, kept[0])), "is gone" in said), (False, True))
+        expect_all_is_well(it)
+
+
+def a_division_that_stops_after_the_map_was_turned():
+    """Its message says that the same command ends it; the old store serves the other books meanwhile."""
+    with Machine() as it:
+        callers = {number: it.book(number, pledges=1) for number in (7, 8)}
+        it.admin("copy", "main")
+        for words in (("split", "main", "west", "8"), ("restore-book", "8", "newest", "east")):
+            said = it.admin_with(*words, PLANT="the_new_store_does_not_start", wanted=1)
+            expect(f"what is said: {said}", f"run it again, `pawnd-admin {' '.join(words)}`" in said, True)
+            callers[7].repay(), callers[7].look_up()
+            it.admin(*words)
+            it.admin("copy", "main"), it.admin("copy", "west")
+        expect_all_is_well(it)
+
+
+def nobody_opens_a_store_that_is_divided():
+    """Another machine that shares its folder, or an operator by hand: what they acknowledged would be lost."""
+    with Machine() as it:
+        callers = [it.book(number, pledges=1) for number in (7, 8)]
+        said = it.admin_with("split", "main", "west", 8, PLANT="another_program_opens_the_store")
+        expect(f"another program: {said}", "fault 503 Store" in said, True)
+        for caller in callers:
+            caller.repay(), caller.look_up()
+
+
+def a_full_disk():
+    """It is named, with what is missing, and nothing has changed."""
+    if os.geteuid():
+        not_tried("a full disk", "this is not root")
+        return
+    with Machine(small="32m") as it:
+        caller = it.book(7, pledges=2)
+        it.admin("copy", "main")
+        both = ("split", "main", "west", 7), ("remove-book", 7)
+        others = ("restore", "main", "newest"), ("restore-book", 7, "newest", "west"), ("store", "west")
+        for folder, commands in ((it.copies, (("copy", "main"), *both)), (it.stores, (*both, *others))):
+            with it.filled(folder):
+                for words in commands:
+                    said = it.admin(*words, wanted=1)
+                    expect(f"{words}: {said}", f"the disk of {folder}" in said and "are missing" in said, True)
+                    caller.look_up()
+        expect("the books", (books_in(it.path("main")), it.lines()), ({7}, {}))
+        it.admin("split", "main", "west", 7), caller.look_up()
+
+
+def a_store_on_a_disk_of_its_own():
+    """Its folder cannot be exchanged, so its files are, one by one. A command that is killed meanwhile leaves the old
+    state, the new one, or no store, and the command that is run again ends it."""
+    if os.geteuid():
+        not_tried("a store on a disk of its own", "this is not root")
+        return
+    with Machine() as it, it.own_disk("main"):
+        callers = {number: it.book(number, pledges=1) for number in (7, 8)}
+        it.admin("copy", "main")
+        copy = it.newest("main")
+        callers[7].repay()
+        it.admin_with("restore", "main", copy, KILL_AT="0", STEPS=it.place("steps"))
+        steps = len(it.steps())
+        expect("the restored state", callers[7].entries(), 0)
+        for step in random.Random(1).sample(range(steps // 3, steps), 4):
+            callers[7].acknowledged[1] = 0
+            callers[7].repay()
+            it.admin_with("restore", "main", copy, KILL_AT=str(step), wanted=-9)
+            it.systemctl("unmask", "pawnd@main")
+            if os.path.exists(it.path("main")):
+                it.systemctl("start", "pawnd@main")
+                it.await_store("main")
+                expect(f"one of two states after step {step}", callers[7].entries() in (0, 1), True)
+            it.admin("restore", "main", copy)
+            expect(f"the restored state after step {step}", callers[7].entries(), 0)
+            expect(f"what commands left after step {step}", it.leftovers(), [])
+            expect(f"the files after step {step}", sorted(os.listdir(it.place("lib/main")))[0], "books.db")
+        callers[7].acknowledged[1] = callers[7].sent[1] = 0
+        it.admin("split", "main", "west", 8)
+        callers[7].repay(), callers[7].look_up(), callers[8].look_up()
+        expect_all_is_well(it)
+
+
+def a_full_disk_of_a_store():
+    """A store's own disk is named when it is full, by the commands and by the state, and nothing has changed."""
+    if os.geteuid():
+        not_tried("a store on a full disk of its own", "this is not root")
+        return
+    with Machine() as it, it.own_disk("main"):
+        callers = [it.book(number, pledges=1) for number in (7, 8)]
+        it.admin("copy", "main")
+        folder = os.path.join(it.stores, "main")
+        with it.filled(folder):
+            for words in (("split", "main", "west", 8), ("remove-book", 8), ("restore", "main", "newest")):
+                said = it.admin(*words, wanted=1)
+                expect(f"{words}: {said}", f"the disk of {folder} is full" in said and "are missing" in said, True)
+                for caller in callers:
+                    caller.look_up()
+            wrong = it.status()["wrong"]
+            expect(f"what is wrong: {wrong}", [f"the disk of {folder} is nearly full" in line for line in wrong], [True])
+        expect("the books", (books_in(it.path("main")), it.lines()), ({7, 8}, {}))
+
+
+if __name__ == "__main__":
+    main_with(
+        PACKAGES,
+        a_store_is_divided_under_load,
+        parts_that_are_not_the_whole_are_refused,
+        a_part_without_a_copy_keeps_the_original,
+        a_division_that_stops_after_the_map_was_turned,
+        nobody_opens_a_store_that_is_divided,
+        a_full_disk,
+        a_store_on_a_disk_of_its_own,
+        a_full_disk_of_a_store,
+    )

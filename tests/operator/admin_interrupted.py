@@ -1,0 +1,84 @@
+"""Verbs of `pawnd-admin` that are ended by Ctrl-C in their middle, and run again. Ctrl-C reaches the verb and the program
+that it runs at that moment."""
+import os
+import signal
+import subprocess
+
+from tests.library.checks import expect
+from tests.library.operator.admin_machine import ADMIN, PACKAGES, Machine
+from tests.library.operator.admin_places import books_in
+from tests.library.packages import main_with
+from tests.library.paths import PROGRAM
+
+# In the place of the program: at its check of this number the keys are pressed.
+PRESSED = """#!/bin/sh
+if [ "$1" = check ]; then
+    echo >>{count}
+    [ $(wc -l <{count}) != {at} ] || {{ kill -INT 0; sleep 20; }}
+fi
+exec {program} "$@"
+"""
+
+
+def interrupted(it, at, *words):
+    """What a verb says that is interrupted at a check of the program."""
+    count = it.place("checks")
+    if os.path.exists(count):
+        os.unlink(count)
+    it.write("pressed", PRESSED.format(count=count, at=at, program=PROGRAM), 0o755)
+    ran = subprocess.run(
+        [ADMIN, *map(str, words)], env={**it.environment, "PAWND": it.place("pressed")}, capture_output=True, text=True,
+        timeout=300, stdin=subprocess.DEVNULL, start_new_session=True,
+        preexec_fn=lambda: signal.signal(signal.SIGINT, signal.SIG_DFL),
+    )
+    said = ran.stdout + ran.stderr
+    expect(f"how {words} ends that is interrupted at check {at}: {said}", (ran.returncode, "told to end" in said), (1, True))
+    return said
+
+
+def a_restore():
+    """Whatever the store had becomes a copy, also if the verb is interrupted while it makes that copy."""
+    with Machine() as it:
+        caller = it.book(7, pledges=1)
+        it.admin("copy", "main")
+        copy = os.path.basename(it.newest("main"))
+        for at in (1, 2, 3):
+            caller.acknowledged[1] = caller.sent[1] = caller.entries()
+            caller.repay()
+            rows = caller.entries()
+            interrupted(it, at, "restore", "main", copy)
+            expect(f"it is served, as before or as in the copy, after check {at}", caller.entries() in (rows, 0), True)
+            it.admin("restore", "main", copy)
+            expect(f"the restored state after check {at}", caller.entries(), 0)
+            names = os.listdir(os.path.join(it.copies, "main"))
+            expect("what is kept as unsound", [name for name in names if "unsound" in name], [])
+        expect("what commands left", it.leftovers(), [])
+
+
+def a_removal():
+    with Machine() as it:
+        callers = {number: it.book(number, pledges=1) for number in (7, 9)}
+        interrupted(it, 3, "remove-book", 9)
+        for caller in callers.values():
+            caller.repay(), caller.look_up()
+        it.admin("remove-book", 9)
+        callers[7].look_up()
+        expect("the books", books_in(it.path("main")), {7})
+        expect("what commands left", it.leftovers(), [])
+
+
+def a_split_in_its_copies():
+    """Both stores are served by then. What is said does not have the store stopped once more."""
+    with Machine() as it:
+        callers = {number: it.book(number, pledges=1) for number in (7, 8)}
+        said = interrupted(it, 4, "split", "main", "west", 8)
+        expect(f"what is to be done: {said}", "`pawnd-admin copy west` and `pawnd-admin copy main`" in said, True)
+        for caller in callers.values():
+            caller.repay(), caller.look_up()
+        it.admin("copy", "west"), it.admin("copy", "main")
+        expect("the books", (books_in(it.path("main")), books_in(it.path("west"))), ({7}, {8}))
+        expect("what commands left", it.leftovers(), [])
+
+
+if __name__ == "__main__":
+    main_with(PACKAGES, a_restore, a_removal, a_split_in_its_copies)

@@ -1,0 +1,39 @@
+"""`store`, `book`, `copy` and `new-key` of `pawnd-admin`, killed at some of their steps and run again:
+admin_killing.py says how."""
+from tests.library.checks import expect
+from tests.library.operator.admin_killing import ALL, expect_well, killed
+from tests.library.operator.admin_machine import PACKAGES
+from tests.library.packages import main_with
+from tests.library.program import free_port
+
+
+def killed_store():
+    words = ["store", "north", "--port", str(free_port())]
+    killed(words, lambda story: expect_well(story, *ALL, ["north: has no copy"]))
+
+
+def killed_book():
+    def after(story):
+        expect_well(story, ALL[0], {10, 11})
+
+    killed(["book", "11", "--name", "New Street", "--store", "west"], after)
+
+
+def killed_copy():
+    killed(["copy", "main"], lambda story: expect_well(story, *ALL))
+
+
+def killed_new_key():
+    def after(story):
+        expect_well(story, *ALL)
+        caller, leaked = story.callers[8], story.keys[8]
+        expect("the leaked key", caller.request("GET", "/pledges/1", key=leaked)[0], 404)
+        with open(story.machine.place("new-key")) as file:
+            caller.key = file.read().strip()
+        caller.look_up()
+
+    killed(["new-key", "8", "--key-to", "NEW"], after, goes_back={8})
+
+
+if __name__ == "__main__":
+    main_with(PACKAGES, killed_store, killed_book, killed_copy, killed_new_key)

@@ -1,0 +1,259 @@
+"""`pawnd-admin status`: each thing that keeps a broker from working is WRONG, whatever else is wrong; and what it reads
+of a served store is what SQLite reads of a copy."""
+import json
+import os
+import shutil
+import sqlite3
+import sys
+import time
+
+from tests.library.checks import expect, not_tried
+from tests.library.filled_stores import fill_store
+from tests.library.operator.admin_machine import PACKAGES, Machine, await_load, load
+from tests.library.packages import main_with
+from tests.library.paths import TOP
+from tests.library.tables import opened
+
+
+def expect_wrong(machine, *wanted):
+    """Each of these texts is in a complaint of its own, and nothing else is complained of."""
+    wrong = machine.status()["wrong"]
+    for text in wanted:
+        expect(f"{text!r} in {wrong}", sum(text in line for line in wrong), 1)
+    expect(f"what else is wrong: {wrong}", len(wrong), len(wanted))
+
+
+def tables_of_a_served_store():
+    """Read page by page, while it is written, and compared with what SQLite finds in the same file when it stands
+    still."""
+    sys.path.insert(0, os.path.join(TOP, "deploy/admin"))
+    import reading
+
+    with Machine() as it:
+        callers = [it.book(number, pledges=2) for number in range(1, 6)]
+        with load(*callers):
+            for _ in range(10):
+                await_load(*callers)
+                least = sum(sum(caller.acknowledged.values()) for caller in callers)
+                found = reading.contents_of(it.path("main"))
+                most = sum(sum(caller.sent.values()) for caller in callers)
+                entries = found.meta["rows"] - 5 - 5 - 20
+                expect(f"{least} {entries} {most}", least <= entries <= most, True)
+                expect("the books", sorted(found.books), [1, 2, 3, 4, 5])
+        it.systemctl("stop", "pawnd@main")
+        for path in (it.path("main"), large_store(it.place("large"))):
+            found = reading.contents_of(path)
+            with opened(path) as tables:
+                books = {
+                    book: {"key": key, "name": name, "capacity": capacity, "pledges": pledges}
+                    for book, key, name, capacity, pledges in tables.execute(
+                        "SELECT book, book_key, title, capacity, pledges FROM books"
+                    )
+                }
+                expect(f"the books of {path}", found.books == books, True)
+                expect("its numbers", found.meta, dict(tables.execute("SELECT name, value FROM meta")))
+
+
+def large_store(path):
+    """Many books, so that their table has pages above its rows."""
+    fill_store(path, 3000, 1)
+    return path
+
+
+def stores_that_are_away_or_damaged():
+    """One bad store hides no other."""
+    with Machine() as it:
+        for name in ("west", "north", "east"):
+            it.store(name)
+        callers = {"main": it.book(7, pledges=1), "west": it.book(8, "west", pledges=1), "north": it.book(9, "north"),
+                   "east": it.book(10, "east")}
+        for name in callers:
+            it.admin("copy", name)
+        expect_wrong(it)
+        it.systemctl("stop", "pawnd@west"), it.systemctl("stop", "pawnd@north"), it.systemctl("stop", "pawnd@east")
+        with open(it.path("north"), "r+b") as file:
+            file.write(b"x" * 4096)
+        shutil.rmtree(it.place("lib/east"))
+        told = it.status()
+        expect("which answer", {state["store"]: state["answers"] for state in told["stores"]},
+               {"main": True, "west": False, "north": False, "east": False})
+        wrong = told["wrong"]
+        for text in ("store west: does not answer on", "store west: does not answer through the proxy: 502",
+                     "tables of " + it.path("north"), "store east: its file"):
+            expect(f"{text!r} in {wrong}", any(text in line for line in wrong), True)
+        expect("of main nothing is wrong", [line for line in wrong if "store main" in line], [])
+        it.write("etc/stores/west.conf", "PORT=none\n")
+        expect("a file of a store that is no good", "neither a line PORT" in str(it.status()["wrong"]), True)
+        it.write("etc/books.map", "8 west;\nnonsense\n")
+        expect("a line that is none", "books.map, line 2" in str(it.status()["wrong"]), True)
+        expect("how long it takes", timed(it.status) < 15, True)
+
+
+def timed(do):
+    begun = time.monotonic()
+    do()
+    return time.monotonic() - begun
+
+
+def the_proxy_and_its_files():
+    with Machine() as it:
+        it.book(7)
+        it.admin("copy", "main")
+        it.write("etc/books.map", "# changed by hand\n")
+        expect_wrong(it, "nginx has not taken up " + it.place("etc/books.map"))
+        it.admin("reload")
+        expect_wrong(it)
+        it.make_certificate(days=5)
+        it.admin("reload")
+        expect_wrong(it, "the certificate is good for 4 days")
+        it.stop_nginx()
+        expect_wrong(it, "nginx does not run", "store main: does not answer through the proxy")
+
+
+def books_and_lines():
+    """Books without a line, lines without a book, a book that is in two stores, and what was not ended."""
+    with Machine() as it:
+        it.store("west")
+        it.book(7), it.book(8, "west")
+        it.admin("copy", "main"), it.admin("copy", "west")
+        it.write("etc/books.map", "")
+        it.admin("reload")
+        expect_wrong(it, "book 8 is in the store west and has no line")
+        it.write("etc/books.map", "8 west;\n7 west;\n9 south;\n")
+        it.admin("reload")
+        expect_wrong(it, "book 7 has a line for the store west, and is not there: main has rows of it",
+                     "book 9 has a line for the store south, and there is no such store")
+        it.write("etc/books.map", "8 west;\n")
+        it.admin("reload")
+        it.admin_with("split", "main", "north", 7, KILL_AT="60", wanted=-9)
+        expect("a command that was killed", any("did not end" in line for line in it.status()["wrong"]), True)
+        it.admin("split", "main", "north", 7)
+        expect_wrong(it)
+        it.admin("restore-book", 7, "newest", "south")
+        notes = it.status()["notes"]
+        in_two = [line for line in notes if "book 7 is in two stores: south answers" in line]
+        expect(f"a book in two stores: {notes}", len(in_two), 1)
+        expect_wrong(it)
+
+
+def copies_and_disks():
+    """No copy, an old one, one from the future, one that holds more than the store; none off the machine; a full
+    disk."""
+    if os.geteuid():
+        not_tried("copies and disks", "this is not root")
+        return
+    with Machine(small="48m") as it:
+        caller = it.book(7, pledges=1)
+        expect_wrong(it, "store main: has no copy")
+        it.admin("copy", "main")
+        expect_wrong(it)
+        copy = it.newest("main")
+        redate(copy, "20200101T000000Z")
+        expect_wrong(it, "store main: has no copy of the last 26 hours")
+        redate(os.path.join(it.copies, "main", "20200101T000000Z"), "20990101T000000Z")
+        expect_wrong(it, "dated in the future", "store main: has no copy:")
+        shutil.rmtree(os.path.join(it.copies, "main", "20990101T000000Z"))
+        it.admin("copy", "main")
+        it.write("units/enabled-pawnd-offsite@main.timer", "")
+        expect_wrong(it, "no copy was sent off this machine yet")
+        it.write("offsite/main", "20261129T071500Z\n")
+        expect_wrong(it)
+        os.utime(it.place("offsite/main"), (1, 1))
+        expect_wrong(it, "no copy was sent off this machine for")
+        it.write("offsite/main", "20261129T071500Z\n")
+        with it.filled(it.copies):
+            expect_wrong(it, f"the disk of {it.copies} is nearly full")
+        caller.repay(), it.admin("copy", "main")
+        it.systemctl("stop", "pawnd@main")
+        tables = sqlite3.connect(it.path("main"), isolation_level=None)
+        tables.execute("DELETE FROM entries")
+        tables.execute("UPDATE totals SET principal = 1000000")
+        tables.execute("UPDATE meta SET value = value - 1 WHERE name = 'rows'")
+        tables.close()
+        it.systemctl("start", "pawnd@main")
+        it.await_store("main")
+        expect_wrong(it, "store main: holds less than its newest copy")
+
+
+def less_than_the_copy_by_a_command():
+    """What a split took out of a store is not missed, also before the store has its copy."""
+    with Machine() as it:
+        it.book(7, pledges=1), it.book(8, pledges=1)
+        it.admin("copy", "main")
+        it.admin_with("split", "main", "west", 8, PLANT="no_copy_can_be_made", wanted=1)
+        wrong = it.status()["wrong"]
+        expect(f"what is wrong: {wrong}", [line for line in wrong if "holds less" in line], [])
+
+
+def a_store_that_is_not_sent():
+    """If the copies of one store go off the machine, those of a new store have to do so, too."""
+    with Machine() as it:
+        it.store("west")
+        it.admin("copy", "main"), it.admin("copy", "west")
+        expect_wrong(it)
+        it.write("units/enabled-pawnd-offsite@main.timer", "")
+        it.write("offsite/main", "20261129T071500Z\n")
+        expect_wrong(it, "store west: is not sent off this machine, as others are")
+        it.write("units/enabled-pawnd-offsite@west.timer", "")
+        it.write("offsite/west", "20261129T071500Z\n")
+        expect_wrong(it)
+        with open(it.place("etc/stores/west.conf")) as file:
+            port = file.read().partition("PORT=")[2].strip()
+        it.write("etc/stores/west.conf", f"ADDRESS=127.0.0.1:{port}\n")
+        expect_wrong(it, "still sends its old copies")
+
+
+def redate(copy, name):
+    with open(os.path.join(copy, "copy.json")) as file:
+        note = json.load(file)
+    with open(os.path.join(copy, "copy.json"), "w") as file:
+        json.dump({**note, "made": name}, file)
+    os.rename(copy, os.path.join(os.path.dirname(copy), name))
+
+
+def services_that_do_not_start_at_boot():
+    with Machine() as it:
+        it.book(7)
+        it.admin("copy", "main")
+        os.unlink(it.place("units/enabled-pawnd@main.service"))
+        os.unlink(it.place("units/enabled-pawnd-copy@main.timer"))
+        expect_wrong(it, "its service is not enabled", "no copies are made of it")
+
+
+def a_rule_that_is_gone():
+    """What keeps the store's user to its port is looked at, for each store that is served; a reload sets it again."""
+    with Machine() as it:
+        it.book(7)
+        it.admin("copy", "main")
+        expect_wrong(it)
+        os.unlink(it.place("units/rule-pawnd-main"))
+        expect_wrong(it, "store main: its rule in nftables is gone")
+        it.systemctl("reload", "pawnd@main")
+        expect_wrong(it)
+
+
+def it_copies_nothing():
+    """No file is made, and no lock is waited for."""
+    with Machine() as it:
+        it.book(7)
+        it.admin("copy", "main")
+        tops = [it.stores, it.copies, it.settings]
+        before = [sorted(os.walk(top)) for top in tops]
+        it.status()
+        expect("the files", [sorted(os.walk(top)) for top in tops], before)
+
+
+if __name__ == "__main__":
+    main_with(
+        PACKAGES,
+        tables_of_a_served_store,
+        stores_that_are_away_or_damaged,
+        the_proxy_and_its_files,
+        books_and_lines,
+        copies_and_disks,
+        less_than_the_copy_by_a_command,
+        a_store_that_is_not_sent,
+        services_that_do_not_start_at_boot,
+        a_rule_that_is_gone,
+        it_copies_nothing,
+    )

@@ -1,0 +1,160 @@
+"""Copies off the machine by borg, between two Debians that run systemd, by the commands of the documents: a copy is sent
+and counted, the first machine's folder is emptied, an intruder uses its key, the receiver is silent; and at last the
+first machine is lost, and the second serves from what was sent alone."""
+import os
+import re
+import tempfile
+import time
+
+from tests.library.checks import Failed, expect
+from tests.library.operator.booted import Booted, main_booted
+from tests.library.operator.documented import DEPLOYING, OPERATING, command, commands
+from tests.library.operator.first_day import NAME, answers_again, ask, enter, first_day, put_certbot, with_terms
+from tests.library.operator.packages import make_package
+
+REPOSITORY = "/var/lib/pawnd-received/copies"
+BY_KEY = "set -a; . /etc/pawnd/offsite.conf; set +a; "
+
+
+def two_machines_and_a_lost_one():
+    with tempfile.TemporaryDirectory() as room:
+        package = make_package(room)
+        with Booted(room) as one, Booted(room, "standby") as standby:
+            one.line_to(standby, "10.9.0.1", "10.9.0.2")
+            one.run("echo 10.9.0.2 standby >>/etc/hosts")
+            first_day(one, package)
+            with_terms(one)
+            for step in (
+                a_copy_is_sent,
+                a_folder_that_was_emptied,
+                a_receiver_that_is_silent,
+                an_intruder_with_the_key,
+                the_machine_is_lost,
+            ):
+                begun = time.monotonic()
+                step(one, standby)
+                print(f"        {step.__name__.replace('_', ' ')}: {time.monotonic() - begun:.1f} s", flush=True)
+
+
+def archives(standby):
+    return borg(standby, "list --short " + REPOSITORY).split()
+
+
+def borg(standby, words):
+    """What borg says on the receiving machine, by the repository's owner."""
+    return standby.run(
+        "export BORG_PASSPHRASE=$(cat /etc/pawnd/offsite.passphrase) BORG_BASE_DIR=/tmp/borg-of-the-test; "
+        f"runuser -u pawnd-received -- borg {words} 2>/dev/null; rm -rf /tmp/borg-of-the-test", within=300,
+    )
+
+
+def a_copy_is_sent(one, standby):
+    keys, receiver, begin, pruning, drill = commands(DEPLOYING, "Off the machine")
+    public = one.run(keys).strip().splitlines()[-1]
+    put_certbot(standby)
+    standby.run("cp /root/packages/*.deb /root/")
+    standby.run(receiver.replace("PUBLIC-KEY", public))
+    standby.run("rm /root/*.deb; systemctl start ssh; chown -R pawnd-received: /var/lib/pawnd-received")
+    passphrase = one.run("cat /etc/pawnd/offsite.passphrase")
+    standby.run(f"umask 077; cat >/etc/pawnd/offsite.passphrase <<<'{passphrase.strip()}'")
+    one.run(begin)
+    expect("an archive", len(archives(standby)), 1)
+    clear = standby.run(f"grep -rlE 'SQLite format|High Street' {REPOSITORY} || true")
+    expect("nothing that is sent can be read there", clear, "")
+    standby.run(pruning)
+    standby.run("systemctl start pawnd-received")
+    expect("the drill", standby.run(drill).splitlines()[-1], "books 1 pledges 0 rows 1")
+    expect("what the state says", "newest off this machine" in one.run("pawnd-admin status"), True)
+
+
+def send(one):
+    """A copy, and the copy sent."""
+    one.run("sleep 1; systemctl start pawnd-copy@main")
+    one.start("pawnd-offsite@main")
+
+
+def a_folder_that_was_emptied(one, standby):
+    """What was sent stays, and the unit fails, so that the operator is told."""
+    before = archives(standby)
+    one.run("mv /var/backups/pawnd/main /root/away; mkdir -m 700 /var/backups/pawnd/main")
+    one.run("systemctl start pawnd-offsite@main", wanted=1)
+    expect("what was sent", archives(standby), before)
+    expect("why", "has no copy, so nothing is sent" in one.run("journalctl -u pawnd-offsite@main -o cat --no-pager"), True)
+    one.run("rmdir /var/backups/pawnd/main; mv /root/away /var/backups/pawnd/main; systemctl reset-failed")
+
+
+def a_receiver_that_is_silent(one, standby):
+    """It delays no copy, no request and no look at the state; the sending is given up, and goes on another day."""
+    standby.run("ip link set to-one down")
+    one.run("systemctl start --no-block pawnd-offsite@main")
+    one.run("sleep 1; systemctl start pawnd-copy@main")
+    expect("a pledge meanwhile", enter(one, 2)[0], 200)
+    one.run("pawnd-admin status")
+    ended = one.run(
+        "for i in $(seq 150); do s=$(systemctl show -P ActiveState pawnd-offsite@main); "
+        "[ $s = activating ] || break; sleep 1; done; echo $s"
+    ).strip()
+    expect("the sending is given up", ended, "failed")
+    standby.run("ip link set to-one up; ip address add 10.9.0.2/24 dev to-one 2>/dev/null || true")
+    one.run("systemctl reset-failed")
+    send(one)
+    expect("the next one comes through", len(archives(standby)), 2)
+
+
+def an_intruder_with_the_key(one, standby):
+    """Whoever has the first machine's key gets no shell and no other file, and what they remove comes back."""
+    ssh = "ssh -i /etc/pawnd/offsite.key -o BatchMode=yes pawnd-received@standby "
+    told = one.run(f"timeout 20 {ssh} 'cat /etc/passwd; touch /tmp/was-here' </dev/null 2>&1 || true")
+    expect("a shell", ("root:" in told, standby.run("ls /tmp/was-here 2>/dev/null || true")), (False, ""))
+    told = one.run("scp -i /etc/pawnd/offsite.key -o BatchMode=yes pawnd-received@standby:/etc/passwd /root/it 2>&1 || true")
+    expect("a file", one.run("ls /root/it 2>/dev/null || true"), "")
+    told = one.run(f"{BY_KEY} borg list --short ssh://pawnd-received@standby/var/lib/pawnd-received/other 2>&1 || true")
+    expect("another repository", "not allowed" in told, True)
+    before = archives(standby)
+    last = standby.run(f"tail -n 1 {REPOSITORY}/transactions").split()[1].rstrip(",")
+    one.run(f"{BY_KEY} borg list --short | while read -r it; do borg delete ::$it || true; done; borg compact || true")
+    expect("they seem to be gone", archives(standby), [])
+    standby.run("systemctl start pawnd-received", wanted=1)
+    undo = command(OPERATING, "An intruder on the sending machine", "undo")
+    standby.run(undo.replace("NUMBER", last))
+    expect("they are there again", archives(standby), before)
+    standby.run("systemctl reset-failed")
+    standby.start("pawnd-received")
+    expect("and stay", archives(standby), before)
+    borg(standby, f"check --repository-only {REPOSITORY}")
+
+
+def the_machine_is_lost(one, standby):
+    """The second serves what was sent, by the commands of the page, and again after a boot."""
+    # It is let in again, and its own memory of the repository is of before.
+    standby.run("mv /root/authorized_keys /var/lib/pawnd-received/.ssh/")
+    one.run("rm -rf /root/.cache/borg /root/.config/borg/security")
+    expect("pledge 3", enter(one, 3)[0], 200)
+    send(one)
+    expect("acknowledged, and lost", enter(one, 4)[0], 200)
+    one.cut()
+    take, *_ = commands(OPERATING, "A lost machine")
+    standby.run(take)
+    certificate = commands(DEPLOYING, "The first day")[2]
+    standby.run(certificate)
+    key = standby.run("cat /etc/pawnd/operator.key").strip()
+    expect("the key is the first machine's", bool(re.fullmatch(r"[0-9a-f-]{36}", key)), True)
+    standby.run(f"cat >/root/7.key <<<'{key_of(one)}'")
+    answers_again(standby)
+    expect("what was sent", [ask(standby, f"/books/7/pledges/{number}")[0] for number in (1, 2, 3, 4)], [200] * 3 + [404])
+    expect("it goes on", enter(standby, 4)[0], 200)
+    standby.cut()
+    standby.boot()
+    answers_again(standby)
+    timers = standby.run("systemctl list-timers --no-pager --no-legend")
+    expect("it is copied there", "pawnd-copy@main.timer" in timers, True)
+
+
+def key_of(one):
+    """The broker's own key, from the disk of the machine that was lost."""
+    with open(os.path.join(one.root, "root/7.key")) as it:
+        return it.read().strip()
+
+
+if __name__ == "__main__":
+    main_booted(two_machines_and_a_lost_one)

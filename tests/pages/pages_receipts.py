@@ -1,0 +1,169 @@
+"""What the pawnor's page says of receipts that open nothing, of cut links and of several pledges, and what will be
+owed; in a real browser, in front of the program."""
+import datetime
+
+from tests.library.checks import expect
+from tests.library.dates import six_months_after
+from tests.library.pages.browser import Pages
+from tests.library.pages.steps import (
+    WRONG_SECRET, a_pledge_at_the_counter, a_pledge_by_its_receipt, ago, an_open_book, book_text, browser, command, fill_book, find, in_short, in_words, main,
+    make_book, no_faults, secret_of, show_receipt, take_a_ring, the_book_is_read, unfold,
+)
+
+
+def a_receipt_that_opens_nothing_is_not_called_used():
+    """A wrong letter and a wrong book are named first; only a receipt that was seen before is replaced or used."""
+    with a_pledge_by_its_receipt() as (pages, receipt):
+        browser.says("Gold ring", "#cards")
+        wrong = receipt[:-1] + ("0" if receipt[-1] != "0" else "1")
+        for link in (f"book=7&receipt={wrong}", f"book=8&receipt={receipt}"):
+            browser.forget()
+            browser.go(f"{pages.address}/pawn/#{link}")
+            browser.says("This receipt opens no pledge", "#cards")
+            browser.says("may be wrong: compare both with the paper", "#cards")
+            expect("not called used", "replaced or used" in browser.text("#cards"), False)
+        browser.shoot("pawn-wrong")
+        show_receipt(pages, receipt)
+        browser.says("Gold ring", "#cards")
+        pages.session.broker("POST", "/books/7/pledges/1/declare", {"paper": "sworn"})
+        browser.press("#look-again")
+        browser.says("This receipt was replaced or used", "#cards")
+        no_faults()
+
+
+def a_receipt_that_the_pledge_never_had_may_be_of_another_book():
+    """At the counter: one letter wrong, or the receipt of another book."""
+    with a_pledge_at_the_counter() as (pages, receipt):
+        the_book_is_read()
+        for wrong in (receipt[:-1] + ("0" if receipt[-1] != "0" else "1"), f"1-{WRONG_SECRET}"):
+            find(wrong)
+            browser.says("This receipt is not live: pledge 1 never had it", "#commands")
+            browser.says("Compare it and the number of its book with the paper", "#commands")
+        no_faults()
+
+
+def a_cut_link_is_told():
+    with Pages() as pages:
+        make_book(pages)
+        receipt = pages.session.open_pledge(1)
+        for link, book in ((f"book=7&receipt={receipt[:20]}", "7"), ("book=7", "7"), (f"receipt={receipt}", "")):
+            browser.forget()
+            browser.go(f"{pages.address}/pawn/#{link}")
+            browser.says("That link is not whole, so it opens nothing", "#find")
+            expect("its book", browser.run("return document.querySelector('#find-book').value"), book)
+        browser.shoot("pawn-cut")
+        browser.go(f"{pages.address}/pawn/")
+        expect("an empty form has no such word", "not whole" in browser.text("#find"), False)
+
+
+def blanks_and_capitals_are_read_everywhere():
+    with Pages() as pages:
+        make_book(pages)
+        receipt = pages.session.open_pledge(1)
+        blanks = receipt.replace("-", " ")
+        browser.forget()
+        browser.go(f"{pages.address}/pawn/#BOOK=7&RECEIPT={receipt.upper()}")
+        browser.says("Gold ring", "#cards")
+        browser.forget()
+        browser.go(f"{pages.address}/pawn/")
+        browser.fill("#find", receipts=blanks, book="7")
+        browser.press("#find button")
+        browser.says("Gold ring", "#cards")
+    with an_open_book() as pages:
+        receipt, link = take_a_ring()
+        for typed in (receipt.replace("-", " "), link.replace("book=", "BOOK=").replace("receipt=", "Receipt=")):
+            find(typed)
+            browser.says("This receipt is live.", "#commands")
+        browser.fill(".action[open] form", receipt=receipt.replace("-", "  "), amount="99")
+        browser.press(".action[open] button", "Redeem")
+        browser.says("redeeming wants all of it", "#commands")
+        no_faults()
+
+
+def several_pledges_have_a_sum_and_are_looked_at_again():
+    with Pages() as pages:
+        make_book(pages)
+        receipts = [pages.session.open_pledge(number, article=f"Ring {number}") for number in (1, 2, 3)]
+        browser.forget()
+        browser.go(f"{pages.address}/pawn/#book=7&" + "&".join(f"receipt={one}" for one in receipts))
+        browser.says("£300.00 is owed today on 3 pledges together.", "#sum-line")
+        pages.session.broker("POST", "/books/7/pledges/2/repay", {"pence": 2500, "seq": 1})
+        browser.press("#look-again")
+        browser.says("£275.00 is owed today on 3 pledges together.", "#sum-line")
+        browser.says("£75.00 owed today", "#cards")
+        browser.shoot("pawn-sum")
+        browser.press("button", "Put this receipt away")
+        browser.says("on 2 pledges together.", "#sum-line")
+        no_faults()
+
+
+def what_will_be_owed_is_told_by_the_link():
+    """By the terms of the link, with the days of grace; a receipt without its link has no such form."""
+    with Pages() as pages:
+        make_book(pages, terms=False)
+        fill_book(pages, book_text([("Ring", "R/1", 10000, ago(30), "", "yes")], rates=(2667, 1000000, 500000)))
+        receipt = f"1-{secret_of(1)}"
+        browser.forget()
+        browser.go(f"{pages.address}/pawn/#book=7&receipt={receipt}&terms=2667.1000000.500000&grace=5&ref=R%2F1")
+        end = six_months_after(ago(30))
+        last = end + datetime.timedelta(days=5)
+        for says in (
+            f"Still yours until {in_words(last)}", "five days of grace follow", "R/1", "£8.00 in 30 days on £100",
+            "30p in 30 days, after the end 15p in 30 days", "are as the receipt’s link says",
+        ):
+            browser.says(says, "#cards")
+        unfold("See what will be owed on another day")
+        browser.fill(".action[open] form", day=str(ago(-30)))
+        browser.press(".action[open] button", "Reckon")
+        browser.says(f"On {in_words(ago(-30))} £116.60 will be owed", "#cards")
+        browser.rests()
+        browser.fill(".action[open] form", day=str(last + datetime.timedelta(days=1)))
+        browser.press(".action[open] button", "Reckon")
+        browser.says(f"From {in_short(last + datetime.timedelta(days=1))} on it may have been sold.", "#cards")
+        browser.shoot("pawn-reckoned")
+        show_receipt(pages, receipt)
+        browser.says(f"Still yours until {in_words(end)}", "#cards")
+        browser.says("five days more, if your paper says that it has days of grace", "#cards")
+        expect("no form", "what will be owed" in browser.text("#cards"), False)
+        no_faults()
+
+
+def a_visit_that_is_over_is_not_offered_to_be_cancelled():
+    with Pages() as pages:
+        make_book(pages, terms=False)
+        text = book_text([("Ring", "R1", 10000, ago(30), "", "no")]) + f"K,1,{ago(3)},2,confirmed" + "," * 10 + "\n"
+        fill_book(pages, text)
+        show_receipt(pages, f"1-{secret_of(1)}")
+        browser.says("confirmed, on a day that is over", "#cards")
+        expect("no cancelling", "Cancel the visit" in browser.text("#cards"), False)
+        browser.says("Ask for a time to come", "#cards")
+        no_faults()
+
+
+def a_visit_in_the_days_of_grace_is_in_time():
+    with Pages() as pages:
+        make_book(pages, terms=False)
+        fill_book(pages, book_text([("Ring", "R1", 20000, ago(400), ago(2), "yes")]))
+        show_receipt(pages, f"1-{secret_of(1)}")
+        browser.says("days of grace run: 3 days left", "#cards")
+        command("Ask for a time to come", "Ask for this time", day=str(ago(-3)), window="3")
+        browser.says(f"Asked for {in_words(ago(-3))}", "#cards")
+        pages.session.broker("POST", "/books/7/pledges/1/decide", {"yes": False})
+        browser.press("#look-again")
+        browser.says("refused by the shop", "#cards")
+        expect("what was said before is gone", "The shop says yes or no" in browser.text("#cards"), False)
+        command("Ask for a time to come", "Ask for this time", day=str(ago(-4)), window="3")
+        browser.says(f"The time of this pledge is over after {in_words(ago(-3))}.", "dialog")
+        browser.press("dialog button", "Choose another day")
+        no_faults()
+
+
+main(
+    200, (),
+    (
+        a_receipt_that_opens_nothing_is_not_called_used,
+        a_receipt_that_the_pledge_never_had_may_be_of_another_book, a_cut_link_is_told, blanks_and_capitals_are_read_everywhere,
+        several_pledges_have_a_sum_and_are_looked_at_again, what_will_be_owed_is_told_by_the_link,
+        a_visit_that_is_over_is_not_offered_to_be_cancelled, a_visit_in_the_days_of_grace_is_in_time,
+    ),
+)

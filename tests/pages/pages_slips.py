@@ -1,0 +1,400 @@
+"""Slips at the counter: what is asked before it is made, what is never sent, and what is found again after a lost
+reply; in a real browser, in front of the program."""
+import datetime
+import re
+
+from tests.library.checks import expect
+from tests.library.dates import six_months_after, today
+from tests.library.keys import BROKER
+from tests.library.pages.browser import Pages
+from tests.library.pages.steps import (
+    a_pledge_at_the_counter, ago, agree, an_open_book, book_text, browser, command, entries, fill_book, find,
+    in_short, in_words, main, make_book, no_faults, open_book, part, secret_of, send_taking, take_a_ring,
+    the_book_is_read, unfold,
+)
+from tests.library.waiting import wait_for
+
+
+def ends_of(pages, number=1):
+    return re.search(r"^Ends (.*)$", pages.session.broker("GET", f"/books/7/pledges/{number}")[1], re.M)[1]
+
+
+def an_extension_is_asked_about():
+    """The old end, the new one and the days between; loudly above a year. Nothing is sent before."""
+    with a_pledge_at_the_counter() as (pages, _):
+        browser.says("£100.00 owed today", "#statement")
+        end = six_months_after(today())
+        command("Extend the period", "Extend", until="2199-12-31")
+        for says in (
+            "Extend the period?", f"The period ends on {in_words(end)} now.", "Tuesday 31 December 2199",
+            "more than a year later", "can’t be made earlier again",
+        ):
+            browser.says(says, "dialog")
+        browser.shoot("broker-extend")
+        browser.press("dialog button", "Not now")
+        browser.says("Nothing was done.", "#commands")
+        expect("the end stands", ends_of(pages), str(end))
+        longer = end.replace(day=1).replace(year=end.year + 1)
+        days = (longer - end).days
+        browser.rests()
+        browser.fill(".action[open] form", until=str(longer))
+        browser.press(".action[open] button", "Extend")
+        browser.says(f"{days} days later", "dialog")
+        expect("not loudly", "more than a year later" in browser.text("dialog"), False)
+        browser.press("dialog button", f"Extend it by {days} days")
+        browser.says(f"The period ends on {in_words(longer)}.", "#commands")
+        expect("it is extended", ends_of(pages), str(longer))
+        no_faults()
+
+
+def an_earlier_end_is_not_sent():
+    """Also where another till moved the end since the pledge was shown."""
+    with a_pledge_at_the_counter() as (pages, _):
+        browser.says("£100.00 owed today", "#statement")
+        end = six_months_after(today())
+        browser.run(COUNT_POSTS)
+        for day in (ago(-3), end):
+            browser.rests()
+            unfold("Extend the period")
+            browser.run("document.querySelector('.action[open] input').min = ''")
+            browser.fill(".action[open] form", until=str(day))
+            browser.press(".action[open] button", "Extend")
+            browser.says(f"The new end is to be after {in_short(end)}.", "#commands")
+            expect("the field is marked", browser.run("return document.activeElement.name"), "until")
+        pages.session.broker("POST", "/books/7/pledges/1/extend", {"until": str(ago(-300))})
+        browser.fill(".action[open] form", until=str(ago(-250)))
+        browser.press(".action[open] button", "Extend")
+        browser.says(f"Somebody else moved the end to {in_words(ago(-300))}", "#commands")
+        expect("nothing was sent", browser.run("return window.posts"), [])
+
+
+COUNT_POSTS = """
+const real = window.fetch;
+window.posts = [];
+window.fetch = (path, how) => {
+  if (how.method === "POST") window.posts.push([path.split("/").pop(), JSON.parse(how.body || "null")]);
+  return real(path, how);
+};"""
+
+
+def an_unlike_amount_is_asked_about():
+    """Half of what is lent and the charges are as usual; more is asked about, as is any sum from the shop's own on."""
+    with an_open_book() as pages:
+        pages.session.open_pledge(1)
+        pages.session.open_pledge(2, kind="running", pence=50000, article="Teapot")
+        find("1")
+        command("Repayment", "Record the repayment", amount="50")
+        browser.says("Repaid: £50.00", "#commands")
+        command("Repayment", "Record the repayment", amount="26")
+        browser.says("Record £26.00 as received?", "dialog")
+        browser.says("An entry can’t be taken back", "dialog")
+        browser.press("dialog button", "Not now")
+        browser.says("Nothing was recorded.", "#commands")
+        expect("one entry", len(entries(pages, 1)), 1)
+        command("Repayment", "Record the repayment", amount="50")
+        browser.says("That is all that is owed, but the pledge stays open", "dialog")
+        browser.press("dialog button", "Not now")
+        command("Repayment", "Record the repayment", amount="50.01")
+        browser.says("That is more than is owed. Owed today: £50.00.", "#commands")
+        find("2")
+        command("Drawing", "Record the drawing", amount="250")
+        browser.says("Drawn: £250.00", "#commands")
+        part("shop")
+        browser.fill("#shop-form", ask="20")
+        browser.press("#shop-form button", "Keep these")
+        browser.says("Kept in this browser.", "#shop")
+        find("2")
+        command("Drawing", "Record the drawing", amount="20")
+        browser.says("Record £20.00 as paid out?", "dialog")
+        browser.says("recorded as repaid", "dialog")
+        browser.press("dialog button", "Record £20.00")
+        browser.says("Drawn: £20.00", "#commands")
+        no_faults()
+
+
+def how_slips_are_mended_is_told():
+    with an_open_book() as pages:
+        take_a_ring()
+        find("A1")
+        unfold("If something was entered by mistake")
+        for says in (
+            "redeem it by its own receipt for what is owed", "£100.00 is owed today.", "take the pledge anew",
+            "can’t be drawn again on a fixed sum",
+        ):
+            browser.says(says, "#commands .action[open]")
+        pages.session.open_pledge(2, kind="running", pence=50000, article="Teapot")
+        find("2")
+        unfold("If something was entered by mistake")
+        browser.says("a repayment of too much is drawn again", "#commands .action[open]")
+        browser.shoot("broker-slips")
+
+
+def a_sale_is_asked_about_with_its_surplus():
+    with Pages() as pages:
+        make_book(pages, terms=False)
+        fill_book(pages, book_text([("Old clock", "O1", 9000, ago(220), "", "no")], rates=(0, 0, 0)))
+        open_book(pages)
+        find("1")
+        browser.says("The period ended", "#statement")
+        surplus = "The surplus is £30.25: it is the pawnor’s."
+        for amount, says in (("120.25", surplus), ("80", "£10.00 less than is owed")):
+            command("Sale", "Record the sale", amount=amount)
+            browser.says("£90.00 is owed today.", "dialog")
+            browser.says(says, "dialog")
+            browser.press("dialog button", "Not now")
+            browser.says("Nothing was done.", "#commands")
+        no_faults()
+
+
+def a_sale_whose_reply_is_lost_is_told():
+    with Pages() as pages:
+        make_book(pages, terms=False)
+        fill_book(pages, book_text([("Old clock", "O1", 9000, ago(220), "", "no")], rates=(0, 0, 0)))
+        open_book(pages)
+        find("1")
+        browser.says("The period ended", "#statement")
+        with pages.relay.loses("/sell"):
+            command("Sale", "Record the sale", amount="120.25")
+            browser.press("dialog button.grave")
+            browser.says("The reply was lost, but the pledge, read again, is sold.", "#commands", patience=30)
+        browser.says("Sold for £120.25: £30.25 more than was owed, which is the pawnor’s.", "#commands")
+        browser.says("Sold on", "#statement")
+        no_faults()
+
+
+def a_take_whose_reply_is_lost_is_found():
+    """By its reference, once the book is read; and pressed again it is the same pledge, and no other reference."""
+    with an_open_book() as pages:
+        the_book_is_read()
+        part("take")
+        with pages.relay.loses("/pledges", times=10):
+            send_taking(article="Gold ring", ref="A1", amount="100")
+            browser.says("The reply was lost, but the pledge was taken. Taken as pledge 1.", "#taking", patience=40)
+        receipt = browser.text(".paper .secret").strip()
+        expect("its receipt is live", pages.session.bearer(receipt, "GET", "/books/7/held")[0], 200)
+        expect("one pledge", pages.session.broker("GET", "/books/7/pledges/2")[0], 404)
+        no_faults()
+
+
+def a_take_that_is_lost_for_a_while_is_the_same_when_it_is_pressed_again():
+    with an_open_book() as pages:
+        the_book_is_read()
+        part("take")
+        browser.run(LOSE_ALL)
+        send_taking(article="Gold ring", ref="A1", amount="100")
+        browser.says("so the pledge may have been taken. Don’t choose another reference", "#taking", patience=40)
+        browser.run("window.fetch = window.real")
+        browser.press("#read-book")
+        the_book_is_read()
+        browser.rests()
+        expect("no word of another reference", browser.text("#reference-stands"), "")
+        browser.press("#taking button", "Take the pledge")
+        browser.says("Taken as pledge 1.", "#taking")
+        expect("one pledge", pages.session.broker("GET", "/books/7/pledges/2")[0], 404)
+        receipt = browser.text(".paper .secret").strip()
+        expect("its receipt is live", pages.session.bearer(receipt, "GET", "/books/7/held")[0], 200)
+
+
+# The take reaches the service, but no reply comes back from then on.
+LOSE_ALL = """
+const real = window.real = window.fetch;
+let gone = false;
+window.fetch = async (path, how) => {
+  if (gone && how.method === "GET") throw new TypeError("no line");
+  const reply = await real(path, how);
+  if (how.method !== "POST") return reply;
+  gone = true;
+  throw new TypeError("lost");
+};"""
+
+
+def a_take_that_was_lost_with_its_page_can_be_opened():
+    """The page was closed before the reply came. It names the pledge that stands before another reference."""
+    with an_open_book() as pages:
+        the_book_is_read()
+        part("take")
+        with pages.relay.loses("/pledges", times=10):
+            send_taking(article="Teapot", ref="A1", amount="100")
+            wait_for(lambda: pages.relay.lost, "a reply that is lost", 10)
+            browser.ask("POST", "/refresh", {})
+        the_book_is_read()
+        browser.fill("#taking", article="Teapot", ref="A1", amount="100")
+        browser.press("#taking button", "Take the pledge")
+        browser.says("If it is the pledge that you mean, open it; if not, choose another reference.", "#taking")
+        browser.press("#taken-receipt a", "Open pledge 1")
+        browser.says("Teapot", "#statement")
+        command("Print the receipt again", "Print the receipt again")
+        agree()
+        browser.until("return document.querySelector('.paper .secret')", "a receipt")
+        expect("one pledge", pages.session.broker("GET", "/books/7/pledges/2")[0], 404)
+
+
+def nothing_is_sent_that_is_to_be_refused():
+    """A take sends the pledge alone: no terms."""
+    with an_open_book() as pages:
+        the_book_is_read()
+        browser.run(COUNT_POSTS)
+        take_a_ring()
+        expect("what was sent", [name for name, _ in browser.run("return window.posts")], ["pledges"])
+        put = {"keep_after": 0, "keep_before": 0, "rate": 1000, "version": 2}
+        expect("newer terms", pages.session.broker("POST", "/books/7/terms", put), (200, {"version": 2}))
+        take_a_ring(reference="A2")
+        browser.says("£3.00 in 30 days on £100", ".paper")
+        expect("and again", [name for name, _ in browser.run("return window.posts")], ["pledges", "pledges"])
+        for amount in ("1,500,000", "0"):
+            browser.fill("#taking", article="Crown", ref="A3", amount=amount)
+            browser.press("#taking button", "Take the pledge")
+            browser.element("#take-amount[aria-invalid=true]")
+            browser.says("it is at least a penny and at most a million pounds. Put another amount.", "#taking")
+        expect("and no more", [name for name, _ in browser.run("return window.posts")], ["pledges", "pledges"])
+
+
+def a_look_before_a_command_that_fails_is_told():
+    """On a line that dropped: the command was not sent."""
+    with a_pledge_at_the_counter() as (pages, receipt):
+        find(receipt)
+        browser.says("This receipt is live.", "#commands")
+        later = str(six_months_after(today()) + datetime.timedelta(days=31))
+        for title, button, fields in (
+            ("Repayment", "Record the repayment", {"amount": "10"}),
+            ("Redeem by the paper", "Redeem", {"receipt": receipt, "amount": "100"}),
+            ("Extend the period", "Extend", {"until": later}),
+            ("Renew", "Renew the pledge", {}),
+        ):
+            with browser.without_a_line():
+                command(title, button, **fields)
+                # It is said in the form at once, and above the forms once the look after it has failed, too.
+                told = "What you asked for was not sent, so it was not done."
+                browser.says(told, "#commands > .notice", patience=30)
+        expect("no entry", entries(pages, 1), [])
+        browser.faults()
+
+
+# The book is read once it is let go.
+HELD_BOOK = """
+const real = window.fetch;
+const gate = new Promise((go) => { window.letGo = go; });
+window.fetch = async (path, how) => {
+  if (path.endsWith("/export")) await gate;
+  return real(path, how);
+};"""
+
+
+def what_came_of_an_act_is_told_although_the_book_was_read_meanwhile():
+    """The forms are not drawn anew under a payment, and once the line has dropped it is told above them."""
+    with Pages() as pages:
+        make_book(pages)
+        pages.session.open_pledge(1)
+        browser.forget()
+        browser.go(pages.address + "/broker/")
+        browser.run(HELD_BOOK)
+        browser.fill("#open", book="7", key=BROKER)
+        browser.press("#open button")
+        find("1")
+        browser.says("Gold ring", "#statement")
+        unfold("Repayment")
+        browser.fill(".action[open] form", amount="10")
+        with pages.relay.loses("/repay", times=10):
+            browser.press(".action[open] button", "Record the repayment")
+            wait_for(lambda: pages.relay.lost, "a reply that is lost", 10)
+            browser.run("window.letGo()")
+            the_book_is_read()
+            still = "return document.querySelector('.action[open] button').disabled"
+            expect("it can't be pressed again meanwhile", browser.run(still), True)
+            with browser.without_a_line():
+                browser.says("The reply was lost, so this may have been done.", "#commands", patience=30)
+        expect("one entry", len(entries(pages, 1)), 1)
+        browser.faults()
+
+
+def terms_are_put_after_a_take_that_wanted_them():
+    """The form does not go on to say that the book has none."""
+    with Pages() as pages:
+        make_book(pages, terms=False)
+        open_book(pages)
+        the_book_is_read()
+        part("take")
+        send_taking(article="Ring", ref="A1", amount="100")
+        browser.says("The book has no terms yet. Put terms first, under “Terms”.", "#taking")
+        part("terms")
+        browser.fill("#new-terms", rate="0.2667")
+        browser.press("#new-terms button")
+        browser.says("Version 1 stands.", "#terms")
+        part("take")
+        browser.element("#taking")
+        expect("no word of no terms", "no terms" in browser.text("#taking"), False)
+        expect("what was typed", browser.run("return document.querySelector('#take-ref').value"), "A1")
+
+
+def the_key_is_forgotten():
+    """Once the book is closed the tab keeps no key and no receipt, and the page shows nothing of the book."""
+    with an_open_book() as pages:
+        receipt, _ = take_a_ring()
+        expect("kept while it is open", browser.run("return sessionStorage.length"), 1)
+        find(receipt)
+        browser.says("This receipt is live.", "#commands")
+        browser.press("#close-book")
+        browser.says("Open your book", "main")
+        expect("nothing is kept", browser.run("return sessionStorage.length"), 0)
+        said = browser.run(
+            "const typed = [...document.querySelectorAll('input')].map(({ value }) => value).join(); "
+            "return typed + document.body.textContent"
+        )
+        expect("no secret is in the page", receipt.split("-", 1)[1] in said, False)
+        browser.ask("POST", "/refresh", {})
+        browser.says("Open your book", "main")
+
+
+def a_hold_bars_redemption_before_it_is_sent():
+    """Also where another till put the hold since the pledge was shown."""
+    with a_pledge_at_the_counter() as (pages, receipt):
+        find(receipt)
+        browser.says("This receipt is live.", "#commands")
+        pages.session.broker("POST", "/books/7/pledges/1/hold")
+        browser.run(COUNT_POSTS)
+        browser.fill(".action[open] form", amount="100")
+        browser.press(".action[open] button", "Redeem")
+        browser.says("The pledge is on hold, so it can’t be redeemed. Release the hold first.", "#commands")
+        browser.says("On hold", "#statement")
+        browser.element(".action > summary", "Release the hold")
+        expect("nothing was sent", browser.run("return window.posts"), [])
+        expect("and it stands", "Status inside" in pages.session.broker("GET", "/books/7/pledges/1")[1], True)
+
+
+def a_pledge_is_renewed_in_one_step():
+    with Pages() as pages:
+        make_book(pages, terms=False)
+        fill_book(pages, book_text([("Ring", "R1", 10000, ago(30), "", "yes")], rates=(2667, 0, 0)))
+        open_book(pages)
+        the_book_is_read()
+        find("R1")
+        end = six_months_after(ago(30))
+        later = six_months_after(end)
+        command("Renew", "Renew the pledge", "broker-renew")
+        for says in ("£8.00 of interest and safe keeping was received.", "£100.00 stays lent.", in_words(later)):
+            browser.says(says, "dialog")
+        browser.press("dialog button.grave")
+        browser.says(f"£8.00 of charges was received. The period ends on {in_words(later)}.", "#commands")
+        browser.says(in_words(later), ".paper")
+        expect("its receipt", browser.text(".paper .secret").strip(), f"1-{secret_of(1)}")
+        expect("both were done", (len(entries(pages, 1)), ends_of(pages)), (1, str(later)))
+        command("Print a tag for the bag", "Show the tag")
+        for says in ("R1", "Ring", f"Until {in_short(later + (ago(0) - ago(5)))}"):
+            browser.says(says, ".tag")
+        browser.shoot("broker-tag")
+        no_faults()
+
+
+main(
+    360, (),
+    (
+        an_extension_is_asked_about, an_earlier_end_is_not_sent, an_unlike_amount_is_asked_about,
+        how_slips_are_mended_is_told, a_sale_is_asked_about_with_its_surplus,
+        a_sale_whose_reply_is_lost_is_told, a_take_whose_reply_is_lost_is_found,
+        a_take_that_is_lost_for_a_while_is_the_same_when_it_is_pressed_again,
+        a_take_that_was_lost_with_its_page_can_be_opened, nothing_is_sent_that_is_to_be_refused,
+        a_look_before_a_command_that_fails_is_told,
+        what_came_of_an_act_is_told_although_the_book_was_read_meanwhile, terms_are_put_after_a_take_that_wanted_them,
+        the_key_is_forgotten, a_hold_bars_redemption_before_it_is_sent, a_pledge_is_renewed_in_one_step,
+    ),
+)
