@@ -80,7 +80,7 @@ def workers(hosted):
 def measure(hosted, name, clients):
     """Runs these clients at once, each a way to connect, its requests, and how many a connection carries; prints the
     best turn, and what processors a request took in all."""
-    shards, proxy = [shard.program.pid for shard in hosted.shards], workers(hosted)
+    shards, proxy = [shard.program.pid for shard in hosted.stores], workers(hosted)
     before = used(shards), used(proxy)
     turns, told = FORK.Barrier(len(clients)), FORK.Queue()
     processes = [FORK.Process(target=client, args=(*words, turns, told)) for words in clients]
@@ -137,18 +137,18 @@ def directly(port):
 def bench(shards):
     books = {7 + number: 1 + number for number in range(shards)}
     many = f"{shards} shard{'s' * (shards > 1)}"
-    with Hosted(shards=3, books=books, changes=LIFTED) as it:
+    with Hosted(stores=3, books=books, changes=LIFTED) as it:
         receipts = it.open_books(40)
         for what, asks in (("views", views), ("repayments", repayments)):
             def of(book):
                 return asks(book, [receipts[book].pop() for _ in range(2)] if asks is repayments else receipts[book])
             measure(
                 it, f"{what}, {many}, directly, connections kept",
-                [(directly(it.shard_of(book).port), of(book), 1000) for book in books],
+                [(directly(it.store_of(book).port), of(book), 1000) for book in books],
             )
             measure(
                 it, f"{what}, {many}, directly, a connection each",
-                [(directly(it.shard_of(book).port), closing(of(book)), 1) for book in books],
+                [(directly(it.store_of(book).port), closing(of(book)), 1) for book in books],
             )
             for clients in (1, 6) if shards == 1 else (6,):
                 measure(
