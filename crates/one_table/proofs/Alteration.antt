@@ -1,4 +1,4 @@
--- UPDATE of one row, and the upsert of one, told by the rows that the tables hold.
+-- UPDATE of one row, and the upsert of one, by the rows that the tables hold.
 use Rattle.one_table.proofs.Insertion.{IsPlace, went, same_value}
 use Rattle.one_table.proofs.OneTable.{over_table, passes, shows_of, found}
 use Rattle.one_table.proofs.Rowed.{plainly, carried, at_place, put_new, first_fresh, without_one, one_of_map, int_at}

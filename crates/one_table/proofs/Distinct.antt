@@ -95,7 +95,7 @@ module _ (t : ℕ) (tests shows : List Term) (by : List Collation) (db : Trees) 
         rows_apart [] apart = tt
         rows_apart (o ∷ os) apart = (all-map (λ r. eq_by_cmp (collated_cmp by) o.1 r ≡ false) (λ (q : Output). q.1) os apart.0, rows_apart os apart.1)
 
--- told by the rows that SELECT * shows
+-- by the rows that SELECT * returns
 module _ (schema : Schema) (tree : ℕ) (is_tree : (db : Trees) → overlay db [] tree ≡ db tree) (table : Table) (tests shows : List Term) (by : List Collation)
     (params : Row) (test : Row → Bool) (cells : Row → Row) (passes_is : (r : Row) → passes tests params r ≡ test (columns_of table r)) (shows_is : (r : Row)
     → shows_of shows params r ≡ cells (columns_of table r)) (text : List ℕ) (names : List (List ℕ)) (is : Asks schema text (once_of_table tree tests shows by)

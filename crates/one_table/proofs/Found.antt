@@ -1,4 +1,4 @@
--- What a query on one table shows, told by the rows that the table holds.
+-- The result of a query on one table, by the rows that the table holds.
 use Rattle.one_table.proofs.OneTable.{over_table, few_of_table, first_of_table, around, passes, shows_of, found}
 use Rattle.one_table.proofs.OneTable.{found_few, found_all}
 use Rattle.one_table.proofs.Texts.{Asks, by_column, by_column_down}

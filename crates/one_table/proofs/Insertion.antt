@@ -1,4 +1,4 @@
--- INSERT of one row, told by the rows that the tables hold.
+-- INSERT of one row, by the rows that the tables hold.
 use Rattle.one_table.proofs.Rowed.{plainly, put_one, carried, at_place, IsAlone}
 use Rattle.one_table.specs.Common.{Enforced, Insert, Does, Tally, Database, IsDatabase, value_rows, Row, Chosen, Schema}
 use Rattle.one_table.specs.Common.{Values, Table, Term}

@@ -101,7 +101,7 @@ unfolding QueriesRow
 open_by_row sql params old new row (inl h) = h.1.0.was_open
 open_by_row sql params old new row (inr h) = shown_open sql params old new h.0 h.1
 
--- a transaction that was lent and then rolled back leaves the last commit, while the store is open
+-- a borrowed transaction that is rolled back leaves the last commit, while the store is open
 module _ (start begun lent new : State) (was_open : IsTrue begun.is_open → IsTrue start.is_open) (was : begun.committed ≡ start.committed)
     (kept : KeepsCommit begun lent) (rolled : IsRolledBack lent new) where
   pub rests_open : IsTrue new.is_open → IsTrue start.is_open

@@ -31,7 +31,7 @@ by_column place = (col 1 place, record { collation = Binary; descending = false 
 abbrev pub by_column_down : ℕ → List (Term × Key)
 by_column_down place = (col 1 place, record { collation = Binary; descending = true }) ∷ []
 
--- what the text hands back of the rows that it writes
+-- what the text returns of the rows that it writes
 abbrev pub returning_of : Result Compiled CompileError → Option Returning
 returning_of (Ok c) = c.returning
 returning_of (Err e) = None
@@ -41,7 +41,7 @@ abbrev pub formats_of : Result Compiled CompileError → List (List ℕ)
 formats_of (Ok c) = c.formats
 formats_of (Err e) = []
 
--- the text changes rows of the table at a place, found by this query, and hands these back
+-- the text changes rows of the table at a place, found by this query, and returns them
 abbrev pub Returns : Schema → List ℕ → ℕ → Query → Returning → Type 0
 Returns schema text at query what =
     (command_of (understood schema text) ≡ Update at (record { lets = []; body = query })) × (returning_of (understood schema text) ≡ Some what)

@@ -1,4 +1,4 @@
--- The upsert of one row, told by the rows that the tables hold.
+-- The upsert of one row, by the rows that the tables hold.
 use Rattle.one_table.proofs.Insertion.{IsPlace, went, same_value}
 use Rattle.one_table.proofs.OneTable.{over_table, passes, shows_of}
 use Rattle.one_table.proofs.Rowed.{plainly, carried, at_place, put_new, first_fresh, int_at}
@@ -106,7 +106,7 @@ module _ (schema : Schema) (at : ℕ) (t : Table) (there : IsPlace schema at t) 
   abbrev task : Option ℕ → Row → Task
   task limit params = record { limit = limit; keys = Enforced; schema = schema; table = table; params = params }
 
-  -- what the row that is put says of the table: how it is stored, which rows it meets, and what it makes of the one that it meets
+  -- what follows for the table from the row that is put: how it is stored, which rows it meets, and what becomes of the one that it meets
   pub record Suits (params vals after : Row) : Type 0 where
     pub source : value_rows params width (length terms / width) terms ≡ (Null ∷ vals) ∷ []
     pub unnumbered : cast_row table (Null ∷ vals) ≡ Null ∷ vals

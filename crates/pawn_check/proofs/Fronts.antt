@@ -1,4 +1,4 @@
--- The terms and the pledges of a book, judged one after the other.
+-- The terms and the pledges of a book, checked one after the other.
 use Rattle.pawn_base.proofs.ListLemmas.{Each-push, take_each}
 use Rattle.pawn_base.specs.Lists.{DoNotFall, Each, last_by}
 use Rattle.pawn_base.specs.Text.{IsText}
@@ -211,9 +211,9 @@ sound_fits k n p sound is =
       written = each_at HasTextsAndWords 1 k.pledges n p sound.written is;
     }
 
--- ---- what was found is handed on
+-- ---- what was found is passed on
 
--- a fault is handed on as it is
+-- a fault is passed on as it is
 pub handed_on : {T : Type 0} (h : Host) (fault : CheckFault) (r : Result T CheckFault) (P : T → Type 0) → r ≡ Err fault → Blames h fault → FindsSound h r P
 handed_on {T} h fault r P is blames = subst (λ (r : Result T CheckFault). FindsSound h r P) (sym is) blames
 

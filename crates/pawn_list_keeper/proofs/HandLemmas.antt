@@ -1,11 +1,11 @@
--- A list, handed over item by item.
+-- A visitor of a list, given one item after the other.
 use Rattle.pawn_book.proofs.VisitLemmas.{cut_at, handed-snoc}
 use Rattle.pawn_list_keeper.specs.Common.{Flow, Go, Handed, HandsOver, IsShare, Stop, Visits, Whole}
 use Rattle.std.proofs.Common.{◌≡◌, ◌∙◌, ℕ, List, [], ◌∷◌, ◌++◌, refl, sym, ap, subst, ◌<◌, ◌+◌, length, take, drop}
 use Rattle.std.proofs.Common.{get_or, append_assoc}
 use Rattle.std.proofs.lemmas.List.{take_more}
 
--- nothing is handed over
+-- it gets nothing
 pub hands_none : {V T : Type 0} (step : V → T → Flow → V → Type 0) (v : V) → HandsOver step v [] Go v
 hands_none step v = ([], (refl, refl), ([], refl, λ go whole. refl))
 

@@ -1,4 +1,4 @@
--- What a list of books tells of its host.
+-- What a list of books says of its host.
 use Rattle.pawn_list_keeper.proofs.ListReads.{get-book_at}
 use Rattle.pawn_list_keeper.specs.Books.{Books}
 use Rattle.pawn_list_keeper.specs.Common.{BookValue, Host, IsNextBook, Reads}
@@ -6,7 +6,7 @@ use Rattle.pawn_list_keeper.specs.Listed.{IsLeastAbove, book_at, host_of, list_k
 use Rattle.std.proofs.Common.{◌≡◌, ◌∙◌, ℕ, ap, sym, subst, None, Option, Some}
 use Rattle.std.specs.FinMap.{get}
 
--- a read tells what is so of the list's host
+-- a read returns what is true of the list's host
 pub list_reads : (k : Books) (P : Host → Type 0) → P (host_of k) → Reads list_keeping k k P
 list_reads k P told = record {
   on = record { was_honest = λ honest. honest; served = λ honest now. now; stays = λ steady. steady; whole = λ honest whole. whole };

@@ -17,7 +17,7 @@ filter_map_more h xs i d o less is =
     ap (filter_map h) (take_more xs i d less) ∙ filter_map-append h (take i xs) (get_or xs i d ∷ []) ∙ ap (λ t. filter_map h (take i xs) ++ cons_option t []) is
 
 module _ {V X Y : Type 0} (step : V → Y → Flow → V → Type 0) (h : X → Option Y) (xs : List X) (i : ℕ) (x : X) (v u : V) where
-  -- it is handed what the element gives
+  -- it gets what the element gives
   next_item : (y : Y) (flow : Flow) (w : V) → i < length xs → x ≡ get_or xs i x → h x ≡ Some y → HandsOver step v (filter_map h (take i xs)) Go u
       → step u y flow w → HandsOver step v (filter_map h (take (i + 1) xs)) flow w
   next_item y flow w less is gives before here =
@@ -88,7 +88,7 @@ window_next step v u w f n flow before here =
     subst (λ items. HandsOver step v items flow w) (sym (windows_more f n) ∙ ap (λ (k : ℕ). flat_map f (windows_below k)) next)
     (hands_then step v u w (flat_map f (windows_below n)) (f n) flow before here)
 
--- it stopped in a window, so it is handed nothing of the later ones
+-- it stopped in a window, so it gets nothing of the later ones
 pub windows_stop : {V T : Type 0} (step : V → T → Flow → V → Type 0) (v w : V) (f : ℕ → List T) (n last : ℕ) → n ≤ last
     → HandsOver step v (flat_map f (windows_below n)) Stop w → HandsOver step v (flat_map f (windows_below last)) Stop w
 windows_stop step v w f n last within stopped =

@@ -3,21 +3,34 @@ use Rattle.pawn_move.proofs.Basics.{MoveFault, clean_before, was_clean}
 use Rattle.pawn_move.specs.Migrating.{GainsLacking, MovesStore, TellsNumber}
 use Rattle.pawn_move.specs.Moving.{EndsWithIndexes, MakesLacking}
 use Rattle.pawn_opening.proofs.Begun.{IsBegun}
-use Rattle.pawn_opening.specs.Common.{Database, HasCleanDisk, IsLent, State}
-use Rattle.pawn_opening.specs.Indexing.{AddsIndexes, GainsIndexes, lacking}
+use Rattle.pawn_opening.specs.Common.{Database, HasCleanDisk, IsLent, Schema, State, Table}
+use Rattle.pawn_opening.specs.Indexing.{AddsIndexes, AreLacked, GainsIndexes, lacking}
 use Rattle.pawn_opening.specs.Opened.{IndexesStore}
 use Rattle.pawn_opening.specs.declared.indexing.Lacking.{Lacking}
 use Rattle.pawn_saving.specs.Writing.{IsCarried}
 use Rattle.pawn_tables.specs.Common.{KeepError}
 use Rattle.sqlite.specs.State.{Shows, Survives}
 use Rattle.std.proofs.Common.{◌≡◌, ℕ, Bool, true, false, Option, Some, None, Ok, Err, Result, OnOk, IsTrue, refl, sym}
-use Rattle.std.proofs.Common.{subst, arith}
+use Rattle.std.proofs.Common.{subst, arith, ap, append-nil, List, []}
+
+gained : (o : Option Lacking) (before db : Database) → GainsIndexes o before db → EndsWithIndexes o db
+gained o before db g = record {
+  others = before.schema.indexes;
+  more = g.more;
+  indexes = ap (λ (s : Schema). s.indexes) g.is;
+  lacked = subst (λ (tables : List Table). AreLacked o tables g.more) (sym (ap (λ (s : Schema). s.tables) g.is)) g.lacked;
+  loose = g.loose;
+}
+
+pub none_made : (a b : State) → MakesLacking None a b (Ok tt)
+none_made a b clean within =
+    record { others = b.now.schema.indexes; more = []; indexes = sym (append-nil b.now.schema.indexes); lacked = refl; loose = tt }
 
 pub made_last : (which : Lacking) (a b c : State) (r : Result (Unit {0}) KeepError) (ok : Bool) → IsLent a b true → IsLent b c ok
     → AddsIndexes which b c r → MakesLacking (Some which) a c r
 made_last which a b c r ok first second adds clean within = go r (adds clean (first.inside (clean_before b c ok second clean) within refl)) where
   go : (x : Result (Unit {0}) KeepError) → OnOk x (GainsIndexes (Some which) b.now c.now) → OnOk x (EndsWithIndexes (Some which) c.now)
-  go (Ok done) g = (b.now, g)
+  go (Ok done) g = gained (Some which) b.now c.now g
   go (Err e) g = tt
 
 -- the last part of a transaction of three parts
@@ -45,14 +58,10 @@ as_read : (s0 s1 s2 : State) (n : ℕ) → TellsNumber s0 s1 (Ok n) → HasClean
     → EndsWithIndexes (lacking s0.now.schema) s2.now
 as_read s0 s1 s2 n it clean = subst (λ d. EndsWithIndexes (lacking d.schema) s2.now) ((it.same clean).now (it.ok clean).1)
 
-ends : (o : Option Lacking) (before db : Database) → GainsIndexes o before db → EndsWithIndexes o db
-ends None before db g = tt
-ends (Some which) before db g = (before, g)
-
 pub stays_indexed : (s0 s1 s2 : State) (n : ℕ) → TellsNumber s0 s1 (Ok n) → IndexesStore s1 s2 (Ok tt)
     → GainsLacking {A = ℕ × ℕ} {E = MoveFault} s0 s2 (Ok (n, 3))
 stays_indexed s0 s1 s2 n it added clean = let up = added.survives.clean in let before : HasCleanDisk s1 = omega (arith, clean, up) in
-    as_read s0 s1 s2 n it before (ends (lacking s1.now.schema) s1.now s2.now (added.ok clean (it.ok before).1).1)
+    as_read s0 s1 s2 n it before (gained (lacking s1.now.schema) s1.now s2.now (added.ok clean (it.ok before).1).1)
 
 pub went_indexed : (s0 s1 s2 : State) (n from : ℕ) → TellsNumber s0 s1 (Ok n) → MovesStore from s1 s2 (Ok tt)
     → GainsLacking {A = Unit {0}} {E = KeepError} s1 s2 (Ok tt) → GainsLacking {A = ℕ × ℕ} {E = MoveFault} s0 s2 (Ok (n, 3))

@@ -1,4 +1,4 @@
--- Debts are judged, pledge by pledge and book by book.
+-- Debts are checked, pledge by pledge and book by book.
 use Rattle.pawn_move.proofs.Basics.{clean_before, rests_then, carried_none, carried_then, was_clean}
 use Rattle.pawn_move.proofs.Reading.{handed, tell_then}
 use Rattle.pawn_move.specs.Moving.{AreOwedIn, IsNextJudged, ListFirstDebts}

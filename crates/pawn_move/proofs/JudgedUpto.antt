@@ -1,4 +1,4 @@
--- Which debts were judged so far.
+-- Which debts were checked so far.
 use Rattle.pawn_move.proofs.Basics.{Each-push, take_next, take_past, pledge_at}
 use Rattle.pawn_move.specs.Moving.{AreAllOwed, AreOwedIn, AreTotalsAt, CanBeOwed, IsJudgedAt, IsNextJudged}
 use Rattle.pawn_opening.specs.Common.{Host}
@@ -10,7 +10,7 @@ use Rattle.std.proofs.lemmas.Bool.Decides.{nat_tests}
 
 -- ---- the pledges of a book
 
--- where totals are looked for, what is judged
+-- what is checked where totals are looked for
 pub judged_at : (h : Host) (b n : ℕ) (totals : Option Totals) → AreTotalsAt h b n totals → IsJudgedAt h b n (is_some totals)
 judged_at h b n totals are = (ap is_some are.0 ∙ told (pledge_in (get h.books b) n), are.1) where
   told : (o : Option PledgeValue) → is_some (totals_in o) ≡ is_some o

@@ -16,7 +16,7 @@ use Rattle.std.proofs.Common.{◌≡◌, ◌≢◌, ℕ, true, false, None, Resu
 use Rattle.pawn_book.specs.declared.fault.KeepError.TheVariants as Keeper
 
 module _ (n : ℕ) (old new begun lent : State) (was : IsBegun old begun) (ended : new.in_transaction ≡ false) where
-  -- the debts that were judged
+  -- the debts that were checked
   pub store_owed : (r : Result (Unit {0}) KeepError) (Left : Trees → Type 0) → MovesOwed n begun lent r → Survives lent new Left → MovesStoreOwed n old new r
   store_owed r Left owed after clean h none st =
       owed (let up = after.clean in omega (arith, clean, up)) was.within h none (subst (λ d. StandsUnder n d h) (sym was.now) st)

@@ -1,4 +1,4 @@
--- A store tells its schema, and is moved where that is an older one.
+-- A store's schema is read, and the store is migrated if that is an older one.
 use Rattle.pawn_move.proofs.Basics.{MoveFault, NotOurs, NewerSchema, Damaged, Store, Memory}
 use Rattle.pawn_move.proofs.ToldSchema.{third_is_ours}
 use Rattle.pawn_move.specs.Migrating.{HoldMoved, HoldSameHost, IsFailure, IsMoved, IsNotOurs, IsUnmovable, IsUntellable}
@@ -60,7 +60,7 @@ module _ (s0 s1 : State) (last : IsTrue s0.is_open → (trees : Trees) → s0.ma
   quiet : Survives s0 s1 (λ _. ⊥) → Survives s0 s1 (HoldSameHost s0.now)
   quiet s = survives_weaker s0 s1 (λ _. ⊥) (HoldSameHost s0.now) (λ clean trees none. absurd none) s
 
-  -- ---- a schema that is not told
+  -- ---- a schema that cannot be read
 
   unmovable : (why : MoveFault) → IsUntellable s0.now why → IsUnmovable s0.now why
   unmovable NotOurs it = it
@@ -144,7 +144,7 @@ module _ (s0 s1 : State) (last : IsTrue s0.is_open → (trees : Trees) → s0.ma
     early : HasCleanDisk s2 → HasCleanDisk s1
     early clean = let up = mv.survives.clean in omega (arith, clean, up)
 
-    -- the tables stand under the schema that was told still
+    -- the tables still stand under the schema that was read
     on : HasCleanDisk s1 → (n : ℕ) (h : Host) → IsSchema n → StandsUnder n s0.now h → (from ≡ n) × StandsUnder from s1.now h
     on clean n h schema st = let told : from ≡ n = it.stands clean n h schema st in
         (told, subst (λ d. StandsUnder from d h) (sym ((it.same clean).now (it.ok clean).1)) (subst (λ k. StandsUnder k s0.now h) (sym told) st))

@@ -126,7 +126,7 @@ module _ (s0 s1 : State) (l1 : IsLent s0 s1 true) (made : AddsTable {E = KeepErr
     l1.inside clean within refl,
   )
 
-  -- the debts that were judged once the table was made
+  -- the debts that were checked once the table was made
   judged_second : {A : Type 0} (s2 : State) (ok : Bool) (r : Result A KeepError) (P : Host → A → Type 0) → IsCarried s1 s2 ok
       → FindsOf ListFirstDebts HasUnsoundBook s1 s2 r P → HasCleanDisk s2 → IsTrue s0.in_transaction
       → (h : Host) → StandsUnder 2 s0.now h → IsMoving 2 (of_pledges h totals_listed) s1.now h × Finds r (λ x. P h x × Rests s1 s2) (HasUnsoundBook h)

@@ -1,4 +1,4 @@
--- Tables that stand for a host under a schema note its number, and it is told.
+-- Tables that stand for a host under a schema note its number, and it is returned.
 use Rattle.one_table.specs.Columns.{no_schema}
 use Rattle.pawn_move.proofs.Basics.{as_lists, as_stands, with_tables, MoveFault, NotOurs, NewerSchema, Damaged, Store}
 use Rattle.pawn_move.proofs.Basics.{Memory}
@@ -74,7 +74,7 @@ refuses_all = tt
 pub notes_none : (db : Database) → IsEmptyStore db → (n : ℕ) → NotesSchema db n → ⊥
 notes_none db empty n it = subst Refuses (sym (ap (λ s. understood s READ_SCHEMA.now) empty) ∙ it.1.is_understood) refuses_all
 
--- ---- and told
+-- ---- and returned
 
 module _ (old new : State) where
   accepted : (r : Result ℕ MoveFault) (o : Option ℕ) → IsNumberJudged o r → IsNoted old.now o → IfSome o (λ n. IsTrue new.is_open)

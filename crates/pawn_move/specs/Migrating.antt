@@ -148,6 +148,6 @@ abbrev pub MovesStoreOwed : ℕ → State → State → Result (Unit {0}) KeepEr
 MovesStoreOwed n old new result =
     HasCleanDisk new → (h : Host) → get h.books 0 ≡ None → StandsUnder n old.now h → OnOk result (AreAllOwed h)
 
--- the last change of a store that is moved made those of the program's indexes that it lacked, and nothing else
+-- a store that is migrated has those of the program's indexes that it lacked, as its last ones
 abbrev pub GainsLacking : {A : Type 0} {E : Type 0} → State → State → Result A E → Type 0
 GainsLacking old new result = HasCleanDisk new → IfOk result (λ done. EndsWithIndexes (lacking old.now.schema) new.now)

@@ -2,7 +2,8 @@
 use Rattle.pawn_debt.specs.Replay.{CanStand}
 use Rattle.pawn_move.specs.StandsUnder.{HasNoExtension, StandsUnder, listed_under}
 use Rattle.pawn_opening.specs.Common.{Row, HasCleanDisk, State, Host, Listed, with_rows, ListsOurs, StandsFor, Database}
-use Rattle.pawn_opening.specs.Indexing.{GainsIndexes}
+use Rattle.pawn_opening.specs.Common.{AreLoose, Index}
+use Rattle.pawn_opening.specs.Indexing.{AreLacked}
 use Rattle.pawn_opening.specs.declared.indexing.Lacking.{Lacking}
 use Rattle.pawn_tables.specs.Common.{get, Tables, Totals, PledgeValue, debt_of, Each, BookValue, pledge_in, IsNextBook}
 use Rattle.pawn_tables.specs.Common.{pledges_of, HasUnsoundBook, KeepError}
@@ -103,11 +104,14 @@ MovesOwed n old new result =
 
 -- ---- indexes that are made
 
--- the last change of this database made these indexes of the program, if any were lacking, and nothing else
-abbrev pub EndsWithIndexes : Option Lacking → Database → Type 0
-EndsWithIndexes None db = Unit {0}
-EndsWithIndexes (Some which) db = (before : Database) × GainsIndexes (Some which) before db
+-- the last indexes of the database are these of the program, over its tables, and none of them is UNIQUE
+pub record EndsWithIndexes (which : Option Lacking) (db : Database) : Type 0 where
+  pub others : List Index
+  pub more : List Index
+  pub indexes : db.schema.indexes ≡ others ++ more
+  pub lacked : AreLacked which db.schema.tables more
+  pub loose : AreLoose more
 
--- a part of the transaction ends by making these indexes, if any are lacking
+-- a part of the transaction makes these indexes, if any are lacking
 abbrev pub MakesLacking : Option Lacking → State → State → Result (Unit {0}) KeepError → Type 0
 MakesLacking which old new result = HasCleanDisk new → IsTrue old.in_transaction → OnOk result (EndsWithIndexes which new.now)

@@ -65,12 +65,14 @@ fn move_store<S: Alter>(conn: &mut Connection<S>, alloc: Global, from: u32) -> R
 }
 
 /// Migrates a store to the program's schema, in one transaction. No transaction may be under way on the connection.
-/// Returns the number of the schema that the store had, and that of the program's. A store of the program's schema only
-/// gets the indexes that it lacks. A store that is refused is as before.
+/// Returns the number of the schema that the store had, and that of the program's. Whatever schema it had, the store then
+/// has the indexes that it lacked; one of the program's schema gets nothing else. A store that is refused is as before.
+/// What is proved of a migration from schema 1 or 2 assumes that no book has the number 0; no request makes one.
 ///
-/// # Errors `NotOurs` for an empty store, and for one that notes no schema or the number 0. `NewerSchema` if it notes a
-/// newer schema. `Damaged` if it notes an older one, and a stored row cannot be decoded or commands cannot produce the
-/// debt of some pledge. `Store` if the store failed, and `Memory` if out of memory.
+/// # Errors
+/// `NotOurs` for an empty store, and for one that notes no schema or the number 0. `NewerSchema` if it notes a newer
+/// schema. `Damaged` if it notes an older one, and a stored row cannot be decoded or commands cannot produce the debt of
+/// some pledge. `Store` if the store failed, and `Memory` if out of memory.
 pub fn migrate<S: Alter>(alloc: Global, conn: &mut Connection<S>) -> Result<(u32, u32), MoveFault>
     requires rests { conn.old.in_transaction ≡ false }
     ensures migrates { Migrates (state S.Store conn.old) (state S.Store conn.new) result }

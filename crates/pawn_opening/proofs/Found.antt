@@ -97,7 +97,7 @@ module _ (image : Image) (s : State) (opened : Opens s × IsLive s) (found : Fin
 pub as_found : {D : Type 0} {g : Ghosts D} (files : Files D) (c : Held (FileStore D g)) → Finds files c → FindsIn (image_of g files) (file_state c)
 as_found files c found = record { holds = found.holds; reads = found.reads }
 
--- the files that a close hands back stand for what was committed
+-- the files that a close returns stand for what was committed
 pub closes : {D : Type 0} {g : Ghosts D} (c : Held (FileStore D g)) (files : Files D) (h : Host) → IsCopied c files → HasCommitted (file_state c) h
     → AreClosedFor g files h
 closes {D} {g} c files h copied committed = record { seen = alone (image_of g files) copied.seen; left = λ image may. alone image (copied.left image may) }

@@ -38,8 +38,9 @@ pub fn open_memory(alloc: Global, limit: u32) -> Result<Connection<MemStore>, Op
 /// limit on counted rows, 1 to 10,000,000. A store that notes the program's schema keeps its stored limit, and gets the
 /// indexes that it lacks; its rows are not checked.
 ///
-/// # Errors Those of `prepare`, and `Store` or `Memory` if the files cannot be opened as a database; with the reason
-/// comes what is left of the files.
+/// # Errors
+/// Those of `prepare`, and `Store` or `Memory` if the files cannot be opened as a database. What is left of the files
+/// comes with the reason.
 pub fn open_files<D: Disk + Drop>(
     alloc: Global,
     files: Files<D>,

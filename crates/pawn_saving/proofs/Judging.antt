@@ -36,7 +36,7 @@ module _ (h : Host) (change : Change) (mid db : Database) (added : ℕ) (fits : 
       let more : rows h + added ≤ (with_change h change).limit → ⊥ = λ few. absurd (let yes' = counts.0.1 few in let e = sym yes' in cc) in
       omega (arith, more, same, grown)
 
--- what the count within the limit says of a change, once its rows are written
+-- what the count within the limit implies of a change, once its rows are written
 pub judged_by_count : (old mid new : State) (change : Change) (added : ℕ) (fits : Bool) → IsLent old mid true
     → WritesRows {E = KeepError} old mid change (Ok added) → IsLent mid new true → Counts {E = KeepError} mid new added (Ok fits)
     → HasCleanDisk new → IsTrue old.in_transaction → (h : Host) → IsSound h → (IsTrue old.is_open → CanSave h change × StandsFor old.now h) → (fits ≡ true

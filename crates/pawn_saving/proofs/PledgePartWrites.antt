@@ -37,7 +37,7 @@ module _ (db : Database) (listed : Listed) (b n : ℕ) (p : PledgeValue) where
 
 -- ---- bookings
 
--- the rows before a booking is put, as its statement tells them
+-- the rows before a booking is put, as its statement reads them
 pub stood_before : {A : Type 0} (f : A → Row) (o : Option A) (rows others : List Row) → IsPermutation rows (at_most_one f o ++ others)
     → IsPermutation rows (at_most_one (λ r. r) (option_map f o) ++ others)
 stood_before f o rows others same = subst (λ l. IsPermutation rows (l ++ others)) (one_mapped f (λ r. r) o) same

@@ -31,7 +31,7 @@ both_carried a b c ok f s = record {
   survives = survives_then a b c _ _ (λ _. ⊥) (λ _ db none. none) (λ _ db none. none) f.survives s.survives;
 }
 
--- what was lent was carried
+-- a borrowed part of the transaction was carried
 pub is_carried : (a b : State) (ok : Bool) → IsLent a b ok → IsCarried a b ok
 is_carried a b ok l = record { kept = l.kept; inside = l.inside; survives = l.survives }
 
@@ -49,7 +49,7 @@ of_three {old = old} {one = one} {two = two} {new = new} {ok = ok} f s t clean w
     let clean1 = was_clean one two true s clean2 in let within1 = f.inside clean1 within refl in
     (clean1, within1, clean2, s.inside clean2 within1 refl)
 
--- what was lent and went well, whatever comes of it then
+-- a borrowed part that succeeded, whatever follows
 pub lent_anyway : (a b : State) → IsLent a b true → (ok : Bool) → IsLent a b ok
 lent_anyway a b f ok =
     record { kept = f.kept; opened = λ clean begun o. f.opened clean begun refl; inside = λ clean begun o. f.inside clean begun refl; survives = f.survives }

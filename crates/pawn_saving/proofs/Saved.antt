@@ -1,4 +1,4 @@
--- A change is saved: a transaction that is lent and goes well, and a commit.
+-- A change is saved: a borrowed transaction that succeeds, and a commit.
 use Rattle.one_table.proofs.Parts.{committed_rests, rests_open}
 use Rattle.pawn_book.specs.Keeping.{GoesOn, IsFitting, IsLeftBy, OfHost, Saves}
 use Rattle.pawn_saving.proofs.Basics.{clean_before}
@@ -56,7 +56,7 @@ module _ {K : Type 0} (state : K → State) (old new : K) (begun lent : State) (
   may : HasCleanDisk begun → (h : Host) → IsSound h → Keeps (state old) h → IsTrue begun.is_open → CanSave h change × StandsFor begun.now h
   may clean h sound k now = (can (was.was_open now) (was.clean clean) h sound k, subst (λ d. StandsFor d h) (sym was.now) (k.stands (was.was_open now)))
 
-  -- what a transaction leaves that was lent and then rolled back
+  -- what a borrowed transaction leaves that is rolled back
   module _ (ok : Bool) (part : IsLent begun lent ok) (past : HasCleanDisk (state new) → HasCleanDisk lent)
       (rolled : HasCleanDisk (state new) → IsRolledBack lent (state new)) (ended : HasCleanDisk (state new) → (state new).in_transaction ≡ false) where
     back_opened : HasCleanDisk (state new) → IsTrue (state new).is_open → IsTrue (state old).is_open

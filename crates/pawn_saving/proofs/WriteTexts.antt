@@ -50,7 +50,7 @@ totals_tests = is_param 1 0 ∷ is_param 2 1 ∷ or_terms (is_other 3 2) (is_oth
 abbrev pub totals_shows : List Term
 totals_shows = col 1 0 ∷ col 1 0 ∷ col 1 1 ∷ col 1 2 ∷ col 0 2 ∷ col 0 3 ∷ col 0 4 ∷ []
 
--- the row that is there is told by its number, after the five parameters, and the columns that were to be put come after that
+-- the row that is there is found by its number, after the five parameters, and the columns that were to be put come after that
 abbrev pub booking_tests : List Term
 booking_tests = op2 (Compare Eq Binary) (col 1 0) (col 0 5) ∷ []
 

@@ -18,7 +18,7 @@ errs_after k a b c r before then errs = record {
   no_record = λ is honest h at. errs.no_record is honest h (before.same (then.on.was_honest honest) h at);
 }
 
--- an error that is handed on
+-- an error that is passed on
 pub errs_as : {K A B : Type 0} {IsUnsound : Host → Type 0} (k : Keeping K) (a b : K) (r : Result A KeepError) (s : Result B KeepError) (e : KeepError)
     → r ≡ Err e → s ≡ Err e → Errs k a b IsUnsound r → Errs k a b IsUnsound s
 errs_as k a b r s e is same errs = record {
@@ -37,7 +37,7 @@ module _ {K V T : Type 0} (k : Keeping K) (step : V → T → Flow → V → Typ
   hands_as a b v w r xs ys same hands =
       hands_rows hands.given hands.handed (reads_as hands.reads (λ h share. subst (IsShare hands.given (flow_of r) (call_end r)) (same h) share)) hands.errs
 
-  -- after a read that tells what they are
+  -- after a read that returns them
   pub hands_after : {IsUnsound : Host → Type 0} (a b c : K) (v w : V) (r : Result Flow KeepError) (xs ys : Host → List T) {P : Host → Type 0} → Reads k a b P
       → ((h : Host) → P h → xs h ≡ ys h) → HandsRows k IsUnsound step b c v w r xs → HandsRows k IsUnsound step a c v w r ys
   hands_after a b c v w r xs ys before same hands = hands_rows hands.given hands.handed (reads_then before hands.reads
@@ -61,7 +61,7 @@ module _ {K V T : Type 0} (k : Keeping K) (step : V → T → Flow → V → Typ
       → HandsRows k IsUnsound step a a v w (Ok flow) (λ h. xs)
   hands_over a v w xs flow here = hands_rows here.0 here.1 (reads_none k a _ (λ h. here.2)) (errs_ok k a a (Ok flow) flow refl)
 
-  -- a read errs before anything is handed over
+  -- a read fails before the visitor gets anything
   pub hands_unread : {IsUnsound : Host → Type 0} {A : Type 0} (a b : K) (v : V) (r : Result A KeepError) (s : Result Flow KeepError) (e : KeepError)
       (xs : Host → List T) {P : Host → Type 0} → r ≡ Err e → s ≡ Err e → Reads k a b P → Errs k a b IsUnsound r → HandsRows k IsUnsound step a b v v s xs
   hands_unread {IsUnsound = IsUnsound} a b v r s e xs is same read errs = subst (λ t. HandsRows k IsUnsound step a b v v t xs) (sym same)
@@ -79,7 +79,7 @@ module _ {K V T : Type 0} (k : Keeping K) (step : V → T → Flow → V → Typ
     errs = errs_after k a b c r first.reads then.reads then.errs;
   }
 
-  -- it stopped in the first list, or the call errs there: nothing of the next is handed over
+  -- it stopped in the first list, or the call fails there: it gets nothing of the next
   pub hands_ended : {IsUnsound : Host → Type 0} (a b : K) (v w : V) (r s : Result Flow KeepError) (xs ys : Host → List T) → (r ≡ Ok Go → ⊥) → s ≡ r
       → HandsRows k IsUnsound step a b v w r xs → HandsRows k IsUnsound step a b v w s (λ h. xs h ++ ys h)
   hands_ended {IsUnsound = IsUnsound} a b v w r s xs ys ended same first =
@@ -89,7 +89,7 @@ module _ {K V T : Type 0} (k : Keeping K) (step : V → T → Flow → V → Typ
         none (Ok flow) ended' go whole = absurd (ended' (ap Ok go))
         none (Err e) ended' go whole = cc whole
 
-  -- what was handed over is all that the visitor was handed
+  -- what was given is all that the visitor got
   pub visits_of : {IsUnsound : Host → Type 0} {A : Type 0} (a b : K) (v w : V) (r : Result Flow KeepError) (s : Result A KeepError) (xs : Host → List T)
       → call_end s ≡ call_end r → HandsRows k IsUnsound step a b v w r xs
       → Visits step v w (λ given flow. Reads k a b (λ h. IsShare given flow (call_end s) (xs h)))
@@ -99,14 +99,14 @@ module _ {K V T : Type 0} (k : Keeping K) (step : V → T → Flow → V → Typ
   -- ---- page by page
 
   module _ (listed : Host → List T) (past : ℕ → Host → List T) where
-    -- the items up to one were handed over, at least one in each of so many turns, and the visitor wants more
+    -- the visitor got the items up to one, at least one in each of so many turns, and asks for more
     abbrev pub HandedTo : K → K → V → V → ℕ → ℕ → Type 0
     HandedTo old now v u n turns = (given : List T) × Handed step v given Go u × Reads k old now (λ h. given ++ past n h ≡ listed h) × (turns ≤ length given)
 
     pub begins_at : (s : K) (v : V) → ((h : Host) → past 0 h ≡ listed h) → HandedTo s s v v 0 0
     begins_at s v whole = ([], (refl, refl), reads_none k s (λ h. past 0 h ≡ listed h) whole, omega arith)
 
-    -- a page was read, which begins past one number and ends at another, and was handed over
+    -- a page was read, which begins after one number and ends at another, and the visitor got it
     module _ (old now new : K) (v u w : V) (n m turns : ℕ) (before : HandedTo old now v u n turns) (xs : List T) {Short : Type 0}
         (read : Reads k now new (λ h. (past n h ≡ xs ++ past m h) × (Short → past m h ≡ []))) where
       all_given : (here : HandsOver step u xs Go w) → here.0 ≡ xs
@@ -160,7 +160,7 @@ module _ {K V T : Type 0} (k : Keeping K) (step : V → T → Flow → V → Typ
         subst (λ t. HandsRows k IsUnsound step old new v u t listed) (sym same) (hands_rows before.0 before.1 (reads_then before.2 read
         (λ h are p. (past n h, are, λ go whole. cc whole))) (errs_after k old now new (Err e) before.2 read (errs_as k now new r (Err e) e is refl errs)))
 
-    -- more were handed over than a host that is sound in this way has
+    -- the visitor got more than a host has that is sound in this way
     pub handed_past : {IsUnsound : Host → Type 0} (most : ℕ) → ((h : Host) → most < length (listed h) → IsUnsound h) → (old now : K) (v u : V) (n turns : ℕ)
         → (k.steady old → ⊥) → HandedTo old now v u n turns → most < turns → HandsRows k IsUnsound step old now v u (Err (Keeper.Store NoRecord)) listed
     handed_past most unsound old now v u n turns may before above = record {

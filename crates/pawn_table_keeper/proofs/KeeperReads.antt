@@ -1,4 +1,4 @@
--- A read of a keeper: a transaction that is lent, and rolled back.
+-- A read of a keeper: a borrowed transaction, which is rolled back.
 use Rattle.one_table.proofs.Lent.{clean_before}
 use Rattle.one_table.proofs.Parts.{rests_open, committed_rests}
 use Rattle.one_table.specs.Lending.{IsLent, Lends, Rests}
@@ -28,7 +28,7 @@ unfound r P U is f = subst (λ x. Finds x P U) is f
 abbrev pub begun_of : State → State
 begun_of s = record s { in_transaction = true }
 
--- what was found in a transaction that was lent and rolled back, and what the transaction leaves
+-- what was found in a borrowed transaction that was rolled back, and what the transaction leaves
 pub record IsRead {A : Type 0} (IsUnsound : Host → Type 0) (a lent new : State) (r : Result A KeepError) (P : Host → A → Type 0) : Type 0 where
   pub ended : a.in_transaction ≡ false
   pub settled : a.in_transaction ≡ false → IsTrue a.is_open → a.now ≡ a.committed
@@ -94,7 +94,7 @@ module _ {K : Type 0} (state_of : K → State) (old new : K) {A : Type 0} {IsUns
     no_record = λ is clean h k. unfound r (λ x. P h x × Rests (begun_of (state_of old)) lent) (IsUnsound h) is (was.finds (clean_lent clean) refl h k.stands);
   }
 
--- a keeper's read, by what a read answers in a transaction that it is lent, and that is rolled back then
+-- a keeper's read, by what a read in a borrowed transaction answers, which is then rolled back
 pub read_in : {S K A : Type 0} (g : Ghosts S) (conn : K → Held S) (old new : K) {tx lent : MutBor (Held S)} {IsUnsound : Host → Type 0} (P : Host → A → Type 0)
     (r : Result A KeepError) → (conn old).in_transaction ≡ false
     → ((conn old).in_transaction ≡ false → IsTrue (state g (conn old)).is_open → (state g (conn old)).now ≡ (state g (conn old)).committed)

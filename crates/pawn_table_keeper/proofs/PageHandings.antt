@@ -1,4 +1,4 @@
--- Pages that are handed over.
+-- A visitor that gets page after page.
 use Rattle.pawn_book.proofs.Reading.{reads_as}
 use Rattle.pawn_book.proofs.VisitLemmas.{handed-snoc}
 use Rattle.pawn_table_keeper.proofs.Handings.{HandedTo, ends_by, goes_by, stops_by}
@@ -11,7 +11,7 @@ use Rattle.std.proofs.Common.{take-append-drop}
 use Rattle.std.proofs.lemmas.List.{map-append, take_more}
 
 module _ {V A T : Type 0} (step : V → T → Flow → V → Type 0) (shows : A → T) (xs : List A) where
-  -- all were handed over
+  -- it got all
   pub page_whole : (v u : V) (i : ℕ) → i ≡ length xs → Handed step v (map shows (take i xs)) Go u → HandsOver step v (map shows xs) Go u
   page_whole v u i end before =
       let whole : map shows (take i xs) ≡ map shows xs = ap (λ n. map shows (take n xs)) end ∙ ap (map shows) (take_all (length xs) xs (omega arith)) in
@@ -22,7 +22,7 @@ module _ {V A T : Type 0} (step : V → T → Flow → V → Type 0) (shows : A 
     one_more = ap (λ y. map shows (take i xs) ++ shows y ∷ []) is ∙ sym (map-append shows (take i xs) (get_or xs i x ∷ []))
         ∙ ap (map shows) (sym (take_more xs i x lt))
 
-    -- one more is handed over
+    -- it gets one more
     pub page_goes : step u (shows x) Go w → Handed step v (map shows (take (i + 1) xs)) Go w
     page_goes here = subst (λ ys. Handed step v ys Go w) one_more (handed-snoc step v u w (map shows (take i xs)) (shows x) Go before here)
 
@@ -51,7 +51,7 @@ module _ {A : Type 0} (n : ℕ) (xs page : List A) (is : page ≡ page_behind n 
   page_ends short = sym (drop-drop most_page_rows n xs) ∙ short_last most_page_rows (drop n xs) (subst (λ l. length l < most_page_rows) is short)
 
 module _ {K V T : Type 0} (k : Keeping K) (step : V → T → Flow → V → Type 0) (listed : Host → List T) where
-  -- the pages before one were handed over, and the visitor wants more
+  -- it got the pages before one, and asks for more
   abbrev pub HandedPages : K → K → V → V → ℕ → Type 0
   HandedPages old now v u turn = HandedTo k step listed (λ n h. drop n (listed h)) old now v u (turn * most_page_rows) turn
 
@@ -67,7 +67,7 @@ module _ {K V T : Type 0} (k : Keeping K) (step : V → T → Flow → V → Typ
         (λ h. (left start h ≡ page ++ left (start + most_page_rows) h) × (length page < most_page_rows → left (start + most_page_rows) h ≡ []))
     told = reads_as read (λ h is. (page_next start (listed h) page is, page_ends start (listed h) page is))
 
-    -- one more is handed over, and more is left
+    -- it gets one more, and more are left
     pub pages_go : 1 ≤ length page → HandsOver step u page Go w → HandedPages old new v w (turn + 1)
     pages_go some here = let next : start + most_page_rows ≡ (turn + 1) * most_page_rows = omega arith in
         subst (λ n. HandedTo k step listed left old new v w n (turn + 1)) next

@@ -77,7 +77,7 @@ module _ {K : Type 0} (state : K → State) (old new : K) (rested : (state old).
     crash = λ clean h l. record { trees = l.trees; left = left_before clean l.trees l.left; stands = l.stands };
   }
 
--- ---- it is told shut only where it is
+-- ---- it is said to be shut only if it is
 
 no_fault : (cause : StoreError) → SqliteFailure Closed ≡ store_error cause → cause ≡ Broken
 no_fault OutOfMemory is = absurd cc

@@ -1,4 +1,4 @@
--- A list that is handed over element by element, each of them read by a call of its own.
+-- A visitor that gets the elements of a list one by one, each read by a call of its own.
 use Rattle.pawn_base.proofs.ListLemmas.{take_next, take_past}
 use Rattle.pawn_book.proofs.Reading.{reads_none, reads_then}
 use Rattle.pawn_book.proofs.VisitLemmas.{handed-snoc}
@@ -16,14 +16,14 @@ take_at_most (suc n) [] = omega arith
 take_at_most (suc n) (x ∷ xs) = let rest = take_at_most n xs in omega (arith, rest)
 
 module _ {K V T : Type 0} (k : Keeping K) (step : V → T → Flow → V → Type 0) (listed : Host → List T) where
-  -- the first elements were handed over, and the visitor wants more
+  -- it got the first elements, and asks for more
   abbrev pub Walked : K → K → V → V → ℕ → Type 0
   Walked old now v w i = (given : List T) × Handed step v given Go w × Reads k old now (λ h. given ≡ take i (listed h)) × (length given ≡ i)
 
   pub begins : (s : K) (v : V) → Walked s s v v 0
   begins s v = ([], (refl, refl), reads_none k s (λ h. [] ≡ take 0 (listed h)) (λ h. refl), refl)
 
-  -- all that was handed
+  -- all that it got
   abbrev pub Goes : K → K → V → V → End → Type 0
   Goes old new v w end = Visits step v w (λ given flow. Reads k old new (λ h. IsShare given flow end (listed h)))
 
@@ -60,7 +60,7 @@ module _ {K V T : Type 0} (k : Keeping K) (step : V → T → Flow → V → Typ
       reads_then before.2 read (λ h are p. (drop i (listed h), ap (λ l. l ++ drop i (listed h)) are ∙ take-append-drop i (listed h), λ e f. cc f)),
     )
 
-  -- more were handed over than a host that is sound in this way has
+  -- it got more than a host has that is sound in this way
   pub walked_past : {IsUnsound : Host → Type 0} {A : Type 0} (most : ℕ) → ((h : Host) → most < length (listed h) → IsUnsound h) → (old now : K) (v u : V)
       (i : ℕ) → (k.steady old → ⊥) → Walked old now v u i → most < i → (r : Result A KeepError) → r ≡ Err (Keeper.Store NoRecord) → Errs k old now IsUnsound r
   walked_past most unsound old now v u i may walked past r is = record {
@@ -81,7 +81,7 @@ errs_ok k old new r x is = record {
   no_record = λ bad. absurd (let e = sym is ∙ bad in cc);
 }
 
--- a store that may fail, and tells of no row
+-- a store that may fail, and returns no row
 pub errs_database : {K A : Type 0} {IsUnsound : Host → Type 0} (k : Keeping K) (old new : K) (r : Result A KeepError) → (k.steady old → ⊥)
     → r ≡ Err (Keeper.Store Database) → Errs k old new IsUnsound r
 errs_database k old new r may is = record {

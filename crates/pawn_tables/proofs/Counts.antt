@@ -45,7 +45,7 @@ count_answer t tests db params rows all matched answer = let made = rw matched a
     let kept = rw (made.having, row) at answer.distinct in let ordered = only_one _ answer.ordered (rw kept at answer.same) in
     rw ordered at answer.shown
 
--- told by the rows that SELECT * shows
+-- by the rows that SELECT * returns
 module _ (schema : Schema) (tree : ℕ) (is_tree : (db : Trees) → overlay db [] tree ≡ db tree) (table : Table) (tests : List Term) (params : Row)
     (test : Row → Bool)
     (passes_is : (r : Row) → passes tests params r ≡ test (columns_of table r)) where

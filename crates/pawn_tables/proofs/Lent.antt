@@ -7,7 +7,7 @@ use Rattle.pawn_tables.specs.StandsFor.{ListDebts, StandsFor}
 use Rattle.std.proofs.Common.{◌≡◌, ℕ, Bool, true, false, OnOk, Result, Ok, Err, IsTrue, refl, sym, subst}
 use Rattle.pawn_book.specs.declared.fault.KeepError.TheVariants as Keeper
 
--- an error that is handed on
+-- an error that is passed on
 pub unfound : {A B : Type 0} (e : KeepError) (s : Result B KeepError) (P : A → Type 0) (Q : B → Type 0) (U : Type 0) → s ≡ Err e → Finds (Err e) P U
     → Finds s Q U
 unfound e s P Q U same f = subst (λ x. Finds x Q U) (sym same) (go e f) where
@@ -18,7 +18,7 @@ unfound e s P Q U same f = subst (λ x. Finds x Q U) (sym same) (go e f) where
 
 -- ---- what parts find one after another
 
--- what a part told that went well
+-- what a part returned that succeeded
 told : {A : Type 0} (r : Result A KeepError) (x : A) (P : A → Type 0) (U : Type 0) → r ≡ Ok x → Finds r P U → P x
 told r x P U is f = subst (λ s. Finds s P U) is f
 

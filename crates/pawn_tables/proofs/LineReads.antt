@@ -28,9 +28,9 @@ use Rattle.pawn_book.specs.declared.sheet.Part.TheVariants as part_of
 use Rattle.pawn_tables.proofs.ReadTexts as text
 use Rattle.pawn_tables.proofs.BookReads as books
 
--- ---- what is told of a pledge
+-- ---- the line of a pledge
 
--- what is told of a pledge has its number
+-- the line of a pledge has its number
 pub numbers_of : {X A : Type 0} (says : X → Bool) (make : ℕ → X → A) (line : A → Line) → ((n : ℕ) (x : X) → (line (make n x)).number ≡ n)
     → (n : ℕ) (o : Option X) (a : A) → tell_of says make n o ≡ Some a → (line a).number ≡ n
 numbers_of says make line made n None a is = absurd (let e = is in cc)
@@ -67,7 +67,7 @@ open_closing (Closing.Sold day net) = refl
 abbrev pub booking_in : PledgeValue → Option Booking
 booking_in p = p.standing.booking
 
--- ---- the parts, by what is told of them
+-- ---- the parts, by their lines
 
 abbrev pub is_confirmed_at : ℕ → ℕ → Booking → Bool
 is_confirmed_at day window k = is_confirmed_for day window (Some k)
@@ -127,7 +127,7 @@ confirmed_items ps day window =
     go items i true = omega arith
     go items i false = refl
 
--- what is told of all pledges is counted
+-- the lines of all pledges are counted
 lines_counted : {A : Type 0} (part : Part) (day : ℕ) (tell : PledgeValue → Option A) (line : A → Line) → ((p : PledgeValue) → part_item part day p ≡ option_map
     (λ a. item_of part (line a)) (tell p)) → ((p : PledgeValue) (a : A) → tell p ≡ Some a → (line a).number ≡ number_in_book p) → (ps : List PledgeValue)
     → length (filter_map tell (filter (λ (p : PledgeValue). true) ps)) ≡ length (part_items part day ps)

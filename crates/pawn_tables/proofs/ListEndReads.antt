@@ -34,7 +34,7 @@ last_placed g told cells is k place (x ∷ []) end = let same : k ≡ place = om
 last_placed g told cells is k place (x ∷ (y ∷ xs)) end = last_placed g told cells is (k + 1) place (y ∷ xs) (omega (arith, end))
     ∙ ap (at_most_one (told place)) (sym (last_later x y xs))
 
--- its place tells how many they are
+-- its place gives how many they are
 pub place_count : {A : Type 0} (xs : List A) → unwrap_or (option_map (λ (x : A). length xs) (last_element xs)) 0 ≡ length xs
 place_count [] = refl
 place_count (x ∷ xs) = let last = last_some x xs in ap (λ o. unwrap_or (option_map (λ y. length (x ∷ xs)) o) 0) last.1

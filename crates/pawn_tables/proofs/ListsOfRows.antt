@@ -36,7 +36,7 @@ placed_more f W P rows i got more r y lt is grown read so from xs words are = le
     let same = read at.0 at.1 (each_at W xs i at.1 at.3 words) at.2 in let next : i + 1 ≡ suc i = omega arith in
     grown ∙ ap (λ z. got ++ z ∷ []) same ∙ ap (λ l. l ++ at.1 ∷ []) (so from xs words are) ∙ sym (take_next xs i at.1 at.3) ∙ ap (λ n. take n xs) (sym next)
 
--- an element that can't be kept is the reason why a row is no record
+-- an element that cannot be kept is the reason why a row cannot be decoded
 pub placed_err : {A : Type 0} (f : ℕ → A → Row) (W P : A → Type 0) (rows : List Row) (i : ℕ) (r : Row) (e : KeepError) → i < length rows → r ≡ get_or rows i r
     → ((place : ℕ) (x : A) → W x → r ≡ f place x → IsRead (Err e) x (P x)) → (from : ℕ) (xs : List A) → Each W xs → rows ≡ placed_from f from xs
     → IsRead (Err e) xs (Each P xs)
@@ -75,7 +75,7 @@ read_part Keeper.Memory x Q R part f = tt
 read_part (Keeper.Store Database) x Q R part f = tt
 read_part (Keeper.Store NoRecord) x Q R part f = λ whole. f (part whole)
 
--- what can be read always is not told to be no record
+-- what can always be read is not refused as a row that cannot be decoded
 pub always_read : {A B : Type 0} (e : KeepError) (x : A) (y : B) (Q : Type 0) → IsRead (Err e) x (Unit {0}) → IsRead (Err e) y Q
 always_read Keeper.Memory x y Q f = tt
 always_read (Keeper.Store Database) x y Q f = tt

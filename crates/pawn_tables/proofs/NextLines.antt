@@ -19,7 +19,7 @@ use Rattle.std.proofs.Common.{arith, option_map}
 abbrev pub above : ℕ → List PledgeValue → List PledgeValue
 above n ps = filter (λ (p : PledgeValue). nat_lt n (number_in_book p)) ps
 
--- what is told of them
+-- their lines
 abbrev pub told_above : {A : Type 0} → (PledgeValue → Option A) → ℕ → List PledgeValue → List A
 told_above tell n ps = filter_map tell (above n ps)
 
@@ -54,7 +54,7 @@ module _ {A : Type 0} (part : Part) (day : ℕ) (tell : PledgeValue → Option A
   abbrev item : A → SheetItem
   item a = item_of part (line a)
 
-  -- the items are of what is told
+  -- the items are those of the lines
   pub items_are : (ps : List PledgeValue) → part_items part day ps ≡ map item (filter_map tell ps)
   items_are [] = refl
   items_are (p ∷ ps) = (λ i. cons_option (says p i) (items_are ps i)) ∙ go (tell p) where
@@ -62,7 +62,7 @@ module _ {A : Type 0} (part : Part) (day : ℕ) (tell : PledgeValue → Option A
     go None = refl
     go (Some a) = refl
 
-  -- what is told is of a pledge that stands
+  -- a line is of a pledge that is there
   from_first : (n k : ℕ) (ps : List PledgeValue) → AreNumberedFrom k ps → (a : A) (as' : List A) → told_above tell n ps ≡ a ∷ as' → k ≤ (line a).number
   from_first n k [] numbered a as' is = absurd (let e = is in cc)
   from_first n k (p ∷ ps) numbered a as' is = go (from_first n (k + 1) ps numbered.1 a as') (nat_lt n (number_in_book p)) is where
@@ -78,7 +78,7 @@ module _ {A : Type 0} (part : Part) (day : ℕ) (tell : PledgeValue → Option A
     go rest false is = let r = rest is in omega (arith, r)
     go rest true is = one rest (tell p) refl is
 
-  -- after the first, what is told is of the pledges above its own
+  -- after the first, the lines are of the pledges above its own
   rest_is : (n k : ℕ) (ps : List PledgeValue) → AreNumberedFrom k ps → (a : A) (as' : List A) → told_above tell n ps ≡ a ∷ as'
       → told_above tell (line a).number ps ≡ as'
   rest_is n k [] numbered a as' is = absurd (let e = is in cc)
@@ -110,7 +110,7 @@ module _ {A : Type 0} (part : Part) (day : ℕ) (tell : PledgeValue → Option A
   abbrev lines_above : List PledgeValue → ℕ → List Line
   lines_above ps m = map line (told_above tell m ps)
 
-  -- a page of the lines shows what the part says
+  -- a page of the lines shows what the part returns
   is_lines_page : (n : ℕ) (ps : List PledgeValue) → AreNumberedFrom 1 ps → IsLinesPage part day n ps (take most_page_rows (lines_above ps n))
   is_lines_page n ps numbered = page_as (lines_above ps) (λ m. items_past part day m ps) (item_of part) (λ (l : Line). l.number) n _ past_is
       (is_page (lines_above ps) (λ (l : Line). l.number) (λ m l more is. step m (told_above tell m ps) refl l more is) n) where

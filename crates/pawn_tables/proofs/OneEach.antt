@@ -15,7 +15,7 @@ use Rattle.std.proofs.Common.{◌≡◌, ◌≢◌, ◌++◌, ◌==◌, ℕ, ◌
 use Rattle.std.proofs.Common.{length, take, Bool, true, false, cond, ◌&&◌, Option, Some, None, refl, sym, ap, subst}
 use Rattle.std.proofs.Common.{◌∙◌, arith}
 
--- what is told of what a pledge has, if it has it and it is such
+-- what holds of a part of a pledge, if the pledge has it
 abbrev pub tell_of : {X A : Type 0} → (X → Bool) → (ℕ → X → A) → ℕ → Option X → Option A
 tell_of says make n None = None
 tell_of says make n (Some x) = cond (says x) (Some (make n x)) None
@@ -74,7 +74,7 @@ module _ {X A : Type 0} (b : ℕ) (has : PledgeValue → Option X) (content : X 
   of_book : (h : Host) → filter test (of_pledges h rows_of) ≡ rows_at (get h.books b) (λ k. filter test (flat_map (rows_of b) k.pledges))
   of_book h = of_one_book h b test (λ m k. flat_map (rows_of m) k.pledges) none_of
 
-  -- what is shown of the rows that pass is told of the pledges of the book
+  -- the rows that pass give the lines of the pledges of the book
   pub shown_each : (h : Host) → map cells (filter test (of_pledges h rows_of)) ≡ map told (filter_map tell (kept (pledges_of (get h.books b))))
   shown_each h = ap (map cells) (of_book h) ∙ inside (get h.books b) where
     inside : (o : Option BookValue)

@@ -190,7 +190,7 @@ second_of_first n m s e = at_column 1 _ _ (same_head _ _ _ _ e)
 same_tail : (r s : Row) (rs ss : List Row) → r ∷ rs ≡ s ∷ ss → rs ≡ ss
 same_tail r s rs ss e = (let x = e in cc)
 
--- of two lists with the same rows, where an element is told by its row
+-- of two lists with the same rows, if an element is given by its row
 pub same_placed : {A : Type 0} (f : ℕ → A → Row) (W : A → Type 0) → ((m : ℕ) (x y : A) → W x → W y → f m x ≡ f m y → x ≡ y) → (at : ℕ) (xs ys : List A)
     → Each W xs → Each W ys → placed_from f at xs ≡ placed_from f at ys → xs ≡ ys
 same_placed f W same at [] [] a b e = refl

@@ -28,7 +28,7 @@ use Rattle.pawn_book.specs.declared.fault.KeepError.TheVariants as Keeper
 
 -- ---- answers
 
--- an error that is told of what was joined
+-- an error for what was joined
 pub unjoined : {A B : Type 0} (e : KeepError) (x : A) (s : Result B KeepError) (P : B → Type 0) (V U : Type 0) → s ≡ Err e → IsRead (Err e) x V → ((V → ⊥) → U)
     → Finds s P U
 unjoined e x s P V U same read bad = subst (λ r. Finds r P U) (sym same) (go e read) where

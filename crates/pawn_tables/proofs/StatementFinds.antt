@@ -20,7 +20,7 @@ found_as (Err (Keeper.Store Database)) x P Q U read fact bad = tt
 pub found_is : {A : Type 0} (r : Result A KeepError) (x : A) (Q U : Type 0) → IsRead r x Q → ((Q → ⊥) → U) → Finds r (λ y. y ≡ x) U
 found_is r x Q U read bad = found_as r x (λ y. y ≡ x) Q U read refl bad
 
--- an error that is not of rows tells nothing of them, where it is handed on
+-- an error that is not about rows implies nothing of them, if it is passed on
 untold : {A B : Type 0} (r : Result A KeepError) (e : KeepError) (s : Result B KeepError) (P : B → Type 0) (U : Type 0) → r ≡ Err e → s ≡ Err e
     → (r ≡ Err (Keeper.Store NoRecord) → ⊥) → Finds s P U
 untold r e s P U is same not = subst (λ x. Finds x P U) (sym same) (go e is) where
@@ -57,7 +57,7 @@ pub found_debts : {A : Type 0} (IsUnsound : Host → Type 0) (old new : State) (
     new rows) → ((h : Host) → ListDebts old.now h → Shown text params old new rows → Finds r (P h) (IsUnsound h)) → FindsOf ListDebts IsUnsound old new r P
 found_debts = found_of ListDebts (λ db h st. st.schema)
 
--- an error that is not of rows tells nothing of them, where it is handed on
+-- an error that is not about rows implies nothing of them, if it is passed on
 pub unread : {A B : Type 0} (IsUnsound : Host → Type 0) (old new : State) (r : Result A KeepError) (e : KeepError) (s : Result B KeepError)
     (P : Host → B → Type 0) → r ≡ Err e → s ≡ Err e → (r ≡ Err (Keeper.Store NoRecord) → ⊥) → FindsIn IsUnsound old new s P
 unread IsUnsound old new r e s P is same not clean within h stood = untold r e s (λ x. P h x × Rests old new) (IsUnsound h) is same not

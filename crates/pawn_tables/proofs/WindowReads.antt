@@ -34,7 +34,7 @@ comes_on day k = (k.day == day) && (is_confirmed k.state && nat_lt k.window 16)
 abbrev window_told : ℕ → PledgeValue → Option ℕ
 window_told day p = tell_of (comes_on day) (λ n (k : Booking). k.window) (number_in_book p) p.standing.booking
 
--- nobody comes in a window that is told of no pledge
+-- nobody comes in a window that has no pledge's line
 none_comes : (day w : ℕ) → w < 16 → (ps : List PledgeValue) → AllByRecursion (λ (n : ℕ). n ≢ w) (filter_map (window_told day) ps)
     → part_items (part_of.Confirmed w) day ps ≡ []
 none_comes day w few [] all = refl
@@ -71,7 +71,7 @@ abbrev Comes : ℕ → PledgeValue → List PledgeValue → Option Booking → �
 Comes day p ps o n =
     (n ≤ 15) × (cons_option (cond (is_confirmed_for day n o) (Some (Confirmed (number_in_book p))) None) (part_items (part_of.Confirmed n) day ps) ≢ [])
 
--- somebody comes in a window that is told of a pledge
+-- somebody comes in a window that has a pledge's line
 some_comes : (day : ℕ) (ps : List PledgeValue)
     → AllByRecursion (λ (n : ℕ). (n ≤ 15) × (part_items (part_of.Confirmed n) day ps ≢ [])) (filter_map (window_told day) ps)
 some_comes day [] = tt

@@ -1,4 +1,4 @@
-use Rattle.pawn_move.proofs.Indexed.{made_last}
+use Rattle.pawn_move.proofs.Indexed.{made_last, none_made}
 use Rattle.pawn_move.proofs.Made.{noted_then}
 use Rattle.pawn_opening.specs.Common.{state}
 use Rattle.std.proofs.Common.{is_ok}
@@ -13,3 +13,6 @@ pub returns-in-Some-clause-indexed : goal.returns-in-Some-clause-indexed
 returns-in-Some-clause-indexed g c = rw c.in-Some.is (made_last c.in-Some.which (state g.S.Store c.args.tx.now.conn.now)
     (state g.S.Store c.note_schema.new.tx.conn.now) (state g.S.Store c.make_indexes.new.tx.conn.now) c.make_indexes.result (is_ok c.make_indexes.result)
     c.in_ok-note_schema.ensures.lent.leaves c.make_indexes.ensures.lent.leaves c.make_indexes.ensures.adds)
+
+pub returns-in-None-clause-indexed : goal.returns-in-None-clause-indexed
+returns-in-None-clause-indexed g c = rw c.in-None.is (none_made (state g.S.Store c.args.tx.now.conn.now) (state g.S.Store c.note_schema.new.tx.conn.now))
