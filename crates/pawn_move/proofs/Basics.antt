@@ -7,7 +7,7 @@ pub use Rattle.pawn_book.specs.Rows.{terms_at}
 pub use Rattle.pawn_move.specs.declared.fault.MoveFault.{MoveFault}
 pub use Rattle.pawn_move.specs.declared.fault.MoveFault.TheVariants.{Damaged, Memory, NewerSchema, NotOurs, Store}
 pub use Rattle.pawn_saving.proofs.Hosting.{as_lists, as_stands, relisted_by}
-pub use Rattle.pawn_saving.proofs.OurTables.{row_set_by, with_tables}
+pub use Rattle.pawn_saving.proofs.OurTables.{row_set_alone, with_tables}
 pub use Rattle.pawn_saving.proofs.RowsInOrder.{carried_none, carried_then, was_clean}
 pub use Rattle.pawn_tables.specs.declared.credits.Credit.{Credit}
 pub use Rattle.pawn_terms.specs.declared.terms.Rates.{Rates}

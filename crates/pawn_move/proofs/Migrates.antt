@@ -2,12 +2,13 @@
 use Rattle.pawn_move.proofs.Basics.{MoveFault, NotOurs, NewerSchema, Damaged, Store, Memory}
 use Rattle.pawn_move.proofs.ToldSchema.{third_is_ours}
 use Rattle.pawn_move.specs.Migrating.{HoldMoved, HoldSameHost, IsFailure, IsMoved, IsNotOurs, IsUnmovable, IsUntellable}
-use Rattle.pawn_move.specs.Migrating.{Migrates, MigratesOwed, MovesStore, MovesStoreOwed, TellsNumber, move_fault_of}
+use Rattle.pawn_move.specs.Migrating.{Migrates, MigratesIndexed, MigratesOwed, MovesStore, MovesStoreIndexed}
+use Rattle.pawn_move.specs.Migrating.{MovesStoreOwed, TellsNumber, move_fault_of}
 use Rattle.pawn_move.specs.StandsUnder.{IsSchema, StandsUnder}
 use Rattle.pawn_opening.proofs.Begun.{held, opens_as}
 use Rattle.pawn_opening.proofs.Gained.{gains_stands}
 use Rattle.pawn_opening.specs.Common.{HasCleanDisk, State, Trees, Host, StandForOne, HoldHost, StandsFor}
-use Rattle.pawn_opening.specs.Indexing.{HoldGained}
+use Rattle.pawn_opening.specs.Indexing.{GainsIndexes, HoldGained, lacking}
 use Rattle.pawn_opening.specs.Opened.{IndexesStore, IsAsBefore, OpensAs}
 use Rattle.pawn_opening.specs.Refusing.{NotesSchema}
 use Rattle.pawn_opening.specs.declared.fault.OpenFault.{OpenFault}
@@ -125,6 +126,12 @@ module _ (s0 s1 : State) (last : IsTrue s0.is_open → (trees : Trees) → s0.ma
     crash = crashed s0 s2 last (indexed s2 from three it (Ok tt) added);
   }
 
+  pub stays_indexed : (s2 : State) (from : ℕ) → from ≡ 3 → TellsNumber s0 s1 (Ok from) → IndexesStore s1 s2 (Ok tt) → MigratesIndexed s0 s2 (Ok (from, 3))
+  stays_indexed s2 from three it added clean = let was = before s2 from three it (Ok tt) added clean in (
+    λ told. subst (λ (d : Tables). GainsIndexes (lacking d.schema) d s2.now) ((it.same was).now (it.ok was).1) (added.ok clean (it.ok was).1).1,
+    λ n h schema less none st. let told : from ≡ n = it.stands was n h schema st in absurd (omega (arith, told, three, less)),
+  )
+
   pub not_indexed : (s2 : State) (from : ℕ) → from ≡ 3 → TellsNumber s0 s1 (Ok from) → (cause : OpenFault) → IndexesStore s1 s2 (Err cause) → (why : MoveFault)
       → IsFailure why → Migrates s0 s2 (Err why)
   not_indexed s2 from three it cause added why failure = record {
@@ -173,6 +180,13 @@ module _ (s0 s1 : State) (last : IsTrue s0.is_open → (trees : Trees) → s0.ma
   pub went_owed : (s2 : State) (from : ℕ) → TellsNumber s0 s1 (Ok from) → MovesStore from s1 s2 (Ok tt) → MovesStoreOwed from s1 s2 (Ok tt)
       → MigratesOwed s0 s2 (Ok (from, 3))
   went_owed s2 from it mv owed clean n h schema less none st = owed clean h none (on s2 from it (Ok tt) mv (early s2 from it (Ok tt) mv clean) n h schema st).1
+
+  pub went_indexed : (s2 : State) (from : ℕ) → (from ≡ 3 → ⊥) → TellsNumber s0 s1 (Ok from) → MovesStore from s1 s2 (Ok tt)
+      → MovesStoreIndexed from s1 s2 (Ok tt) → MigratesIndexed s0 s2 (Ok (from, 3))
+  went_indexed s2 from not it mv indexed clean = (
+    λ three. absurd (not three),
+    λ n h schema less none st. indexed clean h none (on s2 from it (Ok tt) mv (early s2 from it (Ok tt) mv clean) n h schema st).1,
+  )
 
   pub failed : (s2 : State) (from : ℕ) (e : KeepError) → TellsNumber s0 s1 (Ok from) → MovesStore from s1 s2 (Err e) → Migrates s0 s2 (Err (move_fault_of e))
   failed s2 from e it mv = record {

@@ -1,10 +1,10 @@
 -- The contracts of reading a store's schema and of migrating a store to the program's.
-use Rattle.pawn_move.specs.Moving.{AreAllOwed, EndsWithIndexes}
+use Rattle.pawn_move.specs.Moving.{AreAllOwed}
 use Rattle.pawn_move.specs.StandsUnder.{IsSchema, StandsUnder}
 use Rattle.pawn_move.specs.declared.fault.MoveFault.{MoveFault}
 use Rattle.pawn_move.specs.declared.fault.MoveFault.TheVariants.{NotOurs, NewerSchema, Damaged, Store, Memory}
 use Rattle.pawn_opening.specs.Common.{HasCleanDisk, State, Trees, Host, HoldHost}
-use Rattle.pawn_opening.specs.Indexing.{lacking}
+use Rattle.pawn_opening.specs.Indexing.{GainsIndexes, HasBothIndexes, lacking}
 use Rattle.pawn_opening.specs.Opened.{IsAsBefore, OpensAs}
 use Rattle.pawn_opening.specs.Refusing.{IsEmptyStore, NotesNoSchema, NotesSchema}
 use Rattle.pawn_opening.specs.declared.fault.OpenFault.{OpenFault}
@@ -127,6 +127,13 @@ abbrev pub MigratesOwed : State → State → Result (ℕ × ℕ) MoveFault → 
 MigratesOwed old new result =
     HasCleanDisk new → (n : ℕ) (h : Host) → IsSchema n → n < 3 → get h.books 0 ≡ None → StandsUnder n old.now h → IfOk result (λ told. AreAllOwed h)
 
+-- A store of the program's schema gains the indexes that it lacked, and nothing else. A store of an older schema that
+-- stands for a host then has both indexes of the program, and no others but those of the keys.
+abbrev pub MigratesIndexed : State → State → Result (ℕ × ℕ) MoveFault → Type 0
+MigratesIndexed old new result =
+    HasCleanDisk new → IfOk result (λ told. (told.0 ≡ 3 → GainsIndexes (lacking old.now.schema) old.now new.now)
+    × ((n : ℕ) (h : Host) → IsSchema n → n < 3 → get h.books 0 ≡ None → StandsUnder n old.now h → HasBothIndexes new.now.schema))
+
 -- ---- the transaction
 
 -- the trees stand, under the program's schema, for each host without a book 0 that the old tables stand for under
@@ -148,6 +155,7 @@ abbrev pub MovesStoreOwed : ℕ → State → State → Result (Unit {0}) KeepEr
 MovesStoreOwed n old new result =
     HasCleanDisk new → (h : Host) → get h.books 0 ≡ None → StandsUnder n old.now h → OnOk result (AreAllOwed h)
 
--- a store that is migrated has those of the program's indexes that it lacked, as its last ones
-abbrev pub GainsLacking : {A : Type 0} {E : Type 0} → State → State → Result A E → Type 0
-GainsLacking old new result = HasCleanDisk new → IfOk result (λ done. EndsWithIndexes (lacking old.now.schema) new.now)
+-- a store of schema n is migrated to one that has both indexes of the program, and no others but those of the keys
+abbrev pub MovesStoreIndexed : ℕ → State → State → Result (Unit {0}) KeepError → Type 0
+MovesStoreIndexed n old new result =
+    HasCleanDisk new → (h : Host) → get h.books 0 ≡ None → StandsUnder n old.now h → OnOk result (HasBothIndexes new.now.schema)

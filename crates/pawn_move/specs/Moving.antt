@@ -1,8 +1,8 @@
 -- Tables during a migration from an older schema.
 use Rattle.pawn_debt.specs.Replay.{CanStand}
 use Rattle.pawn_move.specs.StandsUnder.{HasNoExtension, StandsUnder, listed_under}
-use Rattle.pawn_opening.specs.Common.{Row, HasCleanDisk, State, Host, Listed, with_rows, ListsOurs, StandsFor, Database}
-use Rattle.pawn_opening.specs.Common.{AreLoose, Index}
+use Rattle.pawn_opening.specs.Common.{Row, HasCleanDisk, State, Host, Listed, with_rows, ListsOurs, StandsFor}
+use Rattle.pawn_opening.specs.Common.{Index, Lists, Schema, with_indexes}
 use Rattle.pawn_opening.specs.Indexing.{AreLacked}
 use Rattle.pawn_opening.specs.declared.indexing.Lacking.{Lacking}
 use Rattle.pawn_tables.specs.Common.{get, Tables, Totals, PledgeValue, debt_of, Each, BookValue, pledge_in, IsNextBook}
@@ -10,7 +10,7 @@ use Rattle.pawn_tables.specs.Common.{pledges_of, HasUnsoundBook, KeepError}
 use Rattle.pawn_tables.specs.Finding.{Finds}
 use Rattle.pawn_tables.specs.PledgeRows.{totals_in}
 use Rattle.pawn_tables.specs.Rows.{totals_listed}
-use Rattle.pawn_tables.specs.Schema.{extensions_tree, totals_tree}
+use Rattle.pawn_tables.specs.Schema.{extensions_tree, keep_schema, totals_tree}
 use Rattle.pawn_tables.specs.StandsFor.{AreBooksOrdered, AreStorable, ListDebts, of_pledges}
 use Rattle.pawn_terms.specs.Terms.{IsChecked}
 use Rattle.std.specs.Prelude.{◌≡◌, ◌++◌, ℕ, Bool, [], List, OnOk, Option, Some, None, IfSome, IsTrue, Result, flat_map}
@@ -20,10 +20,22 @@ use Rattle.std.specs.Prelude.{is_some}
 abbrev pub listed_with : ℕ → List Row → Host → Listed
 listed_with n owed h = with_rows (with_rows (listed_under n h) totals_tree owed) extensions_tree []
 
--- the program's tables hold the rows of a host without extensions, except that they have these rows of totals, and note
--- the number n of a schema
+-- The program's tables, with no indexes but those of their keys, hold the rows of a host without extensions, except that
+-- they have these rows of totals, and note the number n of a schema.
 pub record IsMoving (n : ℕ) (owed : List Row) (db : Tables) (h : Host) : Type 0 where
-  pub lists : ListsOurs db (listed_with n owed h)
+  pub lists : Lists keep_schema db (listed_with n owed h)
+  pub ordered : AreBooksOrdered h
+  pub storable : AreStorable h
+  pub unextended : HasNoExtension h
+
+-- the schema is the program's with these of its indexes, and no others but those of the keys
+abbrev pub HasMade : Option Lacking → Schema → Type 0
+HasMade which schema = (more : List Index) × AreLacked which keep_schema.tables more × (schema ≡ with_indexes more)
+
+-- The same tables after the last step: they note the number of the program's schema, and have these of its indexes.
+pub record HasMoved (which : Option Lacking) (owed : List Row) (db : Tables) (h : Host) : Type 0 where
+  pub lists : ListsOurs db (listed_with 3 owed h)
+  pub made : HasMade which db.schema
   pub ordered : AreBooksOrdered h
   pub storable : AreStorable h
   pub unextended : HasNoExtension h
@@ -90,6 +102,12 @@ abbrev pub NotesProgram : State → State → Result (Unit {0}) KeepError → Ty
 NotesProgram old new result =
     HasCleanDisk new → IsTrue old.in_transaction → (n : ℕ) (owed : List Row) (h : Host) → IsMoving n owed old.now h → OnOk result (IsMoving 3 owed new.now h)
 
+-- within a transaction the call notes the number of the program's schema, and makes these of its indexes
+abbrev pub Finishes : Option Lacking → State → State → Result (Unit {0}) KeepError → Type 0
+Finishes which old new result =
+    HasCleanDisk new → IsTrue old.in_transaction → (n : ℕ) (owed : List Row) (h : Host) → IsMoving n owed old.now h
+    → OnOk result (HasMoved which owed new.now h)
+
 -- within a transaction the call migrates tables of schema n to the program's; the error is NoRecord only if some book
 -- of the host is not sound
 abbrev pub Moves : ℕ → State → State → Result (Unit {0}) KeepError → Type 0
@@ -102,16 +120,8 @@ abbrev pub MovesOwed : ℕ → State → State → Result (Unit {0}) KeepError �
 MovesOwed n old new result =
     HasCleanDisk new → IsTrue old.in_transaction → (h : Host) → get h.books 0 ≡ None → StandsUnder n old.now h → OnOk result (AreAllOwed h)
 
--- ---- indexes that are made
-
--- the last indexes of the database are these of the program, over its tables, and none of them is UNIQUE
-pub record EndsWithIndexes (which : Option Lacking) (db : Database) : Type 0 where
-  pub others : List Index
-  pub more : List Index
-  pub indexes : db.schema.indexes ≡ others ++ more
-  pub lacked : AreLacked which db.schema.tables more
-  pub loose : AreLoose more
-
--- a part of the transaction makes these indexes, if any are lacking
-abbrev pub MakesLacking : Option Lacking → State → State → Result (Unit {0}) KeepError → Type 0
-MakesLacking which old new result = HasCleanDisk new → IsTrue old.in_transaction → OnOk result (EndsWithIndexes which new.now)
+-- within a transaction the call migrates tables of schema n only to ones that have these of the program's indexes, and
+-- no others but those of the keys
+abbrev pub MovesIndexed : ℕ → Option Lacking → State → State → Result (Unit {0}) KeepError → Type 0
+MovesIndexed n which old new result =
+    HasCleanDisk new → IsTrue old.in_transaction → (h : Host) → get h.books 0 ≡ None → StandsUnder n old.now h → OnOk result (HasMade which new.now.schema)

@@ -1,5 +1,5 @@
 //! Makes the tables and indexes that an older store lacks, and notes the new schema.
-ghost use Rattle.pawn_move.specs.Moving.{MakesLacking, NotesProgram};
+ghost use Rattle.pawn_move.specs.Moving.{Finishes, NotesProgram};
 ghost use Rattle.pawn_opening.specs.Common.{state, Lends};
 ghost use Rattle.pawn_opening.specs.Indexing.{AddsIndexes};
 ghost use Rattle.pawn_opening.specs.Laying.{AddsTable};
@@ -65,8 +65,7 @@ pub(crate) fn finish<S: Alter>(
     tx: &mut Transaction<'_, S>,
     lacking: Option<Lacking>,
 ) -> Result<(), KeepError>
-    ensures noted { NotesProgram (state S.Store tx.old.conn.now) (state S.Store tx.new.conn.now) result }
-    ensures indexed { MakesLacking lacking (state S.Store tx.old.conn.now) (state S.Store tx.new.conn.now) result }
+    ensures finishes { Finishes lacking (state S.Store tx.old.conn.now) (state S.Store tx.new.conn.now) result }
     ensures no_row { result ≢ Err (Keeper.Store NoRecord) }
     ensures lent { Lends S.Store tx.old.conn tx.new.conn (is_ok result) }
 {

@@ -1,6 +1,7 @@
 //! Migrates a store in one transaction.
-ghost use Rattle.pawn_move.specs.Migrating.{GainsLacking, Migrates, MigratesOwed, MovesStore, MovesStoreOwed};
-ghost use Rattle.pawn_move.specs.Moving.{MakesLacking, Moves, MovesOwed};
+ghost use Rattle.pawn_move.specs.Migrating.{Migrates, MigratesIndexed, MigratesOwed, MovesStore, MovesStoreIndexed};
+ghost use Rattle.pawn_move.specs.Migrating.{MovesStoreOwed};
+ghost use Rattle.pawn_move.specs.Moving.{Moves, MovesIndexed, MovesOwed};
 ghost use Rattle.pawn_opening.specs.Common.{state, Lends};
 ghost use Rattle.std.specs.Prelude.{◌≡◌, ◌⊎◌, false, is_ok};
 
@@ -28,7 +29,7 @@ fn move_tables<S: Alter>(
     requires older { (from ≡ 1) ⊎ (from ≡ 2) }
     ensures moves { Moves from (state S.Store tx.old.conn.now) (state S.Store tx.new.conn.now) result }
     ensures judges { MovesOwed from (state S.Store tx.old.conn.now) (state S.Store tx.new.conn.now) result }
-    ensures indexed { MakesLacking lacking (state S.Store tx.old.conn.now) (state S.Store tx.new.conn.now) result }
+    ensures indexed { MovesIndexed from lacking (state S.Store tx.old.conn.now) (state S.Store tx.new.conn.now) result }
     ensures lent { Lends S.Store tx.old.conn tx.new.conn (is_ok result) }
 {
     if from == 1 {
@@ -49,7 +50,7 @@ fn move_store<S: Alter>(conn: &mut Connection<S>, alloc: Global, from: u32) -> R
     requires older { (from ≡ 1) ⊎ (from ≡ 2) }
     ensures moves { MovesStore from (state S.Store conn.old) (state S.Store conn.new) result }
     ensures judges { MovesStoreOwed from (state S.Store conn.old) (state S.Store conn.new) result }
-    ensures indexed { GainsLacking (state S.Store conn.old) (state S.Store conn.new) result }
+    ensures indexed { MovesStoreIndexed from (state S.Store conn.old) (state S.Store conn.new) result }
 {
     know_settled(conn);
     let lacking = indexes_lacking(conn);
@@ -77,7 +78,7 @@ pub fn migrate<S: Alter>(alloc: Global, conn: &mut Connection<S>) -> Result<(u32
     requires rests { conn.old.in_transaction ≡ false }
     ensures migrates { Migrates (state S.Store conn.old) (state S.Store conn.new) result }
     ensures judges { MigratesOwed (state S.Store conn.old) (state S.Store conn.new) result }
-    ensures indexed { GainsLacking (state S.Store conn.old) (state S.Store conn.new) result }
+    ensures indexed { MigratesIndexed (state S.Store conn.old) (state S.Store conn.new) result }
 {
     know_settled(conn);
     let from = schema_of(conn)?;

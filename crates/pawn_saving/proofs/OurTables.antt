@@ -10,7 +10,7 @@ use Rattle.pawn_tables.specs.Ours.{with_indexes}
 use Rattle.pawn_tables.specs.Schema.{keep_schema}
 use Rattle.sqlite_rules.specs.Keys.{conflicts, shares}
 use Rattle.std.proofs.Common.{◌≡◌, ◌&&◌, ◌||◌, ◌++◌, ℕ, ℤ, ◌/◌, List, [], ◌∷◌, length, Bool, true, false, Option, Ok}
-use Rattle.std.proofs.Common.{refl, ap, filter, IsPermutation}
+use Rattle.std.proofs.Common.{refl, sym, ap, filter, IsPermutation, ◌∙◌}
 
 -- the tables list other rows, under the schema that they had
 pub under_same : {db old : Database} {listed was : Listed} (st : ListsOurs old was) → Lists (with_indexes st.more) db listed → ListsOurs db listed
@@ -31,6 +31,14 @@ module _ (at : ℕ) (t : Table) (terms : List Term) (width : ℕ) (text : List �
       under_same st (inserted (with_indexes st.more) at t terms width text (there st.more) (puts st.more).0
       (puts st.more).1 old new params source row shown count listed st.lists all as_it_is shows h)
 
+  -- under the schema that was there
+  pub joins_schema : (old new : State) (params source row shown : Row) (count : ℕ) (listed : Listed) → ListsOurs old.now listed
+      → value_rows params width (length terms / width) terms ≡ source ∷ [] → cast_row (plainly t) source ≡ row → ((rows : List Row) → columns_of (plainly t)
+      (with_rowid Chosen rows row) ≡ shown) → Executes text params old new (Ok count) → new.now.schema ≡ old.now.schema
+  unfolding row_joins under_same
+  joins_schema old new params source row shown count listed st all as_it_is shows h =
+      (row_joins old new params source row shown count listed st all as_it_is shows h).lists.schema_is ∙ sym st.lists.schema_is
+
 module _ (at : ℕ) (t : Table) (there : (more : List Index) → IsPlace (with_indexes more) at t) (is_tree : (db : Trees) → overlay db [] t.tree ≡ db t.tree)
     (tests shows : List Term) (text : List ℕ)
     (sets : (more : List Index) → Sets (with_indexes more) text at (over_table t.tree tests shows [])) (old new : State) (params : Row) (count : ℕ)
@@ -48,6 +56,14 @@ module _ (at : ℕ) (t : Table) (there : (more : List Index) → IsPlace (with_i
   row_set_by test before after rest passes_is split here none makes h =
       under_same st (set_one (with_indexes st.more) at t (there st.more) is_tree tests shows test text (sets st.more).0
       (sets st.more).1 old new params count listed before after rest st.lists passes_is split here none makes h)
+
+  -- and the schema stays
+  pub row_set_alone : (test : Row → Bool) (before after : Row) (rest : List Row) → ((r : Row) → passes tests params r ≡ test (columns_of (plainly t) r))
+      → IsPermutation (listed t.tree) (before ∷ rest) → test before ≡ true → filter test rest ≡ [] → Makes before after
+      → Executes text params old new (Ok count) → (new.now.schema ≡ old.now.schema) × ListsOurs new.now (with_rows listed t.tree (after ∷ rest))
+  unfolding row_set_by under_same
+  row_set_alone test before after rest passes_is split here none makes h = let l = row_set_by test before after rest passes_is split here none makes h in
+      (l.lists.schema_is ∙ sym st.lists.schema_is, l)
 
   -- it takes them where it passes another test too, or has them before
   pub row_set_where : (test differs : Row → Bool)

@@ -5,7 +5,7 @@ use Rattle.one_table.proofs.Upsertion.{upserted, Splits}
 use Rattle.pawn_debt.specs.Due.{credit_of}
 use Rattle.pawn_saving.proofs.Basics.{IsPlace, Puts, cast_int, cast_null, cast_whole, plainly, equals}
 use Rattle.pawn_saving.proofs.Differing.{differ, all_equal, same_number}
-use Rattle.pawn_saving.proofs.OurTables.{meets_same, row_joins, row_set_where, under_same}
+use Rattle.pawn_saving.proofs.OurTables.{joins_schema, meets_same, row_joins, row_set_where, under_same}
 use Rattle.pawn_saving.proofs.Places.{terms_place, entries_place, pledges_place, secrets_place, bookings_place}
 use Rattle.pawn_saving.proofs.Places.{totals_place, extensions_place}
 use Rattle.pawn_saving.specs.Common.{cast, cast_row, Chosen, Integer, value_rows, with_rowid, with_rows, AreLoose}
@@ -103,6 +103,14 @@ module _ (old new : State) (listed : Listed) (st : ListsOurs old.now listed) (co
       put 7 (record totals { tree = totals_tree }) text.five_values 6 text.PUT_TOTALS.now totals_place (λ more. (text.texts more).new_totals_is)
       (under b n (totals_cells t)) refl (λ i. cast_null i ∷ cast_int b i ∷ cast_int n i ∷ cast_int t.day i ∷ cast_int t.principal i ∷ cast_int t.millionths i
       ∷ []) (λ rows. refl) (rw charges at h)
+
+  pub new_totals_schema : (b n : ℕ) (c : ℤ) (t : Totals) → c ≡ pos t.millionths → Executes text.PUT_TOTALS.now (number b ∷ number n ∷ number t.day
+      ∷ number t.principal ∷ Int c ∷ []) old new (Ok count) → new.now.schema ≡ old.now.schema
+  new_totals_schema b n c t charges h = let row = under b n (totals_cells t) in
+      joins_schema 7 (record totals { tree = totals_tree }) text.five_values 6 text.PUT_TOTALS.now totals_place (λ more. (text.texts more).new_totals_is)
+      old new row (Null ∷ row) (Null ∷ row) row count listed st refl
+      (λ i. cast_null i ∷ cast_int b i ∷ cast_int n i ∷ cast_int t.day i ∷ cast_int t.principal i ∷ cast_int t.millionths i ∷ []) (λ rows. refl)
+      (rw charges at h)
 
   pub row_wrote : (b n : ℕ) (p : PledgeValue) {vs : Row} → vs ≡ under b n (pledge_cells p) → Executes text.PUT_PLEDGE.now vs old new (Ok count)
       → ListsOurs new.now (with_rows listed pledges_tree (under b n (pledge_cells p) ∷ listed pledges_tree))

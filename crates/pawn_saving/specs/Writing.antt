@@ -16,6 +16,11 @@ Joins old new result tree row =
     HasCleanDisk new → IsTrue old.in_transaction → (listed : Listed) → ListsOurs old.now listed
     → OnOk result (ListsOurs new.now (with_rows listed tree (row ∷ listed tree)))
 
+-- no index, table or view is made
+abbrev pub KeepsSchema : {E : Type 0} → State → State → Result (Unit {0}) E → Type 0
+KeepsSchema old new result =
+    HasCleanDisk new → IsTrue old.in_transaction → (listed : Listed) → ListsOurs old.now listed → OnOk result (new.now.schema ≡ old.now.schema)
+
 -- the table has this row, and other rows that all fail the test
 pub record IsOnly (test : Row → Bool) (rows : List Row) (row : Row) (others : List Row) : Type 0 where
   pub split : IsPermutation rows (row ∷ others)

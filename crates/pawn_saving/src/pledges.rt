@@ -1,5 +1,5 @@
 //! Writes the single rows of a pledge: its own row, its booking and its totals.
-ghost use Rattle.pawn_saving.specs.Writing.{Joins, PutsOver, Replaces};
+ghost use Rattle.pawn_saving.specs.Writing.{Joins, KeepsSchema, PutsOver, Replaces};
 ghost use Rattle.pawn_tables.specs.At.{at_pledge};
 ghost use Rattle.pawn_tables.specs.Common.{state, Totals, PledgeValue, Booking, Lends};
 ghost use Rattle.pawn_tables.specs.Rows.{booking_cells, pledge_cells, totals_cells, under};
@@ -113,6 +113,7 @@ pub fn put_totals<S: Alter>(
     totals: &Totals,
 ) -> Result<(), KeepError>
     ensures wrote { Joins (state S.Store tx.old.conn.now) (state S.Store tx.new.conn.now) result totals_tree (under book number (totals_cells totals.now)) }
+    ensures schema { KeepsSchema (state S.Store tx.old.conn.now) (state S.Store tx.new.conn.now) result }
     ensures lent { Lends S.Store tx.old.conn tx.new.conn (is_ok result) }
 {
     let day = totals.day.count();

@@ -1,5 +1,5 @@
-use Rattle.pawn_move.proofs.Indexed.{stays_indexed, went_indexed}
-use Rattle.pawn_move.proofs.Migrates.{failed, not_indexed, not_told, older, stays, stays_owed, went, went_owed}
+use Rattle.pawn_move.proofs.Migrates.{failed, not_indexed, not_told, older, stays, stays_indexed, stays_owed, went, went_indexed}
+use Rattle.pawn_move.proofs.Migrates.{went_owed}
 use Rattle.pawn_opening.specs.Common.{state}
 use Rattle.pawn_tables.proofs.OneHost.{tables_stand_for_one_host}
 use Rattle.std.proofs.Common.{Err, Ok, rules, ◌≡◌}
@@ -45,9 +45,12 @@ returns-in-Ok-clause-judges g c =
     (state g.S.Store c.move_store.new.conn) c.in_ok-from.from c.in_ok-from.ensures.tells c.in-Ok.ensures.moves c.in-Ok.ensures.judges
 
 pub returns-then-from-eq-SCHEMA-clause-indexed : goal.returns-then-from-eq-SCHEMA-clause-indexed
-returns-then-from-eq-SCHEMA-clause-indexed g c = stays_indexed (state g.S.Store c.args.conn.now) (state g.S.Store c.schema_of.new.conn)
-    (state g.S.Store c.add_indexes.new.conn) c.in_ok-from.from c.in_ok-from.ensures.tells c.in_default.ensures.indexed
+returns-then-from-eq-SCHEMA-clause-indexed g c = let three : c.in_ok-from.from ≡ 3 = search rules in
+    stays_indexed (state g.S.Store c.args.conn.now) (state g.S.Store c.schema_of.new.conn) (λ now trees left. g.met.S.Store.settled _ trees now left)
+    (state g.S.Store c.add_indexes.new.conn) c.in_ok-from.from three c.in_ok-from.ensures.tells c.in_default.ensures.indexed
 
 pub returns-in-Ok-clause-indexed : goal.returns-in-Ok-clause-indexed
-returns-in-Ok-clause-indexed g c = went_indexed (state g.S.Store c.args.conn.now) (state g.S.Store c.schema_of.new.conn)
-    (state g.S.Store c.move_store.new.conn) c.in_ok-from.from c.in_ok-from.from c.in_ok-from.ensures.tells c.in-Ok.ensures.moves c.in-Ok.ensures.indexed
+returns-in-Ok-clause-indexed g c =
+    went_indexed (state g.S.Store c.args.conn.now) (state g.S.Store c.schema_of.new.conn) (λ now trees left. g.met.S.Store.settled _ trees now left)
+    (state g.S.Store c.move_store.new.conn) c.in_ok-from.from c.if-from-eq-SCHEMA.false c.in_ok-from.ensures.tells c.in-Ok.ensures.moves
+    c.in-Ok.ensures.indexed

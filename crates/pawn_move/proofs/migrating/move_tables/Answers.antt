@@ -1,5 +1,5 @@
-use Rattle.pawn_move.proofs.Indexed.{last_of_four, last_of_three}
-use Rattle.pawn_move.proofs.Moved.{first_moved, first_not_put, first_owed, second_moved, second_not_judged, second_owed}
+use Rattle.pawn_move.proofs.Moved.{first_indexed, first_moved, first_not_put, first_owed, second_indexed, second_moved}
+use Rattle.pawn_move.proofs.Moved.{second_not_judged, second_owed}
 use Rattle.pawn_move.specs.Moving.{AreAllOwed}
 use Rattle.pawn_tables.specs.Common.{get}
 use Rattle.std.proofs.Common.{Err, None, is_ok, rules, ℕ, ◌≡◌, inl, inr, ◌⊎◌}
@@ -20,8 +20,14 @@ returns-in_err-put_books-clause-moves g c = let failed : c.from_residual-in_err-
 pub returns-in_ok-put_books-clause-moves : goal.returns-in_ok-put_books-clause-moves
 returns-in_ok-put_books-clause-moves g c =
     rw c.if-from-eq1.true (first_moved _ _ _ c.in_ok-make_totals.ensures.lent.leaves c.in_ok-make_extensions.ensures.lent.leaves
-    c.in_ok-make_totals.ensures.made c.in_ok-make_extensions.ensures.made _ _ c.finish.result (is_ok c.finish.result) c.in_ok-put_books.ensures.carried.leaves
-    c.finish.ensures.lent.leaves c.in_ok-put_books.ensures.puts c.finish.ensures.no_row c.finish.ensures.noted)
+    c.in_ok-make_totals.ensures.made c.in_ok-make_extensions.ensures.made c.args.lacking _ _ c.finish.result (is_ok c.finish.result)
+    c.in_ok-put_books.ensures.carried.leaves c.finish.ensures.lent.leaves c.in_ok-put_books.ensures.puts c.finish.ensures.finishes c.finish.ensures.no_row)
+
+pub returns-in_ok-put_books-clause-indexed : goal.returns-in_ok-put_books-clause-indexed
+returns-in_ok-put_books-clause-indexed g c =
+    rw c.if-from-eq1.true (first_indexed _ _ _ c.in_ok-make_totals.ensures.lent.leaves c.in_ok-make_extensions.ensures.lent.leaves
+    c.in_ok-make_totals.ensures.made c.in_ok-make_extensions.ensures.made c.args.lacking _ _ c.finish.result (is_ok c.finish.result)
+    c.in_ok-put_books.ensures.carried.leaves c.finish.ensures.lent.leaves c.in_ok-put_books.ensures.puts c.finish.ensures.finishes)
 
 pub returns-in_ok-put_books-clause-judges : goal.returns-in_ok-put_books-clause-judges
 returns-in_ok-put_books-clause-judges g c =
@@ -41,21 +47,15 @@ pub returns-in_ok-check_books-clause-moves : goal.returns-in_ok-check_books-clau
 returns-in_ok-check_books-clause-moves g c =
     rw (second c.requires.older c.if-from-eq1.false) (second_moved _ _ c.in_ok-make_extensions-2.ensures.lent.leaves c.in_ok-make_extensions-2.ensures.made _ _
     (is_ok c.finish-else-from-eq1.result) c.finish-else-from-eq1.result c.in_ok-check_books.ensures.carried.leaves c.finish-else-from-eq1.ensures.lent.leaves
-    c.in_ok-check_books.ensures.judges c.finish-else-from-eq1.ensures.no_row c.finish-else-from-eq1.ensures.noted)
+    c.in_ok-check_books.ensures.judges c.args.lacking c.finish-else-from-eq1.ensures.no_row c.finish-else-from-eq1.ensures.finishes)
+
+pub returns-in_ok-check_books-clause-indexed : goal.returns-in_ok-check_books-clause-indexed
+returns-in_ok-check_books-clause-indexed g c = rw (second c.requires.older c.if-from-eq1.false)
+    (second_indexed _ _ c.in_ok-make_extensions-2.ensures.lent.leaves c.in_ok-make_extensions-2.ensures.made _ _
+    (is_ok c.finish-else-from-eq1.result) c.finish-else-from-eq1.result c.in_ok-check_books.ensures.carried.leaves c.finish-else-from-eq1.ensures.lent.leaves
+    c.in_ok-check_books.ensures.judges c.args.lacking c.finish-else-from-eq1.ensures.finishes)
 
 pub returns-in_ok-check_books-clause-judges : goal.returns-in_ok-check_books-clause-judges
 returns-in_ok-check_books-clause-judges g c = rw (second c.requires.older c.if-from-eq1.false)
     (second_owed _ _ c.in_ok-make_extensions-2.ensures.lent.leaves c.in_ok-make_extensions-2.ensures.made _ _ (is_ok c.finish-else-from-eq1.result)
     c.finish-else-from-eq1.result c.in_ok-check_books.ensures.carried.leaves c.finish-else-from-eq1.ensures.lent.leaves c.in_ok-check_books.ensures.judges)
-
--- ---- and the indexes are made last
-
-pub returns-in_ok-put_books-clause-indexed : goal.returns-in_ok-put_books-clause-indexed
-returns-in_ok-put_books-clause-indexed g c = last_of_four c.args.lacking _ _ _ _ _ c.finish.result (is_ok c.finish.result)
-    c.in_ok-make_totals.ensures.lent.leaves c.in_ok-make_extensions.ensures.lent.leaves c.in_ok-put_books.ensures.carried.leaves
-    c.finish.ensures.lent.leaves c.finish.ensures.indexed
-
-pub returns-in_ok-check_books-clause-indexed : goal.returns-in_ok-check_books-clause-indexed
-returns-in_ok-check_books-clause-indexed g c = last_of_three c.args.lacking _ _ _ _ c.finish-else-from-eq1.result (is_ok c.finish-else-from-eq1.result)
-    c.in_ok-make_extensions-2.ensures.lent.leaves c.in_ok-check_books.ensures.carried.leaves
-    c.finish-else-from-eq1.ensures.lent.leaves c.finish-else-from-eq1.ensures.indexed
