@@ -27,7 +27,7 @@ export async function newestReceipt(number) {
   return null;
 }
 
-/** What the book tells of the receipts of a pledge. */
+/** What the book has of the receipts of a pledge, in words. */
 export function toldOfReceipts(number) {
   const { secrets } = ledger.pledge(number);
   const { day, paper } = secrets[secrets.length - 1];
@@ -67,7 +67,7 @@ function whyAtOnce(receipt, statement) {
 
 /**
  * Why a receipt is not live: what can be said at once, the pledge's statement or null, and the sentence that the book
- * gives once it is read anew, or null where it can't be read.
+ * yields once it is read anew, or null where it can't be read.
  */
 export async function whyDead(receipt) {
   const statement = await statementOf(numberOf(receipt));

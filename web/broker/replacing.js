@@ -33,7 +33,7 @@ export const printing = (statement, desk) => ({
   act: () => printAgain(desk),
 });
 
-/** After a lost reply the book tells whether a new receipt was made. */
+/** After a lost reply the book shows whether a new receipt was made. */
 const LOST = "The reply was lost, so a new receipt may have been made. Don’t ask for another: "
   + "“Print the receipt again” shows the newest one.";
 
@@ -66,8 +66,8 @@ const LOST_BEFORE = "The reply to the press before was lost, so a new receipt ma
   + "receipt again” shows the newest one. If you make another, that one is worth nothing.";
 
 /**
- * Before a declaration is sent again whose reply was lost, the book is read: a receipt that was made is shown. Gives
- * what is said then, or null where the book tells of no new receipt.
+ * Before a declaration is sent again whose reply was lost, the book is read: a receipt that was made is shown. Returns
+ * the message for that case, or null if the book has no new receipt.
  */
 async function madeBefore(desk) {
   const { number } = desk;

@@ -34,7 +34,7 @@ function done({ net, surplus, shortfall }) {
   return `Sold for ${inPounds(net)}, exactly what was owed.`;
 }
 
-/** After a lost reply the statement tells whether it was done. */
+/** After a lost reply the statement shows whether it was done. */
 async function settleLost(desk, fault) {
   const after = await desk.read().catch(() => { throw fault; });
   if (after.status === "sold") return `The reply was lost, but the pledge, read again, is sold. ${done(after.closing)}`;

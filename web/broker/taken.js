@@ -6,7 +6,7 @@ import { receiptSheet } from "./receipt.js";
 import { tellStanding } from "./standing.js";
 import { tagOf } from "./tag.js";
 
-/** Whether a receipt is a live one of a pledge that was taken now, and stands as it was sent. */
+/** Whether a receipt is a live one of a pledge that was taken now, and the pledge is as it was sent. */
 function isTakenNow({ held, opening, said, known }) {
   return said.number > known && held !== null && held.number === said.number && held.status === "inside"
     && held.entries.length === 0
@@ -15,8 +15,8 @@ function isTakenNow({ held, opening, said, known }) {
 }
 
 /**
- * The terms of a pledge that was taken just now: the newest ones, where no others were put meanwhile, or else those
- * that the whole book tells of it.
+ * The terms of a pledge that was taken just now: the newest ones, if no others were added meanwhile, or else those
+ * that the whole book has for it.
  */
 async function termsTaken(number, before) {
   const { terms } = await ledger.readHead();

@@ -1,4 +1,4 @@
-/** The book's terms: the versions that stand, and the next. */
+/** The book's terms: the versions that it has, and the next. */
 import { byId, make } from "../shared/dom.js";
 import { Refused } from "../shared/faults.js";
 import { onSend, run } from "../shared/forms.js";
@@ -47,7 +47,7 @@ function row({ version, rate, keepBefore, keepAfter }) {
   return make("tr", {}, ...cells.map((cell) => make("td", {}, cell)));
 }
 
-/** Shows the versions that stand, by the book's head. */
+/** Shows the versions that the book has, by the book's head. */
 function draw() {
   versions = ledger.head.terms;
   const heads = [

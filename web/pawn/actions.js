@@ -46,7 +46,7 @@ async function askForVisit(card, { day, window }) {
   return `Asked for ${when}. The shop says yes or no; look here again.`;
 }
 
-/** Whether a visit stands whose day is not over. */
+/** Whether the pledge has a visit whose day is not over. */
 const stands = ({ booking }) => isToCome(booking) && booking.day >= today();
 
 function visitFold(card) {

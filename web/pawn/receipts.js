@@ -7,8 +7,8 @@ import { Unreadable } from "../shared/unreadable.js";
 const KEPT = "receipts";
 
 /**
- * Takes the receipts out of the address, so that they stand in no bookmark and no shared link. The browser's history
- * may keep the link. Tells, too, whether the link was cut, and the book that it names.
+ * Takes the receipts out of the address, so that no bookmark and no shared link has them. The browser's history may
+ * keep the link. Returns, too, whether the link was cut, and the book that it names.
  */
 export function takeFragment() {
   const { hash } = location;

@@ -1,6 +1,6 @@
 /**
  * Each refusal of the service as a sentence for a person: why it was refused, and what to do. If the pawnor reads
- * another, it stands beside.
+ * another one, it is next to it.
  */
 import { inPounds } from "./money.js";
 
