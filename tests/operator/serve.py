@@ -94,7 +94,7 @@ def the_line_that_it_prints_makes_a_book():
             ran = subprocess.run(["bash", "-c", line], capture_output=True, text=True, timeout=30)
             expect("what curl got", ran.stdout, '{"book":7}')
             with open(f"/proc/{service.program.pid}/cmdline") as it:
-                expect("the key stands on no command line", service.key() in it.read(), False)
+                expect("the key is on no command line", service.key() in it.read(), False)
 
 
 def a_second_start_keeps_the_key_and_the_books():

@@ -78,7 +78,7 @@ def the_scripts_are_of_their_level():
             expect(f"{path}: no lookbehind", re.findall(r"\(\?<[=!]", text), [])
 
 
-# What stands in the way of a script: it can't be read, or the browser lacks what it needs.
+# What keeps a script from starting: it can't be read, or the browser lacks what it needs.
 NO_SCRIPT = {"urls": ["*broker.js*", "*pawn.js*"]}
 
 

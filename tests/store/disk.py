@@ -96,7 +96,7 @@ def fill_and_empty(path, filler):
 
 
 def opens(session, number):
-    """The status of an opening on a connection of its own, and its receipt where it is told; None where nobody
+    """The status of an opening on a connection of its own, and its receipt if the reply has it; None if no service
     listens."""
     opening = {"article": "Gold ring", "five_days": False, "kind": "fixed", "pence": 10000, "ref": f"A{number}"}
     try:

@@ -78,7 +78,7 @@ def unfold(title):
 
 
 def command(title, button, picture=None, **fields):
-    """Unfolds a command, fills its form and sends it, once what came of the act before it is shown."""
+    """Unfolds a command, fills its form and sends it, once the result of the act before it is shown."""
     browser.rests()
     unfold(title)
     if fields:
@@ -138,9 +138,9 @@ def a_pledge_by_its_receipt():
 
 
 def is_told_quietly(part):
-    """What a part of the page says last is not told as something done."""
+    """What a part of the page says last is not shown as something done."""
     said = browser.run(f"return document.querySelector('{part} .notice').className")
-    expect("it is not told as done", said, "notice quiet")
+    expect("it is not shown as done", said, "notice quiet")
 
 
 def agree(patience=2):
@@ -158,7 +158,7 @@ def send_taking(**fields):
 
 
 def take_a_ring(article="Gold ring", reference="A1", amount="100", **more):
-    """Takes a pledge at the counter, and gives its receipt and its link."""
+    """Takes a pledge at the counter, and returns its receipt and its link."""
     part("take")
     browser.fill("#taking", article=article, ref=reference, amount=amount, **more)
     send_taking()
