@@ -147,7 +147,7 @@ def live(path, chance, books):
     day, seeds = datetime.date(2024, 1, 1), itertools.count(1)
     expect("books", {it[0] for it in answers(path, day, next(seeds), [making(it.number) for it in books])}, {200})
     for _ in range(DAYS):
-        # A request rests on what the last on its book was told, so each book asks once a stream.
+        # A request depends on the reply to the last one on its book, so each book asks once in a stream.
         for _ in range(STEPS):
             chosen = [book.choose(chance, day) for book in books]
             for (status, said), (_, learn) in zip(answers(path, day, next(seeds), [it for it, _ in chosen]), chosen):

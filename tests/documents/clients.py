@@ -323,7 +323,7 @@ def what_the_proxy_says_by_itself():
         expect("a long head", by_proxy(port, "/books/7/held", X="x" * 40_000)[:2], (400, not_handed_on(400)))
         seen = [by_proxy(port, "/books/7/held", **view) for _ in range(40)]
         expect("many", {(it[0], it[2]) for it in seen}, {(200, None), (429, "2")})
-        expect("what they are told", next(it[1] for it in seen if it[0] == 429), not_handed_on(429))
+        expect("their answer", next(it[1] for it in seen if it[0] == 429), not_handed_on(429))
         time.sleep(2)
         expect("after as long as it said", by_proxy(port, "/books/7/held", **view)[0], 200)
         server.program.kill()

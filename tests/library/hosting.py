@@ -504,7 +504,7 @@ class Writer(threading.Thread):
                 if stand not in ((self.acknowledged, self.sent) if handed_on else (self.acknowledged,)):
                     self.wrong.append(
                         f"there are {stand} entries, {self.acknowledged} were acknowledged, and the next "
-                        f"was{'' if handed_on else ' not'} handed on"
+                        f"was{'' if handed_on else ' not'} passed on"
                     )
                 self.acknowledged = stand
                 return

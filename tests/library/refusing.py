@@ -87,7 +87,7 @@ def is_marked(reply):
 
 
 class Story:
-    """Requests of one day, with the receipts that they are told, over a store that may hold something before."""
+    """Requests of one day, with the receipts of their replies, over a store that may hold something before."""
 
     def __init__(self, name, start=None):
         self.name, self.requests, self.start, self.clean = name, [], start, {}

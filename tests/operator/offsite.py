@@ -74,7 +74,7 @@ def send(one):
 
 
 def a_folder_that_was_emptied(one, standby):
-    """What was sent stays, and the unit fails, so that the operator is told."""
+    """What was sent stays, and the unit fails, so that the operator is informed."""
     before = archives(standby)
     one.run("mv /var/backups/pawnd/main /root/away; mkdir -m 700 /var/backups/pawnd/main")
     one.run("systemctl start pawnd-offsite@main", wanted=1)

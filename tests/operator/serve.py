@@ -159,7 +159,7 @@ def what_was_acknowledged_stands_after_term():
         half.close()
         with Service(data) as service:
             told = service.make_book(1)
-            expect("the book that was told of", told, (200, {"book": 1}))
+            expect("the book that was acknowledged", told, (200, {"book": 1}))
         expect("no other", check(os.path.join(data, "books.db")), (0, "books 1 pledges 0 rows 1\n", ""))
 
 

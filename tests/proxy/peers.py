@@ -320,7 +320,7 @@ def a_store_is_killed_and_started():
         mine = [writer for writer in running if writer.book == 8]
         # What comes in while the store is down is answered at once; what it had taken has no reply.
         told = {(status, handed_on) for writer in mine for _, status, handed_on in writer.told}
-        expect(f"what the callers of the killed store were told: {told}", told <= {(503, False), (502, True)}, True)
+        expect(f"what the callers of the killed store got: {told}", told <= {(503, False), (502, True)}, True)
         print(
             f"        {sum(it.acknowledged for it in running)} repayments, 4 kills; "
             f"{sum(it.not_done for it in mine)} not passed on and {sum(it.unknown for it in mine)} unknown at the "
