@@ -125,7 +125,7 @@ def a_press_before_the_script_is_held():
 
 
 def a_clock_that_is_wrong_decides_nothing():
-    """A till that is three days ahead says so, and reckons with the service's day."""
+    """A till that is three days ahead says so, and computes with the service's day."""
     ahead = browser.devtools("Page.addScriptToEvaluateOnNewDocument", source=AHEAD)
     try:
         with Pages() as pages:

@@ -46,7 +46,7 @@ const repayment = (statement, desk) => ({
 });
 
 function drawing(statement, desk) {
-  const fixed = statement.kind === "fixed" ? "This pledge stands against a fixed sum." : null;
+  const fixed = statement.kind === "fixed" ? "This pledge is for a fixed sum." : null;
   return {
     title: "Drawing",
     barred: fixed ?? (statement.status === "inside" ? null : "The period is over."),
@@ -66,7 +66,7 @@ const isSameVisit = (one, other) =>
 async function decide(shown, yes, desk) {
   const { booking } = await lookFirst(desk.read());
   if (!isSameVisit(shown, booking)) {
-    const now = booking ? ` Now it stands so: ${bookingInWords(booking)}.` : "";
+    const now = booking ? ` Now it is: ${bookingInWords(booking)}.` : "";
     return {
       sentence: `The visit was changed since it was shown, so nothing was decided.${now} Decide on this one.`,
       tone: "bad",

@@ -59,7 +59,10 @@ function whyAtOnce(receipt, statement) {
     return `${DEAD}pledge ${number} was redeemed on ${inShort(statement.closing.day)}, and has no live receipt.`;
   }
   const secrets = ledger.pledge(number)?.secrets;
-  if (!secrets) return `${DEAD}a newer one took its place, a letter is wrong, or it is of another book. ${KEEP} Which it is, the book tells.`;
+  if (!secrets) {
+    return `${DEAD}a newer one took its place, a letter is wrong, or it is of another book. ${KEEP} `
+      + "The book, once it is read, shows which.";
+  }
   const place = secrets.findIndex(({ secret }) => receipt.endsWith(secret));
   if (place >= 0) return `${DEAD}a newer one took its place. ${KEEP}`;
   return `${DEAD}pledge ${number} never had it, by the book of ${clockOf(ledger.readAt)}. ${MISREAD}`;

@@ -165,7 +165,7 @@ class Desk {
     await ledger.theBook();
     if (ledger.pledge(this.number) === null) await ledger.awaitReading();
     const { known } = this;
-    if (!known.terms) throw new Error("the book does not tell the pledge’s terms");
+    if (!known.terms) throw new Error("the book does not have the pledge’s terms");
     byId("new-receipt").replaceChildren(receiptSheet({ statement, receipt, known }));
     byId("new-receipt").scrollIntoView();
   }

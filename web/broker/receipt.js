@@ -10,7 +10,7 @@ import { current } from "./session.js";
 import { shop } from "./shop.js";
 
 /** What the bearer of the paper can do with it, while the article can be redeemed and after. */
-const CARE = "Keep this paper safe. Whoever has it can redeem the pledge. If it is lost, tell the shop at once: "
+const CARE = "Keep this paper safe. Anyone who has it can redeem the pledge. If it is lost, tell the shop at once: "
   + "a new receipt makes this one worthless.";
 const SPENT = "The pledge can’t be redeemed any more. This paper shows what became of it.";
 

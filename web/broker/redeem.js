@@ -36,7 +36,7 @@ function compare({ owed, held }, paid) {
   if (held) throw refusalOf("Held");
   if (paid !== owed.owing) {
     throw new Unreadable(
-      `${inPounds(owed.owing)} is owed today, and redeeming wants all of it. You typed ${inPounds(paid)}.`, "amount",
+      `${inPounds(owed.owing)} is owed today, and redeeming needs all of it. You typed ${inPounds(paid)}.`, "amount",
     );
   }
 }

@@ -44,7 +44,7 @@ async function showPaper(desk) {
     const receipt = await desk.newestReceipt();
     if (receipt === null) return " No receipt of this pledge is live, so none is printed.";
     await desk.showReceipt(receipt, await desk.read());
-    return " The paper with the new end stands below: print it, and take the old one back.";
+    return " The paper with the new end is below: print it, and take the old one back.";
   } catch {
     return " The paper can’t be shown just now: “Print the receipt again” shows it.";
   }

@@ -11,7 +11,7 @@ import { confirmed, NOTHING_DONE } from "../shared/questions.js";
 function barredOf({ status, taken, ends, credit }, { fiveDays }) {
   if (status === "realisable") return null;
   if (fiveDays === null && status === "inside") {
-    return `The period ends on ${inWords(ends)}. The first day of a sale is told once the book is read.`;
+    return `The period ends on ${inWords(ends)}. The first day of a sale is shown once the book is read.`;
   }
   const standing = { taken, ends, pence: credit, fiveDays: fiveDays ?? status === "grace" };
   const first = inWords(firstDayAfter(standing));

@@ -24,7 +24,7 @@ async function termsTaken(number, before) {
   await ledger.awaitReading();
   if (ledger.pledge(number) === null) await ledger.awaitReading();
   const found = ledger.termsOf(ledger.pledge(number));
-  if (!found) throw new Error("the book does not tell the pledge’s terms");
+  if (!found) throw new Error("the book does not have the pledge’s terms");
   return found;
 }
 
@@ -51,7 +51,7 @@ export async function settle({ opening, said, known, before }) {
     await tellStanding(said.number, opening.ref);
   }
   const link = make("a", { href: `#pledge=${said.number}`, className: "pledge-link" }, `Pledge ${said.number}`);
-  const stands = make("p", { className: "taken screen" }, link, " stands: ", foreign(opening.article), ".");
+  const stands = make("p", { className: "taken screen" }, link, " is taken: ", foreign(opening.article), ".");
   byId("taken-receipt").replaceChildren(stands);
   const terms = await termsTaken(said.number, before);
   ledger.addTaken({ opening, statement: held, receipt: said.receipt, version: terms.version });

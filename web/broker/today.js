@@ -86,7 +86,7 @@ function waitingCard() {
     return card("Waiting for an answer, on any day", lines, "Nobody waits for an answer, as the book was read.");
   }
   const whole = card("Waiting for an answer, as far as was read", lines, "Nobody asked to come, as far as was read.");
-  whole.append(make("p", { className: "empty" }, "Other days, and articles, are told once the book is read."));
+  whole.append(make("p", { className: "empty" }, "Other days, and articles, are shown once the book is read."));
   return whole;
 }
 
@@ -109,7 +109,7 @@ async function fetchSheet(day) {
   return found;
 }
 
-/** Whether a sheet has an ask that the book in the page has not: somebody asked since it was read. */
+/** Whether a sheet has a request for a visit that the book in the page lacks: a pawnor asked since it was read. */
 const hasNews = ({ day, asked: all }) => ledger.book !== null && all.some(({ number, window }) => {
   const booking = ledger.pledge(number)?.booking;
   return booking?.day !== day || booking.window !== window || booking.state !== "asked";

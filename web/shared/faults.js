@@ -32,10 +32,10 @@ export function tellFault(fault, reader) {
     ? UNSEEN
     : `${UNSEEN} What you asked for was not sent, so it was not done.`;
   if (fault instanceof Lost) {
-    return "The reply was lost, so this may have been done. Look at how the pledge stands before you do it again.";
+    return "The reply was lost, so this may have been done. Look at the pledge before you do it again.";
   }
   return `This page did not understand what came back (${fault.message}). `
-    + "Look at how the pledge stands before you do anything again.";
+    + "Look at the pledge before you do anything again.";
 }
 
 /** The field of a form that a refusal speaks of, by its code. */

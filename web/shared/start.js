@@ -28,7 +28,7 @@ function showClock() {
   line.hidden = wrong === 0;
   if (wrong === 0) return;
   line.textContent = `The clock of this computer is ${howMuch(wrong)} ${wrong > 0 ? "ahead" : "behind"}. This page `
-    + `reckons with the service’s day, ${inWords(today())}. Have the clock set right.`;
+    + `computes with the service’s day, ${inWords(today())}. Have the clock set right.`;
 }
 
 /** Sends the form whose button was pressed before the page had started, as it is filled now. */

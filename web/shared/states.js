@@ -33,7 +33,7 @@ function insideOf(statement, now, { fiveDays }) {
   const state = { badge: "In its period", tone: "good" };
   if (fiveDays === null) return {
     ...state, line: `The period ends on ${inWords(ends)}`,
-    more: `${lastsFor(now, ends)}; days of grace are told once the book is read`,
+    more: `${lastsFor(now, ends)}; days of grace are shown once the book is read`,
   };
   const last = lastSafeDay({ ends, fiveDays });
   const grace = fiveDays ? `the period ends on ${inShort(ends)}, and five days of grace follow; ` : "";
