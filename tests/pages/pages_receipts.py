@@ -147,7 +147,8 @@ def a_visit_in_the_days_of_grace_is_in_time():
         show_receipt(pages, f"1-{secret_of(1)}")
         browser.says("days of grace run: 3 days left", "#cards")
         command("Ask for a time to come", "Ask for this time", day=str(ago(-3)), window="3")
-        browser.says(f"Asked for {in_words(ago(-3))}", "#cards")
+        # The result is shown above the forms once the look after the act has ended.
+        browser.says(f"Asked for {in_words(ago(-3))}", "#cards .pledge > .notice")
         pages.session.broker("POST", "/books/7/pledges/1/decide", {"yes": False})
         browser.press("#look-again")
         browser.says("refused by the shop", "#cards")

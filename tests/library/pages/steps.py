@@ -124,6 +124,8 @@ def a_pledge_at_the_counter():
         receipt = pages.session.open_pledge(1)
         open_book(pages)
         find("1")
+        # Until the pledge is shown the button that finds one is disabled.
+        browser.says("Pledge 1", "#statement")
         yield pages, receipt
 
 
