@@ -3,8 +3,9 @@ are asked for one day, with the entries of a pledge, and with the books of a sto
 
 usage: python3 -m bench.growth [--peer PEER] [PROGRAM]     (default: build/pawnd)
 
-PEER is a program as bench/beside.py has it; its times stand beside. Each store is filled by Python's sqlite3. A time is
-that of a process that answers a stream, less that of one that answers none, for each request: the best of some runs.
+PEER is a program as bench/beside.py has it; its times are printed in further columns. Each store is filled by Python's
+sqlite3. A time is that of a process that answers a stream, less that of one that answers none, for each request: the
+best of some runs.
 """
 import os
 import sqlite3
@@ -34,7 +35,7 @@ EACH_DAY = 20
 
 
 def put(base, table, columns, rows):
-    """Puts these columns of rows, those that the table has, and gives how many rows there were."""
+    """Puts these columns of rows, those that the table has, and returns how many rows there were."""
     has = {name for _, name, *_ in base.execute(f"PRAGMA table_info({table})")}
     if not has:
         return 0
@@ -138,7 +139,7 @@ def each(program, path, asked):
 
 
 def table(head, sizes, made, kinds):
-    """A table of times by these sizes: a store of each is made, and the requests of each kind are told by the size."""
+    """A table of times by these sizes: a store of each is made, and the requests of each kind depend on the size."""
     programs = [PROGRAM] + ([PEER] if PEER else [])
     times = {}
     for size in sizes:

@@ -3,7 +3,7 @@
 
 usage: bench/page.py [--print]     (with `--print` the page goes to standard output, and the file stays as it is)
 
-What stands in the page between `<!-- By bench/page.py: NAME -->` and `<!-- until here -->` is made of
+The part of the page between `<!-- By bench/page.py: NAME -->` and `<!-- until here -->` is made of
 bench/results/NAME.csv. Of each thing that was measured it has the rows of the commit that measured it last. What was
 measured is written as `THING` or as `THING: PART`, and the parts are the columns of a table.
 """

@@ -45,8 +45,8 @@ def once(connection, sent):
 
 
 def client(connect, asked, most, turns, told):
-    """Asks in turns, with a new connection after so many requests, and tells of each turn how often and how long it
-    took."""
+    """Asks in turns, with a new connection after so many requests, and notes of each turn how many requests were made
+    and how long it took."""
     connection, carried = connect(), 0
     for turn in range(RUNS):
         turns.wait()

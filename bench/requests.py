@@ -5,7 +5,7 @@ usage: python3 -m bench.requests [PROGRAM]     (default: build/pawnd)
 
 A stream has at most 1,000 requests, so a run is one book, its terms, and up to 998 openings, views
 or repayments. What a view costs is the time of 499 openings and 499 views less that of 499 openings,
-and so for sheets of a day on which nobody comes and of one on which all 499 periods end, for exports
+and so for sheets of a day without visits and of one on which all 499 periods end, for exports
 of the book and imports of it into other books, told for each pledge, and for repayments of one penny
 on each of 499 pledges. Repayments
 on one pledge are timed as its entries grow, each span less the one before it. Start and the reading

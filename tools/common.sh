@@ -1,4 +1,4 @@
-# What the scripts of this folder share. It is read by them, and not run. In a release they stand beside the program.
+# What the scripts of this folder share. It is read by them, and not run. In a release they are next to the program.
 here=$(cd "$(dirname "${BASH_SOURCE[0]}")" && pwd)
 if [ -x "$here/pawnd" ]; then top=$here; else top=$(dirname "$here"); fi
 

@@ -11,7 +11,7 @@ RUN_ON = ("stdin", "stdout", "args", "status")
 
 
 def crates():
-    """The crates that the program stands on, itself the last, by their lines of crates.txt."""
+    """The crates that the program depends on, itself the last, by their lines of crates.txt."""
     with open(os.path.join(TOP, "crates.txt")) as it:
         lines = {line.split(":")[0]: line for line in it if ":" in line and not line.startswith("#")}
     found = {}

@@ -1,5 +1,5 @@
-"""Which rows make a book: each border met from both sides. A book of three pledges is bent at one place so that its
-rows can have come about, and imported; bent a unit further it is refused. Over a file and in memory."""
+"""Which rows make a book: each border met from both sides. A book of three pledges is bent at one place so that
+requests can still produce its rows, and imported; bent a unit further it is refused. Over a file and in memory."""
 import json
 import os
 import subprocess
@@ -95,8 +95,8 @@ def text(pledges, terms=TERMS):
 
 
 def bent(number, *bends):
-    """The book with pledge NUMBER bent: each bend is members in place of its own, or a member and what stands at a
-    place of it or behind its last."""
+    """The book with pledge NUMBER bent: each bend is members in place of its own, or a member and the value at a
+    place of it or after its last."""
     pledges = book()
     for bend in bends:
         for member, value in bend.items():
@@ -134,9 +134,9 @@ def booking(*it):
 GRACE = {"five": "yes"}
 RUNNING = {"kind": "running", "sum": 10_000}
 
-# What is bent: the pledge, how it is bent first, the last way in which it can have come about, and one that it can't.
+# What is bent: the pledge, how it is bent first, the last form that requests can produce, and one that they can't.
 BORDERS = [
-    ("a version that stands", 3, [], {"version": 2}, {"version": 4}),
+    ("a version that exists", 3, [], {"version": 2}, {"version": 4}),
     ("no version before the first", 1, [], {"version": 1}, {"version": 0}),
     ("a version below that of the pledge before", 1, [], {"version": 1}, {"version": 2}),
     ("the largest sum", 3, [], {"sum": 100_000_000}, {"sum": 100_000_001}),
@@ -181,7 +181,7 @@ BORDERS = [
         "no booking for a day on which the property passed", 2, [], booking("8-1", 0, "refused"),
         booking("8-2", 0, "refused"),
     ),
-    ("nobody is to come for what was closed", 2, [], booking("8-1", 0, "refused"), booking("8-1", 0, "asked")),
+    ("no visit is to come for what was closed", 2, [], booking("8-1", 0, "refused"), booking("8-1", 0, "asked")),
     ("nor is confirmed", 2, [], booking("8-1", 0, "refused"), booking("8-1", 0, "confirmed")),
     ("no extension before the day taken", 1, [], extension(0, "2-1", "9-30"), extension(0, "1-31", "9-30")),
     ("no extension past the end", 1, [], extension(0, "8-1", "9-30"), extension(0, "8-2", "9-30")),
@@ -207,14 +207,14 @@ TERMS_BORDERS = [
 
 
 def pairs():
-    """What each border is of, the text on its near side, and the one beyond it with the refusal that it is told."""
+    """What each border is of, the text on its near side, and the one beyond it with its refusal."""
     for step, number, first, kept, beyond in BORDERS:
         yield step, bent(number, *first, kept), bent(number, *first, beyond)
     yield from TERMS_BORDERS
 
 
 def others():
-    """Texts beyond a border that is told before the end: of the order, of a count, and of a limit."""
+    """Texts beyond a border that is reported before the end: of the order, of a count, and of a limit."""
     yield "numbers of pledges in order", bent(3, {"number": 4}), (604, "Order", "\nP,4,")
     yield "entries in order", bent(1, entry(1, 3, "2-2", "repay", 500)), (604, "Order", "\nE,1,3,")
     yield "a pledge has a secret", bent(1, {"secrets": []}), (604, "Order", "\nE,1,1,")

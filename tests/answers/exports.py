@@ -1,5 +1,5 @@
 """Books taken out by curl as rows of CSV and put into others; texts that are hostile or too long; and rows that
-stand in no version but the first."""
+only the first version has."""
 import random
 import subprocess
 import tempfile
@@ -134,9 +134,9 @@ def changed():
     """Texts of which one thing is changed, each with what it is and how it is refused."""
     lines = EXAMPLE.splitlines(keepends=True)
     return [
-        ("two pledges are told", EXAMPLE.replace("B,1,1,1,", "B,1,1,2,"), fault(604, "Order", 8)),
-        ("two versions are told", EXAMPLE.replace("B,1,1,1,", "B,1,2,1,"), fault(604, "Order", 4)),
-        ("a hundred versions are told", EXAMPLE.replace("B,1,1,1,", "B,1,100,1,"), fault(606, "TooMany", 2)),
+        ("the count says two pledges", EXAMPLE.replace("B,1,1,1,", "B,1,1,2,"), fault(604, "Order", 8)),
+        ("the count says two versions", EXAMPLE.replace("B,1,1,1,", "B,1,2,1,"), fault(604, "Order", 4)),
+        ("the count says a hundred versions", EXAMPLE.replace("B,1,1,1,", "B,1,100,1,"), fault(606, "TooMany", 2)),
         (
             "a last change before the declaration", EXAMPLE.replace("no,2024-02-01,open", "no,2024-01-31,open"),
             fault(605, "NotReplayable", 8),
@@ -162,7 +162,7 @@ def changed():
         ),
         ("an extension in the first form", EXTENDED.replace("B,2,", "B,1,"), fault(603, "BadField", 6)),
         (
-            "an extension to the end that stands", EXTENDED.replace("2024-09-30", "2024-07-31"),
+            "an extension to the present end", EXTENDED.replace("2024-09-30", "2024-07-31"),
             fault(605, "NotReplayable", 7),
         ),
         ("a third form", EXTENDED.replace("B,2,", "B,3,"), fault(603, "BadField", 2)),
@@ -183,13 +183,13 @@ def changed_rows_are_refused():
         for step, rows, told in changes:
             expect(step, put(server, 7, rows), told)
         expect(
-            "before the key of another is told", put(server, 7, changes[5][1], key=IMPORT), fault(603, "BadField", 7),
+            "before another key is refused", put(server, 7, changes[5][1], key=IMPORT), fault(603, "BadField", 7),
         )
         expect("the key of another", put(server, 7, EXAMPLE, key=IMPORT), b'{"code":401,"name":"NoSuchBook"}')
         expect("no key of the import", put(server, 7, changes[5][1], importing="x"), b'{"code":709,"name":"BadKey"}')
         empty = text(row("B", "1", "0", "0"))
         expect("no rows at all", put(server, 7, empty), b'{"imported":0}')
-        expect("they are told again, whatever comes", put(server, 7, EXAMPLE), b'{"imported":0}')
+        expect("they are answered again, whatever comes", put(server, 7, EXAMPLE), b'{"imported":0}')
 
 
 def hostile_texts_are_refused():

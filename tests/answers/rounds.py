@@ -19,7 +19,7 @@ from tests.library.requests import request
 BOOKS, DAYS, STEPS, SEED = 60, 10, 10, 2024
 REFERENCES = ["A,1", '"', "A 3 ", ' \u00e9,""', "-", "row"]
 ARTICLES = ['Gold ring, "old"', ",,,", '"Uhr" \u2013 18 Karat', "#"]
-# What is to stand in some of the texts: each kind of row, and each word of a column.
+# What some of the texts have to contain: each kind of row, and each word of a column.
 WORDS = [
     "\nE,", "\nX,", "\nK,", "\nT,3,", "\nP,4,", ",running,", ",redeemed,", ",sold,", ",sworn,", ",written,", ",draw,",
     ",repay,", ",asked,", ",confirmed,", ",cancelled,", ',"""',
@@ -46,7 +46,7 @@ class Book:
         )
 
     def choose(self, chance, day):
-        """A request, which may be refused, and what its reply is told to."""
+        """A request, which may be refused, and the function that its reply is passed to."""
         way = chance.randrange(10)
         if way == 0 or not self.versions:
             terms = {
@@ -147,7 +147,7 @@ def live(path, chance, books):
     day, seeds = datetime.date(2024, 1, 1), itertools.count(1)
     expect("books", {it[0] for it in answers(path, day, next(seeds), [making(it.number) for it in books])}, {200})
     for _ in range(DAYS):
-        # A request rests on what the last on its book was told, so each book asks once a stream.
+        # A request depends on the reply to the last one on its book, so each book asks once in a stream.
         for _ in range(STEPS):
             chosen = [book.choose(chance, day) for book in books]
             for (status, said), (_, learn) in zip(answers(path, day, next(seeds), [it for it, _ in chosen]), chosen):
@@ -185,7 +185,7 @@ def books_are_read_as_they_were_written():
         expect("the same rows in memory", texts_of(":memory:", day, seed, made, filled, exported), first)
         expect("its check", check(path)[0], 0)
     for word in WORDS:
-        expect(f"{word!r} stands in a text", any(word in text for text in first), True)
+        expect(f"{word!r} is in a text", any(word in text for text in first), True)
 
 
 main(books_are_read_as_they_were_written)

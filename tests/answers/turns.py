@@ -4,11 +4,11 @@ without them.
 
 usage: python3 -m tests.answers.turns [NAME..]     (ann_and_bo plays tests/turns/ann_and_bo.txt alone)
 
-A turn that fails is told by its file, the line of its request and its number. A turn is two lines. The first is a
+A turn that fails is named by its file, the line of its request and its number. A turn is two lines. The first is a
 request: its day, the word of its stamp, who asks, the method and the target, and the body. Who asks is named by its
 key, or by its receipts, each by its pledge and the word that issued it. The second line is the reply: its status and
-its body. A `|` in a body stands for the end of a line. A word is one that the program draws by itself, so its secret is
-taken from the reply that tells it first.
+its body. A `|` in a body means the end of a line. A word is one that the program draws by itself, so its secret is
+taken from the first reply that has it.
 """
 import glob
 import itertools
@@ -31,7 +31,7 @@ ROWS = {"two_lives": 12, "full": 12, "at_the_limit": 12}
 
 
 class Turn(NamedTuple):
-    """A turn: where it stands, its request's line and its reply's."""
+    """A turn: its place, its request's line and its reply's."""
     place: str
     asked: str
     wanted: str

@@ -1,4 +1,4 @@
-"""What docs/CLIENTS.md tells a writer of clients, shown by the clients themselves: five requests by each that the
+"""What docs/CLIENTS.md says to a writer of clients, shown by the clients themselves: five requests by each that the
 machine has, with the times; how connections end; several receipts; two senders of one entry; what the proxy says by
 itself; and the two ways to try."""
 import contextlib
@@ -271,13 +271,13 @@ def several_receipts():
 
 
 def two_senders_of_one_entry():
-    """Both are told that it stands, and it stands once."""
+    """Both get the answer that it is entered, and it is entered once."""
     with two_pledges() as (server, receipts):
         session, entry, at = server.session(), {"pence": 1000, "seq": 1}, "/books/7/pledges/1/repay"
         one = session.bearer(receipts[0], "POST", "/books/7/held/repay", entry)
-        expect("both are told the same", (session.broker("POST", at, entry), one[0]), (one, 200))
+        expect("both get the same answer", (session.broker("POST", at, entry), one[0]), (one, 200))
         shown = session.broker("GET", "/books/7/pledges/1")[1]
-        expect("it stands once", (shown.count("Entry "), "Owing 90.00\n" in shown), (1, True))
+        expect("it is entered once", (shown.count("Entry "), "Owing 90.00\n" in shown), (1, True))
         expect("another sum", session.broker("POST", at, {"pence": 999, "seq": 1})[1]["code"], 301)
         session.close()
 
@@ -323,7 +323,7 @@ def what_the_proxy_says_by_itself():
         expect("a long head", by_proxy(port, "/books/7/held", X="x" * 40_000)[:2], (400, not_handed_on(400)))
         seen = [by_proxy(port, "/books/7/held", **view) for _ in range(40)]
         expect("many", {(it[0], it[2]) for it in seen}, {(200, None), (429, "2")})
-        expect("what they are told", next(it[1] for it in seen if it[0] == 429), not_handed_on(429))
+        expect("their answer", next(it[1] for it in seen if it[0] == 429), not_handed_on(429))
         time.sleep(2)
         expect("after as long as it said", by_proxy(port, "/books/7/held", **view)[0], 200)
         server.program.kill()
@@ -366,7 +366,7 @@ def a_pledge_of_long_ago():
 
 
 def two_ways_to_try():
-    """A store in memory ends with the program; the same day, seed and requests give the same replies."""
+    """A store in memory ends with the program; the same day, seed and requests get the same replies."""
     with two_pledges() as (_, receipts):
         pass
     with Server() as server:

@@ -156,15 +156,15 @@ def it_reads_every_clause_and_definition():
         commit(folder, {"crates/one/src/lib.rt": ""})
         status, lines = told(tool, "HEAD~1")
         gone = re.findall(r"(?m)^    - (?:requires|ensures) ", lines)
-        expect("how many clauses are told of", (status, len(gone)), (0, len(clauses) - 1))
+        expect("how many clauses are reported", (status, len(gone)), (0, len(clauses) - 1))
         form = r"^(abbrev )?pub (abbrev |record |data )?(?!use\b|mod\b)"
         defined = subprocess.run(["git", "-C", folder, "grep", "-hP", form, "HEAD~1", "--", "crates/*/specs/*.antt"],
                                  capture_output=True, text=True).stdout.split("\n")
         names = {re.sub(r"^(?:(?:abbrev|pub|record|data) )*", "", line).split(" ")[0] for line in defined if line}
         listed = set(re.findall(r"(?m)^gone     \w+: definition: (\S+)$", lines))
-        expect("definitions that are not told of", (sorted(names - listed)[:5], len(names) > 500), ([], True))
+        expect("definitions that are not reported", (sorted(names - listed)[:5], len(names) > 500), ([], True))
         constants = set(re.findall(r"(?m)^gone     \w+: constant: (\w+)$", lines))
-        expect("limits that are told of", {"SMALL_CREDIT", "MOST_PENCE", "MOST_TERMS", "MOST_BODY"} <= constants, True)
+        expect("limits that are reported", {"SMALL_CREDIT", "MOST_PENCE", "MOST_TERMS", "MOST_BODY"} <= constants, True)
 
 
 main(it_lists_what_differs, it_reads_every_clause_and_definition)

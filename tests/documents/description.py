@@ -1,6 +1,6 @@
 """The description of the service, docs/openapi.json, against the program: it is valid, its examples are what the
-program answers, each reply of a run of some thousand requests is as it says, and each refusal stands at exactly the
-routes that answer it, but for those named below."""
+program answers, each reply of a run of some thousand requests is as it says, and each refusal is listed at exactly
+the routes that answer it, but for those named below."""
 import atexit
 import datetime
 import importlib.util
@@ -24,9 +24,9 @@ from tests.library.tables import opened
 STRANGER = [["Pledge-Key", "99999999-9999-9999-9999-999999999999"]]
 LATE = "2025-06-01"
 
-# What no request can meet in a test: want of memory, and a book of a million pledges.
+# What no request can meet in a test: too little memory, and a book of a million pledges.
 UNSEEN = {(name, 491) for name in OPERATIONS} | {("takePledge", 412)}
-# What the rules name and no reply of a request tells: the reader of a request's body does not fail.
+# What the rules name and no reply of a request has: the reader of a request's body does not fail.
 UNTOLD = {607: "Read"}
 
 # The commands on a pledge: a body of each, that of a broker's and that of a bearer's.
@@ -155,7 +155,7 @@ def each_part_has_its_form():
 
 
 def its_refusals_are_those_of_the_pages():
-    """Each refusal has the name that the pages give it, and says what to do."""
+    """Each refusal has the name that it has in the pages, and says what to do."""
     sys.path.insert(0, os.path.join(TOP, "tools"))
     from description.sentences import sentences
     told = {code: name for code, (name, _, _) in sentences().items()}
@@ -255,7 +255,7 @@ def members_that_are_ignored_are_read():
 
 
 def texts_that_an_import_takes():
-    """What is taken is of the schema of a text that is handed in, and goes out as of the schema of an export."""
+    """What is taken is of the schema of a text for an import, and goes out as of the schema of an export."""
     turn_to("texts")
     pledge = row("P", 1, "A1", '"=1+1, ""gold"" \u2028"', "fixed", 100, DAY, "", "no", 1, "no", DAY, "open")
     rows = [COLUMNS, row("B", 2, 1, 1), row("T", 1, 0, 0, 0), pledge, *secrets(1, 1)]

@@ -1,8 +1,9 @@
-"""The documents: each path that one names is there, each script of tests/ is on the map, each link leads to a file and to a
-heading of it, each definition that the glossary names stands in the file that it names, each clause of docs/PROVED.md in the
-contract of its call, each definition of specs has a name of its own, each definition that is quoted stands in the file that it
-is quoted from. The sentences of the documents that are read in need are short, and so are the lines of the crates. Each
-source begins with what is found in it. An import names one crate. A measured figure stands in one document, and docs/BENCH.md is what its script writes.
+"""The documents: each path that one names is there, each script of tests/ is on the map, each link leads to a file and
+to a heading of it, each definition that the glossary names is in the file that it names, each clause of docs/PROVED.md
+is in the contract of its call, each definition of specs has a name of its own, each definition that is quoted is in the
+file that it is quoted from. The sentences of the documents that are read in need are short, and so are the lines of the
+crates. Each source begins with what is found in it. An import names one crate. A measured figure is in one document,
+and docs/BENCH.md is what its script writes.
 """
 import csv
 import glob
@@ -41,7 +42,7 @@ ENDS = "md|rt|antt|py|sh|json|yaml|conf|map|edit|html|js|css|txt|svg|service|tar
 # that files here have.
 WITH_SLASHES = re.compile(r"[\w.@*-]+(?:/[\w.@*-]+)+/?")
 WITH_AN_END = re.compile(rf"[\w@*-]+(?:\.[\w@*-]+)*\.(?:{ENDS})")
-# What is made by a command, or stands elsewhere, or is no path: media types, and names that stand for any.
+# What is made by a command, or is elsewhere, or is no path: media types, and names in place of any.
 NOT_HERE = re.compile(
     r"(application|text|x)/|.*\b(NAME|VERSION|BACKUP|ROOM|COPY|PATH|FOLDER|N)\b|(build|dist|data|out)/"
     r"|before-|copy\.json$|settings\.example$"
@@ -69,7 +70,7 @@ def named(section):
 
 
 def places(document, section, path):
-    """Where a path may stand: from the top, from the document's folder, in a folder of scripts, or in a crate that the
+    """Where a path may be: from the top, from the document's folder, in a folder of scripts, or in a crate that the
     section names (in any, if it names none)."""
     yield path
     yield os.path.join(os.path.dirname(document), path)
@@ -107,7 +108,7 @@ def anchors(text):
 
 
 def each_script_is_on_the_map():
-    """A script of tests/ that docs/ARCHITECTURE.md does not name is found by nobody."""
+    """A script of tests/ that docs/ARCHITECTURE.md does not name is not found by a reader."""
     part = read("docs/ARCHITECTURE.md").split("\n## Tests\n")[1].split("\n## ")[0]
     for folder in sorted(glob.glob("tests/*/", root_dir=TOP)):
         scripts = {os.path.basename(path)[:-3] for path in glob.glob(f"{folder}*.py", root_dir=TOP)}
@@ -170,7 +171,7 @@ CITED = re.compile(r"((?:`[\w:]+`(?:,| and) )*`[\w:]+`) \[((?:`\w+`,? ?)+)\]")
 
 
 def cited_clauses(text):
-    """What stands behind calls in brackets: the crate of the section, if it names one, the calls and the clauses."""
+    """What is after calls in brackets: the crate of the section, if it names one, the calls and the clauses."""
     for section in re.split(r"(?m)^## ", text):
         crate = re.match(r"`(\w+)`", section)
         for calls, clauses in CITED.findall(section):
@@ -265,7 +266,7 @@ def each_quotation_is_true():
     form = re.compile(r"(?ms)^```\w+ from (\S+)\n(.*?)^```$")
     quoted = [(document, *found) for document in DOCUMENTS for found in form.findall(read(document))]
     for document, path, block in quoted:
-        expect(f"what {document} quotes stands in {path}: {block}", block in read(path), True)
+        expect(f"what {document} quotes is in {path}: {block}", block in read(path), True)
     expect("how many there are", len(quoted) > 5, True)
 
 
@@ -300,7 +301,7 @@ def figures(text):
 
 
 def said_twice(texts):
-    """The figures that stand in more than one of these texts, each with the names of its texts."""
+    """The figures that are in more than one of these texts, each with the names of its texts."""
     places = {}
     for name, text in texts.items():
         for figure in figures(text):
@@ -325,11 +326,11 @@ def each_figure_stands_in_one_document():
         others = [name for name, text in texts.items() if name != "docs/BENCH.md" and thing in text]
         twice.update({thing: others} if others else {})
     if twice:
-        raise Failed(f"{len(twice)} figures stand in two documents: {dict(sorted(twice.items()))}")
+        raise Failed(f"{len(twice)} figures are in two documents: {dict(sorted(twice.items()))}")
 
 
 def building_and_testing_take_the_same_time_everywhere():
-    """README.md and make help tell how long to allow for the first build and for the first run of the tests."""
+    """README.md and make help say how long to allow for the first build and for the first run of the tests."""
     form = re.compile(r"[Aa]llow\s+([\w ]+?)\s+on\s+four\s+processors")
     allowed = {path: form.findall(read(path)) for path in ("README.md", "tools/help")}
     expect("what README.md allows", len(allowed["README.md"]), 2)
@@ -362,7 +363,7 @@ def these_checks_can_fail():
     expect("the comments of a source", comments("a.rt", source), [" One.", " Two is told.", "three"])
     expect("those of definitions", comments("A.antt", "-- one\na = b -- two\nc = d\n"), ["one", "two"])
     texts = {"a": "It takes 1,200 ms, and 3 to 5 minutes.", "b": "1200 ms", "c": "5 minutes, 7 s", "d": "v1.7 s"}
-    expect("figures that stand twice", said_twice(texts), {"1200 ms": ["a", "b"], "5 min": ["a", "c"]})
+    expect("figures that are there twice", said_twice(texts), {"1200 ms": ["a", "b"], "5 min": ["a", "c"]})
     expect("what was measured", len(measured_things()) > 20, True)
 
 

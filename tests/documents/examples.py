@@ -1,5 +1,5 @@
 """The programs of examples/ against the built program: what they print, that a broker's day run twice is one day,
-and what they do where replies are lost, where the proxy keeps requests back, where nobody is there, where another
+and what they do where replies are lost, where the proxy keeps requests back, where no service is there, where another
 sum is owing, and where an article is meant to mislead."""
 import datetime
 import os
@@ -35,7 +35,7 @@ def runs(name, *words, typed="", **environment):
 
 
 class Relay:
-    """Hands each request on to the service, and its reply back."""
+    """Passes each request on to the service, and its reply back."""
 
     def __init__(self, port):
         self.to, self.seen, self.listener = port, set(), socket.create_server(("127.0.0.1", 0))
@@ -102,7 +102,7 @@ class KeepingBack(Relay):
 
 
 class Forbidding(Relay):
-    """Says to each POST what a proxy says that lets nobody in."""
+    """Answers each POST as a proxy does that lets no caller in."""
 
     def reply(self, asked, is_new):
         said = b'{"proxy":403,"handed_on":false}'
@@ -205,7 +205,7 @@ def a_pawnors_visit():
 
 
 def a_day_goes_on_after_a_visit():
-    """The broker's day, the visit of who was given its receipt, and the day again."""
+    """The broker's day, the visit of the pawnor who got its receipt, and the day again."""
     with Server() as server:
         session, url = books_for(server), f"http://127.0.0.1:{server.port}"
         session.close()

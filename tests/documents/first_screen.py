@@ -1,4 +1,4 @@
-"""The README's first screen: `make demo` on a clean clone tells the story that stands there, within five minutes where
+"""The README's first screen: `make demo` on a clean clone prints the story that is there, within five minutes where
 there are four processors. `make serve` is started as it says, each of its curl lines is run, and what it prints is
 compared. The service is still there 70 seconds after it said that it listens.
 
@@ -50,7 +50,7 @@ def a_script_on_the_same_program(room, environment):
 
 
 def the_demo_on_a_clean_clone():
-    """It says first that nothing is proved, then how far it is, and then what the README tells, and the run of
+    """It says first that nothing is proved, then its progress, and then the README's story and the run of
     docs/THEOREM.md."""
     (start, _), *lines = steps()
     expect("what it begins with", start, "make demo")
@@ -79,7 +79,7 @@ def the_demo_on_a_clean_clone():
     for command, told in lines:
         if command.startswith("curl "):
             shown = "".join(f"    {line}\n" for line in told.split("\n"))
-            expect(f"the demo tells this to {command}: {shown}", shown in rest, True)
+            expect(f"the demo prints this for {command}: {shown}", shown in rest, True)
             rest = rest.split(shown, 1)[1]
     expect(
         "the requests of docs/THEOREM.md", re.findall(r"(?m)^(\d+)\. ", rest), [str(number) for number in range(1, 16)],
@@ -108,7 +108,7 @@ STORY = """\
 
 
 def a_story_of_ones_own():
-    """A reply that nobody wrote down is shown, and one that is another than was written down is told."""
+    """A reply that was not written down is shown, and one that differs from what was written down is reported."""
     with tempfile.TemporaryDirectory() as room:
         path = os.path.join(room, "story.txt")
         for story, status in ((STORY, 0), (STORY.replace('{"book":7}', '{"book":8}'), 2), ("x\n", 2), ("", 2)):
@@ -124,8 +124,8 @@ def a_story_of_ones_own():
                     "A clock is taken.\n  2024-01-31  POST /books/7   with the operator's key\n",
                     "And shown the next day.\n  2024-02-01  GET /books/7/held   with receipt 1-", "    Article Clock\n",
                 ):
-                    expect(f"it tells {line!r}", line in ran.stdout, True)
-                expect("what it tells of a reply", "NOT AS EXPECTED" in ran.stdout, story != STORY)
+                    expect(f"it prints {line!r}", line in ran.stdout, True)
+                expect("what it prints of a reply", "NOT AS EXPECTED" in ran.stdout, story != STORY)
             else:
                 expect("what it says of no story", "demo: " in ran.stderr and "Traceback" not in ran.stderr, True)
 
@@ -164,11 +164,11 @@ def ask(lines, port, folder, data):
         told = told.replace(days[0], str(today())).replace(days[1], str(six_months_after(today())))
         expect(command, said, RECEIPT.sub(str(receipt), told).replace(told_first[2:], str(receipt)[2:]))
     if receipt is None:
-        raise Failed("no receipt was given")
+        raise Failed("no receipt was issued")
 
 
 def the_operators_key_is_on_no_command_line():
-    """Each line that names the key's file hands curl a file to read it from."""
+    """Each line that names the key's file gives curl a file to read it from."""
     naming = [command for command, _ in steps() if "operator.key" in command]
     expect("that some line names the key's file", len(naming) > 0, True)
     expect("lines that take the key out of its file", [it for it in naming if "-H @<(" not in it], [])

@@ -21,7 +21,7 @@ GO = {"go": "golang-go", "/usr/share/gocode/src/github.com/getkin/kin-openapi/op
     "golang-github-getkin-kin-openapi-dev")}
 PYTHON = {"/usr/lib/python3/dist-packages/jsonschema/__init__.py": "python3-jsonschema",
           "/usr/share/openapi-specification/schemas/v3.0/schema.json": "openapi-specification"}
-# What one of the engines does not take: escapes by \u, and what looks around, back, or never gives back.
+# What one of the engines does not take: escapes by \u, lookaround, backreferences, and possessive parts.
 REFUSED = re.compile(r"\\u|\\[1-9kKpPzZAbB]|\(\?|[*+?}]\+|\[\[:")
 
 

@@ -52,7 +52,7 @@ def codes_in(text, digits="1-7"):
 
 
 def of_the_crates():
-    """The refusals that the crates can answer, as the functions that give their numbers have them."""
+    """The refusals that the crates can answer, as the functions that return their numbers have them."""
     found = {}
     for path in glob.glob("crates/*/src/**/*.rt", root_dir=TOP, recursive=True):
         if "_tests/" not in path:

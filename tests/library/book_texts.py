@@ -5,5 +5,5 @@ COLUMNS = "row," + ",".join(f"c{n}" for n in range(1, 15))
 
 
 def row(*columns):
-    """A row of a book's text; the columns that are not given are empty."""
+    """A row of a book's text; the columns that are missing here are empty."""
     return ",".join([*map(str, columns), *[""] * (15 - len(columns))])

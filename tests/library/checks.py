@@ -7,7 +7,7 @@ import sys
 import time
 
 # Under nohup, or in the background of a shell, a script ignores some signals, and what it starts would inherit that. A
-# signal with a handler has its default in what is started. (Python itself ignores two more, and gives those back.)
+# signal with a handler has its default in what is started. (Python itself ignores two more, and restores those.)
 for number in signal.valid_signals() - {signal.SIGPIPE, signal.SIGXFSZ}:
     if signal.getsignal(number) == signal.SIG_IGN:
         signal.signal(number, lambda *_: None)

@@ -233,8 +233,8 @@ class Run:
         self, name, wanted=0, body=None, fields=None, day=DAY, seed=None, receipt=None, book=7, number=1,
         shown="2024-03-04",
     ):
-        """Sends an operation with the fields of whom it is for, unless others are given, and gives what it says,
-        which is to be of that code."""
+        """Sends an operation with the fields of its caller, unless the arguments have others, and returns the reply,
+        which has to be of that code."""
         operation = OPERATIONS[name]
         if receipt:
             fields = [["Pledge-Receipt", receipt]]

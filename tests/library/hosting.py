@@ -48,7 +48,7 @@ def status(reply):
 
 
 def proxys(reply):
-    """What the proxy said in the service's place, as the status that it named and whether the request was handed on;
+    """What the proxy said in the service's place, as the status that it named and whether the request was passed on;
     None of a reply of the service."""
     said = json.loads(reply.body) if reply.fields.get("content-type") == "application/json" else {}
     return (said["proxy"], said["handed_on"]) if "proxy" in said else None
@@ -91,7 +91,7 @@ class Caller:
         return self.context.wrap_socket(plain, server_hostname=NAME)
 
     def send(self, sent, to_head=False):
-        """The reply to these bytes, on the connection that stands."""
+        """The reply to these bytes, on the open connection."""
         if self.connection is None:
             self.connection = self.connect()
         try:
@@ -118,8 +118,7 @@ class Caller:
 
 
 def steady_port():
-    """A free port below those of which the system gives connections their own, so that none takes it while a store is
-    away."""
+    """A free port below those that the system assigns to connections, so that none takes it while a store is away."""
     while True:
         port = random.randrange(15_000, 32_000)
         with contextlib.suppress(OSError), socket.socket() as it:
@@ -160,7 +159,7 @@ class Store:
 
 
 class Recorder:
-    """In a store's place: it keeps what it was sent, and answers as it is told: shortly, at length, not at all, or by
+    """In a store's place: it keeps what it was sent, and answers as `way` says: shortly, at length, not at all, or by
     closing the connection."""
 
     def __init__(self, *_):
@@ -212,10 +211,10 @@ class Recorder:
 
 
 def put(text, *pairs):
-    """The text with each first of two put for the second; each stands there."""
+    """The text with the second of each two in place of the first; each first is in the text."""
     for old, new in pairs:
         if old not in text:
-            raise Failed(f"{old!r} does not stand in {text[:60]!r}..")
+            raise Failed(f"{old!r} is not in {text[:60]!r}..")
         text = text.replace(old, new)
     return text
 
@@ -454,8 +453,8 @@ def open_pledge(caller, book, number, **changed):
 
 class Writer(threading.Thread):
     """Repays a pledge penny by penny through the proxy, until it is ended, and keeps account of what was acknowledged.
-    If no reply of the service comes it looks how the pledge stands: what was not handed on was not done, and what was
-    may have been. A connection that the proxy ends under it is `cut`. `told` has what it was told by the proxy.
+    If no reply of the service comes it looks at the pledge: what was not passed on was not done, and what was may have
+    been. A connection that the proxy ends under it is `cut`. `told` has what the proxy answered.
     """
 
     def __init__(self, hosted, book, number, pause=0.012):
@@ -504,8 +503,8 @@ class Writer(threading.Thread):
                 stand = reply.body.count(b"\nEntry ")
                 if stand not in ((self.acknowledged, self.sent) if handed_on else (self.acknowledged,)):
                     self.wrong.append(
-                        f"{stand} entries stand, {self.acknowledged} were acknowledged, and the next "
-                        f"was{'' if handed_on else ' not'} handed on"
+                        f"there are {stand} entries, {self.acknowledged} were acknowledged, and the next "
+                        f"was{'' if handed_on else ' not'} passed on"
                     )
                 self.acknowledged = stand
                 return

@@ -22,7 +22,7 @@ def missing(packages=PACKAGES):
 
 
 def provide(packages=PACKAGES):
-    """Installs the packages of what is missing, if this is root on a Debian; gives what is missing then."""
+    """Installs the packages of what is missing, if this is root on a Debian; returns what is missing then."""
     if missing(packages) and os.geteuid() == 0 and shutil.which("apt-get"):
         # The run level keeps the package of nginx from starting a server of its own.
         quiet = {**os.environ, "DEBIAN_FRONTEND": "noninteractive", "RUNLEVEL": "1"}

@@ -10,7 +10,7 @@
    REFUSE_ERROR   the number of the error, 5 where it is not said
    REFUSE_WHILE   a file: calls are counted only while it is there; always where it is not said
    REFUSE_COUNT   a file into which the number of counted calls is written at the end
-   REFUSE_CLOCK   a file with the seconds since 1970 that the clock tells while the file is there */
+   REFUSE_CLOCK   a file with the seconds since 1970 that the clock shows while the file is there */
 #define _GNU_SOURCE
 #include <dlfcn.h>
 #include <errno.h>

@@ -1,7 +1,7 @@
 """What the scripts share that refuse calls of the machine in the program: the library that does it, runs under it, and
 what the rules say of them.
 
-A run in which something was refused is judged by a clean run: each request that was answered 491 or 492 is replaced
+A run in which something was refused is compared with a clean run: each request that was answered 491 or 492 is replaced
 by one that changes nothing and takes its stamp, and then each other reply has to be the same, byte for byte, and so
 the content at the end."""
 import atexit
@@ -66,7 +66,7 @@ class Ran:
         self.status, self.said, self.complained = ran.returncode, ran.stdout, ran.stderr.decode()
 
     def replies(self):
-        """The whole replies, and what stands behind the last of them."""
+        """The whole replies, and what comes after the last of them."""
         found, left = [], self.said
         while left:
             head, _, rest = left.partition(b"\r\n\r\n")
@@ -87,13 +87,13 @@ def is_marked(reply):
 
 
 class Story:
-    """Requests of one day, with the receipts that they are told, over a store that may hold something before."""
+    """Requests of one day, with the receipts of their replies, over a store that may hold something before."""
 
     def __init__(self, name, start=None):
         self.name, self.requests, self.start, self.clean = name, [], start, {}
 
     def ask(self, *asked):
-        """Adds a request, and gives what it is answered in a clean run, as JSON where it is that."""
+        """Adds a request, and returns its answer in a clean run, as JSON where it is that."""
         self.requests.append(
             request(*asked[:-1], body=json.dumps(asked[-1])) if isinstance(asked[-1], dict) else request(*asked)
         )
@@ -104,7 +104,7 @@ class Story:
         return [NOTHING if place in marks else it for place, it in enumerate(self.requests)]
 
     def store(self, kind):
-        """A store of a kind, as it stands before the story: in memory, or the path of a file in a folder of its own."""
+        """A store of a kind, as it is before the story: in memory, or the path of a file in a folder of its own."""
         if kind == "memory":
             return ":memory:"
         folder = tempfile.mkdtemp(dir=ROOM)
@@ -150,7 +150,7 @@ def judge(story, ran, path):
         if place not in marks and reply != want:
             return f"reply {place + 1} is {reply[-200:]!r} in place of {want[-200:]!r}"
     if rest and not story.run_clean(marks)[0][len(replies)].startswith(rest):
-        return f"what stands behind reply {len(replies)} is no front of the next: {rest!r}"
+        return f"what comes after reply {len(replies)} is no beginning of the next: {rest!r}"
     if path == ":memory:":
         return None
     found = content(path)
@@ -173,7 +173,7 @@ def counted(story, kind, calls):
 
 
 def each_refused(story, kind, calls, ends, step=1, first=1, **how):
-    """Refuses each of these calls in turn, and judges each run. Gives how many there were. What a run may end with,
+    """Refuses each of these calls in turn, and checks each run. Returns how many there were. What a run may end with,
     beside 0, is in ends."""
     whole = counted(story, kind, calls)
 
@@ -198,7 +198,7 @@ def each_refused(story, kind, calls, ends, step=1, first=1, **how):
 def each_refused_in_a_migration(calls, ends, step=1, first=lambda: 1, books=8, **how):
     """Refuses each of these calls in turn while a store of an older schema is moved, or one of the program's gets its
     indexes. Each run does it or ends as one of ends, and leaves the store for another try, which leads to the same
-    books. Gives how many calls there were for each schema."""
+    books. Returns how many calls there were for each schema."""
     told = []
     for number, statements in ((1, BACK_TO_FIRST), (2, BACK_TO_SECOND), (3, WITHOUT_INDEXES)):
         with tempfile.TemporaryDirectory() as room:

@@ -11,7 +11,7 @@ def request(method, target, *fields, body="", version="HTTP/1.1"):
 
 
 def keyed_request(method, target, body=None, key=BROKER):
-    """The bytes of a request with a key: the broker's, where no other is given."""
+    """The bytes of a request with a key: the broker's, unless an argument has another."""
     return request(method, target, f"Pledge-Key: {key}", body="" if body is None else json.dumps(body))
 
 

@@ -50,7 +50,7 @@ def database_of(*statements):
 
 
 def with_its_log(*statements, salt=None):
-    """A store whose last commits stand in its log, as a program leaves it that is killed. The log's salt, which is
+    """A store whose last commits are in its log, as a program leaves it that is killed. The log's salt, which is
     drawn at random, begins with the byte `salt`, if one is wanted."""
 
     def make(path):

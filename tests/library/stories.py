@@ -1,4 +1,4 @@
-"""Stories that the scripts tell which refuse calls of the machine: requests of one day, each with what it shows."""
+"""Stories of the scripts that refuse calls of the machine: requests of one day, each with what it shows."""
 from tests.library.checks import Failed, expect
 from tests.library.keys import BROKER, KEY, OPERATOR
 from tests.library.refusing import Story, body_of

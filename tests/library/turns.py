@@ -1,5 +1,5 @@
-"""Turns, as the files of tests/turns/ have them: the bytes of a request's line and of a reply's, and the secrets that
-stand for their words."""
+"""Turns, as the files of tests/turns/ have them: the bytes of a request's line and of a reply's, and the secrets in
+place of their words."""
 from tests.library.keys import OPERATOR, SECRET
 
 KEYS = {
@@ -9,7 +9,7 @@ KEYS = {
 
 
 class Words:
-    """The secrets that stand for the words of turns, as the program drew them."""
+    """The secrets in place of the words of turns, as the program drew them."""
 
     def __init__(self):
         self.secrets = {}
@@ -22,7 +22,7 @@ class Words:
         return SECRET.sub(lambda it: self.of(int(it[0].replace("-", ""), 16)), text) if "-0000-" in text else text
 
     def learn(self, word, wanted, told):
-        """Takes the secret that a reply tells first, where it is to tell that of this word."""
+        """Takes the secret from the first reply that has it, if that is the reply that issues this word's."""
         tells = '"receipt":"' in wanted and wanted.endswith(f'-00000000-0000-0000-0000-{word:012x}"}}')
         if tells and word not in self.secrets:
             self.secrets[word] = SECRET.findall(told)[-1]

@@ -9,7 +9,7 @@ PATIENCE = 10
 
 
 def wait_for(found, what, patience=PATIENCE):
-    """What the function gives once it is something."""
+    """What the function returns once it is true."""
     end = time.monotonic() + patience
     while time.monotonic() < end:
         if it := found():

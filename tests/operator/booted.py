@@ -145,7 +145,7 @@ def who_is_told(one):
     from tests.library.operator.documented import DEPLOYING, command
 
     one.run("printf '#!/bin/sh\\ncat >>/root/mails; echo \"$@\" >>/root/mails\\n' >/usr/local/bin/mail; chmod +x /usr/local/bin/mail")
-    one.run(command(DEPLOYING, "Who is told", "on-failure"))
+    one.run(command(DEPLOYING, "Messages about problems", "on-failure"))
     one.run("systemctl kill --kill-whom=main -s KILL pawnd@main; until grep -q 'pawnd@main.service failed' /root/mails; do sleep 0.2; done")
     answers_again(one)
     one.run("systemctl stop nginx; systemctl start pawnd-status || true")

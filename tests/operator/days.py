@@ -1,4 +1,4 @@
-"""The commands of docs/DEPLOYING.md and docs/OPERATING.md on Debians that run systemd, as they stand there: the copies
+"""The commands of docs/DEPLOYING.md and docs/OPERATING.md on Debians that run systemd, as they are written: the copies
 of the first week, and the bad days."""
 import tempfile
 
@@ -92,7 +92,7 @@ def a_broker_who_leaves(one):
 def the_clock_and_the_monitor(one):
     one.run(command(OPERATING, "A wrong clock", "timedatectl"), wanted=None)
     said = one.run(command(OPERATING, "What to watch", "curl").replace("curl -s", "curl -sk --resolve books.example.org:443:127.0.0.1"))
-    expect("what a monitor is told", said, '{"code":712,"name":"NoReceipt"}')
+    expect("what a monitor gets", said, '{"code":712,"name":"NoReceipt"}')
 
 
 if __name__ == "__main__":

@@ -54,7 +54,7 @@ def a_second_machine(one, second):
     one.run("pawnd-admin book 11 --store east --name 'Far Street' --key-to /root/11.key")
     expect("a new book there", ask(one, "/books/11/pledges/1", key="/root/11.key")[0], 404)
     stranger = one.run("ip address add 10.0.0.9/24 dev to-second; curl -s --interface 10.0.0.9 -o /dev/null -w '%{http_code}' http://10.0.0.3:8103/books/10/held")
-    expect("nobody but the proxy reaches the relay", stranger, "403")
+    expect("no caller but the proxy reaches the relay", stranger, "403")
     told = one.run("pawnd-admin status || true")
     expect("what is wrong", [it for it in told.splitlines() if re.match("WRONG(?!.*certificate|.* sent off this machine)", it)], [])
 

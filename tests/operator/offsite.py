@@ -74,7 +74,7 @@ def send(one):
 
 
 def a_folder_that_was_emptied(one, standby):
-    """What was sent stays, and the unit fails, so that the operator is told."""
+    """What was sent stays, and the unit fails, so that the operator is informed."""
     before = archives(standby)
     one.run("mv /var/backups/pawnd/main /root/away; mkdir -m 700 /var/backups/pawnd/main")
     one.run("systemctl start pawnd-offsite@main", wanted=1)
@@ -84,7 +84,7 @@ def a_folder_that_was_emptied(one, standby):
 
 
 def a_receiver_that_is_silent(one, standby):
-    """It delays no copy, no request and no look at the state; the sending is given up, and goes on another day."""
+    """It delays no copy, no request and no look at the state; the sending ends, and goes on another day."""
     standby.run("ip link set to-one down")
     one.run("systemctl start --no-block pawnd-offsite@main")
     one.run("sleep 1; systemctl start pawnd-copy@main")
@@ -94,7 +94,7 @@ def a_receiver_that_is_silent(one, standby):
         "for i in $(seq 150); do s=$(systemctl show -P ActiveState pawnd-offsite@main); "
         "[ $s = activating ] || break; sleep 1; done; echo $s"
     ).strip()
-    expect("the sending is given up", ended, "failed")
+    expect("the sending ends", ended, "failed")
     standby.run("ip link set to-one up; ip address add 10.9.0.2/24 dev to-one 2>/dev/null || true")
     one.run("systemctl reset-failed")
     send(one)
@@ -102,7 +102,7 @@ def a_receiver_that_is_silent(one, standby):
 
 
 def an_intruder_with_the_key(one, standby):
-    """Whoever has the first machine's key gets no shell and no other file, and what they remove comes back."""
+    """An intruder with the first machine's key gets no shell and no other file, and what they remove comes back."""
     ssh = "ssh -i /etc/pawnd/offsite.key -o BatchMode=yes pawnd-received@standby "
     told = one.run(f"timeout 20 {ssh} 'cat /etc/passwd; touch /tmp/was-here' </dev/null 2>&1 || true")
     expect("a shell", ("root:" in told, standby.run("ls /tmp/was-here 2>/dev/null || true")), (False, ""))

@@ -1,5 +1,5 @@
-"""A store on three machines, as docs/REPLICATED.md sets it up: power cuts, lines that are cut under load and while nobody
-asks, and one machine after the other started anew. Every acknowledged change is looked up afterwards.
+"""A store on three machines, as docs/REPLICATED.md sets it up: power cuts, lines that are cut under load and
+while no client asks, and one machine after the other started anew. Every acknowledged change is looked up afterwards.
 
 A number on the command line says how many rounds there are, and a second one the seed."""
 import os
@@ -114,7 +114,7 @@ def a_line_while_nobody_asks(machines, load):
         (it, _), at = serving(machines), time.monotonic()
         it.line(False)
         time.sleep(5)
-    await_takeover(load, f"the line of {it.name} was cut while nobody asked", at)
+    await_takeover(load, f"the line of {it.name} was cut while no client asked", at)
     whole_again(machines, load, it)
 
 

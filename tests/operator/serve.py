@@ -94,7 +94,7 @@ def the_line_that_it_prints_makes_a_book():
             ran = subprocess.run(["bash", "-c", line], capture_output=True, text=True, timeout=30)
             expect("what curl got", ran.stdout, '{"book":7}')
             with open(f"/proc/{service.program.pid}/cmdline") as it:
-                expect("the key stands on no command line", service.key() in it.read(), False)
+                expect("the key is on no command line", service.key() in it.read(), False)
 
 
 def a_second_start_keeps_the_key_and_the_books():
@@ -159,7 +159,7 @@ def what_was_acknowledged_stands_after_term():
         half.close()
         with Service(data) as service:
             told = service.make_book(1)
-            expect("the book that was told of", told, (200, {"book": 1}))
+            expect("the book that was acknowledged", told, (200, {"book": 1}))
         expect("no other", check(os.path.join(data, "books.db")), (0, "books 1 pledges 0 rows 1\n", ""))
 
 

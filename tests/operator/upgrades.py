@@ -77,7 +77,7 @@ def the_way_back(one, first, second):
 
 def a_changed_file_is_kept(one, first, second):
     """A configuration file that the operator changed and the new version did too: the operator's stays, the new one
-    stands beside it. A changed file of the package's own is shown."""
+    is next to it. A changed file of the package's own is shown."""
     one.run("sed -i s/KEEP=30/KEEP=40/ /etc/pawnd/pawnd.conf")
     install(one, second, "-o Dpkg::Options::=--force-confdef -o Dpkg::Options::=--force-confold")
     expect("the operator's", one.run("grep KEEP= /etc/pawnd/pawnd.conf").strip(), "KEEP=40")

@@ -115,7 +115,7 @@ def starts_that_are_refused():
             expect(f"{words}", (ran.returncode, says in ran.stderr, os.path.exists(room)), (1, True, False))
 
 
-# What is wrong for whoever reads by a screen reader or presses with a finger, as a list of texts.
+# What is wrong for a user of a screen reader or of a touch screen, as a list of texts.
 WRONG = r"""
 const wrong = [];
 const seen = [...document.querySelectorAll("body *")].filter((one) => one.checkVisibility());
@@ -147,7 +147,7 @@ def is_right(name):
 
 
 def each_part_is_right(scheme):
-    """Each part of the broker's page: the heading has the focus, the title tells it, nothing is too wide or too
+    """Each part of the broker's page: the heading has the focus, the title names it, nothing is too wide or too
     small."""
     for name in PARTS:
         part(name)
@@ -168,7 +168,7 @@ RING = "2-00000002-0000-4000-8000-000000000000"
 
 
 def fill_with_all_sorts(pages):
-    """A book with a pledge of each sort, long names and large sums; somebody asks to come."""
+    """A book with a pledge of each sort, long names and large sums; a pawnor asks to come."""
     fill_book(pages, book_text([
         ("Clock", "G1", 9000, ago(400), ago(2), "yes"), (*LONG_NAMES, 9000, ago(3), "", "no"),
         ("Lamp", "G5", 100000000, ago(400), ago(-30), "no"), ("Vase", "G7", 9000, ago(400), "", "no"),
@@ -184,7 +184,7 @@ def a_pledge_is_right(scheme):
     command("Repayment", "Record the repayment", amount="x")
     browser.says("Write the amount in pounds", "#commands")
     wanted = ["amount", "true", "Write the amount in pounds, as 100 or 99.50.", True]
-    expect("the refusal is tied to its field, and stands near it", browser.run(TIED), wanted)
+    expect("the refusal is tied to its field, and is near it", browser.run(TIED), wanted)
     is_right(f"{scheme} pledge")
     browser.shoot(f"{scheme}-pledge")
     take_a_ring(reference=scheme)

@@ -192,12 +192,12 @@ def redemption_by_the_paper():
         expect("the address names the pledge and no receipt", browser.run("return location.hash"), "#pledge=1")
         browser.fill(".action[open] form", amount="99.99")
         browser.press(".action[open] button", "Redeem")
-        browser.says("£100.00 is owed today, and redeeming wants all of it.", "#commands")
+        browser.says("£100.00 is owed today, and redeeming needs all of it.", "#commands")
         browser.shoot("broker-redeem")
         command("Repayment", "Record the repayment", amount="100")
         agree()
         browser.says("£0.00 is owed now.", "#commands")
-        expect("the pledge stands open", "Status inside" in pages.session.broker("GET", "/books/7/pledges/1")[1], True)
+        expect("the pledge is open", "Status inside" in pages.session.broker("GET", "/books/7/pledges/1")[1], True)
         part("today")
         find(receipt.upper().replace("-", "–"))
         browser.says("This receipt is live. £0.00 is owed today.", "#commands")
@@ -234,7 +234,7 @@ def a_receipt_is_printed_again():
             ("Put on hold", "Hold", "The pledge is on hold"), ("Release the hold", "Release", "The hold is released."),
         ):
             command("Print the receipt again", "Print the receipt again")
-            browser.says("whoever has either can redeem it", "dialog")
+            browser.says("anyone who has either can redeem it", "dialog")
             browser.press("dialog button", "Print it again")
             browser.says("it is live. The pledge has had one receipt.", "#commands")
             expect("the same receipt", browser.text(".paper .secret").strip(), receipt)
@@ -257,7 +257,7 @@ def who_waits_for_another_day():
         order = [lines.index(f"Pledge {number}") for number in (3, 2, 1)]
         expect("by day and time", order == sorted(order), True)
         browser.says(f"{in_short(ago(-9))}, in 9 days, 09:30 to 10:00", "#sheet")
-        expect("and nobody is overlooked", "Nobody waits" in browser.text("#sheet"), False)
+        expect("and no visit is overlooked", "Nobody waits" in browser.text("#sheet"), False)
         browser.shoot("broker-waiting")
 
 
@@ -313,7 +313,7 @@ def a_visit_that_was_changed_is_not_confirmed_unseen():
         browser.says("The visit was changed since it was shown, so nothing was decided.", "#commands")
         browser.says(f"{in_words(second)}, 11:00 to 11:30: asked for", "#statement")
         expect(
-            "it stands as asked", f"Booking {second} 4 asked" in pages.session.broker("GET", "/books/7/pledges/1")[1],
+            "it is as asked", f"Booking {second} 4 asked" in pages.session.broker("GET", "/books/7/pledges/1")[1],
             True,
         )
         browser.press(".action[open] button", "Confirm")

@@ -1,5 +1,5 @@
 """A shop's day at the counter: pledges are found by their references, what is typed is looked at, parts are gone to and
-fro, and the till tells the day; in a real browser, in front of the program."""
+fro, and the till shows the day; in a real browser, in front of the program."""
 import os
 
 from tests.library.checks import expect

@@ -43,7 +43,7 @@ TURNS = int(os.environ.get("TURNS", "1"))
 
 class Line:
     """A slow line to a port: each piece comes half the way's time later, all pieces of a direction share its width, a
-    connection takes one way there and back to stand, and sends no more than the other side has acknowledged, as TCP
+    connection takes one round trip to be made, and sends no more than the other side has acknowledged, as TCP
     does at its beginning."""
 
     def __init__(self, port, way=THERE_AND_BACK, width=BYTES):
@@ -88,7 +88,7 @@ class Line:
             return self.free_at[direction]
 
     def carry(self, one, other, direction, begun):
-        """Takes pieces as the window lets it, and gives each on when it arrives."""
+        """Takes pieces as the window lets it, and passes each on when it arrives."""
         arriving, flying, window = collections.deque(), collections.deque(), FIRST_WINDOW
         stands, ended = begun + (self.way if direction == "up" else 0), False
         with contextlib.suppress(OSError):
@@ -153,7 +153,7 @@ class TrustedHosted(Hosted):
 
 
 def make_key():
-    """Makes that key, and gives the hash of its public half."""
+    """Makes that key, and returns the hash of its public half."""
     words = ["openssl", "genpkey", "-algorithm", "EC", "-pkeyopt", "ec_paramgen_curve:prime256v1", "-out", KEY.name]
     subprocess.run(words, check=True, timeout=60, capture_output=True)
     public = ["openssl", "pkey", "-in", KEY.name, "-pubout", "-outform", "DER"]
@@ -171,7 +171,7 @@ def hosted():
         yield it
 
 
-# Keeps when a button of the selector is pressed, and when the text stands in the place after that.
+# Keeps when a button of the selector is pressed, and when the text is in the place after that.
 WATCH = """
 const [button, place, text] = arguments;
 window.pressed = window.shown = null;
@@ -208,7 +208,7 @@ IS_READ = "return document.querySelector('#book-age').textContent.startsWith('Th
 
 
 def first_screen(found, page, address, then, script):
-    """When the first screen of a page is shown, and when the script gives something true after that."""
+    """When the first screen of a page is shown, and when the script returns something true after that."""
     browser.devtools("Network.clearBrowserCache")
     browser.go(address)
     started = browser.until(script, then, patience=30) / 1000
@@ -267,7 +267,7 @@ def the_first_screens_are_soon():
 
 
 def nothing_waits_for_the_whole_book_over_tls():
-    """Over HTTP/2 all replies of a connection stand in one row, so the whole book has a connection of its own."""
+    """Over HTTP/2 all replies of a connection wait in one row, so the whole book has a connection of its own."""
     found = collections.defaultdict(list)
     with hosted() as it:
         for turn in range(TURNS):

@@ -82,7 +82,7 @@ def due():
 
 
 def kept():
-    """The page's memory in MB, once what nobody uses was given back."""
+    """The page's memory in MB, once what is not used any more was released."""
     browser.devtools("HeapProfiler.collectGarbage")
     return browser.devtools("Runtime.getHeapUsage")["usedSize"] / 1e6
 

@@ -339,7 +339,7 @@ def no_text_becomes_code_or_markup():
             re.findall(r"<script(?![^>]*src=)|<style|\sstyle=|\son\w+=|https?://", text), [],
         )
         ids = re.findall(r'\sid="([^"]+)"', text)
-        expect(f"{path}: each id stands once", len(ids), len(set(ids)))
+        expect(f"{path}: each id is there once", len(ids), len(set(ids)))
         expect(
             f"{path}: what is named by id is there",
             [

@@ -78,7 +78,7 @@ def the_scripts_are_of_their_level():
             expect(f"{path}: no lookbehind", re.findall(r"\(\?<[=!]", text), [])
 
 
-# What stands in the way of a script: it can't be read, or the browser lacks what it needs.
+# What keeps a script from starting: it can't be read, or the browser lacks what it needs.
 NO_SCRIPT = {"urls": ["*broker.js*", "*pawn.js*"]}
 
 
@@ -125,7 +125,7 @@ def a_press_before_the_script_is_held():
 
 
 def a_clock_that_is_wrong_decides_nothing():
-    """A till that is three days ahead says so, and reckons with the service's day."""
+    """A till that is three days ahead says so, and computes with the service's day."""
     ahead = browser.devtools("Page.addScriptToEvaluateOnNewDocument", source=AHEAD)
     try:
         with Pages() as pages:

@@ -27,7 +27,7 @@ def pages_of(pdf):
 
 
 def text_of(pdf):
-    """What stands on the paper; nothing where there is no reader of it."""
+    """The text on the paper; nothing where there is no reader of it."""
     if missing(TEXTS):
         return None
     with tempfile.NamedTemporaryFile(suffix=".pdf") as it:
@@ -165,7 +165,7 @@ def all_else_goes_on_a4():
 
 
 provide({**PACKAGES, **TEXTS, **READER})
-for what, reader in (("what stands on the paper", TEXTS), ("what its square code says", READER)):
+for what, reader in (("the text on the paper", TEXTS), ("what its square code says", READER)):
     if missing(reader):
         not_tried(what, f"there is no {missing(reader)[0]}")
 main(150, (), (a_receipt_is_one_a5, a_tag_is_a_small_paper, a_receipt_without_more, all_else_goes_on_a4))

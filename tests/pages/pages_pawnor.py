@@ -67,7 +67,7 @@ def without_a_line():
         browser.press("dialog button", "Not yet")
         browser.says("Nothing was done.", "#cards")
         expect(
-            "and is not told as done",
+            "and is not shown as done",
             browser.run("return [...document.querySelectorAll('.notice')].find((one) => one.textContent).className"),
             "notice quiet",
         )
@@ -88,7 +88,7 @@ def a_payment_on_a_line_that_drops():
 
 
 def a_receipt_that_is_typed_again_takes_the_place_of_the_mistyped_one():
-    """What was mistyped does not stand above the pledge; a pledge, and what cannot be reached, stays."""
+    """What was mistyped is not shown above the pledge; a pledge, and what cannot be reached, stays."""
     with a_pledge_by_its_receipt() as (pages, receipt):
         browser.says("Gold ring", "#cards")
         other = pages.session.open_pledge(2, article="Silver spoon")

@@ -76,7 +76,7 @@ def blanks_and_capitals_are_read_everywhere():
             browser.says("This receipt is live.", "#commands")
         browser.fill(".action[open] form", receipt=receipt.replace("-", "  "), amount="99")
         browser.press(".action[open] button", "Redeem")
-        browser.says("redeeming wants all of it", "#commands")
+        browser.says("redeeming needs all of it", "#commands")
         no_faults()
 
 
@@ -131,7 +131,7 @@ def what_will_be_owed_is_told_by_the_link():
 def a_visit_that_is_over_is_not_offered_to_be_cancelled():
     with Pages() as pages:
         make_book(pages, terms=False)
-        text = book_text([("Ring", "R1", 10000, ago(30), "", "no")]) + f"K,1,{ago(3)},2,confirmed" + "," * 10 + "\n"
+        text = book_text([("Ring", "Ring-1", 10000, ago(30), "", "no")]) + f"K,1,{ago(3)},2,confirmed" + "," * 10 + "\n"
         fill_book(pages, text)
         show_receipt(pages, f"1-{secret_of(1)}")
         browser.says("confirmed, on a day that is over", "#cards")
@@ -143,11 +143,12 @@ def a_visit_that_is_over_is_not_offered_to_be_cancelled():
 def a_visit_in_the_days_of_grace_is_in_time():
     with Pages() as pages:
         make_book(pages, terms=False)
-        fill_book(pages, book_text([("Ring", "R1", 20000, ago(400), ago(2), "yes")]))
+        fill_book(pages, book_text([("Ring", "Ring-1", 20000, ago(400), ago(2), "yes")]))
         show_receipt(pages, f"1-{secret_of(1)}")
         browser.says("days of grace run: 3 days left", "#cards")
         command("Ask for a time to come", "Ask for this time", day=str(ago(-3)), window="3")
-        browser.says(f"Asked for {in_words(ago(-3))}", "#cards")
+        # The result is shown above the forms once the look after the act has ended.
+        browser.says(f"Asked for {in_words(ago(-3))}", "#cards .pledge > .notice")
         pages.session.broker("POST", "/books/7/pledges/1/decide", {"yes": False})
         browser.press("#look-again")
         browser.says("refused by the shop", "#cards")

@@ -1,4 +1,4 @@
-"""What the broker's page reckons that will be owed on another day, and how a pledge stands then, beside what the
+"""The sum that the broker's page computes for another day, and the status of a pledge then, compared with what the
 program itself says: 1,000 drawn pledges and days, by `pawnd answer`."""
 import datetime
 import os

@@ -33,7 +33,7 @@ def an_extension_is_asked_about():
         browser.shoot("broker-extend")
         browser.press("dialog button", "Not now")
         browser.says("Nothing was done.", "#commands")
-        expect("the end stands", ends_of(pages), str(end))
+        expect("the end is unchanged", ends_of(pages), str(end))
         longer = end.replace(day=1).replace(year=end.year + 1)
         days = (longer - end).days
         browser.rests()
@@ -209,7 +209,7 @@ window.fetch = async (path, how) => {
 
 
 def a_take_that_was_lost_with_its_page_can_be_opened():
-    """The page was closed before the reply came. It names the pledge that stands before another reference."""
+    """The page was closed before the reply came. It names the pledge of that reference before it asks for another."""
     with an_open_book() as pages:
         the_book_is_read()
         part("take")
@@ -245,7 +245,7 @@ def nothing_is_sent_that_is_to_be_refused():
             browser.fill("#taking", article="Crown", ref="A3", amount=amount)
             browser.press("#taking button", "Take the pledge")
             browser.element("#take-amount[aria-invalid=true]")
-            browser.says("it is at least a penny and at most a million pounds. Put another amount.", "#taking")
+            browser.says("it is at least a penny and at most a million pounds. Enter another amount.", "#taking")
         expect("and no more", [name for name, _ in browser.run("return window.posts")], ["pledges", "pledges"])
 
 
@@ -281,7 +281,7 @@ window.fetch = async (path, how) => {
 
 
 def what_came_of_an_act_is_told_although_the_book_was_read_meanwhile():
-    """The forms are not drawn anew under a payment, and once the line has dropped it is told above them."""
+    """The forms are not drawn anew under a payment, and once the line has dropped it is reported above them."""
     with Pages() as pages:
         make_book(pages)
         pages.session.open_pledge(1)
@@ -319,7 +319,7 @@ def terms_are_put_after_a_take_that_wanted_them():
         part("terms")
         browser.fill("#new-terms", rate="0.2667")
         browser.press("#new-terms button")
-        browser.says("Version 1 stands.", "#terms")
+        browser.says("Version 1 is added.", "#terms")
         part("take")
         browser.element("#taking")
         expect("no word of no terms", "no terms" in browser.text("#taking"), False)
@@ -358,16 +358,16 @@ def a_hold_bars_redemption_before_it_is_sent():
         browser.says("On hold", "#statement")
         browser.element(".action > summary", "Release the hold")
         expect("nothing was sent", browser.run("return window.posts"), [])
-        expect("and it stands", "Status inside" in pages.session.broker("GET", "/books/7/pledges/1")[1], True)
+        expect("and it is open", "Status inside" in pages.session.broker("GET", "/books/7/pledges/1")[1], True)
 
 
 def a_pledge_is_renewed_in_one_step():
     with Pages() as pages:
         make_book(pages, terms=False)
-        fill_book(pages, book_text([("Ring", "R1", 10000, ago(30), "", "yes")], rates=(2667, 0, 0)))
+        fill_book(pages, book_text([("Ring", "Ring-1", 10000, ago(30), "", "yes")], rates=(2667, 0, 0)))
         open_book(pages)
         the_book_is_read()
-        find("R1")
+        find("Ring-1")
         end = six_months_after(ago(30))
         later = six_months_after(end)
         command("Renew", "Renew the pledge", "broker-renew")
@@ -379,7 +379,7 @@ def a_pledge_is_renewed_in_one_step():
         expect("its receipt", browser.text(".paper .secret").strip(), f"1-{secret_of(1)}")
         expect("both were done", (len(entries(pages, 1)), ends_of(pages)), (1, str(later)))
         command("Print a tag for the bag", "Show the tag")
-        for says in ("R1", "Ring", f"Until {in_short(later + (ago(0) - ago(5)))}"):
+        for says in ("Ring-1", "Ring", f"Until {in_short(later + (ago(0) - ago(5)))}"):
             browser.says(says, ".tag")
         browser.shoot("broker-tag")
         no_faults()

@@ -43,7 +43,7 @@ def a_large_book():
 
 
 def loaded(address, script, what):
-    """How long a page takes from nothing until the script gives something true, in seconds by the page's own clock."""
+    """How long a page takes from nothing until the script returns something true, in seconds by the page's clock."""
     browser.devtools("Network.clearBrowserCache")
     browser.go(address)
     return browser.until(script + " && performance.now()", what, patience=30) / 1000
@@ -70,7 +70,7 @@ def the_first_screen():
 
 
 def key_pressed(wanted):
-    """Finds something, and gives the time of the key."""
+    """Finds something, and returns the time of the key."""
     part("pledge")
     browser.fill("#finding", wanted=wanted)
     begun = time.monotonic()

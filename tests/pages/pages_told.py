@@ -1,4 +1,4 @@
-"""What the broker's page tells where a clerk looks: days of grace, rate and reference, who waits, what is owed, and
+"""What the broker's page shows where a clerk looks: days of grace, rate and reference, who waits, what is owed, and
 what this machine keeps; in a real browser, in front of the program."""
 import os
 
@@ -71,8 +71,8 @@ def dues_are_what_is_owed_and_can_be_ticked_off():
     long_ago = ago(220)
     pledges = [
         ("Clock", "B10", 10000, long_ago, "", "no"), ("Lamp", "B2", 20000, long_ago, "", "no"),
-        ("Watch", "W1", 5000, long_ago, "", "no"), ("Brooch", "W2", 6000, long_ago, "", "no"),
-        ("Ring", "R1", 10000, ago(30), "", "no"),
+        ("Watch", "Watch-1", 5000, long_ago, "", "no"), ("Brooch", "Watch-2", 6000, long_ago, "", "no"),
+        ("Ring", "Ring-1", 10000, ago(30), "", "no"),
     ]
     with Pages() as pages:
         make_book(pages, terms=False)
@@ -110,8 +110,10 @@ def dues_are_what_is_owed_and_can_be_ticked_off():
 def the_till_parts_what_was_repaid_and_has_a_float():
     with Pages() as pages:
         make_book(pages, terms=False)
-        fill_book(pages, book_text([("Ring", "R1", 10000, ago(30), "", "no"), ("Cup", "R2", 5000, ago(30), "", "no")],
-                                   rates=(1000, 0, 0)))
+        fill_book(pages, book_text(
+            [("Ring", "Ring-1", 10000, ago(30), "", "no"), ("Cup", "Ring-2", 5000, ago(30), "", "no")],
+            rates=(1000, 0, 0),
+        ))
         pages.session.broker("POST", "/books/7/pledges/1/repay", {"pence": 2300, "seq": 1})
         pages.session.bearer(f"2-{secret_of(2)}", "POST", "/books/7/held/redeem", {"paid": 5150})
         open_book(pages)

@@ -1,5 +1,5 @@
-"""tests/run gives the tests the same environment, whoever starts it: another make, nohup, a shell with settings of its
-own, and in a folder whose name has a blank. Each caller starts a small part of the tests."""
+"""tests/run gives the tests the same environment, no matter what starts it: another make, nohup, a shell with
+settings of its own, and in a folder whose name has a blank. Each caller starts a small part of the tests."""
 import os
 import resource
 import signal

@@ -82,7 +82,7 @@ def a_peer_that_never_reads_its_replies():
                 peer.sendall(asked * 1000)
             except TimeoutError:
                 pass
-            next_is_answered("replies that nobody reads", server)
+            next_is_answered("replies that are not read", server)
 
 
 def a_peer_that_resets():

@@ -1,6 +1,6 @@
 """Standard input and output that fail: each read and each write of a story in turn refused, a write that takes nothing,
-and both a byte at a time. What was answered before stands, no failed read or write is tried again, and slow ends change
-no reply. Over memory and over a file."""
+and both a byte at a time. What was answered before is kept, no failed read or write is tried again, and slow ends
+change no reply. Over memory and over a file."""
 import errno
 import sys
 
@@ -45,7 +45,7 @@ def slow_ends_change_no_reply():
 
 
 def a_request_of_more_than_a_hundred_thousand_reads():
-    """Its length asks for more bytes than a session makes reads, where each read gives one."""
+    """Its length asks for more bytes than a session makes reads, where each read returns one."""
     body = f'{{"capacity":2,"key":"{BROKER}","name":"High Street"}}'
     long = request("POST", "/books/7", f"Pledge-Key: {OPERATOR}", body=body.ljust(110_000))
     for kind in KINDS:

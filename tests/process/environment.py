@@ -1,5 +1,5 @@
-"""What tests/run gives the tests, whoever called it: an environment of few variables, a folder for temporary files
-whose name has no blank, a home that can be written to, and signals that are not ignored."""
+"""What tests/run gives the tests, no matter who called it: an environment of few variables, a folder for temporary
+files whose name has no blank, a home that can be written to, and signals that are not ignored."""
 import os
 import re
 import signal

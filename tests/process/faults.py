@@ -63,7 +63,7 @@ def a_key_may_stand_in_a_file():
 
 
 def a_key_is_read_from_a_short_regular_file_alone():
-    """A pipe that nobody writes is not waited for, and of a file that is long, or has no end, little is read."""
+    """A pipe without a writer is not waited for, and of a file that is long, or has no end, little is read."""
     with tempfile.TemporaryDirectory() as room:
         pipe, long, link = (os.path.join(room, name) for name in ("pipe", "long", "link"))
         os.mkfifo(pipe)
@@ -75,7 +75,7 @@ def a_key_is_read_from_a_short_regular_file_alone():
             begun = time.monotonic()
             ended = how_it_ends("answer", ":memory:", DAY, SEED, path)
             expect(f"a key in {path}", ended, fault(803, "BadKey"))
-            expect(f"it is told at once of {path}", time.monotonic() - begun < 10, True)
+            expect(f"it is reported at once for {path}", time.monotonic() - begun < 10, True)
         os.symlink(os.path.join(room, "key"), os.path.join(room, "linked"))
         with open(os.path.join(room, "key"), "w") as it:
             it.write(OPERATOR)
@@ -84,7 +84,7 @@ def a_key_is_read_from_a_short_regular_file_alone():
 
 
 def stored(name):
-    """What stands beside the program's source: the stored run's requests, or its replies."""
+    """The files next to the program's source: the stored run's requests, or its replies."""
     with open(os.path.join(TOP, "crates/pawnd", name), "rb") as it:
         return it.read()
 

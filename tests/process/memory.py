@@ -1,8 +1,8 @@
 """Memory that is refused: each allocation of each story and of a migration in turn, and in a service that runs. Each
 answer is as the rules have it with some requests answered 491, and the content is that of the others.
 
-Over a file, and with all allocations that follow refused too, one in so many is tried, from a place that a seed
-gives. With EVERY=1 in the environment, as under `make fuzz`, each is."""
+Over a file, and with all allocations that follow refused too, one in so many is tried, from a place that depends
+on a seed. With EVERY=1 in the environment, as under `make fuzz`, each is."""
 import http.client
 import os
 import random

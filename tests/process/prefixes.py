@@ -18,7 +18,7 @@ def stored(name):
 
 
 def messages(stream):
-    """The messages of a stream, requests or replies: each a head and a body of the length that the head gives."""
+    """The messages of a stream, requests or replies: each a head and a body of the length that the head says."""
     while stream:
         head = stream.index(b"\r\n\r\n") + 4
         length = re.search(rb"(?i)content-length: (\d+)", stream[:head])

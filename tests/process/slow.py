@@ -104,12 +104,12 @@ def the_largest_import():
                     5,
                 )
                 said = takes(server, f"1 MiB of rows by a stranger, {database}", import_of(rows, STRANGER), 10)
-                expect("what it is told", said, refusal(401, "NoSuchBook"))
+                expect("its answer", said, refusal(401, "NoSuchBook"))
                 said = takes(
                     server, f"1 MiB of rows without a key, {database}", request("POST", "/books/7/import", body=rows),
                     5,
                 )
-                expect("what that is told", said, refusal(709, "BadKey", "400 Bad Request"))
+                expect("the answer to that", said, refusal(709, "BadKey", "400 Bad Request"))
                 said = takes(server, f"an import of {pledges} pledges, {database}", import_of(rows), 15)
                 expect("what was imported", said.endswith(f'{{"imported":{pledges}}}'.encode()), True)
 
@@ -127,9 +127,9 @@ def bodies_that_say_nothing():
             said = takes(
                 server, f"a body of {step}", request("POST", "/books/7", f"Pledge-Key: {OPERATOR}", body=body), 5,
             )
-            expect(f"what {step} are told", said, refusal(708, "BadBody", "400 Bad Request"))
+            expect(f"the answer to {step}", said, refusal(708, "BadBody", "400 Bad Request"))
             said = takes(server, f"rows of {step}", import_of(body), 5)
-            expect(f"what rows of {step} are told", b'"code":60' in said, True)
+            expect(f"the answer to rows of {step}", b'"code":60' in said, True)
 
 
 main(a_receipt_with_thousands_of_entries, a_large_book, the_largest_import, bodies_that_say_nothing)

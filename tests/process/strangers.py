@@ -1,5 +1,5 @@
 """Strangers: streams of requests, bent at random from a seed, by a pipe and over the loopback. The program neither
-crashes nor hangs, ends with no other status, answers in whole replies alone, and what it acknowledged before stands.
+crashes nor hangs, ends with no other status, answers in whole replies alone, and keeps what it acknowledged before.
 
 usage: python3 -m tests.process.strangers [STREAMS [SEED]]      400 streams by a pipe and a fourth as many over the
 loopback, from seed 1, where nothing is said

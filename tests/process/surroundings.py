@@ -1,5 +1,5 @@
-"""What the machine around the program does to it: accepts that fail, standard streams that are closed or that nobody
-reads, signals, limits of the shell, and paths that are no plain file of the caller's own. Each with the line that
+"""What the machine around the program does to it: accepts that fail, standard streams that are closed or not
+read, signals, limits of the shell, and paths that are no plain file of the caller's own. Each with the line that
 the program says, its exit status, and all that it acknowledged."""
 import errno
 import fcntl
@@ -25,7 +25,7 @@ from tests.library.small_disks import small_disk
 NONE = refusal(712, "NoReceipt", "400 Bad Request")
 LAST = request("GET", "/books/7/held", "Connection: close")
 IO = (3, "fault io\n")
-# Somebody who is not root and owns nothing.
+# A user who is not root and owns nothing.
 NOBODY = 65534
 
 
@@ -188,13 +188,13 @@ def output_that_nobody_reads():
         os.close(out)
     out, into = os.pipe()
     os.close(out)
-    expect("serve, to nobody", how_it_ends("serve", ":memory:", str(free_port()), OPERATOR, stdout=into), IO)
+    expect("serve, without a reader", how_it_ends("serve", ":memory:", str(free_port()), OPERATOR, stdout=into), IO)
     with tempfile.TemporaryFile() as asked:
         asked.write(LAST)
         asked.seek(0)
         ended = how_it_ends("answer", ":memory:", DAY, SEED, OPERATOR, stdin=asked, stdout=into)
-        expect("answer, to nobody", ended, IO)
-    expect("check, to nobody", how_it_ends("check", ":memory:", stdout=into), IO)
+        expect("answer, without a reader", ended, IO)
+    expect("check, without a reader", how_it_ends("check", ":memory:", stdout=into), IO)
     os.close(into)
     with Server() as server:
         server.program.stdout.close()
@@ -261,7 +261,7 @@ def stands_still(program):
 
 
 def a_service_that_is_stopped_goes_on():
-    """What came while it stood still is answered when it goes on."""
+    """What came while it was stopped is answered when it goes on."""
     with tempfile.TemporaryDirectory() as room:
         path = os.path.join(room, "books")
         with Server(path) as server:
@@ -271,7 +271,7 @@ def a_service_that_is_stopped_goes_on():
             with server.connect() as first, server.connect() as second:
                 first.sendall(LAST)
                 second.sendall(LAST)
-                says_nothing(first, "it stands still")
+                says_nothing(first, "it is stopped")
                 server.program.send_signal(signal.SIGCONT)
                 first.settimeout(30)
                 expect("the first", read_all(first), NONE)
@@ -293,7 +293,7 @@ def a_connection_that_waited_is_closed():
                 time.sleep(wait)
                 waiting.sendall(asked)
                 server.program.send_signal(signal.SIGCONT)
-                expect("what it is told", read_all(waiting), b"")
+                expect("its answer", read_all(waiting), b"")
             session = server.session()
             expect("entries", session.bearer(receipts[0], "GET", "/books/7/held")[1].count("\nEntry "), 0)
             session.close()
@@ -304,7 +304,7 @@ def a_connection_that_waited_is_closed():
 
 def a_clock_that_jumps():
     """A pledge that was changed on a day to come refuses earlier days, and no other pledge does. On a day that no
-    request may have nobody is answered, and nothing is lost."""
+    request may have no caller is answered, and nothing is lost."""
     with tempfile.TemporaryDirectory() as room:
         clock = os.path.join(room, "clock")
         with Server(os.path.join(room, "books"), env={**refusing.refusing(""), "REFUSE_CLOCK": clock}) as server:
@@ -347,7 +347,7 @@ def told(clock, seconds):
 
 def a_limit_on_the_length_of_files():
     """By default the system kills a program that writes past it; where that signal is ignored the write is refused,
-    and told as a fault of the store. Nothing acknowledged is lost."""
+    and reported as a fault of the store. Nothing acknowledged is lost."""
     for ignored in (False, True):
         for most in (8192, 65536, 400_000):
             with tempfile.TemporaryDirectory() as room:
@@ -433,7 +433,7 @@ def paths_that_are_no_plain_file():
 
 
 def a_key_by_a_pipe():
-    """It is refused, since a pipe that nobody writes would hold up the start for ever. A key is read from a file."""
+    """It is refused, since a pipe without a writer would hold up the start for ever. A key is read from a file."""
     out, into = os.pipe()
     os.write(into, OPERATOR.encode() + b"\n")
     os.close(into)
@@ -466,7 +466,7 @@ def a_file_with_a_second_name():
 def folders_and_files_of_somebody_else():
     """A service that may not read or write its files says so, and makes nothing."""
     if os.geteuid():
-        print("not tried: files of somebody else, which asks for the right to be somebody else")
+        print("not tried: files of another user, which needs the right to become another user")
         return
     with tempfile.TemporaryDirectory() as room:
         os.chmod(room, 0o755)

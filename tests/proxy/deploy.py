@@ -204,13 +204,13 @@ def each_target_comes_to_its_book_or_nowhere():
                     for number, store in enumerate(it.stores, 1)
                     for head, _ in store.seen[before[number - 1] :]
                 ]
-                expect(f"how often {target} was handed on", len(came) in (0, 1), True)
+                expect(f"how often {target} was passed on", len(came) in (0, 1), True)
                 for number, got in came:
                     book = READ.fullmatch(got)
                     expect(f"the store of {target}, which came as {got}", number, store_that_has(book))
                     expect(f"{target} came as it was", got, re.sub(r"^https?://[^/]*", "", target))
                     landed.add(target)
-        expect("what was handed on", sorted(landed), sorted(SHAPED))
+        expect("what was passed on", sorted(landed), sorted(SHAPED))
         no_room_beside_the_shape(it)
 
 
@@ -254,9 +254,9 @@ def no_room_beside_the_shape(it):
             caller.close()
             caller = it.caller()
     print(
-        f"        {len(TRICKS)} targets, and 1200 that were bent at random, of which {came} were handed on", flush=True
+        f"        {len(TRICKS)} targets, and 1200 that were bent at random, of which {came} were passed on", flush=True
     )
-    expect("some were handed on", came > 100, True)
+    expect("some were passed on", came > 100, True)
 
 
 # ---- heads, bodies, and what the proxy says by itself
@@ -351,7 +351,7 @@ def what_the_program_says_of_them():
 
 
 def what_is_unknown_and_what_was_not_done():
-    """Nothing is sent twice; and the proxy tells whether a request without a reply was handed on."""
+    """Nothing is sent twice; and the proxy says whether a request without a reply was passed on."""
     with Hosted(kind=Recorder, changes=(("proxy_read_timeout        60s", "proxy_read_timeout        1s"),)) as it:
         for way, wanted in (("close", 502), ("reset", 502), ("silence", 504)):
             for method in ("GET", "POST"):

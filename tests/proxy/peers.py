@@ -32,8 +32,8 @@ from tests.library.waiting import wait_for
 
 
 class World:
-    """One of two services that are asked the same, with receipts of its own; a secret is named by when it was told
-    first."""
+    """One of two services that are asked the same, with receipts of its own; a secret is named by when it was first
+    issued."""
 
     def __init__(self, send):
         self.send, self.names, self.receipts = send, {}, {}
@@ -236,7 +236,7 @@ def slow_peers_hold_nobody_up():
 
 
 def a_reader_that_reads_nothing():
-    """A long reply to a peer that takes none of it is off the store's hands at once, and that peer has the whole of it
+    """A long reply to a peer that takes none of it does not keep the store busy, and that peer has the whole of it
     when it reads."""
     with Hosted(kind=Recorder) as it:
         it.stores[1].way = "at length"
@@ -265,7 +265,7 @@ def waiting_at(port):
 
 
 def a_hundred_in_flight_and_no_more():
-    """A store that stands still: a hundred requests wait for it, those that were given up among them; further ones are
+    """A store that is stopped: a hundred requests wait for it, those that were given up among them; further ones are
     refused at once, and others' stores serve."""
     with Hosted() as it:
         receipts = it.open_books()
@@ -320,10 +320,10 @@ def a_store_is_killed_and_started():
         mine = [writer for writer in running if writer.book == 8]
         # What comes in while the store is down is answered at once; what it had taken has no reply.
         told = {(status, handed_on) for writer in mine for _, status, handed_on in writer.told}
-        expect(f"what the callers of the killed store were told: {told}", told <= {(503, False), (502, True)}, True)
+        expect(f"what the callers of the killed store got: {told}", told <= {(503, False), (502, True)}, True)
         print(
             f"        {sum(it.acknowledged for it in running)} repayments, 4 kills; "
-            f"{sum(it.not_done for it in mine)} not handed on and {sum(it.unknown for it in mine)} unknown at the "
+            f"{sum(it.not_done for it in mine)} not passed on and {sum(it.unknown for it in mine)} unknown at the "
             "killed store, none at the others",
             flush=True,
         )

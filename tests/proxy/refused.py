@@ -1,6 +1,6 @@
 """What the proxy refuses, delays and notes by itself: no secret of a hundred forms is in a log, no stranger bars a
 broker's exports, limits come before the answer for a book that does not exist, and callers of a store that is being
-restarted are told that nothing was done, and when to ask again."""
+restarted learn that nothing was done, and when to ask again."""
 import contextlib
 import glob
 import json
@@ -153,7 +153,7 @@ def when_to_ask_again():
 
 
 def a_store_that_is_being_restarted():
-    """Meanwhile a request is answered 503 at once, and was not handed on. Nothing is sent twice, and what a store took
+    """Meanwhile a request is answered 503 at once, and was not passed on. Nothing is sent twice, and what a store took
     and did not answer is unknown."""
     with Hosted(kind=Recorder) as it:
         store, body = it.stores[1], json.dumps({"seq": 1, "pence": 100}) + " " * 70_000
@@ -270,7 +270,7 @@ def a_book_of_another_store():
 
 
 def pages_are_asked_for_again():
-    """A page has a tag, by which a browser that has it is told that it is the same, and text is compressed."""
+    """A page has a tag, by which a browser that has it learns that it is the same, and text is compressed."""
     with Hosted() as it:
         script = glob.glob("**/*.js", root_dir=os.path.join(it.room, "web"), recursive=True)[0]
         for target in ("/broker/", f"/{script}"):

@@ -96,7 +96,7 @@ def fill_and_empty(path, filler):
 
 
 def opens(session, number):
-    """The status of an opening on a connection of its own, and its receipt where it is told; None where nobody
+    """The status of an opening on a connection of its own, and its receipt if the reply has it; None if no service
     listens."""
     opening = {"article": "Gold ring", "five_days": False, "kind": "fixed", "pence": 10000, "ref": f"A{number}"}
     try:
@@ -108,8 +108,8 @@ def opens(session, number):
 
 
 def meets_a_fault(path, at, calls, error):
-    """Twelve openings over a store one of whose calls is refused, or fewer where the service ends: the receipts that
-    were told, and how it ended, if it did."""
+    """Twelve openings over a store one of whose calls is refused, or fewer where the service ends: the receipts of
+    the replies, and how it ended, if it did."""
     during = path + "-during"
     with Server(path, env=refusing.refusing(calls, at=at, error=error, during=during)) as server:
         session, receipts, before = server.session(), [], 200

@@ -1,5 +1,5 @@
 """The file of a service as others see it: opened by Python's sqlite3 and by the shell of that name, its rows
-counted, and rows bent by hand, of which the program tells and by which no other book is touched."""
+counted, and rows bent by hand, which the program reports and which touch no other book."""
 import json
 import os
 import shutil
@@ -153,7 +153,7 @@ def falling_versions(tables):
     )
 
 
-# What no single record tells, and a check alone finds.
+# What no single record shows, and a check alone finds.
 MISFITS = [
     ("versions that fall", falling_versions),
     ("a row that is not counted", bent_by("UPDATE meta SET value = value - 1 WHERE name = 'rows'")),

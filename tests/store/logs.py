@@ -1,6 +1,6 @@
 """What becomes of a store whose log is taken away, cut, bent, or changed for another while the program does not run.
-Much of it can't be seen at the next start, and is told nowhere: what is pinned down here is that a front of the
-changes is served, each of them whole, and when the log is copied into the database, so that nothing hangs on it."""
+Much of it can't be seen at the next start, and is reported nowhere. This script shows that the first changes up to some
+place are served, each of them whole; and when the log is copied into the database, so that nothing depends on it."""
 import os
 import random
 import shutil

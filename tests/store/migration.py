@@ -250,7 +250,7 @@ IMPOSSIBLE = [
     ),
 ]
 
-# What is moved as it stands, and found by a check: no debt follows from it.
+# What is moved as it is, and found by a check: no debt follows from it.
 UNSEEN = [
     (
         "a secret of 15 bytes",
@@ -367,7 +367,7 @@ def a_kill_leaves_the_old_tables_or_the_new():
                 seen[number] += 1
                 expect(f"kill {kill}, schema {number}", content(cut) == (first if number == 1 else tables), True)
                 if said[0]:
-                    expect(f"kill {kill}, once it was told", (said[0], number), (b"schema 1 to 3\n", 3))
+                    expect(f"kill {kill}, once it was reported", (said[0], number), (b"schema 1 to 3\n", 3))
                 expect(f"kill {kill}, again", migrate(cut), a_sound_migration(number))
                 expect(f"kill {kill}, its check", check(cut), told)
                 expect(f"kill {kill}, its replies", answer(cut, *asked) == before, True)

@@ -1,4 +1,4 @@
-"""`pawnd serve` over a file, killed in the middle of requests and started again: what was answered stands, and what
+"""`pawnd serve` over a file, killed in the middle of requests and started again: what was answered is there, and what
 was not is there whole or not at all."""
 import copy
 import csv
@@ -88,7 +88,7 @@ class Account:
         return 2 + sum(1 + len(p["secrets"]) + len(p["entries"]) + (p["booking"] is not None) for p in self.pledges)
 
     def is_of(self, text):
-        """Whether a book's text tells this account; receipts that are not known yet are taken from it."""
+        """Whether a book's text agrees with this account; receipts that are not known yet are taken from it."""
         told = pledges_of(text)
         if len(told) != len(self.pledges):
             return False
@@ -99,7 +99,7 @@ class Account:
 
 
 def pledges_of(text):
-    """The pledges that a book's text tells, as an account holds them."""
+    """The pledges of a book's text, in the form of an account."""
     told = []
     for row in csv.reader(io.StringIO(text)):
         if row[0] == "P":
@@ -180,7 +180,7 @@ def judge_file(path, counts):
 
 
 def goes_on(server, account, asked):
-    """The server tells the account, with or without what was in hand; which it takes again where that is a repeat."""
+    """The server's book agrees with the account, with or without the request in progress, which is then sent again."""
     session = server.session()
     status, text = session.broker("GET", "/books/7/export")
     expect("an export", status, 200)

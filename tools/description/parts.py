@@ -26,7 +26,7 @@ def whole(words, least, most, **more):
 
 
 def limited(words, most, code):
-    """A number whose own limit is told by its own refusal, and not as a bad body."""
+    """A number with a limit of its own: above it the refusal is this one, and not that of a bad body."""
     return one_of_form("Number", words, **{"x-limit": {"most": most, "refusal": code}})
 
 

@@ -125,7 +125,7 @@ OF_THE_PROXY = {
 
 # What the bytes of any request can be refused for, before it is known what it asks. The connection ends after each.
 BYTES = [701, 703, 704, 705]
-# What can stand in place of any answer.
+# The refusals that can come in place of any answer.
 FAILURES = [491, 492]
 WITH_TOTAL = (204, 310)
 WITH_ROW = range(601, 607)
@@ -177,6 +177,6 @@ def missing(routes):
 
 
 def example(code):
-    """The same of a refusal that tells no more than its code and name."""
+    """The same of a refusal that has no more than its code and name."""
     name, words = WORDS[code]
     return {"summary": words, "value": {"code": code, "name": name}}

@@ -52,7 +52,7 @@ ON_HELD = "/books/{book}/held"
 ROUTES = [
     Route(
         "post", "/books/{book}", "makeBook", "operator", "Make a book",
-        "Makes a book for the broker who is given its key. A book is never deleted, and its key never changes.",
+        "Makes a book for the broker who gets its key. A book is never deleted, and its key never changes.",
         "BookMade", [410, 404], ALWAYS, "Book",
     ),
     Route(
@@ -85,8 +85,8 @@ ROUTES = [
     ),
     Route(
         "post", "/books/{book}/import", "importBook", "broker", "Fill an empty book",
-        "Fills a book that has neither terms nor pledges with the rows of another, all at once or not at all. Whatever "
-        "is the first fault of the text is told with its row.",
+        "Fills a book that has neither terms nor pledges with the rows of another, all at once or not at all. The "
+        "first fault of the text is returned with its row.",
         "Imported", [601, 602, 603, 606, 604, 605, 401, 409],
         (
             "always",
@@ -123,7 +123,7 @@ ROUTES = [
             "never",
             "Never send it again by itself: each one makes another receipt, and the one before, which the pawnor may "
             "have in hand, is worth nothing. After a lost reply let a person decide; a new declaration is right where "
-            "nobody was given a receipt.",
+            "no person was given a receipt.",
         ),
         "Paper", rules="Commands on a pledge",
     ),
@@ -133,12 +133,12 @@ ROUTES = [
         STATE, "Decision", rules="Commands on a pledge",
     ),
     Route(
-        "post", f"{ON_PLEDGE}/sell", "sell", "broker", "Tell of a sale",
-        "Closes a pledge whose article was sold, and tells the surplus or the shortfall.", "SaleMade",
+        "post", f"{ON_PLEDGE}/sell", "sell", "broker", "Record a sale",
+        "Closes a pledge whose article was sold, and returns the surplus or the shortfall.", "SaleMade",
         [401, 403, *CHANGES, 306, 201],
         (
             "told",
-            "A repeat is harmless and does not tell what was answered: where the first one was done it is 305 Closed, "
+            "A repeat is harmless and does not show what was answered: where the first one was done it is 305 Closed, "
             "or 205 EarlierDay. The statement has the sale.",
         ),
         "Sale", rules="Commands on a pledge",
@@ -174,7 +174,7 @@ ROUTES = [
         (
             "told",
             "A repeat is harmless and misleads: where the first one was done the receipt is no longer live, so it is "
-            "402 NoSuchReceipt. The broker's statement tells what was done.",
+            "402 NoSuchReceipt. The broker's statement shows what was done.",
         ),
         "Redemption", rules="Commands on a pledge",
     ),

@@ -1,5 +1,5 @@
-"""What each refusal is to a person: why, and what to do next, as the pages of web/ say it. Where only a writer of
-clients can mend it, it stands here."""
+"""The sentences on each refusal: why, and what to do next, as the pages of web/ say it. Where only a writer of clients
+can correct the request, the sentence is here."""
 import os
 import re
 
@@ -8,22 +8,22 @@ TOP = os.path.dirname(os.path.dirname(os.path.dirname(os.path.abspath(__file__))
 PLACES = ("web/shared/refusals.js", "web/refusals.js")
 ENTRY = re.compile(r'(\d{3}): \{\s*name: "(\w+)",\s*why: "([^"]*)",\s*next: "([^"]*)"')
 
-# What a page says to its reader is of no use to who wrote the client.
+# In place of the sentences of a page that are of no use to a writer of a client.
 OF_WRITERS = {
     306: "Not before the day after `Ends`; six days after, where the five days apply.",
     402: "Ask for another receipt. After an unanswered redemption it may mean that this was done.",
     405: "Add terms first.",
     408: "Refuse this booking.",
-    701: "Mend the head: at most 64 fields and 8,192 bytes.",
+    701: "Correct the head: at most 64 fields and 8,192 bytes.",
     703: "Send a `Content-Length`, and no chunks.",
     704: "Send one `Content-Length`, in digits.",
-    707: "Mend the method.",
-    708: "Mend the member; a text has its limit in bytes.",
+    707: "Correct the method.",
+    708: "Correct the member; a text has its limit in bytes.",
     710: "Give each receipt a field of its own, as it was issued.",
     711: "Send 32 receipts at most, or one with a command.",
     712: "Send the receipt.",
 }
-# Why, where the sentence of a page does not tell it exactly.
+# Why, where the sentence of a page does not say it exactly.
 WHY_TO_WRITERS = {704: "There are two `Content-Length`, or its value is not 1 to 19 digits."}
 
 

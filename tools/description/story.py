@@ -1,5 +1,5 @@
 """The examples, which are one story: a ring, a guitar and a clock are pledged in the High Street. The program
-answers each step byte for byte as it stands here, with the number of the step as its seed."""
+answers each step byte for byte as it is written here, with the number of the step as its seed."""
 from typing import NamedTuple
 
 from .parts import HEADER
@@ -147,7 +147,7 @@ STEPS = [
     ),
     Step(
         "2024-02-10", "repayHeld", "/books/7/held/repay", bearing(RING), "tooMuch", {"pence": 100000, "seq": 2},
-        "A thousand pounds are too much, and the reply tells what is owing.", 409, "OverOwing",
+        "A thousand pounds are too much, and the reply has the sum that is owing.", 409, "OverOwing",
         {"code": 204, "name": "OverOwing", "total": 9276},
     ),
     Step(
@@ -215,7 +215,7 @@ STEPS = [
     ),
     Step(
         "2024-03-04", "redeem", "/books/7/held/redeem", bearing(NEW_RING), "short", {"paid": 9000},
-        "The ring is to be redeemed, with too little. The reply tells what is owing.", 409, "WrongAmount",
+        "The ring is to be redeemed, with too little. The reply has the sum that is owing.", 409, "WrongAmount",
         {"code": 310, "name": "WrongAmount", "total": 9868},
     ),
     Step(
@@ -229,7 +229,8 @@ STEPS = [
     ),
     Step(
         "2024-09-02", "sell", "/books/7/pledges/3/sell", AS_BROKER, "clock", {"net": 14000},
-        "Nobody came for the clock, and it is sold.", 200, "clock", {"net": 14000, "shortfall": 0, "surplus": 156},
+        "The pawnor did not come for the clock, and it is sold.", 200, "clock",
+        {"net": 14000, "shortfall": 0, "surplus": 156},
     ),
     Step(
         "2024-09-02", "exportBook", "/books/7/export", AS_BROKER, None, None, "The book as rows.", 200, "highStreet",
@@ -254,7 +255,7 @@ STEPS = [
     ),
     Step(
         "2024-09-02", "importBook", "/books/8/import", AS_IMPORTER, "noCounts", f"{HEADER}\nT,1,0,0,0,,,,,,,,,,\n",
-        "The counts are wanting.", 400, "Order", {"code": 604, "name": "Order", "row": 2},
+        "The counts are missing.", 400, "Order", {"code": 604, "name": "Order", "row": 2},
     ),
     Step(
         "2024-09-02", "importBook", "/books/8/import", AS_IMPORTER, "steepRate",

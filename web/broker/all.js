@@ -77,7 +77,7 @@ export function setUpAll() {
   });
 }
 
-/** The pledges of the group that the address names, from where the list stands. */
+/** The pledges of the group that the address names, from the first line that the list shows. */
 export function showAll(group) {
   form().elements.group.value = GROUPS[group] ? group : "all";
   search(true);

@@ -22,7 +22,7 @@ import { setUpTerms, showTerms } from "./terms.js";
 import { redrawTill, setUpTill, showTill } from "./till.js";
 import { clearToday, redrawToday, refreshToday, setUpToday, showToday } from "./today.js";
 
-/** What each part does when it is gone to. What follows an equals sign in the address is handed to it. */
+/** What each part does when it is opened. Its argument is the text after an equals sign in the address. */
 const PARTS = {
   today: showToday, take: showTaking, pledge: showPledge, all: showAll, due: showDue, till: showTill, terms: showTerms,
   files: () => {}, shop: showShop,
@@ -31,7 +31,7 @@ const PARTS = {
 const FROM_BOOK = {
   today: redrawToday, take: showTaking, pledge: redrawPledge, all: showAll, due: showDue, till: redrawTill,
 };
-/** These parts have nothing but what the book tells. */
+/** These parts show nothing but the content of the book. */
 const LISTS = ["all", "due", "till"];
 /** Lists of these parts are emptied when another part is gone to. */
 const EMPTIED = ["due", "till"];
@@ -145,7 +145,7 @@ function tick() {
   }
 }
 
-/** A part draws anew what the book tells, or how far its first reading is. */
+/** A part draws anew the content of the book, or how much of it has been read the first time. */
 function drawFromBook({ sort }) {
   if (current() === null) return;
   const { name, detail } = place();

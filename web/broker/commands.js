@@ -1,6 +1,6 @@
 /**
- * The commands on a pledge, each with its form. What would be refused now stands apart, with the reason; the service
- * decides.
+ * The commands on a pledge, each with its form. A command that would be refused now is shown apart, with the reason;
+ * the service decides.
  */
 import { inWords } from "../shared/days.js";
 import { make } from "../shared/dom.js";
@@ -46,7 +46,7 @@ const repayment = (statement, desk) => ({
 });
 
 function drawing(statement, desk) {
-  const fixed = statement.kind === "fixed" ? "This pledge stands against a fixed sum." : null;
+  const fixed = statement.kind === "fixed" ? "This pledge is for a fixed sum." : null;
   return {
     title: "Drawing",
     barred: fixed ?? (statement.status === "inside" ? null : "The period is over."),
@@ -62,11 +62,11 @@ const visitOn = ({ day, window }) => `${inWords(day)}, ${windowInWords(window)}`
 const isSameVisit = (one, other) =>
   one?.day === other?.day && one?.window === other?.window && one?.state === other?.state;
 
-/** Decides on the visit that is shown, if it is still the one that stands; and tells the one that was decided on. */
+/** Decides on the visit that is shown, if it is still the pledge's visit; and reports the one that was decided on. */
 async function decide(shown, yes, desk) {
   const { booking } = await lookFirst(desk.read());
   if (!isSameVisit(shown, booking)) {
-    const now = booking ? ` Now it stands so: ${bookingInWords(booking)}.` : "";
+    const now = booking ? ` Now it is: ${bookingInWords(booking)}.` : "";
     return {
       sentence: `The visit was changed since it was shown, so nothing was decided.${now} Decide on this one.`,
       tone: "bad",

@@ -11,7 +11,7 @@ const shown = {};
 
 const formOf = (part) => byId(`${FRONTS[part]}-day`);
 
-/** Goes to the day that the form says; or calls `again` where that day is shown already. Gives the form's notice. */
+/** Goes to the day that the form says; or calls `again` where that day is shown already. Returns the form's notice. */
 export function setUpDayForm(part, again) {
   return onSend(formOf(part), "broker", async ({ day }, button) => {
     const wanted = plusDays(day, Number(button?.value ?? 0));
@@ -28,7 +28,7 @@ export function putDay(part, day) {
   shown[part] = day;
 }
 
-/** Shows a day in the part's title, with what stands before it; and in its form, unless another was typed since. */
+/** Shows a day in the part's title, after the words before it; and in its form, unless another was typed since. */
 export function showDayOf(part, day, { name, isToday }) {
   if (shown[part] !== day) putDay(part, day);
   const front = name ? `${name}, ` : "";

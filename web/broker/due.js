@@ -52,7 +52,7 @@ function tickBox({ number }, isDone) {
   return make("label", { className: "choice tick screen" }, box, make("span", {}, "Dealt with"));
 }
 
-/** What is owed today; of a passed pledge, on which nothing is owed, what was lent. */
+/** What is owed today; of a passed pledge, on which nothing is owed, the sum that was lent. */
 const sumOf = (pledge) => ledger.owed(pledge)?.owing ?? pledge.pence;
 
 function rowOf(pledge, { day, more, isTicked }, now) {

@@ -9,7 +9,7 @@ import { Unreadable } from "../shared/unreadable.js";
 /** A new end that is more days later than this is asked about loudly. */
 const LONG = 366;
 
-/** Throws where a new end is not after the one that stands; asks the end that was shown, and the one of now. */
+/** Throws if a new end is not after the present end, or if the present end is not the one that was shown. */
 export function checkEnd(until, shown, now) {
   if (now.ends !== shown.ends) throw new Unreadable(
     `Somebody else moved the end to ${inWords(now.ends)} since the pledge was shown. Find it again, and look.`, "until",

@@ -11,9 +11,9 @@ const KEY_BYTES = 16;
 /** A whole book goes out on a slow line for a while, and no part of the reply comes before its end. */
 const PATIENCE = 300_000;
 
-/** What is to be known once a book stands twice. */
+/** What the broker has to know once two books have the same receipts. */
 const BOTH = "Each receipt now opens its pledge in this book, and in the book that the file came from as well, if that "
-  + "still stands: close that one to redemptions. Links and codes that were printed before name the old book, so print "
+  + "still exists: close that one to redemptions. Links and codes that were printed before name the old book, so print "
   + "the receipts again.";
 
 /**

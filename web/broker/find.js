@@ -14,7 +14,7 @@ const NUMBER = /^[1-9]\d{0,8}$/;
 /** At most so many pledges are offered. */
 const MOST = 20;
 
-/** What was typed and opened as a number before the book could tell whether it is a reference, too. */
+/** What was typed and opened as a number before the book was read and showed whether it is a reference, too. */
 let opened = null;
 
 function choice({ number, as }) {

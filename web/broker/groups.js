@@ -1,4 +1,4 @@
-/** The groups of pledges by how they stand on a day, and what finds them. */
+/** The groups of pledges by their status on a day, and the search for them. */
 import { plusDays } from "../shared/days.js";
 import { statusOn } from "../shared/period.js";
 import { numberOf, receiptsIn } from "../shared/receipts.js";
@@ -63,7 +63,7 @@ function textOf(pledge) {
   return pledge.text;
 }
 
-/** Numbers in a reference count as numbers: A2 stands before A10. */
+/** Numbers in a reference count as numbers: A2 comes before A10. */
 export function placeOf(pledge) {
   pledge.place ??= pledge.reference.toLowerCase().replace(/\d+/g, (digits) => digits.padStart(15, "0"));
   return pledge.place;
@@ -76,7 +76,7 @@ function by(key) {
   };
 }
 
-/** The orders in which a list can stand. */
+/** The orders in which a list can be shown. */
 export const ORDERS = {
   newest: { name: "Newest first", compare: (one, other) => other.number - one.number },
   oldest: { name: "Oldest first", compare: null },

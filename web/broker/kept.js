@@ -3,7 +3,7 @@ import { current } from "./session.js";
 
 const nameOf = (what) => `${what}-${current()?.book}`;
 
-/** What was kept under this name for the open book, or what is given in its place. */
+/** The value that was kept under this name for the open book, or the one to return in its place. */
 export function kept(what, otherwise) {
   try {
     return JSON.parse(localStorage.getItem(nameOf(what))) ?? otherwise;

@@ -85,7 +85,7 @@ class Ledger {
     if (this.book) this.book.terms = head.terms;
   }
 
-  /** The head as it stands now: the beginning of the book's text, of which the rest is given up. */
+  /** The present head of the book: the beginning of its text, of which the rest is not read. */
   async readHead() {
     const [began, session] = [performance.now(), current()];
     const { text } = await askBook("GET", "/export", { silence: SILENCE, enough: (part) => readHead(part) !== null });
@@ -178,7 +178,7 @@ class Ledger {
     return this.book?.terms.find(({ version }) => version === pledge?.version) ?? null;
   }
 
-  /** What the book tells of a pledge beside its statement. */
+  /** What the book has of a pledge beside its statement. */
   known(number) {
     const pledge = this.pledge(number);
     if (!pledge) return UNKNOWN;
@@ -204,7 +204,7 @@ class Ledger {
   }
 
   /**
-   * Whether a statement tells what the book in the page does not know: after a command of this page's own, another
+   * Whether a statement has something that the book in the page lacks: after a command of this page's own, another
    * entry beside its own.
    */
   isNews(statement, own) {

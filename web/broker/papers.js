@@ -27,7 +27,7 @@ export async function newestReceipt(number) {
   return null;
 }
 
-/** What the book tells of the receipts of a pledge. */
+/** What the book has of the receipts of a pledge, in words. */
 export function toldOfReceipts(number) {
   const { secrets } = ledger.pledge(number);
   const { day, paper } = secrets[secrets.length - 1];
@@ -59,7 +59,10 @@ function whyAtOnce(receipt, statement) {
     return `${DEAD}pledge ${number} was redeemed on ${inShort(statement.closing.day)}, and has no live receipt.`;
   }
   const secrets = ledger.pledge(number)?.secrets;
-  if (!secrets) return `${DEAD}a newer one took its place, a letter is wrong, or it is of another book. ${KEEP} Which it is, the book tells.`;
+  if (!secrets) {
+    return `${DEAD}a newer one took its place, a letter is wrong, or it is of another book. ${KEEP} `
+      + "The book, once it is read, shows which.";
+  }
   const place = secrets.findIndex(({ secret }) => receipt.endsWith(secret));
   if (place >= 0) return `${DEAD}a newer one took its place. ${KEEP}`;
   return `${DEAD}pledge ${number} never had it, by the book of ${clockOf(ledger.readAt)}. ${MISREAD}`;
@@ -67,7 +70,7 @@ function whyAtOnce(receipt, statement) {
 
 /**
  * Why a receipt is not live: what can be said at once, the pledge's statement or null, and the sentence that the book
- * gives once it is read anew, or null where it can't be read.
+ * yields once it is read anew, or null where it can't be read.
  */
 export async function whyDead(receipt) {
   const statement = await statementOf(numberOf(receipt));

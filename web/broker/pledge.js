@@ -42,12 +42,12 @@ class Desk {
     return this.statement.number;
   }
 
-  /** What the book tells of the pledge beside its statement. */
+  /** What the book has of the pledge beside its statement. */
   get known() {
     return ledger.known(this.number);
   }
 
-  /** The statement of the pledge as it stands now. */
+  /** The present statement of the pledge. */
   async read(number = this.number) {
     const statement = await statementOf(number);
     if (statement === null) throw refusalOf("NoSuchPledge");
@@ -120,7 +120,7 @@ class Desk {
     if (form && typed) form.elements.day.value = typed;
   }
 
-  /** Shows the pledge as it stands, with what may be done. What this page did itself is no news. */
+  /** Shows the present pledge, with what may be done. What this page did itself is no news. */
   async look(number, { own = false, done = null } = {}) {
     const session = current();
     const found = this.fresh?.number === number ? this.fresh : await this.read(number);
@@ -136,7 +136,7 @@ class Desk {
     if (news) ledger.anotherChanged({ isMissing: ledger.pledge(number) === null });
   }
 
-  /** Runs an act on the pledge, shows the pledge as it stands then, and says what came of it. */
+  /** Runs an act on the pledge, shows the pledge as it is then, and reports the result. */
   async perform(act, { form, notice: line, title }) {
     const { number } = this;
     const fields = fieldsOf(form);
@@ -153,19 +153,19 @@ class Desk {
     try {
       await this.look(number, { own: !(fault instanceof Refused), done: title });
     } catch {
-      // The forms may be drawn anew once the book is read: what came of the act is said above them.
+      // The forms may be drawn anew once the book is read: the result of the act is reported above them.
       place = null;
       tell(line, "");
     }
     sayAfter({ within: byId("commands"), notice: this.notice, title: place, fields, said, fault, reader: "broker" });
   }
 
-  /** Shows a receipt of the pledge, to be printed, once it was found live and the book tells its terms. */
+  /** Shows a receipt of the pledge, to be printed, once it was found live and the book has the pledge's terms. */
   async showReceipt(receipt, statement = this.statement) {
     await ledger.theBook();
     if (ledger.pledge(this.number) === null) await ledger.awaitReading();
     const { known } = this;
-    if (!known.terms) throw new Error("the book does not tell the pledge’s terms");
+    if (!known.terms) throw new Error("the book does not have the pledge’s terms");
     byId("new-receipt").replaceChildren(receiptSheet({ statement, receipt, known }));
     byId("new-receipt").scrollIntoView();
   }
@@ -196,7 +196,7 @@ export function clearPledge() {
 }
 
 /**
- * Goes to a pledge, by the address; or shows it as it stands now where it is there already. Its statement may have been
+ * Goes to a pledge, by the address; or shows it as it is now, if the page is there already. Its statement may have been
  * read just now. The empty form is no place to go back to.
  */
 export function goTo(number, statement = null) {
@@ -208,7 +208,7 @@ export function goTo(number, statement = null) {
   return null;
 }
 
-/** What is said of a live receipt. On a hold, or once the pledge is over, the article is not handed out for it. */
+/** What is said of a live receipt. On a hold, or once the pledge is over, the shop must not give out the article. */
 function liveMessage({ status, owed, held }) {
   if (!isOpen(status)) return { message: "This receipt is live, but its pledge is over.", tone: "quiet", fold: null };
   const live = `This receipt is live. ${inPounds(owed.owing)} is owed today.`;
@@ -243,7 +243,7 @@ export function hidePledge() {
   desk.statement = null;
 }
 
-/** Shows the pledge that the address names as it stands now; without a number the form that finds one. */
+/** Shows the present state of the pledge that the address names; without a number the form that finds one. */
 export async function showPledge(detail) {
   if (detail === undefined) {
     hidePledge();

@@ -1,4 +1,4 @@
-/** What the service tells of one pledge just now, whatever the book in the page says. */
+/** What the service returns for one pledge just now, whatever the book in the page has. */
 import { CODES, isRefusal } from "../shared/codes.js";
 import { readStatement } from "../shared/statement.js";
 import { askBook, askHeld } from "./session.js";

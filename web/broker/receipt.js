@@ -9,8 +9,8 @@ import { interestInWords, keepingInWords } from "../shared/terms.js";
 import { current } from "./session.js";
 import { shop } from "./shop.js";
 
-/** Whoever has the paper: what it is good for, while the article can be redeemed and after. */
-const CARE = "Keep this paper safe. Whoever has it can redeem the pledge. If it is lost, tell the shop at once: "
+/** What the bearer of the paper can do with it, while the article can be redeemed and after. */
+const CARE = "Keep this paper safe. Anyone who has it can redeem the pledge. If it is lost, tell the shop at once: "
   + "a new receipt makes this one worthless.";
 const SPENT = "The pledge can’t be redeemed any more. This paper shows what became of it.";
 
@@ -48,7 +48,7 @@ function headOf(number, reference) {
 }
 
 /**
- * The receipt of a pledge, with a button that prints it: by its statement, the receipt's text, and what the book tells
+ * The receipt of a pledge, with a button that prints it: by its statement, the receipt's text, and what the book has
  * of the pledge beside its statement.
  */
 export function receiptSheet({ statement, receipt, known }) {

@@ -24,7 +24,7 @@ function receiptOf(typed, number) {
   return receipt;
 }
 
-/** What the receipt opens as it stands now. */
+/** The present pledge that the receipt opens. */
 async function look(desk, receipt) {
   const held = await lookFirst(desk.held(receipt));
   if (held !== null) return held;
@@ -36,7 +36,7 @@ function compare({ owed, held }, paid) {
   if (held) throw refusalOf("Held");
   if (paid !== owed.owing) {
     throw new Unreadable(
-      `${inPounds(owed.owing)} is owed today, and redeeming wants all of it. You typed ${inPounds(paid)}.`, "amount",
+      `${inPounds(owed.owing)} is owed today, and redeeming needs all of it. You typed ${inPounds(paid)}.`, "amount",
     );
   }
 }
@@ -54,7 +54,7 @@ const question = (number, paid) => confirmed({
 const done = ({ day, paid }) =>
   `Redeemed on ${inWords(day)}: ${inPounds(paid)} was paid. Hand out the article, and keep the receipt.`;
 
-/** After a lost reply the statement tells whether it was done. */
+/** After a lost reply the statement shows whether it was done. */
 async function settleLost(desk, fault) {
   const after = await desk.read().catch(() => { throw fault; });
   if (after.status === "redeemed") {

@@ -1,6 +1,6 @@
 /**
  * Renewing in one step: the charges of today are received, the period is extended, and the receipt is printed with its
- * new end. They are two changes of the service, so what came of each is told.
+ * new end. They are two changes of the service, so the result of each is reported.
  */
 import { countDays, daysBetween, inWords, sixMonthsAfter, today } from "../shared/days.js";
 import { make } from "../shared/dom.js";
@@ -28,7 +28,7 @@ const question = (now, until) => confirmed({
   no: "Not now",
 });
 
-/** Receives the charges. Gives what is to be said in place of going on, or null. */
+/** Receives the charges. Returns a message if the renewal has to stop here, or null. */
 async function receive(now, desk) {
   if (now.owed.charges === 0) return null;
   const said = await recordEntry({
@@ -44,7 +44,7 @@ async function showPaper(desk) {
     const receipt = await desk.newestReceipt();
     if (receipt === null) return " No receipt of this pledge is live, so none is printed.";
     await desk.showReceipt(receipt, await desk.read());
-    return " The paper with the new end stands below: print it, and take the old one back.";
+    return " The paper with the new end is below: print it, and take the old one back.";
   } catch {
     return " The paper can’t be shown just now: “Print the receipt again” shows it.";
   }

@@ -11,7 +11,7 @@ const lead = (text) => make("p", { className: "lead" }, text);
 async function printAgain(desk) {
   const yes = await confirmed({
     title: "Print the receipt again?",
-    lines: ["It is the same receipt, so both papers open the pledge, and whoever has either can redeem it.",
+    lines: ["It is the same receipt, so both papers open the pledge, and anyone who has either can redeem it.",
       "Print it only for a customer whom you know to have none, or whose paper is spoilt. Where the paper is lost, "
         + "make a new receipt in its place."],
     yes: "Print it again", no: "Not now",
@@ -20,7 +20,7 @@ async function printAgain(desk) {
   const receipt = await desk.newestReceipt();
   if (receipt === null) return { sentence: "No receipt of this pledge is live, so none is printed.", tone: "bad" };
   await desk.showReceipt(receipt);
-  return `The receipt stands below, to be printed. It was looked at just now: it is live. ${desk.toldOfReceipts()}`;
+  return `The receipt is below, to be printed. It was checked just now: it is live. ${desk.toldOfReceipts()}`;
 }
 
 export const printing = (statement, desk) => ({
@@ -33,7 +33,7 @@ export const printing = (statement, desk) => ({
   act: () => printAgain(desk),
 });
 
-/** After a lost reply the book tells whether a new receipt was made. */
+/** After a lost reply the book shows whether a new receipt was made. */
 const LOST = "The reply was lost, so a new receipt may have been made. Don’t ask for another: "
   + "“Print the receipt again” shows the newest one.";
 
@@ -49,7 +49,7 @@ async function showNew(receipt, paper, desk) {
   try {
     if (!await desk.isLive(receipt)) return { sentence: OVERTAKEN, tone: "bad" };
     await desk.showReceipt(receipt);
-    return "A new receipt stands below. Print it: the old one is worth nothing.";
+    return "A new receipt is below. Print it: the old one is worth nothing.";
   } catch {
     return { sentence: UNSEEN, tone: "bad" };
   }
@@ -66,8 +66,8 @@ const LOST_BEFORE = "The reply to the press before was lost, so a new receipt ma
   + "receipt again” shows the newest one. If you make another, that one is worth nothing.";
 
 /**
- * Before a declaration is sent again whose reply was lost, the book is read: a receipt that was made is shown. Gives
- * what is said then, or null where the book tells of no new receipt.
+ * Before a declaration is sent again whose reply was lost, the book is read: a receipt that was made is shown. Returns
+ * the message for that case, or null if the book has no new receipt.
  */
 async function madeBefore(desk) {
   const { number } = desk;
@@ -79,7 +79,7 @@ async function madeBefore(desk) {
   if (receipt === null) return null;
   await desk.showReceipt(receipt);
   lost.delete(placeOf(number));
-  return `${MADE_ALREADY}It stands below. ${desk.toldOfReceipts()}`;
+  return `${MADE_ALREADY}It is below. ${desk.toldOfReceipts()}`;
 }
 
 async function declare({ paper }, desk) {
@@ -92,7 +92,7 @@ async function declare({ paper }, desk) {
   const yes = await confirmed({
     title: "Make a new receipt?",
     lines: [
-      "The receipt that the pawnor had is worth nothing from then on, whoever has it.", before,
+      "The receipt that the pawnor had is worth nothing from then on, no matter who has it.", before,
       ...(lost.has(placeOf(number)) ? [LOST_BEFORE] : []),
     ],
     yes: "Make a new receipt", no: "Not now",

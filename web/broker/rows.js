@@ -24,7 +24,7 @@ export class Rows {
     printWhole(this.whole, () => this.drawForPaper(), () => this.drawForScreen());
   }
 
-  /** Shows these items, from the first or from where the list stands. */
+  /** Shows these items, from the first, or from the one at which the list was. */
   show(items, stay) {
     const focused = [...this.drawn].find(([, row]) => row.contains(document.activeElement))?.[0];
     this.items = items;

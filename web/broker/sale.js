@@ -11,7 +11,7 @@ import { confirmed, NOTHING_DONE } from "../shared/questions.js";
 function barredOf({ status, taken, ends, credit }, { fiveDays }) {
   if (status === "realisable") return null;
   if (fiveDays === null && status === "inside") {
-    return `The period ends on ${inWords(ends)}. The first day of a sale is told once the book is read.`;
+    return `The period ends on ${inWords(ends)}. The first day of a sale is shown once the book is read.`;
   }
   const standing = { taken, ends, pence: credit, fiveDays: fiveDays ?? status === "grace" };
   const first = inWords(firstDayAfter(standing));
@@ -34,7 +34,7 @@ function done({ net, surplus, shortfall }) {
   return `Sold for ${inPounds(net)}, exactly what was owed.`;
 }
 
-/** After a lost reply the statement tells whether it was done. */
+/** After a lost reply the statement shows whether it was done. */
 async function settleLost(desk, fault) {
   const after = await desk.read().catch(() => { throw fault; });
   if (after.status === "sold") return `The reply was lost, but the pledge, read again, is sold. ${done(after.closing)}`;

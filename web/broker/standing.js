@@ -1,4 +1,4 @@
-/** A reference that stands already: which pledge has it, since when, and how it stands. */
+/** A reference that a pledge has already: which pledge, since when, and its status. */
 import { inShort, inWords } from "../shared/days.js";
 import { byId, foreign, make } from "../shared/dom.js";
 import { stateInWords } from "../shared/states.js";
@@ -6,12 +6,12 @@ import { Unreadable } from "../shared/unreadable.js";
 import { ledger } from "./ledger.js";
 import { statementOf } from "./reading.js";
 
-/** Shows which pledge has a reference, since when, and how it stands, and says so. */
+/** Shows which pledge has a reference, since when, and its status, and says so. */
 export async function tellStanding(number, reference) {
   const statement = await statementOf(number);
   const link = make("a", { href: `#pledge=${number}`, className: "pledge-link" }, `Open pledge ${number}`);
   byId("taken-receipt").replaceChildren(make("section", { className: "card screen" },
-    make("h2", {}, "This reference stands already"),
+    make("h2", {}, "This reference is used already"),
     make(
       "p", {}, foreign(reference), ` is pledge ${number}: `, foreign(statement.article),
       `, taken on ${inWords(statement.taken)}.`,
@@ -30,7 +30,7 @@ export async function tellStanding(number, reference) {
   );
 }
 
-/** Refuses a reference that stands by the book in the page, but for a pledge that came after this number. */
+/** Refuses a reference that the book in the page has already, except for a pledge that came after this number. */
 export async function refuseStanding(reference, after = Infinity) {
   const [standing] = ledger.withReference(reference);
   if (standing && standing.number <= after) await tellStanding(standing.number, standing.reference);

@@ -23,7 +23,7 @@ export function tagOf(statement, { reference, fiveDays }) {
 
 export const tagging = (statement, desk) => ({
   title: "Print a tag for the bag",
-  barred: desk.known.reference === null ? "The reference is told once the book is read." : null,
+  barred: desk.known.reference === null ? "The reference is shown once the book is read." : null,
   parts: [
     make("p", { className: "lead" }, "Number, reference, article and end, without the receipt. It opens nothing."),
     buttons(make("button", { className: "plain" }, "Show the tag")),
@@ -31,6 +31,6 @@ export const tagging = (statement, desk) => ({
   act: async () => {
     byId("new-receipt").replaceChildren(tagOf(statement, desk.known));
     byId("new-receipt").scrollIntoView();
-    return "The tag stands below, to be printed.";
+    return "The tag is below, to be printed.";
   },
 });

@@ -60,7 +60,7 @@ function refuseAmount({ pence }) {
   if (pence === 0 || pence > MOST) throw refusalOf("BadAmount");
 }
 
-/** Asks with all that will stand, since nothing of it can be changed. */
+/** Asks, and shows all that will be entered, since nothing of it can be changed. */
 function agreedTo({ article, ref, kind, pence, agreed, five_days: fiveDays }) {
   const six = sixMonthsAfter(today());
   const end = agreed && agreed > six ? agreed : six;
@@ -86,7 +86,7 @@ async function lastNumber() {
   return await statementOf(count + 1) ? (await ledger.readHead()).count : count;
 }
 
-/** The pledge was taken, or stood: it is not to be taken again. */
+/** The pledge was taken now or before: it is not to be taken again. */
 const UNSEEN = "It could not be looked at just now, so no receipt is shown. Open it in a minute: "
   + "its receipt can be printed there.";
 
@@ -167,7 +167,7 @@ function offerReference() {
   byId("next-reference").value = next ?? "";
 }
 
-/** Says while typing that a reference stands. */
+/** Says while the clerk types that a pledge has the reference already. */
 function warnStanding() {
   const { value } = form().elements.ref;
   const [standing] = lost && folded(lost.opening.ref) === folded(value) ? [] : ledger.withReference(value);

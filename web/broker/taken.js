@@ -6,7 +6,7 @@ import { receiptSheet } from "./receipt.js";
 import { tellStanding } from "./standing.js";
 import { tagOf } from "./tag.js";
 
-/** Whether a receipt is a live one of a pledge that was taken now, and stands as it was sent. */
+/** Whether a receipt is a live one of a pledge that was taken now, and the pledge is as it was sent. */
 function isTakenNow({ held, opening, said, known }) {
   return said.number > known && held !== null && held.number === said.number && held.status === "inside"
     && held.entries.length === 0
@@ -15,8 +15,8 @@ function isTakenNow({ held, opening, said, known }) {
 }
 
 /**
- * The terms of a pledge that was taken just now: the newest ones, where no others were put meanwhile, or else those
- * that the whole book tells of it.
+ * The terms of a pledge that was taken just now: the newest ones, if no others were added meanwhile, or else those
+ * that the whole book has for it.
  */
 async function termsTaken(number, before) {
   const { terms } = await ledger.readHead();
@@ -24,7 +24,7 @@ async function termsTaken(number, before) {
   await ledger.awaitReading();
   if (ledger.pledge(number) === null) await ledger.awaitReading();
   const found = ledger.termsOf(ledger.pledge(number));
-  if (!found) throw new Error("the book does not tell the pledge’s terms");
+  if (!found) throw new Error("the book does not have the pledge’s terms");
   return found;
 }
 
@@ -51,7 +51,7 @@ export async function settle({ opening, said, known, before }) {
     await tellStanding(said.number, opening.ref);
   }
   const link = make("a", { href: `#pledge=${said.number}`, className: "pledge-link" }, `Pledge ${said.number}`);
-  const stands = make("p", { className: "taken screen" }, link, " stands: ", foreign(opening.article), ".");
+  const stands = make("p", { className: "taken screen" }, link, " is taken: ", foreign(opening.article), ".");
   byId("taken-receipt").replaceChildren(stands);
   const terms = await termsTaken(said.number, before);
   ledger.addTaken({ opening, statement: held, receipt: said.receipt, version: terms.version });

@@ -1,4 +1,4 @@
-/** The book's terms: the versions that stand, and the next. */
+/** The book's terms: the versions that it has, and the next. */
 import { byId, make } from "../shared/dom.js";
 import { Refused } from "../shared/faults.js";
 import { onSend, run } from "../shared/forms.js";
@@ -47,7 +47,7 @@ function row({ version, rate, keepBefore, keepAfter }) {
   return make("tr", {}, ...cells.map((cell) => make("td", {}, cell)));
 }
 
-/** Shows the versions that stand, by the book's head. */
+/** Shows the versions that the book has, by the book's head. */
 function draw() {
   versions = ledger.head.terms;
   const heads = [
@@ -59,7 +59,7 @@ function draw() {
   );
   const none = make("p", { className: "empty" }, "The book has no terms yet. A pledge can be taken once it has.");
   byId("terms-list").replaceChildren(
-    make("section", { className: "card" }, make("h2", {}, "Terms that stand"), versions.length > 0 ? table : none)
+    make("section", { className: "card" }, make("h2", {}, "Terms of this book"), versions.length > 0 ? table : none)
   );
   byId("next-version").textContent = `Version ${versions.length + 1}`;
 }
@@ -103,7 +103,7 @@ export function setUpTerms() {
     if (versions === null) await readAnew();
     const version = await put(terms);
     await readAnew();
-    return `Version ${version} stands. It counts for pledges that are taken from now on.`;
+    return `Version ${version} is added. It applies to pledges that are taken from now on.`;
   });
 }
 

@@ -1,6 +1,6 @@
 /**
  * The till: what was taken, drawn, repaid, redeemed and sold on a day, so that the drawer can be compared with the
- * book. What was repaid and redeemed is parted into charges and what was lent.
+ * book. What was repaid and redeemed is divided into charges and the sum that was lent.
  */
 import { inWords, today } from "../shared/days.js";
 import { byId, facts, make } from "../shared/dom.js";

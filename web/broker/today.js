@@ -12,7 +12,7 @@ import { ledger } from "./ledger.js";
 import { askBook, current } from "./session.js";
 import { pledgeLink } from "./tables.js";
 
-/** At most so many lines stand in a card. */
+/** A card shows at most so many lines. */
 const MOST = 40;
 /** The sheets of so many days after today are looked at, too, for visits that were asked for meanwhile. */
 const AHEAD = 7;
@@ -31,7 +31,7 @@ function card(title, lines, empty) {
   return make("section", { className: "card" }, make("h2", {}, title), body);
 }
 
-/** What the book tells of a pledge: its reference, what is owed, its end with the days of grace, and its terms. */
+/** What the book has of a pledge: its reference, what is owed, its end with the days of grace, and its terms. */
 function detailOf(pledge) {
   const { reference, ends, agreed, fiveDays } = pledge;
   const owed = ledger.owed(pledge);
@@ -46,7 +46,7 @@ function detailOf(pledge) {
   );
 }
 
-/** A pledge's link with its article and what the book tells of it. */
+/** A pledge's link with its article and what the book has of it. */
 function named(number) {
   const pledge = ledger.pledge(number);
   const more = pledge ? [foreign(pledge.article), detailOf(pledge)] : [];
@@ -86,7 +86,7 @@ function waitingCard() {
     return card("Waiting for an answer, on any day", lines, "Nobody waits for an answer, as the book was read.");
   }
   const whole = card("Waiting for an answer, as far as was read", lines, "Nobody asked to come, as far as was read.");
-  whole.append(make("p", { className: "empty" }, "Other days, and articles, are told once the book is read."));
+  whole.append(make("p", { className: "empty" }, "Other days, and articles, are shown once the book is read."));
   return whole;
 }
 
@@ -109,7 +109,7 @@ async function fetchSheet(day) {
   return found;
 }
 
-/** Whether a sheet has an ask that the book in the page has not: somebody asked since it was read. */
+/** Whether a sheet has a request for a visit that the book in the page lacks: a pawnor asked since it was read. */
 const hasNews = ({ day, asked: all }) => ledger.book !== null && all.some(({ number, window }) => {
   const booking = ledger.pledge(number)?.booking;
   return booking?.day !== day || booking.window !== window || booking.state !== "asked";
@@ -125,7 +125,7 @@ async function read(day) {
 }
 
 /**
- * Looks at the sheet that is shown, and at those of the next days, without a word; what they tell anew is drawn. A look
+ * Looks at the sheet that is shown, and at those of the next days, without a word; what is new in them is drawn. A look
  * that fails leaves what is shown.
  */
 export async function refreshToday() {

@@ -46,7 +46,7 @@ async function askForVisit(card, { day, window }) {
   return `Asked for ${when}. The shop says yes or no; look here again.`;
 }
 
-/** Whether a visit stands whose day is not over. */
+/** Whether the pledge has a visit whose day is not over. */
 const stands = ({ booking }) => isToCome(booking) && booking.day >= today();
 
 function visitFold(card) {
@@ -56,7 +56,7 @@ function visitFold(card) {
   );
   const standing = stands(card.statement);
   const lead = standing
-    ? "A new time takes the place of the one that stands."
+    ? "A new time takes the place of the present one."
     : "Say when you would like to fetch it. The shop confirms it or not.";
   const parts = [
     make("p", { className: "lead" }, lead), field("Day", day), field("Time", times),
@@ -131,7 +131,7 @@ async function redeem(card) {
 function redeemFold(card) {
   const { owed, held } = card.statement;
   const lead = held ? "The pawnbroker holds this pledge, so it can’t be redeemed just now. Ask at the shop why."
-    : `Redeeming wants all that is owed today, ${inPounds(owed.owing)}, received by the pawnbroker. `
+    : `Redeeming needs all that is owed today, ${inPounds(owed.owing)}, received by the pawnbroker. `
       + `You are asked once more before it is done.`;
   const button = make("button", { className: "grave", disabled: held }, `Redeem for ${inPounds(owed.owing)}`);
   return foldOf(card, "Redeem", [make("p", { className: "lead" }, lead), buttons(button)], () => redeem(card));

@@ -1,4 +1,4 @@
-/** One pledge of the pawnor's: how it stands, and what may be done. */
+/** One pledge of the pawnor's: its state, and what may be done. */
 import { ask } from "../shared/api.js";
 import { CODES, isRefusal } from "../shared/codes.js";
 import { foreign, make } from "../shared/dom.js";
@@ -62,7 +62,7 @@ export class Card {
   }
 
   /**
-   * Reads the pledge as it stands, and shows it. Folds that are open stay open, but for the one in which something was
+   * Reads the present pledge, and shows it. Folds that are open stay open, but for the one in which something was
    * just done.
    */
   async look(done = null) {
@@ -76,7 +76,7 @@ export class Card {
     redrawFolds(this.actions, () => this.actions.replaceChildren(...actionsOf(this)), done);
   }
 
-  /** The statement as it stands now. */
+  /** The present statement. */
   async read() {
     return readStatement((await this.ask("")).text);
   }
@@ -86,7 +86,7 @@ export class Card {
     return [`Pledge ${this.statement.number}`, ...(this.shop ? [" at ", foreign(this.shop)] : [])];
   }
 
-  /** What the receipt's link tells beside the statement: an older one the rate alone, in words. */
+  /** What the receipt's link says beside the statement: an older link says only the rate, in words. */
   told() {
     const by = "Reference, days of grace, interest and safe keeping are as the receipt’s link says.";
     if (this.known.terms) return [make("p", { className: "small" }, by)];
@@ -95,7 +95,7 @@ export class Card {
     ] : [];
   }
 
-  /** A look whose fault is said in place of the pledge. Gives whether there is a pledge. */
+  /** A look whose fault is shown in place of the pledge. Returns whether there is a pledge. */
   async show(done = null) {
     if (done === null) tell(this.notice, "");
     try {
@@ -144,7 +144,7 @@ export class Card {
   }
 
   /**
-   * Runs an act, shows the pledge as it stands then, and says what came of it: above, or in its form where it was
+   * Runs an act, shows the pledge as it is then, and reports the result: above, or in the form of the act if it was
    * refused.
    */
   async perform(act, { form, notice, title }) {

@@ -54,7 +54,7 @@ function cardOf(one) {
   return card;
 }
 
-/** Looks at cards, and tells whether each shows a pledge. */
+/** Looks at cards, and returns whether each shows a pledge. */
 const look = (some) => inTurn(some.map((card) => () => card.show()));
 
 async function showFragment(notice) {

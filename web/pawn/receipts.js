@@ -7,8 +7,8 @@ import { Unreadable } from "../shared/unreadable.js";
 const KEPT = "receipts";
 
 /**
- * Takes the receipts out of the address, so that they stand in no bookmark and no shared link. The browser's history
- * may keep the link. Tells, too, whether the link was cut, and the book that it names.
+ * Takes the receipts out of the address, so that no bookmark and no shared link has them. The browser's history may
+ * keep the link. Returns, too, whether the link was cut, and the book that it names.
  */
 export function takeFragment() {
   const { hash } = location;
@@ -29,10 +29,10 @@ export function ofTyped({ book, receipts }) {
     "receipts",
   );
   if (found.some((one) => one.book === "")) throw new Unreadable(
-    "Type the number of the shop’s book too: it stands on the paper after “book”.", "book",
+    "Type the number of the shop’s book too: it is printed on the paper after “book”.", "book",
   );
   if (found.some((one) => !isBook(one.book))) throw new Unreadable(
-    "The book is a number, which stands on the paper after “book”.", "book",
+    "The book is a number, which is printed on the paper after “book”.", "book",
   );
   return found;
 }

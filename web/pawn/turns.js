@@ -8,7 +8,7 @@ const AT_ONCE = 4;
 const AT_FIRST = 15;
 const WAIT = 250;
 
-/** Runs the looks, a few at once, and gives what each gave. */
+/** Runs the looks, a few at once, and returns the result of each. */
 export async function inTurn(looks) {
   const results = new Array(looks.length);
   let next = 0;

@@ -29,8 +29,8 @@ class Patience {
 }
 
 /**
- * A reply's text, read piece by piece. How many bytes of how many have come is told to `watch`. Once `enough` says so
- * of the text, the rest is given up.
+ * A reply's text, read piece by piece. `watch` is called with the number of bytes that came and that of all. Once
+ * `enough` accepts the text, the rest is not read.
  */
 async function readPieces(reply, patience, { watch, enough }) {
   const whole = Number(reply.headers.get("Content-Length"));
@@ -89,11 +89,11 @@ async function attempt({ method, path, fields, body, watch, enough, isLarge = fa
 }
 
 /**
- * Asks the service, and gives the reply's text and what it says as JSON.
+ * Asks the service, and returns the reply's text and, if it is JSON, its value.
  *
- * What was not handed to the service is asked again, since nothing was done. A request whose reply was lost is asked
- * again only where a repeat is harmless. Throws Refused, NotReached or Lost. `watch` and `enough` are of readPieces,
- * `silence` is how long to wait for a piece of the reply; `isLarge` says that the reply is large.
+ * A request that did not reach the service is sent again, since nothing was done. A request whose reply was lost is
+ * sent again only where a repeat is harmless. Throws Refused, NotReached or Lost. `watch` and `enough` are of
+ * readPieces, `silence` is how long to wait for a piece of the reply; `isLarge` says that the reply is large.
  */
 export async function ask({ harmless, ...request }) {
   const isLook = request.method === "GET";

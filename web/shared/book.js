@@ -1,7 +1,7 @@
 /** A book, read from the text of comma-separated rows that the service exports: version 1, without extensions, or 2. */
 import { endOf } from "./period.js";
 
-/** The fields of a record that has quotes: a quote in a field stands twice. */
+/** The fields of a record that has quotes: a quote in a field is doubled. */
 function quotedFields(line) {
   const fields = [];
   for (let place = 0; place <= line.length; place += 1) {

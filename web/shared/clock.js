@@ -3,7 +3,7 @@
  * pages reckon with the service's day.
  */
 
-/** From this many milliseconds on, the difference is told. */
+/** From this many milliseconds on, the page reports the difference. */
 const TOLD = 120_000;
 const SECOND = 1000;
 

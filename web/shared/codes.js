@@ -1,4 +1,4 @@
-/** The service's refusals that the pages tell apart, by the names that the service gives them. */
+/** The service's refusals that the pages distinguish, by the names that the service uses. */
 import { Refused } from "./faults.js";
 
 export const CODES = {
@@ -9,5 +9,5 @@ export const CODES = {
 /** Whether a fault is one of these refusals. */
 export const isRefusal = (fault, ...codes) => fault instanceof Refused && codes.includes(fault.code);
 
-/** The refusal of this name, where a page knows before it asks that the service would give it. */
+/** The refusal of this name, where a page knows before it asks that the service would return it. */
 export const refusalOf = (name, more = {}) => new Refused({ code: CODES[name], name, ...more });

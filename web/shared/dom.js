@@ -13,10 +13,10 @@ export function make(tag, properties = {}, ...children) {
   return element;
 }
 
-/** Somebody else's text, kept apart from the direction of the text around it. */
+/** A text that another person wrote, kept apart from the direction of the text around it. */
 export const foreign = (text) => make("bdi", { textContent: text });
 
-/** A list of names and what they stand for, as pairs. */
+/** A list of names and their values, as pairs. */
 export function facts(pairs) {
   return make(
     "dl", { className: "facts" },

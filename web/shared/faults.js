@@ -1,4 +1,4 @@
-/** What can stand in the way of an answer, and how a person is told. */
+/** Why a request gets no answer, and the sentences that a person reads then. */
 import { sentence } from "./refusals.js";
 import { Unreadable } from "./unreadable.js";
 
@@ -16,7 +16,7 @@ export class NotReached extends Error {}
 /** The request may have reached the service, but no reply came back. */
 export class Lost extends Error {}
 
-/** What a look gives before a command is sent. Where the look reaches nobody, the command was not sent. */
+/** The result of a look before a command is sent. If the look does not reach the service, the command was not sent. */
 export const lookFirst = (look) => look.catch((fault) => {
   throw fault instanceof NotReached ? new NotReached("command") : fault;
 });
@@ -32,10 +32,10 @@ export function tellFault(fault, reader) {
     ? UNSEEN
     : `${UNSEEN} What you asked for was not sent, so it was not done.`;
   if (fault instanceof Lost) {
-    return "The reply was lost, so this may have been done. Look at how the pledge stands before you do it again.";
+    return "The reply was lost, so this may have been done. Look at the pledge before you do it again.";
   }
   return `This page did not understand what came back (${fault.message}). `
-    + "Look at how the pledge stands before you do anything again.";
+    + "Look at the pledge before you do anything again.";
 }
 
 /** The field of a form that a refusal speaks of, by its code. */

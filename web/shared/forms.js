@@ -1,4 +1,4 @@
-/** Forms that ask the service, and the line under each that says what came of it. */
+/** Forms that ask the service, and the line under each that reports the result. */
 import { make } from "./dom.js";
 import { fieldOf, tellFault } from "./faults.js";
 
@@ -22,7 +22,7 @@ export function tell(notice, text, tone = "quiet") {
 export const makeNotice = () =>
   make("p", { className: "notice quiet", role: "status", tabIndex: -1, id: newId("notice") });
 
-/** Ties a refusal to the field that it speaks of, in the notice's own form if it has one, and gives that field. */
+/** Ties a refusal to the field that it speaks of, in the notice's own form if it has one, and returns that field. */
 function markField(within, notice, name) {
   const place = notice.closest("form") ?? within;
   const field = name && place.querySelector(`[name="${name}"]:not([type=radio])`);
@@ -41,10 +41,10 @@ function clearMarks(within) {
 
 let explained = () => null;
 
-/** Has a wait explained: the function gives a sentence, or null where it has none. */
+/** Has a wait explained: the function returns a sentence, or null if it has none. */
 export const explainWaiting = (explain) => { explained = explain; };
 
-/** Says what the page waits for, and after a while that it still does. Gives what ends it. */
+/** Says what the page waits for, and after a while that it still does. Returns the function that ends it. */
 function tellWaiting(notice) {
   let begun = Date.now();
   const say = () => {
@@ -65,8 +65,8 @@ export async function tellLater(notice, { message, later }) {
 }
 
 /**
- * Runs an act with its buttons out of use, and says in the notice what came of it. The act gives the sentence of its
- * success, or a sentence with its tone. Gives the fault, or null.
+ * Runs an act with its buttons disabled, and reports the result in the notice. The act returns the sentence of its
+ * success, or a sentence with its tone. Returns the fault, or null.
  */
 export async function run({ notice, within, reader, act }) {
   const buttons = [...within.querySelectorAll("button")].filter((button) => !button.disabled);
@@ -154,7 +154,7 @@ export function redrawFolds(within, redraw, done = null) {
 }
 
 /**
- * Says what came of an act after which all folds were made anew: in the notice above them where it was done, else in
+ * Reports the result of an act after which all folds were made anew: in the notice above them if it was done, else in
  * the fold of that title, which is opened again with what was typed.
  */
 export function sayAfter({ within, notice, title, fields, said, fault, reader }) {
@@ -173,7 +173,7 @@ export function sayAfter({ within, notice, title, fields, said, fault, reader })
   return (markField(form, line, fault && fieldOf(fault)) ?? line).focus();
 }
 
-/** A field of a form with its label above it, and with a hint under it where one is given. */
+/** A field of a form with its label above it, and with a hint under it if there is one. */
 export function field(label, input, hint = null) {
   input.id = newId("field");
   const name = make("label", { className: "name", htmlFor: input.id }, label);

@@ -1,4 +1,4 @@
-/** What is owed on a day, reckoned by the rules in whole numbers: the statement tells it for today alone. */
+/** What is owed on a day, computed by the rules in whole numbers: the statement has it for today alone. */
 import { daysBetween } from "./days.js";
 
 /** Charges are kept in millionths of a penny. */
@@ -39,7 +39,7 @@ const atFirst = ({ kind, credit, taken }) =>
   ({ at: taken, principal: kind === "fixed" ? BigInt(credit) : 0n, millionths: 0n });
 
 /**
- * The principal, the charges and their sum in pence on a day, of a pledge as its statement tells it and by the terms
+ * The principal, the charges and their sum in pence on a day, of a pledge as its statement shows it and by the terms
  * that it keeps. Throws where the day is before the day taken or before an entry.
  */
 export function owedOn(statement, rates, day) {

@@ -1,8 +1,9 @@
 /**
  * Drawings and repayments, recorded so that two clerks, or a clerk and a pawnor, don't take one for the other.
  *
- * The service can't tell two equal entries of one number apart: it answers the second as it answered the first. So the
- * pledge is read before, and what came in between is shown; and it is read after, and compared with what must stand.
+ * The service can't distinguish two equal entries of one number: it answers the second as it answered the first. So
+ * the pledge is read before, and what came in between is shown; and it is read after, and compared with what it must
+ * have then.
  */
 import { refusalOf } from "./codes.js";
 import { inWords, today } from "./days.js";
@@ -15,18 +16,18 @@ import { isOpen } from "./statuses.js";
 const NOTHING = { sentence: "Nothing was recorded.", tone: "quiet" };
 const WORDS = { draw: { done: "Drawn", as: "paid out" }, repay: { done: "Repaid", as: "received" } };
 
-/** How much of what came in between is told line by line. */
+/** How many of the entries that came in between are listed line by line. */
 const TOLD = 5;
 
 const isSame = (one, other) => one.seq === other.seq && one.sort === other.sort && one.pence === other.pence;
 
-/** What stands now and did not when the pledge was shown, as sentences. */
+/** What the pledge has now and did not have when it was shown, as sentences. */
 function cameBetween(shown, now) {
   const entries = now.entries.slice(shown.entries.length);
   const lines = entries.slice(-TOLD).map(entryInWords);
   if (entries.length > TOLD) lines.unshift(`${entries.length - TOLD} other entries.`);
   if (now.status !== shown.status || now.held !== shown.held || now.ends !== shown.ends) {
-    lines.push("How the pledge stands has changed.");
+    lines.push("The state of the pledge has changed.");
   }
   return lines;
 }
@@ -59,7 +60,7 @@ function mending({ kind, owed }, sort, pence) {
   return "An entry can’t be taken back, and nothing is drawn again on a fixed sum.";
 }
 
-/** Asks where something came in between, or the amount is large. Gives whether to go on. */
+/** Asks where something came in between, or the amount is large. Returns whether to go on. */
 async function agreed({ shown, now, sort, pence, askFrom }) {
   const between = cameBetween(shown, now);
   const amount = inPounds(pence);
@@ -80,7 +81,7 @@ async function agreed({ shown, now, sort, pence, askFrom }) {
   });
 }
 
-/** Whether what is read after the entry is what must stand then. A new day adds charges of its own. */
+/** Whether what is read after the entry is what the pledge must have then. A new day adds charges of its own. */
 function judge({ now, after, said, day }) {
   const others = after.entries.length - now.entries.length - 1;
   const mine = after.entries.find(({ seq }) => seq === said.seq);
@@ -96,7 +97,7 @@ function judge({ now, after, said, day }) {
 }
 
 /**
- * What came of an entry that the service took. After it the pledge may be out of reach: that is not to be done again.
+ * The result of an entry that the service took. If the pledge can't be read after it, the entry must not be made again.
  */
 function tellOf({ now, after, said, day }) {
   const done = `${WORDS[said.sort].done}: ${inPounds(said.pence)}, on ${inWords(said.day)}.`;
@@ -118,7 +119,7 @@ function tellLost({ now, after, entry }) {
     };
   }
   if (after.entries.length > now.entries.length) return {
-    sentence: "The reply was lost, and somebody else’s entry stands. Look at the entries before you do more.",
+    sentence: "The reply was lost, and somebody else made an entry. Look at the entries before you do more.",
     tone: "bad",
   };
   return {
@@ -129,9 +130,10 @@ function tellLost({ now, after, entry }) {
 }
 
 /**
- * Records an entry on a pledge: `read` gives its statement as it stands, `send` sends the body, `sort` is draw or
+ * Records an entry on a pledge: `read` returns its present statement, `send` sends the body, `sort` is draw or
  * repay. An amount from `askFrom` on, or one that is unlike the pledge, is asked about; where it was asked about
- * already, `askFrom` is Infinity. Gives what is to be said, with its tone. Throws what the service or the line refuses.
+ * already, `askFrom` is Infinity. Returns the message, with its tone. Throws the service's refusal, or Lost or
+ * NotReached.
  */
 export async function recordEntry({ shown, read, send, sort, pence, askFrom = LARGE }) {
   const now = await lookFirst(read());

@@ -1,5 +1,5 @@
 /**
- * When a pledge's period ends, and how the pledge stands on a day, by the rules, for pledges of the book in the page.
+ * When a pledge's period ends, and the pledge's status on a day, by the rules, for pledges of the book in the page.
  */
 import { plusDays, sixMonthsAfter } from "./days.js";
 

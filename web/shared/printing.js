@@ -1,6 +1,6 @@
 /**
  * Paper: what a screen shows in part is printed whole, and where a receipt or a tag is shown, it alone is printed. An
- * element that says so is told before and after.
+ * element that is marked so gets an event before and after the printing.
  */
 
 const WHOLE = "print-whole";

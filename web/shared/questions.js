@@ -6,7 +6,7 @@ let asked = 0;
 /** A line of a question: a text, or nodes beside each other. */
 const lineOf = (line) => make("p", {}, ...(Array.isArray(line) ? line : [line]));
 
-/** Asks in a dialog, and gives whether the answer was yes. Escape is no. */
+/** Asks in a dialog, and returns whether the answer was yes. Escape is no. */
 export function confirmed({ title, lines, yes, no }) {
   asked += 1;
   const heading = make("h2", { id: `question-${asked}` }, title);

@@ -22,7 +22,7 @@ function written(number, digits) {
 
 const plain = (text) => text.normalize("NFKC").replace(UNSEEN, "").replace(DASHES, "-");
 
-/** The receipts that stand in a text, in the service's own spelling. */
+/** The receipts that a text contains, in the service's own spelling. */
 export function receiptsIn(text) {
   return [...plain(text).matchAll(RECEIPT)].map(([, number, digits]) => written(number, digits));
 }
@@ -40,7 +40,7 @@ function termsOf(text) {
 /** The days of grace as a link says them: true for five, false for none, null where it says nothing. */
 const GRACE = { 5: true, 0: false };
 
-/** What is told of a pledge beside its receipt; here nothing. */
+/** What a link says of a pledge beside its receipt; here nothing. */
 const UNTOLD = { shop: "", rate: "", ref: "", terms: null, fiveDays: null };
 
 /** What a link says of the shop, the reference and the terms. */
@@ -90,7 +90,7 @@ export function receiptsTyped(text) {
 
 /**
  * A link for the pawnor's page. What follows the # reaches no server and no log. It says what the service does not
- * tell a pawnor: the terms, the days of grace, the shop's name and its reference, as far as there is room.
+ * show to a pawnor: the terms, the days of grace, the shop's name and its reference, as far as there is room.
  */
 export function linkTo({ origin, book, receipt, shop, reference, terms, fiveDays }) {
   const { rate, keepBefore, keepAfter } = terms;

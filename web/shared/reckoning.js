@@ -24,7 +24,7 @@ function beside({ taken, ends, credit }, { fiveDays }, reader, day) {
 function reckon({ statement, known, reader }, day) {
   const now = owedOn(statement, known.terms, today());
   if (now.owing !== statement.owed.owing || now.principal !== statement.owed.principal) {
-    throw new Unreadable("This page can’t reckon this pledge: have it shown again first.");
+    throw new Unreadable("This page can’t compute the sum of this pledge: show the pledge again first.");
   }
   if (!day || day < today() || day > LAST) throw new Unreadable("Choose a day from today on.", "day");
   const { owing, principal, charges } = owedOn(statement, known.terms, day);

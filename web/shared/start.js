@@ -10,7 +10,7 @@ const MINUTE = 60_000;
 const HOUR = 60 * MINUTE;
 const DAY = 24 * HOUR;
 
-/** Whether the browser has dialogs, and tells which button sent a form: Safari 15.4 does, and others of its time. */
+/** Whether the browser has dialogs, and reports which button sent a form: Safari 15.4 does, and others of its time. */
 const isServed = () => "HTMLDialogElement" in window && "SubmitEvent" in window && "submitter" in SubmitEvent.prototype;
 
 /** How much a clock is wrong, in its largest unit. */
@@ -28,7 +28,7 @@ function showClock() {
   line.hidden = wrong === 0;
   if (wrong === 0) return;
   line.textContent = `The clock of this computer is ${howMuch(wrong)} ${wrong > 0 ? "ahead" : "behind"}. This page `
-    + `reckons with the service’s day, ${inWords(today())}. Have the clock set right.`;
+    + `computes with the service’s day, ${inWords(today())}. Have the clock set right.`;
 }
 
 /** Sends the form whose button was pressed before the page had started, as it is filled now. */

@@ -1,4 +1,4 @@
-/** How a pledge stands, in words: for the broker, and for the pawnor. */
+/** The status of a pledge, in words: for the broker, and for the pawnor. */
 import { countDays, daysBetween, inShort, inWords, today } from "./days.js";
 import { inPounds } from "./money.js";
 import { firstDayAfter, graceEnd, lastSafeDay, willPass } from "./period.js";
@@ -33,7 +33,7 @@ function insideOf(statement, now, { fiveDays }) {
   const state = { badge: "In its period", tone: "good" };
   if (fiveDays === null) return {
     ...state, line: `The period ends on ${inWords(ends)}`,
-    more: `${lastsFor(now, ends)}; days of grace are told once the book is read`,
+    more: `${lastsFor(now, ends)}; days of grace are shown once the book is read`,
   };
   const last = lastSafeDay({ ends, fiveDays });
   const grace = fiveDays ? `the period ends on ${inShort(ends)}, and five days of grace follow; ` : "";
@@ -77,7 +77,7 @@ const STATES = {
 
 const over = (ends) => `Its time was over on ${inWords(ends)}`;
 
-/** A pledge in its period, for the pawnor: the days of grace are those that the receipt's link tells. */
+/** A pledge in its period, for the pawnor: the days of grace are those that the receipt's link says. */
 function stillYours({ ends }, now, { fiveDays }) {
   const last = lastSafeDay({ ends, fiveDays });
   const grace = {
@@ -127,7 +127,7 @@ export function stateOf(statement, now, known, reader) {
   };
 }
 
-/** How a pledge stands, in a sentence without its end. */
+/** The status of a pledge, in a sentence without its end. */
 export function stateInWords(statement, known) {
   const { line, more } = stateOf(statement, today(), known, "broker");
   return `${line}: ${more}`;

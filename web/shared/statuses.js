@@ -1,4 +1,4 @@
-/** How a pledge can stand on a day: whether it is open, and its name in a list. */
+/** The statuses of a pledge on a day: whether it is open, and the name of the status in a list. */
 
 export const STATUSES = {
   inside: { isOpen: true, name: "in its period" },
@@ -9,11 +9,11 @@ export const STATUSES = {
   sold: { isOpen: false, name: "sold" },
 };
 
-/** Whether a pledge that stands so can be redeemed, and its visits be decided on. */
+/** Whether a pledge of this status can be redeemed, and its visits be decided on. */
 export const isOpen = (status) => STATUSES[status].isOpen;
 
 /** The states of a booking that a visit can still come of. */
 const WAITING = ["asked", "confirmed"];
 
-/** Whether somebody is to come, or asked to. */
+/** Whether the pawnor is to come, or asked to. */
 export const isToCome = (booking) => booking !== null && booking !== undefined && WAITING.includes(booking.state);

@@ -30,7 +30,7 @@ function periodBar({ taken, ends }, now) {
   return make("div", { className: "period" }, bar, under);
 }
 
-/** What is owed and what that is made of. A closed pledge tells what was owed when it was closed. */
+/** The sum owed and its parts. For a closed pledge it is what was owed when it was closed. */
 function owedBlock({ owed, closing }) {
   if (!owed) return null;
   const parts = [
@@ -76,7 +76,7 @@ function factsOf(statement, known) {
 }
 
 /**
- * The parts of a summary for its reader, in order. The place says where the pledge stands, as texts and nodes: "Pledge
+ * The parts of a summary for its reader, in order. The place says where the pledge is, as texts and nodes: "Pledge
  * 3 of book 7".
  */
 export function summaryOf({ statement, known, place, reader = "broker" }) {

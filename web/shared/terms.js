@@ -1,7 +1,7 @@
 /** Terms in words that a person can reckon with. */
 import { inPounds } from "./money.js";
 
-/** A month is told as thirty days. */
+/** A month is shown as thirty days. */
 const MONTH = 30;
 const SAMPLE = 10_000;
 const MILLION = 1e6;

@@ -17,5 +17,5 @@ export function readText(text, { field, name, most }) {
   return trimmed;
 }
 
-/** A text as it is compared: without regard to case, to blanks at its ends, and to how many stand between. */
+/** A text as it is compared: without regard to case, to blanks at its ends, and to how many are between two words. */
 export const folded = (text) => text.trim().replace(/\s+/g, " ").toLowerCase();

@@ -1,5 +1,5 @@
 /**
- * What a person typed is not of its form, or of no use. The message says why, `field` is the name of where it stands,
+ * What a person typed is not of its form, or of no use. The message says why, `field` is the name of its field,
  * and `later` promises a better sentence, or null.
  */
 export class Unreadable extends Error {

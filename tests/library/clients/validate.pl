@@ -1,4 +1,4 @@
-# Validates an OpenAPI description by JSON::Validator, and compiles each pattern that is handed in by standard input.
+# Validates an OpenAPI description by JSON::Validator, and compiles each pattern of standard input.
 #
 # usage: perl validate.pl DESCRIPTION <PATTERNS
 use strict;

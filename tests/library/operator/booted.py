@@ -83,8 +83,8 @@ def steps(machines, *tests):
 
 
 class Booted:
-    """A machine that runs, until the block is left. The folder `packages` is its /root/packages. `words` give
-    systemd-nspawn its network and its disks."""
+    """A machine that runs, until the block is left. The folder `packages` is its /root/packages. `words` are
+    systemd-nspawn's options for its network and its disks."""
 
     def __init__(self, packages, name="one", debian=READY, words=("--private-network",)):
         self.packages, self.name, self.debian, self.words = packages, name, debian, words

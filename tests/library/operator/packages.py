@@ -10,7 +10,7 @@ PARTS = ("deploy", "docs", "examples", "web", "tools", "README.md", "CHANGELOG.m
 
 
 def make_package(target, version="0.0.1", changes=(), top=TOP):
-    """The package's path. `changes` are files with a text each that stands at the end of the file, or in the place of
+    """The package's path. `changes` are files with a text each that is added at the end of the file, or in the place of
     another text that is named third: they are made in a copy of the repository's files."""
     os.makedirs(target, exist_ok=True)
     if changes:

@@ -35,7 +35,7 @@ XFS_IOC_GOINGDOWN, NO_LOG = 0x8004587D, 2
 
 def why_not():
     """Why these machines can't be made here, or None. After it this process has mounts and a network of its own, which
-    nobody else sees and which are gone with it."""
+    no other process sees and which are gone with it."""
     if why := booted.why_not():
         return why
     if provide(NEEDED):
@@ -107,7 +107,7 @@ class Machine(Booted):
         shell(f"bridge link set dev {self.port} state {3 if whole else 0}")
 
     def lose_power(self):
-        """Nobody is told: the line is dead, what the disk was not made to keep is gone, and all processes end."""
+        """Without a message: the line is dead, what the disk was not made to keep is gone, and all processes end."""
         self.line(False)
         disk = os.open(f"{self.disk_room}/disk", os.O_RDONLY)
         fcntl.ioctl(disk, XFS_IOC_GOINGDOWN, struct.pack("I", NO_LOG))
@@ -361,7 +361,7 @@ class Load:
                     expect(f"entry {seq} of pledge {number}", entries.get((number, seq)), seq)
         strange = [it for it in pledges if it[0] == "t" and it not in sent] + [
             it for it in entries if it not in sent and any(it[0] in till.pledges for till in self.tills)]
-        expect("what nobody sent", strange, [])
+        expect("what was not sent", strange, [])
 
     def export(self):
         for _ in range(60):

@@ -39,7 +39,7 @@ window.fetch = async (...request) => {
 
 
 class Relay:
-    """What stands between nginx and the service: a request goes on, and its reply comes back, unless it is to be
+    """A relay between nginx and the service: a request goes on, and its reply comes back, unless it is to be
     lost."""
 
     def __init__(self, port):
@@ -205,7 +205,7 @@ class Browser:
         return self.ask("POST", "/execute/sync", {"script": script, "args": list(arguments)})
 
     def run_later(self, script, *arguments):
-        """The same of a script that gives a promise."""
+        """The same of a script that returns a promise."""
         whole = (
             f"const done = arguments[arguments.length - 1]; (async (...given) => {{ {script} }})(...arguments)"
             ".then(done, (fault) => done(String(fault)))"
@@ -214,7 +214,7 @@ class Browser:
 
     @contextlib.contextmanager
     def without_a_line(self):
-        """The browser reaches nobody."""
+        """The browser reaches no server."""
         def put(offline):
             line = {"latency": 0, "downloadThroughput": -1, "uploadThroughput": -1}
             self.devtools("Network.enable")
@@ -237,7 +237,7 @@ class Browser:
         self.until("return !window.asking", "a page that has shown what it asked for")
 
     def element(self, selector, text=None):
-        """A visible element of the page by its selector, and by its text where one is given."""
+        """A visible element of the page by its selector, and by its text if there is one."""
         script = """return [...document.querySelectorAll(arguments[0])].find(
             (one) => one.checkVisibility() && (arguments[1] === null || one.textContent.trim() === arguments[1]),
         ) ?? null"""
@@ -287,7 +287,7 @@ class Browser:
         )
 
     def shoot(self, name):
-        """Pictures of the whole page at each width, where it is judged too: nothing is cut off, each field has its
+        """Pictures of the whole page at each width, where it is checked too: nothing is cut off, each field has its
         name, and texts stand out."""
         os.makedirs(SHOTS, exist_ok=True)
         for width in WIDTHS:
@@ -319,7 +319,7 @@ class Browser:
         ]
 
 
-# Puts a value into a field as a person's typing would, and gives the field's type.
+# Puts a value into a field as a person's typing would, and returns the field's type.
 FILL = r"""
 const fields = [...document.querySelectorAll(arguments[0])];
 const field = fields.find((one) => one.type !== "radio" || one.value === arguments[1]);

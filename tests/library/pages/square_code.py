@@ -9,7 +9,7 @@ SCALE = 6
 
 
 def text_of_code(path, box):
-    """What a code says: its squares as the path of an SVG, and the box that it stands in."""
+    """What a code says: its squares as the path of an SVG, and the box that it is in."""
     left, top, width, height = (int(side) for side in box.split())
     dark = {(int(column) - left, int(row) - top) for column, row in re.findall(r"M(\d+) (\d+)h1v1h-1z", path)}
     lines = [" ".join(str(int((column, row) in dark)) for column in range(width) for _ in range(SCALE))

@@ -78,7 +78,7 @@ def unfold(title):
 
 
 def command(title, button, picture=None, **fields):
-    """Unfolds a command, fills its form and sends it, once what came of the act before it is shown."""
+    """Unfolds a command, fills its form and sends it, once the result of the act before it is shown."""
     browser.rests()
     unfold(title)
     if fields:
@@ -124,6 +124,8 @@ def a_pledge_at_the_counter():
         receipt = pages.session.open_pledge(1)
         open_book(pages)
         find("1")
+        # Until the pledge is shown the button that finds one is disabled.
+        browser.says("Pledge 1", "#statement")
         yield pages, receipt
 
 
@@ -138,9 +140,9 @@ def a_pledge_by_its_receipt():
 
 
 def is_told_quietly(part):
-    """What a part of the page says last is not told as something done."""
+    """What a part of the page says last is not shown as something done."""
     said = browser.run(f"return document.querySelector('{part} .notice').className")
-    expect("it is not told as done", said, "notice quiet")
+    expect("it is not shown as done", said, "notice quiet")
 
 
 def agree(patience=2):
@@ -158,7 +160,7 @@ def send_taking(**fields):
 
 
 def take_a_ring(article="Gold ring", reference="A1", amount="100", **more):
-    """Takes a pledge at the counter, and gives its receipt and its link."""
+    """Takes a pledge at the counter, and returns its receipt and its link."""
     part("take")
     browser.fill("#taking", article=article, ref=reference, amount=amount, **more)
     send_taking()
