@@ -97,7 +97,7 @@ def leftovers():
                                    "such command on this store removes it")
     for name in copies.stores_with_copies():
         for it in sorted(os.listdir(os.path.join(COPIES, name))):
-            if it.startswith("unsound-"):
+            if it.startswith(copies.UNSOUND):
                 yield (f"{os.path.join(COPIES, name, it)} is what the store {name} had before a copy was put back. "
                        "Remove it when nobody misses anything")
     for it in copies.kept_of():
