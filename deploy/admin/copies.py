@@ -303,6 +303,11 @@ def kept_of(name=None):
     return [Kept(os.path.join(STORES, it)) for it in found if form.fullmatch(it)]
 
 
+def kept_by(command):
+    """What is kept of stores because of this command."""
+    return [it for it in kept_of() if it.was_in_force and it.note.get("command") == command]
+
+
 def mend(name):
     """Puts the old files of a store back, if a command was killed while it replaced them one by one."""
     path = store_file(name)

@@ -4,9 +4,10 @@ import os
 import subprocess
 
 import proxy
+import replicas
 import services
 from books import pending_folder, stores_with
-from copies import Copy, finish_copy, kept_of, make_copy, removed_books, settle_all, settle_kept, the_copy
+from copies import Copy, finish_copy, kept_by, make_copy, removed_books, settle_all, settle_kept, the_copy
 from files import (
     BLOCK, copy_store, files_of_store, read_note, room_for, room_for_store, room_in, size_of_store, time_name,
     work_prefix, write_note,
@@ -211,6 +212,7 @@ def make_part_of_copy(book, new, copy, command, path):
         write_note(path, {"command": command, "store": new, "copy": copy.folder})
         put_part(book, new, part, copy, command)
     made = make_copy(new, Store(new).path)
+    settle_kept(new)
     say(f"{made.folder}: {in_words(made.counts)}")
 
 
@@ -266,7 +268,7 @@ def remove_book(number):
         for name in locked:
             settle_kept(name)
         if stores_of_removal(book) <= locked:
-            return remove_alone(book)
+            return remove_alone(book, locked)
     # Another command moved the book before this one had its locks.
     return remove_book(number)
 
@@ -279,17 +281,20 @@ def stores_of_removal(book):
 def taken_out_of(book):
     """The stores that this run of `remove-book`, or one that did not end, took the book out of, as long as what they
     had is kept."""
-    return {it.store for it in kept_of()
-            if it.was_in_force and it.goes_on and it.note.get("command") == f"remove-book {book}"}
+    return {it.store for it in kept_by(f"remove-book {book}") if it.goes_on}
 
 
-def remove_alone(book):
+def remove_alone(book, locked):
     name, places = proxy.store_of(book), stores_with(book)
     kept = [it for it in removed_books() if book in it.books]
     if name not in places and not kept:
         raise Stop(f"the store {name} has no book {book}")
     for place in sorted(places, key=lambda it: it == name):
         kept.append(take_out(the_store(place), book))
+    # A run that was killed may have left them stopped.
+    for store in map(the_store, sorted(locked - set(places))):
+        if not replicas.is_elsewhere(store):
+            services.start(store)
     proxy.turn({book}, None)
     forget_exchange(book)
     proxy.reload_nginx()

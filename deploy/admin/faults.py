@@ -42,6 +42,8 @@ def faults_of_books(lines, found):
 
 def missing_book(book, found):
     """What to do about a line without a book."""
+    if copies.kept_by(f"remove-book {book}"):
+        return f"a command did not end: run it again, `pawnd-admin remove-book {book}`"
     others = [it for it, books in found.items() if books and book in books]
     if others:
         return (f"{' and '.join(others)} has rows of it. If a command was interrupted, run it again. Else "

@@ -101,9 +101,9 @@ class Operator:
             yield
         except Exception as why:
             told = [words + (f" (killed {kills}x)" if kills else "") for words, kills in self.story]
-            lines = textwrap.wrap("; ".join(told), 112, break_long_words=False)
-            raise Failed("\n        ".join([f"{type(why).__name__}: {why}", f"seed {SEED}, {len(told)} verbs, the last of "
-                                            "them:", *lines[-18:]])) from why
+            lines = textwrap.wrap("; ".join(told), 112, break_long_words=False)[-18:]
+            head = f"{why if isinstance(why, Failed) else repr(why)}", f"seed {SEED}, the last of {len(told)} verbs:"
+            raise Failed("\n        ".join([*head, *lines])) from why
 
     def boot(self):
         """What a boot does to units: runtime masks are gone, and what is enabled is started."""
