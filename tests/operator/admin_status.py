@@ -183,8 +183,10 @@ def less_than_the_copy_by_a_command():
         it.admin_with("split", "main", "west", 8, PLANT="no_copy_can_be_made", wanted=1)
         wrong = it.status()["wrong"]
         expect(f"what is wrong: {wrong}", [line for line in wrong if "holds less" in line], [])
-        wrong = json.loads(it.admin_with("status", "--json", PLANT="a_split_ends_meanwhile"))["wrong"]
-        expect(f"what is wrong meanwhile: {wrong}", wrong, [])
+        said = it.admin_with("status", "--json", PLANT="a_split_ends_meanwhile", wanted=1)
+        expect(f"what is wrong meanwhile: {said}", json.loads(said)["wrong"],
+               ["store west: has no copy: `pawnd-admin copy west`"])
+        expect_wrong(it)
         expect("what commands left", it.leftovers(), [])
 
 

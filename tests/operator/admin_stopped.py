@@ -36,8 +36,7 @@ def killed_restore_of_the_newest():
             expect(f"book {number}", story.callers[number].entries(), 1)
 
     killed(["restore", "main", "newest"], after, goes_back=ALL[0], named=(
-        "'renameat2'", "never-in-force", "'reload', 'nginx'", "backups/main', 448", "books.db.old", "copy.json.new",
-        "os.rmdir ", ".json', -1",
+        "never-in-force", "'reload', 'nginx'", "backups/main', 448", "os.rmdir ",
     ))
 
 
@@ -91,8 +90,7 @@ def killed_removal_of_a_last_book():
         expect("the newest copy of its store", books_in(os.path.join(story.machine.newest("west"), "books.db")), set())
 
     killed(["remove-book", "10"], after, goes_back={10}, named=(
-        "'renameat2'", "never-in-force", "'start', 'pawnd@west", "'reload', 'nginx'", "backups/west/.part-",
-        "lib/west/books.db.old", "os.rmdir ",
+        "never-in-force", "'reload', 'nginx'", "backups/west/.part-", "lib/west/books.db.old",
     ), meanwhile=meanwhile)
 
 
