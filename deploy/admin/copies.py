@@ -8,17 +8,21 @@ import time
 
 from files import (
     BLOCK, LOG, copy_file, copy_store, files_of_store, give_to, open_plain, read_note, room_for, room_in,
-    size_of_store, sync, sync_folder, time_name, write_note,
+    size_of_store, sweep, sync, sync_folder, time_name, work_prefix, write_note,
 )
 from locks import alone_if_free, alone_with, copies_folder
 from reading import head_of_log
-from settings import COPIES, REMOVED, STORE_NAME, STORES, Stop, copies_to_keep, say, store_file, the_store, warn
+from settings import (
+    COPIES, REMOVED, STORE_NAME, STORES, Stop, Store, copies_to_keep, say, store_file, store_names, the_store, warn,
+)
 from tables import check_and_fold, counts_of, in_words, sums_of
 
 NOTE = "copy.json"
 TIME = "%Y%m%dT%H%M%SZ"
 COPY_NAME = re.compile(r"\d{8}T\d{6}Z")
 PART = ".part-"
+# How the names begin of what a store had, where the program does not find it sound.
+UNSOUND = "unsound-"
 # How long a command tries to copy a store whose log is begun anew during each attempt, in seconds.
 COPY_PATIENCE = float(os.environ.get("COPY_PATIENCE", "300"))
 # A copy that is dated later than this from now was made while the clock was wrong, or the clock is wrong now.
@@ -168,12 +172,19 @@ def finish_copy(part, target, store, made):
     return Copy(target)
 
 
+def new_time(name):
+    """The time of a new copy of a store, or of what is kept of it. No two of these have the same time, so their order
+    is that of the states that they hold."""
+    folder = os.path.join(COPIES, name)
+    return time_name(os.path.join(folder, ""), os.path.join(folder, UNSOUND), kept_folder(name, ""))
+
+
 def make_copy(name, path):
     """A new copy of a store. The caller holds its lock."""
     folder = copies_folder(name)
     with room_for(folder, 2 * size_of_store(path) + BLOCK, f"a copy of {path} and a second one to check it"):
         with room_in(folder, PART) as part:
-            made = time_name(folder)
+            made = new_time(name)
             copy_served(path, os.path.join(part, "books.db"))
             return finish_copy(part, os.path.join(folder, made), name, made)
 
@@ -203,6 +214,11 @@ def copy(name):
 
 
 # ---- removing old ones
+
+
+def all_copies():
+    """The copies of all stores, and what was kept of removed books."""
+    return [copy for name in stores_with_copies() for copy in copies_of(name)[0]] + removed_books()
 
 
 def newest_of_all():
@@ -239,6 +255,10 @@ NOTE_END, UNUSED = ".json", "never-in-force"
 NEW, OLD = ".new", ".old"
 
 
+def kept_folder(name, when):
+    return os.path.join(STORES, f".{name}-before-{when}")
+
+
 class Kept:
     """What a store had before a command put other files in its place."""
 
@@ -251,10 +271,21 @@ class Kept:
             not os.path.exists(os.path.join(folder, UNUSED + os.path.basename(folder)))
         )
 
+    @property
+    def goes_on(self):
+        """Whether the store is still one of this machine."""
+        return self.store in store_names() and Store(self.store).is_here
+
+    @property
+    def awaits_copy(self):
+        """Whether the store goes on and has no copy made since. Until it has one, its newest copy is of before."""
+        past, _ = copies_of(self.store)
+        return self.goes_on and not (past and past[-1].made > self.time)
+
     def missing(self):
         """The books that have no copy yet, made since, with as many rows as they had here."""
         found = {}
-        for copy in newest_of_all():
+        for copy in all_copies():
             if copy.store == REMOVED or copy.made >= self.time:
                 cover(found, copy)
         return sorted(int(book) for book, rows in self.note.get("books", {}).items() if found.get(int(book), 0) < rows)
@@ -270,6 +301,11 @@ def kept_of(name=None):
     form = re.compile(rf"\.{name or '[a-z][a-z0-9]*'}-before-\d{{8}}T\d{{6}}Z")
     found = sorted({it.removesuffix(NOTE_END) for it in names})
     return [Kept(os.path.join(STORES, it)) for it in found if form.fullmatch(it)]
+
+
+def kept_by(command):
+    """What is kept of stores because of this command."""
+    return [it for it in kept_of() if it.was_in_force and it.note.get("command") == command]
 
 
 def mend(name):
@@ -292,11 +328,15 @@ def mend(name):
 
 
 def settle_kept(name):
-    """Ends what commands left that replaced the files of a store, as far as it can be ended now."""
+    """Ends what commands left that replaced the files of a store, as far as it can be ended now. Nothing is being made
+    for the store, whose lock the caller holds."""
     mend(name)
+    sweep(STORES, work_prefix(name))
     for it in kept_of(name):
         if not it.was_in_force:
             it.forget()
+        elif it.awaits_copy:
+            continue
         elif it.note.get("why") == "restore" or not it.note:
             keep_as_copy(it)
         elif not it.missing():
@@ -318,23 +358,30 @@ def settle_all(first):
 
 def keep_as_copy(kept):
     """What a restored copy took the place of becomes a copy itself, or is put among the copies as it is where the
-    program does not find it sound."""
+    program does not find it sound. Its time is that at which it was replaced, so it is never the newest copy: that one
+    is of what the store has now."""
     folder = copies_folder(kept.store)
+    targets = [os.path.join(folder, before + kept.time) for before in ("", UNSOUND)]
+    # It is there already if a command was killed after this.
+    if not any(map(os.path.exists, targets)):
+        make_copy_of_kept(kept, folder, *targets)
+    target = next(filter(os.path.exists, targets))
+    say(f"{target}: what the store {kept.store} had before. Remove it when nobody misses anything")
+    kept.forget()
+
+
+def make_copy_of_kept(kept, folder, sound, unsound):
     path = os.path.join(kept.folder, "books.db")
     with room_for(folder, 2 * size_of_store(path) + BLOCK, f"a copy of {path}"), room_in(folder, PART) as part:
-        made = time_name(folder)
         copy_store(path, os.path.join(part, "books.db"))
         try:
             if not os.path.exists(path):
                 raise Stop(f"{kept.folder} has a log without its database")
-            target = finish_copy(part, os.path.join(folder, made), kept.store, made).folder
+            finish_copy(part, sound, kept.store, kept.time)
         except Stop as why:
-            target = os.path.join(folder, "unsound-" + made)
             for name in set(os.listdir(part)) - {os.path.basename(it) for it in files_of_store(path)}:
                 os.unlink(os.path.join(part, name))
             sync_folder(part)
-            os.rename(part, target)
+            os.rename(part, unsound)
             sync(folder)
             warn(str(why))
-    say(f"{target}: what the store {kept.store} had before. Remove it when nobody misses anything")
-    kept.forget()

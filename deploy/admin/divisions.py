@@ -4,9 +4,10 @@ import os
 import subprocess
 
 import proxy
+import replicas
 import services
 from books import pending_folder, stores_with
-from copies import finish_copy, make_copy, removed_books, settle_all, settle_kept, the_copy
+from copies import Copy, finish_copy, kept_by, make_copy, removed_books, settle_all, settle_kept, the_copy
 from files import (
     BLOCK, copy_store, files_of_store, read_note, room_for, room_for_store, room_in, size_of_store, time_name,
     work_prefix, write_note,
@@ -164,7 +165,7 @@ def restore_book(number, said, new):
     """The verb `restore-book`. The map's line is turned last: until then nothing has changed for the broker."""
     book = book_number(number)
     command, path = f"restore-book {book} {said} {store_name(new)}", begun_file(f"restore-{book}")
-    copy = the_copy(proxy.store_of(book), said)
+    copy = copy_of_begun(path, command) or the_copy(proxy.store_of(book), said)
     if book not in copy.books:
         raise Stop(f"{copy.folder} has no book {book}. `grep -l '\"{book}\":' {COPIES}/*/*/copy.json` lists the copies "
                    "that have it")
@@ -176,6 +177,15 @@ def restore_book(number, said, new):
         "stay there, and nobody reaches them")
 
 
+def copy_of_begun(path, command):
+    """The copy that an earlier run of this command took, if it did not end: `newest` can be another one by now."""
+    if os.path.exists(path):
+        begun = read_note(path)
+        if begun["command"] == command and os.path.isdir(begun.get("copy", "")):
+            return Copy(begun["copy"])
+    return None
+
+
 def turn_to_part(book, new, copy, command, path):
     """Makes the new store unless it was made, and gives it the book's line. Returns the store that had the book."""
     was = proxy.store_of(book)
@@ -185,7 +195,8 @@ def turn_to_part(book, new, copy, command, path):
             raise Stop(f"the store {new} has other books already: name a new store")
         make_part_of_copy(book, new, copy, command, path)
     elif not os.path.exists(path):
-        raise Stop(f"book {book} is in the store {new} already: name a new store")
+        raise Stop(f"book {book} is in the store {new} already. If this command was interrupted, it has ended by now. "
+                   "Else name a new store")
     proxy.write_stores()
     proxy.turn({book}, new)
     proxy.reload_nginx()
@@ -198,9 +209,10 @@ def make_part_of_copy(book, new, copy, command, path):
     wanted = 3 * size_of_store(copy.path) + BLOCK
     with room_for(STORES, wanted, f"a store from {copy.folder}"), room_in(STORES, work_prefix(new)) as room:
         part = part_of(copy.path, copy.books, os.path.join(room, "part"), {book})
-        write_note(path, {"command": command, "store": new})
+        write_note(path, {"command": command, "store": new, "copy": copy.folder})
         put_part(book, new, part, copy, command)
     made = make_copy(new, Store(new).path)
+    settle_kept(new)
     say(f"{made.folder}: {in_words(made.counts)}")
 
 
@@ -251,30 +263,45 @@ def remove_book(number):
     the one that answers last; then its line goes. If the line went first, older rows in `main` would answer."""
     book = book_number(number)
     the_store(proxy.store_of(book))
-    locked = {proxy.store_of(book), *stores_with(book)}
+    locked = stores_of_removal(book)
     with alone_with(*locked, REMOVED):
         for name in locked:
             settle_kept(name)
-        if {proxy.store_of(book), *stores_with(book)} <= locked:
-            return remove_alone(book)
+        if stores_of_removal(book) <= locked:
+            return remove_alone(book, locked)
     # Another command moved the book before this one had its locks.
     return remove_book(number)
 
 
-def remove_alone(book):
+def stores_of_removal(book):
+    """The store that answers for a book, those that have rows of it, and those that have to be copied in the end."""
+    return {proxy.store_of(book), *stores_with(book), *taken_out_of(book)}
+
+
+def taken_out_of(book):
+    """The stores that this run of `remove-book`, or one that did not end, took the book out of, as long as what they
+    had is kept."""
+    return {it.store for it in kept_by(f"remove-book {book}") if it.goes_on}
+
+
+def remove_alone(book, locked):
     name, places = proxy.store_of(book), stores_with(book)
     kept = [it for it in removed_books() if book in it.books]
     if name not in places and not kept:
         raise Stop(f"the store {name} has no book {book}")
     for place in sorted(places, key=lambda it: it == name):
         kept.append(take_out(the_store(place), book))
+    # A run that was killed may have left them stopped.
+    for store in map(the_store, sorted(locked - set(places))):
+        if not replicas.is_elsewhere(store):
+            services.start(store)
     proxy.turn({book}, None)
     forget_exchange(book)
     proxy.reload_nginx()
     folder = kept[-1].folder
     say(f"book {book} is in no store any more. {folder} has its last state: book.csv for the broker, and books.db, "
         f"from which `pawnd-admin restore-book {book} {folder} NEW` puts it back")
-    copy_all(*(places or [name]))
+    copy_all(*(sorted(taken_out_of(book)) or [name]))
 
 
 def take_out(store, book):
@@ -293,7 +320,7 @@ def keep_last_state(original, sums, book, folder):
     """The book alone as a store, and its text, in the folder of removed books."""
     with room_for(folder, 3 * os.path.getsize(original) + BLOCK, f"the last state of book {book}"):
         with room_in(folder, f".part-{book}-") as part:
-            made = time_name(folder, f"{book}-")
+            made = time_name(os.path.join(folder, f"{book}-"))
             path = os.path.join(part, "books.db")
             make_part(original, path, {book}, sums)
             write_text(path, book, os.path.join(part, "book.csv"))

@@ -42,6 +42,8 @@ def faults_of_books(lines, found):
 
 def missing_book(book, found):
     """What to do about a line without a book."""
+    if copies.kept_by(f"remove-book {book}"):
+        return f"a command did not end: run it again, `pawnd-admin remove-book {book}`"
     others = [it for it, books in found.items() if books and book in books]
     if others:
         return (f"{' and '.join(others)} has rows of it. If a command was interrupted, run it again. Else "
@@ -97,7 +99,7 @@ def leftovers():
                                    "such command on this store removes it")
     for name in copies.stores_with_copies():
         for it in sorted(os.listdir(os.path.join(COPIES, name))):
-            if it.startswith("unsound-"):
+            if it.startswith(copies.UNSOUND):
                 yield (f"{os.path.join(COPIES, name, it)} is what the store {name} had before a copy was put back. "
                        "Remove it when nobody misses anything")
     for it in copies.kept_of():

@@ -226,10 +226,10 @@ def exchange(first, second):
         raise OSError(number, os.strerror(number), first)
 
 
-def time_name(folder, before=""):
-    """The time as the name of a new file or folder there, of the form that copies have."""
+def time_name(*beginnings):
+    """The time, of the form that copies have, as the end of a new path. No path of these beginnings has it yet."""
     while True:
         name = time.strftime("%Y%m%dT%H%M%SZ", time.gmtime())
-        if not os.path.lexists(os.path.join(folder, before + name)):
+        if not any(os.path.lexists(beginning + name) for beginning in beginnings):
             return name
         time.sleep(0.1)

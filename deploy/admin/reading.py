@@ -171,6 +171,12 @@ class Contents:
             for book, row in tables.rows("books")
         }
 
+    @property
+    def counts(self):
+        """As `pawnd check` counts them."""
+        pledges = sum(it["pledges"] for it in self.books.values())
+        return {"books": len(self.books), "pledges": pledges, "rows": self.meta["rows"]}
+
 
 def contents_of(path):
     """The books of a store and the numbers in its table `meta`, served or not."""

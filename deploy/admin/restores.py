@@ -46,8 +46,9 @@ def restore(name, said):
             store = make_settings(name)
             replace(store, os.path.join(room, "new"), f"restore {name} {copy.name}")
         tell_what_differs(store, copy)
-        settle_kept(name)
+        # The copy of what is restored comes first: until then `newest` is a copy of before.
         again = make_copy(name, store.path)
+        settle_kept(name)
     say(f"the store {name} holds {in_words(copy.counts)} again, as at {copy.made}, and is served. A copy of it is in "
         f"{again.folder}")
 

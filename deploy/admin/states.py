@@ -12,6 +12,7 @@ import replicas
 import services
 from asking import PATIENCE, answers_through_proxy, state_of_proxy
 from faults import faults_of_books, faults_of_disks, leftovers, pending, removed_books_that_are_back
+from locks import alone_if_free
 from reading import contents_of
 from settings import MAIN, OFFSITE, SETTINGS, Stop, Store, say, store_names
 
@@ -92,21 +93,30 @@ def state_of_file(store, state, wrong):
         wrong.append(f"its file {store.path} is missing. Is its disk there? `pawnd-admin restore {store.name} newest`")
         return {}
     found = contents_of(store.path)
-    rows, limit = found.meta["rows"], found.meta["limit"]
-    counts = {"books": len(found.books), "pledges": sum(it["pledges"] for it in found.books.values()), "rows": rows}
+    rows, limit, counts = found.meta["rows"], found.meta["limit"], found.counts
     state.update(counts, limit=limit, bytes=os.path.getsize(store.path), log_bytes=services.log_bytes(store.path))
     if rows > MANY_ROWS * limit:
         wrong.append(f"has {rows:,} of {limit:,} rows, and refuses new ones at the limit: give it fewer books by "
                      "`pawnd-admin split`")
     copy = state.get("copy")
-    # What a command took out on purpose is kept until there is a copy without it.
-    by_command = copy and any(it.was_in_force and it.time > copy["name"] for it in copies.kept_of(store.name))
-    if copy and not by_command and any(counts[it] < copy[it] for it in counts):
+    if copy and any(counts[it] < copy[it] for it in counts) and has_lost(store):
         wrong.append(
             f"holds less than its newest copy, {copy['name']}: a log may have been lost. Before it is used any "
             f"further, compare them, and put the copy back: `pawnd-admin restore {store.name} {copy['name']}`"
         )
     return found.books
+
+
+def has_lost(store):
+    """Whether a store that seems to hold less than its newest copy does so while no command works on it, and though no
+    command took anything out of it on purpose since that copy: what it had then is kept until there is a newer one."""
+    with alone_if_free(store.name) as free:
+        past, _ = copies.copies_of(store.name)
+        kept = [it.time for it in copies.kept_of(store.name) if it.was_in_force]
+        if not free or not past or kept and max(kept) > past[-1].name:
+            return False
+        found = contents_of(store.path)
+        return any(found.counts[it] < past[-1].counts[it] for it in found.counts)
 
 
 @contextlib.contextmanager

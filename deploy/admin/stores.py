@@ -6,10 +6,10 @@ import socket
 
 import replicas
 import services
-from copies import NEW, NOTE_END, OLD, UNUSED
+from copies import NEW, NOTE_END, OLD, UNUSED, kept_folder, new_time
 from files import (
     BLOCK, LOG, copy_file, copy_store, exchange, files_of_store, give_to, is_moveable, room_for, room_in, sync,
-    sync_folder, take_back, time_name, work_prefix, write_note, write_whole,
+    sync_folder, take_back, work_prefix, write_note, write_whole,
 )
 from locks import alone_with, alone_with_settings
 from proxy import reload_nginx, run, write_stores
@@ -73,7 +73,7 @@ def put_new(name, room):
 def put_in_place(name, room, note):
     """A folder with one file, books.db, takes the place of a store's folder. What stood there is kept until
     `settle_kept` ends it, with a note that says why. The store is stopped."""
-    kept = os.path.join(STORES, f".{name}-before-{time_name(STORES, f'.{name}-before-')}")
+    kept = kept_folder(name, new_time(name))
     write_note(kept + NOTE_END, note)
     if is_moveable(name):
         exchange_folders(name, room, kept)

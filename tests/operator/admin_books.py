@@ -85,6 +85,8 @@ def a_broker_who_leaves():
             expect("its text", file.read(), before)
         it.admin("restore-book", 7, folder, "west")
         expect("the book when it is back", callers[7].export(), before)
+        it.admin("remove-book", 7), it.admin("restore-book", 7, folder, "west")
+        expect("the book when it is back in a store without books", callers[7].export(), before)
         it.admin("remove-book", 9, wanted=1)
         expect("what commands left", it.leftovers(), [])
 

@@ -176,13 +176,18 @@ def copies_and_disks():
 
 
 def less_than_the_copy_by_a_command():
-    """What a split took out of a store is not missed, also before the store has its copy."""
+    """What a split took out of a store is not missed, neither before the store has its copy nor while it is made."""
     with Machine() as it:
         it.book(7, pledges=1), it.book(8, pledges=1)
         it.admin("copy", "main")
         it.admin_with("split", "main", "west", 8, PLANT="no_copy_can_be_made", wanted=1)
         wrong = it.status()["wrong"]
         expect(f"what is wrong: {wrong}", [line for line in wrong if "holds less" in line], [])
+        said = it.admin_with("status", "--json", PLANT="a_split_ends_meanwhile", wanted=1)
+        expect(f"what is wrong meanwhile: {said}", json.loads(said)["wrong"],
+               ["store west: has no copy: `pawnd-admin copy west`"])
+        expect_wrong(it)
+        expect("what commands left", it.leftovers(), [])
 
 
 def a_store_that_is_not_sent():

@@ -28,6 +28,35 @@ def killed_restore():
     killed(["restore", "main", "COPY"], after, goes_back=ALL[0])
 
 
+def killed_restore_of_the_newest():
+    """What the store had before becomes a copy, and is never the newest one: the second run restores the same copy."""
+    def after(story):
+        expect_well(story, *ALL)
+        for number in ALL[0]:
+            expect(f"book {number}", story.callers[number].entries(), 1)
+
+    killed(["restore", "main", "newest"], after, goes_back=ALL[0], named=(
+        "never-in-force", "'reload', 'nginx'", "backups/main', 448", "os.rmdir ",
+    ))
+
+
+def killed_restore_book_of_the_newest():
+    """There is a newer copy by then, with more of the book: the second run goes on with the first one."""
+    def meanwhile(story):
+        if story.machine.lines().get(8) != "north":
+            story.callers[8].repay()
+            story.machine.admin("copy", "main")
+
+    def after(story):
+        expect_well(story, *ALL)
+        expect("the new store", books_in(story.machine.path("north")), {8})
+        expect("book 8", story.callers[8].entries(), 1)
+
+    killed(["restore-book", "8", "newest", "north"], after, goes_back={8}, named=(
+        "books.map.new", "restore-8.json', -1",
+    ), meanwhile=meanwhile)
+
+
 def killed_restore_book():
     def after(story):
         expect_well(story, *ALL)
@@ -48,5 +77,31 @@ def killed_remove_book():
     killed(["remove-book", "8"], after, goes_back={8})
 
 
+def killed_removal_of_a_last_book():
+    """The store that had it holds less than its newest copy, on purpose: it has a newer copy in the end."""
+    def meanwhile(story):
+        wrong = [line for line in story.machine.status()["wrong"] if "book 10 " in line]
+        expect(f"what is to be done: {wrong}", ["`pawnd-admin remove-book 10`" in line for line in wrong],
+               [True] * len(wrong))
+
+    def after(story):
+        expect_well(story, ALL[0], set())
+        expect("book 10", story.callers[10].request("GET", "/pledges/1")[0], 404)
+        expect("the newest copy of its store", books_in(os.path.join(story.machine.newest("west"), "books.db")), set())
+
+    killed(["remove-book", "10"], after, goes_back={10}, named=(
+        "never-in-force", "'reload', 'nginx'", "backups/west/.part-", "lib/west/books.db.old",
+    ), meanwhile=meanwhile)
+
+
 if __name__ == "__main__":
-    main_with(PACKAGES, killed_split, killed_restore, killed_restore_book, killed_remove_book)
+    main_with(
+        PACKAGES,
+        killed_split,
+        killed_restore,
+        killed_restore_of_the_newest,
+        killed_restore_book,
+        killed_restore_book_of_the_newest,
+        killed_remove_book,
+        killed_removal_of_a_last_book,
+    )

@@ -6,6 +6,7 @@ import random
 import signal
 import subprocess
 import sys
+import textwrap
 import threading
 import time
 
@@ -54,6 +55,8 @@ class Till(threading.Thread):
 class Operator:
     def __init__(self, machine, draw):
         self.machine, self.draw, self.count, self.done, self.kills = machine, draw, 0, {}, 0
+        # The verbs in their order, each with how often it was killed.
+        self.story = []
         self.tills = {number: Till(machine.book(number, pledges=2)) for number in range(1, 7)}
 
     def place(self, book):
@@ -66,6 +69,7 @@ class Operator:
     def verb(self, *words):
         """Runs a verb, and often kills it and runs it again, until it has ended."""
         self.done[words[0]] = self.done.get(words[0], 0) + 1
+        self.story.append([" ".join(map(str, words)).replace(self.machine.room + "/", ""), 0])
         while self.draw.random() < 0.5:
             running = subprocess.Popen(
                 [ADMIN, *map(str, words)], env=self.machine.environment, stdin=subprocess.DEVNULL,
@@ -79,9 +83,27 @@ class Operator:
                 running.send_signal(signal.SIGKILL)
                 running.communicate()
                 self.kills += 1
+                self.story[-1][1] += 1
             if self.draw.random() < 0.5:
                 self.boot()
+            if words[0] == "restore-book" and self.has_book_back(words[1], words[3]):
+                # It was killed after its last step, and would be refused.
+                return
         self.machine.admin(*words)
+
+    def has_book_back(self, book, new):
+        return self.place(book) == new and not os.path.exists(self.machine.place(f"etc/pending/restore-{book}.json"))
+
+    @contextlib.contextmanager
+    def account(self):
+        """What fails within the block says the seed, and which verbs were run and killed, at most 18 lines of them."""
+        try:
+            yield
+        except Exception as why:
+            told = [words + (f" (killed {kills}x)" if kills else "") for words, kills in self.story]
+            lines = textwrap.wrap("; ".join(told), 112, break_long_words=False)[-18:]
+            head = f"{why if isinstance(why, Failed) else repr(why)}", f"seed {SEED}, the last of {len(told)} verbs:"
+            raise Failed("\n        ".join([*head, *lines])) from why
 
     def boot(self):
         """What a boot does to units: runtime masks are gone, and what is enabled is started."""
@@ -145,32 +167,37 @@ class Operator:
         return found
 
 
+def work_for_a_year(it, operator, draw):
+    steps = [
+        operator.copies_a_store, operator.copies_a_store, operator.divides_a_store, operator.puts_a_book_back,
+        operator.puts_a_store_back, operator.changes_a_key, operator.takes_a_book_out,
+    ]
+    end = time.monotonic() + SECONDS
+    while time.monotonic() < end:
+        step, book = draw.choice(steps), draw.choice(sorted(operator.tills))
+        before = places_of(it)
+        step(book)
+        wrong = [line for till in operator.tills.values() for line in till.wrong]
+        expect(f"what the tills say after {step.__name__} of book {book}", wrong, [])
+        if step in (operator.copies_a_store, operator.divides_a_store):
+            expect_no_fewer_places(before, places_of(it), operator.tills)
+    for till in operator.tills.values():
+        till.ended = True
+        till.join(100)
+        till.caller.look_up()
+    for store in {operator.place(book) for book in operator.tills} | {"main"}:
+        it.admin("copy", store)
+    wrong = [line for line in it.status()["wrong"] if "has no copy" not in line]
+    expect("what is wrong", wrong, [])
+    expect("what commands left", it.leftovers(), [])
+
+
 def a_year():
     draw = random.Random(SEED)
     with Machine() as it:
         operator = Operator(it, draw)
-        steps = [
-            operator.copies_a_store, operator.copies_a_store, operator.divides_a_store, operator.puts_a_book_back,
-            operator.puts_a_store_back, operator.changes_a_key, operator.takes_a_book_out,
-        ]
-        end = time.monotonic() + SECONDS
-        while time.monotonic() < end:
-            step, book = draw.choice(steps), draw.choice(sorted(operator.tills))
-            before = places_of(it)
-            step(book)
-            wrong = [line for till in operator.tills.values() for line in till.wrong]
-            expect(f"what the tills say after {step.__name__} of book {book}", wrong, [])
-            if step in (operator.copies_a_store, operator.divides_a_store):
-                expect_no_fewer_places(before, places_of(it), operator.tills)
-        for till in operator.tills.values():
-            till.ended = True
-            till.join(100)
-            till.caller.look_up()
-        for store in {operator.place(book) for book in operator.tills} | {"main"}:
-            it.admin("copy", store)
-        wrong = [line for line in it.status()["wrong"] if "has no copy" not in line]
-        expect("what is wrong", wrong, [])
-        expect("what commands left", it.leftovers(), [])
+        with operator.account():
+            work_for_a_year(it, operator, draw)
         print(f"        {operator.done}, {operator.kills} kills, "
               f"{sum(sum(till.caller.acknowledged.values()) for till in operator.tills.values())} changes", flush=True)
 

@@ -1,6 +1,7 @@
 """Each verb of `pawnd-admin` is killed just before one of its steps, as by a power cut or by the operator, and run
 again. A step is whatever changes something: admin_run.py says what, and lists those of a run. Some of them are drawn at
-random; a number on the command line says how many of each verb, and a second one the seed. `make fuzz` takes all.
+random; a number on the command line says how many of each verb, and a second one the seed. `make fuzz` takes all. Some
+verbs are also killed before steps that their test names.
 
 After a kill each book is in no fewer places than before. What is served then, after a boot or when somebody starts the
 stores, is what was acknowledged, or nothing. The verb that is run again ends what was begun."""
@@ -84,9 +85,20 @@ def expect_right_or_away(caller):
     caller.repay()
 
 
-def killed(words, after, goes_back=()):
-    """A verb at some of its steps. `after` says how it is when the verb has ended; books of `goes_back` are put back to
-    what a copy has of them."""
+def drawn_steps(steps, draw, named):
+    """The numbers of some steps that are drawn, and of the last step with each of these texts."""
+    drawn = set(draw.sample(range(1, len(steps) + 1), min(POINTS, len(steps))))
+    for text in named:
+        found = [number for number, step in enumerate(steps, 1) if text in step]
+        expect(f"a step with {text}", bool(found), True)
+        drawn.add(found[-1])
+    return sorted(drawn)
+
+
+def killed(words, after, goes_back=(), named=(), meanwhile=lambda story: None):
+    """A verb at some of its steps, and at those that are named by a part of their text. `after` says how it is when the
+    verb has ended; books of `goes_back` are put back to what a copy has of them. `meanwhile` happens between the kill
+    and the second run."""
     draw = random.Random(f"{SEED} {words}")
     with Machine() as it:
         story = Story(it)
@@ -94,11 +106,11 @@ def killed(words, after, goes_back=()):
         it.admin_with(*words, KILL_AT="0", STEPS=it.place("steps"))
         after(story)
         steps = it.steps()
-        drawn = sorted(draw.sample(range(1, len(steps) + 1), min(POINTS, len(steps))))
+        drawn = drawn_steps(steps, draw, named)
         for step in drawn:
             story.lay_out()
             try:
-                kill_once(story, words, step, draw.choice(("boot", "start", "nothing")), goes_back)
+                kill_once(story, words, step, draw.choice(("boot", "start", "nothing")), goes_back, meanwhile)
                 after(story)
                 for number, caller in story.callers.items():
                     if number not in goes_back:
@@ -108,14 +120,16 @@ def killed(words, after, goes_back=()):
     print(f"        {len(drawn)} of {len(steps)} steps", flush=True)
 
 
-def kill_once(story, words, step, then, goes_back):
+def kill_once(story, words, step, then, goes_back, meanwhile):
     """Kills the verb. Then the machine is booted, or somebody starts the stores and does not reload nginx, or nobody
-    does anything; and the verb is run again."""
+    does anything; and the verb is run again. Between the two runs the status never advises to put a copy back because
+    of what the verb did on purpose."""
     it = story.machine
     before = places_of(it)
     it.admin_with(*words, KILL_AT=str(step), wanted=-9)
     expect_no_fewer_places(before, places_of(it), story.callers)
-    it.status()
+    wrong = it.status()["wrong"]
+    expect(f"a store that holds less: {wrong}", [line for line in wrong if "holds less" in line], [])
     if then != "nothing":
         story.boot()
         if then == "boot":
@@ -123,6 +137,7 @@ def kill_once(story, words, step, then, goes_back):
         for number, caller in story.callers.items():
             if number not in goes_back:
                 expect_right_or_away(caller)
+    meanwhile(story)
     it.admin(*words)
 
 

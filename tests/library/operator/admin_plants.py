@@ -117,6 +117,24 @@ def the_new_store_does_not_start():
     divisions.services.start = refuse
 
 
+def a_split_ends_meanwhile():
+    """While the status looks at a store, after it has read which copies there are, the copies that end a split of it
+    are made."""
+    import subprocess
+    import sys
+
+    import states
+
+    newest_offsite = states.newest_offsite
+
+    def slow(name, wrong, notes):
+        for store in ("west", "main") if name == "main" else ():
+            subprocess.run([sys.argv[0], "copy", store], check=True, capture_output=True)
+        return newest_offsite(name, wrong, notes)
+
+    states.newest_offsite = slow
+
+
 def another_program_opens_the_store():
     """While a store is stopped, another program opens its file: of another machine, or by hand."""
     import subprocess
