@@ -31,10 +31,12 @@ class Desk {
 
   /**
    * `paper` is a receipt that was found live, until another pledge is looked at; `fresh` a statement that was read just
-   * before its pledge is shown; `message` what is said once it is shown; `drawn` the number whose forms are on the page.
+   * before its pledge is shown; `message` what is said once it is shown; `drawn` the number whose forms are on the page;
+   * `lostRedemptions`, by their receipts, what was paid by redemptions whose replies were lost.
    */
   forget() {
     Object.assign(this, { statement: null, drawn: null, paper: null, fresh: null, message: null, isDrawnByBook: false });
+    this.lostRedemptions = new Map();
     tell(this.notice, "");
   }
 

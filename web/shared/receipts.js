@@ -20,7 +20,8 @@ function written(number, digits) {
   return `${number}-${digits.toLowerCase().replace(/[^0-9a-f]/g, "").replace(GROUPS, "$1-$2-$3-$4-$5")}`;
 }
 
-const plain = (text) => text.normalize("NFKC").replace(UNSEEN, "").replace(DASHES, "-");
+/** A text without marks that are not seen, and with hyphens in the place of dashes. */
+export const plain = (text) => text.normalize("NFKC").replace(UNSEEN, "").replace(DASHES, "-");
 
 /** The receipts that stand in a text, in the service's own spelling. */
 export function receiptsIn(text) {

@@ -234,7 +234,7 @@ export const REFUSALS = {
   709: {
     name: "BadKey",
     why: "That is no key.",
-    next: "A key is 32 digits from 0 to 9 and a to f, in groups of 8, 4, 4, 4 and 12.",
+    next: "A key is 32 digits from 0 to 9 and a to f, plain or with hyphens between groups of 8, 4, 4, 4 and 12.",
   },
   710: {
     name: "BadReceipt",

@@ -1,0 +1,195 @@
+"""What a clerk met in a morning at the counter that misled, each as it was found; in a real browser, in front of the
+program."""
+from tests.library.checks import expect
+from tests.library.dates import today
+from tests.library.keys import BROKER
+from tests.library.pages.browser import Pages
+from tests.library.pages.steps import (
+    a_pledge_at_the_counter, ago, book_text, browser, command, fill_book, find, in_words, main, make_book, no_faults,
+    open_book, part, secret_of, the_book_is_read, unfold,
+)
+
+TERMS_FIRST = "This book has no terms yet, and a pledge keeps the terms under which it is taken."
+
+
+def terms_are_asked_for_before_the_form_is_filled():
+    """And a form that was filled all the same is not asked about; the line goes once there are terms."""
+    with Pages() as pages:
+        make_book(pages, terms=False)
+        open_book(pages)
+        the_book_is_read()
+        part("take")
+        browser.says(TERMS_FIRST, "#take")
+        browser.shoot("broker-terms-first")
+        browser.fill("#taking", article="Gold ring", ref="A1", amount="100")
+        browser.press("#taking button", "Take the pledge")
+        browser.says("The book has no terms yet.", "#taking")
+        expect("no question", browser.run("return document.querySelector('dialog')"), None)
+        browser.press("#terms-first a", "Put terms first")
+        browser.fill("#new-terms", rate="0.2667")
+        browser.press("#new-terms button", "Put these terms")
+        browser.says("Version 1", "#new-terms .notice")
+        part("take")
+        browser.says("Article", "#take")
+        expect("no word of terms", TERMS_FIRST in browser.text("#take"), False)
+        browser.press("#taking button", "Take the pledge")
+        browser.says("Take this pledge for £100.00?", "dialog")
+        browser.press("dialog button", "Not now")
+        no_faults()
+
+
+def terms_that_another_till_put_are_seen():
+    with Pages() as pages:
+        make_book(pages, terms=False)
+        open_book(pages)
+        the_book_is_read()
+        part("take")
+        browser.says(TERMS_FIRST, "#take")
+        put = {"keep_after": 0, "keep_before": 0, "rate": 2667, "version": 1}
+        expect("terms", pages.session.broker("POST", "/books/7/terms", put), (200, {"version": 1}))
+        browser.fill("#taking", article="Gold ring", ref="A1", amount="100")
+        browser.press("#taking button", "Take the pledge")
+        browser.says("Take this pledge for £100.00?", "dialog")
+        browser.press("dialog button", "Take it for £100.00")
+        browser.says("Taken as pledge 1.", "#taking")
+        expect("no word of terms", TERMS_FIRST in browser.text("#take"), False)
+        no_faults()
+
+
+def a_key_is_read_in_each_of_its_forms():
+    with Pages() as pages:
+        make_book(pages)
+        for typed in (
+            BROKER.replace("-", ""), BROKER.replace("-", " "), BROKER.replace("-", "\u2013"), "{" + BROKER + "}",
+            "urn:uuid:" + BROKER, f" {BROKER.upper()} ",
+        ):
+            open_book(pages, key=typed)
+            browser.says("Coming", "#sheet")
+        for typed, says in (
+            ("2" * 31, "You typed 31 digits."), ("2" * 33, "You typed 33 digits."),
+            ("2" * 31 + "g", "A key has no other letters."),
+        ):
+            open_book(pages, key=typed)
+            browser.says(
+                "That is no key. A key is 32 digits from 0 to 9 and a to f, with or without hyphens between them. "
+                + says, "#open",
+            )
+            expect("the field", browser.run("return document.activeElement.name"), "key")
+        no_faults()
+
+
+def a_sum_that_is_no_longer_owed_has_the_pledge_shown_anew():
+    """The pawnor recorded a payment since the pledge was shown: the page does not contradict itself."""
+    with a_pledge_at_the_counter() as (pages, receipt):
+        browser.says("£100.00 owed today", "#statement")
+        pages.session.bearer(receipt, "POST", "/books/7/held/repay", {"pence": 1000, "seq": 1})
+        command("Redeem by the paper", "Redeem", receipt=receipt, amount="100")
+        browser.says("Since this pledge was shown here, it has changed.", "#commands .action[open]")
+        browser.says("£90.00 is owed today, and redeeming wants all of it. You typed £100.00.", "#commands")
+        browser.says("£90.00 owed today", "#statement")
+        browser.says("£90.00 is owed today. All of it is to be received.", "#commands")
+        expect(
+            "what was typed, and the field", browser.run(
+                "const { elements } = document.querySelector('.action[open] form'); "
+                "return [elements.receipt.value, elements.amount.value, document.activeElement.name, "
+                "elements.amount.ariaInvalid]"
+            ), [receipt, "100", "amount", "true"],
+        )
+        browser.fill(".action[open] form", amount="90")
+        browser.press(".action[open] button", "Redeem")
+        browser.press("dialog button", "Redeem for £90.00")
+        browser.says(f"Redeemed on {in_words(today())}: £90.00 was paid.", "#commands")
+        no_faults()
+
+
+def an_article_that_was_sold_meanwhile_is_told():
+    """Its receipt is still live, but nothing is owed any more."""
+    with Pages() as pages:
+        make_book(pages, terms=False)
+        fill_book(pages, book_text([("Watch", "W1", 9000, ago(400), "", "no")], rates=(0, 0, 0)))
+        open_book(pages)
+        find("1")
+        browser.says("£90.00 owed today", "#statement")
+        sold = pages.session.broker("POST", "/books/7/pledges/1/sell", {"net": 9000})
+        expect("sold", sold[0], 200)
+        command("Redeem by the paper", "Redeem", receipt=f"1-{secret_of(1)}", amount="90")
+        browser.says("The pledge is redeemed or sold already.", "#commands")
+        browser.says("Sold on", "#statement")
+        no_faults()
+
+
+# A redemption does not come back, and goes to the service only once it is released.
+REDEEMS_LATE = """
+const real = window.fetch;
+window.fetch = (path, how) => {
+  if (!path.endsWith("/redeem")) return real(path, how);
+  window.fetch = real;
+  window.release = () => real(path, { ...how, signal: undefined }).then((reply) => reply.status);
+  return Promise.reject(new TypeError("no line"));
+};"""
+
+
+def a_redemption_whose_reply_was_lost_is_pressed_again():
+    """Not done so far, the article stays; pressed again, what was done late is told as done."""
+    with a_pledge_at_the_counter() as (pages, receipt):
+        browser.says("£100.00 owed today", "#statement")
+        browser.run(REDEEMS_LATE)
+        command("Redeem by the paper", "Redeem", receipt=receipt, amount="100")
+        browser.press("dialog button", "Redeem for £100.00")
+        for says in (
+            "The reply was lost, and the pledge is not redeemed so far.", "Don’t hand out the article yet.",
+            "Press “Redeem” again: the pledge is redeemed once, however often you press.",
+        ):
+            browser.says(says, "#commands .action[open]")
+        expect("what was typed", browser.run(
+            "const { elements } = document.querySelector('.action[open] form'); "
+            "return [elements.receipt.value, elements.amount.value]"
+        ), [receipt, "100"])
+        browser.rests()
+        expect("it is done late", browser.run_later("return window.release()"), 200)
+        browser.press(".action[open] button", "Redeem")
+        browser.says("The pledge is redeemed, by the press before, whose reply was lost.", "#commands")
+        browser.says("£100.00 was paid. Hand out the article, and keep the receipt.", "#commands")
+        browser.says("Redeemed on", "#statement")
+        no_faults()
+
+
+def a_redemption_that_never_arrived_is_done_by_the_next_press():
+    with a_pledge_at_the_counter() as (pages, receipt):
+        browser.says("£100.00 owed today", "#statement")
+        browser.run(REDEEMS_LATE)
+        command("Redeem by the paper", "Redeem", receipt=receipt, amount="100")
+        browser.press("dialog button", "Redeem for £100.00")
+        browser.says("Don’t hand out the article yet.", "#commands .action[open]")
+        browser.rests()
+        browser.press(".action[open] button", "Redeem")
+        browser.press("dialog button", "Redeem for £100.00")
+        browser.says("Hand out the article, and keep the receipt.", "#commands")
+        expect("what arrives late is refused", browser.run_later("return window.release()"), 404)
+        no_faults()
+
+
+def a_redemption_after_which_nothing_can_be_looked_at_says_what_to_do():
+    with a_pledge_at_the_counter() as (pages, receipt):
+        browser.says("£100.00 owed today", "#statement")
+        unfold("Redeem by the paper")
+        browser.fill(".action[open] form", receipt=receipt, amount="100")
+        browser.press(".action[open] button", "Redeem")
+        browser.says("Redeem pledge 1?", "dialog")
+        with browser.without_a_line():
+            browser.press("dialog button", "Redeem for £100.00")
+            browser.says("The reply was lost, so the pledge may be redeemed.", "#commands", patience=30)
+            browser.says("Don’t hand out the article yet.", "#commands")
+        expect("it was not", "Status inside" in pages.session.broker("GET", "/books/7/pledges/1")[1], True)
+
+
+main(
+    240, (),
+    (
+        terms_are_asked_for_before_the_form_is_filled, terms_that_another_till_put_are_seen,
+        a_key_is_read_in_each_of_its_forms, a_sum_that_is_no_longer_owed_has_the_pledge_shown_anew,
+        an_article_that_was_sold_meanwhile_is_told, a_redemption_whose_reply_was_lost_is_pressed_again,
+        a_redemption_that_never_arrived_is_done_by_the_next_press,
+        a_redemption_after_which_nothing_can_be_looked_at_says_what_to_do,
+    ),
+)
