@@ -8,6 +8,7 @@ from tests.library.pages.steps import (
     a_pledge_at_the_counter, ago, book_text, browser, command, fill_book, find, in_words, main, make_book, no_faults,
     open_book, part, secret_of, the_book_is_read, unfold,
 )
+from tests.library.waiting import wait_for
 
 TERMS_FIRST = "This book has no terms yet, and a pledge keeps the terms under which it is taken."
 
@@ -183,13 +184,99 @@ def a_redemption_after_which_nothing_can_be_looked_at_says_what_to_do():
         expect("it was not", "Status inside" in pages.session.broker("GET", "/books/7/pledges/1")[1], True)
 
 
+# What the service says of pledge 1 comes only once it is let go, and so often as it is asked for.
+SLOW_FIRST = """
+const real = window.fetch;
+const gate = new Promise((go) => { window.letGo = go; });
+window.come = 0;
+window.fetch = async (path, how) => {
+  const reply = await real(path, how);
+  if (!path.endsWith("/pledges/1") || how.method !== "GET") return reply;
+  const text = await reply.text();
+  await gate;
+  setTimeout(() => { window.come += 1; }, 100);
+  return new Response(text, reply);
+};"""
+
+
+def two_pledges(pages):
+    make_book(pages)
+    first = pages.session.open_pledge(1)
+    second = pages.session.open_pledge(2, article="Silver watch")
+    open_book(pages)
+    the_book_is_read()
+    return first, second
+
+
+def let_go():
+    browser.run("window.letGo()")
+    browser.until("return window.come > 0", "what was slow")
+    browser.rests()
+
+
+def the_pledge_that_was_asked_for_last_is_shown():
+    """On a slow line the one that was asked for before comes later, and does not take its place."""
+    with Pages() as pages:
+        two_pledges(pages)
+        browser.run(SLOW_FIRST)
+        browser.run("location.hash = '#pledge=1'")
+        browser.run("setTimeout(() => { location.hash = '#pledge=2'; })")
+        browser.says("Silver watch", "#statement")
+        command("Put on hold", "Hold")
+        browser.says("The pledge is on hold", "#commands")
+        browser.rests()
+        unfold("Repayment")
+        browser.fill(".action[open] form", amount="12.34")
+        let_go()
+        expect("the pledge", browser.text("#statement h2"), "Silver watch")
+        expect("what was typed", browser.run("return document.querySelector('.action[open] [name=amount]').value"), "12.34")
+        no_faults()
+
+
+def what_is_searched_for_during_a_search_is_found():
+    """Such as a receipt that is scanned: the press is not lost, and what is said of it is said of its pledge."""
+    with Pages() as pages:
+        _, second = two_pledges(pages)
+        browser.run(SLOW_FIRST)
+        find("1")
+        find(second)
+        browser.run("window.letGo()")
+        browser.says("This receipt is live. £100.00 is owed today.", "#commands")
+        browser.says("Silver watch", "#statement")
+        let_go()
+        expect("the pledge", browser.text("#statement h2"), "Silver watch")
+        expect("the address", browser.run("return location.hash"), "#pledge=2")
+        browser.says("This receipt is live. £100.00 is owed today.", "#commands")
+        no_faults()
+
+
+def what_came_of_an_act_is_not_said_of_another_pledge():
+    with Pages() as pages:
+        two_pledges(pages)
+        find("1")
+        browser.says("Gold ring", "#statement")
+        browser.rests()
+        browser.run(SLOW_FIRST)
+        command("Put on hold", "Hold")
+        wait_for(
+            lambda: "Held yes" in pages.session.broker("GET", "/books/7/pledges/1")[1], "a hold on the first pledge",
+        )
+        browser.run("location.hash = '#pledge=2'")
+        browser.says("Silver watch", "#statement")
+        let_go()
+        expect("the pledge", browser.text("#statement h2"), "Silver watch")
+        expect("no word of the other", "The pledge is on hold" in browser.text("#pledge"), False)
+        no_faults()
+
+
 main(
-    240, (),
+    280, (),
     (
         terms_are_asked_for_before_the_form_is_filled, terms_that_another_till_put_are_seen,
         a_key_is_read_in_each_of_its_forms, a_sum_that_is_no_longer_owed_has_the_pledge_shown_anew,
         an_article_that_was_sold_meanwhile_is_told, a_redemption_whose_reply_was_lost_is_pressed_again,
         a_redemption_that_never_arrived_is_done_by_the_next_press,
-        a_redemption_after_which_nothing_can_be_looked_at_says_what_to_do,
+        a_redemption_after_which_nothing_can_be_looked_at_says_what_to_do, the_pledge_that_was_asked_for_last_is_shown,
+        what_is_searched_for_during_a_search_is_found, what_came_of_an_act_is_not_said_of_another_pledge,
     ),
 )

@@ -3,7 +3,7 @@
  * alone knows numbers and receipts, so they wait for no book; a reference is looked for in the book.
  */
 import { byId, foreign, make } from "../shared/dom.js";
-import { onSend } from "../shared/forms.js";
+import { onSearch } from "../shared/forms.js";
 import { isReceiptLike } from "../shared/receipts.js";
 import { Unreadable } from "../shared/unreadable.js";
 import { ledger } from "./ledger.js";
@@ -101,6 +101,6 @@ export function clearChoices() {
 }
 
 export function setUpFinding() {
-  onSend(byId("finding"), "broker", find);
+  onSearch(byId("finding"), "broker", find);
   ledger.listen(({ sort }) => { if (sort === "read") offerOthers(); });
 }

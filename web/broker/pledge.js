@@ -32,10 +32,12 @@ class Desk {
   /**
    * `paper` is a receipt that was found live, until another pledge is looked at; `fresh` a statement that was read just
    * before its pledge is shown; `message` what is said once it is shown; `drawn` the number whose forms are on the page;
-   * `lostRedemptions`, by their receipts, what was paid by redemptions whose replies were lost.
+   * `wanted` the number that was asked for last, or null; `lostRedemptions`, by their receipts, what was paid by
+   * redemptions whose replies were lost.
    */
   forget() {
     Object.assign(this, { statement: null, drawn: null, paper: null, fresh: null, message: null, isDrawnByBook: false });
+    this.wanted = null;
     this.lostRedemptions = new Map();
     tell(this.notice, "");
   }
@@ -127,7 +129,7 @@ class Desk {
     const session = current();
     const found = this.fresh?.number === number ? this.fresh : await this.read(number);
     this.fresh = null;
-    if (session !== current()) return;
+    if (session !== current() || this.wanted !== number) return;
     const news = ledger.isNews(found, own);
     // What was typed for one pledge is not carried to another.
     if (this.drawn !== number) byId("commands").replaceChildren();
@@ -159,6 +161,7 @@ class Desk {
       place = null;
       tell(line, "");
     }
+    if (this.wanted !== number) return;
     sayAfter({ within: byId("commands"), notice: this.notice, title: place, fields, said, fault, reader: "broker" });
   }
 
@@ -174,12 +177,12 @@ class Desk {
 
   /** Says what was to be said once the pledge is shown; else the pledge that was found has the focus. */
   sayMessage() {
-    const said = this.message;
-    this.message = null;
+    const said = this.message?.number === this.number ? this.message : null;
     if (said === null) {
       if (!byId("found").contains(document.activeElement)) byId("statement").querySelector("h2").focus();
       return;
     }
+    this.message = null;
     const details = said.fold && foldOf(byId("commands"), said.fold);
     if (details) details.open = true;
     tell(this.notice, said.message, said.tone);
@@ -226,14 +229,14 @@ export async function openReceipt(typed) {
   const held = await heldBy(receipt);
   if (held !== null) {
     desk.paper = receipt;
-    desk.message = liveMessage(held);
+    desk.message = { number, ...liveMessage(held) };
     await goTo(number, held);
     return "";
   }
   desk.paper = null;
   const { sentence, statement, later } = await whyDead(receipt);
   if (statement === null) throw new Unreadable(sentence, "wanted", later);
-  desk.message = { message: sentence, tone: "bad", fold: null, later };
+  desk.message = { number, message: sentence, tone: "bad", fold: null, later };
   await goTo(number, statement);
   return "";
 }
@@ -242,7 +245,16 @@ export async function openReceipt(typed) {
 export function hidePledge() {
   byId("found").hidden = true;
   byId("new-receipt").replaceChildren();
-  desk.statement = null;
+  desk.statement = desk.wanted = null;
+}
+
+/** Looks at a pledge for which another may be asked meanwhile. */
+async function lookAt(number) {
+  try {
+    await desk.look(number);
+  } catch (fault) {
+    if (desk.wanted === number) throw fault;
+  }
 }
 
 /** Shows the pledge that the address names as it stands now; without a number the form that finds one. */
@@ -252,6 +264,8 @@ export async function showPledge(detail) {
     return;
   }
   const number = Number(detail);
+  desk.wanted = number;
+  if (desk.message?.number !== number) desk.message = null;
   if (desk.paper && numberOf(desk.paper) !== number) desk.paper = null;
   if (desk.statement?.number !== number) {
     byId("new-receipt").replaceChildren();
@@ -259,7 +273,10 @@ export async function showPledge(detail) {
     tell(desk.notice, "");
   }
   const line = byId("finding").querySelector(".notice");
-  const fault = await run({ notice: line, within: byId("finding"), reader: "broker", act: () => desk.look(number) });
+  const fault = await run({
+    notice: line, within: byId("finding"), reader: "broker", act: () => lookAt(number), mayBeOvertaken: true,
+  });
+  if (desk.wanted !== number) return;
   if (fault) {
     byId("found").hidden = true;
     desk.message = null;
