@@ -5,8 +5,8 @@ from tests.library.dates import today
 from tests.library.keys import BROKER
 from tests.library.pages.browser import Pages
 from tests.library.pages.steps import (
-    a_pledge_at_the_counter, ago, book_text, browser, command, fill_book, find, in_words, main, make_book, no_faults,
-    open_book, part, secret_of, the_book_is_read, unfold,
+    a_pledge_at_the_counter, ago, book_text, browser, command, fill_book, find, in_short, in_words, main, make_book,
+    no_faults, open_book, part, secret_of, the_book_is_read, unfold,
 )
 from tests.library.waiting import wait_for
 
@@ -269,8 +269,84 @@ def what_came_of_an_act_is_not_said_of_another_pledge():
         no_faults()
 
 
+def what_can_still_be_drawn_is_told():
+    with Pages() as pages:
+        make_book(pages)
+        pages.session.open_pledge(1, kind="running", pence=50000)
+        pages.session.broker("POST", "/books/7/pledges/1/draw", {"seq": 1, "pence": 20000})
+        open_book(pages)
+        find("1")
+        browser.says("£200.00 owed today", "#statement")
+        browser.rests()
+        unfold("Drawing")
+        browser.says("£300.00 can still be drawn, up to the limit of £500.00.", "#commands")
+        no_faults()
+
+
+def a_live_receipt_of_a_pledge_that_is_over_says_who_has_the_article():
+    with Pages() as pages:
+        make_book(pages, terms=False)
+        fill_book(pages, book_text([
+            ("Vase", "W1", 5000, ago(400), "", "no"), ("Violin", "W2", 9000, ago(400), "", "no"),
+        ]))
+        expect("sold", pages.session.broker("POST", "/books/7/pledges/2/sell", {"net": 9000})[0], 200)
+        open_book(pages)
+        find(f"1-{secret_of(1)}")
+        browser.says(
+            "This receipt is live, but the period is over and the article belongs to the pawnbroker. "
+            "Don’t hand out the article.", "#commands",
+        )
+        find(f"2-{secret_of(2)}")
+        browser.says(f"This receipt is live, but the article was sold on {in_short(today())}.", "#commands")
+        no_faults()
+
+
+def a_written_statement_is_not_asked_for_above_the_small_credit():
+    """Nothing is asked and nothing is sent that is refused."""
+    with a_pledge_at_the_counter() as (pages, _):
+        browser.says("£100.00 owed today", "#statement")
+        command("Replace a lost receipt", "Make a new receipt", paper="written")
+        browser.says(
+            "A written statement is enough only for credit up to £75.00. Ask for a sworn declaration.", "#commands",
+        )
+        expect("no question", browser.run("return document.querySelector('dialog')"), None)
+        no_faults()
+
+
+def a_receipt_that_is_not_whole_is_counted():
+    """For the clerk and for the pawnor; and one of several that is not whole is not left out in silence."""
+    with Pages() as pages:
+        make_book(pages)
+        receipt = pages.session.open_pledge(1)
+        short, wrong = receipt[:-1], receipt[:-1] + "o"
+        counted = "There are 31 digits after the number, and a receipt has 32."
+        letter = "It has the letter “o”, and a receipt has only the digits 0 to 9 and a to f."
+        open_book(pages)
+        the_book_is_read()
+        for typed, says in ((short, counted), (wrong, letter)):
+            find(typed)
+            browser.says(says, "#finding")
+        browser.forget()
+        browser.go(pages.address + "/pawn/")
+        for typed, says in (
+            (short, "That is no receipt. " + counted), (receipt + "0", "There are 33 digits after the number"),
+            (wrong, "That is no receipt. " + letter),
+            (f"{pages.address}/pawn/#book=7&receipt={short}", "That link is not whole, so it opens nothing"),
+            (f"{receipt}\n{short}", f"This is no receipt: {short}."),
+        ):
+            browser.fill("#find", receipts=typed, book="7")
+            browser.press("#find button", "Show")
+            browser.says(says, "#find-said")
+            expect("the field", browser.run("return document.activeElement.name"), "receipts")
+        expect("none is shown", browser.text("#cards"), "")
+        browser.fill("#find", receipts=f"My receipt of May:\n{receipt}\nThank you", book="7")
+        browser.press("#find button", "Show")
+        browser.says("Gold ring", "#cards")
+        no_faults()
+
+
 main(
-    280, (),
+    330, (),
     (
         terms_are_asked_for_before_the_form_is_filled, terms_that_another_till_put_are_seen,
         a_key_is_read_in_each_of_its_forms, a_sum_that_is_no_longer_owed_has_the_pledge_shown_anew,
@@ -278,5 +354,7 @@ main(
         a_redemption_that_never_arrived_is_done_by_the_next_press,
         a_redemption_after_which_nothing_can_be_looked_at_says_what_to_do, the_pledge_that_was_asked_for_last_is_shown,
         what_is_searched_for_during_a_search_is_found, what_came_of_an_act_is_not_said_of_another_pledge,
+        what_can_still_be_drawn_is_told, a_live_receipt_of_a_pledge_that_is_over_says_who_has_the_article,
+        a_written_statement_is_not_asked_for_above_the_small_credit, a_receipt_that_is_not_whole_is_counted,
     ),
 )

@@ -4,7 +4,7 @@
  */
 import { byId, foreign, make } from "../shared/dom.js";
 import { onSearch } from "../shared/forms.js";
-import { isReceiptLike } from "../shared/receipts.js";
+import { isReceiptLike, whyNotWhole } from "../shared/receipts.js";
 import { Unreadable } from "../shared/unreadable.js";
 import { ledger } from "./ledger.js";
 import { goTo, hidePledge, openReceipt } from "./pledge.js";
@@ -53,10 +53,14 @@ async function findNumber(wanted) {
 
 async function findReference(wanted) {
   const found = await named(wanted);
-  if (found.length === 0) throw new Unreadable(
-    "The book has no pledge of that number or reference. “All pledges” finds parts of an article or reference.",
-    "wanted",
-  );
+  if (found.length === 0) {
+    const why = whyNotWhole(wanted);
+    throw new Unreadable(
+      "The book has no pledge of that number or reference. "
+        + (why ? `It is no whole receipt either: ${why}` : "“All pledges” finds parts of an article or reference."),
+      "wanted",
+    );
+  }
   return offer(found, null);
 }
 

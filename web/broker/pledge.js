@@ -1,5 +1,6 @@
 /** One pledge of the book, with its statement and its commands. What is said of it was read just then. */
 import { refusalOf } from "../shared/codes.js";
+import { inShort } from "../shared/days.js";
 import { byId, foreign, make } from "../shared/dom.js";
 import { Refused } from "../shared/faults.js";
 import { fieldsOf, foldOf, makeNotice, redrawFolds, run, sayAfter, tell, tellLater } from "../shared/forms.js";
@@ -213,9 +214,15 @@ export function goTo(number, statement = null) {
   return null;
 }
 
+/** Why no article is handed out for a receipt that is still live, although its pledge is over. */
+const overMessage = (closing) => (closing
+  ? `This receipt is live, but the article was sold on ${inShort(closing.day)}.`
+  : "This receipt is live, but the period is over and the article belongs to the pawnbroker. "
+    + "Don’t hand out the article.");
+
 /** What is said of a live receipt. On a hold, or once the pledge is over, the article is not handed out for it. */
-function liveMessage({ status, owed, held }) {
-  if (!isOpen(status)) return { message: "This receipt is live, but its pledge is over.", tone: "quiet", fold: null };
+function liveMessage({ status, owed, held, closing }) {
+  if (!isOpen(status)) return { message: overMessage(closing), tone: "bad", fold: null };
   const live = `This receipt is live. ${inPounds(owed.owing)} is owed today.`;
   const barred = `${live} But the pledge is on hold: don’t hand out the article.`;
   if (held) return { message: barred, tone: "bad", fold: null };

@@ -1,7 +1,9 @@
 /** A receipt printed again, and a lost one replaced by a new one. */
+import { refusalOf } from "../shared/codes.js";
 import { make } from "../shared/dom.js";
 import { Lost } from "../shared/faults.js";
 import { buttons } from "../shared/forms.js";
+import { SMALL } from "../shared/period.js";
 import { confirmed, NOTHING_DONE } from "../shared/questions.js";
 import { ledger } from "./ledger.js";
 import { current } from "./session.js";
@@ -82,8 +84,9 @@ async function madeBefore(desk) {
   return `${MADE_ALREADY}It stands below. ${desk.toldOfReceipts()}`;
 }
 
-async function declare({ paper }, desk) {
+async function declare({ paper }, { credit }, desk) {
   const { number } = desk;
+  if (paper === "written" && credit > SMALL) throw refusalOf("NotSmall");
   const made = await madeBefore(desk);
   if (made) return made;
   const before = paper === "sworn"
@@ -125,5 +128,5 @@ export const replacement = (statement, desk) => ({
     make("fieldset", {}, make("legend", {}, "Paper"), choice("sworn", "A sworn declaration", true),
       choice("written", "A written statement, for credit up to £75.00", false)),
     buttons(make("button", { className: "grave" }, "Make a new receipt"))],
-  act: (fields) => declare(fields, desk),
+  act: (fields) => declare(fields, statement, desk),
 });
