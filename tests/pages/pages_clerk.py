@@ -345,8 +345,24 @@ def a_receipt_that_is_not_whole_is_counted():
         no_faults()
 
 
+def the_field_of_the_search_names_no_other_pledge():
+    """By the buttons back and forward a pledge is shown that was not searched for last."""
+    with Pages() as pages:
+        two_pledges(pages)
+        for number, article in (("1", "Gold ring"), ("2", "Silver watch")):
+            find(number)
+            browser.says(article, "#statement")
+            browser.rests()
+            expect("what was found", browser.run("return document.querySelector('#find-wanted').value"), number)
+        browser.ask("POST", "/back", {})
+        browser.says("Gold ring", "#statement")
+        browser.rests()
+        expect("back", browser.run("return document.querySelector('#find-wanted').value"), "")
+        no_faults()
+
+
 main(
-    330, (),
+    340, (),
     (
         terms_are_asked_for_before_the_form_is_filled, terms_that_another_till_put_are_seen,
         a_key_is_read_in_each_of_its_forms, a_sum_that_is_no_longer_owed_has_the_pledge_shown_anew,
@@ -356,5 +372,6 @@ main(
         what_is_searched_for_during_a_search_is_found, what_came_of_an_act_is_not_said_of_another_pledge,
         what_can_still_be_drawn_is_told, a_live_receipt_of_a_pledge_that_is_over_says_who_has_the_article,
         a_written_statement_is_not_asked_for_above_the_small_credit, a_receipt_that_is_not_whole_is_counted,
+        the_field_of_the_search_names_no_other_pledge,
     ),
 )

@@ -33,12 +33,12 @@ class Desk {
   /**
    * `paper` is a receipt that was found live, until another pledge is looked at; `fresh` a statement that was read just
    * before its pledge is shown; `message` what is said once it is shown; `drawn` the number whose forms are on the page;
-   * `wanted` the number that was asked for last, or null; `lostRedemptions`, by their receipts, what was paid by
-   * redemptions whose replies were lost.
+   * `wanted` the number that was asked for last, and `sought` the one that was found by the form, each or null;
+   * `lostRedemptions`, by their receipts, what was paid by redemptions whose replies were lost.
    */
   forget() {
     Object.assign(this, { statement: null, drawn: null, paper: null, fresh: null, message: null, isDrawnByBook: false });
-    this.wanted = null;
+    this.wanted = this.sought = null;
     this.lostRedemptions = new Map();
     tell(this.notice, "");
   }
@@ -207,6 +207,7 @@ export function clearPledge() {
  */
 export function goTo(number, statement = null) {
   desk.fresh = statement;
+  desk.sought = number;
   const hash = `#pledge=${number}`;
   if (location.hash === hash) return showPledge(String(number));
   if (location.hash === "#pledge") location.replace(hash);
@@ -272,6 +273,8 @@ export async function showPledge(detail) {
   }
   const number = Number(detail);
   desk.wanted = number;
+  // What was searched for does not stay above another pledge.
+  if (desk.sought !== number && !byId("finding").contains(document.activeElement)) byId("finding").reset();
   if (desk.message?.number !== number) desk.message = null;
   if (desk.paper && numberOf(desk.paper) !== number) desk.paper = null;
   if (desk.statement?.number !== number) {
