@@ -1,12 +1,12 @@
-"""What a clerk met in a morning at the counter that misled, each as it was found; in a real browser, in front of the
-program."""
+"""What misled a clerk in a morning at the counter, and a pawnor on a telephone, each as it was found; in a real browser,
+in front of the program."""
 from tests.library.checks import expect
 from tests.library.dates import today
 from tests.library.keys import BROKER
 from tests.library.pages.browser import Pages
 from tests.library.pages.steps import (
-    a_pledge_at_the_counter, ago, book_text, browser, command, fill_book, find, in_short, in_words, main, make_book,
-    no_faults, open_book, part, secret_of, the_book_is_read, unfold,
+    a_pledge_at_the_counter, a_pledge_by_its_receipt, ago, book_text, browser, command, fill_book, find, in_short,
+    in_words, main, make_book, no_faults, open_book, part, secret_of, the_book_is_read, unfold,
 )
 from tests.library.waiting import wait_for
 
@@ -361,8 +361,33 @@ def the_field_of_the_search_names_no_other_pledge():
         no_faults()
 
 
+# It is ten past three in the afternoon, by the clock of the device.
+AFTERNOON = "Date.prototype.getHours = () => 15; Date.prototype.getMinutes = () => 10;"
+
+
+def a_visit_at_a_time_that_is_over_is_asked_about():
+    """The first time on the list is chosen already, and by the afternoon it is over for today."""
+    with a_pledge_by_its_receipt() as (pages, receipt):
+        browser.says("Gold ring", "#cards")
+        browser.rests()
+        browser.run(AFTERNOON)
+        command("Ask for a time to come", "Ask for this time", day=str(today()))
+        browser.says("That time is over", "dialog h2")
+        browser.says("It is 15:10 by the clock of this device", "dialog")
+        browser.press("dialog button", "Choose another time")
+        browser.says("Nothing was done.", "#cards")
+        expect("nothing is asked", "Booking none" in pages.session.bearer(receipt, "GET", "/books/7/held")[1], True)
+        browser.rests()
+        browser.fill(".action[open] form", window="12")
+        browser.press(".action[open] button", "Ask for this time")
+        browser.says(f"Asked for {in_words(today())}, 15:00 to 15:30.", "#cards")
+        command("Ask for another time", "Ask for this time", day=str(ago(-1)), window="0")
+        browser.says(f"Asked for {in_words(ago(-1))}, 09:00 to 09:30.", "#cards")
+        no_faults()
+
+
 main(
-    340, (),
+    350, (),
     (
         terms_are_asked_for_before_the_form_is_filled, terms_that_another_till_put_are_seen,
         a_key_is_read_in_each_of_its_forms, a_sum_that_is_no_longer_owed_has_the_pledge_shown_anew,
@@ -372,6 +397,6 @@ main(
         what_is_searched_for_during_a_search_is_found, what_came_of_an_act_is_not_said_of_another_pledge,
         what_can_still_be_drawn_is_told, a_live_receipt_of_a_pledge_that_is_over_says_who_has_the_article,
         a_written_statement_is_not_asked_for_above_the_small_credit, a_receipt_that_is_not_whole_is_counted,
-        the_field_of_the_search_names_no_other_pledge,
+        the_field_of_the_search_names_no_other_pledge, a_visit_at_a_time_that_is_over_is_asked_about,
     ),
 )

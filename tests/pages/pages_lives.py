@@ -334,7 +334,7 @@ def a_service_that_is_down():
         browser.says("Gold ring", "#cards")
         pages.relay.listener.shutdown(2)
         pages.relay.listener.close()
-        command("Ask for a time to come", "Ask for this time", day=str(today()), window="3")
+        command("Ask for a time to come", "Ask for this time", day=str(ago(-1)), window="3")
         browser.says("What you asked for was not sent, so it was not done.", "#cards")
         browser.ask("POST", "/refresh", {})
         browser.says("The pledge can’t be shown just now", "#cards")

@@ -10,7 +10,7 @@ import { confirmed, NOTHING_DONE } from "../shared/questions.js";
 import { reckoningForm } from "../shared/reckoning.js";
 import { isOpen, isToCome } from "../shared/statuses.js";
 import { Unreadable } from "../shared/unreadable.js";
-import { WINDOWS, windowInWords } from "../shared/windows.js";
+import { clock, endOf, WINDOWS, windowInWords } from "../shared/windows.js";
 
 /** A form in a fold, which acts on the card when it is sent. */
 const foldOf = (card, title, parts, act) =>
@@ -36,9 +36,22 @@ function agreedToLate({ statement, known }, day) {
   });
 }
 
+/** A time of today that is over by the clock of this device is asked about: the shop's clock may be another. */
+function agreedToOver(day, window) {
+  const now = new Date();
+  const minutes = now.getHours() * 60 + now.getMinutes();
+  if (day !== today() || endOf(window) > minutes) return true;
+  return confirmed({
+    title: "That time is over",
+    lines: [`It is ${clock(minutes)} by the clock of this device, and you ask for today, ${windowInWords(window)}.`],
+    yes: "Ask for this time all the same", no: "Choose another time",
+  });
+}
+
 async function askForVisit(card, { day, window }) {
   if (!day) throw new Unreadable("Choose a day.", "day");
   if (day < today()) throw new Unreadable("That day is over. Choose a later one.", "day");
+  if (!await agreedToOver(day, Number(window))) return NOT_NOW;
   if (!await agreedToLate(card, day)) return NOT_NOW;
   const { said } = await card.ask("/ask", { day, window: Number(window) }, true);
   const when = `${inWords(said.day)}, ${windowInWords(said.window)}`;
