@@ -1,7 +1,9 @@
-"""What misled a clerk in a morning at the counter, and a pawnor on a telephone, each as it was found; in a real browser,
-in front of the program."""
+"""What misled a clerk in a morning at the counter, and a pawnor on a telephone, each as it was found; in a real
+browser, in front of the program."""
+import datetime
+
 from tests.library.checks import expect
-from tests.library.dates import today
+from tests.library.dates import six_months_after, today
 from tests.library.keys import BROKER
 from tests.library.pages.browser import Pages
 from tests.library.pages.steps import (
@@ -26,9 +28,9 @@ def terms_are_asked_for_before_the_form_is_filled():
         browser.press("#taking button", "Take the pledge")
         browser.says("The book has no terms yet.", "#taking")
         expect("no question", browser.run("return document.querySelector('dialog')"), None)
-        browser.press("#terms-first a", "Put terms first")
+        browser.press("#terms-first a", "Add terms first")
         browser.fill("#new-terms", rate="0.2667")
-        browser.press("#new-terms button", "Put these terms")
+        browser.press("#new-terms button", "Add these terms")
         browser.says("Version 1", "#new-terms .notice")
         part("take")
         browser.says("Article", "#take")
@@ -86,7 +88,7 @@ def a_sum_that_is_no_longer_owed_has_the_pledge_shown_anew():
         pages.session.bearer(receipt, "POST", "/books/7/held/repay", {"pence": 1000, "seq": 1})
         command("Redeem by the paper", "Redeem", receipt=receipt, amount="100")
         browser.says("Since this pledge was shown here, it has changed.", "#commands .action[open]")
-        browser.says("£90.00 is owed today, and redeeming wants all of it. You typed £100.00.", "#commands")
+        browser.says("£90.00 is owed today, and redeeming requires all of it. You typed £100.00.", "#commands")
         browser.says("£90.00 owed today", "#statement")
         browser.says("£90.00 is owed today. All of it is to be received.", "#commands")
         expect(
@@ -229,7 +231,8 @@ def the_pledge_that_was_asked_for_last_is_shown():
         browser.fill(".action[open] form", amount="12.34")
         let_go()
         expect("the pledge", browser.text("#statement h2"), "Silver watch")
-        expect("what was typed", browser.run("return document.querySelector('.action[open] [name=amount]').value"), "12.34")
+        typed = browser.run("return document.querySelector('.action[open] [name=amount]').value")
+        expect("what was typed", typed, "12.34")
         no_faults()
 
 
@@ -386,8 +389,58 @@ def a_visit_at_a_time_that_is_over_is_asked_about():
         no_faults()
 
 
+def a_pledge_that_changed_is_shown_anew_before_it_is_renewed_or_extended():
+    """Nobody has to find it again: its new sum and its new end are shown, with what was typed."""
+    with a_pledge_at_the_counter() as (pages, receipt):
+        browser.says("£100.00 owed today", "#statement")
+        end = six_months_after(today())
+        pages.session.bearer(receipt, "POST", "/books/7/held/repay", {"pence": 1000, "seq": 1})
+        later = str(end + datetime.timedelta(days=90))
+        command("Renew", "Renew the pledge", until=later)
+        browser.says("Since this pledge was shown here, it has changed. £90.00 is owed now.", "#commands .action[open]")
+        browser.says("£90.00 owed today", "#statement")
+        expect("the end that was typed", browser.run(UNTIL), later)
+        moved = end + datetime.timedelta(days=30)
+        pages.session.broker("POST", "/books/7/pledges/1/extend", {"until": str(moved)})
+        browser.rests()
+        browser.press(".action[open] button", "Renew the pledge")
+        browser.says(f"Somebody else moved the end to {in_words(moved)}", "#commands .action[open]")
+        browser.says(in_short(moved), "#statement")
+        expect("the end that was typed", browser.run(UNTIL), later)
+        browser.rests()
+        browser.press(".action[open] button", "Renew the pledge")
+        browser.says("Renew this pledge?", "dialog")
+        browser.press("dialog button", "Not now")
+        browser.rests()
+        moved = end + datetime.timedelta(days=31)
+        pages.session.broker("POST", "/books/7/pledges/1/extend", {"until": str(moved)})
+        command("Extend the period", "Extend", until=later)
+        browser.says(f"Somebody else moved the end to {in_words(moved)}", "#commands .action[open]")
+        browser.says(in_short(moved), "#statement")
+        no_faults()
+
+
+UNTIL = "return document.querySelector('.action[open] [name=until]').value"
+
+
+def a_sale_of_what_was_redeemed_meanwhile_is_not_asked_about():
+    with Pages() as pages:
+        make_book(pages, terms=False)
+        fill_book(pages, book_text([("Violin", "W1", 9000, ago(400), "", "no")], rates=(0, 0, 0)))
+        open_book(pages)
+        find("1")
+        browser.says("£90.00 owed today", "#statement")
+        paid = pages.session.bearer(f"1-{secret_of(1)}", "POST", "/books/7/held/redeem", {"paid": 9000})
+        expect("redeemed", paid[0], 200)
+        command("Sale", "Record the sale", amount="120")
+        browser.says("The pledge is redeemed or sold already.", "#commands")
+        browser.says("Redeemed on", "#statement")
+        expect("no question", browser.run("return document.querySelector('dialog')"), None)
+        no_faults()
+
+
 main(
-    350, (),
+    380, (),
     (
         terms_are_asked_for_before_the_form_is_filled, terms_that_another_till_put_are_seen,
         a_key_is_read_in_each_of_its_forms, a_sum_that_is_no_longer_owed_has_the_pledge_shown_anew,
@@ -398,5 +451,7 @@ main(
         what_can_still_be_drawn_is_told, a_live_receipt_of_a_pledge_that_is_over_says_who_has_the_article,
         a_written_statement_is_not_asked_for_above_the_small_credit, a_receipt_that_is_not_whole_is_counted,
         the_field_of_the_search_names_no_other_pledge, a_visit_at_a_time_that_is_over_is_asked_about,
+        a_pledge_that_changed_is_shown_anew_before_it_is_renewed_or_extended,
+        a_sale_of_what_was_redeemed_meanwhile_is_not_asked_about,
     ),
 )

@@ -68,7 +68,7 @@ const isSameVisit = (one, other) =>
 async function decide(shown, yes, desk) {
   const { booking } = await lookFirst(desk.read());
   if (!isSameVisit(shown, booking)) {
-    const now = booking ? ` Now it stands so: ${bookingInWords(booking)}.` : "";
+    const now = booking ? ` Now it is: ${bookingInWords(booking)}.` : "";
     return {
       sentence: `The visit was changed since it was shown, so nothing was decided.${now} Decide on this one.`,
       tone: "bad",

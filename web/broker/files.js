@@ -13,7 +13,7 @@ const PATIENCE = 300_000;
 
 /** What is to be known once a book stands twice. */
 const BOTH = "Each receipt now opens its pledge in this book, and in the book that the file came from as well, if that "
-  + "still stands: close that one to redemptions. Links and codes that were printed before name the old book, so print "
+  + "still exists: close that one to redemptions. Links and codes that were printed before name the old book, so print "
   + "the receipts again.";
 
 /**

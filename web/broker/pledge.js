@@ -2,7 +2,7 @@
 import { refusalOf } from "../shared/codes.js";
 import { inShort } from "../shared/days.js";
 import { byId, foreign, make } from "../shared/dom.js";
-import { Refused } from "../shared/faults.js";
+import { Outdated, Refused } from "../shared/faults.js";
 import { fieldsOf, foldOf, makeNotice, redrawFolds, run, sayAfter, tell, tellLater } from "../shared/forms.js";
 import { inPounds } from "../shared/money.js";
 import { numberOf } from "../shared/receipts.js";
@@ -32,14 +32,15 @@ class Desk {
 
   /**
    * `paper` is a receipt that was found live, until another pledge is looked at; `fresh` a statement that was read just
-   * before its pledge is shown; `message` what is said once it is shown; `drawn` the number whose forms are on the page;
-   * `wanted` the number that was asked for last, and `sought` the one that was found by the form, each or null;
+   * before its pledge is shown; `message` what is said of a pledge once it is shown; `drawn` the number whose forms are
+   * on the page; `wanted` the number that was asked for last; `sought` the one that the form of the search found;
    * `lostRedemptions`, by their receipts, what was paid by redemptions whose replies were lost.
    */
   forget() {
-    Object.assign(this, { statement: null, drawn: null, paper: null, fresh: null, message: null, isDrawnByBook: false });
-    this.wanted = this.sought = null;
-    this.lostRedemptions = new Map();
+    Object.assign(this, {
+      statement: null, drawn: null, paper: null, fresh: null, message: null, isDrawnByBook: false, wanted: null,
+      sought: null, lostRedemptions: new Map(),
+    });
     tell(this.notice, "");
   }
 
@@ -156,7 +157,7 @@ class Desk {
     if (fault instanceof Unreadable || this.statement?.number !== number) return;
     let place = title;
     try {
-      await this.look(number, { own: !(fault instanceof Refused), done: title });
+      await this.look(number, { own: !(fault instanceof Refused || fault instanceof Outdated), done: title });
     } catch {
       // The forms may be drawn anew once the book is read: what came of the act is said above them.
       place = null;

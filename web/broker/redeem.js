@@ -5,7 +5,7 @@
 import { refusalOf } from "../shared/codes.js";
 import { inWords } from "../shared/days.js";
 import { make } from "../shared/dom.js";
-import { Lost, lookFirst } from "../shared/faults.js";
+import { CHANGED, Lost, lookFirst, Outdated } from "../shared/faults.js";
 import { buttons, field } from "../shared/forms.js";
 import { inPounds, readPounds } from "../shared/money.js";
 import { confirmed, NOTHING_DONE } from "../shared/questions.js";
@@ -33,20 +33,14 @@ async function look(desk, receipt) {
   throw new Unreadable(sentence, "receipt", later);
 }
 
-/**
- * Compares what was paid with what is owed. Gives null where they are equal, or what is said where the pledge is shown
- * anew, because something else was owed when it was shown.
- */
+/** Throws where the pledge can't be redeemed now for what was paid; `shown` is its statement as the page shows it. */
 function compare({ status, owed, held }, paid, shown) {
   if (!isOpen(status)) throw refusalOf(status === "passed" ? "Passed" : "Closed");
   if (held) throw refusalOf("Held");
-  if (paid === owed.owing) return null;
-  const wrong = `${inPounds(owed.owing)} is owed today, and redeeming wants all of it. You typed ${inPounds(paid)}.`;
+  if (paid === owed.owing) return;
+  const wrong = `${inPounds(owed.owing)} is owed today, and redeeming requires all of it. You typed ${inPounds(paid)}.`;
   if (owed.owing === shown.owed.owing) throw new Unreadable(wrong, "amount");
-  return {
-    sentence: `Since this pledge was shown here, it has changed. ${wrong} The page shows it now as it is.`, tone: "bad",
-    field: "amount",
-  };
+  throw new Outdated(`${CHANGED} ${wrong}`, "amount");
 }
 
 const question = (number, paid) => confirmed({
@@ -93,8 +87,7 @@ async function redeem(fields, statement, desk) {
   if (before) return before;
   const held = await look(desk, receipt);
   const paid = readPounds(fields.amount);
-  const changed = compare(held, paid, statement);
-  if (changed) return changed;
+  compare(held, paid, statement);
   if (!await question(statement.number, paid)) return NOTHING_DONE;
   try {
     const { said } = await desk.redeem(receipt, paid);

@@ -22,7 +22,7 @@ async function printAgain(desk) {
   const receipt = await desk.newestReceipt();
   if (receipt === null) return { sentence: "No receipt of this pledge is live, so none is printed.", tone: "bad" };
   await desk.showReceipt(receipt);
-  return `The receipt stands below, to be printed. It was looked at just now: it is live. ${desk.toldOfReceipts()}`;
+  return `The receipt is below, ready to print. It was looked at just now: it is live. ${desk.toldOfReceipts()}`;
 }
 
 export const printing = (statement, desk) => ({
@@ -51,7 +51,7 @@ async function showNew(receipt, paper, desk) {
   try {
     if (!await desk.isLive(receipt)) return { sentence: OVERTAKEN, tone: "bad" };
     await desk.showReceipt(receipt);
-    return "A new receipt stands below. Print it: the old one is worth nothing.";
+    return "A new receipt is below. Print it: the old one is worth nothing.";
   } catch {
     return { sentence: UNSEEN, tone: "bad" };
   }
@@ -81,7 +81,7 @@ async function madeBefore(desk) {
   if (receipt === null) return null;
   await desk.showReceipt(receipt);
   lost.delete(placeOf(number));
-  return `${MADE_ALREADY}It stands below. ${desk.toldOfReceipts()}`;
+  return `${MADE_ALREADY}It is below. ${desk.toldOfReceipts()}`;
 }
 
 async function declare({ paper }, { credit }, desk) {

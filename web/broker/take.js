@@ -186,7 +186,7 @@ function warnOfTerms() {
   const line = byId("terms-first");
   if (line.textContent === "" && hasNoTerms()) {
     tell(line, TERMS_FIRST, "bad");
-    line.append(make("a", { href: "#terms" }, "Put terms first"));
+    line.append(make("a", { href: "#terms" }, "Add terms first"));
   } else if (!hasNoTerms()) tell(line, "");
 }
 

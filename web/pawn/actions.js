@@ -69,7 +69,7 @@ function visitFold(card) {
   );
   const standing = stands(card.statement);
   const lead = standing
-    ? "A new time takes the place of the one that stands."
+    ? "A new time replaces the one that you asked for."
     : "Say when you would like to fetch it. The shop confirms it or not.";
   const parts = [
     make("p", { className: "lead" }, lead), field("Day", day), field("Time", times),
@@ -144,7 +144,7 @@ async function redeem(card) {
 function redeemFold(card) {
   const { owed, held } = card.statement;
   const lead = held ? "The pawnbroker holds this pledge, so it can’t be redeemed just now. Ask at the shop why."
-    : `Redeeming wants all that is owed today, ${inPounds(owed.owing)}, received by the pawnbroker. `
+    : `Redeeming requires all that is owed today, ${inPounds(owed.owing)}, received by the pawnbroker. `
       + `You are asked once more before it is done.`;
   const button = make("button", { className: "grave", disabled: held }, `Redeem for ${inPounds(owed.owing)}`);
   return foldOf(card, "Redeem", [make("p", { className: "lead" }, lead), buttons(button)], () => redeem(card));

@@ -42,10 +42,10 @@ export function ofTyped({ book, receipts }) {
   const found = receiptsTyped(receipts).map((one) => ({ ...one, book: one.book ?? book.trim() }));
   refuseOthers(receipts, found);
   if (found.some((one) => one.book === "")) throw new Unreadable(
-    "Type the number of the shop’s book too: it stands on the paper after “book”.", "book",
+    "Type the number of the shop’s book too: it is printed on the paper after “book”.", "book",
   );
   if (found.some((one) => !isBook(one.book))) throw new Unreadable(
-    "The book is a number, which stands on the paper after “book”.", "book",
+    "The book is a number, which is printed on the paper after “book”.", "book",
   );
   return found;
 }

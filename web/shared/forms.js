@@ -187,8 +187,7 @@ export function redrawFolds(within, redraw, done = null) {
 
 /**
  * Says what came of an act after which all folds were made anew: in the notice above them where it was done, else in
- * the fold of that title, which is opened again with what was typed. What was said may name a field of it, as a fault
- * does.
+ * the fold of that title, which is opened again with what was typed.
  */
 export function sayAfter({ within, notice, title, fields, said, fault, reader }) {
   const details = foldOf(within, title);
@@ -203,7 +202,7 @@ export function sayAfter({ within, notice, title, fields, said, fault, reader })
   details.open = true;
   fillAgain(form, fields);
   tell(line, text, tone);
-  return (markField(form, line, fault ? fieldOf(fault) : said?.field) ?? line).focus();
+  return (markField(form, line, fault && fieldOf(fault)) ?? line).focus();
 }
 
 /** A field of a form with its label above it, and with a hint under it where one is given. */

@@ -26,7 +26,7 @@ function cameBetween(shown, now) {
   const lines = entries.slice(-TOLD).map(entryInWords);
   if (entries.length > TOLD) lines.unshift(`${entries.length - TOLD} other entries.`);
   if (now.status !== shown.status || now.held !== shown.held || now.ends !== shown.ends) {
-    lines.push("How the pledge stands has changed.");
+    lines.push("The state of the pledge has changed.");
   }
   return lines;
 }
@@ -118,7 +118,8 @@ function tellLost({ now, after, entry }) {
     };
   }
   if (after.entries.length > now.entries.length) return {
-    sentence: "The reply was lost, and somebody else’s entry stands. Look at the entries before you do more.",
+    sentence: "The reply was lost, and the pledge has an entry of somebody else. "
+      + "Look at the entries before you do more.",
     tone: "bad",
   };
   return {

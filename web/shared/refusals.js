@@ -6,8 +6,12 @@ import { inPounds } from "./money.js";
 
 /** By code: the name, why, what to do next, and the same for the pawnor where it differs. */
 export const REFUSALS = {
-  102: { name: "RateTooHigh", why: "The rate is above two per cent a day.", next: "Put a lower rate." },
-  103: { name: "KeepTooHigh", why: "A charge for safe keeping is above ten pence a day.", next: "Put a lower charge." },
+  102: { name: "RateTooHigh", why: "The rate is above two per cent a day.", next: "Choose a lower rate." },
+  103: {
+    name: "KeepTooHigh",
+    why: "A charge for safe keeping is above ten pence a day.",
+    next: "Choose a lower charge.",
+  },
   104: {
     name: "KeepingRate",
     why: "Safe keeping after the end of the period costs more than before it.",
@@ -16,11 +20,11 @@ export const REFUSALS = {
   201: {
     name: "BadAmount",
     why: "That amount can’t be taken: it is at least a penny and at most a million pounds.",
-    next: "Put another amount.",
+    next: "Type another amount.",
   },
   202: {
     name: "FixedSum",
-    why: "This pledge stands against a fixed sum, so nothing more can be drawn.",
+    why: "This pledge is for a fixed sum, so nothing more can be drawn.",
     next: "Take another pledge for more credit.",
   },
   203: {
@@ -28,7 +32,7 @@ export const REFUSALS = {
     why: "Drawing that much would pass the limit of the account.",
     next: "Draw less, or record a repayment first.",
   },
-  204: { name: "OverOwing", why: "That is more than is owed.", next: "Put what is owed, or less." },
+  204: { name: "OverOwing", why: "That is more than is owed.", next: "Type what is owed, or less." },
   205: {
     name: "EarlierDay",
     why: "The service’s clock is before the day of this pledge’s last change.",
@@ -82,10 +86,14 @@ export const REFUSALS = {
     why: "This pledge has had 100 new receipts and takes no more.",
     next: "Ask the operator of the service.",
   },
-  310: { name: "WrongAmount", why: "That is not all that is owed today.", next: "Redeeming wants the whole amount." },
+  310: {
+    name: "WrongAmount",
+    why: "That is not all that is owed today.",
+    next: "Redeeming requires the whole amount.",
+  },
   311: {
     name: "NoBooking",
-    why: "There is no booking that this could be said of.",
+    why: "There is no booking that can be decided on or cancelled.",
     next: "Show the pledge again.",
     pawnor: "There is no visit to cancel. Ask for one first.",
   },
@@ -104,7 +112,7 @@ export const REFUSALS = {
     why: "The period is over, so nothing more is drawn and the end is not moved.",
     next: "A repayment can still be recorded.",
   },
-  315: { name: "NotLater", why: "The new end is before the one that stands.", next: "Choose a later day." },
+  315: { name: "NotLater", why: "The new end is before the present end.", next: "Choose a later day." },
   316: {
     name: "ExtensionsFull",
     why: "The period was extended 99 times and can’t be again.",
@@ -129,10 +137,10 @@ export const REFUSALS = {
   },
   404: {
     name: "BookTaken",
-    why: "A book of that number stands already, with another key, name or capacity.",
+    why: "A book of that number exists already, with another key, name or capacity.",
     next: "Choose another number.",
   },
-  405: { name: "NoTerms", why: "The book has no terms yet.", next: "Put terms first, under “Terms”." },
+  405: { name: "NoTerms", why: "The book has no terms yet.", next: "Add terms first, under “Terms”." },
   406: {
     name: "TermsSeq",
     why: "Other terms were put under that version in the meantime, or it is not the next one.",
@@ -151,7 +159,7 @@ export const REFUSALS = {
   409: {
     name: "BookNotEmpty",
     why: "The book has terms or pledges already, so nothing was put into it.",
-    next: "An import wants an empty book.",
+    next: "An import needs an empty book.",
   },
   410: { name: "NotOperator", why: "Only the operator makes books.", next: "Ask the operator of the service." },
   411: {
@@ -203,10 +211,10 @@ export const REFUSALS = {
   },
   605: {
     name: "NotReplayable",
-    why: "The rows of the file can’t have come about in any book.",
+    why: "No book can have the rows of this file.",
     next: "Use a file as it was exported.",
   },
-  606: { name: "TooMany", why: "The file says more than a book may hold.", next: "Divide it over several books." },
+  606: { name: "TooMany", why: "The file has more than a book may hold.", next: "Divide it over several books." },
   607: { name: "Read", why: "The file could not be read to its end.", next: "Import it again." },
   701: { name: "BadHead", why: "The request was not one that the service understands.", next: "Load this page again." },
   703: {
@@ -239,10 +247,14 @@ export const REFUSALS = {
   710: {
     name: "BadReceipt",
     why: "That is no receipt.",
-    next: "It looks like 3-da41597c-5157-488d-7724-e03fb8d84a37: copy it as it stands on the paper.",
+    next: "It looks like 3-da41597c-5157-488d-7724-e03fb8d84a37: copy it exactly as it is printed on the paper.",
   },
   711: { name: "TooManyReceipts", why: "Too many receipts were presented at once.", next: "Present one." },
-  712: { name: "NoReceipt", why: "No receipt was presented.", next: "Type the receipt as it stands on the paper." },
+  712: {
+    name: "NoReceipt",
+    why: "No receipt was presented.",
+    next: "Type the receipt exactly as it is printed on the paper.",
+  },
 };
 
 /** What a refusal's total or row adds. */
