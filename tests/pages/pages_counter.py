@@ -192,7 +192,7 @@ def redemption_by_the_paper():
         expect("the address names the pledge and no receipt", browser.run("return location.hash"), "#pledge=1")
         browser.fill(".action[open] form", amount="99.99")
         browser.press(".action[open] button", "Redeem")
-        browser.says("£100.00 is owed today, and redeeming needs all of it.", "#commands")
+        browser.says("£100.00 is owed today, and redeeming requires all of it.", "#commands")
         browser.shoot("broker-redeem")
         command("Repayment", "Record the repayment", amount="100")
         agree()
@@ -285,8 +285,8 @@ def what_is_due():
         expect(
             "the sections", [(one[0], len(one) - 1) for one in lists],
             [
-                ("In their days of grace", 2), ("Ends within 7 days", 1), ("Ends within 14 days, after those", 1),
-                ("Ends within 30 days, after those", 1), ("Can be sold now", 1), ("Passed to you", 1),
+                ("In their days of grace", 2), ("Ends within 7 days", 1), ("Ends in 8 to 14 days", 1),
+                ("Ends in 15 to 30 days", 1), ("Can be sold now", 1), ("Passed to you", 1),
             ],
         )
         expect("in grace", lists[0][1], f"1 Clock G1 £190.00 can be sold on {in_short(ago(-4))}")

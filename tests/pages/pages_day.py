@@ -221,7 +221,7 @@ def the_till_tells_it():
         "the sums", sums,
         {
             "Taken: lent on fixed sums": "£100.00", "Drawn": "£200.50", "Paid out": "£300.50", "Repaid": "£35.00",
-            "of it charges": "£0.00", "of it what was lent": "£200.00", "Redeemed": "£200.00", "Sold, net": "£120.25",
+            "of which charges": "£0.00", "of which loans": "£200.00", "Redeemed": "£200.00", "Sold, net": "£120.25",
             "Received": "£355.25",
         },
     )

@@ -76,7 +76,7 @@ def blanks_and_capitals_are_read_everywhere():
             browser.says("This receipt is live.", "#commands")
         browser.fill(".action[open] form", receipt=receipt.replace("-", "  "), amount="99")
         browser.press(".action[open] button", "Redeem")
-        browser.says("redeeming needs all of it", "#commands")
+        browser.says("redeeming requires all of it", "#commands")
         no_faults()
 
 

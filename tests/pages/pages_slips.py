@@ -245,7 +245,7 @@ def nothing_is_sent_that_is_to_be_refused():
             browser.fill("#taking", article="Crown", ref="A3", amount=amount)
             browser.press("#taking button", "Take the pledge")
             browser.element("#take-amount[aria-invalid=true]")
-            browser.says("it is at least a penny and at most a million pounds. Enter another amount.", "#taking")
+            browser.says("it is at least a penny and at most a million pounds. Type another amount.", "#taking")
         expect("and no more", [name for name, _ in browser.run("return window.posts")], ["pledges", "pledges"])
 
 
@@ -315,11 +315,11 @@ def terms_are_put_after_a_take_that_wanted_them():
         the_book_is_read()
         part("take")
         send_taking(article="Ring", ref="A1", amount="100")
-        browser.says("The book has no terms yet. Put terms first, under “Terms”.", "#taking")
+        browser.says("The book has no terms yet. Add terms first, under “Terms”.", "#taking")
         part("terms")
         browser.fill("#new-terms", rate="0.2667")
         browser.press("#new-terms button")
-        browser.says("Version 1 is added.", "#terms")
+        browser.says("Version 1 is in the book.", "#terms")
         part("take")
         browser.element("#taking")
         expect("no word of no terms", "no terms" in browser.text("#taking"), False)

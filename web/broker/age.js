@@ -27,10 +27,10 @@ export const waitingInWords = () => `The book is being read: ${progressInWords()
 
 /** Why a list of the book is not there: how far the reading is, or why there is none. */
 export function missingInWords() {
-  if (ledger.reading) return `${waitingInWords()} This part is shown then.`;
+  if (ledger.reading) return `${waitingInWords()} This part is filled then.`;
   return ledger.fault
     ? `The book could not be read: ${tellFault(ledger.fault, "broker")}`
-    : "This part is shown once the book is read.";
+    : "This part is filled once the book is read.";
 }
 
 function ageLine() {

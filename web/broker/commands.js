@@ -6,7 +6,7 @@ import { inWords } from "../shared/days.js";
 import { make } from "../shared/dom.js";
 import { lookFirst } from "../shared/faults.js";
 import { buttons, field, fold } from "../shared/forms.js";
-import { readPounds } from "../shared/money.js";
+import { inPounds, readPounds } from "../shared/money.js";
 import { recordEntry } from "../shared/payments.js";
 import { isOpen, isToCome } from "../shared/statuses.js";
 import { bookingInWords } from "../shared/summary.js";
@@ -46,12 +46,14 @@ const repayment = (statement, desk) => ({
 });
 
 function drawing(statement, desk) {
-  const fixed = statement.kind === "fixed" ? "This pledge is for a fixed sum." : null;
+  const { kind, owed, credit } = statement;
+  const fixed = kind === "fixed" ? "This pledge is for a fixed sum, so nothing more can be drawn." : null;
+  const left = `${inPounds(credit - owed.principal)} can still be drawn, up to the limit of ${inPounds(credit)}.`;
   return {
     title: "Drawing",
     barred: fixed ?? (statement.status === "inside" ? null : "The period is over."),
     parts: [
-      lead("Money that you pay out on a running account, up to its limit."), amountField("Paid out, in pounds"),
+      lead(`Money that you pay out on a running account. ${fixed ? "" : left}`), amountField("Paid out, in pounds"),
       buttons(button("Record the drawing")),
     ],
     act: ({ amount }) => entry(statement, desk, "draw", amount),

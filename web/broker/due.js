@@ -24,11 +24,11 @@ const SECTIONS = {
     title: "Ends within 7 days", empty: "No period ends within 7 days.", head: "Period’s end", day: ended, more: turn,
   },
   fortnight: {
-    title: "Ends within 14 days, after those", empty: "No period ends on the days after those.", head: "Period’s end",
+    title: "Ends in 8 to 14 days", empty: "No period ends on those days.", head: "Period’s end",
     day: ended, more: turn,
   },
   month: {
-    title: "Ends within 30 days, after those", empty: "No period ends on the days after those.", head: "Period’s end",
+    title: "Ends in 15 to 30 days", empty: "No period ends on those days.", head: "Period’s end",
     day: ended, more: turn,
   },
   sale: { title: "Can be sold now", empty: "Nothing can be sold today.", head: "Since", day: since },

@@ -1,7 +1,7 @@
 /** A later end of the period. It can't be taken back, so both ends and the days between are asked about. */
 import { countDays, daysBetween, inShort, inWords, plusDays } from "../shared/days.js";
 import { make } from "../shared/dom.js";
-import { lookFirst } from "../shared/faults.js";
+import { lookFirst, Outdated } from "../shared/faults.js";
 import { buttons, field } from "../shared/forms.js";
 import { confirmed, NOTHING_DONE } from "../shared/questions.js";
 import { Unreadable } from "../shared/unreadable.js";
@@ -11,8 +11,10 @@ const LONG = 366;
 
 /** Throws if a new end is not after the present end, or if the present end is not the one that was shown. */
 export function checkEnd(until, shown, now) {
-  if (now.ends !== shown.ends) throw new Unreadable(
-    `Somebody else moved the end to ${inWords(now.ends)} since the pledge was shown. Find it again, and look.`, "until",
+  if (now.ends !== shown.ends) throw new Outdated(
+    `Somebody else moved the end to ${inWords(now.ends)} since this pledge was shown here. `
+      + "Look at it before you move the end again.",
+    "until",
   );
   if (until <= now.ends) throw new Unreadable(`The new end is to be after ${inShort(now.ends)}.`, "until");
 }

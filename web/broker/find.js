@@ -3,8 +3,8 @@
  * alone knows numbers and receipts, so they wait for no book; a reference is looked for in the book.
  */
 import { byId, foreign, make } from "../shared/dom.js";
-import { onSend } from "../shared/forms.js";
-import { isReceiptLike } from "../shared/receipts.js";
+import { onSearch } from "../shared/forms.js";
+import { isReceiptLike, whyNotWhole } from "../shared/receipts.js";
 import { Unreadable } from "../shared/unreadable.js";
 import { ledger } from "./ledger.js";
 import { goTo, hidePledge, openReceipt } from "./pledge.js";
@@ -53,10 +53,14 @@ async function findNumber(wanted) {
 
 async function findReference(wanted) {
   const found = await named(wanted);
-  if (found.length === 0) throw new Unreadable(
-    "The book has no pledge of that number or reference. “All pledges” finds parts of an article or reference.",
-    "wanted",
-  );
+  if (found.length === 0) {
+    const why = whyNotWhole(wanted);
+    throw new Unreadable(
+      "The book has no pledge of that number or reference. "
+        + (why ? `It is no whole receipt either: ${why}` : "“All pledges” finds parts of an article or reference."),
+      "wanted",
+    );
+  }
   return offer(found, null);
 }
 
@@ -101,6 +105,6 @@ export function clearChoices() {
 }
 
 export function setUpFinding() {
-  onSend(byId("finding"), "broker", find);
+  onSearch(byId("finding"), "broker", find);
   ledger.listen(({ sort }) => { if (sort === "read") offerOthers(); });
 }

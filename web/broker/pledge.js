@@ -1,7 +1,8 @@
 /** One pledge of the book, with its statement and its commands. What is said of it was read just then. */
 import { refusalOf } from "../shared/codes.js";
+import { inShort } from "../shared/days.js";
 import { byId, foreign, make } from "../shared/dom.js";
-import { Refused } from "../shared/faults.js";
+import { Outdated, Refused } from "../shared/faults.js";
 import { fieldsOf, foldOf, makeNotice, redrawFolds, run, sayAfter, tell, tellLater } from "../shared/forms.js";
 import { inPounds } from "../shared/money.js";
 import { numberOf } from "../shared/receipts.js";
@@ -31,10 +32,15 @@ class Desk {
 
   /**
    * `paper` is a receipt that was found live, until another pledge is looked at; `fresh` a statement that was read just
-   * before its pledge is shown; `message` what is said once it is shown; `drawn` the number whose forms are on the page.
+   * before its pledge is shown; `message` what is said of a pledge once it is shown; `drawn` the number whose forms are
+   * on the page; `wanted` the number that was asked for last; `sought` the one that the form of the search found;
+   * `lostRedemptions`, by their receipts, what was paid by redemptions whose replies were lost.
    */
   forget() {
-    Object.assign(this, { statement: null, drawn: null, paper: null, fresh: null, message: null, isDrawnByBook: false });
+    Object.assign(this, {
+      statement: null, drawn: null, paper: null, fresh: null, message: null, isDrawnByBook: false, wanted: null,
+      sought: null, lostRedemptions: new Map(),
+    });
     tell(this.notice, "");
   }
 
@@ -125,7 +131,7 @@ class Desk {
     const session = current();
     const found = this.fresh?.number === number ? this.fresh : await this.read(number);
     this.fresh = null;
-    if (session !== current()) return;
+    if (session !== current() || this.wanted !== number) return;
     const news = ledger.isNews(found, own);
     // What was typed for one pledge is not carried to another.
     if (this.drawn !== number) byId("commands").replaceChildren();
@@ -151,12 +157,13 @@ class Desk {
     if (fault instanceof Unreadable || this.statement?.number !== number) return;
     let place = title;
     try {
-      await this.look(number, { own: !(fault instanceof Refused), done: title });
+      await this.look(number, { own: !(fault instanceof Refused || fault instanceof Outdated), done: title });
     } catch {
       // The forms may be drawn anew once the book is read: the result of the act is reported above them.
       place = null;
       tell(line, "");
     }
+    if (this.wanted !== number) return;
     sayAfter({ within: byId("commands"), notice: this.notice, title: place, fields, said, fault, reader: "broker" });
   }
 
@@ -172,12 +179,12 @@ class Desk {
 
   /** Says what was to be said once the pledge is shown; else the pledge that was found has the focus. */
   sayMessage() {
-    const said = this.message;
-    this.message = null;
+    const said = this.message?.number === this.number ? this.message : null;
     if (said === null) {
       if (!byId("found").contains(document.activeElement)) byId("statement").querySelector("h2").focus();
       return;
     }
+    this.message = null;
     const details = said.fold && foldOf(byId("commands"), said.fold);
     if (details) details.open = true;
     tell(this.notice, said.message, said.tone);
@@ -201,6 +208,7 @@ export function clearPledge() {
  */
 export function goTo(number, statement = null) {
   desk.fresh = statement;
+  desk.sought = number;
   const hash = `#pledge=${number}`;
   if (location.hash === hash) return showPledge(String(number));
   if (location.hash === "#pledge") location.replace(hash);
@@ -208,9 +216,15 @@ export function goTo(number, statement = null) {
   return null;
 }
 
-/** What is said of a live receipt. On a hold, or once the pledge is over, the shop must not give out the article. */
-function liveMessage({ status, owed, held }) {
-  if (!isOpen(status)) return { message: "This receipt is live, but its pledge is over.", tone: "quiet", fold: null };
+/** Why no article is handed out for a receipt that is still live, although its pledge is over. */
+const overMessage = (closing) => (closing
+  ? `This receipt is live, but the article was sold on ${inShort(closing.day)}.`
+  : "This receipt is live, but the period is over and the article belongs to the pawnbroker. "
+    + "Don’t hand out the article.");
+
+/** What is said of a live receipt. On a hold, or once the pledge is over, the article is not handed out for it. */
+function liveMessage({ status, owed, held, closing }) {
+  if (!isOpen(status)) return { message: overMessage(closing), tone: "bad", fold: null };
   const live = `This receipt is live. ${inPounds(owed.owing)} is owed today.`;
   const barred = `${live} But the pledge is on hold: don’t hand out the article.`;
   if (held) return { message: barred, tone: "bad", fold: null };
@@ -224,14 +238,14 @@ export async function openReceipt(typed) {
   const held = await heldBy(receipt);
   if (held !== null) {
     desk.paper = receipt;
-    desk.message = liveMessage(held);
+    desk.message = { number, ...liveMessage(held) };
     await goTo(number, held);
     return "";
   }
   desk.paper = null;
   const { sentence, statement, later } = await whyDead(receipt);
   if (statement === null) throw new Unreadable(sentence, "wanted", later);
-  desk.message = { message: sentence, tone: "bad", fold: null, later };
+  desk.message = { number, message: sentence, tone: "bad", fold: null, later };
   await goTo(number, statement);
   return "";
 }
@@ -240,7 +254,16 @@ export async function openReceipt(typed) {
 export function hidePledge() {
   byId("found").hidden = true;
   byId("new-receipt").replaceChildren();
-  desk.statement = null;
+  desk.statement = desk.wanted = null;
+}
+
+/** Looks at a pledge for which another may be asked meanwhile. */
+async function lookAt(number) {
+  try {
+    await desk.look(number);
+  } catch (fault) {
+    if (desk.wanted === number) throw fault;
+  }
 }
 
 /** Shows the present state of the pledge that the address names; without a number the form that finds one. */
@@ -250,6 +273,10 @@ export async function showPledge(detail) {
     return;
   }
   const number = Number(detail);
+  desk.wanted = number;
+  // What was searched for does not stay above another pledge.
+  if (desk.sought !== number && !byId("finding").contains(document.activeElement)) byId("finding").reset();
+  if (desk.message?.number !== number) desk.message = null;
   if (desk.paper && numberOf(desk.paper) !== number) desk.paper = null;
   if (desk.statement?.number !== number) {
     byId("new-receipt").replaceChildren();
@@ -257,7 +284,10 @@ export async function showPledge(detail) {
     tell(desk.notice, "");
   }
   const line = byId("finding").querySelector(".notice");
-  const fault = await run({ notice: line, within: byId("finding"), reader: "broker", act: () => desk.look(number) });
+  const fault = await run({
+    notice: line, within: byId("finding"), reader: "broker", act: () => lookAt(number), mayBeOvertaken: true,
+  });
+  if (desk.wanted !== number) return;
   if (fault) {
     byId("found").hidden = true;
     desk.message = null;

@@ -5,11 +5,12 @@
 import { refusalOf } from "../shared/codes.js";
 import { inWords } from "../shared/days.js";
 import { make } from "../shared/dom.js";
-import { Lost, lookFirst } from "../shared/faults.js";
+import { CHANGED, Lost, lookFirst, Outdated } from "../shared/faults.js";
 import { buttons, field } from "../shared/forms.js";
 import { inPounds, readPounds } from "../shared/money.js";
 import { confirmed, NOTHING_DONE } from "../shared/questions.js";
 import { numberOf } from "../shared/receipts.js";
+import { isOpen } from "../shared/statuses.js";
 import { Unreadable } from "../shared/unreadable.js";
 import { readReceipt, whyDead } from "./papers.js";
 
@@ -32,13 +33,14 @@ async function look(desk, receipt) {
   throw new Unreadable(sentence, "receipt", later);
 }
 
-function compare({ owed, held }, paid) {
+/** Throws where the pledge can't be redeemed now for what was paid; `shown` is its statement as the page shows it. */
+function compare({ status, owed, held }, paid, shown) {
+  if (!isOpen(status)) throw refusalOf(status === "passed" ? "Passed" : "Closed");
   if (held) throw refusalOf("Held");
-  if (paid !== owed.owing) {
-    throw new Unreadable(
-      `${inPounds(owed.owing)} is owed today, and redeeming needs all of it. You typed ${inPounds(paid)}.`, "amount",
-    );
-  }
+  if (paid === owed.owing) return;
+  const wrong = `${inPounds(owed.owing)} is owed today, and redeeming requires all of it. You typed ${inPounds(paid)}.`;
+  if (owed.owing === shown.owed.owing) throw new Unreadable(wrong, "amount");
+  throw new Outdated(`${CHANGED} ${wrong}`, "amount");
 }
 
 const question = (number, paid) => confirmed({
@@ -54,30 +56,44 @@ const question = (number, paid) => confirmed({
 const done = ({ day, paid }) =>
   `Redeemed on ${inWords(day)}: ${inPounds(paid)} was paid. Hand out the article, and keep the receipt.`;
 
-/** After a lost reply the statement shows whether it was done. */
-async function settleLost(desk, fault) {
-  const after = await desk.read().catch(() => { throw fault; });
-  if (after.status === "redeemed") {
+const NOT_SO_FAR = "The reply was lost, and the pledge is not redeemed so far. ";
+const UNSEEN = "The reply was lost, so the pledge may be redeemed. ";
+const AGAIN = "Don’t hand out the article yet. Press “Redeem” again: the pledge is redeemed once, however often you "
+  + "press.";
+
+/** After a lost reply the statement tells whether it was done. A second redemption of the same receipt is refused. */
+async function settleLost(desk, receipt, paid) {
+  desk.lostRedemptions.set(receipt, paid);
+  const after = await desk.read().catch(() => null);
+  if (after?.status === "redeemed") {
     return `The reply was lost, but the pledge, read again, is redeemed. ${done(after.closing)}`;
   }
-  return {
-    sentence: "The reply was lost, and the pledge is not redeemed so far. "
-      + "Look at it again in a minute before you redeem it again.",
-    tone: "bad",
-  };
+  return { sentence: (after ? NOT_SO_FAR : UNSEEN) + AGAIN, tone: "bad" };
+}
+
+/** What is said where an earlier press, whose reply was lost, has redeemed the pledge by this receipt; or null. */
+async function doneBefore(desk, receipt) {
+  const paid = desk.lostRedemptions.get(receipt);
+  if (paid === undefined) return null;
+  const { status, closing } = await lookFirst(desk.read());
+  if (status !== "redeemed" || closing.paid !== paid) return null;
+  desk.lostRedemptions.delete(receipt);
+  return `The pledge is redeemed, by the press before, whose reply was lost. ${done(closing)}`;
 }
 
 async function redeem(fields, statement, desk) {
   const receipt = receiptOf(fields.receipt, statement.number);
+  const before = await doneBefore(desk, receipt);
+  if (before) return before;
   const held = await look(desk, receipt);
   const paid = readPounds(fields.amount);
-  compare(held, paid);
+  compare(held, paid, statement);
   if (!await question(statement.number, paid)) return NOTHING_DONE;
   try {
     const { said } = await desk.redeem(receipt, paid);
     return done({ day: said.redeemed, paid: said.paid });
   } catch (fault) {
-    if (fault instanceof Lost) return settleLost(desk, fault);
+    if (fault instanceof Lost) return settleLost(desk, receipt, paid);
     throw fault;
   }
 }

@@ -4,12 +4,11 @@
  */
 import { countDays, daysBetween, inWords, sixMonthsAfter, today } from "../shared/days.js";
 import { make } from "../shared/dom.js";
-import { Lost, lookFirst, NotReached } from "../shared/faults.js";
+import { CHANGED, Lost, lookFirst, NotReached, Outdated } from "../shared/faults.js";
 import { buttons, field } from "../shared/forms.js";
 import { inPounds } from "../shared/money.js";
 import { recordEntry } from "../shared/payments.js";
 import { confirmed, NOTHING_DONE } from "../shared/questions.js";
-import { Unreadable } from "../shared/unreadable.js";
 import { checkEnd, endLines } from "./extending.js";
 
 /** The question about both, with what is owed just now. */
@@ -53,8 +52,8 @@ async function showPaper(desk) {
 async function renew({ until }, shown, desk) {
   const now = await lookFirst(desk.read());
   checkEnd(until, shown, now);
-  if (now.owed.owing !== shown.owed.owing) throw new Unreadable(
-    `${inPounds(now.owed.owing)} is owed now, and not what was shown. Find the pledge again, and look.`,
+  if (now.owed.owing !== shown.owed.owing) throw new Outdated(
+    `${CHANGED} ${inPounds(now.owed.owing)} is owed now. Look at the pledge, and renew it again.`,
   );
   if (!await question(now, until)) return NOTHING_DONE;
   const stopped = await receive(now, desk);

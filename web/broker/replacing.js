@@ -1,7 +1,9 @@
 /** A receipt printed again, and a lost one replaced by a new one. */
+import { refusalOf } from "../shared/codes.js";
 import { make } from "../shared/dom.js";
 import { Lost } from "../shared/faults.js";
 import { buttons } from "../shared/forms.js";
+import { SMALL } from "../shared/period.js";
 import { confirmed, NOTHING_DONE } from "../shared/questions.js";
 import { ledger } from "./ledger.js";
 import { current } from "./session.js";
@@ -20,7 +22,7 @@ async function printAgain(desk) {
   const receipt = await desk.newestReceipt();
   if (receipt === null) return { sentence: "No receipt of this pledge is live, so none is printed.", tone: "bad" };
   await desk.showReceipt(receipt);
-  return `The receipt is below, to be printed. It was checked just now: it is live. ${desk.toldOfReceipts()}`;
+  return `The receipt is below, ready to print. It was looked at just now: it is live. ${desk.toldOfReceipts()}`;
 }
 
 export const printing = (statement, desk) => ({
@@ -82,8 +84,9 @@ async function madeBefore(desk) {
   return `${MADE_ALREADY}It is below. ${desk.toldOfReceipts()}`;
 }
 
-async function declare({ paper }, desk) {
+async function declare({ paper }, { credit }, desk) {
   const { number } = desk;
+  if (paper === "written" && credit > SMALL) throw refusalOf("NotSmall");
   const made = await madeBefore(desk);
   if (made) return made;
   const before = paper === "sworn"
@@ -125,5 +128,5 @@ export const replacement = (statement, desk) => ({
     make("fieldset", {}, make("legend", {}, "Paper"), choice("sworn", "A sworn declaration", true),
       choice("written", "A written statement, for credit up to £75.00", false)),
     buttons(make("button", { className: "grave" }, "Make a new receipt"))],
-  act: (fields) => declare(fields, desk),
+  act: (fields) => declare(fields, statement, desk),
 });

@@ -1,4 +1,5 @@
 /** The sale of an article whose period is over. */
+import { refusalOf } from "../shared/codes.js";
 import { inWords } from "../shared/days.js";
 import { make } from "../shared/dom.js";
 import { Lost, lookFirst } from "../shared/faults.js";
@@ -41,9 +42,13 @@ async function settleLost(desk, fault) {
   throw fault;
 }
 
+/** What the service answers to a sale where the pledge was closed, or has passed. */
+const REFUSED = { passed: "Passed", redeemed: "Closed", sold: "Closed" };
+
 async function sell({ amount }, desk) {
   const net = readPounds(amount);
-  const { owed } = await lookFirst(desk.read());
+  const { status, owed } = await lookFirst(desk.read());
+  if (status !== "realisable") throw refusalOf(REFUSED[status] ?? "NotRealisable");
   const yes = await confirmed({
     title: "Record the sale?",
     lines: [

@@ -1,21 +1,30 @@
 /** The open book: its number and its key, kept for this tab alone. */
 import { ask } from "../shared/api.js";
-import { isBook } from "../shared/receipts.js";
+import { isBook, plain } from "../shared/receipts.js";
 import { Unreadable } from "../shared/unreadable.js";
 
 const KEPT = "broker";
-const KEY = /^[\x21-\x7e]{32,47}$/;
+const DIGITS = 32;
+const NO_DIGIT = /[^0-9a-f]/i;
 let session = JSON.parse(sessionStorage.getItem(KEPT) ?? "null");
 
 /** The session, or null where no book is open. */
 export const current = () => session;
 
+/** The digits of a key in any of its forms, also with the blanks and dashes of a word processor. */
+function readKey(typed) {
+  const digits = plain(typed).replace(/[\s-]/g, "");
+  if (digits.length === DIGITS && !NO_DIGIT.test(digits)) return digits;
+  throw new Unreadable(
+    "That is no key. A key is 32 digits from 0 to 9 and a to f, with or without hyphens between them. "
+      + (NO_DIGIT.test(digits) ? "A key has no other letters." : `You typed ${digits.length} digits.`),
+    "key",
+  );
+}
+
 export function begin({ book, key }) {
   if (!isBook(book.trim())) throw new Unreadable("The book is a number from 1 to 999,999,999.", "book");
-  if (!KEY.test(key.trim())) throw new Unreadable(
-    "That is no key. A key is 32 digits from 0 to 9 and a to f, in groups of 8, 4, 4, 4 and 12.", "key",
-  );
-  session = { book: book.trim(), key: key.trim() };
+  session = { book: book.trim(), key: readKey(key) };
 }
 
 /** Keeps the session for the tab, once its key was found to be right. */

@@ -11,7 +11,7 @@ export async function tellStanding(number, reference) {
   const statement = await statementOf(number);
   const link = make("a", { href: `#pledge=${number}`, className: "pledge-link" }, `Open pledge ${number}`);
   byId("taken-receipt").replaceChildren(make("section", { className: "card screen" },
-    make("h2", {}, "This reference is used already"),
+    make("h2", {}, "This reference is in use already"),
     make(
       "p", {}, foreign(reference), ` is pledge ${number}: `, foreign(statement.article),
       `, taken on ${inWords(statement.taken)}.`,

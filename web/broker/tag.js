@@ -31,6 +31,6 @@ export const tagging = (statement, desk) => ({
   act: async () => {
     byId("new-receipt").replaceChildren(tagOf(statement, desk.known));
     byId("new-receipt").scrollIntoView();
-    return "The tag is below, to be printed.";
+    return "The tag is below, ready to print.";
   },
 });

@@ -4,7 +4,7 @@
  */
 import { CODES, isRefusal, refusalOf } from "../shared/codes.js";
 import { inShort, inWords, sixMonthsAfter, today } from "../shared/days.js";
-import { byId, foreign } from "../shared/dom.js";
+import { byId, foreign, make } from "../shared/dom.js";
 import { Lost, lookFirst } from "../shared/faults.js";
 import { onSend, tell } from "../shared/forms.js";
 import { inPounds, MOST, readPounds } from "../shared/money.js";
@@ -28,9 +28,14 @@ const place = () => byId("taken-receipt");
 
 /** An opening whose reply was lost, and the number of the last pledge before it. Sent again it is taken once. */
 let lost = null;
-/** Whether the form says that the book has no terms; and the line in which it says so. */
+/** Whether the form was refused because the book has no terms; and the line in which that is said. */
 let wantsTerms = false;
 let notice;
+
+const TERMS_FIRST = "This book has no terms yet, and a pledge keeps the terms under which it is taken. ";
+
+/** Whether the book has no terms, as far as the page has read it. */
+const hasNoTerms = () => ledger.head?.terms.length === 0;
 
 export function clearTaking() {
   lost = null;
@@ -134,6 +139,14 @@ async function send(opening, again) {
   }
 }
 
+/** Throws where the book has no terms, also when its beginning is read anew: another till may have put some. */
+async function refuseWithoutTerms() {
+  if (hasNoTerms()) await lookFirst(ledger.readHead());
+  warnOfTerms();
+  wantsTerms = hasNoTerms();
+  if (wantsTerms) throw refusalOf("NoTerms");
+}
+
 async function take(fields) {
   place().replaceChildren();
   wantsTerms = false;
@@ -141,6 +154,7 @@ async function take(fields) {
   const opening = openingOf(fields);
   refuseAmount(opening);
   const again = lost && isEqual(lost.opening, opening) ? lost : null;
+  await refuseWithoutTerms();
   await refuseStanding(opening.ref, again?.known);
   if (!again && !await agreedTo(opening)) return NOTHING_DONE;
   let sent;
@@ -167,7 +181,16 @@ function offerReference() {
   byId("next-reference").value = next ?? "";
 }
 
-/** Says while the clerk types that a pledge has the reference already. */
+/** Says before the form is filled that the book has no terms. */
+function warnOfTerms() {
+  const line = byId("terms-first");
+  if (line.textContent === "" && hasNoTerms()) {
+    tell(line, TERMS_FIRST, "bad");
+    line.append(make("a", { href: "#terms" }, "Add terms first"));
+  } else if (!hasNoTerms()) tell(line, "");
+}
+
+/** Says while typing that a reference stands. */
 function warnStanding() {
   const { value } = form().elements.ref;
   const [standing] = lost && folded(lost.opening.ref) === folded(value) ? [] : ledger.withReference(value);
@@ -191,6 +214,7 @@ export function showTaking() {
     wantsTerms = false;
     tell(notice, "");
   }
+  warnOfTerms();
   offerReference();
   warnStanding();
 }

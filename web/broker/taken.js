@@ -51,7 +51,7 @@ export async function settle({ opening, said, known, before }) {
     await tellStanding(said.number, opening.ref);
   }
   const link = make("a", { href: `#pledge=${said.number}`, className: "pledge-link" }, `Pledge ${said.number}`);
-  const stands = make("p", { className: "taken screen" }, link, " is taken: ", foreign(opening.article), ".");
+  const stands = make("p", { className: "taken screen" }, link, " is in the book: ", foreign(opening.article), ".");
   byId("taken-receipt").replaceChildren(stands);
   const terms = await termsTaken(said.number, before);
   ledger.addTaken({ opening, statement: held, receipt: said.receipt, version: terms.version });

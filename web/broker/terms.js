@@ -59,7 +59,7 @@ function draw() {
   );
   const none = make("p", { className: "empty" }, "The book has no terms yet. A pledge can be taken once it has.");
   byId("terms-list").replaceChildren(
-    make("section", { className: "card" }, make("h2", {}, "Terms of this book"), versions.length > 0 ? table : none)
+    make("section", { className: "card" }, make("h2", {}, "The book’s terms"), versions.length > 0 ? table : none)
   );
   byId("next-version").textContent = `Version ${versions.length + 1}`;
 }
@@ -103,7 +103,7 @@ export function setUpTerms() {
     if (versions === null) await readAnew();
     const version = await put(terms);
     await readAnew();
-    return `Version ${version} is added. It applies to pledges that are taken from now on.`;
+    return `Version ${version} is in the book. It applies to pledges that are taken from now on.`;
   });
 }
 

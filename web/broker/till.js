@@ -80,7 +80,7 @@ function sectionOf([name, { title, way, empty, isParted }], { lists, sums }) {
 
 /** What was received in two parts, as lines under it. */
 const partsOf = (name, { sums, charges }) => [
-  ["of it charges", inPounds(charges[name])], ["of it what was lent", inPounds(sums[name] - charges[name])],
+  ["of which charges", inPounds(charges[name])], ["of which loans", inPounds(sums[name] - charges[name])],
 ];
 
 /** The float: what the drawer had when the day began. This machine keeps it, for this till and this day alone. */
@@ -133,7 +133,7 @@ function sumsCard(till, day) {
     ["Sold, net", inPounds(sums.sold)],
     ["Received", inPounds(till.in)],
   ]);
-  for (const row of told.children) if (row.firstChild.textContent.startsWith("of it ")) row.classList.add("part");
+  for (const row of told.children) if (row.firstChild.textContent.startsWith("of which ")) row.classList.add("part");
   const { till: name } = shop();
   const title = make(
     "h2", {}, day === today() ? "Sums of today" : `Sums of ${inWords(day)}`,

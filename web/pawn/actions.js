@@ -10,7 +10,7 @@ import { confirmed, NOTHING_DONE } from "../shared/questions.js";
 import { reckoningForm } from "../shared/reckoning.js";
 import { isOpen, isToCome } from "../shared/statuses.js";
 import { Unreadable } from "../shared/unreadable.js";
-import { WINDOWS, windowInWords } from "../shared/windows.js";
+import { clock, endOf, WINDOWS, windowInWords } from "../shared/windows.js";
 
 /** A form in a fold, which acts on the card when it is sent. */
 const foldOf = (card, title, parts, act) =>
@@ -36,9 +36,22 @@ function agreedToLate({ statement, known }, day) {
   });
 }
 
+/** A time of today that is over by the clock of this device is asked about: the shop's clock may be another. */
+function agreedToOver(day, window) {
+  const now = new Date();
+  const minutes = now.getHours() * 60 + now.getMinutes();
+  if (day !== today() || endOf(window) > minutes) return true;
+  return confirmed({
+    title: "That time is over",
+    lines: [`It is ${clock(minutes)} by the clock of this device, and you ask for today, ${windowInWords(window)}.`],
+    yes: "Ask for this time all the same", no: "Choose another time",
+  });
+}
+
 async function askForVisit(card, { day, window }) {
   if (!day) throw new Unreadable("Choose a day.", "day");
   if (day < today()) throw new Unreadable("That day is over. Choose a later one.", "day");
+  if (!await agreedToOver(day, Number(window))) return NOT_NOW;
   if (!await agreedToLate(card, day)) return NOT_NOW;
   const { said } = await card.ask("/ask", { day, window: Number(window) }, true);
   const when = `${inWords(said.day)}, ${windowInWords(said.window)}`;
@@ -56,7 +69,7 @@ function visitFold(card) {
   );
   const standing = stands(card.statement);
   const lead = standing
-    ? "A new time takes the place of the present one."
+    ? "A new time replaces the one that you asked for."
     : "Say when you would like to fetch it. The shop confirms it or not.";
   const parts = [
     make("p", { className: "lead" }, lead), field("Day", day), field("Time", times),
@@ -131,7 +144,7 @@ async function redeem(card) {
 function redeemFold(card) {
   const { owed, held } = card.statement;
   const lead = held ? "The pawnbroker holds this pledge, so it can’t be redeemed just now. Ask at the shop why."
-    : `Redeeming needs all that is owed today, ${inPounds(owed.owing)}, received by the pawnbroker. `
+    : `Redeeming requires all that is owed today, ${inPounds(owed.owing)}, received by the pawnbroker. `
       + `You are asked once more before it is done.`;
   const button = make("button", { className: "grave", disabled: held }, `Redeem for ${inPounds(owed.owing)}`);
   return foldOf(card, "Redeem", [make("p", { className: "lead" }, lead), buttons(button)], () => redeem(card));

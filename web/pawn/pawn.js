@@ -6,12 +6,10 @@ import { onSend, tell } from "../shared/forms.js";
 import { inPounds } from "../shared/money.js";
 import { startPage } from "../shared/start.js";
 import { Card } from "./card.js";
-import { keep, kept, ofTyped, takeFragment } from "./receipts.js";
+import { CUT, keep, kept, ofTyped, takeFragment } from "./receipts.js";
 import { inTurn } from "./turns.js";
 
 const TICK = 20_000;
-const CUT = "That link is not whole, so it opens nothing: it should have the number of the shop’s book and the "
-  + "receipt. Scan the square code again, or type the receipt from the paper.";
 
 const cards = [];
 let day = today();

@@ -1,10 +1,27 @@
 /**
  * The receipts that this tab holds: typed, pasted, or carried by a link's fragment, which reaches no server and no log.
  */
-import { bookOf, isBook, ofFragment, receiptsTyped } from "../shared/receipts.js";
+import { bookOf, isBook, linesTyped, ofFragment, receiptsTyped, whyNotWhole } from "../shared/receipts.js";
 import { Unreadable } from "../shared/unreadable.js";
 
 const KEPT = "receipts";
+
+export const CUT = "That link is not whole, so it opens nothing: it should have the number of the shop’s book and the "
+  + "receipt. Scan the square code again, or type the receipt from the paper.";
+const FORM = "It is the pledge’s number, a hyphen, and 32 digits from 0 to 9 and a to f: copy it from the paper.";
+const LINK = /#\S*book=/i;
+
+/** Says what is wrong where a text has no receipt at all, or a line that was meant as one is not whole. */
+function refuseOthers(text, found) {
+  if (found.length === 0) throw new Unreadable(
+    LINK.test(text) ? CUT : `That is no receipt. ${whyNotWhole(text) || FORM}`, "receipts",
+  );
+  const other = linesTyped(text).find((line) => receiptsTyped(line).length === 0 && whyNotWhole(line));
+  if (other) throw new Unreadable(
+    `This is no receipt: ${other.trim()}. ${whyNotWhole(other)} Nothing was shown: correct it, or leave it out.`,
+    "receipts",
+  );
+}
 
 /**
  * Takes the receipts out of the address, so that no bookmark and no shared link has them. The browser's history may
@@ -23,11 +40,7 @@ export function takeFragment() {
  */
 export function ofTyped({ book, receipts }) {
   const found = receiptsTyped(receipts).map((one) => ({ ...one, book: one.book ?? book.trim() }));
-  if (found.length === 0) throw new Unreadable(
-    "That is no receipt. It is the pledge’s number, a hyphen, and 32 digits from 0 to 9 and a to f: "
-      + "copy it from the paper.",
-    "receipts",
-  );
+  refuseOthers(receipts, found);
   if (found.some((one) => one.book === "")) throw new Unreadable(
     "Type the number of the shop’s book too: it is printed on the paper after “book”.", "book",
   );

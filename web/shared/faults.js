@@ -16,7 +16,20 @@ export class NotReached extends Error {}
 /** The request may have reached the service, but no reply came back. */
 export class Lost extends Error {}
 
-/** The result of a look before a command is sent. If the look does not reach the service, the command was not sent. */
+/**
+ * The pledge is not as it was shown, so the command was not sent. The message says what changed, and `field` is the
+ * name of what is to be typed anew, or null.
+ */
+export class Outdated extends Error {
+  constructor(message, field = null) {
+    super(message);
+    this.field = field;
+  }
+}
+
+export const CHANGED = "Since this pledge was shown here, it has changed.";
+
+/** What a look gives before a command is sent. Where the look reaches nobody, the command was not sent. */
 export const lookFirst = (look) => look.catch((fault) => {
   throw fault instanceof NotReached ? new NotReached("command") : fault;
 });
@@ -27,7 +40,7 @@ const UNSEEN = "The service can’t be reached just now. Try again in a minute."
 /** A fault as a sentence for the reader of a page, "pawnor" or "broker". */
 export function tellFault(fault, reader) {
   if (fault instanceof Refused) return sentence(fault, reader);
-  if (fault instanceof Unreadable) return fault.message;
+  if (fault instanceof Unreadable || fault instanceof Outdated) return fault.message;
   if (fault instanceof NotReached) return fault.message === "look"
     ? UNSEEN
     : `${UNSEEN} What you asked for was not sent, so it was not done.`;
@@ -47,5 +60,5 @@ const FIELDS = {
 /** The name of the field that a fault speaks of, or null. */
 export function fieldOf(fault) {
   if (fault instanceof Refused) return FIELDS[fault.code] ?? null;
-  return fault instanceof Unreadable ? fault.field : null;
+  return fault instanceof Unreadable || fault instanceof Outdated ? fault.field : null;
 }

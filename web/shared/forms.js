@@ -44,10 +44,14 @@ let explained = () => null;
 /** Has a wait explained: the function returns a sentence, or null if it has none. */
 export const explainWaiting = (explain) => { explained = explain; };
 
-/** Says what the page waits for, and after a while that it still does. Returns the function that ends it. */
-function tellWaiting(notice) {
+/** By its notice: the act that began last. Only that one says in it what came of it. */
+const newest = new WeakMap();
+
+/** Says what the page waits for, and after a while that it still does. Gives what ends it. */
+function tellWaiting(notice, mine) {
   let begun = Date.now();
   const say = () => {
+    if (newest.get(notice) !== mine) return;
     if (document.querySelector("dialog")) begun = Date.now();
     const isLong = Date.now() - begun >= LONG;
     const text = explained() ?? (isLong ? "The service has not answered yet. Waiting a little longer…" : "One moment…");
@@ -65,28 +69,34 @@ export async function tellLater(notice, { message, later }) {
 }
 
 /**
- * Runs an act with its buttons disabled, and reports the result in the notice. The act returns the sentence of its
- * success, or a sentence with its tone. Returns the fault, or null.
+ * Runs an act with its buttons out of use, unless it is one that another may overtake, and says in the notice what came
+ * of it, unless another act began there meanwhile. The act gives the sentence of its success, or a sentence with its
+ * tone. Gives the fault, or null.
  */
-export async function run({ notice, within, reader, act }) {
-  const buttons = [...within.querySelectorAll("button")].filter((button) => !button.disabled);
+export async function run({ notice, within, reader, act, mayBeOvertaken = false }) {
+  const buttons = mayBeOvertaken ? [] : [...within.querySelectorAll("button")].filter((button) => !button.disabled);
   buttons.forEach((button) => { button.disabled = true; });
   clearMarks(within);
-  const endWaiting = tellWaiting(notice);
+  const mine = {};
+  newest.set(notice, mine);
+  const endWaiting = tellWaiting(notice, mine);
+  let said = "";
   let fault = null;
-  let field = null;
   try {
-    const said = await act();
-    tell(notice, said?.sentence ?? said ?? "", said?.tone ?? "good");
+    said = await act();
   } catch (found) {
     fault = found;
-    tell(notice, tellFault(fault, reader), "bad");
-    field = markField(within, notice, fieldOf(fault));
-    tellLater(notice, fault);
   } finally {
     endWaiting();
     buttons.forEach((button) => { button.disabled = false; });
   }
+  if (newest.get(notice) !== mine) return fault;
+  let field = null;
+  if (fault) {
+    tell(notice, tellFault(fault, reader), "bad");
+    field = markField(within, notice, fieldOf(fault));
+    tellLater(notice, fault);
+  } else tell(notice, said?.sentence ?? said ?? "", said?.tone ?? "good");
   const target = field?.isConnected ? field : notice;
   if (notice.textContent && target.isConnected) target.focus({ preventScroll: false });
   return fault;
@@ -102,6 +112,28 @@ export function onSend(form, reader, act) {
     event.preventDefault();
     const fields = fieldsOf(form);
     run({ notice, within: form, reader, act: () => act(fields, event.submitter) });
+  });
+  return notice;
+}
+
+/**
+ * The same for an act that only looks for something: the form stays in use, and what was sent last meanwhile is looked
+ * for once the act under way is over.
+ */
+export function onSearch(form, reader, act) {
+  const notice = form.querySelector(".notice") ?? form.appendChild(makeNotice());
+  let [isUnderWay, next] = [false, null];
+  form.addEventListener("submit", async (event) => {
+    event.preventDefault();
+    next = fieldsOf(form);
+    if (isUnderWay) return;
+    isUnderWay = true;
+    while (next !== null) {
+      const fields = next;
+      next = null;
+      await run({ notice, within: form, reader, act: () => act(fields), mayBeOvertaken: true });
+    }
+    isUnderWay = false;
   });
   return notice;
 }

@@ -119,7 +119,8 @@ function tellLost({ now, after, entry }) {
     };
   }
   if (after.entries.length > now.entries.length) return {
-    sentence: "The reply was lost, and somebody else made an entry. Look at the entries before you do more.",
+    sentence: "The reply was lost, and the pledge has an entry of somebody else. "
+      + "Look at the entries before you do more.",
     tone: "bad",
   };
   return {

@@ -4,7 +4,7 @@
 import { plusDays, sixMonthsAfter } from "./days.js";
 
 /** Up to this credit in pence, an article whose period of six months is over is the broker's. */
-const SMALL = 7500;
+export const SMALL = 7500;
 const GRACE_DAYS = 5;
 
 /** The last day of grace, where the five days apply. */

@@ -13,6 +13,11 @@ const LONGEST = { shop: 60, rate: 120, ref: 40 };
 /** A longer link makes a code that a telephone reads badly, so what it says beside the receipt is left out. */
 const LONGEST_LINK = 280;
 
+/** What was meant as a receipt, perhaps with too few digits, too many, or other letters. A reference is shorter. */
+const MEANT = /^[^0-9a-z]*[1-9]\d{0,8}\s*-\s*((?:[0-9a-z][\s-]*){20,})$/i;
+const NO_DIGIT = /[g-z]/i;
+const DIGITS = 32;
+
 const GROUPS = /^(.{8})(.{4})(.{4})(.{4})(.{12})$/;
 
 /** A receipt as the service writes it. */
@@ -20,11 +25,22 @@ function written(number, digits) {
   return `${number}-${digits.toLowerCase().replace(/[^0-9a-f]/g, "").replace(GROUPS, "$1-$2-$3-$4-$5")}`;
 }
 
-const plain = (text) => text.normalize("NFKC").replace(UNSEEN, "").replace(DASHES, "-");
+/** A text without marks that are not seen, and with hyphens in the place of dashes. */
+export const plain = (text) => text.normalize("NFKC").replace(UNSEEN, "").replace(DASHES, "-");
 
 /** The receipts that a text contains, in the service's own spelling. */
 export function receiptsIn(text) {
   return [...plain(text).matchAll(RECEIPT)].map(([, number, digits]) => written(number, digits));
+}
+
+/** What is wrong with a text that was meant as a receipt, as a sentence; or an empty text. */
+export function whyNotWhole(text) {
+  const [, meant] = MEANT.exec(plain(text).trim()) ?? [];
+  if (meant === undefined) return "";
+  const [letter] = NO_DIGIT.exec(meant) ?? [];
+  if (letter) return `It has the letter “${letter}”, and a receipt has only the digits 0 to 9 and a to f.`;
+  const count = meant.replace(/[\s-]/g, "").length;
+  return count === DIGITS ? "" : `There are ${count} digits after the number, and a receipt has ${DIGITS}.`;
 }
 
 /** The number of a receipt's pledge. */
@@ -79,9 +95,12 @@ const LINK = /^\S*#\S*receipt=\S+$/i;
 /** Whether a text is a link or a receipt, and not the name of anything else. */
 export const isReceiptLike = (text) => LINK.test(text.trim()) || receiptsIn(text).length > 0;
 
+/** The parts of a typed text that can have a receipt each. */
+export const linesTyped = (text) => text.split(/[\n,;]+/);
+
 /** The receipts of a typed text: of links in it, with their books, or of its lines, whose book is not told. */
 export function receiptsTyped(text) {
-  return text.split(/[\n,;]+/).flatMap((line) => {
+  return linesTyped(text).flatMap((line) => {
     const links = line.split(/\s+/).filter((word) => LINK.test(word));
     if (links.length > 0) return links.flatMap((link) => ofFragment(link.slice(link.indexOf("#"))));
     return receiptsIn(line).map((receipt) => ({ book: null, receipt, ...UNTOLD }));

@@ -6,11 +6,11 @@ import { inPounds } from "./money.js";
 
 /** By code: the name, why, what to do next, and the same for the pawnor where it differs. */
 export const REFUSALS = {
-  102: { name: "RateTooHigh", why: "The rate is above two per cent a day.", next: "Enter a lower rate." },
+  102: { name: "RateTooHigh", why: "The rate is above two per cent a day.", next: "Choose a lower rate." },
   103: {
     name: "KeepTooHigh",
     why: "A charge for safe keeping is above ten pence a day.",
-    next: "Enter a lower charge.",
+    next: "Choose a lower charge.",
   },
   104: {
     name: "KeepingRate",
@@ -20,7 +20,7 @@ export const REFUSALS = {
   201: {
     name: "BadAmount",
     why: "That amount can’t be taken: it is at least a penny and at most a million pounds.",
-    next: "Enter another amount.",
+    next: "Type another amount.",
   },
   202: {
     name: "FixedSum",
@@ -32,7 +32,7 @@ export const REFUSALS = {
     why: "Drawing that much would pass the limit of the account.",
     next: "Draw less, or record a repayment first.",
   },
-  204: { name: "OverOwing", why: "That is more than is owed.", next: "Enter what is owed, or less." },
+  204: { name: "OverOwing", why: "That is more than is owed.", next: "Type what is owed, or less." },
   205: {
     name: "EarlierDay",
     why: "The service’s clock is before the day of this pledge’s last change.",
@@ -86,10 +86,14 @@ export const REFUSALS = {
     why: "This pledge has had 100 new receipts and takes no more.",
     next: "Ask the operator of the service.",
   },
-  310: { name: "WrongAmount", why: "That is not all that is owed today.", next: "Redeeming needs the whole amount." },
+  310: {
+    name: "WrongAmount",
+    why: "That is not all that is owed today.",
+    next: "Redeeming requires the whole amount.",
+  },
   311: {
     name: "NoBooking",
-    why: "The pledge has no booking to which this applies.",
+    why: "There is no booking that can be decided on or cancelled.",
     next: "Show the pledge again.",
     pawnor: "There is no visit to cancel. Ask for one first.",
   },
@@ -108,7 +112,7 @@ export const REFUSALS = {
     why: "The period is over, so nothing more is drawn and the end is not moved.",
     next: "A repayment can still be recorded.",
   },
-  315: { name: "NotLater", why: "The new end is before the present one.", next: "Choose a later day." },
+  315: { name: "NotLater", why: "The new end is before the present end.", next: "Choose a later day." },
   316: {
     name: "ExtensionsFull",
     why: "The period was extended 99 times and can’t be again.",
@@ -136,7 +140,7 @@ export const REFUSALS = {
     why: "A book of that number exists already, with another key, name or capacity.",
     next: "Choose another number.",
   },
-  405: { name: "NoTerms", why: "The book has no terms yet.", next: "Put terms first, under “Terms”." },
+  405: { name: "NoTerms", why: "The book has no terms yet.", next: "Add terms first, under “Terms”." },
   406: {
     name: "TermsSeq",
     why: "Other terms were put under that version in the meantime, or it is not the next one.",
@@ -207,10 +211,10 @@ export const REFUSALS = {
   },
   605: {
     name: "NotReplayable",
-    why: "The rows of the file can’t be those of any book.",
+    why: "No book can have the rows of this file.",
     next: "Use a file as it was exported.",
   },
-  606: { name: "TooMany", why: "The file has more than a book may have.", next: "Divide it over several books." },
+  606: { name: "TooMany", why: "The file has more than a book may hold.", next: "Divide it over several books." },
   607: { name: "Read", why: "The file could not be read to its end.", next: "Import it again." },
   701: { name: "BadHead", why: "The request was not one that the service understands.", next: "Load this page again." },
   703: {
@@ -238,15 +242,19 @@ export const REFUSALS = {
   709: {
     name: "BadKey",
     why: "That is no key.",
-    next: "A key is 32 digits from 0 to 9 and a to f, in groups of 8, 4, 4, 4 and 12.",
+    next: "A key is 32 digits from 0 to 9 and a to f, plain or with hyphens between groups of 8, 4, 4, 4 and 12.",
   },
   710: {
     name: "BadReceipt",
     why: "That is no receipt.",
-    next: "It looks like 3-da41597c-5157-488d-7724-e03fb8d84a37: copy it as it is printed on the paper.",
+    next: "It looks like 3-da41597c-5157-488d-7724-e03fb8d84a37: copy it exactly as it is printed on the paper.",
   },
   711: { name: "TooManyReceipts", why: "Too many receipts were presented at once.", next: "Present one." },
-  712: { name: "NoReceipt", why: "No receipt was presented.", next: "Type the receipt as it is printed on the paper." },
+  712: {
+    name: "NoReceipt",
+    why: "No receipt was presented.",
+    next: "Type the receipt exactly as it is printed on the paper.",
+  },
 };
 
 /** What a refusal's total or row adds. */

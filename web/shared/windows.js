@@ -5,11 +5,15 @@
 const FIRST = 9 * 60;
 const LENGTH = 30;
 
-const clock = (minutes) =>
+/** A minute of a day as a clock shows it. */
+export const clock = (minutes) =>
   `${String(Math.floor(minutes / 60)).padStart(2, "0")}:${String(minutes % 60).padStart(2, "0")}`;
 
 /** 10:30 to 11:00, for window 3. */
 export const windowInWords = (window) => `${clock(FIRST + window * LENGTH)} to ${clock(FIRST + (window + 1) * LENGTH)}`;
+
+/** The minute of the day at which a window ends. */
+export const endOf = (window) => FIRST + (window + 1) * LENGTH;
 
 /** All windows in order. */
 export const WINDOWS = Array.from({ length: 16 }, (_, window) => window);

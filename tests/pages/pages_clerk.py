@@ -1,0 +1,457 @@
+"""What misled a clerk in a morning at the counter, and a pawnor on a telephone, each as it was found; in a real
+browser, in front of the program."""
+import datetime
+
+from tests.library.checks import expect
+from tests.library.dates import six_months_after, today
+from tests.library.keys import BROKER
+from tests.library.pages.browser import Pages
+from tests.library.pages.steps import (
+    a_pledge_at_the_counter, a_pledge_by_its_receipt, ago, book_text, browser, command, fill_book, find, in_short,
+    in_words, main, make_book, no_faults, open_book, part, secret_of, the_book_is_read, unfold,
+)
+from tests.library.waiting import wait_for
+
+TERMS_FIRST = "This book has no terms yet, and a pledge keeps the terms under which it is taken."
+
+
+def terms_are_asked_for_before_the_form_is_filled():
+    """And a form that was filled all the same is not asked about; the line goes once there are terms."""
+    with Pages() as pages:
+        make_book(pages, terms=False)
+        open_book(pages)
+        the_book_is_read()
+        part("take")
+        browser.says(TERMS_FIRST, "#take")
+        browser.shoot("broker-terms-first")
+        browser.fill("#taking", article="Gold ring", ref="A1", amount="100")
+        browser.press("#taking button", "Take the pledge")
+        browser.says("The book has no terms yet.", "#taking")
+        expect("no question", browser.run("return document.querySelector('dialog')"), None)
+        browser.press("#terms-first a", "Add terms first")
+        browser.fill("#new-terms", rate="0.2667")
+        browser.press("#new-terms button", "Add these terms")
+        browser.says("Version 1", "#new-terms .notice")
+        part("take")
+        browser.says("Article", "#take")
+        expect("no word of terms", TERMS_FIRST in browser.text("#take"), False)
+        browser.press("#taking button", "Take the pledge")
+        browser.says("Take this pledge for £100.00?", "dialog")
+        browser.press("dialog button", "Not now")
+        no_faults()
+
+
+def terms_that_another_till_put_are_seen():
+    with Pages() as pages:
+        make_book(pages, terms=False)
+        open_book(pages)
+        the_book_is_read()
+        part("take")
+        browser.says(TERMS_FIRST, "#take")
+        put = {"keep_after": 0, "keep_before": 0, "rate": 2667, "version": 1}
+        expect("terms", pages.session.broker("POST", "/books/7/terms", put), (200, {"version": 1}))
+        browser.fill("#taking", article="Gold ring", ref="A1", amount="100")
+        browser.press("#taking button", "Take the pledge")
+        browser.says("Take this pledge for £100.00?", "dialog")
+        browser.press("dialog button", "Take it for £100.00")
+        browser.says("Taken as pledge 1.", "#taking")
+        expect("no word of terms", TERMS_FIRST in browser.text("#take"), False)
+        no_faults()
+
+
+def a_key_is_read_in_each_of_its_forms():
+    with Pages() as pages:
+        make_book(pages)
+        for typed in (
+            BROKER.replace("-", ""), BROKER.replace("-", " "), BROKER.replace("-", "\u2013"), "{" + BROKER + "}",
+            "urn:uuid:" + BROKER, f" {BROKER.upper()} ",
+        ):
+            open_book(pages, key=typed)
+            browser.says("Coming", "#sheet")
+        for typed, says in (
+            ("2" * 31, "You typed 31 digits."), ("2" * 33, "You typed 33 digits."),
+            ("2" * 31 + "g", "A key has no other letters."),
+        ):
+            open_book(pages, key=typed)
+            browser.says(
+                "That is no key. A key is 32 digits from 0 to 9 and a to f, with or without hyphens between them. "
+                + says, "#open",
+            )
+            expect("the field", browser.run("return document.activeElement.name"), "key")
+        no_faults()
+
+
+def a_sum_that_is_no_longer_owed_has_the_pledge_shown_anew():
+    """The pawnor recorded a payment since the pledge was shown: the page does not contradict itself."""
+    with a_pledge_at_the_counter() as (pages, receipt):
+        browser.says("£100.00 owed today", "#statement")
+        pages.session.bearer(receipt, "POST", "/books/7/held/repay", {"pence": 1000, "seq": 1})
+        command("Redeem by the paper", "Redeem", receipt=receipt, amount="100")
+        browser.says("Since this pledge was shown here, it has changed.", "#commands .action[open]")
+        browser.says("£90.00 is owed today, and redeeming requires all of it. You typed £100.00.", "#commands")
+        browser.says("£90.00 owed today", "#statement")
+        browser.says("£90.00 is owed today. All of it is to be received.", "#commands")
+        expect(
+            "what was typed, and the field", browser.run(
+                "const { elements } = document.querySelector('.action[open] form'); "
+                "return [elements.receipt.value, elements.amount.value, document.activeElement.name, "
+                "elements.amount.ariaInvalid]"
+            ), [receipt, "100", "amount", "true"],
+        )
+        browser.fill(".action[open] form", amount="90")
+        browser.press(".action[open] button", "Redeem")
+        browser.press("dialog button", "Redeem for £90.00")
+        browser.says(f"Redeemed on {in_words(today())}: £90.00 was paid.", "#commands")
+        no_faults()
+
+
+def an_article_that_was_sold_meanwhile_is_told():
+    """Its receipt is still live, but nothing is owed any more."""
+    with Pages() as pages:
+        make_book(pages, terms=False)
+        fill_book(pages, book_text([("Watch", "W1", 9000, ago(400), "", "no")], rates=(0, 0, 0)))
+        open_book(pages)
+        find("1")
+        browser.says("£90.00 owed today", "#statement")
+        sold = pages.session.broker("POST", "/books/7/pledges/1/sell", {"net": 9000})
+        expect("sold", sold[0], 200)
+        command("Redeem by the paper", "Redeem", receipt=f"1-{secret_of(1)}", amount="90")
+        browser.says("The pledge is redeemed or sold already.", "#commands")
+        browser.says("Sold on", "#statement")
+        no_faults()
+
+
+# A redemption does not come back, and goes to the service only once it is released.
+REDEEMS_LATE = """
+const real = window.fetch;
+window.fetch = (path, how) => {
+  if (!path.endsWith("/redeem")) return real(path, how);
+  window.fetch = real;
+  window.release = () => real(path, { ...how, signal: undefined }).then((reply) => reply.status);
+  return Promise.reject(new TypeError("no line"));
+};"""
+
+
+def a_redemption_whose_reply_was_lost_is_pressed_again():
+    """Not done so far, the article stays; pressed again, what was done late is told as done."""
+    with a_pledge_at_the_counter() as (pages, receipt):
+        browser.says("£100.00 owed today", "#statement")
+        browser.run(REDEEMS_LATE)
+        command("Redeem by the paper", "Redeem", receipt=receipt, amount="100")
+        browser.press("dialog button", "Redeem for £100.00")
+        for says in (
+            "The reply was lost, and the pledge is not redeemed so far.", "Don’t hand out the article yet.",
+            "Press “Redeem” again: the pledge is redeemed once, however often you press.",
+        ):
+            browser.says(says, "#commands .action[open]")
+        expect("what was typed", browser.run(
+            "const { elements } = document.querySelector('.action[open] form'); "
+            "return [elements.receipt.value, elements.amount.value]"
+        ), [receipt, "100"])
+        browser.rests()
+        expect("it is done late", browser.run_later("return window.release()"), 200)
+        browser.press(".action[open] button", "Redeem")
+        browser.says("The pledge is redeemed, by the press before, whose reply was lost.", "#commands")
+        browser.says("£100.00 was paid. Hand out the article, and keep the receipt.", "#commands")
+        browser.says("Redeemed on", "#statement")
+        no_faults()
+
+
+def a_redemption_that_never_arrived_is_done_by_the_next_press():
+    with a_pledge_at_the_counter() as (pages, receipt):
+        browser.says("£100.00 owed today", "#statement")
+        browser.run(REDEEMS_LATE)
+        command("Redeem by the paper", "Redeem", receipt=receipt, amount="100")
+        browser.press("dialog button", "Redeem for £100.00")
+        browser.says("Don’t hand out the article yet.", "#commands .action[open]")
+        browser.rests()
+        browser.press(".action[open] button", "Redeem")
+        browser.press("dialog button", "Redeem for £100.00")
+        browser.says("Hand out the article, and keep the receipt.", "#commands")
+        expect("what arrives late is refused", browser.run_later("return window.release()"), 404)
+        no_faults()
+
+
+def a_redemption_after_which_nothing_can_be_looked_at_says_what_to_do():
+    with a_pledge_at_the_counter() as (pages, receipt):
+        browser.says("£100.00 owed today", "#statement")
+        unfold("Redeem by the paper")
+        browser.fill(".action[open] form", receipt=receipt, amount="100")
+        browser.press(".action[open] button", "Redeem")
+        browser.says("Redeem pledge 1?", "dialog")
+        with browser.without_a_line():
+            browser.press("dialog button", "Redeem for £100.00")
+            browser.says("The reply was lost, so the pledge may be redeemed.", "#commands", patience=30)
+            browser.says("Don’t hand out the article yet.", "#commands")
+        expect("it was not", "Status inside" in pages.session.broker("GET", "/books/7/pledges/1")[1], True)
+
+
+# What the service says of pledge 1 comes only once it is let go, and so often as it is asked for.
+SLOW_FIRST = """
+const real = window.fetch;
+const gate = new Promise((go) => { window.letGo = go; });
+window.come = 0;
+window.fetch = async (path, how) => {
+  const reply = await real(path, how);
+  if (!path.endsWith("/pledges/1") || how.method !== "GET") return reply;
+  const text = await reply.text();
+  await gate;
+  setTimeout(() => { window.come += 1; }, 100);
+  return new Response(text, reply);
+};"""
+
+
+def two_pledges(pages):
+    make_book(pages)
+    first = pages.session.open_pledge(1)
+    second = pages.session.open_pledge(2, article="Silver watch")
+    open_book(pages)
+    the_book_is_read()
+    return first, second
+
+
+def let_go():
+    browser.run("window.letGo()")
+    browser.until("return window.come > 0", "what was slow")
+    browser.rests()
+
+
+def the_pledge_that_was_asked_for_last_is_shown():
+    """On a slow line the one that was asked for before comes later, and does not take its place."""
+    with Pages() as pages:
+        two_pledges(pages)
+        browser.run(SLOW_FIRST)
+        browser.run("location.hash = '#pledge=1'")
+        browser.run("setTimeout(() => { location.hash = '#pledge=2'; })")
+        browser.says("Silver watch", "#statement")
+        command("Put on hold", "Hold")
+        browser.says("The pledge is on hold", "#commands")
+        browser.rests()
+        unfold("Repayment")
+        browser.fill(".action[open] form", amount="12.34")
+        let_go()
+        expect("the pledge", browser.text("#statement h2"), "Silver watch")
+        typed = browser.run("return document.querySelector('.action[open] [name=amount]').value")
+        expect("what was typed", typed, "12.34")
+        no_faults()
+
+
+def what_is_searched_for_during_a_search_is_found():
+    """Such as a receipt that is scanned: the press is not lost, and what is said of it is said of its pledge."""
+    with Pages() as pages:
+        _, second = two_pledges(pages)
+        browser.run(SLOW_FIRST)
+        find("1")
+        find(second)
+        browser.run("window.letGo()")
+        browser.says("This receipt is live. £100.00 is owed today.", "#commands")
+        browser.says("Silver watch", "#statement")
+        let_go()
+        expect("the pledge", browser.text("#statement h2"), "Silver watch")
+        expect("the address", browser.run("return location.hash"), "#pledge=2")
+        browser.says("This receipt is live. £100.00 is owed today.", "#commands")
+        no_faults()
+
+
+def what_came_of_an_act_is_not_said_of_another_pledge():
+    with Pages() as pages:
+        two_pledges(pages)
+        find("1")
+        browser.says("Gold ring", "#statement")
+        browser.rests()
+        browser.run(SLOW_FIRST)
+        command("Put on hold", "Hold")
+        wait_for(
+            lambda: "Held yes" in pages.session.broker("GET", "/books/7/pledges/1")[1], "a hold on the first pledge",
+        )
+        browser.run("location.hash = '#pledge=2'")
+        browser.says("Silver watch", "#statement")
+        let_go()
+        expect("the pledge", browser.text("#statement h2"), "Silver watch")
+        expect("no word of the other", "The pledge is on hold" in browser.text("#pledge"), False)
+        no_faults()
+
+
+def what_can_still_be_drawn_is_told():
+    with Pages() as pages:
+        make_book(pages)
+        pages.session.open_pledge(1, kind="running", pence=50000)
+        pages.session.broker("POST", "/books/7/pledges/1/draw", {"seq": 1, "pence": 20000})
+        open_book(pages)
+        find("1")
+        browser.says("£200.00 owed today", "#statement")
+        browser.rests()
+        unfold("Drawing")
+        browser.says("£300.00 can still be drawn, up to the limit of £500.00.", "#commands")
+        no_faults()
+
+
+def a_live_receipt_of_a_pledge_that_is_over_says_who_has_the_article():
+    with Pages() as pages:
+        make_book(pages, terms=False)
+        fill_book(pages, book_text([
+            ("Vase", "W1", 5000, ago(400), "", "no"), ("Violin", "W2", 9000, ago(400), "", "no"),
+        ]))
+        expect("sold", pages.session.broker("POST", "/books/7/pledges/2/sell", {"net": 9000})[0], 200)
+        open_book(pages)
+        find(f"1-{secret_of(1)}")
+        browser.says(
+            "This receipt is live, but the period is over and the article belongs to the pawnbroker. "
+            "Don’t hand out the article.", "#commands",
+        )
+        find(f"2-{secret_of(2)}")
+        browser.says(f"This receipt is live, but the article was sold on {in_short(today())}.", "#commands")
+        no_faults()
+
+
+def a_written_statement_is_not_asked_for_above_the_small_credit():
+    """Nothing is asked and nothing is sent that is refused."""
+    with a_pledge_at_the_counter() as (pages, _):
+        browser.says("£100.00 owed today", "#statement")
+        command("Replace a lost receipt", "Make a new receipt", paper="written")
+        browser.says(
+            "A written statement is enough only for credit up to £75.00. Ask for a sworn declaration.", "#commands",
+        )
+        expect("no question", browser.run("return document.querySelector('dialog')"), None)
+        no_faults()
+
+
+def a_receipt_that_is_not_whole_is_counted():
+    """For the clerk and for the pawnor; and one of several that is not whole is not left out in silence."""
+    with Pages() as pages:
+        make_book(pages)
+        receipt = pages.session.open_pledge(1)
+        short, wrong = receipt[:-1], receipt[:-1] + "o"
+        counted = "There are 31 digits after the number, and a receipt has 32."
+        letter = "It has the letter “o”, and a receipt has only the digits 0 to 9 and a to f."
+        open_book(pages)
+        the_book_is_read()
+        for typed, says in ((short, counted), (wrong, letter)):
+            find(typed)
+            browser.says(says, "#finding")
+        browser.forget()
+        browser.go(pages.address + "/pawn/")
+        for typed, says in (
+            (short, "That is no receipt. " + counted), (receipt + "0", "There are 33 digits after the number"),
+            (wrong, "That is no receipt. " + letter),
+            (f"{pages.address}/pawn/#book=7&receipt={short}", "That link is not whole, so it opens nothing"),
+            (f"{receipt}\n{short}", f"This is no receipt: {short}."),
+        ):
+            browser.fill("#find", receipts=typed, book="7")
+            browser.press("#find button", "Show")
+            browser.says(says, "#find-said")
+            expect("the field", browser.run("return document.activeElement.name"), "receipts")
+        expect("none is shown", browser.text("#cards"), "")
+        browser.fill("#find", receipts=f"My receipt of May:\n{receipt}\nThank you", book="7")
+        browser.press("#find button", "Show")
+        browser.says("Gold ring", "#cards")
+        no_faults()
+
+
+def the_field_of_the_search_names_no_other_pledge():
+    """By the buttons back and forward a pledge is shown that was not searched for last."""
+    with Pages() as pages:
+        two_pledges(pages)
+        for number, article in (("1", "Gold ring"), ("2", "Silver watch")):
+            find(number)
+            browser.says(article, "#statement")
+            browser.rests()
+            expect("what was found", browser.run("return document.querySelector('#find-wanted').value"), number)
+        browser.ask("POST", "/back", {})
+        browser.says("Gold ring", "#statement")
+        browser.rests()
+        expect("back", browser.run("return document.querySelector('#find-wanted').value"), "")
+        no_faults()
+
+
+# It is ten past three in the afternoon, by the clock of the device.
+AFTERNOON = "Date.prototype.getHours = () => 15; Date.prototype.getMinutes = () => 10;"
+
+
+def a_visit_at_a_time_that_is_over_is_asked_about():
+    """The first time on the list is chosen already, and by the afternoon it is over for today."""
+    with a_pledge_by_its_receipt() as (pages, receipt):
+        browser.says("Gold ring", "#cards")
+        browser.rests()
+        browser.run(AFTERNOON)
+        command("Ask for a time to come", "Ask for this time", day=str(today()))
+        browser.says("That time is over", "dialog h2")
+        browser.says("It is 15:10 by the clock of this device", "dialog")
+        browser.press("dialog button", "Choose another time")
+        browser.says("Nothing was done.", "#cards")
+        expect("nothing is asked", "Booking none" in pages.session.bearer(receipt, "GET", "/books/7/held")[1], True)
+        browser.rests()
+        browser.fill(".action[open] form", window="12")
+        browser.press(".action[open] button", "Ask for this time")
+        browser.says(f"Asked for {in_words(today())}, 15:00 to 15:30.", "#cards")
+        command("Ask for another time", "Ask for this time", day=str(ago(-1)), window="0")
+        browser.says(f"Asked for {in_words(ago(-1))}, 09:00 to 09:30.", "#cards")
+        no_faults()
+
+
+def a_pledge_that_changed_is_shown_anew_before_it_is_renewed_or_extended():
+    """Nobody has to find it again: its new sum and its new end are shown, with what was typed."""
+    with a_pledge_at_the_counter() as (pages, receipt):
+        browser.says("£100.00 owed today", "#statement")
+        end = six_months_after(today())
+        pages.session.bearer(receipt, "POST", "/books/7/held/repay", {"pence": 1000, "seq": 1})
+        later = str(end + datetime.timedelta(days=90))
+        command("Renew", "Renew the pledge", until=later)
+        browser.says("Since this pledge was shown here, it has changed. £90.00 is owed now.", "#commands .action[open]")
+        browser.says("£90.00 owed today", "#statement")
+        expect("the end that was typed", browser.run(UNTIL), later)
+        moved = end + datetime.timedelta(days=30)
+        pages.session.broker("POST", "/books/7/pledges/1/extend", {"until": str(moved)})
+        browser.rests()
+        browser.press(".action[open] button", "Renew the pledge")
+        browser.says(f"Somebody else moved the end to {in_words(moved)}", "#commands .action[open]")
+        browser.says(in_short(moved), "#statement")
+        expect("the end that was typed", browser.run(UNTIL), later)
+        browser.rests()
+        browser.press(".action[open] button", "Renew the pledge")
+        browser.says("Renew this pledge?", "dialog")
+        browser.press("dialog button", "Not now")
+        browser.rests()
+        moved = end + datetime.timedelta(days=31)
+        pages.session.broker("POST", "/books/7/pledges/1/extend", {"until": str(moved)})
+        command("Extend the period", "Extend", until=later)
+        browser.says(f"Somebody else moved the end to {in_words(moved)}", "#commands .action[open]")
+        browser.says(in_short(moved), "#statement")
+        no_faults()
+
+
+UNTIL = "return document.querySelector('.action[open] [name=until]').value"
+
+
+def a_sale_of_what_was_redeemed_meanwhile_is_not_asked_about():
+    with Pages() as pages:
+        make_book(pages, terms=False)
+        fill_book(pages, book_text([("Violin", "W1", 9000, ago(400), "", "no")], rates=(0, 0, 0)))
+        open_book(pages)
+        find("1")
+        browser.says("£90.00 owed today", "#statement")
+        paid = pages.session.bearer(f"1-{secret_of(1)}", "POST", "/books/7/held/redeem", {"paid": 9000})
+        expect("redeemed", paid[0], 200)
+        command("Sale", "Record the sale", amount="120")
+        browser.says("The pledge is redeemed or sold already.", "#commands")
+        browser.says("Redeemed on", "#statement")
+        expect("no question", browser.run("return document.querySelector('dialog')"), None)
+        no_faults()
+
+
+main(
+    380, (),
+    (
+        terms_are_asked_for_before_the_form_is_filled, terms_that_another_till_put_are_seen,
+        a_key_is_read_in_each_of_its_forms, a_sum_that_is_no_longer_owed_has_the_pledge_shown_anew,
+        an_article_that_was_sold_meanwhile_is_told, a_redemption_whose_reply_was_lost_is_pressed_again,
+        a_redemption_that_never_arrived_is_done_by_the_next_press,
+        a_redemption_after_which_nothing_can_be_looked_at_says_what_to_do, the_pledge_that_was_asked_for_last_is_shown,
+        what_is_searched_for_during_a_search_is_found, what_came_of_an_act_is_not_said_of_another_pledge,
+        what_can_still_be_drawn_is_told, a_live_receipt_of_a_pledge_that_is_over_says_who_has_the_article,
+        a_written_statement_is_not_asked_for_above_the_small_credit, a_receipt_that_is_not_whole_is_counted,
+        the_field_of_the_search_names_no_other_pledge, a_visit_at_a_time_that_is_over_is_asked_about,
+        a_pledge_that_changed_is_shown_anew_before_it_is_renewed_or_extended,
+        a_sale_of_what_was_redeemed_meanwhile_is_not_asked_about,
+    ),
+)
