@@ -309,20 +309,24 @@ def kept_by(command):
 
 
 def mend(name):
-    """Puts the old files of a store back, if a command was killed while it replaced them one by one."""
+    """Puts the old files of a store back, if a command was killed while it replaced them one by one. A mark that a
+    command left in the folder of the store after an exchange goes."""
     path = store_file(name)
+    folder = os.path.dirname(path)
     if os.path.exists(path + OLD) and not os.path.exists(path):
         kept = [it for it in kept_of(name) if it.was_in_force][-1]
         log = os.path.join(kept.folder, "books.db" + LOG)
         if os.path.exists(log) and not os.path.exists(path + LOG):
             copy_file(log, path + LOG + NEW)
-            give_to(name, os.path.dirname(path))
+            give_to(name, folder)
             sync(path + LOG + NEW)
             os.rename(path + LOG + NEW, path + LOG)
         os.rename(path + OLD, path)
-        sync(os.path.dirname(path))
+        sync(folder)
         kept.forget()
-    for left in (path + OLD, path + NEW, path + LOG + NEW):
+    names = os.listdir(folder) if os.path.isdir(folder) else []
+    marks = [os.path.join(folder, it) for it in names if it.startswith(UNUSED)]
+    for left in (path + OLD, path + NEW, path + LOG + NEW, *marks):
         with contextlib.suppress(FileNotFoundError):
             os.unlink(left)
 

@@ -184,7 +184,7 @@ def less_than_the_copy_by_a_command():
         wrong = it.status()["wrong"]
         expect(f"what is wrong: {wrong}", [line for line in wrong if "holds less" in line], [])
         said = it.admin_with("status", "--json", PLANT="a_split_ends_meanwhile", wanted=1)
-        expect(f"what is wrong meanwhile: {said}", json.loads(said)["wrong"],
+        expect("what is wrong meanwhile", json.loads(said)["wrong"],
                ["store west: has no copy: `pawnd-admin copy west`"])
         expect_wrong(it)
         expect("what commands left", it.leftovers(), [])

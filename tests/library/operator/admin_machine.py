@@ -254,6 +254,9 @@ class Machine:
         found = []
         for folder in (self.settings, self.stores, *(it.path for it in os.scandir(self.copies))):
             found += [os.path.join(folder, it) for it in os.listdir(folder) if it.startswith(".")]
+        for store in os.scandir(self.stores):
+            if store.is_dir():
+                found += [it.path for it in os.scandir(store) if it.name.startswith("never-in-force")]
         return found
 
 
