@@ -1,5 +1,5 @@
 """Prints how the processor time of each request grows: with the pledges of a book and their bookings, with those that
-are asked for one day, with the entries of a pledge, and with the books of a store.
+are asked for one day or confirmed for it, with the entries of a pledge, and with the books of a store.
 
 usage: python3 -m bench.growth [--peer PEER] [PROGRAM]     (default: build/pawnd)
 
@@ -46,9 +46,9 @@ def put(base, table, columns, rows):
     return base.executemany(f"INSERT INTO {table} ({names}) VALUES ({marks})", cells).rowcount
 
 
-def fill(program, path, books=1, pledges=1, entries=0, asked=0):
+def fill(program, path, books=1, pledges=1, entries=0, asked=0, confirmed=0):
     """A store of so many books of so many pledges of so many entries, each with a booking and an end of its own.
-    So many are asked for one day."""
+    So many are asked for one day, and the last of these so many pledges are confirmed for it."""
     subprocess.run([program, "answer", path, DAY, SEED, OPERATOR], stdin=subprocess.DEVNULL, stdout=subprocess.DEVNULL,
                    check=True)
     base, key = sqlite3.connect(path), bytes.fromhex(BROKER.replace("-", ""))
@@ -67,7 +67,8 @@ def fill(program, path, books=1, pledges=1, entries=0, asked=0):
     rows += put(base, "secrets", "book number place day sort secret",
                 [(*name, 1, TODAY, 0, word(*name)) for name in every])
     rows += put(base, "bookings", "book number day slot state",
-                [(*name, ENDS if name[1] <= asked else TODAY + 3 + name[1] % days, name[1] % 16, 0) for name in every])
+                [(*name, ENDS if name[1] <= asked else TODAY + 3 + name[1] % days, name[1] % 16,
+                 int(asked - confirmed < name[1] <= asked)) for name in every])
     put(base, "totals", "book number day principal charges", [(*name, TODAY, 900000 - entries, 0) for name in every])
     base.execute("UPDATE meta SET value = ? WHERE name = 'rows'", (rows,))
     base.commit()
@@ -120,6 +121,17 @@ def by_asked(size):
     }
 
 
+# So many are asked for the day for which others are confirmed.
+STILL_ASKED = 200
+
+
+def by_confirmed(size):
+    return {
+        "the sheet of that day": sheets("2024-07-31", 300),
+        "`decide` with yes, for that day": decided(range(1, STILL_ASKED + 1)),
+    }
+
+
 def by_entries(size):
     return {
         "a statement": [request("GET", "/books/1/pledges/1", KEY)] * 100,
@@ -167,6 +179,9 @@ def main():
           lambda program, path, size: fill(program, path, pledges=size), by_pledges)
     table("by those asked for one day, of 10,000", (10, 500, 5_000),
           lambda program, path, size: fill(program, path, pledges=10_000, asked=size), by_asked)
+    table(f"by those confirmed for one day, of 10,000; {STILL_ASKED} asked", (10, 100, 500),
+          lambda program, path, size: fill(program, path, pledges=10_000, asked=size + STILL_ASKED, confirmed=size),
+          by_confirmed)
     table("by entries of a pledge", (10, 1_000, 9_000),
           lambda program, path, size: fill(program, path, entries=size), by_entries)
     table("by books of 100 pledges", (1, 10, 100),
