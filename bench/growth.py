@@ -46,9 +46,10 @@ def put(base, table, columns, rows):
     return base.executemany(f"INSERT INTO {table} ({names}) VALUES ({marks})", cells).rowcount
 
 
-def fill(program, path, books=1, pledges=1, entries=0, asked=0, confirmed=0):
+def fill(program, path, books=1, pledges=1, entries=0, asked=0, confirmed=0, index=None):
     """A store of so many books of so many pledges of so many entries, each with a booking and an end of its own.
-    So many are asked for one day, and the last of these so many pledges are confirmed for it."""
+    So many are asked for one day, and the last of these so many pledges are confirmed for it. A further index may be
+    made by a statement."""
     subprocess.run([program, "answer", path, DAY, SEED, OPERATOR], stdin=subprocess.DEVNULL, stdout=subprocess.DEVNULL,
                    check=True)
     base, key = sqlite3.connect(path), bytes.fromhex(BROKER.replace("-", ""))
@@ -71,6 +72,8 @@ def fill(program, path, books=1, pledges=1, entries=0, asked=0, confirmed=0):
                  int(asked - confirmed < name[1] <= asked)) for name in every])
     put(base, "totals", "book number day principal charges", [(*name, TODAY, 900000 - entries, 0) for name in every])
     base.execute("UPDATE meta SET value = ? WHERE name = 'rows'", (rows,))
+    if index:
+        base.execute(index)
     base.commit()
     if base.execute("PRAGMA journal_mode").fetchone()[0] == "wal":
         base.execute("PRAGMA wal_checkpoint(TRUNCATE)")
@@ -123,12 +126,14 @@ def by_asked(size):
 
 # So many are asked for the day for which others are confirmed.
 STILL_ASKED = 200
+BY_WINDOW = "CREATE INDEX by_window ON bookings (book, day, state, slot, number)"
 
 
 def by_confirmed(size):
     return {
         "the sheet of that day": sheets("2024-07-31", 300),
         "`decide` with yes, for that day": decided(range(1, STILL_ASKED + 1)),
+        "`decide` with yes, for other days": decided(range(1_000, 1_000 + MANY)),
     }
 
 
@@ -179,9 +184,10 @@ def main():
           lambda program, path, size: fill(program, path, pledges=size), by_pledges)
     table("by those asked for one day, of 10,000", (10, 500, 5_000),
           lambda program, path, size: fill(program, path, pledges=10_000, asked=size), by_asked)
-    table(f"by those confirmed for one day, of 10,000; {STILL_ASKED} asked", (10, 100, 500),
-          lambda program, path, size: fill(program, path, pledges=10_000, asked=size + STILL_ASKED, confirmed=size),
-          by_confirmed)
+    for index in None, BY_WINDOW:
+        head = f"by those confirmed for one day, {'a further index' if index else 'of 10,000'}"
+        table(head, (10, 100, 500), lambda program, path, size, index=index: fill(
+            program, path, pledges=10_000, asked=size + STILL_ASKED, confirmed=size, index=index), by_confirmed)
     table("by entries of a pledge", (10, 1_000, 9_000),
           lambda program, path, size: fill(program, path, entries=size), by_entries)
     table("by books of 100 pledges", (1, 10, 100),
