@@ -31,8 +31,8 @@ export class Lost extends Error {
 }
 
 /**
- * Nobody took the request, or the proxy kept it back, so it was not done. `pause` is how long to wait; null is for
- * ever.
+ * No process accepted the connection, or the proxy kept the request back, so it was not done. `pause` is how long to
+ * wait; null is for ever.
  */
 class NotHandedOn extends Error {
   constructor(words, pause) {
@@ -102,8 +102,8 @@ function once(method, url, fields, body) {
     const event = library === https ? "secureConnect" : "connect";
     request.on("socket", (socket) => socket.once(event, () => { connected = true; }));
     request.on("timeout", () => request.destroy(new Error("it took too long")));
-    const nobody = (why) => new NotHandedOn(`nobody is there: ${why.message || why.code}`, PAUSE);
-    request.on("error", (why) => failed(connected ? why : nobody(why)));
+    const unmade = (why) => new NotHandedOn(`no connection was made: ${why.message || why.code}`, PAUSE);
+    request.on("error", (why) => failed(connected ? why : unmade(why)));
     request.end(text);
   });
 }

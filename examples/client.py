@@ -32,8 +32,8 @@ class Lost(Exception):
 
 
 class NotHandedOn(Exception):
-    """Nobody took the request, or the proxy kept it back, so it was not done. `pause` is how long to wait; None is
-    for ever."""
+    """No process accepted the connection, or the proxy kept the request back, so it was not done. `pause` is how long
+    to wait; None is for ever."""
 
     def __init__(self, words, pause):
         super().__init__(words)
@@ -84,7 +84,7 @@ class Book:
             try:
                 connection.connect()
             except OSError as why:
-                raise NotHandedOn(f"nobody is there: {why}", PAUSE) from why
+                raise NotHandedOn(f"no connection was made: {why}", PAUSE) from why
             text = None if body is None else json.dumps(body)
             connection.request(method, f"/books/{self.number}{path}", text, {**self.headers, "Connection": "close"})
             reply = connection.getresponse()
