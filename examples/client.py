@@ -41,7 +41,7 @@ class NotHandedOn(Exception):
 
 
 class Book:
-    """One book of a service at a URL, with the header that lets in: a `Pledge-Key`, or a `Pledge-Receipt`."""
+    """One book of a service at a URL, with the field of its caller: a `Pledge-Key`, or a `Pledge-Receipt`."""
 
     def __init__(self, url, number, **headers):
         self.url = urllib.parse.urlsplit(url)
@@ -104,7 +104,7 @@ def told(reply, said):
     if isinstance(said, dict) and said.get("handed_on") is False:
         pause = float(reply.getheader("Retry-After") or PAUSE) if reply.status in PASSING else None
         raise NotHandedOn(f"the proxy said {reply.status}", pause)
-    raise ValueError(f"{reply.status} by another than the service")
+    raise ValueError(f"{reply.status} in a reply that is not the service's")
 
 
 def settings(usage, *names):
@@ -127,7 +127,7 @@ def lines(text):
 
 
 def value(statement, label):
-    """What stands in a statement behind this word."""
+    """The rest of the statement's line that begins with this word."""
     return next(line[len(label) + 1:] for line in lines(statement) if line.startswith(f"{label} "))
 
 
