@@ -179,6 +179,9 @@ def repeated(operation, step, body, first):
     shutil.copyfile(path, copy)
     RUN.path = copy
     code, said = RUN.ask(operation.method, step["target"], step["fields"], body, step["day"])
+    if operation.name == "sell":
+        earlier, _ = RUN.ask(operation.method, step["target"], step["fields"], body, DAY)
+        expect("a sale that is sent again after the clock was set back", earlier, 205)
     RUN.close()
     RUN.path = path
     when = operation.said["x-repeat"]["when"]

@@ -154,7 +154,7 @@ ROUTES = [
         "Statements", [402], VIEW, kind=TEXT, receipts=32, rules="The statement",
     ),
     Route(
-        "post", f"{ON_HELD}/repay", "repayHeld", "bearer", "Repay", "Enters a repayment by who presents the receipt.",
+        "post", f"{ON_HELD}/repay", "repayHeld", "bearer", "Repay", "Enters a repayment by the bearer of the receipt.",
         "Entry", [402, *NUMBERED, *CHANGES, 201, 206, 204], BEARING, "Payment", rules="Commands on a pledge",
     ),
     Route(
