@@ -186,12 +186,12 @@ def repeated(operation, step, body, first):
     RUN.path = path
     when = operation.said["x-repeat"]["when"]
     wanted = {
-        "always": (0, first), "while it stands": (0, first), "told": (305 if operation.name == "sell" else 402, said),
-        "never": (0, said),
+        "always": (0, first), "if unchanged": (0, first), "never": (0, said),
+        "refused if done": (305 if operation.name == "sell" else 402, said),
     }[when]
     expect(
         f"{operation.name}, which may be sent again: {when}", (code, said, said == first),
-        (*wanted, "always" == when or "while it stands" == when),
+        (*wanted, "always" == when or "if unchanged" == when),
     )
 
 
