@@ -1,14 +1,13 @@
 """Books: making one, and a new key for one whose key has leaked."""
 import json
 import os
-import tempfile
 import uuid
 
 import asking
 import proxy
 import services
 from copies import OLD
-from files import read_note, sync, write_note
+from files import read_note, replace_whole, write_note
 from locks import alone, alone_with, alone_with_settings
 from reading import contents_of
 from settings import MAIN, SETTINGS, Stop, Store, book_number, say, store_name, store_names
@@ -31,13 +30,7 @@ def hand_over(key, what, path):
         say(f"{what}: {key}")
         say("This is the only time that it is shown. Give it to the broker by a way that nobody else can read")
         return
-    handle, new = tempfile.mkstemp(prefix=".key-", dir=os.path.dirname(os.path.abspath(path)))
-    with open(handle, "w") as file:
-        file.write(key + "\n")
-        file.flush()
-        os.fsync(file.fileno())
-    os.rename(new, path)
-    sync(os.path.dirname(os.path.abspath(path)))
+    replace_whole(os.path.abspath(path), key + "\n", 0o600)
     say(f"{what} is in {path}")
 
 
