@@ -114,15 +114,30 @@ def make_book(number, where=MAIN, name=None, capacity=CAPACITY, key_file=None, k
 def own_key(book, inside_file):
     """The key that a book was made with: the rules give it one for ever."""
     store = Store(proxy.store_of(book))
-    if inside_file:
-        return key_of_file(inside_file)
-    if not store.is_here:
-        raise Stop(f"the store {store.name} is on another machine: write the key that book {book} was made with into a "
-                   "file, and add --inside-file FILE")
+    if inside_file or not store.is_here:
+        return own_key_elsewhere(book, store, inside_file)
     books = contents_of(store.path).books
     if book not in books:
         raise Stop(f"the store {store.name} has no book {book}")
     return str(uuid.UUID(bytes=books[book]["key"]))
+
+
+def own_key_elsewhere(book, store, inside_file):
+    """The same from a file, or from the exchange that the book has already, as far as the store takes that key. With
+    another one, the exchange would open the book to an earlier key that leaked, and to no other."""
+    _, known = proxy.exchanges().get(book, (None, None))
+    if not inside_file and not known:
+        raise Stop(f"the store {store.name} is on another machine: write the key that book {book} was made with into a "
+                   "file, and add --inside-file FILE")
+    key = key_of_file(inside_file) if inside_file else known
+    if services.code_with_key(store, book, key) == 401:
+        raise Stop(
+            f"the store {store.name} refuses the key in {inside_file or proxy.KEYS_MAP}, so it is not the one that book "
+            f"{book} was made with, and nothing was changed. "
+            + (f"{proxy.KEYS_MAP} has a key of this book: run the command without --inside-file" if inside_file and known
+               else f"Write the first key that book {book} had into a file, and name it by --inside-file")
+        )
+    return key
 
 
 def new_key(number, key_to=None, inside_file=None):
