@@ -48,7 +48,9 @@ class Copy:
         self.path = os.path.join(self.folder, "books.db")
         try:
             note = read_note(os.path.join(self.folder, NOTE))
-            self.store, self.made, self.counts = note["store"], note["made"], note["counts"]
+            self.store, self.counts = note["store"], note["counts"]
+            # The operator may have renamed a copy that was made while the clock was wrong.
+            self.made = self.name if COPY_NAME.fullmatch(self.name) else note["made"]
             self.books = {int(book): it for book, it in note["books"].items()}
         except (OSError, ValueError, KeyError, TypeError, AttributeError) as why:
             raise Stop(f"{folder} is not a finished copy: {NOTE} in it cannot be read ({why})") from None
