@@ -36,6 +36,13 @@ def newest_copy(name, wrong):
     hours = (copies.utc_now() - copies.time_of(past[-1].made)).total_seconds() / 3600
     if hours > OLD_COPY:
         wrong.append(f"has no copy of the last {OLD_COPY} hours: `journalctl -u pawnd-copy@{name}`")
+    if found := copies.unexplained_loss(past):
+        less, more = found
+        wrong.append(
+            f"its copy {less.name} held less than the one before, {more.name}: a log may have been lost. Compare them, and "
+            f"put the older one back: `pawnd-admin restore {name} {more.name}`. If the store rightly holds less, move "
+            f"{more.folder} to another place"
+        )
     return {"name": past[-1].name, "hours": round(hours, 1), "count": len(past), **past[-1].counts}
 
 

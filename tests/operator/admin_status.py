@@ -175,6 +175,36 @@ def copies_and_disks():
         expect_wrong(it, "store main: holds less than its newest copy")
 
 
+def a_copy_of_a_store_that_lost_its_log():
+    """A copy that is made after a loss does not end the complaint. The copy that the status names ends it, and what a
+    command takes out causes none."""
+    with Machine() as it:
+        caller = it.book(7, pledges=2)
+        it.admin("copy", "main")
+        it.systemctl("stop", "pawnd@main")
+        shutil.copytree(os.path.dirname(it.path("main")), it.place("older"))
+        it.systemctl("start", "pawnd@main")
+        it.await_store("main")
+        for _ in range(3):
+            caller.repay()
+        it.admin("copy", "main")
+        whole = os.path.basename(it.newest("main"))
+        it.systemctl("stop", "pawnd@main")
+        for end in ("", "-wal"):
+            shutil.copy(it.place("older", "books.db" + end), it.path("main") + end)
+        it.systemctl("start", "pawnd@main")
+        it.await_store("main")
+        expect_wrong(it, f"store main: holds less than its newest copy, {whole}")
+        it.admin("copy", "main")
+        expect_wrong(it, f"held less than the one before, {whole}")
+        it.admin("restore", "main", whole)
+        caller.look_up()
+        expect_wrong(it)
+        it.book(8, pledges=1)
+        it.admin("copy", "main"), it.admin("remove-book", 8), it.admin("copy", "main")
+        expect_wrong(it)
+
+
 def less_than_the_copy_by_a_command():
     """What a split took out of a store is not missed, neither before the store has its copy nor while it is made."""
     with Machine() as it:
@@ -256,6 +286,7 @@ if __name__ == "__main__":
         the_proxy_and_its_files,
         books_and_lines,
         copies_and_disks,
+        a_copy_of_a_store_that_lost_its_log,
         less_than_the_copy_by_a_command,
         a_store_that_is_not_sent,
         services_that_do_not_start_at_boot,
