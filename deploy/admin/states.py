@@ -56,7 +56,8 @@ def newest_offsite(name, wrong, notes):
     path = os.path.join(OFFSITE, name)
     if not os.path.exists(path):
         if is_sent(name):
-            wrong.append(f"no copy was sent off this machine yet: `journalctl -u pawnd-offsite@{name}`")
+            wrong.append(f"no copy was sent off this machine yet: `systemctl start pawnd-offsite@{name}`, and if that "
+                         f"fails, `journalctl -u pawnd-offsite@{name}`")
         elif any(map(is_sent, store_names())):
             wrong.append(f"is not sent off this machine, as others are: `systemctl enable --now "
                          f"pawnd-offsite@{name}.timer`, then `systemctl start pawnd-offsite@{name}`")
@@ -243,9 +244,10 @@ def in_text(told):
             parts.append(f"newest copy {copy['name']} ({copy['hours']} hours)" if copy else "no copy")
             parts.append(f"newest off this machine {offsite['hours']} hours" if offsite else "none off this machine")
         yield "; ".join(parts)
-    yield (f"proxy: {'runs' if told['proxy']['runs'] else 'DOES NOT RUN'}; certificate: "
-           f"{told['proxy']['certificate_days']} days; {told['lines']} books with a line; {told['exchanged_keys']} "
-           "exchanged keys")
+    days = told["proxy"]["certificate_days"]
+    yield (f"proxy: {'runs' if told['proxy']['runs'] else 'DOES NOT RUN'}; "
+           f"{'no certificate' if days is None else f'certificate: {days} days'}; {told['lines']} books with a line; "
+           f"{told['exchanged_keys']} exchanged keys")
     for folder, disk in told["disks"].items():
         yield f"{folder}: {disk['free']:,} of {disk['bytes']:,} bytes free"
     yield from (f"note: {line}" for line in told["notes"])
