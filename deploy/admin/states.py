@@ -12,6 +12,7 @@ import replicas
 import services
 from asking import PATIENCE, answers_through_proxy, state_of_proxy
 from faults import faults_of_books, faults_of_disks, leftovers, pending, removed_books_that_are_back
+from files import files_of_store, owner_of
 from locks import alone_if_free
 from reading import contents_of
 from settings import MAIN, OFFSITE, SETTINGS, Stop, Store, say, store_names
@@ -100,6 +101,12 @@ def state_of_file(store, state, wrong):
     if not os.path.exists(store.path):
         wrong.append(f"its file {store.path} is missing. Is its disk there? `pawnd-admin restore {store.name} newest`")
         return {}
+    folder, (user, _) = os.path.dirname(store.path), owner_of(store.name)
+    if not store.volume and any(os.stat(it).st_uid != user for it in (folder, *files_of_store(store.path))):
+        wrong.append(
+            f"{folder} or a file in it does not belong to its user, so it does not start: `chown -R pawnd-{store.name}: "
+            f"{folder}`, then `systemctl restart {services.unit_of(store.name)}`"
+        )
     found = contents_of(store.path)
     rows, limit, counts = found.meta["rows"], found.meta["limit"], found.counts
     state.update(counts, limit=limit, bytes=os.path.getsize(store.path), log_bytes=services.log_bytes(store.path))

@@ -246,6 +246,36 @@ def redate(copy, name):
     os.rename(copy, os.path.join(os.path.dirname(copy), name))
 
 
+def a_machine_without_main():
+    """It serves stores for the proxy of another machine. If the proxy's own site is enabled, its file of `main` is lost."""
+    with Machine() as it:
+        it.store("west")
+        it.book(10, "west")
+        it.admin("copy", "west")
+        os.rename(it.place("etc/stores/main.conf"), it.place("main.conf"))
+        it.write("etc/books.map", "")
+        it.admin("reload")
+        expect_wrong(it)
+        it.write("etc/books.map", "10 west;\n")
+        os.makedirs(it.place("system/nginx/sites-enabled"))
+        it.write("system/nginx/sites-enabled/pawnd", "")
+        it.admin("reload")
+        expect_wrong(it, "there is no store main")
+
+
+def a_file_of_another_user():
+    """A store that its user may not read is sound, and nothing has to be put back."""
+    if os.geteuid():
+        not_tried("a file of another user", "this is not root")
+        return
+    with Machine() as it:
+        it.book(7, pledges=1)
+        it.admin("copy", "main")
+        expect_wrong(it)
+        os.chown(it.path("main"), 65534, 65534)
+        expect_wrong(it, f"`chown -R pawnd-main: {os.path.dirname(it.path('main'))}`")
+
+
 def services_that_do_not_start_at_boot():
     with Machine() as it:
         it.book(7)
@@ -289,6 +319,8 @@ if __name__ == "__main__":
         a_copy_of_a_store_that_lost_its_log,
         less_than_the_copy_by_a_command,
         a_store_that_is_not_sent,
+        a_machine_without_main,
+        a_file_of_another_user,
         services_that_do_not_start_at_boot,
         a_rule_that_is_gone,
         it_copies_nothing,
