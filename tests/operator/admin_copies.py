@@ -241,7 +241,7 @@ BORG = """#!/bin/bash
 case $1 in
 create) echo "${6#::} $7" >>"$ARCHIVES" ;;
 list) cut -d ' ' -f 1 "$ARCHIVES" | sort -t . -k 3 | if [[ "$*" == *'--last 1'* ]]; then tail -n 1; else cat; fi ;;
-export-tar) tar -c -T /dev/null ;;
+export-tar) tar -c -C "$ARCHIVES.room" etc ;;
 esac
 """
 
@@ -258,6 +258,20 @@ def by_borg(machine, *words):
     )
     expect(f"the end of {words}: {ran.stderr}", ran.returncode, 0)
     return ran.stdout + ran.stderr
+
+
+def a_certificate_that_is_elsewhere():
+    """An archive has the first machine's link to its certificate, and not the certificate. The link of the machine that
+    takes the archive stays, so that its nginx goes on."""
+    with Machine() as it:
+        it.write("archives", "main.20260101T000000Z.20260101T000000Z x\n")
+        for room, leads_to in ((it.place("archives.room"), "/etc/letsencrypt/live/it"), (it.place("taken"), "first-certificate")):
+            os.makedirs(os.path.join(room, "etc/pawnd"))
+            os.symlink(leads_to, os.path.join(room, "etc/pawnd/certificate"))
+        it.write("archives.room/etc/pawnd/operator.key", "it\n")
+        by_borg(it, "take", "main", it.place("taken"))
+        expect("the link", os.readlink(it.place("taken/etc/pawnd/certificate")), "first-certificate")
+        expect("a file", os.path.exists(it.place("taken/etc/pawnd/operator.key")), True)
 
 
 def a_clock_that_was_ahead():
@@ -277,6 +291,7 @@ def a_clock_that_was_ahead():
         with open(it.place("offsite/main")) as file:
             expect("what is noted", file.read().strip(), wanted)
         it.write("archives", f"{sent[0]} x\nmain.{ahead}.{ahead} x\n")
+        os.makedirs(it.place("archives.room/etc"))
         expect("what is taken", by_borg(it, "take", "main", it.room).split()[0], sent[0])
         expect("what status says", "dated in the future" in str(it.status()["wrong"]), True)
         os.rename(it.place("backups/main", ahead), it.place("backups/main", days_ago(1)))
@@ -326,5 +341,6 @@ if __name__ == "__main__":
         a_database_that_is_lost,
         old_copies_are_removed,
         a_clock_that_was_ahead,
+        a_certificate_that_is_elsewhere,
         onto_an_empty_machine,
     )
