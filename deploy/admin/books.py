@@ -102,10 +102,21 @@ def make_book(number, where=MAIN, name=None, capacity=CAPACITY, key_file=None, k
         if turned or was_there:
             proxy.reload_nginx()
         services.ask(store, "POST", f"/books/{book}", json.dumps(made), Pledge_Key=services.operators_key())
+        forget_exchange(book)
         if not given or key_to:
             hand_over(made["key"], f"the key of book {book}", key_to)
         os.unlink(pending_file(book))
     say(f"book {book} ({made['name']}) is in the store {where}")
+
+
+def forget_exchange(book):
+    """An earlier book of this number had another key, which may have leaked. The new book has its own key alone."""
+    with alone_with_settings():
+        wanted = proxy.exchanges()
+        if not wanted.pop(book, None):
+            return
+        proxy.write_exchanges(wanted)
+    proxy.reload_nginx()
 
 
 # ---- a key that has leaked

@@ -92,6 +92,28 @@ def a_broker_who_leaves():
         expect("what commands left", it.leftovers(), [])
 
 
+def a_leaked_key_of_a_book_that_comes_back():
+    """The key that leaked before the book left is refused when the book is back. A new book of this number has its own
+    key alone."""
+    with Machine() as it:
+        caller = it.book(7, pledges=1)
+        leaked = caller.key
+        it.admin("new-key", 7, "--key-to", it.place("new"))
+        with open(it.place("new")) as file:
+            caller.key = file.read().strip()
+        it.admin("remove-book", 7)
+        folder = os.path.join(it.copies, "removed", os.listdir(os.path.join(it.copies, "removed"))[0])
+        it.admin("restore-book", 7, folder, "west")
+        expect("the leaked key", caller.request("GET", "/pledges/1", key=leaked), REFUSED)
+        expect("the broker's key", caller.request("GET", "/pledges/1")[0], 200)
+        it.admin("remove-book", 7)
+        again = it.book(7, pledges=1)
+        expect("the new book", again.request("GET", "/pledges/1")[0], 200)
+        for key in (leaked, caller.key):
+            expect("the keys of the old one", again.request("GET", "/pledges/1", key=key), REFUSED)
+        expect("exchanged keys", it.status()["exchanged_keys"], 0)
+
+
 def spellings(key):
     """A key in each form that the program reads."""
     plain = uuid.UUID(key).hex
@@ -164,5 +186,5 @@ def a_leaked_key_of_a_store_elsewhere():
 if __name__ == "__main__":
     main_with(
         PACKAGES, a_store_and_books, one_book_out_of_a_copy, a_broker_who_leaves, a_leaked_key,
-        a_leaked_key_of_a_store_elsewhere,
+        a_leaked_key_of_a_store_elsewhere, a_leaked_key_of_a_book_that_comes_back,
     )
