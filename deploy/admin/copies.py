@@ -15,7 +15,7 @@ from reading import head_of_log
 from settings import (
     COPIES, REMOVED, STORE_NAME, STORES, Stop, Store, copies_to_keep, say, store_file, store_names, the_store, warn,
 )
-from tables import check_and_fold, counts_of, in_words, sums_of
+from tables import NotSound, check_and_fold, counts_of, in_words, sums_of
 
 NOTE = "copy.json"
 TIME = "%Y%m%dT%H%M%SZ"
@@ -221,7 +221,11 @@ def copy(name):
         past, future = copies_of(name)
         taken_out = past and any(it.was_in_force and it.time > past[-1].name for it in kept_of(name))
         before = past[-1] if past and not taken_out else None
-        made = make_copy(name, store.path, before)
+        try:
+            made = make_copy(name, store.path, before)
+        except NotSound as why:
+            raise Stop(f"{why}. No copy was made. Run the command again. If it says the same, the store {name} is damaged: "
+                       "OPERATING.md, `A store does not start`, says what to do") from None
         say(f"{made.folder}: {in_words(made.counts)}")
         forget_old(name, keep)
         if can_settle:

@@ -101,6 +101,18 @@ def a_copy_without_its_log_is_noticed():
         expect(f"a copy without its log: {said}", "a log may have been lost" in said, True)
 
 
+def a_store_that_is_damaged():
+    """No copy is made of it, and the message says where to read on."""
+    with Machine() as it:
+        it.book(7, pledges=3)
+        it.systemctl("stop", "pawnd@main")
+        with open(it.path("main"), "r+b") as file:
+            file.write(b"spoilt " * 2000)
+        said = it.admin("copy", "main", wanted=1)
+        expect(f"what it says: {said}", "OPERATING.md, `A store does not start`" in said, True)
+        expect("the copies", copies(it), [])
+
+
 def a_copy_may_be_looked_into():
     """SQLite and the program bring the log of a copy into its database. It is the same copy then, and is put back; one
     of whose rows one was changed is not."""
@@ -335,6 +347,7 @@ if __name__ == "__main__":
         a_large_store_that_is_written_without_a_pause,
         a_log_that_is_begun_anew,
         a_copy_without_its_log_is_noticed,
+        a_store_that_is_damaged,
         a_copy_may_be_looked_into,
         without_its_log_a_copy_is_refused,
         what_stood_there_becomes_a_copy,
