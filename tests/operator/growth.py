@@ -64,6 +64,7 @@ def a_second_machine(one, second):
     second.run("cd /root; apt-get -y reinstall ./pawnd_*_amd64.deb; pawnd-admin status; pawnd-admin remove-book 11; pawnd-admin status")
     expect("a book that left", ask(one, "/books/11/pledges/1", key="/root/11.key")[0], 404)
     answers_again(one, target="/books/10/pledges/2", key="/root/10.key")
+    second.run("apt-get -y remove pawnd; nginx -t -q; apt-get -y purge pawnd; nginx -t -q; systemctl restart nginx")
 
 
 if __name__ == "__main__":
