@@ -172,7 +172,7 @@ class Desk {
     const fault = await run({
       notice: line, within: byId("commands"), reader: "broker", act: async () => { said = await act(); return said; },
     });
-    this.actingOn = null;
+    if (this.actingOn === number) this.actingOn = null;
     if (session !== current()) return;
     if (this.wanted !== number || byId("pledge").hidden) this.sayElsewhere(number, { said, fault });
     if (fault instanceof Unreadable || this.statement?.number !== number) return;

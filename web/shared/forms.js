@@ -155,7 +155,7 @@ export const foldOf = (within, title) =>
   [...within.querySelectorAll("details")].find((one) => one.firstChild.textContent === title) ?? null;
 
 /** Puts what was typed back into a form that was made anew. */
-function fillAgain(form, fields) {
+export function fillAgain(form, fields) {
   for (const [name, value] of Object.entries(fields)) {
     const input = form.elements[name];
     if (input?.type === "checkbox") input.checked = true;
