@@ -101,8 +101,8 @@ def a_book_that_was_opened_meanwhile_gets_no_act():
         no_faults()
 
 
-TAKING = "const { elements } = document.querySelector('#taking'); return [elements.article.value, elements.ref.value, " \
-    "elements.kind.value, elements.amount.value, elements.agreed.value, elements.five.checked]"
+TAKING = """const { article, ref, kind, amount, agreed, five } = document.querySelector('#taking').elements;
+return [article.value, ref.value, kind.value, amount.value, agreed.value, five.checked];"""
 
 
 def a_form_that_is_half_filled_outlives_a_reload():
@@ -161,7 +161,8 @@ def a_key_can_be_shown_while_it_is_typed():
         browser.says("Coming", "#sheet")
         browser.press("#close-book")
         browser.element("#open")
-        expect("the next is hidden", browser.run(kind + " + document.querySelector('#show-key').checked"), "passwordfalse")
+        expect("the next is hidden", browser.run(kind), "password")
+        expect("as it is shown", browser.run("return document.querySelector('#show-key').checked"), False)
         browser.rests()
         no_faults()
 
@@ -236,6 +237,36 @@ window.fetch = async (path, how) => {
 };"""
 
 
+# Once the reply to a decision has come, and before anything else is asked for, another clerk decides otherwise.
+TWO_DECIDE = """
+const real = window.fetch;
+window.fetch = async (path, how) => {
+  const reply = await real(path, how);
+  if (path.endsWith("/decide")) {
+    window.fetch = real;
+    await real(path, { ...how, body: JSON.stringify({ yes: false }) });
+  }
+  return reply;
+};"""
+
+
+def a_decision_that_another_clerk_overtakes_is_not_reported_as_it_was():
+    with Pages() as pages:
+        make_book(pages)
+        receipt = pages.session.open_pledge(1)
+        pages.session.bearer(receipt, "POST", "/books/7/held/ask", {"day": str(ago(-3)), "window": 4})
+        open_book(pages)
+        find("1")
+        browser.says("Gold ring", "#statement")
+        browser.rests()
+        browser.run(TWO_DECIDE)
+        command("Visit", "Confirm")
+        browser.says("Another decision was made at the same time.", "#commands .action[open]")
+        browser.says("refused", "#commands .action[open] .notice")
+        expect("not as it was", "is confirmed" in browser.text("#commands"), False)
+        no_faults()
+
+
 main(
     240, (),
     (
@@ -243,5 +274,6 @@ main(
         a_book_that_was_opened_meanwhile_gets_no_act, a_form_that_is_half_filled_outlives_a_reload,
         the_sheets_of_the_next_days_are_read_once, a_key_can_be_shown_while_it_is_typed,
         a_look_during_an_act_leaves_nothing_that_is_over, the_row_of_parts_stays_where_it_was_moved,
+        a_decision_that_another_clerk_overtakes_is_not_reported_as_it_was,
     ),
 )

@@ -83,9 +83,9 @@ export class Card {
     return readStatement((await this.ask("")).text);
   }
 
-  /** Where the pledge is: the shop's name is the one that the receipt's link carries. */
+  /** Where the pledge is: the shop's name is the one that the receipt's link carries; if it has none, the book. */
   place() {
-    return [`Pledge ${this.statement.number}`, ...(this.shop ? [" at ", foreign(this.shop)] : [])];
+    return [`Pledge ${this.statement.number}`, ...(this.shop ? [" at ", foreign(this.shop)] : [` of book ${this.book}`])];
   }
 
   /** What the receipt's link says beside the statement: an older link says only the rate, in words. */
