@@ -446,9 +446,11 @@ def a_mark_that_is_not_seen_is_not_taken_into_a_pledge():
         the_book_is_read()
         part("take")
         for fields, name in (
-            ({"article": "Ring\x7f", "ref": "A1"}, "The article"), ({"article": "Ring\x07", "ref": "A1"}, "The article"),
+            ({"article": "Ring\x7f", "ref": "A1"}, "The article"),
+            ({"article": "Ring\x07", "ref": "A1"}, "The article"),
             ({"article": "Ring \x93gold\x94", "ref": "A1"}, "The article"),
-            ({"article": "Ring", "ref": "A\u200b1"}, "The reference"), ({"article": "Ring", "ref": "\ufeff\xad"}, "The reference"),
+            ({"article": "Ring", "ref": "A\u200b1"}, "The reference"),
+            ({"article": "Ring", "ref": "\ufeff\xad"}, "The reference"),
         ):
             browser.fill("#taking", amount="10", **fields)
             browser.press("#taking button", "Take the pledge")

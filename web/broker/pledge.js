@@ -3,7 +3,9 @@ import { refusalOf } from "../shared/codes.js";
 import { inShort } from "../shared/days.js";
 import { byId, foreign, make } from "../shared/dom.js";
 import { Outdated, Refused } from "../shared/faults.js";
-import { fieldsOf, foldOf, makeNotice, outcomeOf, redrawFolds, run, sayAfter, tell, tellLater } from "../shared/forms.js";
+import {
+  fieldsOf, foldOf, makeNotice, outcomeOf, redrawFolds, run, sayAfter, tell, tellLater,
+} from "../shared/forms.js";
 import { inPounds } from "../shared/money.js";
 import { numberOf } from "../shared/receipts.js";
 import { reckoningForm } from "../shared/reckoning.js";

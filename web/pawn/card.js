@@ -85,7 +85,8 @@ export class Card {
 
   /** Where the pledge is: the shop's name is the one that the receipt's link carries; if it has none, the book. */
   place() {
-    return [`Pledge ${this.statement.number}`, ...(this.shop ? [" at ", foreign(this.shop)] : [` of book ${this.book}`])];
+    const where = this.shop ? [" at ", foreign(this.shop)] : [` of book ${this.book}`];
+    return [`Pledge ${this.statement.number}`, ...where];
   }
 
   /** What the receipt's link says beside the statement: an older link says only the rate, in words. */

@@ -6,7 +6,7 @@ import { Unreadable } from "./unreadable.js";
 
 const bytesOf = (text) => new TextEncoder().encode(text).length;
 
-/** Controls, marks without a width, and halves of a letter: a pasted text can have them, and no search finds it then. */
+/** Controls, marks without a width, and halves of a letter: a text that was pasted can have them unseen. */
 const UNSEEN = /[\p{Cc}\p{Cs}\u00ad\u200b\u2060\ufeff]/u;
 
 /** A text of at most so many bytes, from the field of this name. */
