@@ -5,7 +5,7 @@ from tests.library.keys import BROKER
 from tests.library.pages.browser import Pages
 from tests.library.pages.steps import (
     a_pledge_by_its_receipt, ago, an_open_book, browser, command, entries, find, main, make_book, no_faults, open_book,
-    part, send_taking, the_book_is_read,
+    part, send_taking, the_book_is_read, the_clock_goes_on,
 )
 
 # The first look at pledge 1 comes only once it is let go.
@@ -267,6 +267,34 @@ def a_decision_that_another_clerk_overtakes_is_not_reported_as_it_was():
         no_faults()
 
 
+# How each new sentence about the book's age is announced.
+ANNOUNCED = """
+const line = document.querySelector("#book-age");
+window.announced = [];
+new MutationObserver(() => window.announced.push([line.ariaLive, line.textContent])).observe(line, { childList: true });
+"""
+
+
+def the_age_of_the_book_is_not_read_out_each_minute():
+    """A screen reader reads out that the book was read, but neither how old it has become nor each piece that came."""
+    with an_open_book():
+        the_book_is_read()
+        browser.rests()
+        browser.run(ANNOUNCED)
+        the_clock_goes_on(65)
+        browser.says("The book was read a minute ago", "#book-line")
+        the_clock_goes_on(65)
+        browser.rests()
+        expect("an older book", {how for how, _ in browser.run("return window.announced")}, {"off"})
+        browser.run("window.announced.length = 0")
+        browser.press("#read-book")
+        browser.says("The book was read less than a minute ago", "#book-line")
+        browser.rests()
+        found = browser.run("return window.announced")
+        expect("a reading", [how for how, said in found if said.startswith("The book was read")], ["polite"])
+        no_faults()
+
+
 main(
     240, (),
     (
@@ -275,5 +303,6 @@ main(
         the_sheets_of_the_next_days_are_read_once, a_key_can_be_shown_while_it_is_typed,
         a_look_during_an_act_leaves_nothing_that_is_over, the_row_of_parts_stays_where_it_was_moved,
         a_decision_that_another_clerk_overtakes_is_not_reported_as_it_was,
+        the_age_of_the_book_is_not_read_out_each_minute,
     ),
 )
