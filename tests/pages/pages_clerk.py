@@ -504,7 +504,7 @@ def pledges_of_two_books_are_told_apart():
             browser.run("document.querySelector('#finder').open = true")
             browser.fill("#find", receipts=receipt, book=book)
             browser.press("#find button", "Show")
-            browser.says(f"Pledge 1 of book {book}", "#cards")
+            browser.says(f"Pledge 1, number of the shop’s book: {book}", "#cards")
         browser.shoot("pawn-two-books")
         no_faults()
 

@@ -85,7 +85,7 @@ export class Card {
 
   /** Where the pledge is: the shop's name is the one that the receipt's link carries; if it has none, the book. */
   place() {
-    const where = this.shop ? [" at ", foreign(this.shop)] : [` of book ${this.book}`];
+    const where = this.shop ? [" at ", foreign(this.shop)] : [`, number of the shop’s book: ${this.book}`];
     return [`Pledge ${this.statement.number}`, ...where];
   }
 
