@@ -101,6 +101,34 @@ def a_book_that_was_opened_meanwhile_gets_no_act():
         no_faults()
 
 
+def a_book_that_was_opened_meanwhile_gets_no_pledge():
+    """The first book gets none, either: it was closed before the look that precedes the taking had come."""
+    with an_open_book() as pages:
+        make_book(pages, book=8)
+        the_book_is_read()
+        part("take")
+        browser.rests()
+        browser.run(SLOW_LOOK)
+        browser.fill("#taking", article="Gold ring", ref="A1", amount="100")
+        browser.press("#taking button", "Take the pledge")
+        browser.press("dialog button", "Take it for £100.00")
+        browser.until("return !document.querySelector('dialog')", "the look")
+        browser.press("#close-book")
+        browser.fill("#open", book="8", key=BROKER)
+        browser.press("#open .buttons button")
+        browser.says("Coming", "#sheet")
+        the_book_is_read()
+        browser.run("window.letGo()")
+        browser.until("return window.come", "the look, and what is done with it")
+        browser.rests()
+        for book in (7, 8):
+            expect(f"book {book}", pages.session.broker("GET", f"/books/{book}/pledges/1")[0], 404)
+        part("take")
+        browser.says("Book 7 was closed before the pledge was sent, so it was not taken.", "#taking .notice")
+        browser.rests()
+        no_faults()
+
+
 TAKING = """const { article, ref, kind, amount, agreed, five } = document.querySelector('#taking').elements;
 return [article.value, ref.value, kind.value, amount.value, agreed.value, five.checked];"""
 
@@ -299,7 +327,8 @@ main(
     240, (),
     (
         an_act_is_done_on_the_pledge_on_which_it_was_pressed, what_came_of_an_act_is_said_in_another_part,
-        a_book_that_was_opened_meanwhile_gets_no_act, a_form_that_is_half_filled_outlives_a_reload,
+        a_book_that_was_opened_meanwhile_gets_no_act, a_book_that_was_opened_meanwhile_gets_no_pledge,
+        a_form_that_is_half_filled_outlives_a_reload,
         the_sheets_of_the_next_days_are_read_once, a_key_can_be_shown_while_it_is_typed,
         a_look_during_an_act_leaves_nothing_that_is_over, the_row_of_parts_stays_where_it_was_moved,
         a_decision_that_another_clerk_overtakes_is_not_reported_as_it_was,

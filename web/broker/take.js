@@ -5,7 +5,7 @@
 import { CODES, isRefusal, refusalOf } from "../shared/codes.js";
 import { inShort, inWords, sixMonthsAfter, today } from "../shared/days.js";
 import { byId, foreign, make } from "../shared/dom.js";
-import { Lost, lookFirst } from "../shared/faults.js";
+import { Lost, lookFirst, Outdated } from "../shared/faults.js";
 import { fieldsOf, fillAgain, onSend, tell } from "../shared/forms.js";
 import { inPounds, MOST, readPounds } from "../shared/money.js";
 import { confirmed, NOTHING_DONE } from "../shared/questions.js";
@@ -142,15 +142,18 @@ async function findLost({ opening, known, before }) {
   return `The reply was lost, but the pledge was taken. ${said}`;
 }
 
-async function send(opening, again) {
+async function send(opening, again, session) {
   const known = again?.known ?? await lookFirst(lastNumber());
+  if (session !== current()) throw new Outdated(
+    `Book ${session.book} was closed before the pledge was sent, so it was not taken.`,
+  );
   const before = again?.before ?? ledger.head;
   try {
     const { said } = await askBook("POST", "/pledges", { body: opening, harmless: true });
     lost = null;
     return { opening, said, known, before };
   } catch (fault) {
-    if (fault instanceof Lost) lost = { opening, known, before };
+    if (fault instanceof Lost && session === current()) lost = { opening, known, before };
     if (isRefusal(fault, CODES.RefTaken)) ledger.anotherChanged();
     throw fault;
   }
@@ -165,6 +168,7 @@ async function refuseWithoutTerms() {
 }
 
 async function take(fields) {
+  const session = current();
   place().replaceChildren();
   wantsTerms = false;
   for (const typed of [fields.ref, fields.article]) if (isReceiptLike(typed)) return openReceipt(typed);
@@ -176,12 +180,17 @@ async function take(fields) {
   if (!again && !await agreedTo(opening)) return NOTHING_DONE;
   let sent;
   try {
-    sent = await send(opening, again);
+    sent = await send(opening, again, session);
   } catch (fault) {
     wantsTerms = isRefusal(fault, CODES.NoTerms);
-    if (!(fault instanceof Lost)) throw fault;
+    if (!(fault instanceof Lost) || session !== current()) throw fault;
     return findLost(lost);
   }
+  if (session !== current()) return {
+    sentence: `Taken as pledge ${sent.said.number} of book ${session.book}, which was closed meanwhile. Open that book `
+      + "to print the receipt.",
+    tone: "bad",
+  };
   try {
     return await show(sent);
   } catch (fault) {
