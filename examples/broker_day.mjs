@@ -9,7 +9,7 @@
  */
 import { Book, Lost, Refused, day, lines, money, nextEntry, settings, stop } from "./client.mjs";
 
-const MAY_BE_MADE = "no reply: a new receipt may have been made. Declare again only if nobody was given it.";
+const MAY_BE_MADE = "no reply: a new receipt may have been made. Declare again only if the pawnor did not get it.";
 const TERMS = { keep_after: 0, keep_before: 0, rate: 2667, version: 1 };
 
 /** What a request gives, or null where it is refused for one of these reasons, each with what it does then. */

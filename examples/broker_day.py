@@ -69,7 +69,7 @@ def declare_lost(book, number):
         print("new receipt", book.post(f"/pledges/{number}/declare", {"paper": "sworn"}, repeat=False)["receipt"])
     except Lost as why:
         if why.sent:
-            print("no reply: a new receipt may have been made. Declare again only if nobody was given it.")
+            print("no reply: a new receipt may have been made. Declare again only if the pawnor did not get it.")
         else:
             print("nothing was sent, so no receipt was made")
 

@@ -54,7 +54,7 @@ if [ -n "$LOST" ]; then
     if ONCE=1 ask POST "/pledges/$LOST/declare" '{"paper":"sworn"}'; then
         echo "new receipt $(said receipt)"
     elif ((SENT > 0)); then
-        echo "no reply: a new receipt may have been made. Declare again only if nobody was given it."
+        echo "no reply: a new receipt may have been made. Declare again only if the pawnor did not get it."
     elif ((CODE == 0)); then
         echo "nothing was sent, so no receipt was made"
     else

@@ -31,8 +31,8 @@ export class Lost extends Error {
 }
 
 /**
- * Nobody took the request, or the proxy kept it back, so it was not done. `pause` is how long to wait; null is for
- * ever.
+ * No process accepted the connection, or the proxy kept the request back, so it was not done. `pause` is how long to
+ * wait; null is for ever.
  */
 class NotHandedOn extends Error {
   constructor(words, pause) {
@@ -41,7 +41,7 @@ class NotHandedOn extends Error {
   }
 }
 
-/** One book of a service at a URL, with the fields that let in: a `Pledge-Key`, or a `Pledge-Receipt`. */
+/** One book of a service at a URL, with the field of its caller: a `Pledge-Key`, or a `Pledge-Receipt`. */
 export class Book {
   constructor(url, number, fields) {
     Object.assign(this, { url: `${url}/books/${number}`, fields });
@@ -102,8 +102,8 @@ function once(method, url, fields, body) {
     const event = library === https ? "secureConnect" : "connect";
     request.on("socket", (socket) => socket.once(event, () => { connected = true; }));
     request.on("timeout", () => request.destroy(new Error("it took too long")));
-    const nobody = (why) => new NotHandedOn(`nobody is there: ${why.message || why.code}`, PAUSE);
-    request.on("error", (why) => failed(connected ? why : nobody(why)));
+    const unmade = (why) => new NotHandedOn(`no connection was made: ${why.message || why.code}`, PAUSE);
+    request.on("error", (why) => failed(connected ? why : unmade(why)));
     request.end(text);
   });
 }
@@ -118,7 +118,7 @@ function told({ status, headers, said }) {
     const pause = PASSING.includes(status) ? Number(headers["retry-after"] ?? PAUSE) : null;
     throw new NotHandedOn(`the proxy said ${status}`, pause);
   }
-  throw new Error(`${status} by another than the service`);
+  throw new Error(`${status} in a reply that is not the service's`);
 }
 
 /** The words of the command line, or else the variables of the environment with these names. */
@@ -137,7 +137,7 @@ export const money = (pence) => `${Math.floor(pence / 100)}.${String(pence % 100
 /** The lines of a text of the service. They end with LF alone, whatever else stands in an article. */
 export const lines = (text) => text.split("\n").slice(0, -1);
 
-/** What stands in a statement behind this word. */
+/** The rest of the statement's line that begins with this word. */
 export const value = (statement, label) => {
   const found = lines(statement).find((line) => line.startsWith(`${label} `));
   return found.slice(label.length + 1);

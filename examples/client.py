@@ -32,8 +32,8 @@ class Lost(Exception):
 
 
 class NotHandedOn(Exception):
-    """Nobody took the request, or the proxy kept it back, so it was not done. `pause` is how long to wait; None is
-    for ever."""
+    """No process accepted the connection, or the proxy kept the request back, so it was not done. `pause` is how long
+    to wait; None is for ever."""
 
     def __init__(self, words, pause):
         super().__init__(words)
@@ -41,7 +41,7 @@ class NotHandedOn(Exception):
 
 
 class Book:
-    """One book of a service at a URL, with the header that lets in: a `Pledge-Key`, or a `Pledge-Receipt`."""
+    """One book of a service at a URL, with the field of its caller: a `Pledge-Key`, or a `Pledge-Receipt`."""
 
     def __init__(self, url, number, **headers):
         self.url = urllib.parse.urlsplit(url)
@@ -84,7 +84,7 @@ class Book:
             try:
                 connection.connect()
             except OSError as why:
-                raise NotHandedOn(f"nobody is there: {why}", PAUSE) from why
+                raise NotHandedOn(f"no connection was made: {why}", PAUSE) from why
             text = None if body is None else json.dumps(body)
             connection.request(method, f"/books/{self.number}{path}", text, {**self.headers, "Connection": "close"})
             reply = connection.getresponse()
@@ -104,7 +104,7 @@ def told(reply, said):
     if isinstance(said, dict) and said.get("handed_on") is False:
         pause = float(reply.getheader("Retry-After") or PAUSE) if reply.status in PASSING else None
         raise NotHandedOn(f"the proxy said {reply.status}", pause)
-    raise ValueError(f"{reply.status} by another than the service")
+    raise ValueError(f"{reply.status} in a reply that is not the service's")
 
 
 def settings(usage, *names):
@@ -127,7 +127,7 @@ def lines(text):
 
 
 def value(statement, label):
-    """What stands in a statement behind this word."""
+    """The rest of the statement's line that begins with this word."""
     return next(line[len(label) + 1:] for line in lines(statement) if line.startswith(f"{label} "))
 
 

@@ -1,5 +1,5 @@
 # What the two scripts in bash share; it is read by them, and not run. URL is the service, BOOK the number of a book,
-# and HEADER the line that lets in.
+# and HEADER the field with the caller's key or receipt.
 
 # Sends a request, and again where no reply came: ask METHOD PATH [BODY]. SAID is the reply, HTTP its status, and CODE
 # the code of a refusal or 0. SENT is how many sendings without a reply may have been done. It fails by 1 where the

@@ -35,7 +35,7 @@ async function pay(book, amount) {
   }
 }
 
-/** Whether a person says yes. Nobody there is no. */
+/** Whether a person says yes. The end of the input means no. */
 async function agreed(question) {
   process.stdout.write(`${question} `);
   const reader = createInterface({ input: process.stdin });

@@ -44,7 +44,7 @@ def pay(book, amount):
 
 
 def agreed(question):
-    """Whether a person says yes. Nobody there is no."""
+    """Whether a person says yes. The end of the input means no."""
     print(question, end=" ", flush=True)
     said = sys.stdin.readline().strip()
     print()

@@ -89,6 +89,24 @@ def start_of(pid):
     return boot + (ticks + 1) / os.sysconf("SC_CLK_TCK")
 
 
+def state_of_certificate(wrong, notes):
+    """For how many days it is good, if the proxy shows one."""
+    try:
+        days, refused = certificate()
+    except (OSError, ValueError, IndexError) as why:
+        wrong.append(
+            f"the proxy at {PROXY} shows no certificate: {why}. Is its site enabled? `ls -l /etc/nginx/sites-enabled`, and "
+            "if `pawnd` is not there: `ln -s ../sites-available/pawnd /etc/nginx/sites-enabled/pawnd`, then `systemctl "
+            "reload nginx`"
+        )
+        return None
+    if days < SHORT_CERTIFICATE:
+        wrong.append(f"the certificate is good for {days} days: `certbot renew`, then `systemctl reload nginx`")
+    if refused:
+        notes.append(f"browsers refuse the certificate: {refused}")
+    return days
+
+
 def state_of_proxy():
     wrong, notes, state = [], [], {"runs": False, "certificate_days": None}
     master = proxy.nginx_master()
@@ -96,15 +114,11 @@ def state_of_proxy():
         wrong.append("nginx does not run: `systemctl start nginx`, then `journalctl -u nginx` if it does not start")
         return state, wrong, notes
     state["runs"] = True
-    try:
-        days, refused = certificate()
-        state["certificate_days"] = days
-        if days < SHORT_CERTIFICATE:
-            wrong.append(f"the certificate is good for {days} days: `certbot renew`, then `systemctl reload nginx`")
-        if refused:
-            notes.append(f"browsers refuse the certificate: {refused}")
-    except (OSError, ValueError, IndexError) as why:
-        wrong.append(f"the proxy at {PROXY} shows no certificate: {why}")
+    if proxy.is_of_another_machine():
+        notes.append("there is no store main here: the proxy of another machine reaches the stores, and has the certificate "
+                     "and the map of books")
+    else:
+        state["certificate_days"] = state_of_certificate(wrong, notes)
     begun = max(map(start_of, proxy.workers(master)), default=0)
     for path in (proxy.BOOKS_MAP, proxy.KEYS_MAP, proxy.STORES_CONF):
         if os.path.exists(path) and os.path.getmtime(path) > begun:

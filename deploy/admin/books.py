@@ -1,14 +1,13 @@
 """Books: making one, and a new key for one whose key has leaked."""
 import json
 import os
-import tempfile
 import uuid
 
 import asking
 import proxy
 import services
 from copies import OLD
-from files import read_note, sync, write_note
+from files import read_note, replace_whole, write_note
 from locks import alone, alone_with, alone_with_settings
 from reading import contents_of
 from settings import MAIN, SETTINGS, Stop, Store, book_number, say, store_name, store_names
@@ -31,13 +30,7 @@ def hand_over(key, what, path):
         say(f"{what}: {key}")
         say("This is the only time that it is shown. Give it to the broker by a way that nobody else can read")
         return
-    handle, new = tempfile.mkstemp(prefix=".key-", dir=os.path.dirname(os.path.abspath(path)))
-    with open(handle, "w") as file:
-        file.write(key + "\n")
-        file.flush()
-        os.fsync(file.fileno())
-    os.rename(new, path)
-    sync(os.path.dirname(os.path.abspath(path)))
+    replace_whole(os.path.abspath(path), key + "\n", 0o600)
     say(f"{what} is in {path}")
 
 
@@ -109,10 +102,21 @@ def make_book(number, where=MAIN, name=None, capacity=CAPACITY, key_file=None, k
         if turned or was_there:
             proxy.reload_nginx()
         services.ask(store, "POST", f"/books/{book}", json.dumps(made), Pledge_Key=services.operators_key())
+        forget_exchange(book)
         if not given or key_to:
             hand_over(made["key"], f"the key of book {book}", key_to)
         os.unlink(pending_file(book))
     say(f"book {book} ({made['name']}) is in the store {where}")
+
+
+def forget_exchange(book):
+    """An earlier book of this number had another key, which may have leaked. The new book has its own key alone."""
+    with alone_with_settings():
+        wanted = proxy.exchanges()
+        if not wanted.pop(book, None):
+            return
+        proxy.write_exchanges(wanted)
+    proxy.reload_nginx()
 
 
 # ---- a key that has leaked
@@ -121,15 +125,30 @@ def make_book(number, where=MAIN, name=None, capacity=CAPACITY, key_file=None, k
 def own_key(book, inside_file):
     """The key that a book was made with: the rules give it one for ever."""
     store = Store(proxy.store_of(book))
-    if inside_file:
-        return key_of_file(inside_file)
-    if not store.is_here:
-        raise Stop(f"the store {store.name} is on another machine: write the key that book {book} was made with into a "
-                   "file, and add --inside-file FILE")
+    if inside_file or not store.is_here:
+        return own_key_elsewhere(book, store, inside_file)
     books = contents_of(store.path).books
     if book not in books:
         raise Stop(f"the store {store.name} has no book {book}")
     return str(uuid.UUID(bytes=books[book]["key"]))
+
+
+def own_key_elsewhere(book, store, inside_file):
+    """The same from a file, or from the exchange that the book has already, as far as the store takes that key. With
+    another one, the exchange would open the book to an earlier key that leaked, and to no other."""
+    _, known = proxy.exchanges().get(book, (None, None))
+    if not inside_file and not known:
+        raise Stop(f"the store {store.name} is on another machine: write the key that book {book} was made with into a "
+                   "file, and add --inside-file FILE")
+    key = key_of_file(inside_file) if inside_file else known
+    if services.code_with_key(store, book, key) == 401:
+        raise Stop(
+            f"the store {store.name} refuses the key in {inside_file or proxy.KEYS_MAP}, so it is not the one that book "
+            f"{book} was made with, and nothing was changed. "
+            + (f"{proxy.KEYS_MAP} has a key of this book: run the command without --inside-file" if inside_file and known
+               else f"Write the first key that book {book} had into a file, and name it by --inside-file")
+        )
+    return key
 
 
 def new_key(number, key_to=None, inside_file=None):

@@ -15,7 +15,7 @@ from reading import head_of_log
 from settings import (
     COPIES, REMOVED, STORE_NAME, STORES, Stop, Store, copies_to_keep, say, store_file, store_names, the_store, warn,
 )
-from tables import check_and_fold, counts_of, in_words, sums_of
+from tables import NotSound, check_and_fold, counts_of, in_words, sums_of
 
 NOTE = "copy.json"
 TIME = "%Y%m%dT%H%M%SZ"
@@ -48,12 +48,19 @@ class Copy:
         self.path = os.path.join(self.folder, "books.db")
         try:
             note = read_note(os.path.join(self.folder, NOTE))
-            self.store, self.made, self.counts = note["store"], note["made"], note["counts"]
+            self.store, self.counts = note["store"], note["counts"]
+            # The operator may have renamed a copy that was made while the clock was wrong.
+            self.made = self.name if COPY_NAME.fullmatch(self.name) else note["made"]
             self.books = {int(book): it for book, it in note["books"].items()}
+            # The copy before, if that one held more though no command took anything out.
+            self.less_than = note.get("less_than")
         except (OSError, ValueError, KeyError, TypeError, AttributeError) as why:
             raise Stop(f"{folder} is not a finished copy: {NOTE} in it cannot be read ({why})") from None
         if not os.path.exists(self.path):
             raise Stop(f"{folder} is not a whole copy: it has no books.db")
+
+    def has_less_than(self, other):
+        return any(self.counts[it] < other.counts[it] for it in self.counts)
 
     @property
     def is_future(self):
@@ -70,6 +77,16 @@ def copies_of(name):
                 copy = Copy(os.path.join(folder, it))
                 (future if copy.is_future else past).append(copy)
     return past, future
+
+
+def unexplained_loss(past):
+    """The last copy that held less than the one before, and that one, as long as no later copy holds as much again."""
+    by_name = {it.name: it for it in past}
+    for place, less in reversed(list(enumerate(past))):
+        more = by_name.get(less.less_than)
+        if more and all(later.has_less_than(more) for later in past[place + 1:]):
+            return less, more
+    return None
 
 
 def removed_books():
@@ -147,7 +164,7 @@ def copy_served(path, target):
             )
 
 
-def finish_copy(part, target, store, made):
+def finish_copy(part, target, store, made, before=None):
     """Checks a copy on a second copy of it, so that the first stays as it was made; writes down what it holds; and
     gives it its name, by one rename."""
     path = os.path.join(part, "books.db")
@@ -165,6 +182,8 @@ def finish_copy(part, target, store, made):
         "bytes": {os.path.basename(it): os.path.getsize(it) for it in files_of_store(path)},
         "books": sums,
     }
+    if before and any(counts[it] < before.counts[it] for it in counts):
+        note["less_than"] = before.name
     write_note(os.path.join(part, NOTE), note)
     sync_folder(part)
     os.rename(part, target)
@@ -179,14 +198,14 @@ def new_time(name):
     return time_name(os.path.join(folder, ""), os.path.join(folder, UNSOUND), kept_folder(name, ""))
 
 
-def make_copy(name, path):
-    """A new copy of a store. The caller holds its lock."""
+def make_copy(name, path, before=None):
+    """A new copy of a store, which is expected to hold no less than the copy `before`. The caller holds its lock."""
     folder = copies_folder(name)
     with room_for(folder, 2 * size_of_store(path) + BLOCK, f"a copy of {path} and a second one to check it"):
         with room_in(folder, PART) as part:
             made = new_time(name)
             copy_served(path, os.path.join(part, "books.db"))
-            return finish_copy(part, os.path.join(folder, made), name, made)
+            return finish_copy(part, os.path.join(folder, made), name, made, before)
 
 
 def copy(name):
@@ -199,8 +218,14 @@ def copy(name):
             mend(name)
         if not os.path.exists(store.path):
             raise Stop(f"there is no store at {store.path}. Is its disk there? `pawnd-admin restore {name} newest`")
-        before, future = copies_of(name)
-        made = make_copy(name, store.path)
+        past, future = copies_of(name)
+        taken_out = past and any(it.was_in_force and it.time > past[-1].name for it in kept_of(name))
+        before = past[-1] if past and not taken_out else None
+        try:
+            made = make_copy(name, store.path, before)
+        except NotSound as why:
+            raise Stop(f"{why}. No copy was made. Run the command again. If it says the same, the store {name} is damaged: "
+                       "OPERATING.md, `A store does not start`, says what to do") from None
         say(f"{made.folder}: {in_words(made.counts)}")
         forget_old(name, keep)
         if can_settle:
@@ -208,9 +233,9 @@ def copy(name):
     for it in future:
         warn(f"{it.folder} is dated in the future: is the clock right? It is not counted as a copy. When the clock is "
              "right, rename it to a time that has passed, or remove it")
-    if before and any(made.counts[it] < before[-1].counts[it] for it in made.counts):
-        warn(f"the copy before, {before[-1].name}, held more: {in_words(before[-1].counts)}. If no book was taken out "
-             "and no copy was put back since, a log may have been lost. Both copies stay")
+    if made.less_than:
+        warn(f"the copy before, {before.name}, held more: {in_words(before.counts)}: a log may have been lost. Both copies "
+             "stay, and `pawnd-admin status` says what to do")
 
 
 # ---- removing old ones

@@ -295,8 +295,8 @@ def remove_alone(book, locked):
     for store in map(the_store, sorted(locked - set(places))):
         if not replicas.is_elsewhere(store):
             services.start(store)
+    # An exchange of its key stays, since the leaked key would open the book again when it comes back out of a copy.
     proxy.turn({book}, None)
-    forget_exchange(book)
     proxy.reload_nginx()
     folder = kept[-1].folder
     say(f"book {book} is in no store any more. {folder} has its last state: book.csv for the broker, and books.db, "
@@ -342,9 +342,3 @@ def write_text(path, book, target):
         file.write(text)
     for it in files_of_store(scratch):
         os.unlink(it)
-
-
-def forget_exchange(book):
-    wanted = proxy.exchanges()
-    if wanted.pop(book, None):
-        proxy.write_exchanges(wanted)

@@ -7,7 +7,7 @@ import copies
 import proxy
 from files import free_bytes, is_moveable, read_note, size_of_store, work_prefix
 from locks import alone_if_free
-from settings import COPIES, MAIN, SETTINGS, STORES, store_file, store_names
+from settings import COPIES, MAIN, SETTINGS, STORES, conf_of, store_file, store_names
 
 # A disk is too small with less than this part of it, or with less than what is wanted for a copy.
 SMALL_PART, SMALL_DISK = 0.05, 1 << 30
@@ -17,7 +17,12 @@ def faults_of_books(lines, found):
     """Books without a line, lines without a book, and books that are in two stores. `found` has the books of each
     store that could be read."""
     wrong, notes = [], []
+    if proxy.is_of_another_machine():
+        return wrong, notes
     known = store_names()
+    if MAIN not in known:
+        wrong.append(f"there is no store {MAIN}, to which the proxy passes each book without a line: put the file "
+                     f"{conf_of(MAIN)} back, then `pawnd-admin reload`")
     for book, name in sorted(lines.items()):
         if name not in known:
             wrong.append(f"book {book} has a line for the store {name}, and there is no such store: mend "

@@ -126,12 +126,17 @@ def sync_folder(folder):
 def write_whole(path, text, mode=None):
     """Writes a file aside and renames it into place. The rename is the only step that others see. A file that has the
     text already stays, and its time with it."""
-    folder, name = os.path.split(path)
     with contextlib.suppress(FileNotFoundError), open(path) as file:
         if file.read() == text and mode in (None, os.fstat(file.fileno()).st_mode & 0o777):
             return
     if mode is None:
         mode = os.stat(path).st_mode & 0o777 if os.path.exists(path) else 0o600
+    replace_whole(path, text, mode)
+
+
+def replace_whole(path, text, mode):
+    """The same, whatever is at this path. What a run left beside it that was killed meanwhile is removed."""
+    folder, name = os.path.split(path)
     for left in os.listdir(folder):
         if left.startswith(f".{name}.new-"):
             os.unlink(os.path.join(folder, left))

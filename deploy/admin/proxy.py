@@ -9,7 +9,7 @@ import uuid
 
 from files import write_whole
 from locks import alone_with_settings
-from settings import MAIN, SETTINGS, Stop, Store, store_names, warn
+from settings import MAIN, SETTINGS, SYSTEM, Stop, Store, store_names, warn
 
 BOOKS_MAP = os.path.join(SETTINGS, "books.map")
 KEYS_MAP = os.path.join(SETTINGS, "keys.map")
@@ -42,8 +42,15 @@ def book_lines():
     return found
 
 
+def is_of_another_machine():
+    """Whether the stores here are reached by the proxy of another machine, which has the lines of their books: such a
+    machine has no store `main`, and its nginx is a relay."""
+    return MAIN not in store_names() and not os.path.lexists(os.path.join(SYSTEM, "nginx/sites-enabled/pawnd"))
+
+
 def store_of(book):
-    return book_lines().get(book, MAIN)
+    names = store_names()
+    return book_lines().get(book, names[0] if is_of_another_machine() and len(names) == 1 else MAIN)
 
 
 def turn(books, name):

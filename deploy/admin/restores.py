@@ -72,7 +72,7 @@ def tell_what_differs(store, copy):
     lines = proxy.book_lines()
     for book in sorted(copy.books):
         place = lines.get(book, MAIN)
-        if place != store.name:
+        if place != store.name and not proxy.is_of_another_machine():
             warn(f"the copy has rows of book {book}, which is in the store {place}: nobody reaches them here")
     for it in removed_books():
         for book in sorted(it.books.keys() & copy.books.keys()):

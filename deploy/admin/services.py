@@ -1,6 +1,7 @@
 """The services of stores: starting, stopping, and asking them."""
 import contextlib
 import http.client
+import json
 import os
 import subprocess
 import time
@@ -99,6 +100,20 @@ def ask(store, method, target, body=None, **fields):
     if reply.status != 200:
         raise Stop(f"the store {store.name} refuses: {said.decode(errors='replace').strip()}")
     return said
+
+
+def code_with_key(store, book, key):
+    """The code of a store's refusal of a request for a pledge that no book has, with this key: 401 if it is not the
+    book's."""
+    connection = http.client.HTTPConnection(store.address, timeout=60)
+    with contextlib.closing(connection):
+        try:
+            heads = {"Connection": "close", "Pledge-Key": key}
+            connection.request("GET", f"/books/{book}/pledges/999999999", headers=heads)
+            return json.loads(connection.getresponse().read()).get("code")
+        except (OSError, ValueError, AttributeError, http.client.HTTPException) as why:
+            raise Stop(f"the store {store.name} at {store.address} does not answer ({why}), so nothing was changed. Look "
+                       "at `pawnd-admin status`, then run the command again") from None
 
 
 def has_port_rule(store):

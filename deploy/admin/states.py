@@ -12,6 +12,7 @@ import replicas
 import services
 from asking import PATIENCE, answers_through_proxy, state_of_proxy
 from faults import faults_of_books, faults_of_disks, leftovers, pending, removed_books_that_are_back
+from files import files_of_store, owner_of
 from locks import alone_if_free
 from reading import contents_of
 from settings import MAIN, OFFSITE, SETTINGS, Stop, Store, say, store_names
@@ -36,6 +37,13 @@ def newest_copy(name, wrong):
     hours = (copies.utc_now() - copies.time_of(past[-1].made)).total_seconds() / 3600
     if hours > OLD_COPY:
         wrong.append(f"has no copy of the last {OLD_COPY} hours: `journalctl -u pawnd-copy@{name}`")
+    if found := copies.unexplained_loss(past):
+        less, more = found
+        wrong.append(
+            f"its copy {less.name} held less than the one before, {more.name}: a log may have been lost. Compare them, and "
+            f"put the older one back: `pawnd-admin restore {name} {more.name}`. If the store rightly holds less, move "
+            f"{more.folder} to another place"
+        )
     return {"name": past[-1].name, "hours": round(hours, 1), "count": len(past), **past[-1].counts}
 
 
@@ -49,7 +57,8 @@ def newest_offsite(name, wrong, notes):
     path = os.path.join(OFFSITE, name)
     if not os.path.exists(path):
         if is_sent(name):
-            wrong.append(f"no copy was sent off this machine yet: `journalctl -u pawnd-offsite@{name}`")
+            wrong.append(f"no copy was sent off this machine yet: `systemctl start pawnd-offsite@{name}`, and if that "
+                         f"fails, `journalctl -u pawnd-offsite@{name}`")
         elif any(map(is_sent, store_names())):
             wrong.append(f"is not sent off this machine, as others are: `systemctl enable --now "
                          f"pawnd-offsite@{name}.timer`, then `systemctl start pawnd-offsite@{name}`")
@@ -92,6 +101,12 @@ def state_of_file(store, state, wrong):
     if not os.path.exists(store.path):
         wrong.append(f"its file {store.path} is missing. Is its disk there? `pawnd-admin restore {store.name} newest`")
         return {}
+    folder, (user, _) = os.path.dirname(store.path), owner_of(store.name)
+    if not store.volume and any(os.stat(it).st_uid != user for it in (folder, *files_of_store(store.path))):
+        wrong.append(
+            f"{folder} or a file in it does not belong to its user, so it does not start: `chown -R pawnd-{store.name}: "
+            f"{folder}`, then `systemctl restart {services.unit_of(store.name)}`"
+        )
     found = contents_of(store.path)
     rows, limit, counts = found.meta["rows"], found.meta["limit"], found.counts
     state.update(counts, limit=limit, bytes=os.path.getsize(store.path), log_bytes=services.log_bytes(store.path))
@@ -236,9 +251,10 @@ def in_text(told):
             parts.append(f"newest copy {copy['name']} ({copy['hours']} hours)" if copy else "no copy")
             parts.append(f"newest off this machine {offsite['hours']} hours" if offsite else "none off this machine")
         yield "; ".join(parts)
-    yield (f"proxy: {'runs' if told['proxy']['runs'] else 'DOES NOT RUN'}; certificate: "
-           f"{told['proxy']['certificate_days']} days; {told['lines']} books with a line; {told['exchanged_keys']} "
-           "exchanged keys")
+    days = told["proxy"]["certificate_days"]
+    yield (f"proxy: {'runs' if told['proxy']['runs'] else 'DOES NOT RUN'}; "
+           f"{'no certificate' if days is None else f'certificate: {days} days'}; {told['lines']} books with a line; "
+           f"{told['exchanged_keys']} exchanged keys")
     for folder, disk in told["disks"].items():
         yield f"{folder}: {disk['free']:,} of {disk['bytes']:,} bytes free"
     yield from (f"note: {line}" for line in told["notes"])

@@ -15,13 +15,17 @@ COUNTED = ("bookings", "secrets", "entries", "pledges", "terms", "books")
 TABLES = ("totals", "extensions", *COUNTED)
 
 
+class NotSound(Stop):
+    """The program does not find a store sound."""
+
+
 def check(path):
     """What the program counts in a store, once it has found it sound. It brings the log into the database."""
     ran = subprocess.run([PAWND, "check", path], stdin=subprocess.DEVNULL, capture_output=True, text=True)
     found = re.fullmatch(r"books (\d+) pledges (\d+) rows (\d+)\n", ran.stdout)
     if ran.returncode or not found:
         said = ran.stderr.strip() or ran.stdout.strip() or f"status {ran.returncode}"
-        raise Stop(f"`pawnd check {path}` does not find the store sound: {said}")
+        raise NotSound(f"`pawnd check {path}` does not find the store sound: {said}")
     return dict(zip(("books", "pledges", "rows"), map(int, found.groups())))
 
 

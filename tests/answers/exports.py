@@ -214,6 +214,8 @@ def hostile_texts_are_refused():
         )
         expect("a quote that is left open", put(server, 7, open_quote), fault(601, "Csv", 4))
         expect("a million commas", put(server, 7, lines[0] + lines[1] + b"," * 1_000_000), fault(601, "Csv", 3))
+        for none in (b"", b"\n\r\n", b"\xef\xbb\xbf"):
+            expect(f"a text without a record, {none!r}", put(server, 7, none), fault(602, "Columns", 1))
         expect("a million commas first", put(server, 7, b"," * 1_000_000), fault(602, "Columns", 1))
         expect("a row of one field", put(server, 7, lines[0] + b"B\n"), fault(601, "Csv", 2))
         expect(

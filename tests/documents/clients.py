@@ -201,6 +201,11 @@ def how_connections_end():
             with server.connect() as peer:
                 peer.sendall(request(method, "/books/7/held", CLOSE))
                 expect(method, read_all(peer), refusal(707, "WrongMethod", "400 Bad Request"))
+        connection = http.client.HTTPConnection("127.0.0.1", server.port, timeout=60)
+        connection.request("HEAD", "/books/7/held")
+        reply = connection.getresponse()
+        expect("what http.client reads of HEAD", (reply.status, reply.read()), (400, b""))
+        connection.close()
         with server.connect() as peer:
             body = '{"keep_after":0,"keep_before":0,"rate":0,"version":1}'
             peer.sendall(request("POST", "/books/7/terms", KEY, "Expect: 100-continue", CLOSE, body=body)[:-len(body)])

@@ -179,16 +179,19 @@ def repeated(operation, step, body, first):
     shutil.copyfile(path, copy)
     RUN.path = copy
     code, said = RUN.ask(operation.method, step["target"], step["fields"], body, step["day"])
+    if operation.name == "sell":
+        earlier, _ = RUN.ask(operation.method, step["target"], step["fields"], body, DAY)
+        expect("a sale that is sent again after the clock was set back", earlier, 205)
     RUN.close()
     RUN.path = path
     when = operation.said["x-repeat"]["when"]
     wanted = {
-        "always": (0, first), "while it stands": (0, first), "told": (305 if operation.name == "sell" else 402, said),
-        "never": (0, said),
+        "always": (0, first), "if unchanged": (0, first), "never": (0, said),
+        "refused if done": (305 if operation.name == "sell" else 402, said),
     }[when]
     expect(
         f"{operation.name}, which may be sent again: {when}", (code, said, said == first),
-        (*wanted, "always" == when or "while it stands" == when),
+        (*wanted, "always" == when or "if unchanged" == when),
     )
 
 

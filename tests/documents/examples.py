@@ -230,7 +230,7 @@ def lost_replies():
             session.close()
             status, said, complained = runs(f"broker_day.{language}", relay.url, str(book), BROKER, "1")
             mine = RECEIPT.search(said)[0] if RECEIPT.search(said) else "none"
-            warning = "no reply: a new receipt may have been made. Declare again only if nobody was given it.\n"
+            warning = "no reply: a new receipt may have been made. Declare again only if the pawnor did not get it.\n"
             expect(f"{language}: the day", (status, said.replace(warning, "")), (0, of_a_day(1, mine)))
             expect(f"{language}: the declaration", (warning in said, "declare" in complained), (True, False))
             paths = [line.split()[4] for line in complained.splitlines()]
@@ -345,7 +345,7 @@ def a_declaration_that_was_never_sent():
             session.close()
 
 
-def nobody_is_there():
+def no_process_listens():
     for language in LANGUAGES:
         status, said, complained = runs(
             f"pawnor_visit.{language}", "http://127.0.0.1:1", "7", "1-00000000-0000-0000-0000-000000000000",
@@ -355,6 +355,8 @@ def nobody_is_there():
             (status, said, complained.count("sent again"), complained.splitlines()[-1].startswith("stopped: no reply")),
             (1, "", 2, True),
         )
+        why = "(HTTP 000)" if language == "sh" else "no connection was made: "
+        expect(f"{language}: why", why in complained.splitlines()[-1], True)
         status, said, complained = runs(f"pawnor_visit.{language}")
         expect(f"{language}: without words", (status, said, "usage: pawnor_visit" in complained), (1, "", True))
 
@@ -362,5 +364,5 @@ def nobody_is_there():
 main(
     a_brokers_day, a_pawnors_visit, a_day_goes_on_after_a_visit, lost_replies, articles_that_are_meant_to_mislead,
     what_the_proxy_kept_back, what_the_proxy_refuses_for_good, another_sum_is_paid_only_when_a_person_says_so,
-    a_declaration_that_was_never_sent, nobody_is_there,
+    a_declaration_that_was_never_sent, no_process_listens,
 )

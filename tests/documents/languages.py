@@ -1,11 +1,15 @@
 """The first example of each language: it shows pledges by their receipts, and its second request does not wait for the
 end of its first one's connection. And the requests for editors, each of which the service answers."""
+import contextlib
 import glob
+import http.client
 import os
 import re
 import shutil
+import socket
 import subprocess
 import tempfile
+import threading
 import time
 
 from tests.library.checks import expect, main, not_tried
@@ -45,15 +49,19 @@ def has(language):
     return not absent
 
 
-def shown(language, room, server, receipts):
-    """What the example prints for these receipts, and the seconds that it takes."""
+def run_example(language, room, port, receipts):
     example, words, _ = LANGUAGES[language]
     made = [word.format(room=room, example=os.path.join(FIRST, example)) for word in words]
-    begun = time.monotonic()
-    ran = subprocess.run(
-        [*made, f"http://localhost:{server.port}", "7", *receipts], stdin=subprocess.DEVNULL, capture_output=True, text=True,
+    return subprocess.run(
+        [*made, f"http://localhost:{port}", "7", *receipts], stdin=subprocess.DEVNULL, capture_output=True, text=True,
         timeout=120,
     )
+
+
+def shown(language, room, server, receipts):
+    """What the example prints for these receipts, and the seconds that it takes."""
+    begun = time.monotonic()
+    ran = run_example(language, room, server.port, receipts)
     expect(f"how the example in {language} ends", (ran.returncode, ran.stderr), (0, ""))
     return ran.stdout, time.monotonic() - begun
 
@@ -80,6 +88,57 @@ def each_language_asks_twice_without_waiting():
             print(f"        {once:.2f} s for one receipt, {twice:.2f} s for two, in {language}", flush=True)
             expect(f"what {language} shows", (told.count("200"), told.count("Pledge 1\n"), told.count("Pledge 2\n")), (2, 1, 1))
             expect(f"the second request of {language} does not wait", twice - once < PATIENCE - 1, True)
+
+
+# How an example ends if its reply was cut. Perl's library makes a reply of its own from such a fault.
+AFTER_A_CUT = {
+    "Go": (1, "unexpected EOF"), "Ruby": (1, "the reply was cut"), "Perl": (0, ""), "PHP": (1, "no whole reply"),
+    "Python": (1, "the reply was cut"), "JavaScript": (1, "terminated"), "Java": (1, "IOException"),
+}
+
+
+@contextlib.contextmanager
+def cutting():
+    """A server that ends each reply in the middle of a statement: its port."""
+    def serve():
+        while True:
+            try:
+                peer, _ = it.accept()
+            except OSError:
+                return
+            with peer:
+                peer.recv(10_000)
+                peer.sendall(b"HTTP/1.1 200 OK\r\nContent-Length: 99\r\nContent-Type: text/plain\r\n\r\nPledge 1\n")
+
+    with socket.create_server(("127.0.0.1", 0)) as it:
+        threading.Thread(target=serve, daemon=True).start()
+        yield it.getsockname()[1]
+        it.shutdown(socket.SHUT_RDWR)
+
+
+def a_reply_that_was_cut_is_not_shown():
+    """No example takes the beginning of a statement for the whole; curl and Python's own client report it, too."""
+    with cutting() as port, tempfile.TemporaryDirectory() as room:
+        for language, (wanted, why) in AFTER_A_CUT.items():
+            if not has(language):
+                continue
+            if language == "Go":
+                build_for_go(room)
+            ran = run_example(language, room, port, ["1-x"])
+            expect(f"how {language} ends", (ran.returncode, why in ran.stderr), (wanted, True))
+            expect(f"what {language} shows of it", "Pledge" in ran.stdout, False)
+            if language == "Perl":
+                expect("what Perl shows", ran.stdout.startswith("599\n"), True)
+        ran = subprocess.run(["curl", "-s", f"http://localhost:{port}/books/7/held"], capture_output=True, timeout=60)
+        expect("how curl ends", ran.returncode, 18)
+        connection = http.client.HTTPConnection("127.0.0.1", port, timeout=60)
+        connection.request("GET", "/books/7/held")
+        try:
+            said = connection.getresponse().read()
+        except http.client.IncompleteRead:
+            said = None
+        connection.close()
+        expect("what Python's own client reads", said, None)
 
 
 def each_line_of_a_statement_is_read_by_the_expression():
@@ -166,6 +225,6 @@ def the_requests_for_editors_are_answered():
 if not shutil.which("curl"):
     provide({"curl": "curl"})
 main(
-    each_language_asks_twice_without_waiting, the_requests_for_editors_are_answered,
+    each_language_asks_twice_without_waiting, a_reply_that_was_cut_is_not_shown, the_requests_for_editors_are_answered,
     each_line_of_a_statement_is_read_by_the_expression, a_story_of_the_page_is_played, the_rows_of_the_page_can_be_sold,
 )

@@ -135,7 +135,7 @@ def wanted_of(operation, rules=RULES):
     bytes_of_it = [code for code in order_of_bytes(rules) if code in {701, 703, 704, 705, 706, *shown, *body}]
     command = COMMANDS.get(operation.name)
     if command:
-        base = requests["POST", "/books/{}/held/" if operation.caller == "bearer" else "/books/{}/pledges/{}/"]
+        base = requests["POST", "/books/{}/held/{}" if operation.caller == "bearer" else "/books/{}/pledges/{}/{}"]
         last = [408] if command == "decide" else []
         own = [*(code for code in base if code != 408), *commands[command], *last]
     else:

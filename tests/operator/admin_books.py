@@ -1,5 +1,6 @@
 """`pawnd-admin` and single books: one is made, one comes back out of a copy, a key has leaked, a broker leaves."""
 import os
+import shutil
 import stat
 import uuid
 
@@ -91,6 +92,28 @@ def a_broker_who_leaves():
         expect("what commands left", it.leftovers(), [])
 
 
+def a_leaked_key_of_a_book_that_comes_back():
+    """The key that leaked before the book left is refused when the book is back. A new book of this number has its own
+    key alone."""
+    with Machine() as it:
+        caller = it.book(7, pledges=1)
+        leaked = caller.key
+        it.admin("new-key", 7, "--key-to", it.place("new"))
+        with open(it.place("new")) as file:
+            caller.key = file.read().strip()
+        it.admin("remove-book", 7)
+        folder = os.path.join(it.copies, "removed", os.listdir(os.path.join(it.copies, "removed"))[0])
+        it.admin("restore-book", 7, folder, "west")
+        expect("the leaked key", caller.request("GET", "/pledges/1", key=leaked), REFUSED)
+        expect("the broker's key", caller.request("GET", "/pledges/1")[0], 200)
+        it.admin("remove-book", 7)
+        again = it.book(7, pledges=1)
+        expect("the new book", again.request("GET", "/pledges/1")[0], 200)
+        for key in (leaked, caller.key):
+            expect("the keys of the old one", again.request("GET", "/pledges/1", key=key), REFUSED)
+        expect("exchanged keys", it.status()["exchanged_keys"], 0)
+
+
 def spellings(key):
     """A key in each form that the program reads."""
     plain = uuid.UUID(key).hex
@@ -128,5 +151,40 @@ def a_leaked_key():
         expect("exchanged keys", it.status()["exchanged_keys"], 1)
 
 
+def a_leaked_key_of_a_store_elsewhere():
+    """The file of --inside-file is compared with what the store says, before anything changes; after one exchange it is
+    not needed any more."""
+    with Machine() as it:
+        it.store("west")
+        caller = it.book(10, "west", pledges=1)
+        with open(it.place("etc/stores/west.conf")) as file:
+            port = file.read().partition("PORT=")[2].strip()
+        it.write("etc/stores/west.conf", f"ADDRESS=127.0.0.1:{port}\n")
+        it.write("first", caller.key + "\n")
+        it.write("wrong", str(uuid.uuid4()) + "\n")
+        new = "new-key", 10, "--key-to", it.place("new")
+        expect("what it asks for", "--inside-file FILE" in it.admin(*new, wanted=1), True)
+        said = it.admin(*new, "--inside-file", it.place("wrong"), wanted=1)
+        expect(f"a wrong file: {said}", "nothing was changed" in said, True)
+        expect("its key is still in force", caller.request("GET", "/pledges/1")[0], 200)
+        it.admin(*new, "--inside-file", it.place("first"))
+        shutil.copy(it.place("new"), it.place("second"))
+        said = it.admin(*new, "--inside-file", it.place("second"), wanted=1)
+        expect(f"the file of the key that leaked last: {said}", "nothing was changed" in said, True)
+        keys = {}
+        for name in ("first", "second"):
+            with open(it.place(name)) as file:
+                keys[name] = file.read().strip()
+        expect("the first leaked key", caller.request("GET", "/pledges/1", key=keys["first"]), REFUSED)
+        expect("the broker's key", caller.request("GET", "/pledges/1", key=keys["second"])[0], 200)
+        it.admin(*new)
+        with open(it.place("new")) as file:
+            expect("a second exchange", caller.request("GET", "/pledges/1", key=file.read().strip())[0], 200)
+        expect("the second leaked key", caller.request("GET", "/pledges/1", key=keys["second"]), REFUSED)
+
+
 if __name__ == "__main__":
-    main_with(PACKAGES, a_store_and_books, one_book_out_of_a_copy, a_broker_who_leaves, a_leaked_key)
+    main_with(
+        PACKAGES, a_store_and_books, one_book_out_of_a_copy, a_broker_who_leaves, a_leaked_key,
+        a_leaked_key_of_a_store_elsewhere, a_leaked_key_of_a_book_that_comes_back,
+    )

@@ -14,7 +14,7 @@ from tests.library.keys import BROKER
 from tests.library.operator.admin_machine import PACKAGES, Caller, Machine, await_load, load
 from tests.library.operator.admin_places import rows_of
 from tests.library.packages import main_with
-from tests.library.paths import PROGRAM
+from tests.library.paths import PROGRAM, TOP
 
 TIME = "%Y%m%dT%H%M%SZ"
 
@@ -99,6 +99,18 @@ def a_copy_without_its_log_is_noticed():
             caller.repay()
         said = it.admin_with("copy", "main", PLANT="the_log_is_not_copied")
         expect(f"a copy without its log: {said}", "a log may have been lost" in said, True)
+
+
+def a_store_that_is_damaged():
+    """No copy is made of it, and the message says where to read on."""
+    with Machine() as it:
+        it.book(7, pledges=3)
+        it.systemctl("stop", "pawnd@main")
+        with open(it.path("main"), "r+b") as file:
+            file.write(b"spoilt " * 2000)
+        said = it.admin("copy", "main", wanted=1)
+        expect(f"what it says: {said}", "OPERATING.md, `A store does not start`" in said, True)
+        expect("the copies", copies(it), [])
 
 
 def a_copy_may_be_looked_into():
@@ -236,6 +248,69 @@ def old_copies_are_removed():
         expect("KEEP has to be a number", "KEEP=none" in it.admin("copy", "main", wanted=1), True)
 
 
+# In place of borg: it notes the archives that are made, and lists them in the order of their times, as borg does.
+BORG = """#!/bin/bash
+case $1 in
+create) echo "${6#::} $7" >>"$ARCHIVES" ;;
+list) cut -d ' ' -f 1 "$ARCHIVES" | sort -t . -k 3 | if [[ "$*" == *'--last 1'* ]]; then tail -n 1; else cat; fi ;;
+export-tar) tar -c -C "$ARCHIVES.room" etc ;;
+esac
+"""
+
+
+def by_borg(machine, *words):
+    """What a command of deploy/offsite prints."""
+    machine.write("bin/borg", BORG, 0o755)
+    machine.write("bin/runuser", '#!/bin/sh\nshift 3\nexec "$@"\n', 0o755)
+    machine.write("passphrase", "x\n", 0o600)
+    ran = subprocess.run(
+        [os.path.join(TOP, "deploy/offsite", words[0]), *words[1:]], capture_output=True, text=True, timeout=60,
+        stdin=subprocess.DEVNULL, env={**machine.environment, "ARCHIVES": machine.place("archives"),
+                                       "FOLDER": machine.place("offsite"), "PASSPHRASE": machine.place("passphrase")},
+    )
+    expect(f"the end of {words}: {ran.stderr}", ran.returncode, 0)
+    return ran.stdout + ran.stderr
+
+
+def a_certificate_that_is_elsewhere():
+    """An archive has the first machine's link to its certificate, and not the certificate. The link of the machine that
+    takes the archive stays, so that its nginx goes on."""
+    with Machine() as it:
+        it.write("archives", "main.20260101T000000Z.20260101T000000Z x\n")
+        for room, leads_to in ((it.place("archives.room"), "/etc/letsencrypt/live/it"), (it.place("taken"), "first-certificate")):
+            os.makedirs(os.path.join(room, "etc/pawnd"))
+            os.symlink(leads_to, os.path.join(room, "etc/pawnd/certificate"))
+        it.write("archives.room/etc/pawnd/operator.key", "it\n")
+        by_borg(it, "take", "main", it.place("taken"))
+        expect("the link", os.readlink(it.place("taken/etc/pawnd/certificate")), "first-certificate")
+        expect("a file", os.path.exists(it.place("taken/etc/pawnd/operator.key")), True)
+
+
+def a_clock_that_was_ahead():
+    """A copy that is dated in the future is not sent, and an archive that is dated in the future is not taken. The copy
+    counts again under the name of a time that has passed."""
+    with Machine() as it:
+        it.book(7, pledges=1)
+        it.admin("copy", "main")
+        ahead = days_ago(-400)
+        redate(it, copies(it)[-1], ahead)
+        it.admin("copy", "main")
+        wanted = [name for name in copies(it) if name != ahead][-1]
+        by_borg(it, "send", "main")
+        with open(it.place("archives")) as file:
+            sent = file.read().split()
+        expect("what is sent", sent[1], it.place("backups/main", wanted))
+        with open(it.place("offsite/main")) as file:
+            expect("what is noted", file.read().strip(), wanted)
+        it.write("archives", f"{sent[0]} x\nmain.{ahead}.{ahead} x\n")
+        os.makedirs(it.place("archives.room/etc"))
+        expect("what is taken", by_borg(it, "take", "main", it.room).split()[0], sent[0])
+        expect("what status says", "dated in the future" in str(it.status()["wrong"]), True)
+        os.rename(it.place("backups/main", ahead), it.place("backups/main", days_ago(1)))
+        expect("and after the rename that it asks for", it.status()["wrong"], [])
+        expect("the newest", it.status()["stores"][0]["copy"]["name"], wanted)
+
+
 def onto_an_empty_machine():
     """From the copies and the settings alone: each change that was acknowledged before the copies is there."""
     with Machine() as old, Machine(empty=True) as new:
@@ -272,10 +347,13 @@ if __name__ == "__main__":
         a_large_store_that_is_written_without_a_pause,
         a_log_that_is_begun_anew,
         a_copy_without_its_log_is_noticed,
+        a_store_that_is_damaged,
         a_copy_may_be_looked_into,
         without_its_log_a_copy_is_refused,
         what_stood_there_becomes_a_copy,
         a_database_that_is_lost,
         old_copies_are_removed,
+        a_clock_that_was_ahead,
+        a_certificate_that_is_elsewhere,
         onto_an_empty_machine,
     )

@@ -1,6 +1,7 @@
 """Verbs of `pawnd-admin` that are ended by Ctrl-C in their middle, and run again. Ctrl-C reaches the verb and the program
 that it runs at that moment."""
 import os
+import shlex
 import signal
 import subprocess
 
@@ -25,7 +26,8 @@ def interrupted(it, at, *words):
     count = it.place("checks")
     if os.path.exists(count):
         os.unlink(count)
-    it.write("pressed", PRESSED.format(count=count, at=at, program=PROGRAM), 0o755)
+    paths = {"count": shlex.quote(count), "program": shlex.quote(PROGRAM)}
+    it.write("pressed", PRESSED.format(at=at, **paths), 0o755)
     ran = subprocess.run(
         [ADMIN, *map(str, words)], env={**it.environment, "PAWND": it.place("pressed")}, capture_output=True, text=True,
         timeout=300, stdin=subprocess.DEVNULL, start_new_session=True,

@@ -1,5 +1,7 @@
 """`store`, `book`, `copy` and `new-key` of `pawnd-admin`, killed at some of their steps and run again:
 admin_killing.py says how."""
+import os
+
 from tests.library.checks import expect
 from tests.library.operator.admin_killing import ALL, expect_well, killed
 from tests.library.operator.admin_machine import PACKAGES
@@ -31,8 +33,10 @@ def killed_new_key():
         with open(story.machine.place("new-key")) as file:
             caller.key = file.read().strip()
         caller.look_up()
+        left = [it for it in os.listdir(story.machine.place()) if it.startswith(".")]
+        expect("what is left where the operator wanted the key", left, [])
 
-    killed(["new-key", "8", "--key-to", "NEW"], after, goes_back={8})
+    killed(["new-key", "8", "--key-to", "NEW"], after, goes_back={8}, named=["/new-key'"])
 
 
 if __name__ == "__main__":

@@ -175,6 +175,36 @@ def copies_and_disks():
         expect_wrong(it, "store main: holds less than its newest copy")
 
 
+def a_copy_of_a_store_that_lost_its_log():
+    """A copy that is made after a loss does not end the complaint. The copy that the status names ends it, and what a
+    command takes out causes none."""
+    with Machine() as it:
+        caller = it.book(7, pledges=2)
+        it.admin("copy", "main")
+        it.systemctl("stop", "pawnd@main")
+        shutil.copytree(os.path.dirname(it.path("main")), it.place("older"))
+        it.systemctl("start", "pawnd@main")
+        it.await_store("main")
+        for _ in range(3):
+            caller.repay()
+        it.admin("copy", "main")
+        whole = os.path.basename(it.newest("main"))
+        it.systemctl("stop", "pawnd@main")
+        for end in ("", "-wal"):
+            shutil.copy(it.place("older", "books.db" + end), it.path("main") + end)
+        it.systemctl("start", "pawnd@main")
+        it.await_store("main")
+        expect_wrong(it, f"store main: holds less than its newest copy, {whole}")
+        it.admin("copy", "main")
+        expect_wrong(it, f"held less than the one before, {whole}")
+        it.admin("restore", "main", whole)
+        caller.look_up()
+        expect_wrong(it)
+        it.book(8, pledges=1)
+        it.admin("copy", "main"), it.admin("remove-book", 8), it.admin("copy", "main")
+        expect_wrong(it)
+
+
 def less_than_the_copy_by_a_command():
     """What a split took out of a store is not missed, neither before the store has its copy nor while it is made."""
     with Machine() as it:
@@ -214,6 +244,36 @@ def redate(copy, name):
     with open(os.path.join(copy, "copy.json"), "w") as file:
         json.dump({**note, "made": name}, file)
     os.rename(copy, os.path.join(os.path.dirname(copy), name))
+
+
+def a_machine_without_main():
+    """It serves stores for the proxy of another machine. If the proxy's own site is enabled, its file of `main` is lost."""
+    with Machine() as it:
+        it.store("west")
+        it.book(10, "west")
+        it.admin("copy", "west")
+        os.rename(it.place("etc/stores/main.conf"), it.place("main.conf"))
+        it.write("etc/books.map", "")
+        it.admin("reload")
+        expect_wrong(it)
+        it.write("etc/books.map", "10 west;\n")
+        os.makedirs(it.place("system/nginx/sites-enabled"))
+        it.write("system/nginx/sites-enabled/pawnd", "")
+        it.admin("reload")
+        expect_wrong(it, "there is no store main")
+
+
+def a_file_of_another_user():
+    """A store that its user may not read is sound, and nothing has to be put back."""
+    if os.geteuid():
+        not_tried("a file of another user", "this is not root")
+        return
+    with Machine() as it:
+        it.book(7, pledges=1)
+        it.admin("copy", "main")
+        expect_wrong(it)
+        os.chown(it.path("main"), 65534, 65534)
+        expect_wrong(it, f"`chown -R pawnd-main: {os.path.dirname(it.path('main'))}`")
 
 
 def services_that_do_not_start_at_boot():
@@ -256,8 +316,11 @@ if __name__ == "__main__":
         the_proxy_and_its_files,
         books_and_lines,
         copies_and_disks,
+        a_copy_of_a_store_that_lost_its_log,
         less_than_the_copy_by_a_command,
         a_store_that_is_not_sent,
+        a_machine_without_main,
+        a_file_of_another_user,
         services_that_do_not_start_at_boot,
         a_rule_that_is_gone,
         it_copies_nothing,

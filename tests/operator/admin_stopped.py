@@ -41,9 +41,11 @@ def killed_restore_of_the_newest():
 
 
 def killed_restore_book_of_the_newest():
-    """There is a newer copy by then, with more of the book: the second run goes on with the first one."""
+    """There is a newer copy by then, with more of the book: a second run of a command that has begun goes on with the
+    first one."""
     def meanwhile(story):
-        if story.machine.lines().get(8) != "north":
+        has_begun = os.path.exists(story.machine.place("etc/pending/restore-8.json"))
+        if has_begun and story.machine.lines().get(8) != "north":
             story.callers[8].repay()
             story.machine.admin("copy", "main")
 

@@ -57,6 +57,14 @@ def a_second_machine(one, second):
     expect("no caller but the proxy reaches the relay", stranger, "403")
     told = one.run("pawnd-admin status || true")
     expect("what is wrong", [it for it in told.splitlines() if re.match("WRONG(?!.*certificate|.* sent off this machine)", it)], [])
+    second.run("pawnd-admin status")
+    again = second.run("pawnd-admin copy east; pawnd-admin restore east newest 2>&1")
+    expect("it says nothing of a store that is not there", "nobody reaches" in again, False)
+    answers_again(one, target="/books/10/pledges/2", key="/root/10.key")
+    second.run("cd /root; apt-get -y reinstall ./pawnd_*_amd64.deb; pawnd-admin status; pawnd-admin remove-book 11; pawnd-admin status")
+    expect("a book that left", ask(one, "/books/11/pledges/1", key="/root/11.key")[0], 404)
+    answers_again(one, target="/books/10/pledges/2", key="/root/10.key")
+    second.run("apt-get -y remove pawnd; nginx -t -q; apt-get -y purge pawnd; nginx -t -q; systemctl restart nginx")
 
 
 if __name__ == "__main__":

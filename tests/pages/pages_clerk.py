@@ -1,14 +1,15 @@
 """What misled a clerk in a morning at the counter, and a pawnor on a telephone, each as it was found; in a real
 browser, in front of the program."""
 import datetime
+import os
 
 from tests.library.checks import expect
 from tests.library.dates import six_months_after, today
 from tests.library.keys import BROKER
 from tests.library.pages.browser import Pages
 from tests.library.pages.steps import (
-    a_pledge_at_the_counter, a_pledge_by_its_receipt, ago, book_text, browser, command, fill_book, find, in_short,
-    in_words, main, make_book, no_faults, open_book, part, secret_of, the_book_is_read, unfold,
+    a_pledge_at_the_counter, a_pledge_by_its_receipt, ago, an_open_book, book_text, browser, command, fill_book, find,
+    in_short, in_words, main, make_book, no_faults, open_book, part, secret_of, the_book_is_read, unfold,
 )
 from tests.library.waiting import wait_for
 
@@ -439,6 +440,75 @@ def a_sale_of_what_was_redeemed_meanwhile_is_not_asked_about():
         no_faults()
 
 
+def a_mark_that_is_not_seen_is_not_taken_into_a_pledge():
+    """Such as a control character, which the service refuses, or quotes of Windows-1252 that were decoded wrongly."""
+    with an_open_book() as pages:
+        the_book_is_read()
+        part("take")
+        for fields, name in (
+            ({"article": "Ring\x7f", "ref": "A1"}, "The article"),
+            ({"article": "Ring\x07", "ref": "A1"}, "The article"),
+            ({"article": "Ring \x93gold\x94", "ref": "A1"}, "The article"),
+            ({"article": "Ring", "ref": "A\u200b1"}, "The reference"),
+            ({"article": "Ring", "ref": "\ufeff\xad"}, "The reference"),
+        ):
+            browser.fill("#taking", amount="10", **fields)
+            browser.press("#taking button", "Take the pledge")
+            browser.says(
+                f"{name} has a mark that can’t be seen. Type it anew in place of pasting it.", "#taking .notice",
+            )
+            expect("no question", browser.run("return document.querySelector('dialog')"), None)
+        browser.fill("#taking", article="Ring “18 ct” – £5…\t \xa0new", ref="A1")
+        browser.press("#taking button", "Take the pledge")
+        browser.says("Ring “18 ct” – £5… new, reference A1.", "dialog")
+        browser.press("dialog button", "Not now")
+        expect("nothing was taken", pages.session.broker("GET", "/books/7/pledges/1")[0], 404)
+        no_faults()
+
+
+def a_file_that_a_spreadsheet_saved_in_another_encoding_does_not_fill_the_book():
+    """Its letters would be lost, and a filled book can't be filled again."""
+    with Pages() as pages:
+        make_book(pages, terms=False)
+        path = os.path.join(pages.room, "book.csv")
+        text = book_text([("Ring £5 café", "J9", 9000, ago(3), "", "no")])
+        with open(path, "wb") as it:
+            it.write(text.encode("cp1252"))
+        open_book(pages)
+        the_book_is_read()
+        part("files")
+        browser.fill("#importing", file=path)
+        browser.press("#importing button")
+        browser.says("The file is not as it was exported: its letters are not in UTF-8.", "#importing")
+        expect("nothing came", pages.session.broker("GET", "/books/7/pledges/1")[0], 404)
+        with open(path, "wb") as it:
+            it.write(b"\xef\xbb\xbf" + text.encode())
+        browser.fill("#importing", file=path)
+        browser.press("#importing button")
+        browser.says("The book is filled: 1 pledge came.", "#importing")
+        expect("its letters", "Article Ring £5 café" in pages.session.broker("GET", "/books/7/pledges/1")[1], True)
+        no_faults()
+
+
+def pledges_of_two_books_are_told_apart():
+    """Both are pledge 1, and a receipt that was typed names no shop."""
+    with Pages() as pages:
+        make_book(pages)
+        make_book(pages, book=8)
+        opening = {"article": "Gold ring", "five_days": False, "kind": "fixed", "pence": 10000, "ref": "A1"}
+        receipts = [pages.session.broker("POST", f"/books/{book}/pledges", opening)[1]["receipt"] for book in (7, 8)]
+        browser.forget()
+        browser.go(pages.address + "/pawn/")
+        for book, receipt in zip(("7", "8"), receipts):
+            browser.element("#finder")
+            browser.run("document.querySelector('#finder').open = true")
+            browser.fill("#find", receipts=receipt, book=book)
+            browser.press("#find button", "Show")
+            browser.says(f"Pledge 1, number of the shop’s book: {book}", "#cards")
+        browser.shoot("pawn-two-books")
+        no_faults()
+
+
 main(
     380, (),
     (
@@ -452,6 +522,7 @@ main(
         a_written_statement_is_not_asked_for_above_the_small_credit, a_receipt_that_is_not_whole_is_counted,
         the_field_of_the_search_names_no_other_pledge, a_visit_at_a_time_that_is_over_is_asked_about,
         a_pledge_that_changed_is_shown_anew_before_it_is_renewed_or_extended,
-        a_sale_of_what_was_redeemed_meanwhile_is_not_asked_about,
+        a_sale_of_what_was_redeemed_meanwhile_is_not_asked_about, a_mark_that_is_not_seen_is_not_taken_into_a_pledge,
+        a_file_that_a_spreadsheet_saved_in_another_encoding_does_not_fill_the_book, pledges_of_two_books_are_told_apart,
     ),
 )

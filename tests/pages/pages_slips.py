@@ -120,6 +120,7 @@ def how_slips_are_mended_is_told():
         for says in (
             "redeem it by its own receipt for what is owed", "£100.00 is owed today.", "take the pledge anew",
             "can’t be drawn again on a fixed sum",
+            "A visit that was refused can’t be confirmed: the pawnor asks for it again.",
         ):
             browser.says(says, "#commands .action[open]")
         pages.session.open_pledge(2, kind="running", pence=50000, article="Teapot")

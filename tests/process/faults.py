@@ -112,6 +112,9 @@ def a_check_where_nothing_is_makes_an_empty_store():
         for step, of in [("in memory", ":memory:"), ("where nothing is", path), ("of what that made", path)]:
             expect(f"a check {step}", check(of), a_sound_check(empty))
         expect("what it made", counted(path), empty)
+        file_of(b"")(os.path.join(room, "empty"))
+        expect("a check of an empty file", check(os.path.join(room, "empty")), a_sound_check(empty))
+        expect("what it made of it", counted(os.path.join(room, "empty")), empty)
 
 
 def ours_but(*statements):

@@ -198,7 +198,7 @@ SCHEMAS = {
     "Key": {
         "type": "string", "pattern": rf"^([0-9A-Fa-f]{{32}}|{HYPHENED}|\{{{HYPHENED}\}}|[Uu][Rr][Nn]:[Uu][Uu][Ii][Dd]:{HYPHENED})$",
         "description": "128 bits, as 32 hexadecimal digits: plain, in groups of 8, 4, 4, 4 and 12 with hyphens, and so "
-            "also in braces or behind `urn:uuid:`.",
+            "also in braces or after `urn:uuid:`.",
         "examples": ["22222222-2222-2222-2222-222222222222"],
     },
     "Receipt": {
@@ -289,9 +289,11 @@ SCHEMAS = {
     "Entry": told(
         "The entry, also if it was entered before.",
         day=one_of_form("Day", "The day on which it was entered."), pence=ref("schemas", "Pence"),
-        seq=ref("schemas", "Seq"), sort={"enum": ["draw", "repay"], "description": "What it is."},
+        seq=ref("schemas", "Seq"), sort={"enum": ["draw", "repay"], "description": "The kind of entry."},
     ),
-    "HeldBack": told("The pledge is on hold and cannot be redeemed.", held={"const": True, "description": "It is."}),
+    "HeldBack": told(
+        "The pledge is on hold and cannot be redeemed.", held={"const": True, "description": "It is on hold."},
+    ),
     "Released": told("The pledge is not on hold.", held={"const": False, "description": "It is not on hold."}),
     "NewReceipt": told(
         "The receipt that is live from now on; every earlier one is worth nothing.", receipt=ref("schemas", "Receipt"),
@@ -301,12 +303,13 @@ SCHEMAS = {
     "BookingDecided": booking("The booking as the broker decided.", "confirmed", "refused"),
     "SaleMade": told(
         "The pledge is sold.", net=one_of_form("Pence", "What the sale brought."),
-        shortfall=one_of_form("Pence", "What is still owing."), surplus=one_of_form("Pence", "What is the pawnor's."),
+        shortfall=one_of_form("Pence", "What is still owing."),
+        surplus=one_of_form("Pence", "What is due to the pawnor."),
     ),
     "NewEnd": told("The period ends then.", ends=one_of_form("Day", "Its last day.")),
     "Redeemed": told(
         "The article goes back. The receipt is worth nothing from now on.", paid=one_of_form("Pence", "What was paid."),
-        redeemed=one_of_form("Day", "The day."),
+        redeemed=one_of_form("Day", "The day on which it was redeemed."),
     ),
     "Imported": told(
         "The book was filled.",
@@ -359,7 +362,8 @@ PARAMETERS = {
 SECURITY = {
     "operator": {
         "type": "apiKey", "in": "header", "name": "Pledge-Key",
-        "description": "The operator's key, which the service was started with. It makes books, and opens none.",
+        "description": "The operator's key, which the service was started with. It makes books, but gives no access to "
+            "them.",
     },
     "broker": {
         "type": "apiKey", "in": "header", "name": "Pledge-Key",

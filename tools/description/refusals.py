@@ -92,8 +92,8 @@ WORDS = {
     ),
     706: (
         "NoRoute",
-        "The target is none of the service: a number in it is out of range or begins with 0, or a day is none that a "
-        "request may name.",
+        "The target is no route of the service: a number in it is out of range or begins with 0, or a day is none that "
+        "a request may name.",
     ),
     707: ("WrongMethod", "The target exists with another method."),
     708: (

@@ -10,7 +10,7 @@ BEARING = (
     "always", "Send it again: it is answered as the first time and not done twice, as long as the receipt is live.",
 )
 STATE = (
-    "while it stands",
+    "if unchanged",
     "Send it again: if nothing else changed the pledge in between, and it is still the same day, it is answered as "
     "the first time, and nothing changes.",
 )
@@ -137,7 +137,7 @@ ROUTES = [
         "Closes a pledge whose article was sold, and returns the surplus or the shortfall.", "SaleMade",
         [401, 403, *CHANGES, 306, 201],
         (
-            "told",
+            "refused if done",
             "A repeat is harmless and does not show what was answered: where the first one was done it is 305 Closed, "
             "or 205 EarlierDay. The statement has the sale.",
         ),
@@ -154,7 +154,7 @@ ROUTES = [
         "Statements", [402], VIEW, kind=TEXT, receipts=32, rules="The statement",
     ),
     Route(
-        "post", f"{ON_HELD}/repay", "repayHeld", "bearer", "Repay", "Enters a repayment by who presents the receipt.",
+        "post", f"{ON_HELD}/repay", "repayHeld", "bearer", "Repay", "Enters a repayment by the bearer of the receipt.",
         "Entry", [402, *NUMBERED, *CHANGES, 201, 206, 204], BEARING, "Payment", rules="Commands on a pledge",
     ),
     Route(
@@ -172,7 +172,7 @@ ROUTES = [
         "Pays all that is owing, and takes the article back. The receipt is surrendered.", "Redeemed",
         [402, *CHANGES, 303, 310],
         (
-            "told",
+            "refused if done",
             "A repeat is harmless and misleads: where the first one was done the receipt is no longer live, so it is "
             "402 NoSuchReceipt. The broker's statement shows what was done.",
         ),

@@ -219,8 +219,8 @@ STEPS = [
         {"code": 310, "name": "WrongAmount", "total": 9868},
     ),
     Step(
-        "2024-03-04", "redeem", "/books/7/held/redeem", bearing(NEW_RING), "ring", {"paid": 9868}, "With that it is.",
-        200, "ring", {"paid": 9868, "redeemed": "2024-03-04"},
+        "2024-03-04", "redeem", "/books/7/held/redeem", bearing(NEW_RING), "ring", {"paid": 9868},
+        "With the whole sum it is redeemed.", 200, "ring", {"paid": 9868, "redeemed": "2024-03-04"},
     ),
     Step(
         "2024-03-04", "redeem", "/books/7/held/redeem", bearing(NEW_RING), "ring", {"paid": 9868},

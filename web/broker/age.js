@@ -43,13 +43,26 @@ function ageLine() {
   return fault ? `${age} It could not be read anew: ${tellFault(fault, "broker")}` : age;
 }
 
+/** What was said last of the book: whether it is being read, was read, or could not be. */
+let spoken = null;
+
+/** Says a sentence; aloud, by a screen reader, only where a reading began or ended: not each minute, nor each piece. */
+function sayAge(text) {
+  const { fault, reading, readAt } = ledger;
+  const line = byId("book-age");
+  const state = `${reading ? "reading" : fault ? "failed" : "read"} ${readAt}`;
+  line.setAttribute("aria-live", state === spoken ? "off" : "polite");
+  spoken = state;
+  if (line.textContent !== text) line.textContent = text;
+}
+
 /** Says how old the book is, and why a newer one is missing. */
 export function showAge() {
   const { fault, reading, progress } = ledger;
   byId("book-bar").hidden = reading === null;
   byId("book-bar").value = progress?.whole > 0 ? progress.count / progress.whole : 0;
   byId("read-book").disabled = reading !== null;
-  byId("book-age").textContent = ageLine();
+  sayAge(ageLine());
   byId("book-age").classList.toggle("stale", fault !== null && reading === null);
 }
 

@@ -42,6 +42,8 @@ const REFRESH = 60_000;
 let day = today();
 let refreshed = 0;
 let isOpening = false;
+/** Whether the open book was read before. */
+let wasRead = false;
 
 function place() {
   const [name, detail] = location.hash.replace("#", "").split("=");
@@ -55,15 +57,20 @@ function showWhose() {
   byId("paper-head").textContent = `${whose}. Printed on ${inShort(today())} at ${clockOf(Date.now())}.`;
 }
 
-/** The page's title, which names the pledge where one is shown, and the part that is marked among all. */
-function mark({ name, detail }) {
+/** Marks the part that is shown among all, and moves the row of parts to it, if another was marked before. */
+function mark(name) {
   const places = byId("places");
   for (const link of places.children) {
-    if (link.hash === `#${name}`) {
+    if (link.hash !== `#${name}`) link.removeAttribute("aria-current");
+    else if (!link.hasAttribute("aria-current")) {
       link.setAttribute("aria-current", "page");
       places.scrollLeft = link.offsetLeft - (places.clientWidth - link.offsetWidth) / 2;
-    } else link.removeAttribute("aria-current");
+    }
   }
+}
+
+/** Puts the page’s title, which names the pledge where one is shown, and returns the part’s heading. */
+function putTitle({ name, detail }) {
   const heading = byId(name).querySelector("h1");
   heading.tabIndex = -1;
   const what = name === "pledge" && detail ? `Pledge ${detail}` : heading.textContent;
@@ -79,16 +86,18 @@ async function showPart({ focus }) {
   for (const section of document.querySelectorAll("section.place")) section.hidden = !open || section.id !== name;
   if (!open) {
     document.title = "Pledge book";
+    mark(null);
     return;
   }
   showWhose();
-  const heading = mark({ name, detail });
+  mark(name);
+  const heading = putTitle({ name, detail });
   if (focus) heading.focus();
   if (name !== "pledge") clearChoices();
   for (const part of EMPTIED) if (part !== name) byId(`${part}-lists`).replaceChildren();
   refreshed = Date.now();
   await PARTS[name](detail);
-  if (place().name === name && current() !== null) mark(place());
+  if (place().name === name && current() !== null) putTitle(place());
 }
 
 /** Opens the book: the key is tried by today's sheet, and the whole book is read after it. */
@@ -113,8 +122,18 @@ async function openBook(fields) {
   return "";
 }
 
+/** The key is hidden while it is typed, unless it is asked for; and once more after the form was sent. */
+function setUpKey() {
+  const [key, show] = [byId("open-key"), byId("show-key")];
+  const put = () => { key.type = show.checked ? "text" : "password"; };
+  show.addEventListener("change", put);
+  byId("open").addEventListener("reset", () => { key.type = "password"; });
+  put();
+}
+
 function closeBook() {
   end();
+  wasRead = false;
   ledger.forget();
   clearPledge();
   clearTaking();
@@ -155,7 +174,9 @@ function drawFromBook({ sort }) {
   }
   if (!["read", "mended"].includes(sort) || ledger.reading) return;
   FROM_BOOK[name]?.(detail);
-  if (name === "today" && sort === "read") refreshToday();
+  // The sheets are read beside the first reading of the book, when the part is shown.
+  if (name === "today" && sort === "read" && wasRead) refreshToday();
+  wasRead = true;
 }
 
 startPage(() => {
@@ -167,6 +188,7 @@ startPage(() => {
   explainWaiting(() => (ledger.isAwaited ? waitingInWords() : null));
   ledger.listen(drawFromBook);
   onSend(byId("open"), "broker", openBook);
+  setUpKey();
   byId("close-book").addEventListener("click", closeBook);
   byId("places").addEventListener("click", goByTab);
   addEventListener("hashchange", () => showPart({ focus: true }));

@@ -64,6 +64,13 @@ const visitOn = ({ day, window }) => `${inWords(day)}, ${windowInWords(window)}`
 const isSameVisit = (one, other) =>
   one?.day === other?.day && one?.window === other?.window && one?.state === other?.state;
 
+/** What is said where the visit, read again after a decision, is not as it was decided. */
+function overtaken(decided, now) {
+  const isDecision = now && isSameVisit({ ...decided, state: now.state }, now) && now.state !== "cancelled";
+  const what = isDecision ? "Another decision was made at the same time." : "The pawnor changed the visit meanwhile.";
+  return { sentence: now ? `${what} Now it is: ${bookingInWords(now)}.` : what, tone: "bad" };
+}
+
 /** Decides on the visit that is shown, if it is still the pledge's visit; and reports the one that was decided on. */
 async function decide(shown, yes, desk) {
   const { booking } = await lookFirst(desk.read());
@@ -75,6 +82,9 @@ async function decide(shown, yes, desk) {
     };
   }
   const { said } = await desk.command("decide", { yes }, true);
+  const after = await desk.read().catch(() => null);
+  const decided = { day: said.day, window: said.window, state: said.booking };
+  if (after && !isSameVisit(decided, after.booking)) return overtaken(decided, after.booking);
   const done = `The visit on ${visitOn(said)} is ${said.booking}.`;
   if (said.day === booking.day && said.window === booking.window) return done;
   return {

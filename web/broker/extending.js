@@ -28,7 +28,8 @@ export function endLines(ends, until) {
   return [
     `The period ends on ${inWords(ends)} now.`, `It is to end on ${inWords(until)}: ${countDays(days)} later.`,
     days > LONG ? [loud] : null,
-    "The end can’t be made earlier again. A slip is mended only if the pledge is redeemed by its paper and taken anew.",
+    "The end can’t be made earlier again. A mistake is set right only if the pledge is redeemed by its paper and taken "
+      + "anew.",
   ];
 }
 

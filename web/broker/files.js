@@ -28,6 +28,18 @@ async function keyOf(bytes) {
   return [...digest.slice(0, KEY_BYTES)].map((byte) => byte.toString(16).padStart(2, "0")).join("");
 }
 
+/** The text of a file. A program that saved the file in another encoding has spoilt it: letters would be lost. */
+function textOf(bytes) {
+  try {
+    return new TextDecoder("utf-8", { fatal: true }).decode(bytes);
+  } catch {
+    throw new Unreadable(
+      "The file is not as it was exported: its letters are not in UTF-8. Another program may have saved it, such as a "
+        + "spreadsheet. Send the file that was exported.", "file",
+    );
+  }
+}
+
 /** How much of the book has come, on the bar. */
 function tellPart({ count, whole }) {
   byId("save-bar").hidden = false;
@@ -48,8 +60,9 @@ async function fillBook({ file }) {
   if (file.size > LONGEST) throw new Unreadable(
     "The file is above a mebibyte. A book as large as that is moved by the operator of the service.", "file",
   );
-  const importKey = await keyOf(await file.arrayBuffer());
-  const body = await file.text();
+  const bytes = await file.arrayBuffer();
+  const body = textOf(bytes);
+  const importKey = await keyOf(bytes);
   const { said } = await askBook("POST", "/import", { body, harmless: true, importKey, silence: PATIENCE });
   ledger.read().catch(() => {});
   const came = said.imported === 1 ? "1 pledge came" : `${said.imported} pledges came`;

@@ -31,7 +31,7 @@ export const GROUPS = {
   redeemed: { name: "Redeemed", of: stands("redeemed") },
   sold: { name: "Sold", of: stands("sold") },
   held: { name: "On hold", of: isHeld },
-  comes: { name: "Somebody comes", of: somebodyComes },
+  comes: { name: "Visit to come", of: somebodyComes },
 };
 
 const byEnd = (one, other) => (one.ends < other.ends ? -1 : one.ends > other.ends ? 1 : one.number - other.number);

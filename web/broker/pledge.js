@@ -3,7 +3,9 @@ import { refusalOf } from "../shared/codes.js";
 import { inShort } from "../shared/days.js";
 import { byId, foreign, make } from "../shared/dom.js";
 import { Outdated, Refused } from "../shared/faults.js";
-import { fieldsOf, foldOf, makeNotice, redrawFolds, run, sayAfter, tell, tellLater } from "../shared/forms.js";
+import {
+  fieldsOf, foldOf, makeNotice, outcomeOf, redrawFolds, run, sayAfter, tell, tellLater,
+} from "../shared/forms.js";
 import { inPounds } from "../shared/money.js";
 import { numberOf } from "../shared/receipts.js";
 import { reckoningForm } from "../shared/reckoning.js";
@@ -19,6 +21,8 @@ import { REDEEM } from "./redeem.js";
 import { askBook, askHeld, current } from "./session.js";
 
 const ONE = "That is no whole receipt, or more than one. Scan or type one at a time.";
+const CLOSED = "The book was closed meanwhile, so nothing was sent.";
+const ANOTHER = "Another pledge was opened meanwhile, so the receipt is not shown: “Print the receipt again” shows it.";
 
 /** The pledge that is shown, and what the forms of its commands use. */
 class Desk {
@@ -60,12 +64,27 @@ class Desk {
     return statement;
   }
 
+  /**
+   * The desk for the forms of the pledge that is shown now: an act that was begun in them stays with this pledge and
+   * this book, whatever is opened meanwhile.
+   */
+  ofShown() {
+    return Object.create(this, { number: { value: this.number }, session: { value: current() } });
+  }
+
+  /** Throws where the book of the forms is not the one that is open now. */
+  async refuseOtherBook() {
+    if (this.session !== current()) throw new Outdated(CLOSED);
+  }
+
   /** Asks for a command on the pledge. */
-  command(name, body, harmless) {
+  async command(name, body, harmless) {
+    await this.refuseOtherBook();
     return askBook("POST", `/pledges/${this.number}/${name}`, { body, harmless });
   }
 
-  redeem(receipt, paid) {
+  async redeem(receipt, paid) {
+    await this.refuseOtherBook();
     return askHeld(receipt, "/redeem", { body: { paid }, harmless: false });
   }
 
@@ -108,7 +127,7 @@ class Desk {
     byId("statement").replaceChildren(...summaryOf({ statement, known, place: this.place() }));
     this.drawReckoning();
     const commands = byId("commands");
-    redrawFolds(commands, () => commands.replaceChildren(this.notice, ...commandsOf(statement, this)), done);
+    redrawFolds(commands, () => commands.replaceChildren(this.notice, ...commandsOf(statement, this.ofShown())), done);
     byId("found").hidden = false;
     if (wasRead) byId("statement").querySelector("h2").focus({ preventScroll: true });
     if (focused === this.notice) focused.focus({ preventScroll: true });
@@ -148,12 +167,16 @@ class Desk {
     const fields = fieldsOf(form);
     byId("new-receipt").replaceChildren();
     tell(this.notice, "");
+    tell(byId("elsewhere"), "");
+    const session = current();
     let said;
     this.actingOn = number;
     const fault = await run({
       notice: line, within: byId("commands"), reader: "broker", act: async () => { said = await act(); return said; },
     });
-    this.actingOn = null;
+    if (this.actingOn === number) this.actingOn = null;
+    if (session !== current()) return;
+    if (this.wanted !== number || byId("pledge").hidden) this.sayElsewhere(number, { said, fault });
     if (fault instanceof Unreadable || this.statement?.number !== number) return;
     let place = title;
     try {
@@ -163,16 +186,31 @@ class Desk {
       place = null;
       tell(line, "");
     }
-    if (this.wanted !== number) return;
+    if (this.wanted !== number) {
+      this.sayElsewhere(number, { said, fault });
+      return;
+    }
     sayAfter({ within: byId("commands"), notice: this.notice, title: place, fields, said, fault, reader: "broker" });
   }
 
-  /** Shows a receipt of the pledge, to be printed, once it was found live and the book has the pledge's terms. */
-  async showReceipt(receipt, statement = this.statement) {
+  /** Reports the result of an act above all parts, where its pledge is not the one that is shown. */
+  sayElsewhere(number, { said, fault }) {
+    const line = byId("elsewhere");
+    const { text, tone } = outcomeOf({ said, fault, reader: "broker" });
+    if (text === "") return;
+    tell(line, `: ${text}`, tone);
+    line.prepend(make("a", { href: `#pledge=${number}` }, `Pledge ${number}`));
+    this.read(number).then((found) => ledger.mend(found), () => ledger.anotherChanged());
+  }
+
+  /** Shows a receipt of the pledge, to be printed, once it was found live and the book has the pledge’s terms. */
+  async showReceipt(receipt, found = null) {
     await ledger.theBook();
     if (ledger.pledge(this.number) === null) await ledger.awaitReading();
     const { known } = this;
     if (!known.terms) throw new Error("the book does not have the pledge’s terms");
+    if (this.wanted !== this.number || this.statement?.number !== this.number) throw new Outdated(ANOTHER);
+    const statement = found ?? this.statement;
     byId("new-receipt").replaceChildren(receiptSheet({ statement, receipt, known }));
     byId("new-receipt").scrollIntoView();
   }
@@ -274,6 +312,7 @@ export async function showPledge(detail) {
   }
   const number = Number(detail);
   desk.wanted = number;
+  if (byId("elsewhere").querySelector("a")?.hash === `#pledge=${number}`) tell(byId("elsewhere"), "");
   // What was searched for does not stay above another pledge.
   if (desk.sought !== number && !byId("finding").contains(document.activeElement)) byId("finding").reset();
   if (desk.message?.number !== number) desk.message = null;

@@ -21,7 +21,8 @@ function waysOf({ kind, taken, owed, status }) {
       : "A repayment of too much can’t be drawn again on a fixed sum. If the pawnor agrees and brings the paper: "
         + `${anew} for the sum that should be owed.`,
     `An end that is too late: if the pawnor agrees and brings the paper, ${anew}.`,
-    "A hold is released, and a visit that was confirmed or refused is decided on again.",
+    "A hold is released, and a visit that was confirmed can still be refused. A visit that was refused can’t be "
+      + "confirmed: the pawnor asks for it again.",
   ].filter(Boolean);
 }
 

@@ -5,8 +5,8 @@
 import { CODES, isRefusal, refusalOf } from "../shared/codes.js";
 import { inShort, inWords, sixMonthsAfter, today } from "../shared/days.js";
 import { byId, foreign, make } from "../shared/dom.js";
-import { Lost, lookFirst } from "../shared/faults.js";
-import { onSend, tell } from "../shared/forms.js";
+import { Lost, lookFirst, Outdated } from "../shared/faults.js";
+import { fieldsOf, fillAgain, onSend, tell } from "../shared/forms.js";
 import { inPounds, MOST, readPounds } from "../shared/money.js";
 import { confirmed, NOTHING_DONE } from "../shared/questions.js";
 import { isReceiptLike } from "../shared/receipts.js";
@@ -16,12 +16,15 @@ import { ledger } from "./ledger.js";
 import { openReceipt } from "./pledge.js";
 import { statementOf } from "./reading.js";
 import { nextReference } from "./references.js";
-import { askBook } from "./session.js";
+import { askBook, current } from "./session.js";
 import { refuseStanding } from "./standing.js";
 import { settle } from "./taken.js";
 
 /** From this many pence on, the question says that the sum is large. */
 const VERY_LARGE = 1_000_000;
+
+/** The tab keeps under this name what is typed in the form, and of which book, so that a reload does not empty it. */
+const TYPED = "taking";
 
 const form = () => byId("taking");
 const place = () => byId("taken-receipt");
@@ -37,10 +40,24 @@ const TERMS_FIRST = "This book has no terms yet, and a pledge keeps the terms un
 /** Whether the book has no terms, as far as the page has read it. */
 const hasNoTerms = () => ledger.head?.terms.length === 0;
 
+const keepTyped = () =>
+  sessionStorage.setItem(TYPED, JSON.stringify({ book: current().book, fields: fieldsOf(form()) }));
+
+function emptyForm() {
+  form().reset();
+  sessionStorage.removeItem(TYPED);
+}
+
+/** Puts back what was typed before the page was loaded again. */
+function fillTyped() {
+  const { book, fields } = JSON.parse(sessionStorage.getItem(TYPED) ?? "{}");
+  if (fields && book === current()?.book) fillAgain(form(), fields);
+}
+
 export function clearTaking() {
   lost = null;
   place().replaceChildren();
-  form().reset();
+  emptyForm();
 }
 
 function readAgreed(agreed) {
@@ -79,7 +96,7 @@ function agreedTo({ article, ref, kind, pence, agreed, five_days: fiveDays }) {
         ? `The agreed end, ${inShort(agreed)}, counts for nothing: six months run to ${inShort(six)}.`
         : null,
       pence >= VERY_LARGE ? "That is a large sum: look at it again." : null,
-      "It can’t be changed or taken back. A slip is mended by redeeming it the same day by its receipt.",
+      "It can’t be changed or taken back. If it is a mistake, redeem it the same day by its receipt.",
     ],
     yes: `Take it for ${inPounds(pence)}`, no: "Not now",
   });
@@ -99,7 +116,7 @@ const UNSEEN = "It could not be looked at just now, so no receipt is shown. Open
 async function show(sent) {
   const said = await settle(sent);
   lost = null;
-  form().reset();
+  emptyForm();
   showTaking();
   place().scrollIntoView();
   return said;
@@ -125,15 +142,18 @@ async function findLost({ opening, known, before }) {
   return `The reply was lost, but the pledge was taken. ${said}`;
 }
 
-async function send(opening, again) {
+async function send(opening, again, session) {
   const known = again?.known ?? await lookFirst(lastNumber());
+  if (session !== current()) throw new Outdated(
+    `Book ${session.book} was closed before the pledge was sent, so it was not taken.`,
+  );
   const before = again?.before ?? ledger.head;
   try {
     const { said } = await askBook("POST", "/pledges", { body: opening, harmless: true });
     lost = null;
     return { opening, said, known, before };
   } catch (fault) {
-    if (fault instanceof Lost) lost = { opening, known, before };
+    if (fault instanceof Lost && session === current()) lost = { opening, known, before };
     if (isRefusal(fault, CODES.RefTaken)) ledger.anotherChanged();
     throw fault;
   }
@@ -148,6 +168,7 @@ async function refuseWithoutTerms() {
 }
 
 async function take(fields) {
+  const session = current();
   place().replaceChildren();
   wantsTerms = false;
   for (const typed of [fields.ref, fields.article]) if (isReceiptLike(typed)) return openReceipt(typed);
@@ -159,12 +180,17 @@ async function take(fields) {
   if (!again && !await agreedTo(opening)) return NOTHING_DONE;
   let sent;
   try {
-    sent = await send(opening, again);
+    sent = await send(opening, again, session);
   } catch (fault) {
     wantsTerms = isRefusal(fault, CODES.NoTerms);
-    if (!(fault instanceof Lost)) throw fault;
+    if (!(fault instanceof Lost) || session !== current()) throw fault;
     return findLost(lost);
   }
+  if (session !== current()) return {
+    sentence: `Taken as pledge ${sent.said.number} of book ${session.book}, which was closed meanwhile. Open that book `
+      + "to print the receipt.",
+    tone: "bad",
+  };
   try {
     return await show(sent);
   } catch (fault) {
@@ -202,8 +228,11 @@ function warnStanding() {
 export function setUpTaking() {
   notice = onSend(form(), "broker", take);
   form().elements.ref.addEventListener("input", warnStanding);
+  form().addEventListener("input", keepTyped);
+  fillTyped();
   byId("next-reference").addEventListener("click", ({ currentTarget }) => {
     form().elements.ref.value = currentTarget.value;
+    keepTyped();
     form().elements.ref.focus();
   });
 }

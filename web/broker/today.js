@@ -126,14 +126,16 @@ async function read(day) {
 
 /**
  * Looks at the sheet that is shown, and at those of the next days, without a word; what is new in them is drawn. A look
- * that fails leaves what is shown.
+ * that fails leaves what is shown. The sheet that is shown may have been read just now.
  */
-export async function refreshToday() {
+export async function refreshToday({ isShownRead = false } = {}) {
   if (sheet === null) return;
   const { day } = sheet;
   const next = Array.from({ length: AHEAD + 1 }, (_, count) => plusDays(today(), count));
+  const wanted = new Set([day, ...next]);
+  if (isShownRead) wanted.delete(day);
   try {
-    for (const one of new Set([day, ...next])) await fetchSheet(one);
+    for (const one of wanted) await fetchSheet(one);
   } catch {
     return;
   }
@@ -158,7 +160,7 @@ export async function showToday(day) {
   putDay("today", day ?? today());
   const act = async () => { await read(day ?? today()); return ""; };
   const fault = await run({ notice, within: byId("sheet-day"), reader: "broker", act });
-  if (fault === null) await refreshToday();
+  if (fault === null) await refreshToday({ isShownRead: true });
 }
 
 /** The list of who waits is drawn again when the book was read. */

@@ -37,6 +37,8 @@ export class Card {
     const { book, receipt, shop, rate, ref, terms = null, fiveDays = null } = one;
     const known = { reference: ref || null, fiveDays, terms, agreed: undefined };
     Object.assign(this, { one, book, receipt, shop, rate, known, changed, statement: null, lostRedemption: false });
+    // The act that is under way, until its result is reported.
+    this.acting = Promise.resolve();
     // Whether its receipt was found to open nothing, and has opened nothing before.
     this.neverOpened = false;
     this.isShown = false;
@@ -81,9 +83,10 @@ export class Card {
     return readStatement((await this.ask("")).text);
   }
 
-  /** Where the pledge is: the shop's name is the one that the receipt's link carries. */
+  /** Where the pledge is: the shop's name is the one that the receipt's link carries; if it has none, the book. */
   place() {
-    return [`Pledge ${this.statement.number}`, ...(this.shop ? [" at ", foreign(this.shop)] : [])];
+    const where = this.shop ? [" at ", foreign(this.shop)] : [`, number of the shop’s book: ${this.book}`];
+    return [`Pledge ${this.statement.number}`, ...where];
   }
 
   /** What the receipt's link says beside the statement: an older link says only the rate, in words. */
@@ -95,9 +98,18 @@ export class Card {
     ] : [];
   }
 
-  /** A look whose fault is shown in place of the pledge. Returns whether there is a pledge. */
-  async show(done = null) {
-    if (done === null) tell(this.notice, "");
+  /**
+   * A look whose fault is shown in place of the pledge, after the act that is under way: what that act reports is not
+   * left above a pledge that was read later. Returns whether there is a pledge.
+   */
+  async show() {
+    await this.acting;
+    tell(this.notice, "");
+    return this.showNow();
+  }
+
+  /** The same at once, after an act whose fold is named. */
+  async showNow(done = null) {
     try {
       await this.look(done);
     } catch (fault) {
@@ -147,7 +159,12 @@ export class Card {
    * Runs an act, shows the pledge as it is then, and reports the result: above, or in the form of the act if it was
    * refused.
    */
-  async perform(act, { form, notice, title }) {
+  perform(act, place) {
+    this.acting = this.performNow(act, place);
+    return this.acting;
+  }
+
+  async performNow(act, { form, notice, title }) {
     tell(this.notice, "");
     const fields = fieldsOf(form);
     let said;
@@ -155,7 +172,7 @@ export class Card {
       { notice, within: this.element, reader: "pawnor", act: async () => { said = await act(); return said; } }
     );
     if (fault instanceof Unreadable || said?.look === false) return;
-    await this.show(title);
+    await this.showNow(title);
     sayAfter({ within: this.actions, notice: this.notice, title, fields, said, fault, reader: "pawnor" });
   }
 }

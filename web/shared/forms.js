@@ -155,7 +155,7 @@ export const foldOf = (within, title) =>
   [...within.querySelectorAll("details")].find((one) => one.firstChild.textContent === title) ?? null;
 
 /** Puts what was typed back into a form that was made anew. */
-function fillAgain(form, fields) {
+export function fillAgain(form, fields) {
   for (const [name, value] of Object.entries(fields)) {
     const input = form.elements[name];
     if (input?.type === "checkbox") input.checked = true;
@@ -185,14 +185,18 @@ export function redrawFolds(within, redraw, done = null) {
   }
 }
 
+/** The result of an act as a text with its tone: of its fault, or of what it returned. */
+export const outcomeOf = ({ said, fault, reader }) => ({
+  text: fault ? tellFault(fault, reader) : said?.sentence ?? said ?? "", tone: fault ? "bad" : said?.tone ?? "good",
+});
+
 /**
  * Reports the result of an act after which all folds were made anew: in the notice above them if it was done, else in
  * the fold of that title, which is opened again with what was typed.
  */
 export function sayAfter({ within, notice, title, fields, said, fault, reader }) {
   const details = foldOf(within, title);
-  const tone = fault ? "bad" : said?.tone ?? "good";
-  const text = fault ? tellFault(fault, reader) : said?.sentence ?? said ?? "";
+  const { text, tone } = outcomeOf({ said, fault, reader });
   if (tone === "good" || !details) {
     tell(notice, text, tone);
     return notice.focus();
