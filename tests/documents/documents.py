@@ -158,7 +158,7 @@ def contracts_of(crate):
     for path in glob.glob(os.path.join(TOP, "crates", crate, "src/**/*.rt"), recursive=True):
         called = None
         for line in read(path).split("\n"):
-            begins = re.match(r"\s*(?:pub )?(?:const )?fn (\w+)", line)
+            begins = re.match(r"\s*(?:pub(?:\(crate\))? )?(?:const )?fn (\w+)", line)
             if begins:
                 called = found.setdefault(begins[1], set())
             clause = re.match(r"\s*(?:ensures|requires)\*? (\w+) ?\{", line)
