@@ -97,7 +97,10 @@ class Book:
 
 def told(reply, said):
     """What a reply of the service says. A reply of the proxy's own is a fault: it says whether the request was
-    handed on."""
+    handed on. Each reply has a body: an empty one means that the reply was cut in its head, which the library does not
+    report."""
+    if not said:
+        raise ValueError("the reply was cut in its head")
     said = json.loads(said) if reply.getheader("Content-Type") == "application/json" else said
     if reply.status == 200 or (isinstance(said, dict) and "code" in said):
         return said

@@ -15,7 +15,8 @@ ask() {
         told=${SAID##*$'\n'} SAID=${SAID%$'\n'*}
         SAID=${SAID%$'\n'}
         read -r HTTP bytes wait <<<"$told"
-        if ((status == 0 && HTTP == 200)); then return 0; fi
+        # Each reply has a body. If a reply was cut in its head, curl reports no error, and an empty body.
+        if ((status == 0 && HTTP == 200)) && [ -n "$SAID" ]; then return 0; fi
         CODE=$(said code)
         CODE=${CODE:-0}
         if ((CODE)); then return 1; fi

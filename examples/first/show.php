@@ -9,8 +9,8 @@ foreach (array_slice($argv, 3) as $receipt) {
     $call = curl_init("$base/books/$book/held");
     curl_setopt_array($call, [CURLOPT_HTTPHEADER => $fields, CURLOPT_RETURNTRANSFER => true]);
     $text = curl_exec($call);
-    // The status can be 200 although the reply ended before its last byte.
-    if ($text === false) {
+    // The status can be 200 although the reply ended before its last byte. If it ended in its head, the text is empty.
+    if ($text === false || $text === "") {
         fwrite(STDERR, "no whole reply: " . curl_error($call) . "\n");
         exit(1);
     }

@@ -13,7 +13,8 @@ for receipt in receipts:
     reply = requests.get(
         f"{base}/books/{book}/held", headers={"Pledge-Receipt": receipt, "Connection": "close"}, timeout=30,
     )
-    # Some versions of requests report no error if a reply ends before its last byte.
-    if len(reply.content) < int(reply.headers.get("Content-Length", 0)):
+    # Some versions of requests report no error if a reply ends before its last byte. If it ends in its head, the body
+    # is empty.
+    if not reply.content or len(reply.content) < int(reply.headers.get("Content-Length", 0)):
         sys.exit("the reply was cut")
     print(reply.status_code, reply.text)

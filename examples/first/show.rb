@@ -10,7 +10,7 @@ receipts.each do |receipt|
   address = URI("#{base}/books/#{book}/held")
   request = Net::HTTP::Get.new(address, "Pledge-Receipt" => receipt)
   reply = Net::HTTP.new(address.host, address.port).request(request)
-  # Net::HTTP reports no error if a reply ends before its last byte.
-  abort "the reply was cut" if reply.body.bytesize < reply["Content-Length"].to_i
+  # Net::HTTP reports no error if a reply ends before its last byte. If it ends in its head, the body is empty.
+  abort "the reply was cut" if reply.body.empty? || reply.body.bytesize < reply["Content-Length"].to_i
   puts reply.code, reply.body
 end

@@ -166,6 +166,22 @@ def its_refusals_are_those_of_the_pages():
     )
 
 
+def the_page_has_each_reply_of_the_proxy():
+    """docs/CLIENTS.md and the description name the same statuses of the proxy. A 502 of the proxy always says that the
+    request may have been done, so the page gives no advice for the other case."""
+    sys.path.insert(0, os.path.join(TOP, "tools"))
+    from description.refusals import OF_THE_PROXY
+    with open(os.path.join(TOP, "docs/CLIENTS.md"), encoding="utf-8") as it:
+        section = it.read().partition("\n## The proxy's own replies\n")[2].partition("\n## ")[0]
+    told = dict(re.findall(r"(?m)^\| (\d{3}(?:, \d{3})*) \| .* \| (.*) \|$", section))
+    statuses = sorted(int(status) for cell in told for status in cell.split(", "))
+    expect("the statuses of the page", statuses, sorted(OF_THE_PROXY))
+    with open(os.path.join(TOP, "deploy/nginx/pawnd-refused.conf"), encoding="utf-8") as it:
+        configured = it.read()
+    expect("what a 502 says", re.findall(r'"proxy":502,"handed_on":(\w+)', configured), ["true"])
+    expect("the page's advice for a 502 that was not passed on", told.get("502"), "`handed_on` is always true")
+
+
 def each_operation_stands_once_among_the_retries():
     with open(os.path.join(TOP, "docs/CLIENTS.md"), encoding="utf-8") as it:
         rows = re.findall(r"^\| (`.*?) \|", it.read().split("\n## Retries\n")[1].split("\n## ")[0], re.M)
@@ -574,7 +590,7 @@ def each_pair_and_each_example_was_seen():
 main(
     it_is_valid_and_what_its_generator_writes, each_part_has_its_words, each_part_has_its_form,
     its_refusals_and_routes_are_those_of_the_rules,
-    its_refusals_are_those_of_the_pages, each_operation_stands_once_among_the_retries,
+    its_refusals_are_those_of_the_pages, the_page_has_each_reply_of_the_proxy, each_operation_stands_once_among_the_retries,
     its_story_is_what_the_program_answers, bodies_are_refused_where_the_description_refuses_them,
     members_that_are_ignored_are_read, texts_that_an_import_takes, heads_are_refused, each_refusal_is_met,
     two_thousand_requests_at_random, each_pair_and_each_example_was_seen,

@@ -91,6 +91,14 @@ class Losing(Relay):
         return b"" if is_new else said
 
 
+class CuttingTheHead(Relay):
+    """Ends the first reply to each POST in its head."""
+
+    def reply(self, asked, is_new):
+        said = self.hand_on(asked)
+        return said.partition(b"\r\nContent-Length:")[0] + b"\r\nContent-Le" if is_new else said
+
+
 class KeepingBack(Relay):
     """Says to each new POST what a proxy says that could not hand it on."""
 
@@ -222,9 +230,8 @@ def a_day_goes_on_after_a_visit():
             expect(f"{language}: the day again", again, (0, wanted, ""))
 
 
-def lost_replies():
-    """Each request is done once, whatever was lost, and a declaration is not sent again."""
-    with Server() as server, Losing(server.port) as relay:
+def each_is_done_once(losing):
+    with Server() as server, losing(server.port) as relay:
         session = books_for(server)
         for book, language in enumerate(LANGUAGES, 7):
             session.close()
@@ -253,6 +260,16 @@ def lost_replies():
                 [f"Redeemed {today()} paid 90.00", f"Entry 1 {today()} repay 10.00"],
             )
             session.close()
+
+
+def lost_replies():
+    """Each request is done once, whatever was lost, and a declaration is not sent again."""
+    each_is_done_once(Losing)
+
+
+def replies_that_end_in_their_head():
+    """They are lost replies, although curl and Python's library report the status 200 and no error."""
+    each_is_done_once(CuttingTheHead)
 
 
 # What an article may be, of at most 80 bytes.
@@ -362,7 +379,7 @@ def no_process_listens():
 
 
 main(
-    a_brokers_day, a_pawnors_visit, a_day_goes_on_after_a_visit, lost_replies, articles_that_are_meant_to_mislead,
-    what_the_proxy_kept_back, what_the_proxy_refuses_for_good, another_sum_is_paid_only_when_a_person_says_so,
-    a_declaration_that_was_never_sent, no_process_listens,
+    a_brokers_day, a_pawnors_visit, a_day_goes_on_after_a_visit, lost_replies, replies_that_end_in_their_head,
+    articles_that_are_meant_to_mislead, what_the_proxy_kept_back, what_the_proxy_refuses_for_good,
+    another_sum_is_paid_only_when_a_person_says_so, a_declaration_that_was_never_sent, no_process_listens,
 )

@@ -93,13 +93,17 @@ def each_language_asks_twice_without_waiting():
 # How an example ends if its reply was cut. Perl's library makes a reply of its own from such a fault.
 AFTER_A_CUT = {
     "Go": (1, "unexpected EOF"), "Ruby": (1, "the reply was cut"), "Perl": (0, ""), "PHP": (1, "no whole reply"),
-    "Python": (1, "the reply was cut"), "JavaScript": (1, "terminated"), "Java": (1, "IOException"),
+    "Python": (1, "the reply was cut"), "JavaScript": (1, ""), "Java": (1, "IOException"),
 }
+# A reply that ends in the middle of a statement, and two that end in the head. Of the latter, curl and the libraries
+# of PHP, Python and Ruby report the status 200, an empty body and no error.
+CUT_IN_THE_BODY = b"HTTP/1.1 200 OK\r\nContent-Length: 99\r\nContent-Type: text/plain\r\n\r\nPledge 1\n"
+CUT_IN_THE_HEAD = [b"HTTP/1.1 200 OK\r\n", b"HTTP/1.1 200 OK\r\nContent-Length: 9"]
 
 
 @contextlib.contextmanager
-def cutting():
-    """A server that ends each reply in the middle of a statement: its port."""
+def cutting(reply):
+    """A server that answers each request with these bytes: its port."""
     def serve():
         while True:
             try:
@@ -108,7 +112,7 @@ def cutting():
                 return
             with peer:
                 peer.recv(10_000)
-                peer.sendall(b"HTTP/1.1 200 OK\r\nContent-Length: 99\r\nContent-Type: text/plain\r\n\r\nPledge 1\n")
+                peer.sendall(reply)
 
     with socket.create_server(("127.0.0.1", 0)) as it:
         threading.Thread(target=serve, daemon=True).start()
@@ -118,7 +122,7 @@ def cutting():
 
 def a_reply_that_was_cut_is_not_shown():
     """No example takes the beginning of a statement for the whole; curl and Python's own client report it, too."""
-    with cutting() as port, tempfile.TemporaryDirectory() as room:
+    with cutting(CUT_IN_THE_BODY) as port, tempfile.TemporaryDirectory() as room:
         for language, (wanted, why) in AFTER_A_CUT.items():
             if not has(language):
                 continue
@@ -139,6 +143,41 @@ def a_reply_that_was_cut_is_not_shown():
             said = None
         connection.close()
         expect("what Python's own client reads", said, None)
+
+
+def a_reply_that_was_cut_in_its_head_is_no_success():
+    """No example takes such a reply for a statement, although some libraries report no error."""
+    for reply in CUT_IN_THE_HEAD:
+        with cutting(reply) as port, tempfile.TemporaryDirectory() as room:
+            for language, (wanted, why) in AFTER_A_CUT.items():
+                if not has(language):
+                    continue
+                if language == "Go":
+                    build_for_go(room)
+                ran = run_example(language, room, port, ["1-x"])
+                expect(f"how {language} ends after {reply}", (ran.returncode, why in ran.stderr), (wanted, True))
+                expect(f"what {language} shows of {reply}", ran.stdout.startswith("200"), False)
+            words = ["curl", "-s", "-w", "%{http_code}", f"http://localhost:{port}/books/7/held"]
+            ran = subprocess.run(words, capture_output=True, timeout=60)
+            expect(f"what curl reports of {reply}", (ran.returncode, ran.stdout), (0, b"200"))
+
+
+def a_body_of_ruby_is_binary_if_it_is_not_ascii():
+    """What docs/CLIENTS.md says of the encoding that Net::HTTP gives to the body of a reply."""
+    if not has("Ruby"):
+        return
+    script = (
+        'require "net/http"; r = Net::HTTP.new("127.0.0.1", ARGV[0].to_i).request(Net::HTTP::Get.new("/x")); '
+        'print r.body.encoding, " ", r.body.force_encoding("UTF-8") == ARGV[1]'
+    )
+    for article, encoding in (("Ring", "UTF-8"), ("Jad\u00e9", "ASCII-8BIT")):
+        body = f"Article {article}\n".encode()
+        with cutting(b"HTTP/1.1 200 OK\r\nContent-Length: %d\r\n\r\n%s" % (len(body), body)) as port:
+            words = ["ruby", "-Ku", "-e", script, str(port), body.decode()]
+            ran = subprocess.run(
+                words, env={**os.environ, "LC_ALL": "C.UTF-8"}, capture_output=True, text=True, timeout=60,
+            )
+        expect(f"the body with {article!r}", (ran.stdout, ran.stderr), (f"{encoding} true", ""))
 
 
 def each_line_of_a_statement_is_read_by_the_expression():
@@ -225,6 +264,8 @@ def the_requests_for_editors_are_answered():
 if not shutil.which("curl"):
     provide({"curl": "curl"})
 main(
-    each_language_asks_twice_without_waiting, a_reply_that_was_cut_is_not_shown, the_requests_for_editors_are_answered,
+    each_language_asks_twice_without_waiting, a_reply_that_was_cut_is_not_shown,
+    a_reply_that_was_cut_in_its_head_is_no_success, a_body_of_ruby_is_binary_if_it_is_not_ascii,
+    the_requests_for_editors_are_answered,
     each_line_of_a_statement_is_read_by_the_expression, a_story_of_the_page_is_played, the_rows_of_the_page_can_be_sold,
 )

@@ -298,7 +298,10 @@ SCHEMAS = {
     "NewReceipt": told(
         "The receipt that is live from now on; every earlier one is worth nothing.", receipt=ref("schemas", "Receipt"),
     ),
-    "BookingAsked": booking("The booking. One that was confirmed before stays confirmed.", "asked", "confirmed"),
+    "BookingAsked": booking(
+        "The booking. If the pledge's booking was confirmed for this day and window before, it stays confirmed.",
+        "asked", "confirmed",
+    ),
     "BookingCancelled": booking("The booking is cancelled.", "cancelled"),
     "BookingDecided": booking("The booking as the broker decided.", "confirmed", "refused"),
     "SaleMade": told(

@@ -103,7 +103,7 @@ WORDS = {
     ),
     709: (
         "BadKey",
-        "There is not exactly one `Pledge-Key`, and for an import one `Import-Key`, or it is not of a key's form.",
+        "`Pledge-Key`, or for an import `Import-Key`, is missing, is repeated, or does not have a key's form.",
     ),
     710: ("BadReceipt", "A `Pledge-Receipt` is not of a receipt's form."),
     711: ("TooManyReceipts", "There are more `Pledge-Receipt` fields than this request takes."),
