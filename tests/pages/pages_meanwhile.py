@@ -323,6 +323,36 @@ def the_age_of_the_book_is_not_read_out_each_minute():
         no_faults()
 
 
+# Of the next reply from this place only the beginning of the head comes: a browser returns it as 200 without a body.
+CUT = """
+const real = window.fetch;
+window.fetch = async (path, how) => {
+  const reply = await real(path, how);
+  if (!path.endsWith(window.cut)) return reply;
+  window.cut = "none";
+  return new Response("", { headers: { "Content-Type": window.cutType } });
+};"""
+
+
+def a_reply_that_was_cut_in_its_head_is_a_lost_one():
+    with an_open_book() as pages:
+        pages.session.open_pledge(1)
+        find("1")
+        browser.says("£100.00 owed today", "#statement")
+        browser.run(CUT)
+        for count, amount, type_ in (1, "10", "applic"), (2, "20", "application/json"):
+            browser.run(f"window.cut = '/repay'; window.cutType = '{type_}'")
+            command("Repayment", "Record the repayment", amount=amount)
+            browser.says(f"Repaid: £{amount}.00", "#commands")
+            expect("it was sent again, and entered once", (browser.run("return window.cut"), len(entries(pages, 1))),
+                   ("none", count))
+        browser.run("window.cut = '/pledges/1'; window.cutType = 'text/plain'")
+        find("1")
+        browser.says("£70.00 owed today", "#statement")
+        expect("it was cut", browser.run("return window.cut"), "none")
+        no_faults()
+
+
 main(
     240, (),
     (
@@ -332,6 +362,6 @@ main(
         the_sheets_of_the_next_days_are_read_once, a_key_can_be_shown_while_it_is_typed,
         a_look_during_an_act_leaves_nothing_that_is_over, the_row_of_parts_stays_where_it_was_moved,
         a_decision_that_another_clerk_overtakes_is_not_reported_as_it_was,
-        the_age_of_the_book_is_not_read_out_each_minute,
+        the_age_of_the_book_is_not_read_out_each_minute, a_reply_that_was_cut_in_its_head_is_a_lost_one,
     ),
 )

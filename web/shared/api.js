@@ -82,6 +82,8 @@ async function attempt({ method, path, fields, body, watch, enough, isLarge = fa
     patience.end();
   }
   const { status, type, text } = found;
+  // No reply of the service is empty: of this one the browser got only the beginning of its head.
+  if (text === "") return { handedOn: true };
   const said = type.startsWith("application/json") ? JSON.parse(text) : null;
   if (status === 200) return { answer: { text, said } };
   if (said?.code) return { refusal: new Refused(said) };
