@@ -28,6 +28,7 @@ def two_machines_and_a_lost_one():
                 a_copy_is_sent,
                 a_folder_that_was_emptied,
                 a_receiver_that_is_silent,
+                an_archive_that_is_removed_before_it_was_seen,
                 an_intruder_with_the_key,
                 the_machine_is_lost,
             ):
@@ -101,6 +102,33 @@ def a_receiver_that_is_silent(one, standby):
     expect("the next one comes through", len(archives(standby)), 2)
 
 
+def last_transaction(standby):
+    return standby.run(f"tail -n 1 {REPOSITORY}/transactions").split()[1].rstrip(",")
+
+
+def undo(one, standby, number):
+    """The transactions after this one are undone, and the first machine forgets what it knows of them."""
+    standby.run(command(OPERATING, "An intruder on the sending machine", "undo").replace("NUMBER", number))
+    one.run("rm -rf /root/.cache/borg /root/.config/borg/security")
+
+
+def an_archive_that_is_removed_before_it_was_seen(one, standby):
+    """The daily run on the receiving machine never saw the archive, and removes nothing."""
+    standby.start("pawnd-received")
+    send(one)
+    before, last = archives(standby), last_transaction(standby)
+    one.run(f"{BY_KEY} borg delete ::{before[-1]}")
+    expect("it seems to be gone", archives(standby), before[:-1])
+    standby.run("systemctl start pawnd-received", wanted=1)
+    told = standby.run("journalctl -u pawnd-received -o cat --no-pager")
+    expect(f"why: {told}", "2 transactions and are 0 new archives" in told, True)
+    undo(one, standby, last)
+    expect("it is there again", archives(standby), before)
+    standby.run("systemctl reset-failed")
+    standby.start("pawnd-received")
+    expect("and stays", archives(standby), before)
+
+
 def an_intruder_with_the_key(one, standby):
     """An intruder with the first machine's key gets no shell and no other file, and what they remove comes back."""
     ssh = "ssh -i /etc/pawnd/offsite.key -o BatchMode=yes pawnd-received@standby "
@@ -111,12 +139,11 @@ def an_intruder_with_the_key(one, standby):
     told = one.run(f"{BY_KEY} borg list --short ssh://pawnd-received@standby/var/lib/pawnd-received/other 2>&1 || true")
     expect("another repository", "not allowed" in told, True)
     before = archives(standby)
-    last = standby.run(f"tail -n 1 {REPOSITORY}/transactions").split()[1].rstrip(",")
+    last = last_transaction(standby)
     one.run(f"{BY_KEY} borg list --short | while read -r it; do borg delete ::$it || true; done; borg compact || true")
     expect("they seem to be gone", archives(standby), [])
     standby.run("systemctl start pawnd-received", wanted=1)
-    undo = command(OPERATING, "An intruder on the sending machine", "undo")
-    standby.run(undo.replace("NUMBER", last))
+    undo(one, standby, last)
     expect("they are there again", archives(standby), before)
     standby.run("systemctl reset-failed")
     standby.start("pawnd-received")
