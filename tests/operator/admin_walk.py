@@ -147,24 +147,12 @@ class Operator:
                 self.tills[book].caller.key = file.read().strip()
 
     def takes_a_book_out(self, book):
+        """And puts it back: the broker's key is the same as before, also if it was exchanged."""
         with self.tills[book].held_up():
-            outside = [key for key in self.keys().get(book, ())]
             self.verb("remove-book", book)
             removed = self.machine.place("backups/removed")
             newest = max((it for it in os.listdir(removed) if it.startswith(f"{book}-")))
             self.verb("restore-book", book, os.path.join(removed, newest), self.new_name())
-            if outside:
-                self.tills[book].caller.key = outside[1]
-
-    def keys(self):
-        """The exchanged keys of each book, as the file names them: the broker's and the book's own."""
-        found = {}
-        with open(self.machine.place("etc/keys.map")) as file:
-            for line in file:
-                words = line.split()
-                if line.startswith("# book"):
-                    found[int(words[2].rstrip(":"))] = words[4], words[7]
-        return found
 
 
 def work_for_a_year(it, operator, draw):
