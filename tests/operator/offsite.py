@@ -106,9 +106,14 @@ def last_transaction(standby):
     return standby.run(f"tail -n 1 {REPOSITORY}/transactions").split()[1].rstrip(",")
 
 
-def undo(one, standby, number):
-    """The transactions after this one are undone, and the first machine forgets what it knows of them."""
+def undo(standby, number):
+    """The first machine is shut out, and the transactions after this one are undone."""
     standby.run(command(OPERATING, "An intruder on the sending machine", "undo").replace("NUMBER", number))
+
+
+def let_in_again(one, standby):
+    """The first machine's own memory of the repository is of before."""
+    standby.run("mv /root/authorized_keys /var/lib/pawnd-received/.ssh/")
     one.run("rm -rf /root/.cache/borg /root/.config/borg/security")
 
 
@@ -122,11 +127,12 @@ def an_archive_that_is_removed_before_it_was_seen(one, standby):
     standby.run("systemctl start pawnd-received", wanted=1)
     told = standby.run("journalctl -u pawnd-received -o cat --no-pager")
     expect(f"why: {told}", "2 transactions and are 0 new archives" in told, True)
-    undo(one, standby, last)
+    undo(standby, last)
     expect("it is there again", archives(standby), before)
     standby.run("systemctl reset-failed")
     standby.start("pawnd-received")
     expect("and stays", archives(standby), before)
+    let_in_again(one, standby)
 
 
 def an_intruder_with_the_key(one, standby):
@@ -142,8 +148,12 @@ def an_intruder_with_the_key(one, standby):
     last = last_transaction(standby)
     one.run(f"{BY_KEY} borg list --short | while read -r it; do borg delete ::$it || true; done; borg compact || true")
     expect("they seem to be gone", archives(standby), [])
+    first = standby.run(f"head -n 1 {REPOSITORY}/transactions").split()[1].rstrip(",")
+    told = standby.run(f"/usr/share/pawnd/offsite/undo {first}", wanted=1)
+    expect(f"an undoing that would lose what was compacted since: {told}", "nothing was changed" in told, True)
+    expect("the repository is as it was", archives(standby), [])
     standby.run("systemctl start pawnd-received", wanted=1)
-    undo(one, standby, last)
+    undo(standby, last)
     expect("they are there again", archives(standby), before)
     standby.run("systemctl reset-failed")
     standby.start("pawnd-received")
@@ -153,9 +163,7 @@ def an_intruder_with_the_key(one, standby):
 
 def the_machine_is_lost(one, standby):
     """The second serves what was sent, by the commands of the page, and again after a boot."""
-    # It is let in again, and its own memory of the repository is of before.
-    standby.run("mv /root/authorized_keys /var/lib/pawnd-received/.ssh/")
-    one.run("rm -rf /root/.cache/borg /root/.config/borg/security")
+    let_in_again(one, standby)
     expect("pledge 3", enter(one, 3)[0], 200)
     one.run("pawnd-admin store east; pawnd-admin book 10 --store east --name 'East Street' --key-to /root/10.key")
     one.run("pawnd-admin copy east")
