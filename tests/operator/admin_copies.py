@@ -251,7 +251,7 @@ def old_copies_are_removed():
 # In place of borg: it notes the archives that are made, and lists them in the order of their times, as borg does.
 BORG = """#!/bin/bash
 case $1 in
-create) echo "${6#::} $7" >>"$ARCHIVES" ;;
+create) until [[ $1 == ::* ]]; do shift; done; echo "${1#::} $2" >>"$ARCHIVES" ;;
 list) cut -d ' ' -f 1 "$ARCHIVES" | sort -t . -k 3 | if [[ "$*" == *'--last 1'* ]]; then tail -n 1; else cat; fi ;;
 export-tar) tar -c -C "$ARCHIVES.room" etc ;;
 esac
