@@ -110,7 +110,7 @@ def an_article_that_was_sold_meanwhile_is_told():
     """Its receipt is still live, but nothing is owed any more."""
     with Pages() as pages:
         make_book(pages, terms=False)
-        fill_book(pages, book_text([("Watch", "W1", 9000, ago(400), "", "no")], rates=(0, 0, 0)))
+        fill_book(pages, book_text([("Watch", "Watch-1", 9000, ago(400), "", "no")], rates=(0, 0, 0)))
         open_book(pages)
         find("1")
         browser.says("£90.00 owed today", "#statement")
@@ -291,7 +291,7 @@ def a_live_receipt_of_a_pledge_that_is_over_says_who_has_the_article():
     with Pages() as pages:
         make_book(pages, terms=False)
         fill_book(pages, book_text([
-            ("Vase", "W1", 5000, ago(400), "", "no"), ("Violin", "W2", 9000, ago(400), "", "no"),
+            ("Vase", "Vase-1", 5000, ago(400), "", "no"), ("Violin", "Violin-2", 9000, ago(400), "", "no"),
         ]))
         expect("sold", pages.session.broker("POST", "/books/7/pledges/2/sell", {"net": 9000})[0], 200)
         open_book(pages)
@@ -427,7 +427,7 @@ UNTIL = "return document.querySelector('.action[open] [name=until]').value"
 def a_sale_of_what_was_redeemed_meanwhile_is_not_asked_about():
     with Pages() as pages:
         make_book(pages, terms=False)
-        fill_book(pages, book_text([("Violin", "W1", 9000, ago(400), "", "no")], rates=(0, 0, 0)))
+        fill_book(pages, book_text([("Violin", "Violin-1", 9000, ago(400), "", "no")], rates=(0, 0, 0)))
         open_book(pages)
         find("1")
         browser.says("£90.00 owed today", "#statement")
