@@ -30,6 +30,7 @@ from tests.library.requests import request  # noqa: E402
 RUNS = 30
 TODAY, ENDS, DAY = 19753, 19935, "2024-01-31"  # 2024-01-31 and 2024-07-31, as days since 1970-01-01
 LONG = 999
+PRESENTED = 32
 
 
 def word(book, number):
@@ -84,11 +85,14 @@ def streams():
     """The requests of each kind, with the line that its ratio is held to, if there is one."""
     seeded, key = random.Random(1), f"Pledge-Key: {BROKER}"
     numbers = [seeded.randrange(1, PLEDGES + 1) for _ in range(900)]
+    presented = [
+        [f"Pledge-Receipt: {receipt(1, number)}" for number in numbers[at:at + PRESENTED]] for at in range(0, 800, 10)
+    ]
     once = random.Random(2).sample(range(1, PLEDGES + 1), min(900, PLEDGES))
     opening = '{"article":"Ring, 9 ct gold","five_days":true,"kind":"fixed","pence":10000,"ref":"N%d"}'
     return [
         (
-            "a view", 2.0,
+            "a view", 1.9,
             [request("GET", "/books/1/held", f"Pledge-Receipt: {receipt(1, number)}") for number in numbers],
         ),
         (
@@ -100,10 +104,11 @@ def streams():
                 for number in once
             ],
         ),
-        ("an opening", 1.7, [request("POST", "/books/3/pledges", key, body=opening % at) for at in range(900)]),
-        (f"a statement of {LONG} entries", 2.5, [request("GET", "/books/2/pledges/1", key)] * 300),
-        ("a day's sheet", 3, [request("GET", f"/books/1/days/2024-02-{3 + at % 5:02}", key) for at in range(80)]),
-        ("an export", 9, [request("GET", "/books/1/export", key)] * 4),
+        (f"a view of {PRESENTED} receipts", 2.5, [request("GET", "/books/1/held", *fields) for fields in presented]),
+        ("an opening", 1.8, [request("POST", "/books/3/pledges", key, body=opening % at) for at in range(900)]),
+        (f"a statement of {LONG} entries", 2.3, [request("GET", "/books/2/pledges/1", key)] * 300),
+        ("a day's sheet", 2.2, [request("GET", f"/books/1/days/2024-02-{3 + at % 5:02}", key) for at in range(80)]),
+        ("an export", 3.0, [request("GET", "/books/1/export", key)] * 4),
     ]
 
 

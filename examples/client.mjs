@@ -10,6 +10,8 @@ const PAUSE = 0.5;
 const PATIENCE = 30;
 /** The proxy's own refusals that may be over soon. */
 const PASSING = [429, 502, 503, 504];
+/** Memory ran out, or the store failed: the next start of the service may find that the request was done. */
+const UNSETTLED = [491, 492];
 
 /**
  * The service refused a request, and changed nothing by it. Where `repeated` is set, an earlier sending got no
@@ -22,7 +24,7 @@ export class Refused extends Error {
   }
 }
 
-/** No reply of the service came. Where `sent` is set the request may have been done, and else it was not. */
+/** No reply of the service came, or it was 491 or 492. Where `sent` is set the request may have been done, and else it was not. */
 export class Lost extends Error {
   constructor(words, sent) {
     super(words);
@@ -109,10 +111,12 @@ function once(method, url, fields, body) {
 }
 
 /**
- * What a reply of the service says. A reply of the proxy's own is a fault: it says whether the request was handed on.
+ * What a reply of the service says. After 491 and 492 it is not known whether the request was done, as after no reply. A
+ * reply of the proxy's own is a fault: it says whether the request was handed on.
  */
 function told({ status, headers, said }) {
   const value = headers["content-type"] === "application/json" ? JSON.parse(said) : said;
+  if (UNSETTLED.includes(value.code)) throw new Error(`${value.code} ${value.name}`);
   if (status === 200 || value.code) return value;
   if (value.handed_on === false) {
     const pause = PASSING.includes(status) ? Number(headers["retry-after"] ?? PAUSE) : null;

@@ -12,6 +12,8 @@ PAUSE = 0.5
 PATIENCE = 30
 # The proxy's own refusals that may be over soon.
 PASSING = (429, 502, 503, 504)
+# Memory ran out, or the store failed: the next start of the service may find that the request was done.
+UNSETTLED = (491, 492)
 
 
 class Refused(Exception):
@@ -24,7 +26,7 @@ class Refused(Exception):
 
 
 class Lost(Exception):
-    """No reply of the service came. Where `sent` is set the request may have been done, and else it was not."""
+    """No reply of the service came, or it was 491 or 492. Where `sent` is set the request may have been done, and else it was not."""
 
     def __init__(self, words, sent):
         super().__init__(words)
@@ -96,12 +98,15 @@ class Book:
 
 
 def told(reply, said):
-    """What a reply of the service says. A reply of the proxy's own is a fault: it says whether the request was
+    """What a reply of the service says. After 491 and 492 it is not known whether the request was done, as after no
+    reply. A reply of the proxy's own is a fault: it says whether the request was
     handed on. Each reply has a body: an empty one means that the reply was cut in its head, which the library does not
     report."""
     if not said:
         raise ValueError("the reply was cut in its head")
     said = json.loads(said) if reply.getheader("Content-Type") == "application/json" else said
+    if isinstance(said, dict) and said.get("code") in UNSETTLED:
+        raise ValueError(f"{said['code']} {said['name']}")
     if reply.status == 200 or (isinstance(said, dict) and "code" in said):
         return said
     if isinstance(said, dict) and said.get("handed_on") is False:

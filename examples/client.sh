@@ -3,7 +3,8 @@
 
 # Sends a request, and again where no reply came: ask METHOD PATH [BODY]. SAID is the reply, HTTP its status, and CODE
 # the code of a refusal or 0. SENT is how many sendings without a reply may have been done. It fails by 1 where the
-# service refused, and by 2 where it did not answer. ONCE=1 before it sends nothing again that may have been done.
+# service refused, and by 2 where it did not answer, or answered 491 or 492. ONCE=1 before it sends nothing again that
+# may have been done.
 ask() {
     local left=3 status told bytes wait
     CODE=0 SENT=0
@@ -19,7 +20,8 @@ ask() {
         if ((status == 0 && HTTP == 200)) && [ -n "$SAID" ]; then return 0; fi
         CODE=$(said code)
         CODE=${CODE:-0}
-        if ((CODE)); then return 1; fi
+        # After 491 and 492 it is not known whether the request was done, as after no reply.
+        case $CODE in 0 | 491 | 492) ;; *) return 1 ;; esac
         # It was not done where no byte was sent, or where the proxy says that it handed nothing on.
         if ((bytes > 0)) && [ "$(said handed_on)" != false ]; then
             SENT=$((SENT + 1))

@@ -96,12 +96,12 @@ def state_of_certificate(wrong, notes):
     except (OSError, ValueError, IndexError) as why:
         wrong.append(
             f"the proxy at {PROXY} shows no certificate: {why}. Is its site enabled? `ls -l /etc/nginx/sites-enabled`, and "
-            "if `pawnd` is not there: `ln -s ../sites-available/pawnd /etc/nginx/sites-enabled/pawnd`, then `systemctl "
-            "reload nginx`"
+            "if `pawnd` is not there: `ln -s ../sites-available/pawnd /etc/nginx/sites-enabled/pawnd`, then `pawnd-admin "
+            "reload`"
         )
         return None
     if days < SHORT_CERTIFICATE:
-        wrong.append(f"the certificate is good for {days} days: `certbot renew`, then `systemctl reload nginx`")
+        wrong.append(f"the certificate is good for {days} days: `certbot renew`, then `pawnd-admin reload`")
     if refused:
         notes.append(f"browsers refuse the certificate: {refused}")
     return days

@@ -1,5 +1,4 @@
 """Books: making one, and a new key for one whose key has leaked."""
-import json
 import os
 import uuid
 
@@ -86,14 +85,34 @@ def stop_if_taken(book, where):
         raise Stop(f"book {book} has a line in {proxy.BOOKS_MAP} for the store {line}. Choose another number")
 
 
+def is_made(book, where, made, key_to):
+    """Whether the book is there as this command makes it: an earlier run of the command has ended. The key counts as far
+    as the command names one."""
+    store = Store(where)
+    if os.path.exists(pending_file(book)) or where not in stores_with(book) or proxy.store_of(book) != where:
+        return False
+    found = contents_of(store.path).books.get(book)
+    if found is None or (found["name"], found["capacity"]) != (made["name"], made["capacity"]):
+        return False
+    own = str(uuid.UUID(bytes=found["key"]))
+    outside, _ = proxy.exchanges().get(book, (own, own))
+    return made["key"] in (None, own) and (key_to is None or os.path.exists(key_to) and key_of_file(key_to) == outside)
+
+
 def make_book(number, where=MAIN, name=None, capacity=CAPACITY, key_file=None, key_to=None):
     """The verb `book`. The line of the map is written before the book is made: a book that answers always has it."""
     book = book_number(number)
+    proxy.stop_if_of_another_machine("book")
     made = {"capacity": capacity, "key": key_of_file(key_file) if key_file else None, "name": name}
     if store_name(where) not in store_names():
         raise Stop(f"there is no store {where}. Make it first: `pawnd-admin store {where}`")
     store = Store(where)
     with alone_with(where):
+        if is_made(book, where, made, key_to):
+            say(f"book {book} ({name}) is in the store {where} already, and nothing was changed"
+                + ("" if made["key"] or key_to else f". Its key was shown when it was made: `pawnd-admin new-key {book}` if "
+                   "nobody has it"))
+            return
         with alone_with_settings():
             was_there, given = os.path.exists(pending_file(book)), made["key"] is not None
             made = claim(book, where, made)
@@ -101,7 +120,7 @@ def make_book(number, where=MAIN, name=None, capacity=CAPACITY, key_file=None, k
             proxy.turn({book}, where)
         if turned or was_there:
             proxy.reload_nginx()
-        services.ask(store, "POST", f"/books/{book}", json.dumps(made), Pledge_Key=services.operators_key())
+        services.post(store, f"/books/{book}", services.operators_key(), made, f'{{"book":{book}}}')
         forget_exchange(book)
         if not given or key_to:
             hand_over(made["key"], f"the key of book {book}", key_to)
@@ -155,6 +174,7 @@ def new_key(number, key_to=None, inside_file=None):
     """The verb `new-key`. The new key is handed over before it is in force, so that a command that is killed never
     leaves a book with a key that nobody knows."""
     book = book_number(number)
+    proxy.stop_if_of_another_machine("new-key")
     inside, outside = own_key(book, inside_file), str(uuid.uuid4())
     with alone(pending_folder(), proxy.KEYS_MAP):
         hand_over(outside, f"the new key of book {book}", key_to)

@@ -79,6 +79,19 @@ def copies_of(name):
     return past, future
 
 
+def in_the_future(name, future):
+    """What to do about copies that are dated in the future. After the clock was set back they are good ones, and may be the
+    newest."""
+    names = f"the copy {future[0].name} is" if len(future) == 1 else (
+        f"{len(future)} copies, {future[0].name} to {future[-1].name}, are")
+    return (
+        f"{names} dated in the future and not counted. Look at the clock first: `timedatectl`. If it is wrong now, leave "
+        "them where they are: they count again when it is right. If it is right, they were made while it was ahead: move "
+        f"them out of {os.path.join(COPIES, name)}, and do not remove them. `pawnd-admin restore {name} FOLDER` takes a copy "
+        "from any place"
+    )
+
+
 def unexplained_loss(past):
     """The last copy that held less than the one before, and that one, as long as no later copy holds as much again."""
     by_name = {it.name: it for it in past}
@@ -110,7 +123,10 @@ def stores_with_copies():
 def the_copy(name, said):
     """The copy that the operator names: by its folder, by its time, or as `newest`."""
     if said == "newest":
-        past, _ = copies_of(name)
+        past, future = copies_of(name)
+        if future:
+            raise Stop(f"which copy is the newest is not sure. {in_the_future(name, future)}. Name the copy that you want by "
+                       f"its time{f', the newest of the others is {past[-1].name}' if past else ''}. Nothing was changed")
         if not past:
             raise Stop(f"there is no copy of the store {name} in {os.path.join(COPIES, name)}")
         return past[-1]
@@ -230,9 +246,8 @@ def copy(name):
         forget_old(name, keep)
         if can_settle:
             settle_all(name)
-    for it in future:
-        warn(f"{it.folder} is dated in the future: is the clock right? It is not counted as a copy. When the clock is "
-             "right, rename it to a time that has passed, or remove it")
+    if future:
+        warn(in_the_future(name, future))
     if made.less_than:
         warn(f"the copy before, {before.name}, held more: {in_words(before.counts)}: a log may have been lost. Both copies "
              "stay, and `pawnd-admin status` says what to do")

@@ -7,7 +7,10 @@ import proxy
 import replicas
 import services
 from books import pending_folder, stores_with
-from copies import Copy, finish_copy, kept_by, make_copy, removed_books, settle_all, settle_kept, the_copy
+from copies import (
+    COPY_NAME, Copy, copies_of, finish_copy, kept_by, make_copy, removed_books, settle_all, settle_kept, stores_with_copies,
+    the_copy,
+)
 from files import (
     BLOCK, copy_store, files_of_store, read_note, room_for, room_for_store, room_in, size_of_store, time_name,
     work_prefix, write_note,
@@ -113,9 +116,10 @@ class Split:
             return
         if in_new:
             raise Stop(f"the store {self.new} has books already ({listed(in_new)[:80]}): name a new store")
-        elsewhere = [it for it in sorted(self.books) if lines.get(it, MAIN) != self.store.name]
+        default = proxy.store_without_line(self.store.name)
+        elsewhere = [it for it in sorted(self.books) if lines.get(it, default) != self.store.name]
         if elsewhere and not (self.is_begun and turned):
-            raise Stop(f"the map says that books {listed(elsewhere)} are in {lines.get(elsewhere[0], MAIN)}, and not "
+            raise Stop(f"the map says that books {listed(elsewhere)} are in {lines.get(elsewhere[0], default)}, and not "
                        f"in {self.store.name}")
         if self.books - there:
             raise Stop(f"the store {self.store.name} has no book {listed(self.books - there)}")
@@ -165,16 +169,43 @@ def restore_book(number, said, new):
     """The verb `restore-book`. The map's line is turned last: until then nothing has changed for the broker."""
     book = book_number(number)
     command, path = f"restore-book {book} {said} {store_name(new)}", begun_file(f"restore-{book}")
-    copy = copy_of_begun(path, command) or the_copy(proxy.store_of(book), said)
+    copy = copy_of_begun(path, command) or copy_with(book, said, new)
     if book not in copy.books:
         raise Stop(f"{copy.folder} has no book {book}. `grep -l '\"{book}\":' {COPIES}/*/*/copy.json` lists the copies "
                    "that have it")
     with alone_with(new):
         stop_if_another_began(path, command)
+        if proxy.store_of(book, new) == new and not os.path.exists(path):
+            return tell_that_it_is_back(book, new, copy)
         with ended_by_itself_alone(path, command):
             was = turn_to_part(book, new, copy, command, path)
     say(f"book {book} is in the store {new}, as it was at {copy.made}. Older rows of it that the store {was} may have "
         "stay there, and nobody reaches them")
+
+
+def copy_with(book, said, new):
+    """The copy that the operator names. A time may be that of a copy of a store which had the book before."""
+    name = proxy.store_of(book, new)
+    if COPY_NAME.fullmatch(said) and not os.path.isdir(os.path.join(COPIES, name, said)):
+        others = [os.path.join(COPIES, it, said) for it in stores_with_copies()]
+        found = [it for it in others if os.path.isdir(it) and book in Copy(it).books]
+        if len(found) > 1:
+            raise Stop(f"there are several copies of that time with book {book}: name one of the folders {' and '.join(found)}")
+        said = (found or [said])[0]
+    return the_copy(name, said)
+
+
+def tell_that_it_is_back(book, new, copy):
+    """An earlier run of the command has ended if the store has a copy with this state of the book. A copy of that store
+    itself may have been named for any reason."""
+    past, _ = copies_of(new)
+    if book not in contents_of(the_store(new).path).books:
+        raise Stop(f"the store {new} has no book {book}, but it is not new either: name a new store. Nothing was changed")
+    if copy.store == new or not any(it.books.get(book) == copy.books[book] for it in past):
+        raise Stop(f"book {book} is in the store {new} already, and nothing was changed. If it is to be as it is in "
+                   f"{copy.folder}, name a new store: `pawnd-admin restore-book {book} {copy.folder} NEW`")
+    say(f"book {book} is in the store {new} already: it came from a copy of {copy.made}, and has what was entered since. "
+        "Nothing was changed")
 
 
 def copy_of_begun(path, command):
@@ -188,15 +219,12 @@ def copy_of_begun(path, command):
 
 def turn_to_part(book, new, copy, command, path):
     """Makes the new store unless it was made, and gives it the book's line. Returns the store that had the book."""
-    was = proxy.store_of(book)
+    was = proxy.store_of(book, new)
     if was != new:
         settle_kept(new)
         if not is_empty(new) and set(contents_of(Store(new).path).books) != {book}:
             raise Stop(f"the store {new} has other books already: name a new store")
         make_part_of_copy(book, new, copy, command, path)
-    elif not os.path.exists(path):
-        raise Stop(f"book {book} is in the store {new} already. If this command was interrupted, it has ended by now. "
-                   "Else name a new store")
     proxy.write_stores()
     proxy.turn({book}, new)
     proxy.reload_nginx()

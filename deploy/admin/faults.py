@@ -16,11 +16,8 @@ SMALL_PART, SMALL_DISK = 0.05, 1 << 30
 def faults_of_books(lines, found):
     """Books without a line, lines without a book, and books that are in two stores. `found` has the books of each
     store that could be read."""
-    wrong, notes = [], []
-    if proxy.is_of_another_machine():
-        return wrong, notes
-    known = store_names()
-    if MAIN not in known:
+    wrong, notes, known = [], [], store_names()
+    if MAIN not in known and not proxy.is_of_another_machine():
         wrong.append(f"there is no store {MAIN}, to which the proxy passes each book without a line: put the file "
                      f"{conf_of(MAIN)} back, then `pawnd-admin reload`")
     for book, name in sorted(lines.items()):
@@ -31,7 +28,7 @@ def faults_of_books(lines, found):
             wrong.append(f"book {book} has a line for the store {name}, and is not there: {missing_book(book, found)}")
     for name, books in sorted(found.items()):
         for book in sorted(books or ()):
-            place = lines.get(book, MAIN)
+            place = lines.get(book, proxy.store_without_line(name))
             if place == name:
                 continue
             if book not in lines:

@@ -9,6 +9,7 @@ import uuid
 
 from files import write_whole
 from locks import alone_with_settings
+from reading import contents_of
 from settings import MAIN, SETTINGS, SYSTEM, Stop, Store, store_names, warn
 
 BOOKS_MAP = os.path.join(SETTINGS, "books.map")
@@ -48,9 +49,29 @@ def is_of_another_machine():
     return MAIN not in store_names() and not os.path.lexists(os.path.join(SYSTEM, "nginx/sites-enabled/pawnd"))
 
 
-def store_of(book):
-    names = store_names()
-    return book_lines().get(book, names[0] if is_of_another_machine() and len(names) == 1 else MAIN)
+def stop_if_of_another_machine(verb):
+    if is_of_another_machine():
+        raise Stop(f"there is no store main here, so callers come by the proxy of another machine: run `pawnd-admin {verb}` "
+                   "there, on the machine of the proxy. Nothing was changed")
+
+
+def store_of(book, being_made=None):
+    """The store that answers for a book. Behind a relay a book without a line is in the store that the relay names: the
+    one that has it, apart from one that is being made and gets the line in the end."""
+    line = book_lines().get(book)
+    if line or not is_of_another_machine():
+        return line or MAIN
+    stores = [Store(name) for name in store_names() if name != being_made]
+    there = [it.name for it in stores if it.is_here and os.path.exists(it.path) and book in contents_of(it.path).books]
+    if len(there) > 1:
+        raise Stop(f"book {book} is in the stores {' and '.join(there)}, and has no line: write `{book} STORE;` into "
+                   f"{BOOKS_MAP}, with the one that answers, then `pawnd-admin reload`")
+    return (there or store_names() or [MAIN])[0]
+
+
+def store_without_line(name):
+    """The store that answers for a book of this store without a line."""
+    return name if is_of_another_machine() else MAIN
 
 
 def turn(books, name):

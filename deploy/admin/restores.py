@@ -7,7 +7,7 @@ from copies import make_copy, removed_books, settle_kept, the_copy
 from files import copy_store, files_of_store, room_for_store, room_in, size_of_store, work_prefix
 from locks import alone_with
 from reading import contents_of
-from settings import MAIN, STORES, Stop, Store, say, store_name, store_names, the_store, warn
+from settings import STORES, Stop, Store, say, store_name, store_names, the_store, warn
 from stores import enable, make_settings, put_in_place, put_new
 from tables import check_and_fold, in_words, stop_unless_same, sums_of
 
@@ -71,8 +71,8 @@ def tell_what_differs(store, copy):
     """Books that the operator may miss, or may not expect."""
     lines = proxy.book_lines()
     for book in sorted(copy.books):
-        place = lines.get(book, MAIN)
-        if place != store.name and not proxy.is_of_another_machine():
+        place = lines.get(book, proxy.store_without_line(store.name))
+        if place != store.name:
             warn(f"the copy has rows of book {book}, which is in the store {place}: nobody reaches them here")
     for it in removed_books():
         for book in sorted(it.books.keys() & copy.books.keys()):

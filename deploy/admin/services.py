@@ -3,6 +3,7 @@ import contextlib
 import http.client
 import json
 import os
+import socket
 import subprocess
 import time
 
@@ -72,6 +73,14 @@ def answers(address, patience=5):
     return False
 
 
+def listens(address):
+    """Whether anything listens there."""
+    host, _, port = address.rpartition(":")
+    with contextlib.suppress(OSError), socket.create_connection((host, int(port)), timeout=5):
+        return True
+    return False
+
+
 def await_start(store):
     """A service listens when it has read its file. As long as it is being started it is waited for."""
     end = time.monotonic() + START_PATIENCE
@@ -81,13 +90,13 @@ def await_start(store):
         time.sleep(0.1)
 
 
-def ask(store, method, target, body=None, **fields):
-    """The body of a reply that says that the request was done."""
+def post(store, target, key, body, wanted):
+    """Has a request done. Only the whole reply that is wanted says that it was: the head of a reply that was cut off can
+    look like that of an empty one."""
     await_start(store)
     connection = http.client.HTTPConnection(store.address, timeout=600)
-    heads = {name.replace("_", "-"): value for name, value in fields.items()}
     try:
-        connection.request(method, target, body, {"Connection": "close", **heads})
+        connection.request("POST", target, json.dumps(body), {"Connection": "close", "Pledge-Key": key})
         reply = connection.getresponse()
         said = reply.read()
     except (OSError, http.client.HTTPException) as why:
@@ -98,8 +107,21 @@ def ask(store, method, target, body=None, **fields):
     finally:
         connection.close()
     if reply.status != 200:
-        raise Stop(f"the store {store.name} refuses: {said.decode(errors='replace').strip()}")
-    return said
+        raise Stop(f"the store {store.name} refuses: {said.decode(errors='replace').strip()}{what_to_do(store, said)}")
+    if said != wanted.encode():
+        raise Stop(f"the store {store.name} at {store.address} does not answer as a store does, or its reply was cut off. "
+                   "Look at `pawnd-admin status`, then run the command again")
+
+
+def what_to_do(store, said):
+    """What the operator does about a refusal, where its text alone does not say so."""
+    if b'"code":410' in said:
+        return (f". It was started with another operator's key than the one in {SETTINGS}/operator.key. If it is on another "
+                f"machine, copy the file there. Restart it there, `systemctl restart {unit_of(store.name)}`, and run the "
+                "command again")
+    if b'"handed_on":false' in said:
+        return ". It is being started, and nothing was done: run the command again when `pawnd-admin status` says that it answers"
+    return ""
 
 
 def code_with_key(store, book, key):

@@ -26,11 +26,8 @@ OLD_COPY, OLD_OFFSITE, MANY_ROWS = 26, 50, 0.8
 
 def newest_copy(name, wrong):
     past, future = copies.copies_of(name)
-    for it in future:
-        wrong.append(
-            f"{it.folder} is dated in the future, and is not counted as a copy: is the clock right? When it is, "
-            "rename that folder to a time that has passed, or remove it"
-        )
+    if future:
+        wrong.append(copies.in_the_future(name, future))
     if not past:
         wrong.append(f"has no copy: `pawnd-admin copy {name}`")
         return None
@@ -161,15 +158,20 @@ def how_it_answers(store, lines, state, wrong, notes):
         state["elsewhere"] = True
         notes.append("is served by another machine, which has its folder too")
         return
-    with told(wrong):
-        through_proxy(store.name, lines, state, wrong)
+    if not proxy.is_of_another_machine():
+        with told(wrong):
+            through_proxy(store.name, lines, state, wrong)
     if not store.is_here:
         return
     state["answers"] = services.answers(store.address, PATIENCE)
     if not state["answers"]:
+        unit = services.unit_of(store.name)
         wrong.append(
-            f"does not answer on {store.address}: `systemctl status {services.unit_of(store.name)}` and `journalctl -u "
-            f"{services.unit_of(store.name)}` say why"
+            f"does not answer on {store.address}: "
+            + ("it is being started, and answers when it has read its file. If it does not answer after some minutes, "
+               f"`journalctl -u {unit}` says why"
+               if services.is_unit("is-active", unit) and not services.listens(store.address)
+               else f"`systemctl status {unit}` and `journalctl -u {unit}` say why")
         )
 
 

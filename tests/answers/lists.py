@@ -120,6 +120,60 @@ def secrets_and_extensions_by_the_page():
     expect("the export", exported, rows)
 
 
+def laid_out(number, counts, booked):
+    """The rows of a pledge with so many secrets, entries and extensions, and with a booking or without."""
+    secrets, entries, extensions = counts
+    return [
+        pledge(number, kind="running"), first_secret(number),
+        *(row("S", number, place, TAKEN, "sworn", secret(number, place)) for place in range(2, secrets + 1)),
+        *(row("E", number, seq, TAKEN, "draw", 1) for seq in range(1, entries + 1)),
+        *(
+            row("X", number, place, TAKEN, f"2024-{8 + place // 25:02}-{1 + place % 25:02}")
+            for place in range(1, extensions + 1)
+        ),
+        *([row("K", number, "2024-02-10", number % 16, "asked")] if booked else []),
+    ]
+
+
+def exported_as_imported(name, shapes):
+    rows = text([laid_out(number, counts, booked) for number, (counts, booked) in enumerate(shapes, 1)])
+    _, imported, exported = in_both([*filling(rows), broker("export")])
+    expect(f"the import: {name}", imported, f'{{"imported":{len(shapes)}}}')
+    expect(f"the export: {name}", exported, rows)
+
+
+def exports_by_the_range():
+    # 32 pledges are read at once, and at most 64 rows of each kind
+    short = ((1, 0, 0), False)
+    for size in (0, 1, 31, 32, 33, 63, 64, 65, 95, 96, 97, 127, 128, 129, 191, 192, 193):
+        exported_as_imported(f"{size} pledges", [short] * size)
+    for counts in ((64, 0, 0), (65, 0, 0), (101, 0, 0), (1, 63, 0), (1, 64, 0), (1, 65, 0),
+                   (1, 999, 0), (1, 0, 65), (2, 2, 99), (101, 300, 99)):
+        for at in (0, 15, 30, 31, 32, 33, 63):
+            shapes = [short] * 66
+            shapes[at] = (counts, at % 2 == 0)
+            exported_as_imported(f"{counts} of the pledge at {at}", shapes)
+    # rows that fill a page at the end of a pledge, and one fewer and one more
+    for each in (2, 3, 4, 8, 16, 32):
+        for more in (-1, 0, 1):
+            shapes = [((1, each, 0), True)] * 70
+            shapes[64 // each - 1] = ((1, each + more, 0), True)
+            exported_as_imported(f"{each} entries each, and {each + more} of one", shapes)
+    seeded = random.Random(32)
+    for turn in range(10):
+        shapes = [
+            (
+                (
+                    seeded.choice((1, 1, 1, 2, 5, 63, 64, 65, 101)), seeded.choice((0, 0, 1, 2, 3, 9, 63, 64, 65, 130)),
+                    seeded.choice((0, 0, 0, 1, 2, 63, 64, 65, 99)),
+                ),
+                seeded.random() < 0.3,
+            )
+            for _ in range(seeded.randrange(1, 60))
+        ]
+        exported_as_imported(f"mixed, {turn}", shapes)
+
+
 def sheet_of(day, booked, ends, states=("confirmed", "asked")):
     """The sheet of a day, by the bookings and the ends of the pledges, whose numbers count from 1."""
     lines, comes = [f"Day sheet {day}"], {}
@@ -182,4 +236,7 @@ def a_sheet_of_thousands_of_lines():
     expect("the export", exported, rows)
 
 
-main(entries_by_the_page, secrets_and_extensions_by_the_page, day_sheets_by_the_page, a_sheet_of_thousands_of_lines)
+main(
+    entries_by_the_page, secrets_and_extensions_by_the_page, exports_by_the_range, day_sheets_by_the_page,
+    a_sheet_of_thousands_of_lines,
+)

@@ -2,6 +2,7 @@
 machine has, with the times; how connections end; several receipts; two senders of one entry; what the proxy says by
 itself; and the two ways to try."""
 import contextlib
+import datetime
 import http.client
 import json
 import os
@@ -13,13 +14,14 @@ import subprocess
 import tempfile
 import time
 
+from tests.library import refusing
 from tests.library.checks import expect, main, not_tried
 from tests.library.keys import BROKER, OPERATOR, SEED
 from tests.library.packages import BUILDING, provide
 from tests.library.paths import PROGRAM, TOP
 from tests.library.program import Server, free_port
 from tests.library.requests import refusal, request
-from tests.library.sessions import PATIENCE, Session, read_all
+from tests.library.sessions import PATIENCE, Once, Session, read_all
 
 BODY_BYTES = 1_048_576
 KEY, IMPORT, CLOSE = f"Pledge-Key: {BROKER}", f"Import-Key: {BROKER}", "Connection: close"
@@ -354,6 +356,93 @@ def by_proxy(port, target, body=None, **fields):
     return reply.status, said, reply.getheader("Retry-After")
 
 
+def steps(receipt):
+    """Requests that change something, in the order of a story, as their targets and bodies; and what the table of
+    retries says of a repeat: the same answer, or a refusal."""
+    pledge, held = "/books/7/pledges/1", "/books/7/held"
+    day = str(datetime.datetime.now(datetime.timezone.utc).date())
+    opening = {"article": "Cup", "five_days": False, "kind": "fixed", "pence": 10000, "ref": "A2"}
+    return (
+        ("POST", "/books/7/terms", {"keep_after": 0, "keep_before": 0, "rate": 1, "version": 2}, None),
+        ("POST", "/books/7/pledges", opening, None),
+        ("POST", f"{pledge}/repay", {"pence": 100, "seq": 1}, None),
+        ("POST", f"{held}/repay", {"pence": 100, "seq": 2}, None),
+        ("POST", f"{pledge}/hold", None, None), ("POST", f"{pledge}/release", None, None),
+        ("POST", f"{held}/ask", {"day": day, "window": 3}, None), ("POST", f"{pledge}/decide", {"yes": True}, None),
+        ("POST", f"{held}/cancel", None, None), ("POST", f"{pledge}/extend", {"until": "2199-12-31"}, None),
+        ("POST", f"{held}/redeem", {"paid": 9800}, 402),
+    ), {"Pledge_Key": BROKER, "Pledge_Receipt": receipt}
+
+
+@contextlib.contextmanager
+def refused_while(path, calls, error=5, **how):
+    """A service over a store that has one pledge, its receipt, and a file: calls are refused as long as that is there."""
+    during = os.path.join(os.path.dirname(path), "during")
+    with Server(path, env=refusing.refusing(calls, during=during, error=error, **how)) as server:
+        session = Once(server.port)
+        session.open_book()
+        yield server, session, session.open_pledge(1), during
+
+
+def after_492_the_table_of_retries_holds():
+    """While the disk is full nothing is changed. After that, the same again is done once."""
+    with tempfile.TemporaryDirectory() as room:
+        with refused_while(os.path.join(room, "books"), "w", error=28, at=1, mode="on") as (_, session, receipt, during):
+            requests, fields = steps(receipt)
+            for method, target, body, repeated in requests:
+                before = session.broker("GET", "/books/7/export")
+                with open(during, "w"):
+                    refused = session.ask(method, target, body, **fields)
+                    expect(f"{target}, with a full disk", refused, (503, {"code": 492, "name": "Store"}))
+                    expect(f"the book after {target}", session.broker("GET", "/books/7/export"), before)
+                os.remove(during)
+                done = session.ask(method, target, body, **fields)
+                expect(f"{target}, the same again", done[0], 200)
+                again = session.ask(method, target, body, **fields)
+                expect(f"{target}, once more", again[1]["code"] if repeated else again, repeated or done)
+
+
+def after_492_the_service_may_end():
+    """A sync that failed: no connection is answered until the next start, which may find the request done. The same
+    again is one entry."""
+    with tempfile.TemporaryDirectory() as room:
+        path = os.path.join(room, "books")
+        with refused_while(path, "s", at=1, mode="on") as (server, session, _, during):
+            with open(during, "w"):
+                refused = session.broker("POST", "/books/7/pledges/1/repay", {"pence": 100, "seq": 1})
+            expect("a sync that failed", refused, (503, {"code": 492, "name": "Store"}))
+            with contextlib.suppress(OSError, http.client.HTTPException):
+                session.broker("GET", "/books/7/pledges/1")
+            expect("how it ends", (server.program.wait(timeout=60), server.program.stderr.read()), (1, b"fault 503 Store\n"))
+        with Server(path) as server:
+            session = Once(server.port)
+            for _ in range(2):
+                said = session.broker("POST", "/books/7/pledges/1/repay", {"pence": 100, "seq": 1})
+                expect("the same again", (said[0], said[1]["seq"]), (200, 1))
+            expect("it is one entry", session.broker("GET", "/books/7/pledges/1")[1].count("Entry "), 1)
+
+
+def after_491_the_same_again_is_done():
+    """Memory that is refused once, at one place after another, until a repayment is answered 491."""
+    for at in (1, 2, 3, 5, 8, 13, 21, 34, 55, 89, 144, 233):
+        with tempfile.TemporaryDirectory() as room:
+            with refused_while(os.path.join(room, "books"), "m", at=at) as (_, session, _, during):
+                entry = "POST", "/books/7/pledges/1/repay", {"pence": 100, "seq": 1}
+                with open(during, "w"):
+                    try:
+                        refused = session.broker(*entry)
+                    except (OSError, http.client.HTTPException):
+                        continue
+                if refused[0] == 200:
+                    continue
+                expect("without memory", refused, (503, {"code": 491, "name": "Memory"}))
+                expect("nothing was changed", session.broker("GET", "/books/7/pledges/1")[1].count("Entry "), 0)
+                expect("the same again", session.broker(*entry)[0], 200)
+                expect("it is one entry", session.broker("GET", "/books/7/pledges/1")[1].count("Entry "), 1)
+                return
+    not_tried("491", "the memory of this program can't be refused")
+
+
 def answered(stream):
     """What the program answers to a stream on a day of long ago."""
     words = [PROGRAM, "answer", ":memory:", "2024-01-31", SEED, OPERATOR]
@@ -400,7 +489,12 @@ def old_days_by_an_import():
         session.close()
 
 
+AFTER_FAULTS = (
+    after_492_the_table_of_retries_holds, after_492_the_service_may_end, after_491_the_same_again_is_done,
+)
 if __name__ == "__main__":
+    if refusing.library() is None:
+        not_tried("491 and 492", "no C compiler is there")
     main(five_requests_by_each_client, an_idle_connection_bars_the_others, how_connections_end, a_body_that_is_too_long,
          a_length_that_is_not_that_of_the_body, several_receipts, two_senders_of_one_entry, what_the_proxy_says_by_itself,
-         two_ways_to_try, old_days_by_an_import)
+         two_ways_to_try, old_days_by_an_import, *([] if refusing.library() is None else AFTER_FAULTS))

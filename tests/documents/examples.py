@@ -99,6 +99,17 @@ class CuttingTheHead(Relay):
         return said.partition(b"\r\nContent-Length:")[0] + b"\r\nContent-Le" if is_new else said
 
 
+class Failing(Relay):
+    """Answers each new POST with 492, although its request is done, as the next start of the service may find."""
+
+    def reply(self, asked, is_new):
+        said = self.hand_on(asked)
+        if not is_new:
+            return said
+        head = b"HTTP/1.1 503 Service Unavailable\r\nContent-Type: application/json\r\nContent-Length: 27\r\n\r\n"
+        return head + b'{"code":492,"name":"Store"}'
+
+
 class KeepingBack(Relay):
     """Says to each new POST what a proxy says that could not hand it on."""
 
@@ -272,6 +283,11 @@ def replies_that_end_in_their_head():
     each_is_done_once(CuttingTheHead)
 
 
+def replies_of_a_store_that_failed():
+    """After 492 a request may turn out to be done, so it is treated as one without a reply."""
+    each_is_done_once(Failing)
+
+
 # What an article may be, of at most 80 bytes.
 HOSTILE = [
     "Ring\u2028Entry 1 2024-01-31 repay 1.00", "Ring\u2029Owing 0.01", "Ring\u0085Pledge 1 window 3",
@@ -380,6 +396,7 @@ def no_process_listens():
 
 main(
     a_brokers_day, a_pawnors_visit, a_day_goes_on_after_a_visit, lost_replies, replies_that_end_in_their_head,
+    replies_of_a_store_that_failed,
     articles_that_are_meant_to_mislead, what_the_proxy_kept_back, what_the_proxy_refuses_for_good,
     another_sum_is_paid_only_when_a_person_says_so, a_declaration_that_was_never_sent, no_process_listens,
 )

@@ -38,11 +38,13 @@ NUMBER = r"(\d[\d,_]*(?:\.\d\d)?)"
 # that it finds is the limit. Behind them are values of the description.
 SAID = {
     ("pawn_terms", "MOST_RATE"): (
-        [(RULES, f"The rate is in millionths of the principal per day, at most {NUMBER}")],
+        [(RULES, f"The rate is in millionths of the principal per day, at most {NUMBER}"),
+         ("web/broker/terms.js", f"rate: {NUMBER}, keeping")],
         [SCHEMAS["Terms"]["properties"]["rate"]["x-limit"]["most"]],
     ),
     ("pawn_terms", "MOST_KEEP"): (
-        [(RULES, f"Each charge is in millionths of a penny per day, at most {NUMBER}")],
+        [(RULES, f"Each charge is in millionths of a penny per day, at most {NUMBER}"),
+         ("web/broker/terms.js", f"keeping: {NUMBER} }}")],
         [SCHEMAS["Terms"]["properties"][name]["x-limit"]["most"] for name in ("keep_before", "keep_after")],
     ),
     ("pawn_debt", "MOST_PENCE"): (
@@ -64,11 +66,15 @@ SAID = {
          SCHEMAS["BookMade"]["properties"]["book"]["maximum"]],
     ),
     ("pawn_pledge", "MOST_REFERENCE_BYTES"): (
-        [(RULES, rf"`ref` \(1 to {NUMBER} bytes\)"), ("web/broker/take.js", rf'name: "The reference", most: {NUMBER}')],
+        [(RULES, rf"`ref` \(1 to {NUMBER} bytes\)"), ("web/broker/take.js", rf'name: "The reference", most: {NUMBER}'),
+         ("web/shared/refusals.js", f"a reference has at most {NUMBER} bytes"), ("web/shared/receipts.js", rf"\bref: {NUMBER} }}"),
+         ("web/broker/index.html", f"once for each pledge, at most {NUMBER} plain letters")],
         [SCHEMAS["Opening"]["properties"]["ref"]["x-max-bytes"], SCHEMAS["Opening"]["properties"]["ref"]["maxLength"]],
     ),
     ("pawn_pledge", "MOST_ARTICLE_BYTES"): (
-        [(RULES, rf"`article` \(1 to {NUMBER} bytes\)"), ("web/broker/take.js", rf'name: "The article", most: {NUMBER}')],
+        [(RULES, rf"`article` \(1 to {NUMBER} bytes\)"), ("web/broker/take.js", rf'name: "The article", most: {NUMBER}'),
+         ("web/shared/refusals.js", f" bytes, an article {NUMBER}\\."),
+         ("web/broker/index.html", f"printed on the receipt, at most {NUMBER} plain letters")],
         [SCHEMAS["Opening"]["properties"]["article"]["x-max-bytes"],
          SCHEMAS["Opening"]["properties"]["article"]["maxLength"]],
     ),
@@ -86,7 +92,8 @@ SAID = {
     ),
     ("pawn_pledge", "LAST_WINDOW"): (
         [(RULES, rf"`window` \(0 to {NUMBER}\)"), (RULES, rf"313 BadWindow \(above {NUMBER}\)"),
-         (RULES, f"for a window from 0 to {NUMBER}\\."), ("docs/GLOSSARY.md", rf"in which visits are booked, 0 to {NUMBER} \|")],
+         (RULES, f"for a window from 0 to {NUMBER}\\."), ("docs/GLOSSARY.md", rf"a day has the windows 0 to {NUMBER} \|"),
+         ("docs/CLIENTS.md", f"A window is a number, 0 to {NUMBER}\\*"), ("web/shared/windows.js", f"windows of a day, 0 to {NUMBER}\\.")],
         [SCHEMAS["Window"]["maximum"], SCHEMAS["Asking"]["properties"]["window"]["x-limit"]["most"]],
     ),
     ("pawn_book", "MOST_BOOKINGS"): (
@@ -117,13 +124,18 @@ SAID = {
         [(RULES, rf"\*\*Limit\*\* after {NUMBER} requests"), ("docs/CLIENTS.md", rf"after its {NUMBER}th reply")],
         [DESCRIPTION["x-limits"]["requests-of-a-connection"]],
     ),
-    ("pawn_wire", "MOST_HEAD"): ([(RULES, f"no end within {NUMBER} bytes")], [DESCRIPTION["x-limits"]["head-bytes"]]),
+    ("pawn_wire", "MOST_HEAD"): (
+        [(RULES, f"no end within {NUMBER} bytes"), ("docs/CLIENTS.md", f"fields and {NUMBER} bytes"),
+         ("docs/DEPLOYING.md", rf"a request's head \| {NUMBER} bytes")],
+        [DESCRIPTION["x-limits"]["head-bytes"]],
+    ),
     ("pawn_wire", "MOST_FIELDS"): (
         [(RULES, f"more than {NUMBER} fields"), ("docs/CLIENTS.md", f"at most {NUMBER} fields")],
         [DESCRIPTION["x-limits"]["head-fields"]],
     ),
     ("pawn_wire", "MOST_BODY"): (
-        [(RULES, f"705 BodyTooLong: above {NUMBER} bytes"), ("web/broker/files.js", f"LONGEST = {NUMBER};")],
+        [(RULES, f"705 BodyTooLong: above {NUMBER} bytes"), ("web/broker/files.js", f"LONGEST = {NUMBER};"),
+         ("docs/DEPLOYING.md", rf"a request's body \| {NUMBER} bytes")],
         [DESCRIPTION["x-limits"]["body-bytes"], SCHEMAS["RowsHandedIn"]["x-max-bytes"]],
     ),
     ("pawn_wire", "MOST_NUMERAL"): ([(RULES, f"a whole number from 0 to {NUMBER} without")], [SCHEMAS["Pence"]["maximum"]]),
@@ -133,7 +145,7 @@ API = "docs/openapi.json"
 IN_WORDS = {
     ("pawn_terms", "MOST_RATE"): [f"rate is above {NUMBER} millionths a day"],
     ("pawn_terms", "MOST_KEEP"): [f"safe keeping is above {NUMBER} millionths"],
-    ("pawn_debt", "MOST_PENCE"): [f"or for a sale from nothing, to {NUMBER} pence"],
+    ("pawn_debt", "MOST_PENCE"): [f"or for a sale from nothing, to {NUMBER} pence", f"{NUMBER} pence are a million pounds"],
     ("pawn_debt", "MOST_ENTRIES"): [f"pledge has {NUMBER} entries", rf"A pledge has at most {NUMBER} \(206\)"],
     ("pawn_pledge", "SMALL_CREDIT"): [f"for a credit of at most {NUMBER} pence"],
     ("pawn_pledge", "MOST_EXTENSIONS"): [f"pledge has {NUMBER} extensions"],
@@ -145,13 +157,74 @@ IN_WORDS = {
     ("pawn_wire", "MOST_FIELDS"): [f"more than {NUMBER} fields", f"at most {NUMBER} fields"],
     ("pawn_wire", "MOST_BODY"): [f"body is above {NUMBER} bytes", f"A body above {NUMBER} bytes"],
 }
+# The same in the comments of the crates, each of which is found at least once.
+IN_COMMENTS = {
+    ("pawn_terms", "MOST_RATE"): [f"rate of interest above {NUMBER} millionths", f"The rate is at most {NUMBER} millionths"],
+    ("pawn_terms", "MOST_KEEP"): [f"safe keeping above {NUMBER} millionths", f"keeping is at most {NUMBER} millionths"],
+    ("pawn_debt", "MOST_PENCE"): [f"sum of 0, or above {NUMBER} pence"],
+    ("pawn_debt", "MOST_ENTRIES"): [f"debt has {NUMBER} entries"],
+    ("pawn_pledge", "MOST_NUMBER"): [f"a book or of a pledge, from 1 to {NUMBER}", f"The number, if it is from 1 to {NUMBER}"],
+    ("pawn_pledge", "MOST_REFERENCE_BYTES"): [f"reference for a pledge, in 1 to {NUMBER} bytes"],
+    ("pawn_pledge", "MOST_ARTICLE_BYTES"): [f"description of the article, in 1 to {NUMBER} bytes"],
+    ("pawn_pledge", "MOST_SECRETS"): [f"pledge has {NUMBER} secrets"],
+    ("pawn_pledge", "MOST_EXTENSIONS"): [f"pledge has {NUMBER} extensions"],
+    ("pawn_pledge", "LAST_WINDOW"): [f"window of that day, 0 to {NUMBER}", f"A window above {NUMBER}", f"a window, 0 to {NUMBER}"],
+    ("pawn_book", "MOST_BOOKINGS"): [
+        f"window of a day: 1 to {NUMBER}", f"of bookings, or `None` if the number is not 1 to {NUMBER}",
+    ],
+    ("pawn_book", "MOST_NAME_BYTES"): [f"A book's name: 1 to {NUMBER} bytes"],
+    ("pawn_book", "MOST_RECEIPTS"): [
+        f"presents, in order: 1 to {NUMBER} of them", f"if their number is not 1 to {NUMBER}", f"the 1 to {NUMBER} receipts",
+    ],
+    ("pawn_book", "MOST_TERMS"): [f"book has {NUMBER} versions of terms"],
+    ("pawn_book", "MOST_PLEDGES"): [f"book has {NUMBER} pledges"],
+    ("pawn_host", "MOST_REQUESTS"): [f"or after {NUMBER} requests", f"acted on, at most {NUMBER}", f"At most {NUMBER} requests"],
+    ("pawn_wire", "MOST_HEAD"): [f"within the first {NUMBER} bytes"],
+    ("pawn_wire", "MOST_FIELDS"): [f"at most {NUMBER} fields"],
+}
 # Limits that the rules say otherwise than the constant: one of the secrets is the opening's, and days are dates.
 DECLARATIONS = [
     (RULES, rf"309 DeclarationsFull \(there are {NUMBER}\)"), ("docs/CLIENTS.md", f"has had {NUMBER} new receipts"),
     ("web/shared/refusals.js", f"has had {NUMBER} new receipts"),
 ]
+# Limits that people read in words: by limit the paths, what is around the words, and how much of the limit one of them is.
+IN_LETTERS = {
+    ("pawn_terms", "MOST_RATE"): [
+        (RULES, r"at most [\d,]+ \((\w+) per cent\)", 10_000), ("web/shared/refusals.js", r"rate is above (\w+) per cent a day", 10_000),
+        ("docs/CLIENTS.md", r"rate is above (\w+) per cent a day", 10_000),
+    ],
+    ("pawn_terms", "MOST_KEEP"): [
+        (RULES, r"at most [\d,]+ \((\w+) pence\)", 1_000_000), ("web/shared/refusals.js", r"above (\w+) pence a day", 1_000_000),
+        ("docs/CLIENTS.md", r"above (\w+) pence a day", 1_000_000),
+    ],
+    ("pawn_debt", "MOST_PENCE"): [
+        ("web/shared/refusals.js", r"at most (a \w+) pounds", 100), ("docs/CLIENTS.md", r"at most (a \w+) pounds", 100),
+        (API, r"pence are (a \w+) pounds", 100),
+    ],
+    ("pawn_pledge", "GRACE_DAYS"): [
+        (RULES, r"in \*grace\* on the (\w+) days", 1), ("web/shared/period.js", r"GRACE_DAYS = (\w+);", 1),
+        ("web/shared/states.js", r"and (\w+) days of grace follow", 1), ("web/shared/states.js", r"; (\w+) days more", 1),
+    ],
+    ("pawn_book", "MOST_PLEDGES"): [
+        ("web/shared/refusals.js", r"The book has (a \w+) pledges", 1), ("docs/CLIENTS.md", r"The book has (a \w+) pledges", 1),
+    ],
+    ("pawn_wire", "MOST_BODY"): [
+        ("web/shared/refusals.js", r"That is more than (a \w+)\.", 1), ("docs/CLIENTS.md", r"That is more than (a \w+)\.\|", 1),
+        ("web/broker/files.js", r"file is above (a \w+)\.", 1),
+    ],
+}
+LETTERS = {"two": 2, "five": 5, "5": 5, "ten": 10, "a million": 1_000_000, "a mebibyte": 2 ** 20}
 LAST_DAY = [(RULES, r"from 2000-01-01 to (\d{4}-\d\d-\d\d)\."), ("web/shared/reckoning.js", r'LAST = "(\d{4}-\d\d-\d\d)"'),
             ("web/broker/index.html", r'max="(\d{4}-\d\d-\d\d)"')]
+
+# The limits of release 0.9.0. CHANGELOG.md names each one that differs now: a client or an older program may meet it.
+OF_RELEASE = {
+    "MOST_RATE": 20_000, "MOST_KEEP": 10_000_000, "MOST_PENCE": 100_000_000, "MOST_ENTRIES": 9_999, "MOST_NUMBER": 999_999_999,
+    "MOST_REFERENCE_BYTES": 40, "MOST_ARTICLE_BYTES": 80, "SMALL_CREDIT": 7_500, "GRACE_DAYS": 5, "MOST_SECRETS": 101,
+    "MOST_EXTENSIONS": 99, "LAST_WINDOW": 15, "MOST_BOOKINGS": 1_000, "MOST_NAME_BYTES": 60, "MOST_RECEIPTS": 32,
+    "MOST_TERMS": 99, "MOST_PLEDGES": 1_000_000, "MOST_REQUESTS": 1_000, "MOST_HEAD": 8_192, "MOST_FIELDS": 64,
+    "MOST_BODY": 1_048_576, "MOST_NUMERAL": 999_999_999_999,
+}
 
 
 def found(path, pattern):
@@ -163,18 +236,47 @@ def found(path, pattern):
 
 
 def each_limit_is_one_number():
+    """All places that have another number are named at once."""
+    wrong = []
     for (crate, name), (places, values) in SAID.items():
         limit = constant(crate, name)
-        for path, pattern in places:
-            for it in found(path, pattern):
-                expect(f"{name} of {crate} in {path}, at {pattern!r}", number(it), limit)
-        expect(f"{name} of {crate} in the description", values, [limit] * len(values))
-    for (crate, name), patterns in IN_WORDS.items():
-        for pattern in patterns:
-            for it in found(API, pattern):
-                expect(f"{name} of {crate} in {API}, at {pattern!r}", number(it), constant(crate, name))
+        told = [(f"{path}, at {pattern!r}", number(it)) for path, pattern in places for it in found(path, pattern)]
+        words = IN_WORDS.get((crate, name), ())
+        told += [(f"{API}, at {pattern!r}", number(it)) for pattern in words for it in found(API, pattern)]
+        told += [(f"a schema of {API}", value) for value in values]
+        wrong += [f"{name} of {crate} is {limit}, and {value} in {place}" for place, value in told if value != limit]
+    expect("places that have another number", wrong, [])
     for it in found(API, f"pledge has had {NUMBER} declarations"):
         expect(f"declarations in {API}", number(it) + 1, constant("pawn_pledge", "MOST_SECRETS"))
+
+
+def comments_of_the_crates():
+    """The comments of the crates' code, each as one line."""
+    found = []
+    for path in sorted(glob.glob("crates/*/src/**/*.rt", root_dir=TOP, recursive=True)):
+        if "_tests/" not in path:
+            found += re.findall(r"(?m)^ *//[/!]? (.*)$|^(.*)$", read(path))
+    return re.sub(r"\n\n+", "\n", re.sub(r"(?<=.)\n(?=.)", " ", "\n".join(comment for comment, _ in found)))
+
+
+def each_comment_of_the_crates_has_the_same():
+    text = comments_of_the_crates()
+    for (crate, name), patterns in IN_COMMENTS.items():
+        for pattern in patterns:
+            told = re.findall(pattern, text)
+            expect(f"that a comment of the crates says {pattern!r}", bool(told), True)
+            for it in told:
+                expect(f"{name} of {crate} in a comment, at {pattern!r}", number(it.rstrip(",")), constant(crate, name))
+
+
+def each_limit_in_letters_is_the_same():
+    for (crate, name), places in IN_LETTERS.items():
+        for path, pattern, unit in places:
+            for it in found(path, pattern):
+                expect(f"that {path} says {name} of {crate} in letters that this script knows: {it!r}", it in LETTERS, True)
+                expect(f"{name} of {crate} in {path}, at {pattern!r}", LETTERS[it] * unit, constant(crate, name))
+    (windows,) = found("web/shared/windows.js", f"length: {NUMBER} }}")
+    expect("how many windows a page offers", number(windows), constant("pawn_pledge", "LAST_WINDOW") + 1)
 
 
 # Where people read the figure of small credits: in pence, in pounds, or as the code of a page writes it.
@@ -213,6 +315,32 @@ def each_mention_of_small_credits_is_compared():
             expect(f"that {path} says the figure of small credits where this script compares it: {around!r}", inside, True)
 
 
+# Limits whose number means nothing else where people read it, with the documents and pages in which each mention is compared.
+UNMISTAKABLE = (
+    ("pawn_terms", "MOST_KEEP"), ("pawn_debt", "MOST_PENCE"), ("pawn_debt", "MOST_ENTRIES"), ("pawn_pledge", "MOST_NUMBER"),
+    ("pawn_wire", "MOST_HEAD"), ("pawn_wire", "MOST_BODY"), ("pawn_wire", "MOST_NUMERAL"),
+)
+SHOWN = (RULES, "docs/CLIENTS.md", "docs/GLOSSARY.md", API, "web/*/*.js", "web/*/*.html", "web/*.html")
+
+
+def each_mention_of_an_unmistakable_limit_is_compared():
+    """In sentences and in code; a member of the description that is a number is compared by tests/documents/description.py,
+    which sends the number after it."""
+    for crate, name in UNMISTAKABLE:
+        for path in sorted({it for form in SHOWN for it in glob.glob(form, root_dir=TOP)}):
+            text = read(path)
+            patterns = [it for where, it in SAID[crate, name][0] if where == path]
+            patterns += IN_WORDS.get((crate, name), []) if path == API else []
+            compared = [it.span() for pattern in patterns for it in re.finditer(pattern, text)]
+            for it in re.finditer(forms_of(constant(crate, name)), text):
+                begin, end = it.span()
+                inside = any(first <= begin and end <= last for first, last in compared)
+                member = path == API and re.search(r'": $', text[:begin])
+                around = text[max(0, begin - 40):end + 20]
+                where = f"{path} says {name} of {crate} where this script compares it: {around!r}"
+                expect(f"that {where}", bool(inside or member), True)
+
+
 def each_limit_has_its_row():
     """No limit of these crates is left out, but for those that no request meets."""
     unmet = {"FIRST_DAY", "LAST_STAMP_DAY", "FINAL_DAY", "PENNY", "MOST_MILLIONTHS", "MOST_SECRETS", "GRACE_DAYS", "MOST_ROWS",
@@ -220,6 +348,17 @@ def each_limit_has_its_row():
     for crate in sorted({crate for crate, _ in SAID}):
         names = set(re.findall(r"const ([A-Z_]+):", read(f"crates/{crate}/src/limits.rt")))
         expect(f"limits of {crate} without a row", names - unmet - {name for it, name in SAID if it == crate}, set())
+
+
+def each_changed_limit_is_in_the_changelog():
+    """Of the secrets, people read how many declarations there may be: one less."""
+    limits = {name: constant(crate, name) for crate, name in (*SAID, *IN_LETTERS, ("pawn_pledge", "MOST_SECRETS"))}
+    since = read("CHANGELOG.md").split("\n## 0.9.0\n")[0]
+    for name, limit in limits.items():
+        if limit != OF_RELEASE.get(name):
+            told = limit - (name == "MOST_SECRETS")
+            expect(f"that CHANGELOG.md names {name}, which is {told:,}", bool(re.search(forms_of(told), since)), True)
+    expect("limits that are gone", sorted(set(OF_RELEASE) - set(limits)), [])
 
 
 def declarations_and_days_are_those_of_the_crates():
@@ -239,6 +378,8 @@ def numbers_are_read_as_people_write_them():
 
 
 main(
-    each_limit_is_one_number, each_mention_of_small_credits_is_compared, each_limit_has_its_row,
-    declarations_and_days_are_those_of_the_crates, numbers_are_read_as_people_write_them,
+    each_limit_is_one_number, each_comment_of_the_crates_has_the_same, each_limit_in_letters_is_the_same,
+    each_mention_of_small_credits_is_compared, each_mention_of_an_unmistakable_limit_is_compared, each_limit_has_its_row,
+    each_changed_limit_is_in_the_changelog, declarations_and_days_are_those_of_the_crates,
+    numbers_are_read_as_people_write_them,
 )

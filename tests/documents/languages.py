@@ -95,10 +95,18 @@ AFTER_A_CUT = {
     "Go": (1, "unexpected EOF"), "Ruby": (1, "the reply was cut"), "Perl": (0, ""), "PHP": (1, "no whole reply"),
     "Python": (1, "the reply was cut"), "JavaScript": (1, ""), "Java": (1, "IOException"),
 }
-# A reply that ends in the middle of a statement, and two that end in the head. Of the latter, curl and the libraries
-# of PHP, Python and Ruby report the status 200, an empty body and no error.
+# A reply that ends in the middle of a statement. Of one that ends in its head, curl and the libraries of PHP, Python and
+# Ruby may report the status 200, an empty body and no error.
 CUT_IN_THE_BODY = b"HTTP/1.1 200 OK\r\nContent-Length: 99\r\nContent-Type: text/plain\r\n\r\nPledge 1\n"
-CUT_IN_THE_HEAD = [b"HTTP/1.1 200 OK\r\n", b"HTTP/1.1 200 OK\r\nContent-Length: 9"]
+CUT_IN_THE_STATUS = b"HTTP/1.1 200"
+# The head of the proxy's replies is long: it may be cut in a field before or after the length.
+LONG = b"Content-Security-Policy: " + b"default-src 'none'; " * 60
+# Each reply that is cut in its head, with the exit status of curl and the HTTP status that it reports.
+CUT_IN_THE_HEAD = {
+    CUT_IN_THE_STATUS: (52, b"000"), b"HTTP/1.1 200 OK\r\n": (0, b"200"),
+    b"HTTP/1.1 200 OK\r\nContent-Length: 9": (0, b"200"), b"HTTP/1.1 200 OK\r\n" + LONG: (0, b"200"),
+    b"HTTP/1.1 200 OK\r\nContent-Type: text/plain; charset=utf-8\r\nContent-Length: 185\r\n" + LONG: (18, b"200"),
+}
 
 
 @contextlib.contextmanager
@@ -146,20 +154,29 @@ def a_reply_that_was_cut_is_not_shown():
 
 
 def a_reply_that_was_cut_in_its_head_is_no_success():
-    """No example takes such a reply for a statement, although some libraries report no error."""
-    for reply in CUT_IN_THE_HEAD:
-        with cutting(reply) as port, tempfile.TemporaryDirectory() as room:
-            for language, (wanted, why) in AFTER_A_CUT.items():
-                if not has(language):
-                    continue
-                if language == "Go":
-                    build_for_go(room)
-                ran = run_example(language, room, port, ["1-x"])
-                expect(f"how {language} ends after {reply}", (ran.returncode, why in ran.stderr), (wanted, True))
-                expect(f"what {language} shows of {reply}", ran.stdout.startswith("200"), False)
-            words = ["curl", "-s", "-w", "%{http_code}", f"http://localhost:{port}/books/7/held"]
-            ran = subprocess.run(words, capture_output=True, timeout=60)
-            expect(f"what curl reports of {reply}", (ran.returncode, ran.stdout), (0, b"200"))
+    """No example takes such a reply for a statement, although some libraries report no error. curl reports one if the
+    cut is in the status line, or if the length came before it."""
+    languages = [language for language in AFTER_A_CUT if has(language)]
+    with tempfile.TemporaryDirectory() as room:
+        if "Go" in languages:
+            build_for_go(room)
+        for reply, by_curl in CUT_IN_THE_HEAD.items():
+            with cutting(reply) as port:
+                for language in languages:
+                    ended_by_a_cut(language, room, port, reply)
+                words = ["curl", "-s", "-w", "%{http_code}", f"http://localhost:{port}/books/7/held"]
+                ran = subprocess.run(words, capture_output=True, timeout=60)
+                expect(f"what curl reports of {reply[:60]}", (ran.returncode, ran.stdout), by_curl)
+
+
+def ended_by_a_cut(language, room, port, reply):
+    """An example ends as it does after a cut, and shows no status 200."""
+    wanted, why = AFTER_A_CUT[language]
+    ran = run_example(language, room, port, ["1-x"])
+    # Some libraries call a cut status line by another name.
+    is_named = reply == CUT_IN_THE_STATUS or why in ran.stderr
+    expect(f"how {language} ends after {reply[:60]}", (ran.returncode, is_named), (wanted, True))
+    expect(f"what {language} shows of {reply[:60]}", ran.stdout.startswith("200"), False)
 
 
 def a_body_of_ruby_is_binary_if_it_is_not_ascii():
@@ -261,11 +278,132 @@ def the_requests_for_editors_are_answered():
             expect(f"{method} {address}", ran.stdout in (wanted, "200"), True)
 
 
+# One handle of PHP sends a GET and then a POST; with the option that CLIENTS.md names, each by a connection of its own.
+PHP_TWICE = """
+$call = curl_init();
+curl_setopt_array($call, [CURLOPT_RETURNTRANSFER => true, CURLOPT_FORBID_REUSE => $argv[2] === "closing"]);
+foreach (["GET", "POST"] as $method) {
+    curl_setopt_array($call, [CURLOPT_URL => "$argv[1]/$method", CURLOPT_CUSTOMREQUEST => $method]);
+    echo curl_exec($call) === false ? "nothing " : curl_getinfo($call, CURLINFO_RESPONSE_CODE) . " ";
+}
+"""
+# Of Java the older client, and the one that CLIENTS.md has a row for. A short pause lets the first connection become free.
+JAVA_TWICE = """
+import java.io.*;
+import java.net.*;
+import java.net.http.*;
+public class Twice {
+    static int older(String method, String url) throws Exception {
+        var call = (HttpURLConnection) new URL(url).openConnection();
+        call.setRequestMethod(method);
+        if (method.equals("POST")) {
+            call.setDoOutput(true);
+            call.getOutputStream().write(1);
+        }
+        call.getInputStream().readAllBytes();
+        return call.getResponseCode();
+    }
+    public static void main(String[] words) throws Exception {
+        var client = HttpClient.newBuilder().version(HttpClient.Version.HTTP_1_1).build();
+        for (String method : new String[] {"GET", "POST"}) {
+            try {
+                var url = words[0] + "/" + method;
+                var asked = HttpRequest.newBuilder(URI.create(url)).method(method, HttpRequest.BodyPublishers.noBody()).build();
+                System.out.print((words[1].equals("older") ? older(method, url)
+                    : client.send(asked, HttpResponse.BodyHandlers.ofString()).statusCode()) + " ");
+            } catch (IOException fault) {
+                System.out.print("error ");
+            }
+            Thread.sleep(100);
+        }
+    }
+}
+"""
+NODE_TWICE = """
+for (const method of ["GET", "POST"]) {
+  const asked = fetch(process.argv[1], { method });
+  const shown = await asked.then(async (reply) => (await reply.text(), reply.status), () => "error");
+  process.stdout.write(`${shown} `);
+  await new Promise((done) => setTimeout(done, 100));
+}
+process.exit();
+"""
+RUBY_TWICE = """
+Net::HTTP.start("127.0.0.1", URI(ARGV[0]).port) do |call|
+  print call.get("/").code, " "
+  print((call.post("/", "").code rescue "error"), " ")
+end
+"""
+PERL_TWICE = """
+use HTTP::Tiny;
+my $client = HTTP::Tiny->new(keep_alive => 1);
+print $client->request($_, "$ARGV[0]/$_")->{status}, " " for "GET", "POST";
+"""
+
+
+@contextlib.contextmanager
+def ending_in_a_second_request():
+    """A server that answers the first request of a connection, and reads the second and then ends the connection, as a
+    service that was killed after it had done the request: its address, and the methods of the requests that it read."""
+    read = []
+
+    def answer(peer):
+        with peer:
+            for first in (True, False):
+                asked = peer.recv(10_000)
+                if asked:
+                    read.append(asked.split()[0].decode())
+                if not asked or not first:
+                    return
+                peer.sendall(b"HTTP/1.1 200 OK\r\nContent-Length: 2\r\n\r\n{}")
+
+    def serve():
+        while True:
+            try:
+                peer, _ = it.accept()
+            except OSError:
+                return
+            threading.Thread(target=answer, args=(peer,), daemon=True).start()
+
+    with socket.create_server(("127.0.0.1", 0)) as it:
+        threading.Thread(target=serve, daemon=True).start()
+        yield f"http://127.0.0.1:{it.getsockname()[1]}", read
+        it.shutdown(socket.SHUT_RDWR)
+
+
+def some_clients_send_a_post_again_by_themselves():
+    """On a connection that was used before, and without reporting it. On a new connection libcurl sends nothing twice."""
+    twice, once = ["GET", "POST", "POST"], ["GET", "POST"]
+    curl = ["curl", "-s", "-X", "GET", "{url}", "--next", "-s", "-X", "POST", "{url}"]
+    with tempfile.TemporaryDirectory() as room:
+        java = os.path.join(room, "Twice.java")
+        with open(java, "w") as file:
+            file.write(JAVA_TWICE)
+        runs = [
+            (None, "curl", curl, "{}{}", twice), ("PHP", "PHP, kept", ["php", "-r", PHP_TWICE, "{url}", "kept"], "200 200 ", twice),
+            ("PHP", "PHP, CURLOPT_FORBID_REUSE", ["php", "-r", PHP_TWICE, "{url}", "closing"], "200 200 ", once),
+            ("Java", "HttpURLConnection", ["java", java, "{url}", "older"], "200 200 ", twice),
+            ("Java", "HttpURLConnection without retryPost", ["java", "-Dsun.net.http.retryPost=false", java, "{url}", "older"],
+             "200 error ", once),
+            ("Java", "java.net.http", ["java", java, "{url}", "newer"], "200 error ", once),
+            ("JavaScript", "node's fetch", ["node", "--input-type=module", "-e", NODE_TWICE, "{url}"], "200 error ", once),
+            ("Ruby", "Net::HTTP", ["ruby", "-rnet/http", "-e", RUBY_TWICE, "{url}"], "200 error ", once),
+            ("Perl", "HTTP::Tiny", ["perl", "-e", PERL_TWICE, "{url}"], "200 599 ", once),
+        ]
+        for language, who, words, shown, methods in runs:
+            if language and not has(language):
+                continue
+            with ending_in_a_second_request() as (url, read):
+                made = [word.replace("{url}", url) for word in words]
+                ran = subprocess.run(made, stdin=subprocess.DEVNULL, capture_output=True, text=True, timeout=60)
+            expect(f"what {who} shows, and what the server read", (ran.stdout, read), (shown, methods))
+
+
 if not shutil.which("curl"):
     provide({"curl": "curl"})
 main(
     each_language_asks_twice_without_waiting, a_reply_that_was_cut_is_not_shown,
     a_reply_that_was_cut_in_its_head_is_no_success, a_body_of_ruby_is_binary_if_it_is_not_ascii,
-    the_requests_for_editors_are_answered,
+    some_clients_send_a_post_again_by_themselves, the_requests_for_editors_are_answered,
     each_line_of_a_statement_is_read_by_the_expression, a_story_of_the_page_is_played, the_rows_of_the_page_can_be_sold,
 )

@@ -10,7 +10,7 @@ import sys
 import tempfile
 
 from tests.library.checks import expect, main
-from tests.library.described import CODES, OPERATIONS
+from tests.library.described import CODES, DESCRIPTION, OPERATIONS
 from tests.library.paths import TOP
 
 # What the rules name and no request can get: the reader of a request's body does not fail.
@@ -26,6 +26,10 @@ COMMANDS = {
 WITHOUT_A_FIELD = {
     202, 205, 206, 301, 302, 303, 304, 305, 306, 308, 309, 311, 314, 316, 403, 404, 405, 406, 409, 410, 411, 412, 490, 491, 492,
     601, 602, 603, 604, 605, 606, 701, 703, 704, 705, 706, 707, 708, 709, 711, 712,
+}
+# The refusals of release 0.9.0. CHANGELOG.md names each one that came or went since, because it concerns clients.
+OF_RELEASE = {
+    102, 103, 104, *range(201, 207), *range(301, 317), *range(401, 413), 490, 491, 492, *range(601, 607), 701, *range(703, 713),
 }
 
 
@@ -157,7 +161,10 @@ def lists_of_the_definitions():
     text = read("crates/pawn_pledge/specs/Step.antt")
     for name, body in re.findall(r"(?m)^abbrev pub (\w+) : .*List \(Bool × Refusal\)\n((?:.+\n)+)", text):
         if re.search(r"∷ \[\]", body):
-            yield name, once(names[it] for it in re.findall(r", Refusal\.(?:Debt )?(\w+)", body))
+            found = re.findall(r", Refusal\.(?:Debt )?(\w+)", body)
+            missing = [it for it in found if it not in names]
+            expect(f"refusals of {name} of pawn_pledge/specs/Step.antt that docs/RULES.md does not name", missing, [])
+            yield name, once(names[it] for it in found)
 
 
 def each_list_of_the_definitions_is_in_the_order_of_the_rules():
@@ -168,6 +175,95 @@ def each_list_of_the_definitions_is_in_the_order_of_the_rules():
         expect(f"that {name} of pawn_pledge/specs/Step.antt, {codes}, is in the rules' order of a command", bool(fits), True)
         count += 1
     expect("how many there are", count > 5, True)
+
+
+def codes_of(words):
+    """The codes that words name: 102 to 104, 201 and 701 to 712, except 706."""
+    named, _, left_out = words.partition("except")
+    found = {
+        code for first, last in re.findall(r"(\d{3})(?: to (\d{3}))?", named)
+        for code in range(int(first), int(last or first) + 1)
+    }
+    return found - set(codes_in(left_out))
+
+
+def statuses_of_the_rules(rules=RULES):
+    """By code the status of a refusal, as the rules have it; None stands for all others."""
+    part = section(rules, "Bodies and replies").split("A refusal's code is not its HTTP status.")[1].split("\n")[0]
+    said = re.findall(r"(?:The codes )?(\d[^.]*?|All others),? (?:has|have)(?: the status)? (\d{3}) [A-Z]", part)
+    found = {}
+    for words, status in said:
+        for code in codes_of(words):
+            found.setdefault(code, int(status))
+    return {**found, None: next(int(status) for words, status in said if words == "All others")}
+
+
+def statuses_of_the_crates():
+    """The same, as the function that returns the statuses has it."""
+    named = {"BAD_REQUEST": 400, "FORBIDDEN": 403, "NOT_FOUND": 404, "SERVICE_UNAVAILABLE": 503, "CONFLICT": 409}
+    found = {}
+    for codes, status in re.findall(r"(?m)^ +([\d_].*) => StatusCode::(\w+),", read("crates/pawn_reply/src/status.rt")):
+        for first, last in re.findall(r"(\d{3})(?:\.\.=(\d{3}))?", codes):
+            found.update(dict.fromkeys(range(int(first), int(last or first) + 1), named[status]))
+        if codes == "_":
+            found[None] = named[status]
+    return found
+
+
+def each_status_is_that_of_the_rules():
+    """In the rules, in the crates, and in the responses of the description."""
+    rules, crates = statuses_of_the_rules(), statuses_of_the_crates()
+    responses = {}
+    for operation in OPERATIONS.values():
+        for status, it in operation.responses.items():
+            for code in CODES:
+                if f"- {code} {CODES[code]}: " in it["description"]:
+                    responses.setdefault(code, set()).add(status)
+    for code in sorted(CODES):
+        wanted = rules.get(code, rules[None])
+        expect(f"the status of {code} in crates/pawn_reply/src/status.rt", crates.get(code, crates[None]), wanted)
+        if code in responses:
+            expect(f"the status of {code} in the description", responses[code], {wanted})
+    expect("refusals of no response", sorted(set(CODES) - set(responses)), [707])
+
+
+def each_refusal_has_the_members_of_the_rules():
+    """The totals and rows that the rules, CLIENTS.md, the description and the pages name."""
+    (totals, rows), = re.findall(r'`"total":N` \(in pence\) for ([\d, and]+), and with `"row":N` for (\d+ to \d+) \|', RULES)
+    (totals_told, rows_told), = re.findall(
+        r"([\d, and]+) have the `total` that is owing, .*?\. (\d+ to \d+) have the `row`", read("docs/CLIENTS.md"),
+    )
+    (shown,) = re.findall(r"if \((code === .*)\) return ` Owed today", read("web/shared/refusals.js"))
+    members = {
+        it["properties"]["code"]["const"]: set(it["properties"])
+        for it in DESCRIPTION["components"]["schemas"].values() if "code" in it.get("properties", {})
+    }
+    for place, found, wanted in (
+        ("docs/CLIENTS.md", codes_of(totals_told), totals), ("docs/CLIENTS.md", codes_of(rows_told), rows),
+        ("web/shared/refusals.js", codes_of(shown), totals),
+        ("the description", {code for code, it in members.items() if "total" in it}, totals),
+        ("the description", {code for code, it in members.items() if "row" in it}, rows),
+    ):
+        expect(f"refusals with a total or a row in {place}", found, codes_of(wanted))
+
+
+def the_forms_of_a_key_are_those_of_the_rules():
+    """Where a writer of a client reads what a key looks like, no form of the rules is left out."""
+    (rules,) = re.findall(r"(?m)^A \*\*key\*\* is (.*?) A \*\*receipt\*\*", RULES)
+    (told,) = re.findall(r"(?m)^\|709 BadKey\|(.*)\|$", read("docs/CLIENTS.md"))
+    for form in ("plain", "8, 4, 4, 4 and 12", "hyphens", "in braces", "after `urn:uuid:`. Upper and lower case mean the same"):
+        expect(f"that the rules and CLIENTS.md, at 709, say of a key {form!r}", (form in rules, form in told), (True, True))
+
+
+def unnamed(codes, changes):
+    """Refusals that differ from those of the release, and that its changes do not name."""
+    since = changes.split("\n## 0.9.0\n")[0]
+    return sorted(code for code in OF_RELEASE ^ codes if not re.search(rf"\b{code}\b", since))
+
+
+def each_new_refusal_is_in_the_changelog():
+    missing = unnamed(set(CODES), read("CHANGELOG.md"))
+    expect("refusals that came or went since 0.9.0, and that CHANGELOG.md does not name", missing, [])
 
 
 def fields(text):
@@ -223,6 +319,14 @@ def these_checks_can_fail():
     ):
         expect(f"{old!r} in the rules", RULES.count(old), 1)
         expect(f"the order without {old!r}", wanted_of(operation, RULES.replace(old, new)) == operation.codes, False)
+    statuses = statuses_of_the_rules()
+    expect("statuses", [statuses.get(code) for code in (102, 313, 706, 707, 410, 491, 408, None)],
+           [400, 400, 404, 400, 403, 503, None, 409])
+    for old, new in (("201, 313, 601", "201, 601"), ("712, except 706", "712"), ("All others have 409", "All others have 400")):
+        expect(f"{old!r} in the rules", RULES.count(old), 1)
+        expect(f"the statuses without {old!r}", statuses_of_the_rules(RULES.replace(old, new)) == statuses, False)
+    changes = "## Unreleased\n317 TooFar is new.\n## 0.9.0\n102 and 318"
+    expect("what the changes lack", unnamed({*OF_RELEASE, 317, 318} - {102}, changes), [102, 318])
     bent = RULES.replace("409 BookNotEmpty, if", "411 BookNotEmpty, if")
     expect("another number of an import", wanted_of(OPERATIONS["importBook"], bent) == OPERATIONS["importBook"].codes, False)
     expect("codes of a text", codes_in("201 (above 100,000,000 pence), 412 of 1,000,000; 99 and 490."), [201, 412, 490])
@@ -231,6 +335,8 @@ def these_checks_can_fail():
 
 main(
     each_refusal_is_in_every_list, each_operation_has_the_refusals_of_the_rules_in_order,
-    each_list_of_the_definitions_is_in_the_order_of_the_rules, each_refusal_has_a_field_of_a_form_or_none_on_purpose,
+    each_list_of_the_definitions_is_in_the_order_of_the_rules, each_status_is_that_of_the_rules,
+    each_refusal_has_the_members_of_the_rules, the_forms_of_a_key_are_those_of_the_rules, each_new_refusal_is_in_the_changelog,
+    each_refusal_has_a_field_of_a_form_or_none_on_purpose,
     the_generator_names_what_is_missing, these_checks_can_fail,
 )

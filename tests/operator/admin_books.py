@@ -1,7 +1,10 @@
 """`pawnd-admin` and single books: one is made, one comes back out of a copy, a key has leaked, a broker leaves."""
+import contextlib
 import os
 import shutil
+import socket
 import stat
+import threading
 import uuid
 
 from tests.library.checks import expect
@@ -37,6 +40,95 @@ def a_store_and_books():
         expect("what commands left", it.leftovers(), [])
 
 
+def a_book_that_is_made_again():
+    """A command that has ended, and was killed before it said so, is run again: it says that the book is there, and changes
+    nothing. With another name, capacity, store or key the number is taken."""
+    with Machine() as it:
+        it.store("west")
+        it.write("own", str(uuid.uuid4()) + "\n", 0o600)
+        of_book = {
+            7: ("--name", "High Street", "--key-to", it.place("key-7")),
+            8: ("--name", "Low Street", "--capacity", 5, "--store", "west", "--key-file", it.place("own")),
+            9: ("--name", "Far Street"),
+        }
+        for number, words in of_book.items():
+            it.admin("book", number, *words)
+        shutil.copy(it.place("key-7"), it.place("first"))
+        for number, words in of_book.items():
+            said = it.admin("book", number, *words)
+            expect(f"run again: {said}", "already, and nothing was changed" in said, True)
+        expect("where the key is not in a file", "`pawnd-admin new-key 9`" in said, True)
+        expect("the key in the file", key_in(it, "key-7"), key_in(it, "first"))
+        it.admin("new-key", 7, "--key-to", it.place("key-7"))
+        it.admin("book", 7, *of_book[7])
+        it.write("other", str(uuid.uuid4()) + "\n", 0o600)
+        for number, *more in (
+            (7, "--name", "Other"), (7, "--capacity", 3), (7, "--store", "west"), (7, "--key-to", it.place("other")),
+            (7, "--key-to", it.place("none")), (8, "--key-file", it.place("other")),
+        ):
+            said = it.admin("book", number, *of_book[number], *more, wanted=1)
+            expect(f"{more}: {said}", "Choose another number" in said, True)
+        expect("the key that was in that file", os.path.exists(it.place("none")), False)
+        expect("what commands left", [*it.leftovers(), *os.listdir(it.place("etc/pending"))], [])
+
+
+def key_in(machine, name):
+    with open(machine.place(name)) as file:
+        return file.read().strip()
+
+
+@contextlib.contextmanager
+def a_service_that_says(text):
+    """The port of a service that answers all requests with this text."""
+    def serve(listener):
+        with contextlib.suppress(OSError):
+            while True:
+                peer, _ = listener.accept()
+                with peer:
+                    peer.recv(1 << 16)
+                    peer.sendall(text)
+
+    with socket.create_server(("127.0.0.1", 0)) as listener:
+        threading.Thread(target=serve, args=(listener,), daemon=True).start()
+        yield listener.getsockname()[1]
+
+
+def a_reply_that_is_cut_off():
+    """An empty reply with the status 200 does not say that the book was made; the command that is run again makes it, with
+    the same key."""
+    with Machine() as it:
+        it.store("west")
+        conf = it.place("etc/stores/west.conf")
+        words = "--name", "Far Street", "--store", "west", "--key-to", it.place("key-7")
+        with open(conf) as file:
+            own = file.read()
+        with a_service_that_says(b"HTTP/1.1 200 OK\r\n") as port:
+            it.write("etc/stores/west.conf", f"ADDRESS=127.0.0.1:{port}\n")
+            said = it.admin("book", 7, *words, wanted=1)
+        expect(f"what it says: {said}", "run the command again" in said, True)
+        it.write("etc/stores/west.conf", own)
+        it.admin("reload"), it.admin("book", 7, *words)
+        expect("the book", Caller(it, 7, key_in(it, "key-7")).request("GET", "/pledges/1")[1]["code"], 403)
+
+
+def a_store_that_refuses():
+    """The command says what to do: where a store has another operator's key, and where the relay of another machine answers
+    in the place of a store that is being started."""
+    with Machine() as it:
+        kept = key_in(it, "etc/operator.key")
+        it.write("etc/operator.key", str(uuid.uuid4()) + "\n", 0o600)
+        said = it.admin("book", 7, "--name", "High Street", wanted=1)
+        expect(f"another key: {said}", "`systemctl restart pawnd@main.service`" in said, True)
+        it.write("etc/operator.key", kept + "\n", 0o600)
+        it.admin("book", 7, "--name", "High Street")
+        it.store("west")
+        away = b'HTTP/1.1 503 Service Unavailable\r\nContent-Length: 31\r\n\r\n{"proxy":503,"handed_on":false}'
+        with a_service_that_says(away) as port:
+            it.write("etc/stores/west.conf", f"ADDRESS=127.0.0.1:{port}\n")
+            said = it.admin("book", 8, "--name", "Far Street", "--store", "west", wanted=1)
+        expect(f"a store that is being started: {said}", "run the command again" in said, True)
+
+
 def one_book_out_of_a_copy():
     """It comes back as it was, in a new store; the others go on, and its rows in the old store answer no more."""
     with Machine() as it:
@@ -62,12 +154,29 @@ def one_book_out_of_a_copy():
         in_two = [line for line in notes if "book 7 is in two stores: west answers" in line]
         expect(f"it is in two stores: {notes}", len(in_two), 1)
         expect("the stores", (books_in(it.path("main")), books_in(it.path("west"))), ({7, 8}, {7}))
-        it.admin("restore-book", 7, copy, "west", wanted=1)
+        expect_run_again(it, copy)
         it.admin("restore-book", 9, copy, "north", wanted=1)
         expect("no store for a book that is not there", os.path.exists(it.path("north")), False)
+        it.admin("restore-book", 7, os.path.basename(copy), "south")
+        in_two = "book 7 is in two stores: south answers, and nobody reaches the rows in west"
+        expect("a store that no line names any more", (in_two in it.status()["notes"], it.lines()), (True, {7: "south"}))
         it.admin("remove-book", 7)
         expect("book 7 when it was taken out", callers[7].request("GET", "/export"), REFUSED)
         expect("nor does an older state of it answer", books_in(it.path("main")), {8})
+
+
+def expect_run_again(it, copy):
+    """A run of the command that had ended, with the copy's folder or its time, changes nothing and ends well. Where the
+    copy is another one, the command says what to do, and a time may be that of a copy of the store that had the book."""
+    before = books_in(it.path("west")), it.lines()
+    for named in (copy, os.path.basename(copy)):
+        said = it.admin("restore-book", 7, named, "west")
+        expect(f"again by {named}: {said}", "is in the store west already" in said and "othing was changed" in said, True)
+    it.admin("copy", "west"), it.admin("copy", "main")
+    for named in ("newest", it.newest("main")):
+        said = it.admin("restore-book", 7, named, "west", wanted=1)
+        expect(f"another copy: {said}", "othing was changed" in said and "name a new store" in said, True)
+    expect("what is there", (books_in(it.path("west")), it.lines()), before)
 
 
 def a_broker_who_leaves():
@@ -84,6 +193,8 @@ def a_broker_who_leaves():
         folder = os.path.join(it.copies, "removed", os.listdir(os.path.join(it.copies, "removed"))[0])
         with open(os.path.join(folder, "book.csv")) as file:
             expect("its text", file.read(), before)
+        said = it.admin("restore-book", 7, folder, "main", wanted=1)
+        expect(f"into the old store: {said}", ("already" in said, "name a new store" in said), (False, True))
         it.admin("restore-book", 7, folder, "west")
         expect("the book when it is back", callers[7].export(), before)
         it.admin("remove-book", 7), it.admin("restore-book", 7, folder, "west")
@@ -185,6 +296,7 @@ def a_leaked_key_of_a_store_elsewhere():
 
 if __name__ == "__main__":
     main_with(
-        PACKAGES, a_store_and_books, one_book_out_of_a_copy, a_broker_who_leaves, a_leaked_key,
+        PACKAGES, a_store_and_books, a_book_that_is_made_again, a_reply_that_is_cut_off, a_store_that_refuses,
+        one_book_out_of_a_copy, a_broker_who_leaves, a_leaked_key,
         a_leaked_key_of_a_store_elsewhere, a_leaked_key_of_a_book_that_comes_back,
     )

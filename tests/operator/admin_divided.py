@@ -4,6 +4,7 @@ import os
 import random
 
 from tests.library.checks import expect, not_tried
+from tests.library.operator.admin_killing import without_main
 from tests.library.operator.admin_machine import PACKAGES, Machine, await_load, load
 from tests.library.operator.admin_places import books_in, expect_no_fewer_places, places_of
 from tests.library.packages import main_with
@@ -37,6 +38,37 @@ def a_store_is_divided_under_load():
         for words in (("main", "east", 8), ("main", "west", 7), ("main", "main", 7), ("main", "east", 77)):
             it.admin("split", *words, wanted=1)
         expect("no store for a split that is refused", sorted(it.lines().values()), ["north", "west"])
+        expect_all_is_well(it)
+
+
+def a_store_for_the_proxy_of_another_machine():
+    """A machine without `main` serves stores for another one's proxy, whose map says nothing of what happens here: a relay
+    passes a book without a line to `west`. A store is divided there, a book comes back out of a copy, and one leaves."""
+    with Machine() as it:
+        it.store("west")
+        callers = {number: it.book(number, "west", pledges=2) for number in (10, 11, 12, 13)}
+        without_main(it)
+        it.admin("copy", "west")
+        with load(*callers.values()):
+            await_load(*callers.values())
+            it.admin("split", "west", "north", 11, 13)
+            await_load(*callers.values())
+        expect("the books", (books_in(it.path("west")), books_in(it.path("north"))), ({10, 12}, {11, 13}))
+        for caller in callers.values():
+            caller.look_up()
+        it.admin("split", "west", "north", 11, 13)
+        it.admin("copy", "west"), it.admin("restore-book", 12, "newest", "south")
+        callers[12].repay(), callers[12].look_up()
+        expect("the map", it.lines(), {11: "north", 12: "south", 13: "north"})
+        it.admin("remove-book", 12), it.admin("remove-book", 10), it.admin("remove-book", 13)
+        for number in (10, 12, 13):
+            expect(f"book {number}, which left", callers[number].request("GET", "/pledges/1")[0], 404)
+        expect("the books", [books_in(it.path(name)) for name in ("west", "north", "south")], [set(), {11}, set()])
+        callers[11].look_up()
+        for words in (("book", 14, "--name", "New Street", "--store", "west"), ("new-key", 11, "--key-to", it.place("new"))):
+            said = it.admin(*words, wanted=1)
+            expect(f"{words}: {said}", "on the machine of the proxy" in said, True)
+        expect("no key was made", os.path.exists(it.place("new")), False)
         expect_all_is_well(it)
 
 
@@ -180,6 +212,7 @@ if __name__ == "__main__":
     main_with(
         PACKAGES,
         a_store_is_divided_under_load,
+        a_store_for_the_proxy_of_another_machine,
         parts_that_are_not_the_whole_are_refused,
         a_part_without_a_copy_keeps_the_original,
         a_division_that_stops_after_the_map_was_turned,

@@ -89,6 +89,18 @@ def stores_that_are_away_or_damaged():
         expect("how long it takes", timed(it.status) < 15, True)
 
 
+def a_store_that_is_being_started():
+    """It reads its file before it listens: the status says so, and that nothing has to be done as long as it does."""
+    with Machine() as it:
+        it.book(7)
+        it.admin("copy", "main")
+        it.systemctl("stop", "pawnd@main")
+        it.write("reads-for-long", "#!/bin/sh\nexec sleep 60\n", 0o755)
+        it.environment["PAWND"] = it.place("reads-for-long")
+        it.systemctl("start", "pawnd@main")
+        expect_wrong(it, "it is being started, and answers when", "store main: does not answer through the proxy")
+
+
 def timed(do):
     begun = time.monotonic()
     do()
@@ -173,6 +185,39 @@ def copies_and_disks():
         it.systemctl("start", "pawnd@main")
         it.await_store("main")
         expect_wrong(it, "store main: holds less than its newest copy")
+
+
+def a_clock_that_was_set_back():
+    """All copies that were made before are dated in the future then. They are named together, with what to look at first,
+    and nothing advises to remove or to rename a good copy. When the clock is right again, nothing is wrong."""
+    with Machine() as it:
+        caller = it.book(7, pledges=1)
+        for _ in range(4):
+            caller.repay(), it.admin("copy", "main"), time.sleep(1)
+        names = sorted(os.listdir(os.path.join(it.copies, "main")))
+        later = [f"2099010{place}T030000Z" for place in range(1, 4)]
+        for name, other in zip(names[1:], later, strict=True):
+            redate(os.path.join(it.copies, "main", name), other)
+        expect_wrong(it, f"3 copies, {later[0]} to {later[2]}, are dated in the future")
+        wrong = it.status()["wrong"][0]
+        for text in ("`timedatectl`", "leave them where they are", "do not remove them"):
+            expect(f"{text!r} in {wrong}", text in wrong, True)
+        for text in ("rename", "or remove"):
+            expect(f"{text!r} in {wrong}", text in wrong, False)
+        said = it.admin("copy", "main")
+        expect(f"what `copy` says: {said}", ("are dated in the future" in said, "remove it" in said), (True, False))
+        for words in (("restore", "main", "newest"), ("restore-book", 7, "newest", "west")):
+            said = it.admin(*words, wanted=1)
+            expect(f"{words}: {said}", f"3 copies, {later[0]} to {later[2]}, are dated in the future" in said, True)
+        caller.look_up()
+        expect("they stay", [os.path.exists(os.path.join(it.copies, "main", name)) for name in later], [True] * 3)
+        away = it.place("away")
+        os.mkdir(away)
+        for name in later:
+            os.rename(os.path.join(it.copies, "main", name), os.path.join(away, name))
+        expect_wrong(it)
+        it.admin("restore", "main", os.path.join(away, later[2]))
+        caller.look_up()
 
 
 def a_copy_of_a_store_that_lost_its_log():
@@ -313,9 +358,11 @@ if __name__ == "__main__":
         PACKAGES,
         tables_of_a_served_store,
         stores_that_are_away_or_damaged,
+        a_store_that_is_being_started,
         the_proxy_and_its_files,
         books_and_lines,
         copies_and_disks,
+        a_clock_that_was_set_back,
         a_copy_of_a_store_that_lost_its_log,
         less_than_the_copy_by_a_command,
         a_store_that_is_not_sent,

@@ -3,7 +3,7 @@ admin_killing.py says how."""
 import os
 
 from tests.library.checks import expect
-from tests.library.operator.admin_killing import ALL, expect_well, killed
+from tests.library.operator.admin_killing import ALL, FarStory, expect_well, killed
 from tests.library.operator.admin_machine import PACKAGES
 from tests.library.operator.admin_places import books_in
 from tests.library.packages import main_with
@@ -96,6 +96,35 @@ def killed_removal_of_a_last_book():
     ), meanwhile=meanwhile)
 
 
+def expect_far(story, **stores):
+    """Which books each store of a second machine has, and that nothing is wrong."""
+    it = story.machine
+    expect("the books", {name: books_in(it.path(name)) for name in stores}, stores)
+    expect("what is wrong", it.status()["wrong"], [])
+    expect("what commands left", it.leftovers(), [])
+
+
+def killed_split_on_a_second_machine():
+    killed(["split", "west", "north", "8", "9"],
+           lambda story: expect_far(story, west={7, 10}, north={8, 9}), kind=FarStory)
+
+
+def killed_restore_book_on_a_second_machine():
+    def after(story):
+        expect_far(story, west={7, 8, 9, 10}, north={8})
+        expect("book 8", story.callers[8].entries(), 1)
+
+    killed(["restore-book", "8", "COPY", "north"], after, goes_back={8}, kind=FarStory)
+
+
+def killed_remove_book_on_a_second_machine():
+    def after(story):
+        expect_far(story, west={7, 9, 10})
+        expect("book 8", story.callers[8].request("GET", "/pledges/1")[0], 404)
+
+    killed(["remove-book", "8"], after, goes_back={8}, kind=FarStory)
+
+
 if __name__ == "__main__":
     main_with(
         PACKAGES,
@@ -106,4 +135,7 @@ if __name__ == "__main__":
         killed_restore_book_of_the_newest,
         killed_remove_book,
         killed_removal_of_a_last_book,
+        killed_split_on_a_second_machine,
+        killed_restore_book_on_a_second_machine,
+        killed_remove_book_on_a_second_machine,
     )

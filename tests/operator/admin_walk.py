@@ -86,13 +86,7 @@ class Operator:
                 self.story[-1][1] += 1
             if self.draw.random() < 0.5:
                 self.boot()
-            if words[0] == "restore-book" and self.has_book_back(words[1], words[3]):
-                # It was killed after its last step, and would be refused.
-                return
         self.machine.admin(*words)
-
-    def has_book_back(self, book, new):
-        return self.place(book) == new and not os.path.exists(self.machine.place(f"etc/pending/restore-{book}.json"))
 
     @contextlib.contextmanager
     def account(self):

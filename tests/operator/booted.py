@@ -97,7 +97,8 @@ def a_port_of_its_own(one):
     with open(path, "w") as it:
         it.write(LISTENER)
     listen = (
-        "cp /root/listener.py /tmp/; runuser -u {user} -- python3 /tmp/listener.py 8102 & sleep 1; "
+        "cp /root/listener.py /tmp/; runuser -u {user} -- python3 /tmp/listener.py 8102 & "
+        "for it in $(seq 100); do if ss -Hltn 'sport = :8102' | grep -q .; then break; fi; sleep 0.1; done; "
         "python3 -c 'import socket; s = socket.create_connection((\"127.0.0.1\", 8102), timeout=3); "
         "s.sendall(b\"Pledge-Key: secret\")' || true; wait"
     )
@@ -131,10 +132,11 @@ def a_file_that_is_no_store(one):
     one.run(
         "systemctl stop pawnd@main; mkdir /root/good; mv /var/lib/pawnd/main/books.db* /root/good; "
         "seq 2000 | install -o pawnd-main -g pawnd-main -m 600 /dev/stdin /var/lib/pawnd/main/books.db; "
-        "systemctl start pawnd@main || true; sleep 4"
+        "systemctl start pawnd@main || true"
     )
-    expect("it was tried again", int(one.state("pawnd@main", "NRestarts")[0]) >= 1, True)
-    expect("why", "fault 50" in one.run("journalctl -u pawnd@main -n 20 --no-pager -o cat"), True)
+    # It is tried again.
+    one.until("[ $(systemctl show -P NRestarts pawnd@main) -ge 1 ]")
+    one.until("journalctl -u pawnd@main -n 20 -o cat --no-pager | grep -q 'fault 50'")
     one.run("systemctl stop pawnd@main; seq 2000 | cmp - /var/lib/pawnd/main/books.db")
     one.run("rm /var/lib/pawnd/main/books.db*; mv /root/good/* /var/lib/pawnd/main/; systemctl start pawnd@main")
     answers_again(one)
@@ -146,6 +148,8 @@ def who_is_told(one):
 
     one.run("printf '#!/bin/sh\\ncat >>/root/mails; echo \"$@\" >>/root/mails\\n' >/usr/local/bin/mail; chmod +x /usr/local/bin/mail")
     one.run(command(DEPLOYING, "Messages about problems", "on-failure"))
+    one.run(command(DEPLOYING, "Messages about problems", "pawnd-failed@"))
+    expect("the mail of the trial", "pawnd: pawnd-status failed" in one.run("cat /root/mails"), True)
     one.run("systemctl kill --kill-whom=main -s KILL pawnd@main; until grep -q 'pawnd@main.service failed' /root/mails; do sleep 0.2; done")
     answers_again(one)
     one.run("systemctl stop nginx; systemctl start pawnd-status || true")

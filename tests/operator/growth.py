@@ -1,13 +1,15 @@
-"""Growth by the commands of docs/DEPLOYING.md on two Debians that run systemd: a second store, a store that is divided,
-and a store that goes to a second machine."""
+"""Growth by the commands of docs/DEPLOYING.md on Debians that run systemd: a second store, a store that is divided, and a
+store that goes to a second machine, is divided there, and is put back when that machine is lost."""
 import re
 import tempfile
 
 from tests.library.checks import expect
 from tests.library.operator.booted import Booted, main_booted, steps
-from tests.library.operator.documented import DEPLOYING, commands
-from tests.library.operator.first_day import answers_again, ask, enter, first_day, put_certbot, with_terms
-from tests.library.operator.packages import make_folder
+from tests.library.operator.documented import DEPLOYING, OPERATING, commands
+from tests.library.operator.first_day import (
+    answers_again, ask, carry_passphrase, enter, first_day, put_certbot, reach, with_terms,
+)
+from tests.library.operator.packages import make_folder, make_package
 
 
 def growth():
@@ -17,7 +19,8 @@ def growth():
             one.line_to(second, "10.0.0.1", "10.0.0.3")
             first_day(one, f"{folder}/pawnd_0.0.1_amd64.deb")
             with_terms(one)
-            steps((one, second), a_second_store, a_full_store_is_divided, a_second_machine)
+            steps((one, second), a_second_store, a_full_store_is_divided, a_second_machine, a_division_there,
+                  an_upgrade_there, a_lost_second_machine)
 
 
 def a_second_store(one, second):
@@ -36,14 +39,9 @@ def a_full_store_is_divided(one, second):
 
 
 def a_second_machine(one, second):
-    """The two machines' roots reach each other by ssh, as the page's scp asks."""
     put_certbot(second)
-    for machine, other in ((one, "10.0.0.3"), (second, "10.0.0.1")):
-        machine.run("mkdir -p -m 700 /root/.ssh; ssh-keygen -q -t ed25519 -N '' -f /root/.ssh/id_ed25519; systemctl start ssh")
-        machine.run("printf 'Host *\\nStrictHostKeyChecking accept-new\\n' >/root/.ssh/config")
-    for machine, peer in ((one, second), (second, one)):
-        peer.run(f"cat >>/root/.ssh/authorized_keys <<<'{machine.run('cat /root/.ssh/id_ed25519.pub').strip()}'")
-    prepare, away, there, tell = commands(DEPLOYING, "A second machine")
+    reach(one, second)
+    prepare, away, there, tell, *_ = commands(DEPLOYING, "A second machine")
     second.run("cp /root/packages/*.deb /root/")
     second.run(prepare)
     one.run(away)
@@ -53,7 +51,8 @@ def a_second_machine(one, second):
     expect("it goes on there", enter(one, 2, 10, "/root/10.key")[0], 200)
     one.run("pawnd-admin book 11 --store east --name 'Far Street' --key-to /root/11.key")
     expect("a new book there", ask(one, "/books/11/pledges/1", key="/root/11.key")[0], 404)
-    stranger = one.run("ip address add 10.0.0.9/24 dev to-second; curl -s --interface 10.0.0.9 -o /dev/null -w '%{http_code}' http://10.0.0.3:8103/books/10/held")
+    stranger = one.run("ip address add 10.0.0.9/24 dev to-second; curl -s --interface 10.0.0.9 -o /dev/null -w '%{http_code}' "
+                       "http://10.0.0.3:8103/books/10/held")
     expect("no caller but the proxy reaches the relay", stranger, "403")
     told = one.run("pawnd-admin status || true")
     expect("what is wrong", [it for it in told.splitlines() if re.match("WRONG(?!.*certificate|.* sent off this machine)", it)], [])
@@ -61,10 +60,103 @@ def a_second_machine(one, second):
     again = second.run("pawnd-admin copy east; pawnd-admin restore east newest 2>&1")
     expect("it says nothing of a store that is not there", "nobody reaches" in again, False)
     answers_again(one, target="/books/10/pledges/2", key="/root/10.key")
-    second.run("cd /root; apt-get -y reinstall ./pawnd_*_amd64.deb; pawnd-admin status; pawnd-admin remove-book 11; pawnd-admin status")
+    second.run("cd /root; apt-get -y reinstall ./pawnd_*_amd64.deb")
+    answers_again(one, target="/books/10/pledges/2", key="/root/10.key")
+    second.run("pawnd-admin status; pawnd-admin remove-book 11; pawnd-admin status")
     expect("a book that left", ask(one, "/books/11/pledges/1", key="/root/11.key")[0], 404)
     answers_again(one, target="/books/10/pledges/2", key="/root/10.key")
-    second.run("apt-get -y remove pawnd; nginx -t -q; apt-get -y purge pawnd; nginx -t -q; systemctl restart nginx")
+
+
+def a_division_there(one, second):
+    """The relay passes a book to the store of the second machine that has it, and the first machine goes on as before."""
+    one.run("pawnd-admin book 11 --store east --name 'Far Street' --key-to /root/11.key.again")
+    with_terms(one, 11, "/root/11.key.again")
+    before = one.run("cat /etc/pawnd/books.map /etc/pawnd/stores.conf")
+    divide, timer = commands(DEPLOYING, "A second machine")[-2:]
+    second.run(divide)
+    answers_again(one, target="/books/11/pledges/1", key="/root/11.key.again")
+    expect("both go on", (enter(one, 3, 10, "/root/10.key")[0], enter(one, 2, 11, "/root/11.key.again")[0]), (200, 200))
+    expect("the map there", second.run("cat /etc/pawnd/books.map"), "11 west;\n")
+    second.run("sleep 1; pawnd-admin copy east; pawnd-admin restore-book 10 newest back")
+    expect("a book that came back", ask(one, "/books/10/pledges/3", key="/root/10.key")[0], 200)
+    expect("it goes on", enter(one, 4, 10, "/root/10.key")[0], 200)
+    expect("the first machine's map", one.run("cat /etc/pawnd/books.map /etc/pawnd/stores.conf"), before)
+    second.run("pawnd-admin status")
+    second.run(timer)
+    second.run("pawnd-admin remove-book 11")
+    expect("a book that left", ask(one, "/books/11/pledges/1", key="/root/11.key.again")[0], 404)
+
+
+def an_upgrade_there(one, second):
+    """The units and the timers of all its stores are the new ones at once, and the stores go on behind the relay."""
+    make_package(second.packages, "0.0.2", (
+        ("deploy/systemd/pawnd@.service", "\n[Service]\nEnvironment=VERSION_TWO=yes\n"),
+        ("deploy/systemd/pawnd-status.timer", "\n[Timer]\nOnUnitActiveSec=7min\n"),
+        ("deploy/nginx/pawnd-relay.conf", "# Version two.\n"),
+    ))
+    second.run("mkdir /root/both; cp /root/packages/*.deb /root/both/")
+    for block in commands(DEPLOYING, "Upgrade and way back")[:1]:
+        second.run(block.replace("@main", "@east").replace("VERSION", "0.0.2"), folder="/root/both")
+    for name in ("east", "back"):
+        pid = second.state(f"pawnd@{name}", "MainPID")[0]
+        expect(f"the unit of {name}", "VERSION_TWO" in second.run(f"tr '\\0' '\\n' </proc/{pid}/environ"), True)
+    expect("the timer", "OnUnitActiveUSec=7min" in second.run("systemctl show -P TimersMonotonic pawnd-status.timer"), True)
+    expect("no store main", second.run("ls /etc/pawnd/stores"), "back.conf\neast.conf\nwest.conf\n")
+    answers_again(one, target="/books/10/pledges/4", key="/root/10.key")
+    expect("what systemd complains of", second.complaints(), [])
+
+
+def both_send(one, second, standby, keys, begin):
+    """The first machine sends to the same repository, with a key of its own, and the daily run there sees nothing amiss."""
+    one.line_to(standby, "10.9.3.1", "10.9.3.2")
+    one.run("echo 10.9.3.2 standby >>/etc/hosts")
+    one.run(keys.splitlines()[0])
+    line = standby.run("cat /var/lib/pawnd-received/.ssh/authorized_keys").rpartition(" ssh-ed25519 ")[0]
+    public = one.run("cat /etc/pawnd/offsite.key.pub").strip()
+    standby.run(f"echo '{line} {public}' >>/var/lib/pawnd-received/.ssh/authorized_keys")
+    carry_passphrase(second, one)
+    one.run("".join(it + "\n" for it in begin.splitlines() if "borg init" not in it))
+    standby.start("pawnd-received")
+    second.run("sleep 1; systemctl start pawnd-copy@east")
+    second.start("pawnd-offsite@east")
+    one.run("sleep 1; systemctl start pawnd-copy@main")
+    one.start("pawnd-offsite@main")
+    standby.start("pawnd-received")
+
+
+def a_lost_second_machine(one, second):
+    """Its stores are put back on a third machine, with its address, from what it had sent."""
+    with Booted(one.packages, "standby") as standby, Booted(one.packages, "third") as third:
+        second.line_to(standby, "10.9.1.1", "10.9.1.2")
+        third.line_to(standby, "10.9.2.1", "10.9.2.2")
+        second.run("echo 10.9.1.2 standby >>/etc/hosts")
+        third.run("echo 10.9.2.2 standby >>/etc/hosts")
+        keys, receiver, begin, *_ = commands(DEPLOYING, "Off the machine")
+        public = second.run(keys).strip().splitlines()[-1]
+        for machine in (standby, third):
+            put_certbot(machine)
+            machine.run("cp /root/packages/*.deb /root/")
+        standby.run(receiver.replace("PUBLIC-KEY", public))
+        standby.run("systemctl start ssh; chown -R pawnd-received: /var/lib/pawnd-received")
+        carry_passphrase(second, standby)
+        second.run("systemctl start pawnd-copy@back")
+        second.run(begin.replace("@main", "@back"))
+        second.start("pawnd-offsite@east")
+        both_send(one, second, standby, keys, begin)
+        second.cut()
+        expect("the other stores go on", ask(one, "/books/7/pledges/1")[0], 200)
+        one.line_to(third, "10.0.0.1", "10.0.0.3")
+        reach(one, standby, third)
+        for name in ("east", "back"):
+            take, fetch = (block.replace("east", name) for block in commands(OPERATING, "A lost second machine"))
+            standby.run(take)
+            if name == "east":
+                third.run(commands(DEPLOYING, "A second machine")[0])
+            third.run(fetch)
+        answers_again(one, target="/books/10/pledges/4", key="/root/10.key")
+        expect("it goes on there", enter(one, 5, 10, "/root/10.key")[0], 200)
+        third.run("pawnd-admin status")
+        third.run("apt-get -y remove pawnd; nginx -t -q; apt-get -y purge pawnd; nginx -t -q; systemctl restart nginx")
 
 
 if __name__ == "__main__":

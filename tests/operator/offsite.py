@@ -1,6 +1,6 @@
 """Copies off the machine by borg, between two Debians that run systemd, by the commands of the documents: a copy is sent
-and counted, the first machine's folder is emptied, an intruder uses its key, the receiver is silent; and at last the
-first machine is lost, and the second serves from what was sent alone."""
+and counted, the first machine's folder is emptied, an intruder uses its key, the receiver is silent; the first machine is
+installed anew and sends to a new repository; and at last it is lost, and the second serves from what was sent alone."""
 import os
 import re
 import tempfile
@@ -9,7 +9,9 @@ import time
 from tests.library.checks import Failed, expect
 from tests.library.operator.booted import Booted, main_booted
 from tests.library.operator.documented import DEPLOYING, OPERATING, command, commands
-from tests.library.operator.first_day import NAME, answers_again, ask, enter, first_day, put_certbot, with_terms
+from tests.library.operator.first_day import (
+    answers_again, ask, carry_passphrase, enter, first_day, put_certbot, reach, slow_requests, with_terms,
+)
 from tests.library.operator.packages import make_package
 
 REPOSITORY = "/var/lib/pawnd-received/copies"
@@ -30,11 +32,17 @@ def two_machines_and_a_lost_one():
                 a_receiver_that_is_silent,
                 an_archive_that_is_removed_before_it_was_seen,
                 an_intruder_with_the_key,
-                the_machine_is_lost,
             ):
-                begun = time.monotonic()
-                step(one, standby)
-                print(f"        {step.__name__.replace('_', ' ')}: {time.monotonic() - begun:.1f} s", flush=True)
+                timed(step, one, standby)
+            with Booted(room, "anew") as anew:
+                timed(sending_begins_anew, one, standby, anew, package)
+                timed(the_machine_is_lost, anew, standby)
+
+
+def timed(step, *words):
+    begun = time.monotonic()
+    step(*words)
+    print(f"        {step.__name__.replace('_', ' ')}: {time.monotonic() - begun:.1f} s", flush=True)
 
 
 def archives(standby):
@@ -55,9 +63,8 @@ def a_copy_is_sent(one, standby):
     put_certbot(standby)
     standby.run("cp /root/packages/*.deb /root/")
     standby.run(receiver.replace("PUBLIC-KEY", public))
-    standby.run("rm /root/*.deb; systemctl start ssh; chown -R pawnd-received: /var/lib/pawnd-received")
-    passphrase = one.run("cat /etc/pawnd/offsite.passphrase")
-    standby.run(f"umask 077; cat >/etc/pawnd/offsite.passphrase <<<'{passphrase.strip()}'")
+    standby.run("rm /root/*.deb; systemctl start ssh")
+    carry_passphrase(one, standby)
     one.run(begin)
     expect("an archive", len(archives(standby)), 1)
     clear = standby.run(f"grep -rlE 'SQLite format|High Street' {REPOSITORY} || true")
@@ -80,7 +87,7 @@ def a_folder_that_was_emptied(one, standby):
     one.run("mv /var/backups/pawnd/main /root/away; mkdir -m 700 /var/backups/pawnd/main")
     one.run("systemctl start pawnd-offsite@main", wanted=1)
     expect("what was sent", archives(standby), before)
-    expect("why", "has no copy, so nothing is sent" in one.run("journalctl -u pawnd-offsite@main -o cat --no-pager"), True)
+    expect("why", "has no copy, so nothing is sent" in one.journal("pawnd-offsite@main"), True)
     one.run("rmdir /var/backups/pawnd/main; mv /root/away /var/backups/pawnd/main; systemctl reset-failed")
 
 
@@ -112,9 +119,12 @@ def undo(standby, number):
 
 
 def let_in_again(one, standby):
-    """The first machine's own memory of the repository is of before."""
-    standby.run("mv /root/authorized_keys /var/lib/pawnd-received/.ssh/")
-    one.run("rm -rf /root/.cache/borg /root/.config/borg/security")
+    """By the commands of the page, which send a copy at once."""
+    allow, begin = commands(OPERATING, "Sending again after an intruder")[:2]
+    before = archives(standby)
+    standby.run(allow)
+    one.run(begin)
+    expect("what is there", archives(standby)[:-1], before)
 
 
 def an_archive_that_is_removed_before_it_was_seen(one, standby):
@@ -125,7 +135,7 @@ def an_archive_that_is_removed_before_it_was_seen(one, standby):
     one.run(f"{BY_KEY} borg delete ::{before[-1]}")
     expect("it seems to be gone", archives(standby), before[:-1])
     standby.run("systemctl start pawnd-received", wanted=1)
-    told = standby.run("journalctl -u pawnd-received -o cat --no-pager")
+    told = standby.journal("pawnd-received")
     expect(f"why: {told}", "2 transactions and are 0 new archives" in told, True)
     undo(standby, last)
     expect("it is there again", archives(standby), before)
@@ -161,9 +171,40 @@ def an_intruder_with_the_key(one, standby):
     borg(standby, f"check --repository-only {REPOSITORY}")
 
 
+def sending_begins_anew(one, standby, anew, package):
+    """The first machine is installed anew, after an intruder: the last good copy comes back from the old repository, and
+    what is copied from then on goes to a new one, with a new key and a new passphrase."""
+    *_, aside, fetch, go_on, remove = commands(OPERATING, "Sending again after an intruder")
+    key, old = key_of(one), archives(standby)
+    one.cut()
+    standby.run(aside)
+    anew.line_to(standby, "10.9.0.1", "10.9.0.2")
+    anew.run("echo 10.9.0.2 standby >>/etc/hosts")
+    put_certbot(anew)
+    anew.run(f"cp /root/packages/{os.path.basename(package)} /root/")
+    for block in commands(DEPLOYING, "The first day")[:3]:
+        anew.run(block)
+    reach(anew, standby)
+    anew.run(fetch)
+    anew.run(f"umask 077; cat >/root/7.key <<<'{key}'")
+    answers_again(anew)
+    expect("what was sent before", [ask(anew, f"/books/7/pledges/{number}")[0] for number in (1, 2)], [200, 200])
+    keys, receiver, begin, *_ = commands(DEPLOYING, "Off the machine")
+    public = anew.run(keys).strip().splitlines()[-1]
+    standby.run(receiver.strip().splitlines()[-1].replace("PUBLIC-KEY", public))
+    carry_passphrase(anew, standby)
+    anew.run(begin)
+    standby.run(go_on)
+    standby.start("pawnd-received")
+    expect("the new repository", len(archives(standby)), 1)
+    anew.run(command(OPERATING, "A leaked key", "new-key") + "mv /root/7.key.new /root/7.key")
+    expect("by the new key", ask(anew, "/books/7/pledges/1")[0], 200)
+    expect("the old repository", len(old) > 1 and "back" in standby.run("ls /root"), True)
+    standby.run(remove)
+
+
 def the_machine_is_lost(one, standby):
     """The second serves what was sent, by the commands of the page, and again after a boot."""
-    let_in_again(one, standby)
     expect("pledge 3", enter(one, 3)[0], 200)
     one.run("pawnd-admin store east; pawnd-admin book 10 --store east --name 'East Street' --key-to /root/10.key")
     one.run("pawnd-admin copy east")
@@ -175,7 +216,8 @@ def the_machine_is_lost(one, standby):
     standby.run(take)
     standby.run(others)
     certificate = commands(DEPLOYING, "The first day")[2]
-    standby.run(certificate)
+    with slow_requests(standby):
+        standby.run(certificate)
     key = standby.run("cat /etc/pawnd/operator.key").strip()
     expect("the key is the first machine's", bool(re.fullmatch(r"[0-9a-f-]{36}", key)), True)
     standby.run(f"cat >/root/7.key <<<'{key_of(one)}'")

@@ -6,7 +6,7 @@ import time
 
 from tests.library.checks import expect
 from tests.library.operator.booted import Booted, main_booted
-from tests.library.operator.first_day import answers_again, ask, enter, first_day, with_terms
+from tests.library.operator.first_day import answers_again, ask, enter, first_day, slow_requests, with_terms
 from tests.library.operator.documented import DEPLOYING, command
 from tests.library.operator.packages import make_package
 
@@ -47,6 +47,16 @@ def from_version_to_version():
                 print(f"        {step.__name__.replace('_', ' ')}: {time.monotonic() - begun:.1f} s", flush=True)
 
 
+def read_for_long(one):
+    """The store needs five seconds more from now on until it answers, as a large one does."""
+    folder = os.path.join(one.root, "etc/systemd/system/pawnd@main.service.d")
+    os.makedirs(folder)
+    with open(os.path.join(folder, "slow.conf"), "w") as it:
+        it.write("[Service]\nExecStart=\nExecStart=/bin/sh -c 'sleep 5; exec /usr/bin/pawnd serve "
+                 "/var/lib/pawnd/%i/books.db ${PORT} %d/operator.key'\n")
+    one.run("systemctl daemon-reload")
+
+
 def units_that_are_never_upgraded(one, first, second):
     """What the next step looks at shows a package that has this fault."""
     install(one, "pawnd_0.0.2~faulty_amd64.deb")
@@ -54,11 +64,13 @@ def units_that_are_never_upgraded(one, first, second):
 
 
 def an_upgrade(one, first, second):
-    one.run("mkdir -p /root/new; cp /root/packages/pawnd_0.0.2_amd64.deb /root/new/")
-    one.run(command(DEPLOYING, "Upgrade and way back", "start pawnd-copy"), folder="/root/new")
+    one.run("mkdir -p /root/both; cp /root/packages/pawnd_0.0.[12]_amd64.deb /root/both/")
+    read_for_long(one)
+    with slow_requests(one):
+        one.run(command(DEPLOYING, "Upgrade and way back", "start pawnd-copy").replace("VERSION", "0.0.2"), folder="/root/both")
     expect("what is in force at once", in_force(one), (True, True, True))
-    answers_again(one)
     expect("what was acknowledged before", ask(one, "/books/7/pledges/1")[0], 200)
+    one.run("pawnd-admin status; rm -r /etc/systemd/system/pawnd@main.service.d; systemctl daemon-reload")
     expect("what systemd complains of", one.complaints(), [])
     one.cut()
     one.boot()
@@ -68,8 +80,7 @@ def an_upgrade(one, first, second):
 
 def the_way_back(one, first, second):
     expect("pledge 2", enter(one, 2)[0], 200)
-    one.run("mkdir -p /root/old; cp /root/packages/pawnd_0.0.1_amd64.deb /root/old/")
-    one.run(command(DEPLOYING, "Upgrade and way back", "allow-downgrades"), folder="/root/old")
+    one.run(command(DEPLOYING, "Upgrade and way back", "allow-downgrades").replace("VERSION", "0.0.1"), folder="/root/both")
     expect("what is in force", in_force(one), (False, False, False))
     answers_again(one)
     expect("what was acknowledged before", ask(one, "/books/7/pledges/2")[0], 200)
@@ -77,9 +88,13 @@ def the_way_back(one, first, second):
 
 def a_changed_file_is_kept(one, first, second):
     """A configuration file that the operator changed and the new version did too: the operator's stays, the new one
-    is next to it. A changed file of the package's own is shown."""
+    is next to it, also where nobody could be asked. A changed file of the package's own is shown."""
     one.run("sed -i s/KEEP=30/KEEP=40/ /etc/pawnd/pawnd.conf")
-    install(one, second, "-o Dpkg::Options::=--force-confdef -o Dpkg::Options::=--force-confold")
+    told = one.run(f"apt-get -y install /root/packages/{os.path.basename(second)} 2>&1", wanted=100)
+    expect("without a terminal", "end of file on stdin at conffile prompt" in told, True)
+    one.run(command(DEPLOYING, "Upgrade and way back", "--configure -a"))
+    expect("what is in force", in_force(one), (True, True, True))
+    answers_again(one)
     expect("the operator's", one.run("grep KEEP= /etc/pawnd/pawnd.conf").strip(), "KEEP=40")
     expect("the new one", one.run("tail -n 1 /etc/pawnd/pawnd.conf.dpkg-dist").strip(), "# Version two.")
     one.run("echo '# edited' >>/lib/systemd/system/pawnd@.service")

@@ -132,6 +132,8 @@ for (const one of seen) {
   if (isHint && !document.querySelector(`[aria-describedby~="${one.id}"]`)) wrong.push(`a hint of nothing: ${name}`);
   if (isHint && one.closest("label")) wrong.push(`a hint in a name: ${name}`);
 }
+const heading = document.querySelector(".head h2");
+if (heading?.checkVisibility() && heading.clientWidth < 120) wrong.push(`a heading ${heading.clientWidth} wide`);
 const { scrollWidth, clientWidth } = document.documentElement;
 if (scrollWidth > clientWidth) wrong.push(`it is ${scrollWidth} wide`);
 return wrong;
@@ -140,7 +142,8 @@ PARTS = ("today", "take", "pledge", "all", "due", "till", "terms", "files", "sho
 
 
 def is_right(name):
-    for width in (320, 390, 1280):
+    """A telephone of 390 points that is shown twice as large has room for 195."""
+    for width in (195, 320, 390, 1280):
         browser.resize(width)
         expect(f"{name}: what is wrong at {width}", browser.run(WRONG), [])
     browser.resize(390)
@@ -175,6 +178,7 @@ def fill_with_all_sorts(pages):
         ("Watch", "G8", 5000, ago(400), "", "no"),
     ]))
     pages.session.bearer(RING, "POST", "/books/7/held/ask", {"day": str(ago(-3)), "window": 2})
+    pages.session.bearer(RING, "POST", "/books/7/held/repay", {"pence": 1234, "seq": 1})
 
 
 def a_pledge_is_right(scheme):

@@ -3,6 +3,7 @@ browser, in front of the program."""
 import datetime
 import os
 
+from tests.library.book_texts import row
 from tests.library.checks import expect
 from tests.library.dates import six_months_after, today
 from tests.library.keys import BROKER
@@ -32,6 +33,7 @@ def terms_are_asked_for_before_the_form_is_filled():
         browser.press("#terms-first a", "Add terms first")
         browser.fill("#new-terms", rate="0.2667")
         browser.press("#new-terms button", "Add these terms")
+        browser.press("dialog button", "Add version 1")
         browser.says("Version 1", "#new-terms .notice")
         part("take")
         browser.says("Article", "#take")
@@ -173,7 +175,18 @@ def a_redemption_that_never_arrived_is_done_by_the_next_press():
         no_faults()
 
 
+# The line drops once the redemption is sent.
+DROPS_AT_REDEMPTION = """
+const real = window.fetch;
+let isGone = false;
+window.fetch = (path, how) => {
+  isGone ||= path.endsWith("/redeem");
+  return isGone ? Promise.reject(new TypeError("no line")) : real(path, how);
+};"""
+
+
 def a_redemption_after_which_nothing_can_be_looked_at_says_what_to_do():
+    """If the line dropped while the question was open, it was not sent."""
     with a_pledge_at_the_counter() as (pages, receipt):
         browser.says("£100.00 owed today", "#statement")
         unfold("Redeem by the paper")
@@ -182,8 +195,13 @@ def a_redemption_after_which_nothing_can_be_looked_at_says_what_to_do():
         browser.says("Redeem pledge 1?", "dialog")
         with browser.without_a_line():
             browser.press("dialog button", "Redeem for £100.00")
-            browser.says("The reply was lost, so the pledge may be redeemed.", "#commands", patience=30)
-            browser.says("Don’t hand out the article yet.", "#commands")
+            browser.says("What you asked for was not sent, so it was not done.", "#commands", patience=30)
+            browser.says("What you asked for was not sent, so it was not done.", "#commands > .notice", patience=30)
+        browser.run(DROPS_AT_REDEMPTION)
+        command("Redeem by the paper", "Redeem", receipt=receipt, amount="100")
+        browser.press("dialog button", "Redeem for £100.00")
+        browser.says("The reply was lost, so the pledge may be redeemed.", "#commands", patience=30)
+        browser.says("Don’t hand out the article yet.", "#commands")
         expect("it was not", "Status inside" in pages.session.broker("GET", "/books/7/pledges/1")[1], True)
 
 
@@ -485,6 +503,13 @@ def a_file_that_a_spreadsheet_saved_in_another_encoding_does_not_fill_the_book()
             it.write(b"\xef\xbb\xbf" + text.encode())
         browser.fill("#importing", file=path)
         browser.press("#importing button")
+        browser.says("Fill book 7 from this file?", "dialog")
+        browser.says("book.csv, with 1 pledge.", "dialog")
+        browser.press("dialog button", "Not now")
+        browser.says("Nothing was done.", "#importing")
+        expect("nothing came", pages.session.broker("GET", "/books/7/pledges/1")[0], 404)
+        browser.press("#importing button")
+        browser.press("dialog button", "Fill book 7")
         browser.says("The book is filled: 1 pledge came.", "#importing")
         expect("its letters", "Article Ring £5 café" in pages.session.broker("GET", "/books/7/pledges/1")[1], True)
         no_faults()
@@ -509,8 +534,241 @@ def pledges_of_two_books_are_told_apart():
         no_faults()
 
 
+def versions_of(pages):
+    _, text = pages.session.broker("GET", "/books/7/export")
+    return [line for line in text.splitlines() if line.startswith("T,")]
+
+
+def terms_are_asked_about_and_added_once():
+    """A rate that was mistyped would be kept by each pledge that is taken after it."""
+    with an_open_book() as pages:
+        the_book_is_read()
+        part("terms")
+        browser.says("Version 2", "#next-version")
+        browser.rests()
+        for typed, says in (
+            ({"rate": "2.667"}, "The rate is above two per cent a day."),
+            ({"rate": "0.2", "before": "11"}, "A charge for safe keeping is above ten pence a day."),
+            ({"rate": "0.2", "before": "1", "after": "2"}, "costs more than before it."),
+        ):
+            browser.fill("#new-terms", **{"before": "0", "after": "0", **typed})
+            browser.press("#new-terms button")
+            browser.says(says, "#new-terms")
+            expect("no question", browser.run("return document.querySelector('dialog')"), None)
+        browser.fill("#new-terms", rate="1.667", before="0.5", after="0.25")
+        browser.press("#new-terms button")
+        browser.says("£100.00 for 30 days: £50.01 of interest", "dialog")
+        browser.says("Safe keeping: 0.5p a day, after the end 0.25p a day.", "dialog")
+        browser.shoot("broker-terms-question")
+        browser.press("dialog button", "Not now")
+        browser.says("Nothing was done.", "#new-terms")
+        expect("nothing was added", len(versions_of(pages)), 1)
+        browser.press("#new-terms button")
+        browser.press("dialog button", "Add version 2")
+        browser.says("Version 2 is in the book.", "#new-terms")
+        browser.rests()
+        browser.press("#new-terms button")
+        expect("no question about them again", browser.run("return document.querySelector('dialog')"), None)
+        expect("they are added once", len(versions_of(pages)), 2)
+        no_faults()
+
+
+def terms_and_a_file_whose_replies_are_lost_say_what_to_do():
+    """Neither speaks of a pledge, and the same terms do not become another version."""
+    with Pages() as pages:
+        make_book(pages, terms=False)
+        path = os.path.join(pages.room, "book.csv")
+        with open(path, "w") as it:
+            it.write(book_text([("Ring", "J9", 9000, ago(3), "", "no")]))
+        open_book(pages)
+        the_book_is_read()
+        part("files")
+        browser.fill("#importing", file=path)
+        with pages.relay.loses("/import", 10):
+            browser.press("#importing button")
+            browser.press("dialog button", "Fill book 7")
+            browser.says("The reply was lost, so the book may have been filled. Send the same file again", "#importing")
+        browser.press("#importing button")
+        browser.press("dialog button", "Fill book 7")
+        browser.says("The book is filled: 1 pledge came.", "#importing")
+        part("terms")
+        browser.says("Version 2", "#next-version")
+        browser.rests()
+        browser.fill("#new-terms", rate="0.3")
+        with pages.relay.loses("/terms", 10):
+            browser.press("#new-terms button")
+            browser.press("dialog button", "Add version 2")
+            browser.says("The reply was lost, but the terms were added. Version 2 is in the book.", "#new-terms")
+        browser.says("0.3%", "#terms-list")
+        expect("they are added once", len(versions_of(pages)), 2)
+        no_faults()
+
+
+def a_question_about_a_pledge_says_its_terms_and_days_of_grace():
+    """And the result says so where other terms were added since the question was asked."""
+    with an_open_book() as pages:
+        the_book_is_read()
+        part("take")
+        browser.fill("#taking", article="Gold ring", ref="A1", amount="100")
+        browser.press("#taking button", "Take the pledge")
+        browser.says("with no days of grace.", "dialog")
+        browser.says("Interest by version 1 of the terms: £8.00 in 30 days on £100.", "dialog")
+        put = {"keep_after": 0, "keep_before": 0, "rate": 10000, "version": 2}
+        expect("others", pages.session.broker("POST", "/books/7/terms", put), (200, {"version": 2}))
+        browser.press("dialog button", "Take it for £100.00")
+        browser.says("Taken as pledge 1, under terms that were added since you were asked, version 2: £30.00 in 30 days "
+                     "on £100.", "#taking")
+        expect("it is loud", browser.run("return document.querySelector('#taking .notice').className"), "notice bad")
+        no_faults()
+
+
+def papers_say_which_end_counts():
+    """Neither an extended pledge nor one whose agreed end has no effect names another end beside its own."""
+    with Pages() as pages:
+        make_book(pages, terms=False)
+        pledges = [("Gold ring", "A1", 10000, ago(20), "", "no"), ("Silver cup", "A2", 9000, ago(20), ago(-30), "no")]
+        fill_book(pages, book_text(pledges))
+        until = six_months_after(ago(20)) + datetime.timedelta(days=40)
+        extended = pages.session.broker("POST", "/books/7/pledges/1/extend", {"until": str(until)})
+        expect("extended", extended[0], 200)
+        open_book(pages)
+        the_book_is_read()
+        for number, says in (
+            (1, [f"{in_words(until)}, as extended", "Agreed end at first"]),
+            (2, [in_words(six_months_after(ago(20))), f"{in_short(ago(-30))}, without effect: six months"]),
+        ):
+            find(str(number))
+            browser.says(f"Pledge {number} of book 7", "#statement")
+            command("Print the receipt again", "Print the receipt again")
+            browser.press("dialog button", "Print it again")
+            browser.says("Pawn receipt", "#new-receipt")
+            for part_of in ("#statement", "#new-receipt"):
+                for one in says:
+                    browser.says(one, part_of)
+            if number == 1:
+                browser.shoot("broker-receipt-extended")
+        no_faults()
+
+
+def days_that_are_still_to_come_stop_no_list():
+    """A service whose clock was ahead for a while has entries and pledges of days to come."""
+    with Pages() as pages:
+        make_book(pages, terms=False)
+        pledges = [("Gold ring", "A1", 10000, ago(200), "", "yes"), ("Silver cup", "A2", 9000, ago(-40), "", "no")]
+        lines = book_text(pledges).splitlines()
+        lines[3] = lines[3].replace(f",no,{ago(200)},open", f",no,{ago(-30)},open")
+        lines.insert(5, row("E", 1, 1, ago(-30), "repay", 100))
+        fill_book(pages, "\n".join(lines) + "\n")
+        open_book(pages)
+        the_book_is_read()
+        part("all")
+        browser.says("2 of 2 pledges", "#search-count")
+        browser.says("Gold ring", "#all-rows")
+        part("due")
+        browser.says("Gold ring", "#due-lists")
+        find("1")
+        browser.says("Gold ring", "#statement")
+        browser.fill("#reckoning", day=str(ago(-10)))
+        browser.press("#reckoning button", "Calculate")
+        browser.says(f"Choose a day from {in_short(ago(-30))} on.", "#reckoning")
+        browser.fill("#reckoning", day=str(ago(-31)))
+        browser.press("#reckoning button", "Calculate")
+        browser.says(f"On {in_words(ago(-31))} £", "#reckoning")
+        no_faults()
+
+
+def what_is_on_hold_is_marked_where_it_is_pulled_or_sold():
+    """An article that may be stolen would be sold with the others. The rules allow it, so the question says it."""
+    with Pages() as pages:
+        make_book(pages, terms=False)
+        ends_today = [day for day in (ago(count) for count in range(180, 186)) if six_months_after(day) == ago(0)]
+        pledges = [("Old clock", "O1", 9000, ago(400), "", "no"), ("Gold ring", "O2", 9000, ago(400), "", "no"),
+                   ("Silver cup", "O3", 9000, ends_today[0] if ends_today else ago(10), "", "no")]
+        fill_book(pages, book_text(pledges))
+        for number in (2, 3):
+            expect("on hold", pages.session.broker("POST", f"/books/7/pledges/{number}/hold")[0], 200)
+        open_book(pages)
+        the_book_is_read()
+        if ends_today:
+            browser.says("Silver cup", "#sheet")
+            browser.says("reference O3; on hold;", "#sheet")
+        part("due")
+        browser.says("Old clock", "#due-lists")
+        marked = "return [...document.querySelectorAll(arguments[0])].filter((one) => /on hold/i.test(one.innerText))" \
+            ".map((one) => one.querySelector('bdi').textContent)"
+        expect("due", set(browser.run(marked, "#due-lists tr")) - {"Silver cup"}, {"Gold ring"})
+        browser.shoot("broker-due-on-hold")
+        part("all")
+        browser.says("Old clock", "#all-rows")
+        expect("all", set(browser.run(marked, "#all-rows li")), {"Gold ring", "Silver cup"})
+        find("2")
+        browser.says("On hold", "#statement")
+        command("Sale", "Record the sale", amount="90")
+        browser.says("The pledge is on hold: find out why before the article is sold.", "dialog")
+        browser.press("dialog button", "Not now")
+        browser.says("Nothing was done.", "#commands")
+        no_faults()
+
+
+def a_receipt_that_is_scanned_into_a_field_of_the_shop_is_not_kept():
+    """It would be printed on the papers of other customers."""
+    with an_open_book() as pages:
+        receipt = pages.session.open_pledge(1)
+        the_book_is_read()
+        part("shop")
+        for name in ("name", "address", "till"):
+            browser.fill("#shop-form", **{"name": "High Street", "address": "", "till": "", name: receipt})
+            browser.press("#shop-form button")
+            browser.says("That is a receipt, which would be printed on other papers. Clear the field.", "#shop-form")
+            expect("the field", browser.run("return document.activeElement.name"), name)
+        browser.press("#close-book")
+        browser.fill("#open", book="7", key=BROKER, shop=receipt)
+        browser.press("#open .buttons button")
+        browser.says("That is a receipt, which would be printed on other papers. Clear the field.", "#open")
+        expect("what is kept", receipt in browser.run("return JSON.stringify({ ...localStorage })"), False)
+        no_faults()
+
+
+def an_extension_says_that_the_article_does_not_pass_any_more():
+    """The article of a small credit passes to the shop only if the period is six months."""
+    with Pages() as pages:
+        make_book(pages, terms=False)
+        fill_book(pages, book_text([("Cup", "A1", 7000, ago(20), "", "no"), ("Ring", "A2", 8000, ago(20), "", "no")]))
+        open_book(pages)
+        the_book_is_read()
+        for number, says in (1, True), (2, False):
+            find(str(number))
+            browser.says(f"Pledge {number} of book 7", "#statement")
+            for title, button, typed in (
+                ("Extend the period", "Extend", {"until": str(ago(-300))}), ("Renew", "Renew the pledge", {}),
+            ):
+                command(title, button, **typed)
+                browser.says("The period ends on", "dialog")
+                loses = "The article will not pass to the shop then: if it is not redeemed, it is to be sold."
+                expect(f"{title} of pledge {number}", loses in browser.text("dialog"), says)
+                browser.press("dialog button", "Not now")
+                browser.says("Nothing was done.", "#commands")
+        no_faults()
+
+
+def an_agreed_end_of_a_wrong_year_is_asked_about_loudly():
+    with an_open_book() as pages:
+        the_book_is_read()
+        part("take")
+        six = six_months_after(today())
+        for agreed, says in (six + datetime.timedelta(days=366), False), (six + datetime.timedelta(days=367), True):
+            browser.fill("#taking", article="Gold ring", ref="A1", amount="100", agreed=str(agreed))
+            browser.press("#taking button", "Take the pledge")
+            browser.says(f"The period ends on {in_words(agreed)}", "dialog")
+            loud = browser.run("return document.querySelector('dialog .loud')?.textContent ?? ''")
+            expect(str(agreed), loud == "That is more than a year after the six months: look at the year again.", says)
+            browser.press("dialog button", "Not now")
+            browser.says("Nothing was done.", "#taking")
+        no_faults()
+
+
 main(
-    380, (),
+    520, (),
     (
         terms_are_asked_for_before_the_form_is_filled, terms_that_another_till_put_are_seen,
         a_key_is_read_in_each_of_its_forms, a_sum_that_is_no_longer_owed_has_the_pledge_shown_anew,
@@ -524,5 +782,11 @@ main(
         a_pledge_that_changed_is_shown_anew_before_it_is_renewed_or_extended,
         a_sale_of_what_was_redeemed_meanwhile_is_not_asked_about, a_mark_that_is_not_seen_is_not_taken_into_a_pledge,
         a_file_that_a_spreadsheet_saved_in_another_encoding_does_not_fill_the_book, pledges_of_two_books_are_told_apart,
+        terms_are_asked_about_and_added_once, terms_and_a_file_whose_replies_are_lost_say_what_to_do,
+        a_question_about_a_pledge_says_its_terms_and_days_of_grace,
+        papers_say_which_end_counts, days_that_are_still_to_come_stop_no_list,
+        what_is_on_hold_is_marked_where_it_is_pulled_or_sold,
+        a_receipt_that_is_scanned_into_a_field_of_the_shop_is_not_kept,
+        an_extension_says_that_the_article_does_not_pass_any_more, an_agreed_end_of_a_wrong_year_is_asked_about_loudly,
     ),
 )

@@ -2,7 +2,7 @@
 the program."""
 from tests.library.checks import expect
 from tests.library.dates import today
-from tests.library.pages.browser import Pages
+from tests.library.pages.browser import Cut, Pages
 from tests.library.pages.steps import (
     a_pledge_at_the_counter, ago, agree, an_open_book, book_text, browser, command, entries, fill_book, find,
     in_short, in_words, is_told_quietly, main, make_book, no_faults, open_book, part, receipts_made,
@@ -184,6 +184,33 @@ def two_equal_payments_are_two():
         no_faults()
 
 
+def an_equal_payment_that_comes_during_the_question_is_another():
+    """The service answers an equal entry of the same number as it answered the first: it would not be recorded."""
+    with a_pledge_at_the_counter() as (pages, _):
+        part("shop")
+        browser.fill("#shop-form", ask="20")
+        browser.press("#shop-form button", "Keep these")
+        browser.says("Kept in this browser.", "#shop")
+        find("1")
+        browser.says("£100.00 owed today", "#statement")
+        command("Repayment", "Record the repayment", amount="30")
+        browser.says("Record £30.00 as received?", "dialog")
+        pages.session.broker("POST", "/books/7/pledges/1/repay", {"pence": 3000, "seq": 1})
+        browser.press("dialog button", "Record £30.00")
+        browser.says("Something came in between", "dialog")
+        browser.says(f"Repaid: £30.00, on {in_short(today())}.", "dialog")
+        browser.press("dialog button", "Yes, record £30.00 as well")
+        browser.says("£40.00 is owed now.", "#commands")
+        expect("two entries", len(entries(pages, 1)), 2)
+        command("Repayment", "Record the repayment", amount="30")
+        browser.says("Record £30.00 as received?", "dialog")
+        pages.session.broker("POST", "/books/7/pledges/1/repay", {"pence": 3000, "seq": 3})
+        browser.press("dialog button", "Record £30.00")
+        browser.says("That is more than is owed. Owed today: £10.00.", "#commands")
+        expect("three entries", len(entries(pages, 1)), 3)
+        no_faults()
+
+
 def redemption_by_the_paper():
     with an_open_book() as pages:
         receipt, link = take_a_ring()
@@ -224,6 +251,72 @@ def redemption_by_the_paper():
         no_faults()
 
 
+def a_redemption_that_the_browser_sends_twice_is_told():
+    """A browser that uses a connection again, and gets no byte of a reply by it, sends a POST again by itself."""
+    with Pages() as pages, Cut(pages.port, "/redeem") as line:
+        make_book(pages)
+        receipt = pages.session.open_pledge(1)
+        pages.address = line.address
+        open_book(pages)
+        find(receipt)
+        browser.says("This receipt is live. £100.00 is owed today.", "#commands")
+        browser.fill(".action[open] form", amount="100")
+        browser.press(".action[open] button", "Redeem")
+        browser.press("dialog button", "Redeem for £100.00")
+        browser.says("Redeemed on", "#statement")
+        browser.says("The pledge is redeemed for £100.00", "#commands")
+        browser.says("hand out the article", "#commands")
+        expect("how often the browser sent it", line.begun, 2)
+
+
+def a_redemption_by_another_during_the_question_is_told():
+    """The pawnor redeems on a telephone meanwhile: this press did not do it."""
+    with an_open_book() as pages:
+        receipt, _ = take_a_ring()
+        find(receipt)
+        browser.says("This receipt is live. £100.00 is owed today.", "#commands")
+        browser.fill(".action[open] form", amount="100")
+        browser.press(".action[open] button", "Redeem")
+        browser.says("Redeem pledge 1?", "dialog")
+        redeem_by(pages, receipt)
+        browser.press("dialog button", "Redeem for £100.00")
+        browser.says("This receipt is not live: pledge 1 was redeemed", "#commands")
+        expect("not by this press", "most likely by this press" in browser.text("#commands"), False)
+        browser.says(f"Redeemed on {in_words(today())}", "#statement")
+        no_faults()
+
+
+def a_sale_that_the_browser_sends_twice_is_told():
+    with Pages() as pages, Cut(pages.port, "/sell") as line:
+        make_book(pages, terms=False)
+        fill_book(pages, book_text([("Old clock", "O1", 9000, ago(220), "", "no")], rates=(0, 0, 0)))
+        pages.address = line.address
+        open_book(pages)
+        find("1")
+        browser.says("The period ended", "#statement")
+        command("Sale", "Record the sale", amount="120.25")
+        browser.press("dialog button.grave")
+        browser.says("Sold on", "#statement")
+        browser.says("Sold for £120.25: £30.25 more than was owed, which is the pawnor’s.", "#commands")
+        browser.says("the sale is recorded once", "#commands")
+        expect("how often the browser sent it", line.begun, 2)
+
+
+def of_a_declaration_that_the_browser_sends_twice_the_live_receipt_is_printed():
+    with Pages() as pages, Cut(pages.port, "/declare") as line:
+        make_book(pages)
+        pages.session.open_pledge(1)
+        pages.address = line.address
+        open_book(pages)
+        find("1")
+        command("Replace a lost receipt", "Make a new receipt")
+        browser.press("dialog button", "Make a new receipt")
+        receipt = browser.until("return document.querySelector('.paper .secret')?.textContent.trim()", "the new receipt")
+        expect("its receipt is live", pages.session.bearer(receipt, "GET", "/books/7/held")[0], 200)
+        expect("how often the browser sent it", (line.begun, len(receipts_made(pages, 1))), (2, 3))
+        no_faults()
+
+
 def a_receipt_is_printed_again():
     with an_open_book() as pages:
         receipt, _ = take_a_ring(five="yes")
@@ -241,6 +334,26 @@ def a_receipt_is_printed_again():
             command(title, button)
             browser.says(says, "#commands")
         expect("no new receipt was made", len(receipts_made(pages, 1)), 1)
+        no_faults()
+
+
+def a_receipt_of_a_pledge_that_is_over_is_printed_as_such():
+    """Nobody can redeem a pledge that is sold or has passed, and the question does not say so."""
+    with Pages() as pages:
+        make_book(pages, terms=False)
+        fill_book(pages, book_text([
+            ("Clock", "O1", 9000, ago(220), "", "no"), ("Lamp", "O2", 7500, ago(220), "", "no"),
+        ]))
+        pages.session.broker("POST", "/books/7/pledges/1/sell", {"net": 20000})
+        open_book(pages)
+        for number in (1, 2):
+            find(str(number))
+            browser.says("This pledge is over", "#commands")
+            command("Print the receipt again", "Print the receipt again")
+            browser.says("Both papers show what became of the pledge. It can’t be redeemed any more.", "dialog")
+            expect("nobody can redeem it", "can redeem it" in browser.text("dialog"), False)
+            browser.press("dialog button", "Print it again")
+            browser.says("The pledge can’t be redeemed any more. The link above shows what became of it.", ".paper")
         no_faults()
 
 
@@ -321,6 +434,28 @@ def a_visit_that_was_changed_is_not_confirmed_unseen():
         no_faults()
 
 
+def a_visit_that_is_changed_during_the_question_is_not_refused_unseen():
+    """A visit that was refused can't be confirmed after that."""
+    with Pages() as pages:
+        make_book(pages)
+        receipt = pages.session.open_pledge(1)
+        pages.session.bearer(receipt, "POST", "/books/7/held/ask", {"day": str(ago(-3)), "window": 3})
+        open_book(pages)
+        find("1")
+        browser.says(f"{in_words(ago(-3))}, 10:30 to 11:00: asked for", "#statement")
+        command("Visit", "Refuse")
+        browser.says("Refuse this visit?", "dialog")
+        pages.session.bearer(receipt, "POST", "/books/7/held/ask", {"day": str(ago(-4)), "window": 4})
+        browser.press("dialog button", "Refuse the visit")
+        browser.says("The visit was changed since it was shown, so nothing was decided.", "#commands")
+        _, text = pages.session.broker("GET", "/books/7/pledges/1")
+        expect("it is as asked", f"Booking {ago(-4)} 4 asked" in text, True)
+        browser.press(".action[open] button", "Refuse")
+        browser.press("dialog button", "Refuse the visit")
+        browser.says(f"The visit on {in_words(ago(-4))}, 11:00 to 11:30 is refused.", "#commands")
+        no_faults()
+
+
 EXPORTS = "return performance.getEntriesByType('resource').filter(({ name }) => name.endsWith('/export')).length"
 
 def the_book_is_read_anew():
@@ -357,7 +492,13 @@ main(
     (
         a_dead_receipt_is_not_printed_as_new, a_receipt_that_dies_while_it_is_taken_is_not_printed,
         what_was_done_is_told_where_it_can_no_longer_be_looked_at, a_receipt_has_the_terms_of_its_pledge,
-        a_new_receipt_that_another_replaced_is_not_printed, two_equal_payments_are_two, redemption_by_the_paper,
+        a_new_receipt_that_another_replaced_is_not_printed, two_equal_payments_are_two,
+        an_equal_payment_that_comes_during_the_question_is_another, redemption_by_the_paper,
+        a_redemption_that_the_browser_sends_twice_is_told, a_sale_that_the_browser_sends_twice_is_told,
+        a_visit_that_is_changed_during_the_question_is_not_refused_unseen,
+        a_redemption_by_another_during_the_question_is_told,
+        of_a_declaration_that_the_browser_sends_twice_the_live_receipt_is_printed,
+        a_receipt_of_a_pledge_that_is_over_is_printed_as_such,
         a_receipt_is_printed_again, who_waits_for_another_day, what_is_due, the_book_is_read_anew,
         a_visit_that_was_changed_is_not_confirmed_unseen,
     ),

@@ -166,6 +166,7 @@ def the_same_file_is_one_import():
             part("files")
             browser.fill("#importing", file=path)
             browser.press("#importing button")
+            browser.press("dialog button", "Fill book 7")
             browser.says("The book is filled: 1 pledge came.", "#files")
 
 

@@ -1,11 +1,14 @@
 """What misled a clerk or a pawnor who went on while something was under way; in a real browser, in front of the
 program."""
+import os
+
 from tests.library.checks import expect
+from tests.library.dates import six_months_after
 from tests.library.keys import BROKER
 from tests.library.pages.browser import Pages
 from tests.library.pages.steps import (
-    a_pledge_by_its_receipt, ago, an_open_book, browser, command, entries, find, main, make_book, no_faults, open_book,
-    part, send_taking, the_book_is_read, the_clock_goes_on,
+    a_pledge_at_the_counter, a_pledge_by_its_receipt, ago, agree, an_open_book, book_text, browser, command, entries, fill_book, find, in_words,
+    main, make_book, no_faults, open_book, part, secret_of, send_taking, the_book_is_read, the_clock_goes_on,
 )
 
 # The first look at pledge 1 comes only once it is let go.
@@ -72,6 +75,7 @@ def what_came_of_an_act_is_said_in_another_part():
         browser.says("Pledge 1: Repaid: £10.00", "#elsewhere")
         browser.press("#elsewhere a", "Pledge 1")
         browser.says("£90.00 owed today", "#statement")
+        browser.says("Repaid: £10.00", "#commands > .notice")
         no_faults()
 
 
@@ -97,7 +101,7 @@ def a_book_that_was_opened_meanwhile_gets_no_act():
         browser.rests()
         for book in (7, 8):
             expect(f"book {book}", entries(pages, 1, book=book), [])
-        expect("nothing is said", browser.text("#elsewhere"), "")
+        browser.says("Book 7, pledge 1: The book was closed before this was sent, so it was not done.", "#elsewhere")
         no_faults()
 
 
@@ -123,8 +127,9 @@ def a_book_that_was_opened_meanwhile_gets_no_pledge():
         browser.rests()
         for book in (7, 8):
             expect(f"book {book}", pages.session.broker("GET", f"/books/{book}/pledges/1")[0], 404)
+        browser.says("Book 7: The book was closed before this was sent, so it was not done.", "#elsewhere")
         part("take")
-        browser.says("Book 7 was closed before the pledge was sent, so it was not taken.", "#taking .notice")
+        expect("the form of the other book", browser.text("#taking .notice"), "")
         browser.rests()
         no_faults()
 
@@ -348,13 +353,338 @@ def a_reply_that_was_cut_in_its_head_is_a_lost_one():
                    ("none", count))
         browser.run("window.cut = '/pledges/1'; window.cutType = 'text/plain'")
         find("1")
+        browser.until("return window.cut === 'none'", "a reply that was cut")
         browser.says("£70.00 owed today", "#statement")
-        expect("it was cut", browser.run("return window.cut"), "none")
         no_faults()
 
 
+def a_question_names_its_pledge_and_does_not_stay_above_another():
+    """Back shows another pledge while a question is open: nothing is recorded, and that is said."""
+    with Pages() as pages:
+        two_pledges(pages)
+        browser.run("location.hash = '#pledge=2'")
+        browser.says("Silver watch", "#statement")
+        browser.rests()
+        command("Repayment", "Record the repayment", amount="80")
+        browser.says("Pledge 2: Silver watch", "dialog")
+        described = "document.getElementById(document.querySelector('dialog').getAttribute('aria-describedby'))"
+        read_out = browser.run(f"return {described}?.textContent ?? ''")
+        expect("its sentences are read out", ("Silver watch" in read_out, "is owed now" in read_out), (True, True))
+        browser.run("history.back()")
+        browser.says("Gold ring", "#statement")
+        browser.until("return !document.querySelector('dialog')", "the end of the question")
+        browser.says("Pledge 2: Nothing was recorded.", "#elsewhere")
+        browser.rests()
+        for number in (1, 2):
+            expect(f"pledge {number}", entries(pages, number), [])
+        no_faults()
+
+
+def each_question_names_its_pledge():
+    with Pages() as pages:
+        make_book(pages, terms=False)
+        pledges = [("Gold ring", "A1", 10000, ago(1), "", "no"), ("Old clock", "A2", 9000, ago(400), "", "no")]
+        fill_book(pages, book_text(pledges))
+        visit = {"day": str(ago(-3)), "window": 4}
+        pages.session.bearer(f"1-{secret_of(1)}", "POST", "/books/7/held/ask", visit)
+        open_book(pages)
+        the_book_is_read()
+        find("1")
+        browser.says("Gold ring", "#statement")
+        for title, button, typed in (
+            ("Visit", "Refuse", {}), ("Repayment", "Record the repayment", {"amount": "80"}),
+            ("Extend the period", "Extend", {"until": str(ago(-300))}), ("Renew", "Renew the pledge", {}),
+            ("Print the receipt again", "Print the receipt again", {}),
+            ("Replace a lost receipt", "Make a new receipt", {}),
+        ):
+            command(title, button, **typed)
+            browser.says("Pledge 1: Gold ring", "dialog")
+            browser.press("dialog button.plain")
+            browser.says("Nothing was", "#commands .action[open]")
+        find("2")
+        browser.says("Old clock", "#statement")
+        command("Sale", "Record the sale", amount="90")
+        browser.says("Pledge 2: Old clock", "dialog")
+        browser.press("dialog button.plain")
+        browser.rests()
+        no_faults()
+
+
+# A reply to such a request comes only once it is let go.
+SLOW_REPLY = """
+const [method, end] = arguments;
+const real = window.fetch;
+const gate = new Promise((go) => { window.letGo = go; });
+window.held = 0;
+window.fetch = async (path, how) => {
+  const reply = await real(path, how);
+  if (how.method !== method || !path.endsWith(end)) return reply;
+  window.fetch = real;
+  const text = await reply.text();
+  window.held = 1;
+  await gate;
+  return new Response(text, reply);
+};"""
+
+
+def close_and_open_another():
+    """Closes book 7 while a reply is awaited, opens book 8, and lets the reply come."""
+    browser.until("return window.held", "a reply that is late")
+    browser.press("#close-book")
+    browser.fill("#open", book="8", key=BROKER)
+    browser.press("#open .buttons button")
+    browser.says("Coming", "#sheet")
+
+
+def an_act_of_a_book_that_was_closed_is_reported_with_its_book():
+    """At the door: what was done in the book is not left unsaid."""
+    with Pages() as pages:
+        two_pledges(pages)
+        browser.run(SLOW_REPLY, "POST", "/repay")
+        command("Repayment", "Record the repayment", amount="10")
+        browser.until("return window.held", "a reply that is late")
+        browser.press("#close-book")
+        browser.element("#open")
+        browser.run("window.letGo()")
+        browser.says("Book 7, pledge 1: Repaid: £10.00", "#elsewhere")
+        browser.says("It is recorded, but the pledge can’t be read just now.", "#elsewhere")
+        browser.shoot("broker-closed-meanwhile")
+        expect("the pledge", [line.split(" ", 3)[3] for line in entries(pages, 1)], ["repay 10.00"])
+        no_faults()
+
+
+def a_renewal_of_a_book_that_was_closed_says_how_far_it_came():
+    with Pages() as pages:
+        make_book(pages, terms=False)
+        fill_book(pages, book_text([("Gold ring", "A1", 10000, ago(30), "", "no")]))
+        open_book(pages)
+        the_book_is_read()
+        find("1")
+        browser.says("Gold ring", "#statement")
+        browser.run(SLOW_REPLY, "POST", "/repay")
+        command("Renew", "Renew the pledge")
+        browser.press("dialog button.grave")
+        browser.until("return window.held", "a reply that is late")
+        browser.press("#close-book")
+        browser.run("window.letGo()")
+        browser.says("Book 7, pledge 1: £8.30 of charges was received. The period was not extended: the book was closed "
+                     "meanwhile.", "#elsewhere")
+        no_faults()
+
+
+def a_file_has_the_name_of_its_own_book():
+    with Pages() as pages:
+        two_pledges(pages)
+        make_book(pages, book=8)
+        saved = """const real = HTMLAnchorElement.prototype.click;
+        HTMLAnchorElement.prototype.click = function () { if (this.download) window.saved = this.download; };"""
+        part("files")
+        browser.run(saved)
+        browser.run(SLOW_REPLY, "GET", "/export")
+        browser.press("#exporting button")
+        close_and_open_another()
+        part("files")
+        browser.run("window.letGo()")
+        browser.says("Book 7: The book is saved", "#elsewhere")
+        expect("its name", browser.run("return window.saved")[:7], "book-7-")
+        expect("the form of the other book", browser.text("#exporting .notice"), "")
+        no_faults()
+
+
+def what_is_typed_for_one_book_is_not_left_for_another():
+    """Nor is the result of its terms said of the other book."""
+    with Pages() as pages:
+        two_pledges(pages)
+        make_book(pages, book=8)
+        part("files")
+        file = os.path.join(pages.room, "book.csv")
+        with open(file, "w") as it:
+            it.write("row,c1\n")
+        browser.fill("#importing", file=file)
+        part("terms")
+        browser.says("0.2667%", "#terms-list")
+        browser.rests()
+        browser.run(SLOW_REPLY, "POST", "/terms")
+        browser.fill("#new-terms", rate="0.3")
+        browser.press("#new-terms button")
+        agree()
+        close_and_open_another()
+        part("terms")
+        browser.says("Version 2", "#next-version")
+        browser.run("window.letGo()")
+        browser.says("Book 7: Version 2 is in the book.", "#elsewhere")
+        browser.rests()
+        said = browser.text("#new-terms .notice"), browser.text("#terms-example"), browser.text("#next-version")
+        expect("the terms of the other book", said, ("", "", "Version 2"))
+        left = "return [document.querySelector('#terms-rate').value, document.querySelector('#import-file').files.length]"
+        expect("what was typed", browser.run(left), ["", 0])
+        no_faults()
+
+
+def what_was_looked_for_in_a_book_is_not_said_of_another():
+    with Pages() as pages:
+        two_pledges(pages)
+        make_book(pages, book=8)
+        browser.run(SLOW_REPLY, "GET", "/held")
+        find(f"1-{secret_of(1)}")
+        close_and_open_another()
+        part("pledge")
+        browser.rests()
+        browser.run("window.letGo()")
+        browser.until("return document.querySelector('#finding .notice').textContent === ''", "no word of it")
+        browser.rests()
+        expect("what is said", (browser.text("#finding .notice"), browser.text("#elsewhere")), ("", ""))
+        no_faults()
+
+
+def what_came_of_a_take_is_said_in_another_part():
+    with an_open_book() as pages:
+        the_book_is_read()
+        part("take")
+        browser.rests()
+        browser.run(SLOW_REPLY, "POST", "/pledges")
+        send_taking(article="Gold ring", ref="A1", amount="100")
+        browser.until("return window.held", "a reply that is late")
+        part("today")
+        browser.says("Coming", "#sheet")
+        browser.run("window.letGo()")
+        browser.says("Take a pledge: Taken as pledge 1. Its receipt is ready to print.", "#elsewhere")
+        browser.press("#elsewhere a", "Take a pledge")
+        browser.says("Pledge 1 is in the book: Gold ring.", "#take")
+        expect("it is not said any more", browser.text("#elsewhere"), "")
+        no_faults()
+
+
+def a_question_about_a_pledge_that_is_open_over_midnight_is_asked_again():
+    with an_open_book() as pages:
+        the_book_is_read()
+        part("take")
+        browser.fill("#taking", article="Gold ring", ref="A1", amount="100")
+        browser.press("#taking button", "Take the pledge")
+        browser.says(f"The period ends on {in_words(six_months_after(ago(0)))}", "dialog")
+        the_clock_goes_on(86_400)
+        browser.press("dialog button", "Take it for £100.00")
+        browser.says(f"The period ends on {in_words(six_months_after(ago(-1)))}", "dialog")
+        browser.says("A new day has begun since you were asked.", "dialog")
+        browser.press("dialog button", "Not now")
+        browser.says("Nothing was done.", "#taking")
+        expect("no pledge", pages.session.broker("GET", "/books/7/pledges/1")[0], 404)
+        no_faults()
+
+
+# The statements of the pledge are those of the next day, with a day's charges more.
+A_DAY_MORE = """
+const [status, charges, owing] = arguments;
+const real = window.fetch;
+window.fetch = async (path, how) => {
+  const reply = await real(path, how);
+  if (!path.endsWith("/pledges/1")) return reply;
+  const text = (await reply.text()).replace(/^Status .*$/m, `Status ${status}`)
+    .replace(/^Charges .*$/m, `Charges ${charges}`).replace(/^Owing .*$/m, `Owing ${owing}`);
+  return new Response(text, reply);
+};"""
+
+
+def ask_to_renew(taken):
+    """The question about the renewal of the one pledge, which was taken on this day; and then it is the next day."""
+    find("1")
+    browser.says("£100.00, a fixed sum", "#statement")
+    command("Renew", "Renew the pledge", until=str(six_months_after(six_months_after(taken))))
+    browser.says("of interest and safe keeping was received.", "dialog")
+    the_clock_goes_on(86_400)
+
+
+def a_renewal_that_is_asked_about_over_midnight_takes_the_charges_of_the_new_day():
+    """The charges of the new day are asked about. If the period is over by then, nothing is asked."""
+    for taken, status, button in ((ago(30), "inside", "Receive £8.26"), (ago(181), "grace", None)):
+        with Pages() as pages:
+            make_book(pages, terms=False)
+            fill_book(pages, book_text([("Ring", "Ring-1", 10000, taken, "", "yes")], rates=(2667, 0, 0)))
+            open_book(pages)
+            the_book_is_read()
+            ask_to_renew(taken)
+            browser.run(A_DAY_MORE, status, "8.26", "108.26")
+            browser.press("dialog button.grave")
+            if button:
+                browser.says("A new day has begun since you were asked.", "dialog")
+                browser.says("£8.26 of interest and safe keeping was received.", "dialog")
+                browser.says(button, "dialog")
+                browser.press("dialog button", "Not now")
+                browser.says("Nothing was done.", "#commands")
+            else:
+                browser.says("The period is over, so nothing more is drawn and the end is not moved.", "#commands")
+            expect("no entry", entries(pages, 1), [])
+            no_faults()
+
+
+def what_was_said_of_a_pledge_is_not_left_over_midnight():
+    """The sum of the day before is not left beside the sum of the new day."""
+    with a_pledge_at_the_counter() as (_, receipt):
+        find(receipt)
+        browser.says("This receipt is live. £100.00 is owed today.", "#commands")
+        browser.run(A_DAY_MORE, "inside", "0.26", "100.26")
+        the_clock_goes_on(86_400)
+        browser.says("£100.26 owed today", "#statement")
+        browser.rests()
+        expect("the sum of the day before", "£100.00 is owed today" in browser.text("#commands"), False)
+        no_faults()
+
+
+# The service takes the pledge on the day after.
+NEXT_DAY = """
+const [taken, ends] = arguments;
+const real = window.fetch;
+window.fetch = async (path, how) => {
+  const reply = await real(path, how);
+  if (!path.endsWith("/held")) return reply;
+  const text = await reply.text();
+  const moved = text.replace(/^Taken .*$/m, `Taken ${taken}`).replace(/^Ends .*$/m, `Ends ${ends}`);
+  return new Response(moved, reply);
+};"""
+
+
+def a_pledge_that_is_taken_after_midnight_says_its_day():
+    """The request went off before midnight, and the service did it after."""
+    with an_open_book():
+        the_book_is_read()
+        part("take")
+        browser.rests()
+        next_end = six_months_after(ago(-1))
+        browser.run(NEXT_DAY, str(ago(-1)), str(next_end))
+        send_taking(article="Gold ring", ref="A1", amount="100")
+        browser.says(f"Taken as pledge 1 on {in_words(ago(-1))}, and not on the day that was asked about: the period ends "
+                     f"on {in_words(next_end)}.", "#taking")
+        no_faults()
+
+
+def a_day_that_cant_be_read_shows_no_other():
+    """The cards of the day before go, and the title names the day that was asked for."""
+    with Pages() as pages:
+        make_book(pages)
+        receipt = pages.session.open_pledge(1)
+        pages.session.bearer(receipt, "POST", "/books/7/held/ask", {"day": str(ago(0)), "window": 4})
+        pages.session.broker("POST", "/books/7/pledges/1/decide", {"yes": True})
+        open_book(pages)
+        the_book_is_read()
+        browser.says("11:00 to 11:30", "#sheet")
+        browser.rests()
+        with browser.without_a_line():
+            browser.press("#sheet-day button[value='1']")
+            browser.says("The service can’t be reached just now.", "#today", patience=30)
+            expect("the cards", browser.text("#sheet"), "")
+            browser.says(in_words(ago(-1)), "#sheet-title")
+        browser.press("#sheet-day button[value='0']")
+        browser.says("Coming", "#sheet")
+        browser.press("#sheet-day button[value='-1']")
+        browser.says("11:00 to 11:30", "#sheet")
+        with browser.without_a_line():
+            browser.press("#sheet-day button[value='0']")
+            browser.says("What is shown was read at ", "#today", patience=30)
+            browser.says("11:00 to 11:30", "#sheet")
+
+
 main(
-    240, (),
+    480, (),
     (
         an_act_is_done_on_the_pledge_on_which_it_was_pressed, what_came_of_an_act_is_said_in_another_part,
         a_book_that_was_opened_meanwhile_gets_no_act, a_book_that_was_opened_meanwhile_gets_no_pledge,
@@ -363,5 +693,14 @@ main(
         a_look_during_an_act_leaves_nothing_that_is_over, the_row_of_parts_stays_where_it_was_moved,
         a_decision_that_another_clerk_overtakes_is_not_reported_as_it_was,
         the_age_of_the_book_is_not_read_out_each_minute, a_reply_that_was_cut_in_its_head_is_a_lost_one,
+        a_question_names_its_pledge_and_does_not_stay_above_another, each_question_names_its_pledge,
+        an_act_of_a_book_that_was_closed_is_reported_with_its_book,
+        a_renewal_of_a_book_that_was_closed_says_how_far_it_came, a_file_has_the_name_of_its_own_book,
+        what_is_typed_for_one_book_is_not_left_for_another, what_was_looked_for_in_a_book_is_not_said_of_another,
+        what_came_of_a_take_is_said_in_another_part,
+        a_question_about_a_pledge_that_is_open_over_midnight_is_asked_again,
+        a_renewal_that_is_asked_about_over_midnight_takes_the_charges_of_the_new_day,
+        what_was_said_of_a_pledge_is_not_left_over_midnight,
+        a_pledge_that_is_taken_after_midnight_says_its_day, a_day_that_cant_be_read_shows_no_other,
     ),
 )

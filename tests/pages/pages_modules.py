@@ -7,7 +7,7 @@ from tests.library.book_texts import row
 from tests.library.checks import expect, not_tried
 from tests.library.dates import six_months_after, today
 from tests.library.keys import BROKER, OPERATOR
-from tests.library.packages import provide
+from tests.library.packages import missing, provide
 from tests.library.pages.browser import Pages
 from tests.library.pages.square_code import READER, text_of_code
 from tests.library.pages.steps import ago, book_text, browser, files, fill_book, in_words, main, no_faults, read
@@ -285,7 +285,7 @@ def receipts_references_and_terms(_):
 @on_a_page
 def codes_of_links(_):
     """Codes of each size that a link has, by another's reader."""
-    if provide(READER):
+    if missing(READER):
         return not_tried("what the square codes say", "there is no zbarimg")
     script = (
         "const { pictureOf } = await import('/shared/qr.js'); const picture = pictureOf(given[0], 'A code'); "
@@ -370,6 +370,8 @@ def each_refusal_has_a_sentence():
     expect("each has a sentence of its own", (len(set(whys)), len(wanted)), (len(found), len(found)))
 
 
+# The time of the tests does not count what is installed for them.
+provide(READER)
 main(
     300, (each_refusal_has_a_sentence, no_text_becomes_code_or_markup),
     (

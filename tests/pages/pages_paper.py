@@ -86,6 +86,56 @@ def a_receipt_is_one_a5():
         no_faults()
 
 
+def a_paper_that_is_printed_again_says_what_is_still_lent():
+    """Once something was repaid or drawn, the first sum is not what is owed."""
+    with an_open_book() as pages:
+        take_a_ring()
+        take_a_ring(article="Teapot", reference="A2", kind="running", amount="500")
+        pages.session.broker("POST", "/books/7/pledges/1/repay", {"pence": 4000, "seq": 1})
+        pages.session.broker("POST", "/books/7/pledges/2/draw", {"pence": 12000, "seq": 1})
+        for number, says in (
+            (1, ("Lent at first £100.00", f"Lent and not repaid on {in_short(today())} £60.00")),
+            (2, ("Credit up to £500.00", f"Lent and not repaid on {in_short(today())} £120.00")),
+        ):
+            find(str(number))
+            command("Print the receipt again", "Print the receipt again")
+            browser.press("dialog button", "Print it again")
+            browser.says("it is live", "#commands")
+            expect("one page", is_printed(f"receipt-of-rest-{number}", A5, *says), 1)
+        no_faults()
+
+
+# The computer's zone, and its clock at half past midnight there, which is the day before by UTC.
+HALF_PAST_MIDNIGHT = """{
+  const real = Date;
+  const more = real.parse("2026-07-14T23:30:00Z") - real.now();
+  window.Date = class Night extends real {
+    constructor(...given) { if (given.length) super(...given); else super(real.now() + more); }
+    static now() { return real.now() + more; }
+  };
+  const get = Headers.prototype.get;
+  Headers.prototype.get = function told(name) {
+    const said = get.call(this, name);
+    return said && name === "Date" ? new real(real.parse(said) + more).toUTCString() : said;
+  };
+}"""
+
+def the_day_and_the_hour_of_printing_are_of_one_clock():
+    """In summer, in the first hour of a day, the service's day is still the day before."""
+    browser.devtools("Emulation.setTimezoneOverride", timezoneId="Europe/London")
+    night = browser.devtools("Page.addScriptToEvaluateOnNewDocument", source=HALF_PAST_MIDNIGHT)
+    try:
+        with an_open_book():
+            the_book_is_read()
+            part("till")
+            browser.run("dispatchEvent(new Event('beforeprint'))")
+            said = browser.run("return document.querySelector('#paper-head').textContent")
+            expect("when it was printed", said.split(". ")[-1], "Printed on 15 July 2026 at 00:30.")
+    finally:
+        browser.devtools("Page.removeScriptToEvaluateOnNewDocument", **night)
+        browser.devtools("Emulation.setTimezoneOverride", timezoneId="")
+
+
 def a_tag_is_a_small_paper():
     """After a take, in the receipt's place, and without the receipt's secret."""
     with an_open_book():
@@ -168,4 +218,11 @@ provide({**PACKAGES, **TEXTS, **READER})
 for what, reader in (("the text on the paper", TEXTS), ("what its square code says", READER)):
     if missing(reader):
         not_tried(what, f"there is no {missing(reader)[0]}")
-main(150, (), (a_receipt_is_one_a5, a_tag_is_a_small_paper, a_receipt_without_more, all_else_goes_on_a4))
+main(
+    180, (),
+    (
+        a_receipt_is_one_a5, a_paper_that_is_printed_again_says_what_is_still_lent,
+        the_day_and_the_hour_of_printing_are_of_one_clock, a_tag_is_a_small_paper, a_receipt_without_more,
+        all_else_goes_on_a4,
+    ),
+)

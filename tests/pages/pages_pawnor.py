@@ -44,6 +44,88 @@ def two_equal_payments_are_two():
         no_faults()
 
 
+def an_amount_that_is_refused_is_not_asked_about():
+    """Above what is owed, also if the shop recorded a payment since the pledge was shown; and nothing."""
+    with a_pledge_by_its_receipt() as (pages, _):
+        browser.says("£100.00 owed today", "#cards")
+        for amount, says in (
+            ("100.01", "That is more than is owed. Owed today: £100.00."), ("0", "That amount can’t be taken"),
+        ):
+            command("Record a part payment", "Record the payment", amount=amount)
+            browser.says(says, "#cards")
+            expect("no question", browser.run("return document.querySelector('dialog')"), None)
+        pages.session.broker("POST", "/books/7/pledges/1/repay", {"pence": 9000, "seq": 1})
+        command("Record a part payment", "Record the payment", amount="20")
+        browser.says("That is more than is owed. Owed today: £10.00.", "#cards")
+        browser.says("£10.00 owed today", "#cards")
+        expect("no question", browser.run("return document.querySelector('dialog')"), None)
+        expect("one entry", len(entries(pages, 1)), 1)
+        no_faults()
+
+
+def what_was_redeemed_on_this_page_stays_redeemed():
+    """Also once the page looks again, or is loaded again: the receipt is not called wrong or replaced."""
+    with a_pledge_by_its_receipt() as (_, receipt):
+        browser.says("£100.00 owed today", "#cards")
+        command("Redeem", "Redeem for £100.00")
+        browser.press("dialog button", "Yes, £100.00 was received")
+        done = f"Redeemed on {in_words(today())}. £100.00 was paid."
+        browser.says(done, "#cards")
+        browser.press("#look-again")
+        browser.rests()
+        browser.says(done, "#cards")
+        browser.ask("POST", "/refresh", {})
+        browser.says(done, "#cards")
+        browser.says("Pledge 1: Gold ring", "#cards")
+        browser.press("button", "Put this receipt away")
+        expect("the tab keeps nothing of it", receipt in browser.run("return sessionStorage.getItem('receipts')"), False)
+        no_faults()
+
+
+def a_receipt_that_died_says_one_thing():
+    """By the page of a pawnor, whose pledge got a newer receipt, or was redeemed with a reply that was lost."""
+    with a_pledge_by_its_receipt() as (pages, _):
+        browser.says("£100.00 owed today", "#cards")
+        pages.session.broker("POST", "/books/7/pledges/1/declare", {"paper": "sworn"})
+        command("Record a part payment", "Record the payment", amount="10")
+        browser.says("This receipt was replaced or used", "#cards")
+        browser.rests()
+        browser.until("return document.activeElement.matches('#cards h2')", "the focus on what is said")
+        expect("and nothing else", "a character may be wrong" in browser.text("#cards"), False)
+    with a_pledge_by_its_receipt() as (pages, _):
+        browser.says("£100.00 owed today", "#cards")
+        with pages.relay.loses("/redeem"):
+            command("Redeem", "Redeem for £100.00")
+            browser.press("dialog button", "Yes, £100.00 was received")
+            browser.says("Redeemed, most likely", "#cards", patience=30)
+        browser.rests()
+        browser.says("The reply was lost, so this may have been done.", "#cards")
+        expect("and nothing else", "Look at the pledge" in browser.text("#cards"), False)
+        no_faults()
+
+
+def a_redemption_that_is_refused_is_not_asked_about():
+    """The shop recorded a payment, or put the pledge on hold, since it was shown."""
+    with a_pledge_by_its_receipt() as (pages, receipt):
+        browser.says("£100.00 owed today", "#cards")
+        pages.session.broker("POST", "/books/7/pledges/1/repay", {"pence": 1000, "seq": 1})
+        command("Redeem", "Redeem for £100.00")
+        browser.says("Since this pledge was shown here, it has changed. £90.00 is owed now.", "#cards")
+        expect("no question", browser.run("return document.querySelector('dialog')"), None)
+        browser.says("£90.00 owed today", "#cards")
+        pages.session.broker("POST", "/books/7/pledges/1/hold")
+        command("Redeem", "Redeem for £90.00")
+        browser.says("The pawnbroker holds this pledge, so it can’t be redeemed just now.", "#cards")
+        expect("no question", browser.run("return document.querySelector('dialog')"), None)
+        pages.session.broker("POST", "/books/7/pledges/1/release")
+        browser.press("#look-again")
+        browser.says("Still yours", "#cards")
+        command("Redeem", "Redeem for £90.00")
+        browser.press("dialog button", "Yes, £90.00 was received")
+        browser.says(f"Redeemed on {in_words(today())}. £90.00 was paid.", "#cards")
+        no_faults()
+
+
 def what_the_page_says_of_links():
     with a_pledge_by_its_receipt() as (pages, receipt):
         browser.says("Gold ring", "#cards")
@@ -55,14 +137,20 @@ def what_the_page_says_of_links():
 def without_a_line():
     with a_pledge_by_its_receipt() as (pages, receipt):
         browser.says("£100.00 owed today", "#cards")
-        with browser.without_a_line():
-            command("Record a part payment", "Record the payment", amount="10")
-            browser.press("dialog button", "Yes, £10.00 was received")
-            browser.says("The pledge can’t be shown just now", "#cards", patience=20)
-            browser.says(NOT_SENT, "#cards")
-        browser.press("button", "Try again")
-        browser.says("£100.00 owed today", "#cards")
-        expect("no entry", entries(pages, 1), [])
+        for is_asked_before in (False, True):
+            if is_asked_before:
+                command("Record a part payment", "Record the payment", amount="10")
+                browser.element("dialog button", "Yes, £10.00 was received")
+            with browser.without_a_line():
+                if is_asked_before:
+                    browser.press("dialog button", "Yes, £10.00 was received")
+                else:
+                    command("Record a part payment", "Record the payment", amount="10")
+                browser.says("The pledge can’t be shown just now", "#cards", patience=20)
+                browser.says(NOT_SENT, "#cards")
+            browser.press("button", "Try again")
+            browser.says("£100.00 owed today", "#cards")
+            expect("no entry", entries(pages, 1), [])
         command("Redeem", "Redeem for £100.00")
         browser.press("dialog button", "Not yet")
         browser.says("Nothing was done.", "#cards")
@@ -219,12 +307,61 @@ def the_link_names_the_shop():
         no_faults()
 
 
+def a_confirmed_visit_is_given_up_after_a_question():
+    """The shop confirmed it since the page showed it."""
+    with a_pledge_by_its_receipt() as (pages, receipt):
+        browser.says("Gold ring", "#cards")
+        command("Ask for a time to come", "Ask for this time", day=str(ago(-3)), window="3")
+        browser.says("Asked for", "#cards")
+        browser.rests()
+        pages.session.broker("POST", "/books/7/pledges/1/decide", {"yes": True})
+        command("Ask for another time", "Ask for this time", day=str(ago(-4)), window="3")
+        browser.says(f"The shop has confirmed your visit on {in_words(ago(-3))}, 10:30 to 11:00.", "dialog")
+        browser.says("It is given up as soon as you ask for another time", "dialog")
+        browser.shoot("pawn-confirmed-visit")
+        browser.press("dialog button", "Keep the visit")
+        browser.says("Nothing was done.", "#cards")
+        browser.press("#look-again")
+        browser.says("10:30 to 11:00: confirmed", "#cards")
+        command("Cancel the visit", "Cancel the visit")
+        browser.press("dialog button", "Keep the visit")
+        browser.says("Nothing was done.", "#cards")
+        stands = pages.session.broker("GET", "/books/7/pledges/1")[1]
+        expect("it stands", f"Booking {ago(-3)} 3 confirmed" in stands, True)
+        browser.press(".action > summary", "Ask for another time")
+        browser.says("A new time replaces your confirmed visit at once.", "#cards")
+        command("Ask for another time", "Ask for this time", day=str(ago(-4)), window="3")
+        browser.press("dialog button", "Ask for the new time")
+        browser.says(f"Asked for {in_words(ago(-4))}", "#cards")
+        no_faults()
+
+
+def a_pledge_that_was_shown_has_the_focus():
+    """The form is folded away: without that the focus would be nowhere."""
+    with Pages() as pages:
+        make_book(pages)
+        receipt = pages.session.open_pledge(1)
+        type_receipts(pages, receipt, book="7")
+        browser.says("Gold ring", "#cards")
+        focused = "const { tagName, textContent } = document.activeElement; return tagName + textContent === arguments[0]"
+        browser.until(focused, "the focus on the article", "H2Gold ring")
+        browser.press("#finder summary")
+        wrong = receipt[:-1] + ("0" if receipt[-1] != "0" else "1")
+        browser.fill("#find", receipts=wrong, book="7")
+        browser.press("#find button")
+        browser.says("This receipt opens no pledge", "#cards")
+        browser.until(focused, "the focus on what is wrong", "H2This receipt opens no pledge")
+        no_faults()
+
+
 main(
-    300, (),
+    360, (),
     (
-        two_equal_payments_are_two, what_the_page_says_of_links, without_a_line,
+        two_equal_payments_are_two, an_amount_that_is_refused_is_not_asked_about,
+        a_receipt_that_died_says_one_thing, what_was_redeemed_on_this_page_stays_redeemed, a_redemption_that_is_refused_is_not_asked_about, what_the_page_says_of_links, without_a_line,
         a_payment_on_a_line_that_drops, a_receipt_that_is_typed_again_takes_the_place_of_the_mistyped_one,
         a_payment_whose_reply_is_lost_for_good, a_visit_after_the_end, receipts_as_people_write_them,
         forty_receipts_at_once, the_link_names_the_shop,
+        a_confirmed_visit_is_given_up_after_a_question, a_pledge_that_was_shown_has_the_focus,
     ),
 )

@@ -3,11 +3,12 @@ owed; in a real browser, in front of the program."""
 import datetime
 
 from tests.library.checks import expect
-from tests.library.dates import six_months_after
+from tests.library.dates import six_months_after, today
 from tests.library.pages.browser import Pages
 from tests.library.pages.steps import (
-    WRONG_SECRET, a_pledge_at_the_counter, a_pledge_by_its_receipt, ago, an_open_book, book_text, browser, command, fill_book, find, in_short, in_words, main,
-    make_book, no_faults, secret_of, show_receipt, take_a_ring, the_book_is_read, unfold,
+    WRONG_SECRET, a_pledge_at_the_counter, a_pledge_by_its_receipt, ago, an_open_book, book_text, browser, command,
+    fill_book, find, in_short, in_words, main, make_book, no_faults, secret_of, show_receipt, take_a_ring,
+    the_book_is_read, unfold,
 )
 
 
@@ -114,11 +115,11 @@ def what_will_be_owed_is_told_by_the_link():
             browser.says(says, "#cards")
         unfold("See what will be owed on another day")
         browser.fill(".action[open] form", day=str(ago(-30)))
-        browser.press(".action[open] button", "Reckon")
+        browser.press(".action[open] button", "Calculate")
         browser.says(f"On {in_words(ago(-30))} £116.60 will be owed", "#cards")
         browser.rests()
         browser.fill(".action[open] form", day=str(last + datetime.timedelta(days=1)))
-        browser.press(".action[open] button", "Reckon")
+        browser.press(".action[open] button", "Calculate")
         browser.says(f"From {in_short(last + datetime.timedelta(days=1))} on it may have been sold.", "#cards")
         browser.shoot("pawn-reckoned")
         show_receipt(pages, receipt)
@@ -159,12 +160,43 @@ def a_visit_in_the_days_of_grace_is_in_time():
         no_faults()
 
 
+def what_comes_after_the_end_is_told():
+    """To the pawnor, too: a small credit's article is lost at once, another may be fetched until it is sold."""
+    with Pages() as pages:
+        make_book(pages, terms=False)
+        fill_book(pages, book_text([
+            ("Ring", "R-1", 7500, ago(30), "", "no"), ("Cup", "R-2", 7501, ago(30), "", "no"),
+            ("Pin", "R-3", 7500, ago(187), "", "yes"),
+        ]))
+        for number, says in (
+            (1, "after that it belongs to the pawnbroker, and can’t be redeemed any more"),
+            (2, "after that it may be sold, and can be redeemed until it is sold"),
+            (3, "after that it belongs to the pawnbroker, and can’t be redeemed any more"),
+        ):
+            show_receipt(pages, f"{number}-{secret_of(number)}")
+            browser.says(says, "#cards .state")
+        browser.says("Last days", "#cards")
+        no_faults()
+
+
+def a_late_visit_of_a_receipt_without_its_link_may_be_in_time():
+    """The page does not know its days of grace, and says so."""
+    with a_pledge_by_its_receipt() as (_, receipt):
+        end = six_months_after(today())
+        command("Ask for a time to come", "Ask for this time", day=str(end + datetime.timedelta(days=3)), window="3")
+        browser.says(f"The time of this pledge is over after {in_words(end)}.", "dialog")
+        browser.says("If your paper says that it has days of grace, they last five days more.", "dialog")
+        browser.press("dialog button", "Choose another day")
+        no_faults()
+
+
 main(
-    200, (),
+    230, (),
     (
         a_receipt_that_opens_nothing_is_not_called_used,
         a_receipt_that_the_pledge_never_had_may_be_of_another_book, a_cut_link_is_told, blanks_and_capitals_are_read_everywhere,
         several_pledges_have_a_sum_and_are_looked_at_again, what_will_be_owed_is_told_by_the_link,
         a_visit_that_is_over_is_not_offered_to_be_cancelled, a_visit_in_the_days_of_grace_is_in_time,
+        what_comes_after_the_end_is_told, a_late_visit_of_a_receipt_without_its_link_may_be_in_time,
     ),
 )

@@ -144,6 +144,9 @@ def a_sale_is_asked_about_with_its_surplus():
             browser.says(says, "dialog")
             browser.press("dialog button", "Not now")
             browser.says("Nothing was done.", "#commands")
+        command("Sale", "Record the sale", amount="1,500,000")
+        browser.says("That amount can’t be taken", "#commands")
+        expect("no question", browser.run("return document.querySelector('dialog')"), None)
         no_faults()
 
 
@@ -320,6 +323,7 @@ def terms_are_put_after_a_take_that_wanted_them():
         part("terms")
         browser.fill("#new-terms", rate="0.2667")
         browser.press("#new-terms button")
+        browser.press("dialog button.grave")
         browser.says("Version 1 is in the book.", "#terms")
         part("take")
         browser.element("#taking")
@@ -362,6 +366,23 @@ def a_hold_bars_redemption_before_it_is_sent():
         expect("and it is open", "Status inside" in pages.session.broker("GET", "/books/7/pledges/1")[1], True)
 
 
+def an_extension_whose_reply_is_lost_is_told():
+    """By the end of the pledge, which is read again; and a renewal shows its paper."""
+    with a_pledge_at_the_counter() as (pages, _):
+        end = six_months_after(today())
+        done = "The reply was lost, but the pledge, read again, has the new end. The period ends on "
+        with pages.relay.loses("/extend", times=20):
+            command("Extend the period", "Extend", until=str(end + datetime.timedelta(days=30)))
+            browser.press("dialog button.grave")
+            browser.says(f"{done}{in_words(end + datetime.timedelta(days=30))}.", "#commands", patience=40)
+            command("Renew", "Renew the pledge", until=str(end + datetime.timedelta(days=60)))
+            browser.press("dialog button.grave")
+            browser.says(f"{done}{in_words(end + datetime.timedelta(days=60))}.", "#commands", patience=40)
+        browser.says(in_words(end + datetime.timedelta(days=60)), ".paper")
+        expect("the end", ends_of(pages), str(end + datetime.timedelta(days=60)))
+        no_faults()
+
+
 def a_pledge_is_renewed_in_one_step():
     with Pages() as pages:
         make_book(pages, terms=False)
@@ -397,5 +418,6 @@ main(
         a_look_before_a_command_that_fails_is_told,
         what_came_of_an_act_is_told_although_the_book_was_read_meanwhile, terms_are_put_after_a_take_that_wanted_them,
         the_key_is_forgotten, a_hold_bars_redemption_before_it_is_sent, a_pledge_is_renewed_in_one_step,
+        an_extension_whose_reply_is_lost_is_told,
     ),
 )

@@ -134,6 +134,24 @@ def the_till_parts_what_was_repaid_and_has_a_float():
         no_faults()
 
 
+def the_sum_of_a_line_is_named():
+    """In the list of all pledges it is the credit: a repayment does not change it, and a limit is not lent."""
+    with Pages() as pages:
+        make_book(pages)
+        pages.session.open_pledge(1)
+        pages.session.open_pledge(2, kind="running", pence=50000, article="Teapot")
+        pages.session.broker("POST", "/books/7/pledges/1/repay", {"pence": 4000, "seq": 1})
+        open_book(pages)
+        part("all")
+        browser.says("2 of 2 pledges. Out on loan on 2 open ones: £60.00", "#all")
+        browser.says("The sum of a line is the credit: what was lent at first, or the limit of an account.", "#all")
+        browser.resize(1280)
+        browser.says("£500.00\nlimit", "#all-rows")
+        browser.shoot("broker-credit")
+        browser.resize(390)
+        no_faults()
+
+
 def an_import_tells_of_the_other_book():
     with Pages() as pages:
         make_book(pages, terms=False)
@@ -144,8 +162,38 @@ def an_import_tells_of_the_other_book():
         part("files")
         browser.fill("#importing", file=path)
         browser.press("#importing button")
+        browser.press("dialog button", "Fill book 7")
         browser.says("Each receipt now opens its pledge in this book, and in the book that the file", "#files")
         browser.says("name the old book, so print the receipts again", "#files")
+
+
+def a_file_that_is_no_book_is_not_asked_about():
+    """It would be refused. A book whose fields are in quotes is one, and its pledges are counted."""
+    with Pages() as pages:
+        make_book(pages, terms=False)
+        whole = book_text([("Ring", "J9", 9000, ago(3), "", "no"), ("Spoon", "J10", 9000, ago(3), "", "no")])
+        quoted = "\ufeff" + whole.replace("\n", "\r\n").replace("B,2,1,2,", 'B,"2","1","2",').replace("row,c1,", '"row","c1",')
+        open_book(pages)
+        for name, text in (("notes.txt", "hello"), ("empty.csv", ""), ("sheet.csv", whole.replace(",", ";"))):
+            put_file(pages, name, text)
+            browser.says("The file does not begin with the heading of an exported book. (Row 1 of the file.)", "#importing")
+            expect("no question", browser.run("return document.querySelector('dialog')"), None)
+        put_file(pages, "book.csv", quoted)
+        browser.says("book.csv, with 2 pledges.", "dialog")
+        browser.press("dialog button", "Fill book 7")
+        browser.says("The book is filled: 2 pledges came.", "#files")
+        no_faults()
+
+
+def put_file(pages, name, text):
+    """Chooses a file of this text to fill the open book with."""
+    path = os.path.join(pages.room, name)
+    with open(path, "w", newline="") as it:
+        it.write(text)
+    part("files")
+    browser.rests()
+    browser.fill("#importing", file=path)
+    browser.press("#importing button")
 
 
 # No reply ever comes to a repayment, nor to a look after it.
@@ -245,7 +293,8 @@ main(
     290, (),
     (
         what_a_pledge_has_beside_its_statement, the_sheet_is_read_anew, dues_are_what_is_owed_and_can_be_ticked_off,
-        the_till_parts_what_was_repaid_and_has_a_float, an_import_tells_of_the_other_book,
+        the_till_parts_what_was_repaid_and_has_a_float, the_sum_of_a_line_is_named, an_import_tells_of_the_other_book,
+        a_file_that_is_no_book_is_not_asked_about,
         a_reply_that_hangs_is_not_waited_for, what_is_typed_stays_while_a_pledge_is_drawn_anew,
         what_is_typed_stays_while_the_book_is_read, the_parts_take_one_row,
         the_pledge_that_was_found_has_the_focus, a_dead_receipt_is_told_alike_where_it_is_found_and_redeemed,

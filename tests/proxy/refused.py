@@ -6,7 +6,9 @@ import glob
 import json
 import os
 import random
+import signal
 import socket
+import subprocess
 import time
 
 from tests.library.checks import Failed, expect
@@ -173,6 +175,28 @@ def a_store_that_is_being_restarted():
             expect(f"it took the request, and then: {way}", (proxys(reply), len(store.seen) - before), ((502, True), 1))
 
 
+def libcurl_sends_a_post_again_by_itself():
+    """A worker of nginx is killed after it passed a declaration on. On a connection that curl uses again it sends the
+    declaration a second time, and reports nothing; on a connection of its own it reports the error."""
+    for kept, wanted in ((True, ["POST", "POST"]), (False, ["POST"])):
+        with Hosted(kind=Recorder) as it:
+            store, url = it.stores[1], f"https://localhost:{it.port}/books"
+            store.way = "silence"
+            how = ["-sk", "--http1.1", "-m", "30", *([] if kept else ["-H", "Connection: close"])]
+            words = ["curl", *how, f"{url}/7/pledges/1", "--next", *how, "-d", "{}", f"{url}/8/pledges/1/declare"]
+            begun = subprocess.Popen(words, stdin=subprocess.DEVNULL, stdout=subprocess.PIPE, stderr=subprocess.DEVNULL)
+            wait_for(lambda: store.seen, "the declaration")
+            store.way = "answer"
+            for worker in it.workers():
+                os.kill(int(worker), signal.SIGKILL)
+            shown, _ = begun.communicate(timeout=60)
+            expect(
+                f"what curl sent and showed, with its connection {'kept' if kept else 'closed'}",
+                ([head.split()[0] for head, _ in store.seen], shown, begun.returncode == 0),
+                (wanted, b"{}{}" if kept else b"{}", kept),
+            )
+
+
 # ---- a key that leaked
 
 OLD, NEW, NEWER = BROKER, "5e0b9e1c-2f3a-4d7b-8c1a-aaaaaaaaaaaa", "6e0b9e1c-2f3a-4d7b-8c1a-bbbbbbbbbbbb"
@@ -297,6 +321,7 @@ TESTS = (
     limits_come_before_the_answer_for_no_book,
     when_to_ask_again,
     a_store_that_is_being_restarted,
+    libcurl_sends_a_post_again_by_itself,
     a_key_that_leaked_is_refused,
     the_new_key_leaked_too,
     a_book_of_another_store,

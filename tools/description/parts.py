@@ -198,7 +198,7 @@ SCHEMAS = {
     "Key": {
         "type": "string", "pattern": rf"^([0-9A-Fa-f]{{32}}|{HYPHENED}|\{{{HYPHENED}\}}|[Uu][Rr][Nn]:[Uu][Uu][Ii][Dd]:{HYPHENED})$",
         "description": "128 bits, as 32 hexadecimal digits: plain, in groups of 8, 4, 4, 4 and 12 with hyphens, and so "
-            "also in braces or after `urn:uuid:`.",
+            "also in braces or after `urn:uuid:`. Upper and lower case mean the same, and may be mixed.",
         "examples": ["22222222-2222-2222-2222-222222222222"],
     },
     "Receipt": {

@@ -19,6 +19,8 @@ OF_WRITERS = {
     704: "Send one `Content-Length`, in digits.",
     707: "Correct the method.",
     708: "Correct the member; a text has its limit in bytes.",
+    709: "A key is 32 hexadecimal digits: plain, or with hyphens between groups of 8, 4, 4, 4 and 12. With hyphens it may "
+         "also be in braces, or after `urn:uuid:`. Upper and lower case mean the same, and may be mixed.",
     710: "Give each receipt a field of its own, as it was issued.",
     711: "Send 32 receipts at most, or one with a command.",
     712: "Send the receipt.",

@@ -5,6 +5,9 @@ import { ledger } from "./ledger.js";
 
 const MINUTE = 60_000;
 
+/** A moment's date and its hour, both in the zone of this computer. */
+export const dateOf = (time) =>
+  new Date(time).toLocaleDateString("en-GB", { day: "numeric", month: "long", year: "numeric" });
 export const clockOf = (time) => new Date(time).toLocaleTimeString("en-GB", { hour: "2-digit", minute: "2-digit" });
 
 function ageInWords(readAt) {

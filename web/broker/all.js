@@ -12,12 +12,14 @@ import { ledger } from "./ledger.js";
 import { openReceipt } from "./pledge.js";
 import { Rows } from "./rows.js";
 
+const SUM = "The sum of a line is the credit: what was lent at first, or the limit of an account.";
+
 const form = () => byId("searching");
 
 let rows;
 
 function drawRow(pledge) {
-  const { number, article, reference, pence, ends, state, closed } = pledge;
+  const { number, article, reference, kind, pence, ends, state, closed, held } = pledge;
   const when = state === "open" ? `ends ${inShort(ends)}` : inShort(closed);
   return make("a", { href: `#pledge=${number}`, className: "row-link" },
     make("span", { className: "row-number" }, String(number)),
@@ -25,8 +27,13 @@ function drawRow(pledge) {
       "span", { className: "row-article" }, foreign(article),
       make("span", { className: "reference" }, foreign(reference)),
     ),
-    make("span", { className: "row-sum" }, inPounds(pence)),
-    make("span", { className: "row-state" }, STATUSES[statusOn(pledge, today())].name,
+    make(
+      "span", { className: "row-sum" }, inPounds(pence),
+      kind === "running" ? make("span", { className: "reference" }, "limit") : null,
+    ),
+    make(
+      "span", { className: "row-state" }, held && state === "open" ? make("strong", {}, "on hold, ") : null,
+      STATUSES[statusOn(pledge, today())].name,
       make("span", { className: "reference" }, when)));
 }
 
@@ -52,7 +59,7 @@ function search(stay = false) {
   const { text, group, order } = Object.fromEntries(new FormData(form()));
   const pledges = found(book, { text, group, order }, today());
   byId("search-count").textContent =
-    `${inThousands(pledges.length)} of ${inThousands(book.pledges.length)} pledges${lentOn(pledges)}`;
+    `${inThousands(pledges.length)} of ${inThousands(book.pledges.length)} pledges${lentOn(pledges)} ${SUM}`;
   rows.show(pledges, stay);
 }
 

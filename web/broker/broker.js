@@ -2,23 +2,24 @@
  * The broker's page: opening the book, and going from part to part. The address names the part, the pledge and the day,
  * and no secret.
  */
-import { onClock } from "../shared/clock.js";
-import { inShort, today } from "../shared/days.js";
+import { now, onClock } from "../shared/clock.js";
+import { today } from "../shared/days.js";
 import { byId } from "../shared/dom.js";
 import { explainWaiting, onSend, tell } from "../shared/forms.js";
 import { startPage } from "../shared/start.js";
-import { clockOf, setUpAge, showAge, waitingInWords } from "./age.js";
+import { clockOf, dateOf, setUpAge, showAge, waitingInWords } from "./age.js";
 import { setUpAll, showAll } from "./all.js";
 import { setUpDue, showDue } from "./due.js";
+import { clearElsewhere, setUpElsewhere } from "./elsewhere.js";
 import { setUpFiles } from "./files.js";
 import { clearChoices, setUpFinding } from "./find.js";
 import { ledger } from "./ledger.js";
 import { clearPledge, redrawPledge, showPledge } from "./pledge.js";
 import { setUpScanner } from "./scanner.js";
 import { askBook, begin, current, end, keepSession } from "./session.js";
-import { keepShop, setUpShop, shop, showShop } from "./shop.js";
+import { keepShop, refuseReceipts, setUpShop, shop, showShop } from "./shop.js";
 import { clearTaking, setUpTaking, showTaking } from "./take.js";
-import { setUpTerms, showTerms } from "./terms.js";
+import { clearTerms, redrawTerms, setUpTerms, showTerms } from "./terms.js";
 import { redrawTill, setUpTill, showTill } from "./till.js";
 import { clearToday, redrawToday, refreshToday, setUpToday, showToday } from "./today.js";
 
@@ -30,6 +31,7 @@ const PARTS = {
 /** What each part draws anew when the book was read or mended. */
 const FROM_BOOK = {
   today: redrawToday, take: showTaking, pledge: redrawPledge, all: showAll, due: showDue, till: redrawTill,
+  terms: redrawTerms,
 };
 /** These parts show nothing but the content of the book. */
 const LISTS = ["all", "due", "till"];
@@ -54,7 +56,7 @@ function showWhose() {
   const { name, till } = shop();
   const whose = [`Book ${current().book}`, name, till].filter(Boolean).join(", ");
   byId("whose-book").textContent = whose;
-  byId("paper-head").textContent = `${whose}. Printed on ${inShort(today())} at ${clockOf(Date.now())}.`;
+  byId("paper-head").textContent = `${whose}. Printed on ${dateOf(now())} at ${clockOf(now())}.`;
 }
 
 /** Marks the part that is shown among all, and moves the row of parts to it, if another was marked before. */
@@ -90,6 +92,7 @@ async function showPart({ focus }) {
     return;
   }
   showWhose();
+  clearElsewhere();
   mark(name);
   const heading = putTitle({ name, detail });
   if (focus) heading.focus();
@@ -102,6 +105,7 @@ async function showPart({ focus }) {
 
 /** Opens the book: the key is tried by today's sheet, and the whole book is read after it. */
 async function openBook(fields) {
+  refuseReceipts({ shop: fields.shop });
   isOpening = true;
   try {
     begin(fields);
@@ -138,9 +142,11 @@ function closeBook() {
   clearPledge();
   clearTaking();
   clearToday();
+  clearTerms();
   for (const list of ["due-lists", "terms-list", "till-lists", "choices"]) byId(list).replaceChildren();
   for (const notice of document.querySelectorAll(".notice")) if (notice.id !== "clock-line") tell(notice, "");
-  byId("searching").reset();
+  // What was typed or chosen for one book is not left for another.
+  for (const form of document.querySelectorAll("section.place form")) form.reset();
   history.replaceState(null, "", location.pathname);
   showPart({ focus: false });
 }
@@ -174,12 +180,13 @@ function drawFromBook({ sort }) {
   }
   if (!["read", "mended"].includes(sort) || ledger.reading) return;
   FROM_BOOK[name]?.(detail);
-  // The sheets are read beside the first reading of the book, when the part is shown.
+  // During the first reading of the book, the sheets are read when the part is shown.
   if (name === "today" && sort === "read" && wasRead) refreshToday();
   wasRead = true;
 }
 
 startPage(() => {
+  setUpElsewhere();
   setUpAge(() => ledger.read().catch(() => {}));
   [setUpToday, setUpTaking, setUpFinding, setUpAll, setUpDue, setUpTill, setUpTerms, setUpFiles, setUpScanner].forEach(
     (setUp) => setUp()

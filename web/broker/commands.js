@@ -4,10 +4,11 @@
  */
 import { inWords } from "../shared/days.js";
 import { make } from "../shared/dom.js";
-import { lookFirst } from "../shared/faults.js";
+import { lookFirst, Outdated } from "../shared/faults.js";
 import { buttons, field, fold } from "../shared/forms.js";
 import { inPounds, readPounds } from "../shared/money.js";
 import { recordEntry } from "../shared/payments.js";
+import { confirmed, NOTHING_DONE } from "../shared/questions.js";
 import { isOpen, isToCome } from "../shared/statuses.js";
 import { bookingInWords } from "../shared/summary.js";
 import { windowInWords } from "../shared/windows.js";
@@ -71,16 +72,33 @@ function overtaken(decided, now) {
   return { sentence: now ? `${what} Now it is: ${bookingInWords(now)}.` : what, tone: "bad" };
 }
 
+/** A refused visit can't be confirmed after that, so it is asked about. */
+const agreedToRefuse = (now) => confirmed({
+  title: "Refuse this visit?", about: now,
+  lines: [
+    `${bookingInWords(now.booking)}.`,
+    "A visit that was refused can’t be confirmed after that: the pawnor has to ask for it again.",
+  ],
+  yes: "Refuse the visit", no: "Not now",
+});
+
+/** Reads the pledge. Throws if its visit is not the one that is shown. */
+async function readVisit(shown, desk) {
+  const now = await lookFirst(desk.read());
+  const { booking } = now;
+  if (isSameVisit(shown, booking)) return now;
+  const present = booking ? ` Now it is: ${bookingInWords(booking)}. Decide on this one.` : "";
+  throw new Outdated(`The visit was changed since it was shown, so nothing was decided.${present}`);
+}
+
 /** Decides on the visit that is shown, if it is still the pledge's visit; and reports the one that was decided on. */
 async function decide(shown, yes, desk) {
-  const { booking } = await lookFirst(desk.read());
-  if (!isSameVisit(shown, booking)) {
-    const now = booking ? ` Now it is: ${bookingInWords(booking)}.` : "";
-    return {
-      sentence: `The visit was changed since it was shown, so nothing was decided.${now} Decide on this one.`,
-      tone: "bad",
-    };
+  const now = await readVisit(shown, desk);
+  if (!yes) {
+    if (!await agreedToRefuse(now)) return NOTHING_DONE;
+    await readVisit(shown, desk);
   }
+  const { booking } = now;
   const { said } = await desk.command("decide", { yes }, true);
   const after = await desk.read().catch(() => null);
   const decided = { day: said.day, window: said.window, state: said.booking };

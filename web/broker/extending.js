@@ -1,13 +1,17 @@
 /** A later end of the period. It can't be taken back, so both ends and the days between are asked about. */
 import { countDays, daysBetween, inShort, inWords, plusDays } from "../shared/days.js";
 import { make } from "../shared/dom.js";
-import { lookFirst, Outdated } from "../shared/faults.js";
+import { Lost, lookFirst, Outdated } from "../shared/faults.js";
 import { buttons, field } from "../shared/forms.js";
+import { willPass } from "../shared/period.js";
 import { confirmed, NOTHING_DONE } from "../shared/questions.js";
 import { Unreadable } from "../shared/unreadable.js";
 
-/** A new end that is more days later than this is asked about loudly. */
+/** An end that is more days later than this is asked about loudly. */
 const LONG = 366;
+
+export const isLong = (from, to) => daysBetween(from, to) > LONG;
+export const loudLine = (text) => make("strong", { className: "loud" }, text);
 
 /** Throws if a new end is not after the present end, or if the present end is not the one that was shown. */
 export function checkEnd(until, shown, now) {
@@ -19,18 +23,33 @@ export function checkEnd(until, shown, now) {
   if (until <= now.ends) throw new Unreadable(`The new end is to be after ${inShort(now.ends)}.`, "until");
 }
 
-/** The lines of a question about a new end. */
-export function endLines(ends, until) {
+/** The lines of a question about a new end of a pledge. */
+export function endLines({ ends, taken, credit }, until) {
   const days = daysBetween(ends, until);
-  const loud = make(
-    "strong", { className: "loud" }, `That is more than a year later, on ${inWords(until)}: look at the year again.`,
-  );
   return [
     `The period ends on ${inWords(ends)} now.`, `It is to end on ${inWords(until)}: ${countDays(days)} later.`,
-    days > LONG ? [loud] : null,
+    isLong(ends, until)
+      ? loudLine(`That is more than a year later, on ${inWords(until)}: look at the year again.`)
+      : null,
+    willPass({ taken, ends, pence: credit })
+      ? "The article will not pass to the shop then: if it is not redeemed, it is to be sold."
+      : null,
     "The end can’t be made earlier again. A mistake is set right only if the pledge is redeemed by its paper and taken "
       + "anew.",
   ];
+}
+
+/** Moves the end, and returns a sentence. After a lost reply the pledge, read again, shows whether it was moved. */
+export async function sendEnd(until, desk) {
+  try {
+    const { said } = await desk.command("extend", { until }, true);
+    return `The period ends on ${inWords(said.ends)}.`;
+  } catch (fault) {
+    if (!(fault instanceof Lost)) throw fault;
+    const { ends } = await desk.read().catch(() => { throw fault; });
+    if (ends !== until) throw fault;
+    return `The reply was lost, but the pledge, read again, has the new end. The period ends on ${inWords(ends)}.`;
+  }
 }
 
 async function extend({ until }, shown, desk) {
@@ -39,11 +58,11 @@ async function extend({ until }, shown, desk) {
   checkEnd(until, shown, now);
   const days = countDays(daysBetween(now.ends, until));
   const yes = await confirmed({
-    title: "Extend the period?", lines: endLines(now.ends, until), yes: `Extend it by ${days}`, no: "Not now",
+    title: "Extend the period?", about: now, lines: endLines(now, until), yes: `Extend it by ${days}`,
+    no: "Not now",
   });
   if (!yes) return NOTHING_DONE;
-  const { said } = await desk.command("extend", { until }, true);
-  return `The period ends on ${inWords(said.ends)}.`;
+  return sendEnd(until, desk);
 }
 
 export const extension = (statement, desk) => ({

@@ -1,10 +1,13 @@
 /** The book as a file, out and in. */
-import { byId, make } from "../shared/dom.js";
+import { refusalOf } from "../shared/codes.js";
 import { today } from "../shared/days.js";
+import { byId, foreign, make } from "../shared/dom.js";
+import { Lost } from "../shared/faults.js";
 import { onSend } from "../shared/forms.js";
+import { confirmed, NOTHING_DONE } from "../shared/questions.js";
 import { Unreadable } from "../shared/unreadable.js";
 import { ledger } from "./ledger.js";
-import { askBook, current } from "./session.js";
+import { askBook, current, refuseOther } from "./session.js";
 
 const LONGEST = 1_048_576;
 const KEY_BYTES = 16;
@@ -15,6 +18,8 @@ const PATIENCE = 300_000;
 const BOTH = "Each receipt now opens its pledge in this book, and in the book that the file came from as well, if that "
   + "still exists: close that one to redemptions. Links and codes that were printed before name the old book, so print "
   + "the receipts again.";
+
+const LOST = "The reply was lost, so the book may have been filled. Send the same file again: it fills the book once.";
 
 /**
  * The key of an import: the beginning of the file's SHA-256, so that the same file is the same import, whenever and
@@ -47,26 +52,63 @@ function tellPart({ count, whole }) {
 }
 
 async function saveBook() {
-  const { text } = await askBook("GET", "/export", { silence: PATIENCE, watch: tellPart, isLarge: true });
+  const { book } = current();
+  const { text } = await askBook("GET", "/export", { silence: PATIENCE, watch: tellPart, isLarge: true })
+    .finally(() => { byId("save-bar").hidden = true; });
   const address = URL.createObjectURL(new Blob([text], { type: "text/csv" }));
-  make("a", { href: address, download: `book-${current().book}-${today()}.csv` }).click();
+  make("a", { href: address, download: `book-${book}-${today()}.csv` }).click();
   setTimeout(() => URL.revokeObjectURL(address), 60_000);
-  byId("save-bar").hidden = true;
   return `The book is saved, with ${text.split("\n").length - 2} rows. Keep the file as you keep your key.`;
 }
 
+/** The first record of an exported book. */
+const HEADING = ["row", ...Array.from({ length: 14 }, (_, place) => `c${place + 1}`)].join(",");
+
+/** The lines of a file as the service reads them, without what it leaves out. */
+const linesOf = (body) =>
+  body.replace(/^\ufeff/, "").split(/[\r\n]+/).filter((line) => line !== "").map((line) => line.replaceAll('"', ""));
+
+/** How many pledges a file has, by its second line; null if it does not say. Throws where it is not a book's. */
+function countIn(body) {
+  const [heading, second = ""] = linesOf(body);
+  if (heading !== HEADING) throw refusalOf("Columns", { row: 1 });
+  const count = second.split(",")[3] ?? "";
+  return /^\d+$/.test(count) ? Number(count) : null;
+}
+
+const countPledges = (count) => (count === 1 ? "1 pledge" : `${count} pledges`);
+
+/** A book is filled once, so the file and the book are asked about. */
+const agreedTo = ({ name }, count) => confirmed({
+  title: `Fill book ${current().book} from this file?`,
+  lines: [
+    [foreign(name), count === null ? "." : `, with ${countPledges(count)}.`],
+    "A book is filled once: after that it can’t be emptied, or filled from another file.",
+  ],
+  yes: `Fill book ${current().book}`, no: "Not now",
+});
+
 async function fillBook({ file }) {
+  const begun = current();
   if (!file?.name) throw new Unreadable("Choose a file.", "file");
   if (file.size > LONGEST) throw new Unreadable(
     "The file is above a mebibyte. A book as large as that is moved by the operator of the service.", "file",
   );
   const bytes = await file.arrayBuffer();
   const body = textOf(bytes);
+  const count = countIn(body);
   const importKey = await keyOf(bytes);
-  const { said } = await askBook("POST", "/import", { body, harmless: true, importKey, silence: PATIENCE });
-  ledger.read().catch(() => {});
-  const came = said.imported === 1 ? "1 pledge came" : `${said.imported} pledges came`;
-  return `The book is filled: ${came}. ${BOTH}`;
+  refuseOther(begun);
+  if (!await agreedTo(file, count)) return NOTHING_DONE;
+  let said;
+  try {
+    ({ said } = await askBook("POST", "/import", { body, harmless: true, importKey, silence: PATIENCE, begun }));
+  } catch (fault) {
+    if (fault instanceof Lost) return { sentence: LOST, tone: "bad" };
+    throw fault;
+  }
+  if (begun === current()) ledger.read().catch(() => {});
+  return `The book is filled: ${countPledges(said.imported)} came. ${BOTH}`;
 }
 
 export function setUpFiles() {

@@ -4,7 +4,7 @@
  */
 import { readBook, readHead } from "../shared/book.js";
 import { today } from "../shared/days.js";
-import { owedOn } from "../shared/owing.js";
+import { firstDayFrom, owedOn } from "../shared/owing.js";
 import { statusOn } from "../shared/period.js";
 import { isOpen } from "../shared/statuses.js";
 import { folded } from "../shared/texts.js";
@@ -22,7 +22,7 @@ const SILENCE = 60_000;
 const isPair = (one, other) => one?.day === other?.day && one?.window === other?.window && one?.state === other?.state;
 
 /** What is not known of a pledge before the book was read. */
-export const UNKNOWN = { reference: null, fiveDays: null, terms: null, agreed: undefined };
+const UNKNOWN = { reference: null, fiveDays: null, terms: null, agreed: undefined };
 
 class Ledger {
   constructor() {
@@ -121,7 +121,7 @@ class Ledger {
     }
   }
 
-  /** Reads the book anew. Who asks while it is being read gets that reading. */
+  /** Reads the book anew. A call during a reading returns that reading. */
   read() {
     if (this.reading) return this.reading.done;
     const mine = { done: null };
@@ -178,7 +178,7 @@ class Ledger {
     return this.book?.terms.find(({ version }) => version === pledge?.version) ?? null;
   }
 
-  /** What the book has of a pledge beside its statement. */
+  /** What the book has of a pledge and its statement lacks. */
   known(number) {
     const pledge = this.pledge(number);
     if (!pledge) return UNKNOWN;
@@ -187,8 +187,8 @@ class Ledger {
   }
 
   /**
-   * What is owed on a pledge today, reckoned from the book; null where nothing is owed any more or its terms are not
-   * known. It is reckoned once, for as long as the pledge stays as it is.
+   * What is owed on a pledge today, or on the day of its last entry if that is later, computed from the book; null where
+   * nothing is owed any more or its terms are not known. It is computed once, for as long as the pledge stays as it is.
    */
   owed(pledge) {
     const now = today();
@@ -198,14 +198,14 @@ class Ledger {
       return before.owed;
     }
     const terms = isOpen(statusOn(pledge, now)) ? this.termsOf(pledge) : null;
-    const owed = terms && owedOn({ ...pledge, credit: pledge.pence }, terms, now);
+    const owed = terms && owedOn({ ...pledge, credit: pledge.pence }, terms, firstDayFrom(now, pledge));
     this.reckoned.set(pledge, { now, entries, ends, state, owed });
     return owed;
   }
 
   /**
    * Whether a statement has something that the book in the page lacks: after a command of this page's own, another
-   * entry beside its own.
+   * entry in addition to its own.
    */
   isNews(statement, own) {
     const pledge = this.pledge(statement.number);

@@ -6,23 +6,24 @@ import { Unreadable } from "../shared/unreadable.js";
 import { clockOf } from "./age.js";
 import { ledger } from "./ledger.js";
 import { heldBy, statementOf } from "./reading.js";
-import { current } from "./session.js";
+import { current, refuseOther } from "./session.js";
 
 const PAPERS = {
   opening: "when the pledge was taken", sworn: "on a sworn declaration", written: "on a written statement",
 };
 
-/** Whether a receipt opens the pledge of this number. */
-export const isLive = async (receipt, number) => (await heldBy(receipt))?.number === number;
+/** Whether a receipt opens the pledge of this number; `begun` is the session of the act that asks. */
+export const isLive = async (receipt, number, begun) => (await heldBy(receipt, begun))?.number === number;
 
 /** The live receipt of a pledge, by the book in the page or else read anew, or null. */
-export async function newestReceipt(number) {
+export async function newestReceipt(number, begun) {
   await ledger.theBook();
   for (const again of [false, true]) {
     if (again) await ledger.awaitReading();
+    refuseOther(begun);
     const pledge = ledger.pledge(number);
     const receipt = pledge && liveReceipt(pledge);
-    if (receipt && await isLive(receipt, number)) return receipt;
+    if (receipt && await isLive(receipt, number, begun)) return receipt;
   }
   return null;
 }
@@ -72,8 +73,8 @@ function whyAtOnce(receipt, statement) {
  * Why a receipt is not live: what can be said at once, the pledge's statement or null, and the sentence that the book
  * yields once it is read anew, or null where it can't be read.
  */
-export async function whyDead(receipt) {
-  const statement = await statementOf(numberOf(receipt));
+export async function whyDead(receipt, begun = current()) {
+  const statement = await statementOf(numberOf(receipt), begun);
   const later = ledger.readAgain().then(() => whyByBook(receipt), () => null);
   return { sentence: whyAtOnce(receipt, statement), statement, later };
 }

@@ -1,6 +1,6 @@
 /** One pledge of the book, with its statement and its commands. What is said of it was read just then. */
 import { refusalOf } from "../shared/codes.js";
-import { inShort } from "../shared/days.js";
+import { inShort, today } from "../shared/days.js";
 import { byId, foreign, make } from "../shared/dom.js";
 import { Outdated, Refused } from "../shared/faults.js";
 import {
@@ -13,15 +13,15 @@ import { isOpen } from "../shared/statuses.js";
 import { summaryOf } from "../shared/summary.js";
 import { Unreadable } from "../shared/unreadable.js";
 import { commandsOf } from "./commands.js";
+import { sayElsewhere } from "./elsewhere.js";
 import { ledger } from "./ledger.js";
 import { heldBy, statementOf } from "./reading.js";
 import { isLive, newestReceipt, readReceipt, toldOfReceipts, whyDead } from "./papers.js";
 import { receiptSheet } from "./receipt.js";
 import { REDEEM } from "./redeem.js";
-import { askBook, askHeld, current } from "./session.js";
+import { askBook, askHeld, current, refuseOther } from "./session.js";
 
 const ONE = "That is no whole receipt, or more than one. Scan or type one at a time.";
-const CLOSED = "The book was closed meanwhile, so nothing was sent.";
 const ANOTHER = "Another pledge was opened meanwhile, so the receipt is not shown: “Print the receipt again” shows it.";
 
 /** The pledge that is shown, and what the forms of its commands use. */
@@ -38,12 +38,13 @@ class Desk {
    * `paper` is a receipt that was found live, until another pledge is looked at; `fresh` a statement that was read just
    * before its pledge is shown; `message` what is said of a pledge once it is shown; `drawn` the number whose forms are
    * on the page; `wanted` the number that was asked for last; `sought` the one that the form of the search found;
-   * `lostRedemptions`, by their receipts, what was paid by redemptions whose replies were lost.
+   * `lostRedemptions`, by their receipts, what was paid by redemptions whose replies were lost; `saidOn` the day on which
+   * the notice was filled; `ofReceipt` what was said last of a receipt that was found.
    */
   forget() {
     Object.assign(this, {
       statement: null, drawn: null, paper: null, fresh: null, message: null, isDrawnByBook: false, wanted: null,
-      sought: null, lostRedemptions: new Map(),
+      sought: null, lostRedemptions: new Map(), saidOn: null, ofReceipt: null,
     });
     tell(this.notice, "");
   }
@@ -52,14 +53,14 @@ class Desk {
     return this.statement.number;
   }
 
-  /** What the book has of the pledge beside its statement. */
+  /** What the book has of the pledge and its statement lacks. */
   get known() {
     return ledger.known(this.number);
   }
 
   /** The present statement of the pledge. */
   async read(number = this.number) {
-    const statement = await statementOf(number);
+    const statement = await statementOf(number, this.session);
     if (statement === null) throw refusalOf("NoSuchPledge");
     return statement;
   }
@@ -73,31 +74,33 @@ class Desk {
   }
 
   /** Throws where the book of the forms is not the one that is open now. */
-  async refuseOtherBook() {
-    if (this.session !== current()) throw new Outdated(CLOSED);
+  refuseOtherBook() {
+    refuseOther(this.session);
   }
 
   /** Asks for a command on the pledge. */
-  async command(name, body, harmless) {
-    await this.refuseOtherBook();
-    return askBook("POST", `/pledges/${this.number}/${name}`, { body, harmless });
+  command(name, body, harmless) {
+    return askBook("POST", `/pledges/${this.number}/${name}`, { body, harmless, begun: this.session });
   }
 
-  async redeem(receipt, paid) {
-    await this.refuseOtherBook();
-    return askHeld(receipt, "/redeem", { body: { paid }, harmless: false });
+  redeem(receipt, paid) {
+    return askHeld(receipt, "/redeem", { body: { paid }, harmless: false, begun: this.session });
   }
 
   held(receipt) {
-    return heldBy(receipt);
+    return heldBy(receipt, this.session);
+  }
+
+  whyDead(receipt) {
+    return whyDead(receipt, this.session);
   }
 
   isLive(receipt) {
-    return isLive(receipt, this.number);
+    return isLive(receipt, this.number, this.session);
   }
 
   newestReceipt() {
-    return newestReceipt(this.number);
+    return newestReceipt(this.number, this.session);
   }
 
   toldOfReceipts() {
@@ -133,7 +136,7 @@ class Desk {
     if (focused === this.notice) focused.focus({ preventScroll: true });
   }
 
-  /** Draws the form that reckons, with the day that was typed. */
+  /** Draws the form that computes what will be owed, with the day that was typed. */
   drawReckoning() {
     const place = byId("owed-on");
     const typed = place.querySelector("[name=day]")?.value;
@@ -172,7 +175,8 @@ class Desk {
     let said;
     this.actingOn = number;
     const fault = await run({
-      notice: line, within: byId("commands"), reader: "broker", act: async () => { said = await act(); return said; },
+      notice: line, within: byId("commands"), reader: "broker", about: number,
+      act: async () => { said = await act(); return said; },
     });
     if (this.actingOn === number) this.actingOn = null;
     if (session !== current()) return;
@@ -190,16 +194,15 @@ class Desk {
       this.sayElsewhere(number, { said, fault });
       return;
     }
+    this.saidOn = today();
     sayAfter({ within: byId("commands"), notice: this.notice, title: place, fields, said, fault, reader: "broker" });
   }
 
   /** Reports the result of an act above all parts, where its pledge is not the one that is shown. */
   sayElsewhere(number, { said, fault }) {
-    const line = byId("elsewhere");
     const { text, tone } = outcomeOf({ said, fault, reader: "broker" });
     if (text === "") return;
-    tell(line, `: ${text}`, tone);
-    line.prepend(make("a", { href: `#pledge=${number}` }, `Pledge ${number}`));
+    sayElsewhere({ hash: `#pledge=${number}`, name: `Pledge ${number}`, text, tone });
     this.read(number).then((found) => ledger.mend(found), () => ledger.anotherChanged());
   }
 
@@ -207,12 +210,18 @@ class Desk {
   async showReceipt(receipt, found = null) {
     await ledger.theBook();
     if (ledger.pledge(this.number) === null) await ledger.awaitReading();
+    this.refuseOtherBook();
     const { known } = this;
     if (!known.terms) throw new Error("the book does not have the pledge’s terms");
     if (this.wanted !== this.number || this.statement?.number !== this.number) throw new Outdated(ANOTHER);
     const statement = found ?? this.statement;
     byId("new-receipt").replaceChildren(receiptSheet({ statement, receipt, known }));
     byId("new-receipt").scrollIntoView();
+  }
+
+  /** Takes away what was said on another day, or of a receipt: it names what was owed then. */
+  clearOld() {
+    if (this.saidOn !== today() || this.notice.textContent === this.ofReceipt) tell(this.notice, "");
   }
 
   /** Says what was to be said once the pledge is shown; else the pledge that was found has the focus. */
@@ -225,6 +234,7 @@ class Desk {
     this.message = null;
     const details = said.fold && foldOf(byId("commands"), said.fold);
     if (details) details.open = true;
+    [this.saidOn, this.ofReceipt] = [today(), said.message];
     tell(this.notice, said.message, said.tone);
     this.notice.focus();
     tellLater(this.notice, said);
@@ -312,10 +322,10 @@ export async function showPledge(detail) {
   }
   const number = Number(detail);
   desk.wanted = number;
-  if (byId("elsewhere").querySelector("a")?.hash === `#pledge=${number}`) tell(byId("elsewhere"), "");
   // What was searched for does not stay above another pledge.
   if (desk.sought !== number && !byId("finding").contains(document.activeElement)) byId("finding").reset();
   if (desk.message?.number !== number) desk.message = null;
+  if (desk.message === null && desk.actingOn !== number) desk.clearOld();
   if (desk.paper && numberOf(desk.paper) !== number) desk.paper = null;
   if (desk.statement?.number !== number) {
     byId("new-receipt").replaceChildren();

@@ -1,4 +1,7 @@
-/** What the service returns for one pledge just now, whatever the book in the page has. */
+/**
+ * What the service returns for one pledge just now, whatever the book in the page has. `begun` is the session of an act
+ * that may have begun in another book.
+ */
 import { CODES, isRefusal } from "../shared/codes.js";
 import { readStatement } from "../shared/statement.js";
 import { askBook, askHeld } from "./session.js";
@@ -14,7 +17,8 @@ async function orNull(asked, code) {
 }
 
 /** The statement of a pledge, or null where the book has none of that number. */
-export const statementOf = (number) => orNull(askBook("GET", `/pledges/${number}`), CODES.NoSuchPledge);
+export const statementOf = (number, begun) =>
+  orNull(askBook("GET", `/pledges/${number}`, { begun }), CODES.NoSuchPledge);
 
 /** What a receipt opens, or null where it is not live. */
-export const heldBy = (receipt) => orNull(askHeld(receipt, ""), CODES.NoSuchReceipt);
+export const heldBy = (receipt, begun) => orNull(askHeld(receipt, "", { begun }), CODES.NoSuchReceipt);

@@ -1,10 +1,11 @@
 /** A receipt on paper: one page of A5, with the square code of the pawnor's link. */
-import { inShort, inWords } from "../shared/days.js";
+import { inShort, inWords, today } from "../shared/days.js";
 import { facts, foreign, make } from "../shared/dom.js";
 import { inPounds } from "../shared/money.js";
 import { pictureOf } from "../shared/qr.js";
 import { linkTo } from "../shared/receipts.js";
 import { isOpen } from "../shared/statuses.js";
+import { agreedFact, endInWords } from "../shared/summary.js";
 import { interestInWords, keepingInWords } from "../shared/terms.js";
 import { current } from "./session.js";
 import { shop } from "./shop.js";
@@ -12,20 +13,29 @@ import { shop } from "./shop.js";
 /** What the bearer of the paper can do with it, while the article can be redeemed and after. */
 const CARE = "Keep this paper safe. Anyone who has it can redeem the pledge. If it is lost, tell the shop at once: "
   + "a new receipt makes this one worthless.";
-const SPENT = "The pledge can’t be redeemed any more. This paper shows what became of it.";
+const SPENT = "The pledge can’t be redeemed any more. The link above shows what became of it.";
 
 const codeOf = (link) => make(
   "figure", {}, pictureOf(link, "The square code of the link below"),
   make("figcaption", {}, "Point a telephone’s camera here to see the pledge."),
 );
 
-function factsOf({ kind, credit, taken, ends }, { fiveDays, agreed, terms }) {
+/** The credit; and once something was repaid or drawn, what is still lent on the day of printing. */
+function creditFacts({ kind, credit, entries, owed, closing }) {
+  const isFirst = entries.length === 0;
+  const name = kind === "running" ? "Credit up to" : isFirst ? "Lent" : "Lent at first";
+  const rest = isFirst || !owed || closing ? [] : [[`Lent and not repaid on ${inShort(today())}`, inPounds(owed.principal)]];
+  return [[name, inPounds(credit)], ...rest];
+}
+
+function factsOf(statement, { fiveDays, agreed, terms }) {
+  const { taken } = statement;
   return facts([
-    [kind === "fixed" ? "Lent" : "Credit up to", inPounds(credit)],
+    ...creditFacts(statement),
     ["Taken on", inWords(taken)],
-    ["Period ends on", inWords(ends)],
+    ["Period ends on", endInWords(statement, { agreed })],
     ["Days of grace after it", fiveDays ? "Five" : "None"],
-    ["Agreed end", agreed ? inShort(agreed) : "None: six months"],
+    agreedFact(statement, agreed),
     ["Interest", interestInWords(terms)],
     ["Safe keeping", keepingInWords(terms)],
   ]);
@@ -49,7 +59,7 @@ function headOf(number, reference) {
 
 /**
  * The receipt of a pledge, with a button that prints it: by its statement, the receipt's text, and what the book has
- * of the pledge beside its statement.
+ * of the pledge and its statement lacks.
  */
 export function receiptSheet({ statement, receipt, known }) {
   const { name, till } = shop();

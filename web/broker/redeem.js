@@ -2,7 +2,7 @@
  * Redemption by the paper, at the counter: the receipt is looked at, the amount is compared with what is owed, and it
  * is asked once more.
  */
-import { refusalOf } from "../shared/codes.js";
+import { CODES, isRefusal, refusalOf } from "../shared/codes.js";
 import { inWords } from "../shared/days.js";
 import { make } from "../shared/dom.js";
 import { CHANGED, Lost, lookFirst, Outdated } from "../shared/faults.js";
@@ -12,7 +12,7 @@ import { confirmed, NOTHING_DONE } from "../shared/questions.js";
 import { numberOf } from "../shared/receipts.js";
 import { isOpen } from "../shared/statuses.js";
 import { Unreadable } from "../shared/unreadable.js";
-import { readReceipt, whyDead } from "./papers.js";
+import { readReceipt } from "./papers.js";
 
 export const REDEEM = "Redeem by the paper";
 const ONE = "Scan or type the one receipt that the customer brings, or the link of its code.";
@@ -29,8 +29,20 @@ function receiptOf(typed, number) {
 async function look(desk, receipt) {
   const held = await lookFirst(desk.held(receipt));
   if (held !== null) return held;
-  const { sentence, later } = await whyDead(receipt);
+  const { sentence, later } = await desk.whyDead(receipt);
   throw new Unreadable(sentence, "receipt", later);
+}
+
+/**
+ * The same once the question was answered. Somebody else may have redeemed the pledge while it was open, and the
+ * service's refusal would not show that it was not this press.
+ */
+async function lookAgain(desk, receipt) {
+  try {
+    await look(desk, receipt);
+  } catch (fault) {
+    throw fault instanceof Unreadable ? new Outdated(fault.message, "receipt") : fault;
+  }
 }
 
 /** Throws where the pledge can't be redeemed now for what was paid; `shown` is its statement as the page shows it. */
@@ -43,8 +55,8 @@ function compare({ status, owed, held }, paid, shown) {
   throw new Outdated(`${CHANGED} ${wrong}`, "amount");
 }
 
-const question = (number, paid) => confirmed({
-  title: `Redeem pledge ${number}?`,
+const question = (held, paid) => confirmed({
+  title: `Redeem pledge ${held.number}?`, about: held,
   lines: [
     `${inPounds(paid)} was received, and the customer gave you the receipt.`,
     "The article goes to the customer. The pledge is closed, and the receipt is worth nothing any more. "
@@ -71,6 +83,17 @@ async function settleLost(desk, receipt, paid) {
   return { sentence: (after ? NOT_SO_FAR : UNSEEN) + AGAIN, tone: "bad" };
 }
 
+/**
+ * The receipt was live just before, and is dead now. A browser sends a request twice by itself if it uses a connection
+ * again and no byte of the reply comes: then the first one has redeemed the pledge, and this is the reply to the second.
+ */
+async function settleDead(desk, fault, paid) {
+  const after = await desk.read().catch(() => { throw fault; });
+  if (after.status !== "redeemed" || after.closing.paid !== paid) throw fault;
+  return `The pledge is redeemed for ${inPounds(paid)}: most likely by this press, which the browser sent twice. `
+    + "If nobody else redeemed it just now, hand out the article, and keep the receipt.";
+}
+
 /** What is said where an earlier press, whose reply was lost, has redeemed the pledge by this receipt; or null. */
 async function doneBefore(desk, receipt) {
   const paid = desk.lostRedemptions.get(receipt);
@@ -88,12 +111,14 @@ async function redeem(fields, statement, desk) {
   const held = await look(desk, receipt);
   const paid = readPounds(fields.amount);
   compare(held, paid, statement);
-  if (!await question(statement.number, paid)) return NOTHING_DONE;
+  if (!await question(held, paid)) return NOTHING_DONE;
+  await lookAgain(desk, receipt);
   try {
     const { said } = await desk.redeem(receipt, paid);
     return done({ day: said.redeemed, paid: said.paid });
   } catch (fault) {
     if (fault instanceof Lost) return settleLost(desk, receipt, paid);
+    if (isRefusal(fault, CODES.NoSuchReceipt)) return settleDead(desk, fault, paid);
     throw fault;
   }
 }

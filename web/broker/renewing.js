@@ -2,24 +2,29 @@
  * Renewing in one step: the charges of today are received, the period is extended, and the receipt is printed with its
  * new end. They are two changes of the service, so the result of each is reported.
  */
+import { refusalOf } from "../shared/codes.js";
 import { countDays, daysBetween, inWords, sixMonthsAfter, today } from "../shared/days.js";
 import { make } from "../shared/dom.js";
-import { CHANGED, Lost, lookFirst, NotReached, Outdated } from "../shared/faults.js";
+import { CHANGED, Lost, lookFirst, Outdated, Refused } from "../shared/faults.js";
 import { buttons, field } from "../shared/forms.js";
 import { inPounds } from "../shared/money.js";
 import { recordEntry } from "../shared/payments.js";
-import { confirmed, NOTHING_DONE } from "../shared/questions.js";
-import { checkEnd, endLines } from "./extending.js";
+import { confirmed, NEW_DAY, NOTHING_DONE } from "../shared/questions.js";
+import { checkEnd, endLines, sendEnd } from "./extending.js";
+
+/** The refusals of a pledge that is over; any other is out of its period. */
+const REFUSED = { passed: "Passed", redeemed: "Closed", sold: "Closed" };
 
 /** The question about both, with what is owed just now. */
-const question = (now, until) => confirmed({
-  title: "Renew this pledge?",
+const question = (now, until, isNewDay) => confirmed({
+  title: "Renew this pledge?", about: now,
   lines: [
+    isNewDay ? NEW_DAY : null,
     now.owed.charges > 0
       ? `${inPounds(now.owed.charges)} of interest and safe keeping was received.`
       : "No charges are owed today.",
     `${inPounds(now.owed.principal)} stays lent.`,
-    ...endLines(now.ends, until),
+    ...endLines(now, until),
   ],
   yes: now.owed.charges > 0
     ? `Receive ${inPounds(now.owed.charges)}, and extend by ${countDays(daysBetween(now.ends, until))}`
@@ -49,22 +54,51 @@ async function showPaper(desk) {
   }
 }
 
-async function renew({ until }, shown, desk) {
-  const now = await lookFirst(desk.read());
-  checkEnd(until, shown, now);
-  if (now.owed.owing !== shown.owed.owing) throw new Outdated(
+/** Why the second change was not made, or perhaps not. */
+function whyNotExtended(fault) {
+  if (fault instanceof Outdated) return "the book was closed meanwhile";
+  return fault instanceof Refused ? "the service refused it" : "the service did not answer";
+}
+
+/** Throws where the pledge can't be renewed now, or where it is not as it was when `before` was read. */
+function compare(until, before, now, isNewDay) {
+  if (now.status !== "inside") throw refusalOf(REFUSED[now.status] ?? "PeriodOver");
+  checkEnd(until, before, now);
+  const isSame = isNewDay ? now.entries.length === before.entries.length : now.owed.owing === before.owed.owing;
+  if (!isSame) throw new Outdated(
     `${CHANGED} ${inPounds(now.owed.owing)} is owed now. Look at the pledge, and renew it again.`,
   );
-  if (!await question(now, until)) return NOTHING_DONE;
+}
+
+/**
+ * Asks until the answer is of the day on which the charges are received: a day adds its own. Returns the pledge as it
+ * was asked about, or null if the answer was no.
+ */
+async function agreedTo(until, shown, desk) {
+  let before = shown;
+  for (let day = null; ;) {
+    const isNewDay = day !== null;
+    day = today();
+    const now = await lookFirst(desk.read());
+    compare(until, before, now, isNewDay);
+    if (!await question(now, until, isNewDay)) return null;
+    if (day === today()) return now;
+    before = now;
+  }
+}
+
+async function renew({ until }, shown, desk) {
+  const now = await agreedTo(until, shown, desk);
+  if (now === null) return NOTHING_DONE;
   const stopped = await receive(now, desk);
   if (stopped) return { ...stopped, sentence: `${stopped.sentence} The period was not extended.` };
   const received = now.owed.charges > 0 ? `${inPounds(now.owed.charges)} of charges was received. ` : "";
   try {
-    const { said } = await desk.command("extend", { until }, true);
-    return `${received}The period ends on ${inWords(said.ends)}.${await showPaper(desk)}`;
+    const ended = await sendEnd(until, desk);
+    return `${received}${ended}${await showPaper(desk)}`;
   } catch (fault) {
     const isSure = !(fault instanceof Lost);
-    const why = fault instanceof NotReached || !isSure ? "the service did not answer" : "the service refused it";
+    const why = whyNotExtended(fault);
     return {
       sentence: `${received}The period was ${isSure ? "not" : "perhaps not"} extended: ${why}. `
         + "Look at the end above, and extend it by itself.",

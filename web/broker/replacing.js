@@ -5,17 +5,24 @@ import { Lost } from "../shared/faults.js";
 import { buttons } from "../shared/forms.js";
 import { SMALL } from "../shared/period.js";
 import { confirmed, NOTHING_DONE } from "../shared/questions.js";
+import { isOpen } from "../shared/statuses.js";
 import { ledger } from "./ledger.js";
 import { current } from "./session.js";
 
 const lead = (text) => make("p", { className: "lead" }, text);
 
-async function printAgain(desk) {
+/** What the second paper means: until the pledge is over, either can redeem it. */
+const linesOf = ({ status }) => (isOpen(status)
+  ? [
+    "It is the same receipt, so both papers open the pledge, and anyone who has either can redeem it.",
+    "Print it only for a customer whom you know to have none, or whose paper is spoilt. Where the paper is lost, "
+      + "make a new receipt in its place.",
+  ]
+  : ["It is the same receipt. Both papers show what became of the pledge. It can’t be redeemed any more."]);
+
+async function printAgain(statement, desk) {
   const yes = await confirmed({
-    title: "Print the receipt again?",
-    lines: ["It is the same receipt, so both papers open the pledge, and anyone who has either can redeem it.",
-      "Print it only for a customer whom you know to have none, or whose paper is spoilt. Where the paper is lost, "
-        + "make a new receipt in its place."],
+    title: "Print the receipt again?", about: statement, lines: linesOf(statement),
     yes: "Print it again", no: "Not now",
   });
   if (!yes) return NOTHING_DONE;
@@ -32,7 +39,7 @@ export const printing = (statement, desk) => ({
     lead("The same receipt once more. You are asked before it is shown."),
     buttons(make("button", { className: "plain" }, "Print the receipt again")),
   ],
-  act: () => printAgain(desk),
+  act: () => printAgain(statement, desk),
 });
 
 /** After a lost reply the book shows whether a new receipt was made. */
@@ -47,8 +54,9 @@ const UNSEEN = "A new receipt was made, but could not be looked at just now, so 
 
 /** Shows a receipt that was made just now, if it is live. */
 async function showNew(receipt, paper, desk) {
-  ledger.addReceipt(receipt, paper);
   try {
+    desk.refuseOtherBook();
+    ledger.addReceipt(receipt, paper);
     if (!await desk.isLive(receipt)) return { sentence: OVERTAKEN, tone: "bad" };
     await desk.showReceipt(receipt);
     return "A new receipt is below. Print it: the old one is worth nothing.";
@@ -57,7 +65,10 @@ async function showNew(receipt, paper, desk) {
   }
 }
 
-/** By its book and pledge: how many receipts the book told of before a declaration whose reply was lost; null if it told none. */
+/**
+ * By book and pledge: how many receipts the copy of the book had before a declaration whose reply was lost; null if the
+ * book was not read yet.
+ */
 const lost = new Map();
 
 const placeOf = (number) => `${current().book}/${number}`;
@@ -73,30 +84,33 @@ const LOST_BEFORE = "The reply to the press before was lost, so a new receipt ma
  */
 async function madeBefore(desk) {
   const { number } = desk;
-  const before = lost.get(placeOf(number)) ?? null;
+  const place = placeOf(number);
+  const before = lost.get(place) ?? null;
   if (before === null) return null;
   await ledger.readAgain();
+  desk.refuseOtherBook();
   if (receiptsOf(number) <= before) return null;
   const receipt = await desk.newestReceipt();
   if (receipt === null) return null;
   await desk.showReceipt(receipt);
-  lost.delete(placeOf(number));
+  lost.delete(place);
   return `${MADE_ALREADY}It is below. ${desk.toldOfReceipts()}`;
 }
 
-async function declare({ paper }, { credit }, desk) {
+async function declare({ paper }, statement, desk) {
   const { number } = desk;
-  if (paper === "written" && credit > SMALL) throw refusalOf("NotSmall");
+  const place = placeOf(number);
+  if (paper === "written" && statement.credit > SMALL) throw refusalOf("NotSmall");
   const made = await madeBefore(desk);
   if (made) return made;
   const before = paper === "sworn"
     ? "You have the sworn declaration before you."
     : "You have the written statement before you.";
   const yes = await confirmed({
-    title: "Make a new receipt?",
+    title: "Make a new receipt?", about: statement,
     lines: [
       "The receipt that the pawnor had is worth nothing from then on, no matter who has it.", before,
-      ...(lost.has(placeOf(number)) ? [LOST_BEFORE] : []),
+      ...(lost.has(place) ? [LOST_BEFORE] : []),
     ],
     yes: "Make a new receipt", no: "Not now",
   });
@@ -107,10 +121,10 @@ async function declare({ paper }, { credit }, desk) {
     receipt = (await desk.command("declare", { paper }, false)).said.receipt;
   } catch (fault) {
     if (!(fault instanceof Lost)) throw fault;
-    lost.set(placeOf(number), count);
+    lost.set(place, count);
     return { sentence: LOST, tone: "bad" };
   }
-  lost.delete(placeOf(number));
+  lost.delete(place);
   return showNew(receipt, paper, desk);
 }
 

@@ -1,10 +1,10 @@
 /** The sale of an article whose period is over. */
-import { refusalOf } from "../shared/codes.js";
+import { CODES, isRefusal, refusalOf } from "../shared/codes.js";
 import { inWords } from "../shared/days.js";
 import { make } from "../shared/dom.js";
 import { Lost, lookFirst } from "../shared/faults.js";
 import { buttons, field } from "../shared/forms.js";
-import { inPounds, readPounds } from "../shared/money.js";
+import { inPounds, MOST, readPounds } from "../shared/money.js";
 import { firstDayAfter, willPass } from "../shared/period.js";
 import { confirmed, NOTHING_DONE } from "../shared/questions.js";
 
@@ -42,18 +42,31 @@ async function settleLost(desk, fault) {
   throw fault;
 }
 
+/**
+ * The pledge could be sold just before, and is closed now: by another till, or by this press, which a browser sends twice
+ * by itself if it uses a connection again and no byte of the reply comes.
+ */
+async function settleClosed(desk, fault, net) {
+  const after = await desk.read().catch(() => { throw fault; });
+  if (after.status !== "sold" || after.closing.net !== net) throw fault;
+  return `${done(after.closing)} Most likely the browser sent this press twice; the sale is recorded once.`;
+}
+
 /** What the service answers to a sale where the pledge was closed, or has passed. */
 const REFUSED = { passed: "Passed", redeemed: "Closed", sold: "Closed" };
 
 async function sell({ amount }, desk) {
   const net = readPounds(amount);
-  const { status, owed } = await lookFirst(desk.read());
+  if (net > MOST) throw refusalOf("BadAmount");
+  const now = await lookFirst(desk.read());
+  const { status, owed, held } = now;
   if (status !== "realisable") throw refusalOf(REFUSED[status] ?? "NotRealisable");
   const yes = await confirmed({
-    title: "Record the sale?",
+    title: "Record the sale?", about: now,
     lines: [
       `The article was sold, and ${inPounds(net)} is left after the costs of the sale.`,
       owed ? `${inPounds(owed.owing)} is owed today. ${outcome(net, owed.owing)}` : null,
+      held ? "The pledge is on hold: find out why before the article is sold." : null,
       "The pledge is closed by it. It can’t be taken back.",
     ],
     yes: `Sold for ${inPounds(net)}`, no: "Not now",
@@ -63,6 +76,7 @@ async function sell({ amount }, desk) {
     return done((await desk.command("sell", { net }, false)).said);
   } catch (fault) {
     if (fault instanceof Lost) return settleLost(desk, fault);
+    if (isRefusal(fault, CODES.Closed)) return settleClosed(desk, fault, net);
     throw fault;
   }
 }

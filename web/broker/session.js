@@ -1,11 +1,13 @@
 /** The open book: its number and its key, kept for this tab alone. */
 import { ask } from "../shared/api.js";
+import { Outdated } from "../shared/faults.js";
 import { isBook, plain } from "../shared/receipts.js";
 import { Unreadable } from "../shared/unreadable.js";
 
 const KEPT = "broker";
 const DIGITS = 32;
 const NO_DIGIT = /[^0-9a-f]/i;
+const CLOSED = "The book was closed before this was sent, so it was not done.";
 let session = JSON.parse(sessionStorage.getItem(KEPT) ?? "null");
 
 /** The session, or null where no book is open. */
@@ -35,15 +37,25 @@ export function end() {
   sessionStorage.removeItem(KEPT);
 }
 
-/** Asks for the open book. A body is a text, or what is sent as JSON; the rest is that of `ask`. */
-export function askBook(method, what, { body, importKey, ...more } = {}) {
+/** Throws where the book of an act that began before is not the one that is open now. */
+export function refuseOther(begun) {
+  if (begun === null || begun !== session) throw new Outdated(CLOSED);
+}
+
+/**
+ * Asks for the open book. A body is a text, or what is sent as JSON; `begun` is the session in which the act began, if
+ * that may be another one; the rest is that of `ask`.
+ */
+export async function askBook(method, what, { body, importKey, begun = session, ...more } = {}) {
+  refuseOther(begun);
   const fields = { "Pledge-Key": session.key, ...(importKey && { "Import-Key": importKey }) };
   const sent = body === undefined || typeof body === "string" ? body : JSON.stringify(body);
   return ask({ method, path: `/books/${session.book}${what}`, fields, body: sent, ...more });
 }
 
 /** Asks for the open book as the bearer of a receipt does, who needs no key. */
-export function askHeld(receipt, what, { body, harmless } = {}) {
+export async function askHeld(receipt, what, { body, harmless, begun = session } = {}) {
+  refuseOther(begun);
   const method = what === "" ? "GET" : "POST";
   const fields = { "Pledge-Receipt": receipt };
   const path = `/books/${session.book}/held${what}`;

@@ -5,6 +5,8 @@
 import { byId } from "../shared/dom.js";
 import { onSend } from "../shared/forms.js";
 import { LARGE, readPounds } from "../shared/money.js";
+import { isReceiptLike } from "../shared/receipts.js";
+import { Unreadable } from "../shared/unreadable.js";
 import { keep, kept } from "./kept.js";
 
 const NONE = { name: "", address: "", till: "", ask: "" };
@@ -21,9 +23,16 @@ export function keepShop(said) {
   keep("shop", { ...shop(), ...Object.fromEntries(trimmed) });
 }
 
+/** A scanner types into the field that has the focus. A receipt there would be printed on the papers of others. */
+export function refuseReceipts(texts) {
+  const [field] = Object.entries(texts).find(([, text]) => isReceiptLike(text)) ?? [];
+  if (field) throw new Unreadable("That is a receipt, which would be printed on other papers. Clear the field.", field);
+}
+
 export function setUpShop(changed) {
   onSend(byId("shop-form"), "broker", async ({ name, address, till, ask }) => {
     if (ask.trim()) readPounds(ask, "ask");
+    refuseReceipts({ name, address, till });
     keepShop({ name, address, till, ask });
     changed();
     return "Kept in this browser. Receipts that are printed from now on have it.";

@@ -5,10 +5,13 @@ import { stateInWords } from "../shared/states.js";
 import { Unreadable } from "../shared/unreadable.js";
 import { ledger } from "./ledger.js";
 import { statementOf } from "./reading.js";
+import { current, refuseOther } from "./session.js";
 
 /** Shows which pledge has a reference, since when, and its status, and says so. */
 export async function tellStanding(number, reference) {
+  const begun = current();
   const statement = await statementOf(number);
+  refuseOther(begun);
   const link = make("a", { href: `#pledge=${number}`, className: "pledge-link" }, `Open pledge ${number}`);
   byId("taken-receipt").replaceChildren(make("section", { className: "card screen" },
     make("h2", {}, "This reference is in use already"),

@@ -9,12 +9,20 @@ const MORE = 100;
 export const pledgeLink = (number) =>
   make("a", { href: `#pledge=${number}`, className: "pledge-link" }, `Pledge ${number}`);
 
-/** A pledge's article with its reference under it, as a cell. */
-export const articleCell = ({ article, reference }) =>
-  make("td", { className: "article" }, foreign(article), make("span", { className: "reference" }, foreign(reference)));
+/** A pledge's article with its reference under it, and whether the pledge is on hold, as a cell. */
+export const articleCell = ({ article, reference, held, state }) => make(
+  "td", { className: "article" }, foreign(article), make("span", { className: "reference" }, foreign(reference)),
+  held && state === "open" ? make("strong", { className: "reference" }, "On hold") : null,
+);
 
 export const numberCell = ({ number }) =>
   make("td", {}, make("a", { href: `#pledge=${number}`, className: "pledge-link" }, String(number)));
+
+/** A row whose cells have their heads: on a narrow screen the cells are one under the other. */
+export function labelled(row, heads) {
+  [...row.cells].forEach((cell, place) => { cell.dataset.head = heads[place]; });
+  return row;
+}
 
 /**
  * A section with a table: its title, its heads, its items with what makes a row of one, what is said where there are
@@ -31,7 +39,7 @@ export function section({ title, heads, items, row, empty, count = String(items.
   const draw = (most) => {
     const shown = Math.min(most, items.length);
     while (body.rows.length > shown) body.lastChild.remove();
-    body.append(...items.slice(body.rows.length, shown).map(row));
+    body.append(...items.slice(body.rows.length, shown).map((item) => labelled(row(item), heads.map(([head]) => head))));
     more.hidden = shown === items.length;
     more.textContent = `Show ${Math.min(MORE, items.length - shown)} more of ${items.length - shown}`;
   };

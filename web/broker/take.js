@@ -5,18 +5,20 @@
 import { CODES, isRefusal, refusalOf } from "../shared/codes.js";
 import { inShort, inWords, sixMonthsAfter, today } from "../shared/days.js";
 import { byId, foreign, make } from "../shared/dom.js";
-import { Lost, lookFirst, Outdated } from "../shared/faults.js";
+import { Lost, lookFirst } from "../shared/faults.js";
 import { fieldsOf, fillAgain, onSend, tell } from "../shared/forms.js";
 import { inPounds, MOST, readPounds } from "../shared/money.js";
-import { confirmed, NOTHING_DONE } from "../shared/questions.js";
+import { confirmed, NEW_DAY, NOTHING_DONE } from "../shared/questions.js";
 import { isReceiptLike } from "../shared/receipts.js";
+import { termsInWords } from "../shared/terms.js";
 import { folded, readText } from "../shared/texts.js";
 import { Unreadable } from "../shared/unreadable.js";
+import { isLong, loudLine } from "./extending.js";
 import { ledger } from "./ledger.js";
 import { openReceipt } from "./pledge.js";
 import { statementOf } from "./reading.js";
 import { nextReference } from "./references.js";
-import { askBook, current } from "./session.js";
+import { askBook, current, refuseOther } from "./session.js";
 import { refuseStanding } from "./standing.js";
 import { settle } from "./taken.js";
 
@@ -82,16 +84,19 @@ function refuseAmount({ pence }) {
   if (pence === 0 || pence > MOST) throw refusalOf("BadAmount");
 }
 
-/** Asks, and shows all that will be entered, since nothing of it can be changed. */
-function agreedTo({ article, ref, kind, pence, agreed, five_days: fiveDays }) {
+/** Asks, and shows all that will be entered, since nothing of it can be changed; `isNewDay` if it was asked before. */
+function askOf({ article, ref, kind, pence, agreed, five_days: fiveDays }, terms, isNewDay) {
   const six = sixMonthsAfter(today());
   const end = agreed && agreed > six ? agreed : six;
   return confirmed({
     title: `Take this pledge for ${inPounds(pence)}?`,
     lines: [
+      isNewDay ? NEW_DAY : null,
       [foreign(article), ", reference ", foreign(ref), "."],
       kind === "fixed" ? `${inPounds(pence)} is lent.` : `A running account up to ${inPounds(pence)}.`,
-      `The period ends on ${inWords(end)}${fiveDays ? ", with five days of grace" : ""}.`,
+      `The period ends on ${inWords(end)}, with ${fiveDays ? "five" : "no"} days of grace.`,
+      isLong(six, end) ? loudLine("That is more than a year after the six months: look at the year again.") : null,
+      terms ? `Interest by version ${terms.version} of the terms: ${termsInWords(terms)}.` : null,
       agreed && agreed <= six
         ? `The agreed end, ${inShort(agreed)}, counts for nothing: six months run to ${inShort(six)}.`
         : null,
@@ -100,6 +105,20 @@ function agreedTo({ article, ref, kind, pence, agreed, five_days: fiveDays }) {
     ],
     yes: `Take it for ${inPounds(pence)}`, no: "Not now",
   });
+}
+
+/**
+ * Asks until the answer is of the day on which the pledge is taken. Returns that day, and the version of the terms that
+ * were shown, or null if none were; or null if the answer was no.
+ */
+async function agreedTo(opening) {
+  for (let day = null; ;) {
+    const isNewDay = day !== null;
+    day = today();
+    const terms = ledger.head?.terms.at(-1);
+    if (!await askOf(opening, terms, isNewDay)) return null;
+    if (day === today()) return { day, version: terms?.version ?? null };
+  }
 }
 
 /** The number of the book's last pledge just now: what is known of it, and what others took since. */
@@ -122,38 +141,42 @@ async function show(sent) {
   return said;
 }
 
+/** The result of an act, with a sentence before it. */
+const after = (front, said) =>
+  (said.sentence ? { ...said, sentence: `${front} ${said.sentence}` } : `${front} ${said}`);
+
 const isEqual = (one, other) => JSON.stringify(one) === JSON.stringify(other);
 
 const AGAIN = "Don’t choose another reference: press the button again. The same is not taken twice, and the receipt is "
   + "shown then.";
 
 /** After a lost reply: the pledge is looked for by its reference in the book, which is read anew. */
-async function findLost({ opening, known, before }) {
+async function findLost({ opening, known, before, asked }, begun) {
   try {
     await ledger.awaitReading();
     if (ledger.withReference(opening.ref).length === 0) await ledger.awaitReading();
+    refuseOther(begun);
   } catch {
+    if (begun !== current()) throw new Lost("no reply");
     return { sentence: `The reply was lost, so the pledge may have been taken. ${AGAIN}`, tone: "bad" };
   }
   const found = ledger.withReference(opening.ref).find(({ number }) => number > known);
   if (!found) return { sentence: `The reply was lost, and the book has no such pledge so far. ${AGAIN}`, tone: "bad" };
   const receipt = `${found.number}-${found.secrets[0].secret}`;
-  const said = await show({ opening, said: { number: found.number, receipt }, known, before });
-  return `The reply was lost, but the pledge was taken. ${said}`;
+  const said = await show({ opening, said: { number: found.number, receipt }, known, before, asked, begun });
+  return after("The reply was lost, but the pledge was taken.", said);
 }
 
-async function send(opening, again, session) {
+async function send(opening, { again, asked, begun }) {
   const known = again?.known ?? await lookFirst(lastNumber());
-  if (session !== current()) throw new Outdated(
-    `Book ${session.book} was closed before the pledge was sent, so it was not taken.`,
-  );
+  refuseOther(begun);
   const before = again?.before ?? ledger.head;
   try {
-    const { said } = await askBook("POST", "/pledges", { body: opening, harmless: true });
+    const { said } = await askBook("POST", "/pledges", { body: opening, harmless: true, begun });
     lost = null;
-    return { opening, said, known, before };
+    return { opening, said, known, before, asked, begun };
   } catch (fault) {
-    if (fault instanceof Lost && session === current()) lost = { opening, known, before };
+    if (fault instanceof Lost && begun === current()) lost = { opening, known, before, asked };
     if (isRefusal(fault, CODES.RefTaken)) ledger.anotherChanged();
     throw fault;
   }
@@ -168,7 +191,7 @@ async function refuseWithoutTerms() {
 }
 
 async function take(fields) {
-  const session = current();
+  const begun = current();
   place().replaceChildren();
   wantsTerms = false;
   for (const typed of [fields.ref, fields.article]) if (isReceiptLike(typed)) return openReceipt(typed);
@@ -177,18 +200,19 @@ async function take(fields) {
   const again = lost && isEqual(lost.opening, opening) ? lost : null;
   await refuseWithoutTerms();
   await refuseStanding(opening.ref, again?.known);
-  if (!again && !await agreedTo(opening)) return NOTHING_DONE;
+  const asked = again ? again.asked : await agreedTo(opening);
+  if (asked === null) return NOTHING_DONE;
   let sent;
   try {
-    sent = await send(opening, again, session);
+    sent = await send(opening, { again, asked, begun });
   } catch (fault) {
     wantsTerms = isRefusal(fault, CODES.NoTerms);
-    if (!(fault instanceof Lost) || session !== current()) throw fault;
-    return findLost(lost);
+    if (!(fault instanceof Lost) || begun !== current()) throw fault;
+    return findLost(lost, begun);
   }
-  if (session !== current()) return {
-    sentence: `Taken as pledge ${sent.said.number} of book ${session.book}, which was closed meanwhile. Open that book `
-      + "to print the receipt.",
+  if (begun !== current()) return {
+    sentence: `Taken as pledge ${sent.said.number}, but the book was closed meanwhile. Open it again to print the `
+      + "receipt.",
     tone: "bad",
   };
   try {
@@ -216,7 +240,7 @@ function warnOfTerms() {
   } else if (!hasNoTerms()) tell(line, "");
 }
 
-/** Says while typing that a reference stands. */
+/** Says, while a reference is typed, that a pledge has it already. */
 function warnStanding() {
   const { value } = form().elements.ref;
   const [standing] = lost && folded(lost.opening.ref) === folded(value) ? [] : ledger.withReference(value);

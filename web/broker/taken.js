@@ -1,8 +1,11 @@
 /** A pledge that was taken just now: it is looked at by its receipt, and the receipt is shown with its terms. */
+import { inWords } from "../shared/days.js";
 import { byId, foreign, make } from "../shared/dom.js";
+import { termsInWords } from "../shared/terms.js";
 import { ledger } from "./ledger.js";
 import { heldBy } from "./reading.js";
 import { receiptSheet } from "./receipt.js";
+import { refuseOther } from "./session.js";
 import { tellStanding } from "./standing.js";
 import { tagOf } from "./tag.js";
 
@@ -41,11 +44,28 @@ function inTurn(receipt, tag) {
   return [turn, receipt, tag];
 }
 
-/** Shows that a pledge was taken, and its receipt. */
-export async function settle({ opening, said, known, before }) {
+/** What was taken, in a sentence; loudly where its day or its terms are not those that were asked about. */
+function toldOf({ number, taken, ends }, terms, asked) {
+  const other = [];
+  if (taken !== asked.day) other.push(
+    ` on ${inWords(taken)}, and not on the day that was asked about: the period ends on ${inWords(ends)}`
+  );
+  if (asked.version !== null && terms.version !== asked.version) other.push(
+    `, under terms that were added since you were asked, version ${terms.version}: ${termsInWords(terms)}`
+  );
+  const sentence = `Taken as pledge ${number}${other.join("")}. Its receipt is ready to print.`;
+  return other.length === 0 ? sentence : { sentence, tone: "bad" };
+}
+
+/**
+ * Shows that a pledge was taken, and its receipt. `asked` is the day and the version of the terms that were asked about,
+ * `begun` the session in which it was taken.
+ */
+export async function settle({ opening, said, known, before, asked, begun }) {
   // The beginning of the book is asked for after that: the service makes the whole book for it, and more of it comes
   // than is wanted, and both would delay what the receipt opens.
-  const held = await heldBy(said.receipt);
+  const held = await heldBy(said.receipt, begun);
+  refuseOther(begun);
   if (!isTakenNow({ held, opening, said, known })) {
     ledger.anotherChanged();
     await tellStanding(said.number, opening.ref);
@@ -54,11 +74,12 @@ export async function settle({ opening, said, known, before }) {
   const stands = make("p", { className: "taken screen" }, link, " is in the book: ", foreign(opening.article), ".");
   byId("taken-receipt").replaceChildren(stands);
   const terms = await termsTaken(said.number, before);
+  refuseOther(begun);
   ledger.addTaken({ opening, statement: held, receipt: said.receipt, version: terms.version });
   const { ref: reference, agreed, five_days: fiveDays } = opening;
   const beside = { reference, agreed, fiveDays, terms };
   byId("taken-receipt").append(
     ...inTurn(receiptSheet({ statement: held, receipt: said.receipt, known: beside }), tagOf(held, beside))
   );
-  return `Taken as pledge ${said.number}. Its receipt is ready to print.`;
+  return toldOf(held, terms, asked);
 }

@@ -1,15 +1,20 @@
 /** The book's terms: the versions that it has, and the next. */
+import { refusalOf } from "../shared/codes.js";
 import { byId, make } from "../shared/dom.js";
-import { Refused } from "../shared/faults.js";
+import { Lost, lookFirst, Refused } from "../shared/faults.js";
 import { onSend, run } from "../shared/forms.js";
 import { inPounds } from "../shared/money.js";
+import { confirmed, NOTHING_DONE } from "../shared/questions.js";
 import { Unreadable } from "../shared/unreadable.js";
 import { ledger } from "./ledger.js";
-import { askBook } from "./session.js";
+import { askBook, current, refuseOther } from "./session.js";
+import { labelled } from "./tables.js";
 
 /** Rates are kept in millionths a day, which is so many places of a per cent; charges in millionths of a penny. */
 const RATE_PLACES = 4;
 const CHARGE_PLACES = 6;
+/** The highest rate and the highest charge that the service takes. */
+const MOST = { rate: 20_000, keeping: 10_000_000 };
 
 let versions = null;
 
@@ -39,20 +44,20 @@ function exampleOf(terms) {
   return `£100.00 for 30 days: ${inPounds(interest)} of interest and ${inPounds(keeping)} for safe keeping.`;
 }
 
+const HEADS = ["Version", "Interest a day", "Keeping a day", "After the end"];
+
 function row({ version, rate, keepBefore, keepAfter }) {
   const cells = [
     String(version), `${inDecimal(rate, RATE_PLACES)}%`, `${inDecimal(keepBefore, CHARGE_PLACES)}p`,
     `${inDecimal(keepAfter, CHARGE_PLACES)}p`,
   ];
-  return make("tr", {}, ...cells.map((cell) => make("td", {}, cell)));
+  return labelled(make("tr", {}, ...cells.map((cell) => make("td", {}, cell))), HEADS);
 }
 
 /** Shows the versions that the book has, by the book's head. */
 function draw() {
   versions = ledger.head.terms;
-  const heads = [
-    "Version", "Interest a day", "Keeping a day", "After the end",
-  ].map((head) => make("th", { scope: "col" }, head));
+  const heads = HEADS.map((head) => make("th", { scope: "col" }, head));
   const table = make(
     "table", { className: "list" }, make("thead", {}, make("tr", {}, ...heads)),
     make("tbody", {}, ...versions.map(row).reverse()),
@@ -65,20 +70,37 @@ function draw() {
 }
 
 async function readAnew() {
+  const begun = current();
   await ledger.readHead();
-  draw();
+  if (begun === current()) draw();
 }
 
-/**
- * Puts the next version. After a lost reply the versions that were read stay, so that the same terms are the same
- * version; after a refusal they are read again.
- */
-async function put(terms) {
+/** Throws where the service takes no such terms, before they are asked about. */
+function refuseTerms({ rate, keep_before: before, keep_after: after }) {
+  if (rate > MOST.rate) throw refusalOf("RateTooHigh");
+  if (before > MOST.keeping) throw refusalOf("KeepTooHigh");
+  if (after > before) throw refusalOf("KeepingRate");
+}
+
+/** A version stays in the book, and each pledge that is taken from then on keeps it, so it is asked about. */
+const agreedTo = (terms, version) => confirmed({
+  title: "Add these terms?",
+  lines: [
+    exampleOf(terms),
+    terms.keep_before > 0 || terms.keep_after > 0
+      ? `Safe keeping: ${inDecimal(terms.keep_before, CHARGE_PLACES)}p a day, after the end `
+        + `${inDecimal(terms.keep_after, CHARGE_PLACES)}p a day.`
+      : null,
+    `They are version ${version}. Each pledge that is taken from now on keeps them, at every till, until other terms `
+      + "are added. A version can’t be changed or taken back.",
+  ],
+  yes: `Add version ${version}`, no: "Not now",
+});
+
+/** Puts the next version. After a refusal the versions of the book are read again. */
+async function put(body, begun) {
   try {
-    const { said } = await askBook(
-      "POST", "/terms", { body: { version: versions.length + 1, ...terms }, harmless: true },
-    );
-    return said.version;
+    await askBook("POST", "/terms", { body, harmless: true, begun });
   } catch (fault) {
     if (fault instanceof Refused) versions = null;
     throw fault;
@@ -96,23 +118,87 @@ function showExample() {
 
 let notice;
 
+const isSame = (one, { version, rate, keep_before: keepBefore, keep_after: keepAfter }) =>
+  one.version === version && one.rate === rate && one.keepBefore === keepBefore && one.keepAfter === keepAfter;
+
+/** After a lost reply the book shows whether the terms were added. */
+async function settleLost(body, begun, done) {
+  try {
+    await readAnew();
+    refuseOther(begun);
+  } catch {
+    if (begun === current()) versions = null;
+    return {
+      sentence: "The reply was lost, so the terms may have been added. Look at the list of terms before you add them "
+        + "again.",
+      tone: "bad",
+    };
+  }
+  if (versions.some((one) => isSame(one, body))) {
+    emptyForm();
+    return `The reply was lost, but the terms were added. ${done}`;
+  }
+  return {
+    sentence: "The reply was lost, and the terms are not in the book so far. Look at the list again in a minute before "
+      + "you add them again.",
+    tone: "bad",
+  };
+}
+
+/** Once more by mistake, the same terms would be another version. */
+function emptyForm() {
+  byId("new-terms").reset();
+  showExample();
+}
+
+async function add(fields) {
+  const begun = current();
+  const terms = readTerms(fields);
+  refuseTerms(terms);
+  if (versions === null) await lookFirst(readAnew());
+  refuseOther(begun);
+  const body = { version: versions.length + 1, ...terms };
+  if (!await agreedTo(terms, body.version)) return NOTHING_DONE;
+  const done = `Version ${body.version} is in the book. It applies to pledges that are taken from now on.`;
+  try {
+    await put(body, begun);
+  } catch (fault) {
+    if (!(fault instanceof Lost)) throw fault;
+    return settleLost(body, begun, done);
+  }
+  if (begun !== current()) return done;
+  emptyForm();
+  try {
+    await readAnew();
+    return done;
+  } catch {
+    versions = null;
+    return `${done} The list above could not be read anew just now.`;
+  }
+}
+
 export function setUpTerms() {
   byId("new-terms").addEventListener("input", showExample);
-  notice = onSend(byId("new-terms"), "broker", async (fields) => {
-    const terms = readTerms(fields);
-    if (versions === null) await readAnew();
-    const version = await put(terms);
-    await readAnew();
-    return `Version ${version} is in the book. It applies to pledges that are taken from now on.`;
-  });
+  notice = onSend(byId("new-terms"), "broker", add);
+}
+
+/** Nothing of one book's terms is left for another. */
+export function clearTerms() {
+  versions = null;
+  byId("terms-example").textContent = "";
 }
 
 /** Shows the terms. They come first in the book, so nothing waits for the rest of it. */
 export function showTerms() {
   const act = async () => {
-    if (ledger.head === null) await ledger.readHead();
-    draw();
+    if (ledger.head === null) await readAnew();
+    else draw();
     return "";
   };
   return run({ notice, within: byId("new-terms"), reader: "broker", act });
+}
+
+/** The same once the book was read again: another till may have added a version. */
+export function redrawTerms() {
+  if (ledger.head !== null) draw();
 }

@@ -1,11 +1,12 @@
 /** The sheet of a day: who comes, who asked to come and waits for an answer, and which periods end. */
 import { inShort, plusDays, seenFrom, today } from "../shared/days.js";
 import { byId, foreign, make } from "../shared/dom.js";
-import { run } from "../shared/forms.js";
+import { run, tell } from "../shared/forms.js";
 import { inPounds } from "../shared/money.js";
 import { readSheet } from "../shared/sheet.js";
 import { termsInWords } from "../shared/terms.js";
 import { windowInWords } from "../shared/windows.js";
+import { clockOf } from "./age.js";
 import { putDay, setUpDayForm, showDayOf } from "./dayform.js";
 import { waiting } from "./groups.js";
 import { ledger } from "./ledger.js";
@@ -19,6 +20,8 @@ const AHEAD = 7;
 
 let notice;
 let sheet = null;
+/** When the sheet that is shown was read. */
+let readAt = 0;
 /** The sheets that were read since this part was gone to, by their days. */
 const sheets = new Map();
 
@@ -33,12 +36,13 @@ function card(title, lines, empty) {
 
 /** What the book has of a pledge: its reference, what is owed, its end with the days of grace, and its terms. */
 function detailOf(pledge) {
-  const { reference, ends, agreed, fiveDays } = pledge;
+  const { reference, ends, agreed, fiveDays, held, state } = pledge;
   const owed = ledger.owed(pledge);
   const terms = ledger.termsOf(pledge);
   const end = `ends ${inShort(ends)}${agreed === ends ? ", as agreed" : ""}`;
   const told = [
-    owed && `${inPounds(owed.owing)} owed today`, `${end}, with ${fiveDays ? "five" : "no"} days of grace`,
+    held && state === "open" && "on hold", owed && `${inPounds(owed.owing)} owed today`,
+    `${end}, with ${fiveDays ? "five" : "no"} days of grace`,
     terms && termsInWords(terms),
   ];
   return make(
@@ -83,7 +87,7 @@ function askedLine({ number, window, day }) {
 function waitingCard() {
   const lines = asked().map(askedLine);
   if (ledger.book !== null) {
-    return card("Waiting for an answer, on any day", lines, "Nobody waits for an answer, as the book was read.");
+    return card("Waiting for an answer, on any day", lines, "Nobody waits for an answer, by the book as it was read.");
   }
   const whole = card("Waiting for an answer, as far as was read", lines, "Nobody asked to come, as far as was read.");
   whole.append(make("p", { className: "empty" }, "Other days, and articles, are shown once the book is read."));
@@ -115,18 +119,45 @@ const hasNews = ({ day, asked: all }) => ledger.book !== null && all.some(({ num
   return booking?.day !== day || booking.window !== window || booking.state !== "asked";
 });
 
+function noteRead() {
+  readAt = Date.now();
+  tell(byId("sheet-old"), "");
+}
+
 async function read(day) {
   const session = current();
   const found = await fetchSheet(day);
   if (session !== current()) return;
   sheet = found;
+  noteRead();
   draw();
   if (hasNews(found)) ledger.anotherChanged();
 }
 
+/** After a look that failed: the sheet of another day goes, and that of this day says when it was read. */
+function showAsOld(day) {
+  if (sheet?.day === day) {
+    tell(byId("sheet-old"), `What is shown was read at ${clockOf(readAt)}.`);
+    return;
+  }
+  clearToday();
+  showDayOf("today", day, { isToday: "Today" });
+}
+
+/** Reads a sheet, and shows it. */
+async function show(day) {
+  const session = current();
+  try {
+    await read(day);
+  } catch (fault) {
+    if (session === current()) showAsOld(day);
+    throw fault;
+  }
+}
+
 /**
- * Looks at the sheet that is shown, and at those of the next days, without a word; what is new in them is drawn. A look
- * that fails leaves what is shown. The sheet that is shown may have been read just now.
+ * Looks at the sheet that is shown, and at those of the next days, without a word; what is new in them is drawn. After a
+ * look that fails, the page says when what it shows was read. The sheet that is shown may have been read just now.
  */
 export async function refreshToday({ isShownRead = false } = {}) {
   if (sheet === null) return;
@@ -137,10 +168,12 @@ export async function refreshToday({ isShownRead = false } = {}) {
   try {
     for (const one of wanted) await fetchSheet(one);
   } catch {
+    if (sheet?.day === day) showAsOld(day);
     return;
   }
   if (sheet?.day !== day) return;
   sheet = sheets.get(day);
+  noteRead();
   draw();
 }
 
@@ -148,17 +181,18 @@ export function clearToday() {
   sheet = null;
   sheets.clear();
   byId("sheet").replaceChildren();
+  tell(byId("sheet-old"), "");
 }
 
 export function setUpToday() {
-  notice = setUpDayForm("today", read);
+  notice = setUpDayForm("today", show);
 }
 
 /** The sheet of the day that the address names, or today's. */
 export async function showToday(day) {
   sheets.clear();
   putDay("today", day ?? today());
-  const act = async () => { await read(day ?? today()); return ""; };
+  const act = async () => { await show(day ?? today()); return ""; };
   const fault = await run({ notice, within: byId("sheet-day"), reader: "broker", act });
   if (fault === null) await refreshToday({ isShownRead: true });
 }

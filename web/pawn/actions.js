@@ -1,10 +1,11 @@
 /** What a pawnor may do with a pledge: ask for a time to come, take that back, pay a part, redeem. */
+import { refusalOf } from "../shared/codes.js";
 import { inWords, seenFrom, today } from "../shared/days.js";
 import { make } from "../shared/dom.js";
-import { Lost } from "../shared/faults.js";
+import { CHANGED, Lost, lookFirst, Outdated } from "../shared/faults.js";
 import { buttons, field, fold } from "../shared/forms.js";
 import { inPounds, readPounds } from "../shared/money.js";
-import { recordEntry } from "../shared/payments.js";
+import { readUnrefused, recordEntry } from "../shared/payments.js";
 import { lastSafeDay } from "../shared/period.js";
 import { confirmed, NOTHING_DONE } from "../shared/questions.js";
 import { reckoningForm } from "../shared/reckoning.js";
@@ -25,12 +26,14 @@ const NOT_NOW = { ...NOTHING_DONE, look: false };
 function agreedToLate({ statement, known }, day) {
   const { ends, status } = statement;
   const last = lastSafeDay({ ends, fiveDays: known.fiveDays ?? status === "grace" });
+  const isGraceKnown = known.fiveDays !== null || status !== "inside";
   if (day <= last) return true;
   return confirmed({
-    title: "Come after the time is over?",
+    title: "Come after the time is over?", about: statement,
     lines: [
       `The time of this pledge is over after ${inWords(last)}. On ${inWords(day)} the article may have been sold, `
-        + `or belong to the shop.`
+        + `or belong to the shop.`,
+      isGraceKnown ? null : "If your paper says that it has days of grace, they last five days more.",
     ],
     yes: "Ask for this day all the same", no: "Choose another day",
   });
@@ -48,19 +51,42 @@ function agreedToOver(day, window) {
   });
 }
 
+/** Whether the pledge has a visit whose day is not over. */
+const stands = ({ booking }) => isToCome(booking) && booking.day >= today();
+
+/** A visit that the shop has confirmed, perhaps since the pledge was shown, is given up only after a question. */
+async function agreedToGiveUp(now, { title, line, yes }) {
+  const { booking } = now;
+  if (!stands(now) || booking.state !== "confirmed") return true;
+  return confirmed({
+    title, about: now, yes, no: "Keep the visit",
+    lines: [`The shop has confirmed your visit on ${inWords(booking.day)}, ${windowInWords(booking.window)}.`, line],
+  });
+}
+
 async function askForVisit(card, { day, window }) {
   if (!day) throw new Unreadable("Choose a day.", "day");
   if (day < today()) throw new Unreadable("That day is over. Choose a later one.", "day");
   if (!await agreedToOver(day, Number(window))) return NOT_NOW;
   if (!await agreedToLate(card, day)) return NOT_NOW;
+  const now = await lookFirst(card.read());
+  const isSame = now.booking?.day === day && now.booking.window === Number(window);
+  if (!isSame && !await agreedToGiveUp(now, {
+    title: "Give up the confirmed visit?", yes: "Ask for the new time",
+    line: "It is given up as soon as you ask for another time, and the shop may refuse the new one.",
+  })) return NOT_NOW;
   const { said } = await card.ask("/ask", { day, window: Number(window) }, true);
   const when = `${inWords(said.day)}, ${windowInWords(said.window)}`;
   if (said.booking === "confirmed") return `The shop has confirmed this time already: ${when}.`;
   return `Asked for ${when}. The shop says yes or no; look here again.`;
 }
 
-/** Whether the pledge has a visit whose day is not over. */
-const stands = ({ booking }) => isToCome(booking) && booking.day >= today();
+function leadOf(statement) {
+  if (!stands(statement)) return "Say when you would like to fetch it. The shop confirms it or not.";
+  return statement.booking.state === "confirmed"
+    ? "A new time replaces your confirmed visit at once. The shop confirms the new time or not."
+    : "A new time replaces the one that you asked for.";
+}
 
 function visitFold(card) {
   const day = make("input", { type: "date", name: "day", min: today(), required: true });
@@ -68,9 +94,7 @@ function visitFold(card) {
     "select", { name: "window" }, ...WINDOWS.map((window) => make("option", { value: window }, windowInWords(window)))
   );
   const standing = stands(card.statement);
-  const lead = standing
-    ? "A new time replaces the one that you asked for."
-    : "Say when you would like to fetch it. The shop confirms it or not.";
+  const lead = leadOf(card.statement);
   const parts = [
     make("p", { className: "lead" }, lead), field("Day", day), field("Time", times),
     buttons(make("button", {}, "Ask for this time")),
@@ -87,6 +111,10 @@ function cancelFold(card) {
     + "You can ask for another.";
   const parts = [make("p", { className: "lead" }, when), buttons(make("button", {}, "Cancel the visit"))];
   return foldOf(card, "Cancel the visit", parts, async () => {
+    if (!await agreedToGiveUp(await lookFirst(card.read()), {
+      title: "Cancel the confirmed visit?", yes: "Cancel the visit",
+      line: "Once it is cancelled, the shop may give its time to another.",
+    })) return NOT_NOW;
     const { said } = await card.ask("/cancel", undefined, true);
     return `The visit is cancelled: ${inWords(said.day)}, ${windowInWords(said.window)}.`;
   });
@@ -94,8 +122,9 @@ function cancelFold(card) {
 
 async function repay(card, { amount }) {
   const pence = readPounds(amount);
+  await readUnrefused(() => card.read(), "repay", pence);
   const yes = await confirmed({
-    title: `Record ${inPounds(pence)} as paid?`,
+    title: `Record ${inPounds(pence)} as paid?`, about: card.statement,
     lines: [
       "This page moves no money. Say yes only where the pawnbroker has received the amount.",
       "If the shop has recorded it already, say no: it would count twice.",
@@ -120,10 +149,20 @@ function repayFold(card) {
   return foldOf(card, "Record a part payment", parts, (fields) => repay(card, fields));
 }
 
+/** Reads the pledge. Throws if it can't be redeemed, or if another sum is owed than is shown. */
+async function readRedeemable(card) {
+  const now = await lookFirst(card.read());
+  if (!isOpen(now.status)) throw refusalOf(now.status === "passed" ? "Passed" : "Closed");
+  if (now.held) throw refusalOf("Held");
+  const { owing } = now.owed;
+  if (owing !== card.statement.owed.owing) throw new Outdated(`${CHANGED} ${inPounds(owing)} is owed now.`);
+  return owing;
+}
+
 async function redeem(card) {
-  const { owing } = card.statement.owed;
+  const owing = await readRedeemable(card);
   const yes = await confirmed({
-    title: "Redeem this pledge?",
+    title: "Redeem this pledge?", about: card.statement,
     lines: [
       `You say that ${inPounds(owing)} has been paid and that the pawnbroker has received it.`,
       "This page moves no money.",
@@ -150,7 +189,7 @@ function redeemFold(card) {
   return foldOf(card, "Redeem", [make("p", { className: "lead" }, lead), buttons(button)], () => redeem(card));
 }
 
-/** What will be owed on another day, where the receipt's link told the terms. */
+/** What will be owed on another day, if the receipt's link contains the terms. */
 function reckoningFold({ statement, known }) {
   const form = reckoningForm({ statement, known, reader: "pawnor" });
   return form && make(

@@ -16,7 +16,8 @@ const OPENS_NOTHING = [CODES.NoSuchReceipt, CODES.NoRoute, CODES.BadReceipt];
 const DEAD = {
   redeemed: [
     "Redeemed, most likely",
-    "The receipt opens nothing any more, as it is when a pledge is redeemed. Ask the shop whether it was done.",
+    "The reply was lost, so this may have been done. The receipt opens nothing any more, as it is when a pledge is "
+      + "redeemed. Ask the shop whether it was done.",
   ],
   seen: [
     "This receipt was replaced or used",
@@ -33,7 +34,7 @@ const DEAD = {
 /** A pledge on the page. It looks at the service whenever something was done. */
 export class Card {
   constructor(one, forget, changed) {
-    // A tab may have kept a receipt of a page before this one, with less beside it.
+    // A tab may have kept a receipt from an older page, with fewer members.
     const { book, receipt, shop, rate, ref, terms = null, fiveDays = null } = one;
     const known = { reference: ref || null, fiveDays, terms, agreed: undefined };
     Object.assign(this, { one, book, receipt, shop, rate, known, changed, statement: null, lostRedemption: false });
@@ -41,6 +42,8 @@ export class Card {
     this.acting = Promise.resolve();
     // Whether its receipt was found to open nothing, and has opened nothing before.
     this.neverOpened = false;
+    // Whether the page says, in place of the pledge, that the receipt opens nothing.
+    this.saysDead = false;
     this.isShown = false;
     this.summary = make("div", { className: "summary" }, make("p", { className: "waiting" }, "One moment…"));
     this.notice = makeNotice();
@@ -70,7 +73,7 @@ export class Card {
   async look(done = null) {
     this.statement = await this.read();
     this.isShown = true;
-    this.neverOpened = false;
+    this.neverOpened = this.saysDead = false;
     const { statement, known } = this;
     this.summary.replaceChildren(
       ...summaryOf({ statement, known, place: this.place(), reader: "pawnor" }), ...this.told()
@@ -89,7 +92,7 @@ export class Card {
     return [`Pledge ${this.statement.number}`, ...where];
   }
 
-  /** What the receipt's link says beside the statement: an older link says only the rate, in words. */
+  /** What the receipt's link says and the statement lacks: an older link says only the rate, in words. */
   told() {
     const by = "Reference, days of grace, interest and safe keeping are as the receipt’s link says.";
     if (this.known.terms) return [make("p", { className: "small" }, by)];
@@ -105,6 +108,10 @@ export class Card {
   async show() {
     await this.acting;
     tell(this.notice, "");
+    if (this.isRedeemed) {
+      this.drawRedeemed();
+      return true;
+    }
     return this.showNow();
   }
 
@@ -119,6 +126,10 @@ export class Card {
     return this.isShown;
   }
 
+  focus() {
+    this.summary.querySelector("h2").focus();
+  }
+
   /** What is owed today, in pence; 0 where that is not known, or nothing is owed any more. */
   get owing() {
     const { statement, isShown } = this;
@@ -128,6 +139,7 @@ export class Card {
   showFault(fault) {
     this.isShown = false;
     const opensNothing = isRefusal(fault, ...OPENS_NOTHING);
+    this.saysDead = opensNothing;
     const again = make("button", { type: "button", className: "plain" }, "Try again");
     again.addEventListener("click", () => this.show());
     this.neverOpened = opensNothing && this.statement === null;
@@ -137,22 +149,35 @@ export class Card {
       : ["The pledge can’t be shown just now", tellFault(fault, "pawnor")];
     const which = `Receipt ${this.receipt}, number of the shop’s book: ${this.book}`;
     const place = make("p", { className: "place" }, which);
-    const parts = [make("h2", {}, title), make("p", {}, text), place];
+    const parts = [make("h2", { tabIndex: -1 }, title), make("p", {}, text), place];
     this.summary.replaceChildren(...parts, ...(opensNothing ? [] : [again]));
     this.actions.replaceChildren();
   }
 
-  /** Shows that the pledge is redeemed. Its receipt opens nothing any more, so there is nothing to look at. */
+  /** Whether the pledge was redeemed by this page. Its receipt opens nothing any more, so there is nothing to look at. */
+  get isRedeemed() {
+    return this.one.redeemed !== undefined;
+  }
+
+  /** Shows that the pledge is redeemed; the tab keeps the sentence with the receipt. */
   showRedeemed(sentence) {
+    const { number, article } = this.statement;
+    this.one.redeemed = { number, article, sentence };
+    this.drawRedeemed();
+    this.focus();
+    this.changed();
+  }
+
+  drawRedeemed() {
+    const { number, article, sentence } = this.one.redeemed;
     const heading = make("h2", { tabIndex: -1 }, "Redeemed");
+    const which = make("p", { className: "place" }, `Pledge ${number}: `, foreign(article));
     const more = make("p", { className: "more" }, "This receipt is worth nothing any more.");
     this.summary.replaceChildren(
-      heading, make("div", { className: "state good" }, make("p", { className: "line" }, sentence), more),
+      heading, which, make("div", { className: "state good" }, make("p", { className: "line" }, sentence), more),
     );
     this.actions.replaceChildren();
     this.isShown = false;
-    heading.focus();
-    this.changed();
   }
 
   /**
@@ -173,6 +198,10 @@ export class Card {
     );
     if (fault instanceof Unreadable || said?.look === false) return;
     await this.showNow(title);
+    if (this.saysDead && (this.lostRedemption || isRefusal(fault, ...OPENS_NOTHING))) {
+      this.focus();
+      return;
+    }
     sayAfter({ within: this.actions, notice: this.notice, title, fields, said, fault, reader: "pawnor" });
   }
 }

@@ -14,8 +14,16 @@ const TICK = 20_000;
 const cards = [];
 let day = today();
 
+/** The tab keeps the receipts, with what this page did with them. */
+const keepCards = () => keep(cards.map(({ one }) => one));
+
+function noteChange() {
+  keepCards();
+  showSum();
+}
+
 function store() {
-  keep(cards.map(({ one }) => one));
+  keepCards();
   for (const button of ["look-again", "print-page"]) byId(button).hidden = cards.length === 0;
   byId("finder").open = cards.length === 0;
   byId("finder-title").textContent = cards.length === 0 ? "Show a pledge" : "Show another pledge";
@@ -27,7 +35,7 @@ function showSum() {
   const shown = cards.filter(({ owing }) => owing > 0);
   byId("sum-line").hidden = shown.length < 2;
   const sum = shown.reduce((total, { owing }) => total + owing, 0);
-  const missing = cards.some(({ isShown }) => !isShown) ? " What can’t be shown is not in it." : "";
+  const missing = cards.some(({ isShown, isRedeemed }) => !isShown && !isRedeemed) ? " What can’t be shown is not in it." : "";
   byId("sum-line").textContent = `${inPounds(sum)} is owed today on ${shown.length} pledges together.${missing}`;
 }
 
@@ -46,7 +54,7 @@ function forget(card) {
 function cardOf(one) {
   const there = cards.find(({ book, receipt }) => book === one.book && receipt === one.receipt);
   if (there) return there;
-  const card = new Card(one, forget, showSum);
+  const card = new Card(one, forget, noteChange);
   cards.push(card);
   byId("cards").append(card.element);
   return card;
@@ -78,6 +86,8 @@ async function find(fields) {
   const found = await look(some);
   if (found.includes(false)) byId("finder").open = true;
   else byId("find").reset();
+  // The form was folded away, and the focus with it.
+  some[Math.max(0, found.indexOf(false))].focus();
   return "";
 }
 

@@ -1,6 +1,6 @@
 /**
  * The service's clock. A computer's own clock may be wrong by days, so each reply's Date is compared with it, and the
- * pages reckon with the service's day.
+ * pages compute with the service's day.
  */
 
 /** From this many milliseconds on, the page reports the difference. */

@@ -2,8 +2,9 @@
 import { Refused } from "./faults.js";
 
 export const CODES = {
-  BadAmount: 201, OverLimit: 203, OverOwing: 204, Held: 303, Passed: 304, Closed: 305, NotRealisable: 306,
-  NotSmall: 307, NoSuchReceipt: 402, NoSuchPledge: 403, NoTerms: 405, RefTaken: 407, NoRoute: 706, BadReceipt: 710,
+  RateTooHigh: 102, KeepTooHigh: 103, KeepingRate: 104, BadAmount: 201, OverLimit: 203, OverOwing: 204, Held: 303,
+  Passed: 304, Closed: 305, NotRealisable: 306, NotSmall: 307, PeriodOver: 314, NoSuchReceipt: 402, NoSuchPledge: 403, NoTerms: 405,
+  RefTaken: 407, Columns: 602, NoRoute: 706, BadReceipt: 710,
 };
 
 /** Whether a fault is one of these refusals. */

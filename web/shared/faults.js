@@ -29,10 +29,13 @@ export class Outdated extends Error {
 
 export const CHANGED = "Since this pledge was shown here, it has changed.";
 
-/** What a look gives before a command is sent. Where the look reaches nobody, the command was not sent. */
+/** The result of a look before a command is sent. If the look does not reach the service, the command was not sent. */
 export const lookFirst = (look) => look.catch((fault) => {
   throw fault instanceof NotReached ? new NotReached("command") : fault;
 });
+
+/** Whether a fault is of a look alone: nothing was to be done. */
+export const isFailedLook = (fault) => fault instanceof NotReached && fault.message === "look";
 
 /** A look that failed, by itself or after a command was sent: of the command it says nothing. */
 const UNSEEN = "The service can’t be reached just now. Try again in a minute.";
@@ -41,7 +44,7 @@ const UNSEEN = "The service can’t be reached just now. Try again in a minute."
 export function tellFault(fault, reader) {
   if (fault instanceof Refused) return sentence(fault, reader);
   if (fault instanceof Unreadable || fault instanceof Outdated) return fault.message;
-  if (fault instanceof NotReached) return fault.message === "look"
+  if (fault instanceof NotReached) return isFailedLook(fault)
     ? UNSEEN
     : `${UNSEEN} What you asked for was not sent, so it was not done.`;
   if (fault instanceof Lost) {

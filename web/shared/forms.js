@@ -1,6 +1,6 @@
 /** Forms that ask the service, and the line under each that reports the result. */
 import { make } from "./dom.js";
-import { fieldOf, tellFault } from "./faults.js";
+import { fieldOf, isFailedLook, tellFault } from "./faults.js";
 
 /** After so many milliseconds it is said that the service has not answered yet. */
 const LONG = 4000;
@@ -47,7 +47,17 @@ export const explainWaiting = (explain) => { explained = explain; };
 /** By its notice: the act that began last. Only that one says in it what came of it. */
 const newest = new WeakMap();
 
-/** Says what the page waits for, and after a while that it still does. Gives what ends it. */
+/** Where acts belong, and how the result of one is reported whose form is out of sight by then. */
+let sight = { mark: () => null, report: () => false };
+
+/**
+ * Has the results of acts reported whose forms are out of sight. `mark` returns what an act belongs to when it begins;
+ * `report` gets that, the notice, whether the act was a look alone, and the text and tone of its result; it returns
+ * whether the notice is to say nothing.
+ */
+export const watchActs = (watcher) => { sight = watcher; };
+
+/** Says what the page waits for, and after a while that it still does. Returns a function that ends this. */
 function tellWaiting(notice, mine) {
   let begun = Date.now();
   const say = () => {
@@ -70,15 +80,16 @@ export async function tellLater(notice, { message, later }) {
 
 /**
  * Runs an act with its buttons out of use, unless it is one that another may overtake, and says in the notice what came
- * of it, unless another act began there meanwhile. The act gives the sentence of its success, or a sentence with its
- * tone. Gives the fault, or null.
+ * of it, unless another act began there meanwhile. The act returns the sentence of its success, or a sentence with its
+ * tone. `about` is the number of its pledge, if it has one. Returns the fault, or null.
  */
-export async function run({ notice, within, reader, act, mayBeOvertaken = false }) {
+export async function run({ notice, within, reader, act, about = null, mayBeOvertaken = false }) {
   const buttons = mayBeOvertaken ? [] : [...within.querySelectorAll("button")].filter((button) => !button.disabled);
   buttons.forEach((button) => { button.disabled = true; });
   clearMarks(within);
   const mine = {};
   newest.set(notice, mine);
+  const mark = sight.mark();
   const endWaiting = tellWaiting(notice, mine);
   let said = "";
   let fault = null;
@@ -90,7 +101,13 @@ export async function run({ notice, within, reader, act, mayBeOvertaken = false 
     endWaiting();
     buttons.forEach((button) => { button.disabled = false; });
   }
+  const isLook = mayBeOvertaken || isFailedLook(fault);
+  const isReported = sight.report(mark, { notice, about, isLook, ...outcomeOf({ said, fault, reader }) });
   if (newest.get(notice) !== mine) return fault;
+  if (isReported) {
+    tell(notice, "");
+    return fault;
+  }
   let field = null;
   if (fault) {
     tell(notice, tellFault(fault, reader), "bad");

@@ -39,6 +39,15 @@ const atFirst = ({ kind, credit, taken }) =>
   ({ at: taken, principal: kind === "fixed" ? BigInt(credit) : 0n, millionths: 0n });
 
 /**
+ * The first day from this one on for which the sum of a pledge can be computed: a clock that was ahead can have left
+ * days in the book that are still to come.
+ */
+export function firstDayFrom(day, { taken, entries }) {
+  const last = entries.at(-1)?.day ?? taken;
+  return day > last ? day : last;
+}
+
+/**
  * The principal, the charges and their sum in pence on a day, of a pledge as its statement shows it and by the terms
  * that it keeps. Throws where the day is before the day taken or before an entry.
  */

@@ -43,6 +43,14 @@ function refusedNow({ status, owed, kind, credit }, sort, pence) {
   return owed.principal + pence > credit ? refusalOf("OverLimit") : null;
 }
 
+/** Reads the pledge, and throws the refusal that it must bring. */
+export async function readUnrefused(read, sort, pence) {
+  const now = await lookFirst(read());
+  const refused = refusedNow(now, sort, pence);
+  if (refused) throw refused;
+  return now;
+}
+
 /** Whether an amount is unlike the pledge: above its charges and half of what is lent, or above half of its limit. */
 function isUnlike({ owed, credit }, sort, pence) {
   if (!owed) return false;
@@ -60,25 +68,41 @@ function mending({ kind, owed }, sort, pence) {
   return "An entry can’t be taken back, and nothing is drawn again on a fixed sum.";
 }
 
-/** Asks where something came in between, or the amount is large. Returns whether to go on. */
-async function agreed({ shown, now, sort, pence, askFrom }) {
+/**
+ * The question about an amount: where something came in between, or where the amount is large or unlike the pledge;
+ * else null.
+ */
+function questionOf({ shown, now, sort, pence, askFrom }) {
   const between = cameBetween(shown, now);
   const amount = inPounds(pence);
-  if (between.length > 0) {
-    return confirmed({
-      title: "Something came in between",
-      lines: [
-        "Since this pledge was shown here, somebody else did this:", ...between, owedLine(now),
-        `Is your ${amount} another one, beside these?`,
-      ],
-      yes: `Yes, record ${amount} as well`, no: "No, record nothing",
-    });
-  }
-  if (pence < askFrom && !(Number.isFinite(askFrom) && isUnlike(now, sort, pence))) return true;
-  return confirmed({
-    title: `Record ${amount} as ${WORDS[sort].as}?`, lines: [owedLine(now), mending(now, sort, pence)],
+  if (between.length > 0) return {
+    title: "Something came in between", about: now,
+    lines: [
+      "Since this pledge was shown here, somebody else did this:", ...between, owedLine(now),
+      `Is your ${amount} another one, beside these?`,
+    ],
+    yes: `Yes, record ${amount} as well`, no: "No, record nothing",
+  };
+  if (pence < askFrom && !(Number.isFinite(askFrom) && isUnlike(now, sort, pence))) return null;
+  return {
+    title: `Record ${amount} as ${WORDS[sort].as}?`, about: now, lines: [owedLine(now), mending(now, sort, pence)],
     yes: `Record ${amount}`, no: "Not now",
-  });
+  };
+}
+
+/**
+ * Reads the pledge and asks, until nothing has come in between while a question was open: an equal entry would not be
+ * recorded. Returns the pledge as it is then, or null if an answer was no.
+ */
+async function agreedTo({ shown, read, sort, pence, askFrom }) {
+  let [known, from] = [shown, askFrom];
+  for (;;) {
+    const now = await readUnrefused(read, sort, pence);
+    const question = questionOf({ shown: known, now, sort, pence, askFrom: from });
+    if (question === null) return now;
+    if (!await confirmed(question)) return null;
+    [known, from] = [now, Infinity];
+  }
 }
 
 /** Whether what is read after the entry is what the pledge must have then. A new day adds charges of its own. */
@@ -137,10 +161,8 @@ function tellLost({ now, after, entry }) {
  * NotReached.
  */
 export async function recordEntry({ shown, read, send, sort, pence, askFrom = LARGE }) {
-  const now = await lookFirst(read());
-  const refused = refusedNow(now, sort, pence);
-  if (refused) throw refused;
-  if (!await agreed({ shown, now, sort, pence, askFrom })) return NOTHING;
+  const now = await agreedTo({ shown, read, sort, pence, askFrom });
+  if (now === null) return NOTHING;
   const entry = { seq: now.nextSeq, sort, pence };
   const day = today();
   try {

@@ -1,29 +1,46 @@
 /** A question before what can't be taken back. */
-import { make } from "./dom.js";
+import { foreign, make } from "./dom.js";
 
 let asked = 0;
 
-/** A line of a question: a text, or nodes beside each other. */
+/** A line of a question: a text, or several nodes. */
 const lineOf = (line) => make("p", {}, ...(Array.isArray(line) ? line : [line]));
 
-/** Asks in a dialog, and returns whether the answer was yes. Escape is no. */
-export function confirmed({ title, lines, yes, no }) {
+/** Which pledge a question is about: another one may be shown by the time that it is asked. */
+const aboutOf = ({ number, article }) => [`Pledge ${number}: `, foreign(article)];
+
+/**
+ * Asks in a dialog, and returns whether the answer was yes. `about` is the statement of the pledge in question, if there
+ * is one. Escape is no; so is going to another address, after which the question would be above something else.
+ */
+export function confirmed({ title, about = null, lines, yes, no }) {
   asked += 1;
   const heading = make("h2", { id: `question-${asked}` }, title);
-  const said = lines.filter(Boolean).map(lineOf);
-  const dialog = make("dialog", { className: "question" }, heading, ...said);
+  const said = [about && aboutOf(about), ...lines].filter(Boolean).map(lineOf);
+  const text = make("div", { id: `question-${asked}-text` }, ...said);
+  const dialog = make("dialog", { className: "question" }, heading, text);
   const agree = make("button", { type: "button", className: "grave" }, yes);
   const refuse = make("button", { type: "button", className: "plain", autofocus: true }, no);
   dialog.append(make("div", { className: "buttons" }, agree, refuse));
   dialog.setAttribute("aria-labelledby", heading.id);
+  dialog.setAttribute("aria-describedby", text.id);
   document.body.append(dialog);
   dialog.showModal();
+  const leave = () => dialog.close("no");
+  addEventListener("hashchange", leave);
   return new Promise((answer) => {
     agree.addEventListener("click", () => dialog.close("yes"));
-    refuse.addEventListener("click", () => dialog.close("no"));
-    dialog.addEventListener("close", () => { dialog.remove(); answer(dialog.returnValue === "yes"); });
+    refuse.addEventListener("click", leave);
+    dialog.addEventListener("close", () => {
+      removeEventListener("hashchange", leave);
+      dialog.remove();
+      answer(dialog.returnValue === "yes");
+    });
   });
 }
+
+/** What is said where a question was open over midnight, and is asked again. */
+export const NEW_DAY = "A new day has begun since you were asked.";
 
 /** What is said where the answer was no. */
 export const NOTHING_DONE = { sentence: "Nothing was done.", tone: "quiet" };

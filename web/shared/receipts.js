@@ -8,9 +8,9 @@ const UNSEEN = /[\u200b-\u200f\u202a-\u202e\u2060\u2066-\u2069\ufeff{}]|urn:uuid
 const RECEIPT = /(?:^|[^0-9a-z])([1-9]\d{0,8})[\s-]+((?:[0-9a-f][\s-]*){31}[0-9a-f])(?![0-9a-z])/gi;
 const BOOK = /^[1-9]\d{0,8}$/;
 const TERMS = /^(\d{1,5})\.(\d{1,8})\.(\d{1,8})$/;
-/** The texts that a link may say beside the receipt, at most so many letters of each. */
+/** The texts that a link may have in addition to the receipt, and the most letters of each. */
 const LONGEST = { shop: 60, rate: 120, ref: 40 };
-/** A longer link makes a code that a telephone reads badly, so what it says beside the receipt is left out. */
+/** A longer link makes a code that a telephone reads badly, so it has no texts in addition to the receipt. */
 const LONGEST_LINK = 280;
 
 /** What was meant as a receipt, perhaps with too few digits, too many, or other letters. A reference is shorter. */
@@ -56,7 +56,7 @@ function termsOf(text) {
 /** The days of grace as a link says them: true for five, false for none, null where it says nothing. */
 const GRACE = { 5: true, 0: false };
 
-/** What a link says of a pledge beside its receipt; here nothing. */
+/** What a link says of a pledge in addition to its receipt; here nothing. */
 const UNTOLD = { shop: "", rate: "", ref: "", terms: null, fiveDays: null };
 
 /** What a link says of the shop, the reference and the terms. */
@@ -82,7 +82,7 @@ export function bookOf(fragment) {
   return isBook(book) ? book : "";
 }
 
-/** The receipts of a link's fragment with their book, and what the link says beside them. */
+/** The receipts of a link's fragment with their book, and the other texts of the link. */
 export function ofFragment(fragment) {
   const said = saidIn(fragment);
   const book = bookOf(fragment);
@@ -98,7 +98,7 @@ export const isReceiptLike = (text) => LINK.test(text.trim()) || receiptsIn(text
 /** The parts of a typed text that can have a receipt each. */
 export const linesTyped = (text) => text.split(/[\n,;]+/);
 
-/** The receipts of a typed text: of links in it, with their books, or of its lines, whose book is not told. */
+/** The receipts of a typed text: those of links in it, with their books, or those of its lines, without a book. */
 export function receiptsTyped(text) {
   return linesTyped(text).flatMap((line) => {
     const links = line.split(/\s+/).filter((word) => LINK.test(word));

@@ -1,15 +1,15 @@
-/** What will be owed on another day, reckoned by the rules from the statement and the terms that the pledge keeps. */
+/** What will be owed on another day, computed by the rules from the statement and the terms that the pledge keeps. */
 import { make } from "./dom.js";
 import { inShort, inWords, today } from "./days.js";
 import { buttons, field, makeNotice, run } from "./forms.js";
 import { inPounds } from "./money.js";
-import { owedOn } from "./owing.js";
+import { firstDayFrom, owedOn } from "./owing.js";
 import { firstDayAfter, lastSafeDay, willPass } from "./period.js";
 import { Unreadable } from "./unreadable.js";
 
 const LAST = "2199-12-31";
 
-/** What the day does beside: the article may be gone by then. */
+/** What else is so on that day: the article may be gone by then. */
 function beside({ taken, ends, credit }, { fiveDays }, reader, day) {
   const pledge = { taken, ends, fiveDays, pence: credit };
   if (day <= lastSafeDay(pledge)) return "";
@@ -20,13 +20,17 @@ function beside({ taken, ends, credit }, { fiveDays }, reader, day) {
     : ` But from ${since} on the article belongs to the pawnbroker, and can’t be redeemed any more.`;
 }
 
-/** Reckons, and compares what it reckons for today with the statement first. */
+/** Computes the sum for a day. First it computes today's, and compares that with the statement. */
 function reckon({ statement, known, reader }, day) {
-  const now = owedOn(statement, known.terms, today());
+  const first = firstDayFrom(today(), statement);
+  const now = owedOn(statement, known.terms, first);
   if (now.owing !== statement.owed.owing || now.principal !== statement.owed.principal) {
     throw new Unreadable("This page can’t compute the sum of this pledge: show the pledge again first.");
   }
-  if (!day || day < today() || day > LAST) throw new Unreadable("Choose a day from today on.", "day");
+  if (!day || day < first || day > LAST) {
+    const from = first === today() ? "today" : inShort(first);
+    throw new Unreadable(`Choose a day from ${from} on.`, "day");
+  }
   const { owing, principal, charges } = owedOn(statement, known.terms, day);
   const made = `${inPounds(principal)} lent and ${inPounds(charges)} of interest and safe keeping`;
   return {
@@ -36,13 +40,13 @@ function reckon({ statement, known, reader }, day) {
   };
 }
 
-/** The form that reckons for a day; null where nothing is owed any more, or the pledge's terms are not known. */
+/** The form that computes the sum for a day; null where nothing is owed any more, or the pledge's terms are not known. */
 export function reckoningForm({ statement, known, reader }) {
   if (!known.terms || !statement.owed || statement.closing) return null;
   const day = make("input", { type: "date", name: "day", min: today(), max: LAST, required: true });
   const notice = makeNotice();
   const form = make("form", { autocomplete: "off" }, field("Day", day),
-    buttons(make("button", { className: "plain" }, "Reckon")), notice);
+    buttons(make("button", { className: "plain" }, "Calculate")), notice);
   form.addEventListener("submit", (event) => {
     event.preventDefault();
     run({ notice, within: form, reader, act: async () => reckon({ statement, known, reader }, day.value) });

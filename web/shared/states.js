@@ -4,7 +4,7 @@ import { inPounds } from "./money.js";
 import { firstDayAfter, graceEnd, lastSafeDay, willPass } from "./period.js";
 
 /*
- * What is known of a pledge beside its statement: its reference, whether it has days of grace, its terms, and the end
+ * What is known of a pledge and its statement lacks: its reference, whether it has days of grace, its terms, and the end
  * that was agreed. It comes from the book, or from the link of a receipt, and each is null where it is not known.
  */
 
@@ -77,24 +77,33 @@ const STATES = {
 
 const over = (ends) => `Its time was over on ${inWords(ends)}`;
 
+/** What becomes of an article once its time is over, for the pawnor. */
+const afterIt = ({ taken, ends, credit }) => (willPass({ taken, ends, pence: credit })
+  ? "after that it belongs to the pawnbroker, and can’t be redeemed any more"
+  : "after that it may be sold, and can be redeemed until it is sold");
+
 /** A pledge in its period, for the pawnor: the days of grace are those that the receipt's link says. */
-function stillYours({ ends }, now, { fiveDays }) {
+function stillYours(statement, now, { fiveDays }) {
+  const { ends } = statement;
   const last = lastSafeDay({ ends, fiveDays });
   const grace = {
     true: `; the period ends on ${inShort(ends)}, and five days of grace follow`, false: "",
     null: "; five days more, if your paper says that it has days of grace",
   };
   return {
-    badge: "Still yours", line: `Still yours until ${inWords(last)}`, more: `${lastsFor(now, last)}${grace[fiveDays]}`,
+    badge: "Still yours", line: `Still yours until ${inWords(last)}`,
+    more: `${lastsFor(now, last)}${grace[fiveDays]}; ${afterIt(statement)}`,
   };
 }
 
 /** What the pawnor reads in place of it. */
 const FOR_PAWNOR = {
   inside: stillYours,
-  grace: ({ ends }, now) => ({
-    badge: "Last days", line: `Still yours until ${inWords(graceEnd(ends))}: pay what is owed to have it back`,
-    more: `${over(ends)}, and days of grace run: ${lastsFor(now, graceEnd(ends))}`,
+  grace: (statement, now) => ({
+    badge: "Last days",
+    line: `Still yours until ${inWords(graceEnd(statement.ends))}: pay what is owed to have it back`,
+    more: `${over(statement.ends)}, and days of grace run: ${lastsFor(now, graceEnd(statement.ends))}; `
+      + afterIt(statement),
   }),
   realisable: ({ ends }) => (
     {

@@ -1,5 +1,5 @@
 /** A pledge as a person reads it, for both pages. */
-import { daysBetween, inShort, inWords, today } from "./days.js";
+import { daysBetween, inShort, inWords, sixMonthsAfter, today } from "./days.js";
 import { facts, foreign, make } from "./dom.js";
 import { entriesTable } from "./entries.js";
 import { inPounds } from "./money.js";
@@ -45,16 +45,26 @@ function owedBlock({ owed, closing }) {
 }
 
 /** The period's end in words: six months, agreed, or extended to. */
-function endInWords({ ends, extensions }, { agreed }) {
+export function endInWords({ ends, extensions }, { agreed }) {
   if (extensions.length > 0) return `${inWords(ends)}, as extended`;
   return agreed === ends ? `${inWords(ends)}, as agreed` : inWords(ends);
 }
 
-/** What is known beside the statement; what is not known is left out. */
-function knownFacts({ reference, fiveDays, terms, agreed }) {
+/**
+ * The end that was agreed when the pledge was taken, as a fact with its name: an extension is agreed later, and an end
+ * within the six months has no effect.
+ */
+export function agreedFact({ taken, extensions }, agreed) {
+  const name = extensions.length > 0 ? "Agreed end at first" : "Agreed end";
+  if (!agreed) return [name, "None: six months"];
+  return [name, agreed > sixMonthsAfter(taken) ? inShort(agreed) : `${inShort(agreed)}, without effect: six months`];
+}
+
+/** What is known and the statement lacks; what is not known is left out. */
+function knownFacts(statement, { reference, fiveDays, terms, agreed }) {
   return [
     reference && ["Reference", foreign(reference)],
-    agreed !== undefined && ["Agreed end", agreed ? inShort(agreed) : "None: six months"],
+    agreed !== undefined && agreedFact(statement, agreed),
     fiveDays !== null && ["Days of grace", fiveDays ? "Five" : "None"],
     terms && ["Interest", interestInWords(terms)], terms && ["Safe keeping", keepingInWords(terms)],
   ].filter(Boolean);
@@ -66,7 +76,7 @@ function factsOf(statement, known) {
     : `a running account up to ${inPounds(statement.credit)}`;
   const pairs = [
     ["Credit", kind], ["Taken", inWords(statement.taken)], ["Period’s end", endInWords(statement, known)],
-    ...knownFacts(known),
+    ...knownFacts(statement, known),
   ];
   statement.extensions.forEach(
     ([agreed, end]) => pairs.push(["Extended", `on ${inShort(agreed)}, to ${inWords(end)}`])

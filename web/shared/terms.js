@@ -1,4 +1,4 @@
-/** Terms in words that a person can reckon with. */
+/** Terms in words by which a person can compute. */
 import { inPounds } from "./money.js";
 
 /** A month is shown as thirty days. */
@@ -9,7 +9,7 @@ const MILLION = 1e6;
 /** Pence as people say small sums: 30p, £1.20. */
 const small = (pence) => (pence < 100 ? `${pence}p` : inPounds(pence));
 
-/** Interest, as £8.00 in 30 days on £100: whole pence, rounded down, as the service reckons. */
+/** Interest, as £8.00 in 30 days on £100: whole pence, rounded down, as the service rounds. */
 export function interestInWords({ rate }) {
   if (rate === 0) return "no interest";
   return `${inPounds(Math.floor((SAMPLE * rate * MONTH) / MILLION))} in 30 days on £100`;

@@ -1,6 +1,7 @@
 pub mod Alteration
 pub mod Distinct
 pub mod Found
+pub mod Orders
 pub mod Insertion
 pub mod Lent
 pub mod OneTable

@@ -2,6 +2,7 @@ pub mod Limits
 pub mod Refusals
 pub mod Bookings
 pub mod Sheet
+pub mod Items
 pub mod BookStep
 pub mod HostStep
 pub mod Runs

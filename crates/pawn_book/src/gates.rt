@@ -2,7 +2,7 @@
 ghost use Rattle.pawn_book.specs.BookStep.{live_at, pledge_in};
 ghost use Rattle.pawn_book.specs.Keeping.{IsQuiet, IsSteady, Reads};
 ghost use Rattle.pawn_book.specs.Plans.{Gates, IsUnwell};
-ghost use Rattle.pawn_book.specs.Sound.{IsWord};
+ghost use Rattle.pawn_book.specs.Sound.{IsSound, IsWord};
 ghost use Rattle.pawn_pledge.specs.Brief.{brief_of};
 ghost use Rattle.pawn_terms.specs.Calendar.{IsStampDay};
 ghost use Rattle.std.specs.FinMap.{get};
@@ -49,14 +49,15 @@ pub fn find_live<K: Keep>(
     }
 }
 
-/// The brief of a receipt's pledge, if the receipt is live in the book.
+/// The brief of a receipt's pledge, if the receipt is live in the book. Of a host that is not sound nothing is said, as
+/// of `Keep::brief`.
 pub fn live_brief<K: Keep>(
     keep: &mut K,
     book: Number,
     receipt: &Receipt,
 ) -> Result<Option<Brief>, KeepError>
     ensures reads { Reads K.keeping keep.old keep.new
-        (λ h. IfOk result (λ brief. brief ≡ option_map brief_of (live_at (pledge_in (get h.books book)) receipt.now))) }
+        (λ h. IsSound h → IfOk result (λ brief. brief ≡ option_map brief_of (live_at (pledge_in (get h.books book)) receipt.now))) }
     ensures steady { IsSteady K.keeping keep.old result }
 {
     match keep.brief(book, receipt.number)? {

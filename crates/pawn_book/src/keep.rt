@@ -4,11 +4,12 @@ ghost use Rattle.pawn_book.specs.BookStep.{book_head, pledge_in};
 ghost use Rattle.pawn_book.specs.Bookings.{confirmed_count};
 ghost use Rattle.pawn_book.specs.Changes.{CanSave};
 ghost use Rattle.pawn_book.specs.HostStep.{rows};
+ghost use Rattle.pawn_book.specs.Items.{rows_of_pledges};
 ghost use Rattle.pawn_book.specs.Keeping.{Errs, IsNextBook, Keeping, OfHost, Reads, Saves, WholeIsSound, entries_of};
 ghost use Rattle.pawn_book.specs.Keeping.{extensions_of, number_of, pledges_of, secrets_of, terms_of};
 ghost use Rattle.pawn_book.specs.Rows.{terms_at};
 ghost use Rattle.pawn_book.specs.Sheet.{day_sheet};
-ghost use Rattle.pawn_book.specs.Sound.{HasUnsoundBook, IsUnsoundAt};
+ghost use Rattle.pawn_book.specs.Sound.{HasUnsoundBook, IsSound, IsUnsoundAt};
 ghost use Rattle.pawn_book.specs.Visits.{IsShare, Visits, call_end};
 ghost use Rattle.pawn_pledge.specs.Brief.{brief_of};
 ghost use Rattle.std.specs.FinMap.{get};
@@ -16,6 +17,7 @@ ghost use Rattle.std.specs.Prelude.{◌≡◌, IfOk, option_map, unwrap_or};
 
 use crate::change::{BookHead, Change};
 use crate::fault::{KeepError, SaveError};
+use crate::items::RowItem;
 use crate::sheet::SheetItem;
 use crate::visit::Visitor;
 use pawn_pledge::{Brief, Day, Entry, Extension, Issued, Number, Pledge, Reference, Terms};
@@ -65,9 +67,11 @@ pub trait Keep {
         ensures reads { Reads keeping self.old self.new (λ h. IfOk result (λ next. IsNextBook h (unwrap_or after 0) next)) }
         ensures errs { Errs keeping self.old self.new HasUnsoundBook result };
 
-    /// The pledge with this number in a book, without its lists, if there is one.
+    /// The pledge with this number in a book, without its lists, if there is one. Of a host that is not sound nothing is
+    /// said: a keeper may take the number of the last entry for how many entries there are.
     fn brief(&mut self, book: Number, number: Number) -> Result<Option<Brief>, KeepError>
-        ensures reads { Reads keeping self.old self.new (λ h. IfOk result (λ brief. brief ≡ option_map brief_of (pledge_in (get h.books book) number))) }
+        ensures reads { Reads keeping self.old self.new
+            (λ h. IsSound h → IfOk result (λ brief. brief ≡ option_map brief_of (pledge_in (get h.books book) number))) }
         ensures errs { Errs keeping self.old self.new (IsUnsoundAt book) result };
 
     /// Passes the entries of a pledge in order to the visitor, until it returns `Stop`. If the call fails, the visitor
@@ -116,6 +120,17 @@ pub trait Keep {
     ) -> Result<(), KeepError>
         ensures reads { Visits V.step visitor.old visitor.new (λ given flow. Reads keeping self.old self.new
             (λ h. IsShare given flow (call_end result) (day_sheet (pledges_of (get h.books book)) day))) }
+        ensures errs { Errs keeping self.old self.new (IsUnsoundAt book) result };
+
+    /// Passes the rows of a book's pledges to the visitor, pledge by pledge in the order of an export, until it returns
+    /// `Stop`. If the call fails, the visitor may have got only a prefix of them.
+    fn rows_each<V: Visitor<RowItem>>(
+        &mut self,
+        book: Number,
+        visitor: &mut V,
+    ) -> Result<(), KeepError>
+        ensures reads { Visits V.step visitor.old visitor.new (λ given flow. Reads keeping self.old self.new
+            (λ h. IsShare given flow (call_end result) (rows_of_pledges (pledges_of (get h.books book))))) }
         ensures errs { Errs keeping self.old self.new (IsUnsoundAt book) result };
 
     /// How many rows all books have together.

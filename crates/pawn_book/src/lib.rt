@@ -9,6 +9,7 @@ mod fault;
 mod gates;
 mod gather;
 mod importing;
+mod items;
 mod keep;
 mod laws;
 mod limits;
@@ -25,37 +26,105 @@ mod sheet;
 mod visit;
 mod worked;
 
-pub use acting::{act, commit};
+pub use acting::act;
+pub use acting::commit;
 pub use capacity::Capacity;
-pub use change::{BookHead, Change, Imported, Planned};
-pub use fault::{KeepError, SaveError, StoreFault};
-pub use gates::{find_live, gate, live_brief};
+pub use change::BookHead;
+pub use change::Change;
+pub use change::Imported;
+pub use change::Planned;
+pub use fault::KeepError;
+pub use fault::SaveError;
+pub use fault::StoreFault;
+pub use gates::find_live;
+pub use gates::gate;
+pub use gates::live_brief;
 pub use gather::day_sheet;
 pub use importing::ReplayableRows;
+pub use items::PledgeItem;
+pub use items::RowItem;
 pub use keep::Keep;
-pub use laws::{
-    books_answer_alone, changes_differ, entries_act_once, extensions_act_once, repeats_act_once,
-    shards_answer_as_one, slots_answer_alone, slots_are_held, slots_in_passes,
-    spent_receipts_are_unknown,
-};
-pub use limits::{
-    MOST_BOOKINGS, MOST_NAME_BYTES, MOST_PLEDGES, MOST_RECEIPTS, MOST_ROWS, MOST_TERMS,
-};
-pub use pawn_pledge::{
-    Agreement, Applied, Article, BadDay, BadReceipt, BearerCommand, Booking, BookingState, Brief,
-    BriefFields, BrokerCommand, Closing, Command, Day, Decision, Done, Entries, Entry, Extension,
-    Extensions, Issue, Issued, Kind, Number, Opening, Owing, Paper, Parts, Pledge, Rates, Receipt,
-    Reference, Refusal as PledgeRefusal, RequestDay, Rows, Secret, Secrets, Sort, Stamp, Standing,
-    Status, Terms, Text,
-};
+pub use laws::books_answer_alone;
+pub use laws::changes_differ;
+pub use laws::entries_act_once;
+pub use laws::extensions_act_once;
+pub use laws::repeats_act_once;
+pub use laws::shards_answer_as_one;
+pub use laws::slots_answer_alone;
+pub use laws::slots_are_held;
+pub use laws::slots_in_passes;
+pub use laws::spent_receipts_are_unknown;
+pub use limits::MOST_BOOKINGS;
+pub use limits::MOST_NAME_BYTES;
+pub use limits::MOST_PLEDGES;
+pub use limits::MOST_RECEIPTS;
+pub use limits::MOST_ROWS;
+pub use limits::MOST_TERMS;
+pub use pawn_pledge::Agreement;
+pub use pawn_pledge::Applied;
+pub use pawn_pledge::Article;
+pub use pawn_pledge::BadDay;
+pub use pawn_pledge::BadReceipt;
+pub use pawn_pledge::BearerCommand;
+pub use pawn_pledge::Booking;
+pub use pawn_pledge::BookingState;
+pub use pawn_pledge::Brief;
+pub use pawn_pledge::BriefFields;
+pub use pawn_pledge::BrokerCommand;
+pub use pawn_pledge::Closing;
+pub use pawn_pledge::Command;
+pub use pawn_pledge::Day;
+pub use pawn_pledge::Decision;
+pub use pawn_pledge::Done;
+pub use pawn_pledge::Entries;
+pub use pawn_pledge::Entry;
+pub use pawn_pledge::Extension;
+pub use pawn_pledge::Extensions;
+pub use pawn_pledge::Issue;
+pub use pawn_pledge::Issued;
+pub use pawn_pledge::Kind;
+pub use pawn_pledge::Number;
+pub use pawn_pledge::Opening;
+pub use pawn_pledge::Owing;
+pub use pawn_pledge::Paper;
+pub use pawn_pledge::Parts;
+pub use pawn_pledge::Pledge;
+pub use pawn_pledge::Rates;
+pub use pawn_pledge::Receipt;
+pub use pawn_pledge::Reference;
+pub use pawn_pledge::Refusal as PledgeRefusal;
+pub use pawn_pledge::RequestDay;
+pub use pawn_pledge::Rows;
+pub use pawn_pledge::Secret;
+pub use pawn_pledge::Secrets;
+pub use pawn_pledge::Sort;
+pub use pawn_pledge::Stamp;
+pub use pawn_pledge::Standing;
+pub use pawn_pledge::Status;
+pub use pawn_pledge::Terms;
+pub use pawn_pledge::Text;
 pub use pawn_terms::TermsFault;
 pub use planning::plan;
 pub use receipts::Receipts;
 pub use refusal::Refusal;
 pub use replaying::replayable;
 pub use reply::Reply;
-pub use request::{BearerRequest, BrokerRequest, Caller, Name, NewBook, NewTerms, Request, View};
-pub use rows::{BookRows, PledgeRows, know_written};
-pub use sheet::{Part, SheetItem};
-pub use visit::{Flow, Visitor};
-pub use worked::{worked_imports, worked_limits, worked_shards, worked_slots};
+pub use request::BearerRequest;
+pub use request::BrokerRequest;
+pub use request::Caller;
+pub use request::Name;
+pub use request::NewBook;
+pub use request::NewTerms;
+pub use request::Request;
+pub use request::View;
+pub use rows::BookRows;
+pub use rows::PledgeRows;
+pub use rows::know_written;
+pub use sheet::Part;
+pub use sheet::SheetItem;
+pub use visit::Flow;
+pub use visit::Visitor;
+pub use worked::worked_imports;
+pub use worked::worked_limits;
+pub use worked::worked_shards;
+pub use worked::worked_slots;

@@ -65,7 +65,7 @@ other_key a b less = from (nat_cmp b a) refl where
   from Equal e = let same : b ≡ a = ranked b a Equal (sym e) in absurd (omega (arith, same, less))
   from Greater e = refl
 
--- what a key finds behind others is past them
+-- what a key finds after others is after all of them
 is_behind : (m n : ℕ) (es : Books) (k : BookValue) → T (below_all nat_cmp m es) → find nat_cmp n es ≡ Some k → m < n
 is_behind m n [] k up is = absurd_none is
 is_behind m n (e ∷ es) k up is =

@@ -11,10 +11,12 @@ use Rattle.pawn_check.specs.declared.counts.BookCounts.{BookCounts}
 use Rattle.pawn_check.specs.declared.counts.Counts.{Counts}
 use Rattle.pawn_check.specs.declared.fault.CheckFault.{CheckFault}
 use Rattle.pawn_check.specs.declared.fault.CheckFault.TheVariants.{Damaged, Memory, Store}
+use Rattle.pawn_pledge.specs.Common.{most_entries}
+use Rattle.pawn_pledge.specs.Limits.{most_secrets}
 use Rattle.pawn_pledge.specs.Pledge.{PledgeValue}
 use Rattle.pawn_pledge.specs.Replayable.{IsReachable}
 use Rattle.std.specs.FinMap.{entries, get}
-use Rattle.std.specs.Prelude.{◌≡◌, ℕ, List, length, Result, Ok, Err, sum_by, IsErrOf, Some}
+use Rattle.std.specs.Prelude.{◌≡◌, ℕ, ◌+◌, List, length, Result, Ok, Err, sum_by, IsErrOf, Some}
 use Rattle.pawn_book.specs.declared.fault.KeepError.TheVariants as Keeper
 
 -- a keeper's error as a fault of a check: a row that cannot be decoded is damage
@@ -43,6 +45,10 @@ pub record AreCounted (h : Host) (counts : Counts) : Type 0 where
 -- each book is sound and the counts are right; or the fault is as `Blames` says
 abbrev pub Judges : Host → Result Counts CheckFault → Type 0
 Judges h result = FindsSound h result (λ counts. AreSound h × AreCounted h counts)
+
+-- the most counted rows of a pledge: its own, its entries, its secrets and its booking. Extensions are not counted
+abbrev pub most_pledge_rows : ℕ
+most_pledge_rows = 1 + most_entries + most_secrets + 1
 
 -- over a steady keeper the fault is never Store
 abbrev pub IsQuietCheck : {K T : Type 0} → Keeping K → K → Result T CheckFault → Type 0

@@ -5,7 +5,7 @@ ghost use Rattle.pawn_book.specs.HostStep.{pledge_rows};
 ghost use Rattle.pawn_book.specs.Keeping.{Reads, number_of};
 ghost use Rattle.pawn_book.specs.Limits.{most_pledges};
 ghost use Rattle.pawn_book.specs.Rows.{IsUnder, version_of};
-ghost use Rattle.pawn_check.specs.Judging.{FindsSound, FitsAt, IsFront, IsQuietCheck};
+ghost use Rattle.pawn_check.specs.Judging.{FindsSound, FitsAt, IsFront, IsQuietCheck, most_pledge_rows};
 ghost use Rattle.pawn_pledge.specs.Pledge.{PledgeValue};
 ghost use Rattle.pawn_pledge.specs.Replayable.{IsReachable};
 ghost use Rattle.std.specs.FinMap.{get};
@@ -22,11 +22,11 @@ pub struct Step {
     pub rows: u64,
 }
 
-/// How many counted rows a pledge has: at most 10,102.
+/// How many counted rows a pledge has.
 fn rows_of_parts(parts: &Parts) -> u64
     requires reachable { IsReachable parts.now }
     ensures value { result ≡ pledge_rows parts.now }
-    ensures few { result ≤ 10102 }
+    ensures few { result ≤ most_pledge_rows }
 {
     let booking = match parts.standing.booking {
         Some(_) => 1,
@@ -91,7 +91,7 @@ fn next_step<K: Keep>(
     ensures reads { Reads K.keeping keep.old keep.new (λ h. (k : BookValue) (place : ℕ) → get h.books book ≡ Some k → number ≡ place + 1
         → number ≤ length k.pledges → version ≡ last_by version_of 0 (take place k.pledges) → FindsSound h result (λ step. (p : PledgeValue) × (pledge_from 1
         k.pledges number ≡ Some p) × FitsAt k number p × (version ≤ step.version) × (step.version ≡ version_of p) × (step.rows ≡ pledge_rows p))) }
-    ensures few { IfOk result (λ step. step.rows ≤ 10102) }
+    ensures few { IfOk result (λ step. step.rows ≤ most_pledge_rows) }
     ensures quiet { IsQuietCheck K.keeping keep.old result }
 {
     let parts = read_parts(keep, book, number)?;
@@ -121,7 +121,7 @@ pub(crate) fn pledges_rows<K: Keep>(
     requires few { count ≤ most_pledges }
     ensures reads { Reads K.keeping keep.old keep.new (λ h. (k : BookValue) → get h.books book ≡ Some k → count ≡ length k.pledges
         → FindsSound h result (λ rows. (version : ℕ) × IsFront k k.pledges version rows)) }
-    ensures few { IfOk result (λ rows. rows ≤ count * 10102) }
+    ensures few { IfOk result (λ rows. rows ≤ count * most_pledge_rows) }
     ensures quiet { IsQuietCheck K.keeping keep.old result }
 {
     let mut version = 0;

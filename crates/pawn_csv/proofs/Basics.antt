@@ -1,4 +1,4 @@
--- What these proofs use from elsewhere: the standard words and lemmas, those of the crates below, and this crate's specs.
+-- Names from the standard library and from other crates that the proofs of this crate use.
 pub use Rattle.pawn_base.proofs.ListLemmas.{Each-push, last_by-le, take_each}
 pub use Rattle.pawn_book.proofs.Reading.{reads_as, reads_both, reads_then}
 pub use Rattle.pawn_book.proofs.Sounds.{reachable_at}

@@ -1,4 +1,4 @@
--- Rows that were taken to their end are those of the book.
+-- Rows that were accepted to their end are those of the book.
 use Rattle.pawn_csv.proofs.Basics.{◌≡◌, ◌∙◌, ◌+◌, ℕ, Bool, true, false, List, [], ◌∷◌, ◌++◌, length, map, Option, Some}
 use Rattle.pawn_csv.proofs.Basics.{None, Result, Ok, Err, refl, sym, ap, subst, append_assoc, arith, cond, nat_lt}
 use Rattle.pawn_csv.proofs.Basics.{nat_le, ◌==◌, ◌&&◌, ◌||◌, IfOk, IfSome, Each-push, and_parts, append-nil, nat_tests}
@@ -18,7 +18,7 @@ use Rattle.pawn_csv.specs.Rows.{FitsColumns, Knows, header, pledge_csv_rows, row
 use Rattle.pawn_csv.specs.Rows.{version_rows}
 use Rattle.pawn_csv.specs.Types.{Cause, PledgeColumns, RawPledge, Row, Version}
 
--- the rows that were taken
+-- the rows that were accepted
 abbrev pub shown : Option Begun → List Row
 shown None = []
 shown (Some b) = Row.Book b.version b.terms_due b.pledges_due ∷ (terms_rows 1 b.terms ++ flat_map raw_rows (pledges_begun b))
@@ -55,7 +55,7 @@ each_last : (ps : List RawPledge) (p q : RawPledge) → Each HasNone (ps ++ p �
 each_last [] p q h f = (f h.0, tt)
 each_last (x ∷ ps) p q h f = (h.0, each_last ps p q h.1 f)
 
--- a row that the pledge at hand takes
+-- a row that the current pledge accepts
 hand_shown : (first : Row) (ts : List Row) (ps : List RawPledge) (p q : RawPledge) (row : Row) → Shows p q row
     → first ∷ (ts ++ flat_map raw_rows (ps ++ q ∷ [])) ≡ (first ∷ (ts ++ flat_map raw_rows (ps ++ p ∷ []))) ++ row ∷ []
 hand_shown first ts ps p q row shows = ap (λ (rs : List Row). first ∷ (ts ++ rs)) (flat_map-push ps q ∙ ap (λ (rs : List Row). flat_map raw_rows ps ++ rs) shows
@@ -131,7 +131,7 @@ second_only Version.Two x c h = (refl, h)
 pub not_one : (v : Version) → v ≡ Version.Two → v ≡ Version.One → ⊥
 not_one v a b = let e = sym a ∙ b in cc
 
--- a row that is taken is shown at the end
+-- a row that is accepted can be seen at the end
 place_grows : (s : Option Begun) (r : Row) (c : Begun) → place s r ≡ Ok c → IsPlain s → Grows s r c
 place_grows None (Row.Book v t p) c h plain =
     subst (λ (d : Begun). Grows None (Row.Book v t p) d) (ok_same _ c (guard_err (nat_lt most_terms t || nat_lt most_pledges p) _ c Cause.TooMany h))
@@ -178,7 +178,7 @@ knows : (v : Version) (k : BookRows) → (v ≡ Version.One → Each (λ p. p.ex
 knows Version.One k h = h refl
 knows Version.Two k h = tt
 
--- what is there once all is
+-- the whole state at the end
 pub whole_counts : (b : Begun) → is_whole (Some b) ≡ true
     → (b.terms_due ≡ length b.terms) × (b.pledges_due ≡ length (pledges_begun b)) × (may_end b.at_hand ≡ true)
 whole_counts b whole =
@@ -188,7 +188,7 @@ whole_counts b whole =
     let second = u.1 in
     (grind (arith, nat_tests, first), grind (arith, nat_tests, second), w.1)
 
--- what is shown once all is there
+-- what can be seen at the end
 pub whole_rows : (b : Begun) (k : BookRows) → is_whole (Some b) ≡ true → b.terms ≡ k.terms → pledges_begun b ≡ map raw_of k.pledges
     → shown (Some b) ≡ rows_of_csv b.version k
 whole_rows b k whole terms pledges =
@@ -219,7 +219,7 @@ taken_is (h ∷ rs) rows s k taken (b, is, whole, begun, replayable) =
       ),
     )
 
--- a text that is read as a book is a text of it
+-- a text that is read as a book is a text of that book
 read_is : (text : List ℕ) (k : BookRows) → IsReadAs text k → IsTextOf text k
 read_is text k (records, rows, s, are, taken, done) =
     let (v, same, held) = taken_is records rows s k taken done in

@@ -1,4 +1,4 @@
--- A book's text, put part by part, and how it ends.
+-- A book's text, written in parts, and how the export ends.
 use Rattle.pawn_book.specs.declared.change.BookHead.{BookHead}
 use Rattle.pawn_csv.proofs.Basics.{◌≡◌, ◌∙◌, ℕ, Bool, true, false, List, [], ◌∷◌, ◌++◌, length, Option, Some, None}
 use Rattle.pawn_csv.proofs.Basics.{Result, Ok, Err, refl, sym, ap, subst, map, option_map, unwrap_or, flat_map-append}
@@ -13,7 +13,7 @@ use Rattle.pawn_csv.specs.Types.{Row, Sink, Version}
 use Rattle.pawn_writing.proofs.PutLemmas.{front-more, now_by}
 use Rattle.pawn_writing.specs.Ends.{PutFront, Written, end_by, write_failed}
 
--- the rows below the first
+-- the rows after the first
 abbrev pub below_text : BookValue → List ℕ
 below_text at = flat_map text_of_row (terms_rows 1 at.terms) ++ flat_map text_of_row (flat_map pledge_csv_rows at.pledges)
 
@@ -28,15 +28,13 @@ rows_cut {contents = contents} {a = a} {b = b} o at head is head_is terms =
 pub rows_whole : {W : Type 0} {contents : W → Option (List ℕ)} {a b c : Sink W} {end : End} (o : Option BookValue) (at : BookValue) (head : BookHead)
     → o ≡ Some at → head ≡ book_head at
     → (head.terms ≡ length (terms_of o) → PutsRowsShare contents a (flat_map text_of_row (terms_rows 1 (terms_of o))) Whole b)
-    → (head.pledges ≡ length (pledges_of o) → PutsRowsShare contents b (flat_map text_of_row (flat_map pledge_csv_rows (pledges_of o))) end c)
+    → PutsRowsShare contents b (flat_map text_of_row (flat_map pledge_csv_rows (pledges_of o))) end c
     → PutsRowsShare contents a (below_text at) end c
 rows_whole {contents = contents} {a = a} {b = b} {c = c} {end = end} o at head is head_is terms pledges =
     let count : head.terms ≡ length (terms_of o) = ap (λ (x : BookHead). x.terms) head_is ∙ ap (λ (x : Option BookValue). length (terms_of x)) (sym is) in
-    let number : head.pledges ≡ length (pledges_of o) = ap (λ (x : BookHead). x.pledges) head_is
-    ∙ ap (λ (x : Option BookValue). length (pledges_of x)) (sym is) in
     share_then rows_in_turn
     (subst (λ (x : Option BookValue). PutsRowsShare contents a (flat_map text_of_row (terms_rows 1 (terms_of x))) Whole b) is (terms count))
-    (subst (λ (x : Option BookValue). PutsRowsShare contents b (flat_map text_of_row (flat_map pledge_csv_rows (pledges_of x))) end c) is (pledges number))
+    (subst (λ (x : Option BookValue). PutsRowsShare contents b (flat_map text_of_row (flat_map pledge_csv_rows (pledges_of x))) end c) is pledges)
 
 lines_mapped : (rows : List Row) → flat_map text_of_row rows ≡ flat_map (row_text default_writer) (map row_fields rows)
 lines_mapped [] = refl
@@ -52,7 +50,7 @@ book_is at = ap (λ (t : List ℕ). row_text default_writer header ++ (count_tex
 
 -- ---- how an export ends
 
--- however it ends, a front of the text went out
+-- however it ends, a prefix of the text was written
 front_sent : {W : Type 0} (contents : W → Option (List ℕ)) (a w : Sink W) (text : List ℕ) (end : End) → has_ended a ≡ false
     → PutsRowsShare contents a text end w → PutFront contents (seen a) text (seen w)
 front_sent contents a w text end fine share = from (has_ended w) refl (share.3.fine fine) where

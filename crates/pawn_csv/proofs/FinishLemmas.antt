@@ -1,4 +1,4 @@
--- The records of pledges whose rows are read.
+-- The records of pledges whose rows have been read.
 use Rattle.pawn_csv.proofs.Basics.{◌≡◌, ℕ, List, [], ◌∷◌, ◌++◌, map, Option, None, Some, Result, Ok, Err, true, sym}
 use Rattle.pawn_csv.proofs.Basics.{◌∙◌, subst, refl, ap, IfErr, IfNone, IfOk, IfSome}
 use Rattle.pawn_csv.specs.Common.{AreReplayable, BookRows, Closing, Each, IsUnder, PledgeValue, Rates, terms_at}
@@ -16,7 +16,7 @@ same_rest x y xs ys e = cc
 no_list : (x : RawPledge) (xs : List RawPledge) → x ∷ xs ≡ [] → ⊥
 no_list x xs e = cc
 
--- where one is none, no list is theirs
+-- if one of them is `None`, there is no list of them all
 pub no_parts : (terms : List Rates) (done : List RawPledge) (raw : RawPledge) (rest : List RawPledge) (pledges : List PledgeValue)
     → ((p : PledgeValue) → IsRawOf terms raw p → ⊥) → AreRawOf terms (done ++ raw ∷ rest) pledges → ⊥
 no_parts terms [] raw rest [] none h = no_list raw rest h.0
@@ -25,7 +25,7 @@ no_parts terms (d ∷ done) raw rest [] none h = no_list d (done ++ raw ∷ rest
 no_parts terms (d ∷ done) raw rest (p ∷ ps) none h =
     no_parts terms done raw rest ps none (same_rest d (raw_of p) (done ++ raw ∷ rest) (map raw_of ps) h.0, h.1.1, h.2.1)
 
--- columns tell one closing
+-- columns state at most one closing
 pub same_closing : (a b : Closing) → closing_word a ≡ closing_word b → closing_day a ≡ closing_day b → closing_amount a ≡ closing_amount b → a ≡ b
 same_closing Closing.Open Closing.Open w d m = refl
 same_closing (Closing.Redeemed x y) (Closing.Redeemed u v) w d m = cc
@@ -41,7 +41,7 @@ same_record : (p q : PledgeValue) → p.agreement.number ≡ q.agreement.number 
     → p.standing.closing ≡ q.standing.closing → p ≡ q
 same_record p q a b c d e f g h i j k l = rw (a, b, c, d, e, f, g, h, i, j, k, l) refl
 
--- rows and terms tell one pledge
+-- rows and terms determine at most one pledge
 same_pledge : (terms : List Rates) (p q : PledgeValue) → raw_of p ≡ raw_of q → IsUnder terms p → IsUnder terms q → p ≡ q
 same_pledge terms p q e u v =
     let version = ap (λ (r : RawPledge). r.columns.version) e in
@@ -63,7 +63,7 @@ same_pledges terms (p ∷ ps) (q ∷ qs) e u v =
     let rest = same_pledges terms ps qs (same_rest (raw_of p) (raw_of q) (map raw_of ps) (map raw_of qs) e) u.1 v.1 in
     rw (first, rest) refl
 
--- what was read is one book
+-- at most one book is read
 pub one_book : (b : Begun) (j k : BookRows) → IsBegunOf b j → IsBegunOf b k → AreReplayable j.terms j.pledges → AreReplayable k.terms k.pledges
 one_book b j k x y h =
     let terms = sym x.0 ∙ y.0 in

@@ -30,7 +30,7 @@ each_both (x ∷ xs) ys hx hy = (hx.0, each_both xs ys hx.1 hy)
 few_pence : (pence : ℕ) → is_bad_amount pence ≡ false → IsColumnNumber pence
 few_pence pence h = let few : pence ≤ most_pence = grind (arith, nat_tests, h) in omega (arith, few)
 
--- what the rules accept is a sum of at most a million pounds
+-- a sum that the rules accept is at most a million pounds
 accepted_pence : (s : Sort) (d : DebtValue) (x pence : ℕ) → IsOk (sort_answer s d x pence) → IsColumnNumber pence
 accepted_pence Draw d x pence h = few_pence pence ((first_of-is_ok (draw_rows d x pence) (Ok (with_entry d x Draw pence)) h).0.1.1.0)
 accepted_pence Repay d x pence h = few_pence pence ((first_of-is_ok (repay_rows d x pence) (Ok (with_entry d x Repay pence)) h).0.1.0)
@@ -39,7 +39,7 @@ all_pence : (d : DebtValue) (prior es : List Entry) → AreEntriesAccepted d pri
 all_pence d prior [] h = tt
 all_pence d prior (e ∷ es) h = (accepted_pence e.sort (record d { entries = prior }) e.day e.pence h.0.1, all_pence d (prior ++ e ∷ []) es h.1)
 
--- what is owing on a pledge's last day has twelve digits
+-- the sum owed on a pledge's last day has at most twelve digits
 total_fits : (p : PledgeValue) → IsReachable p → IsColumnNumber (total_on p p.standing.last)
 total_fits p h =
     let d = debt_of p in

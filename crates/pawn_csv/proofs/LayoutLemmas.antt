@@ -1,4 +1,4 @@
--- Only rows that are laid out are taken, and why others are refused.
+-- Only rows in the layout of a book are accepted, and why other rows are refused.
 use Rattle.pawn_csv.proofs.Basics.{◌≡◌, ◌∙◌, ◌⊎◌, inl, inr, ◌+◌, ◌≤◌, ◌<◌, ℕ, Bool, true, false, List, [], ◌∷◌, ◌++◌}
 use Rattle.pawn_csv.proofs.Basics.{length, map, Option, Some, None, Result, Ok, Err, refl, sym, ap, subst, arith, cond}
 use Rattle.pawn_csv.proofs.Basics.{nat_lt, nat_le, ◌==◌, ◌&&◌, ◌||◌, and_parts, nat_tests}
@@ -17,9 +17,9 @@ use Rattle.pawn_csv.specs.Order.{unless_full}
 use Rattle.pawn_csv.specs.Rows.{Knows, terms_rows}
 use Rattle.pawn_csv.specs.Types.{Cause, PledgeColumns, RawPledge, Row, Version}
 
--- ---- what holds of a book of which some rows were taken
+-- ---- what is true of a book of which some rows were accepted
 
--- the pledge at hand is the next, and its lists are within the limits
+-- the current pledge is the next one, and its lists are within the limits
 abbrev IsLaidHand : Version → List RawPledge → Option RawPledge → Type 0
 IsLaidHand v pledges None = Unit {0}
 IsLaidHand v pledges (Some p) = (p.columns.number ≡ length pledges + 1) × IsWithin v p
@@ -35,7 +35,7 @@ laid_push : (v : Version) (k : ℕ) (ps : List RawPledge) (p : RawPledge) → Ar
 laid_push v k [] p laid at first within = (omega (arith, at), first, within, tt)
 laid_push v k (q ∷ ps) p laid at first within = (laid.0, laid.1, laid.2, laid_push v (k + 1) ps p laid.3 (omega (arith, at)) first within)
 
--- the pledges so far, once the one at hand may end
+-- the pledges so far, once the current one is complete
 laid_all : (v : Version) (ps : List RawPledge) (o : Option RawPledge) → AreLaidFrom 1 v ps → IsLaidHand v ps o → may_end o ≡ true
     → AreLaidFrom 1 v (ps ++ hand o)
 laid_all v ps None laid none over = subst (AreLaidFrom 1 v) (sym (none_more ps)) laid where
@@ -117,7 +117,7 @@ booking_within v p q x h within =
     subst (λ (r : RawPledge). (r.columns ≡ p.columns) × IsWithin v r) g.1
     (refl, record { secrets = within.secrets; entries = within.entries; extensions = within.extensions; numbered = within.numbered; known = within.known })
 
--- a row of the pledge at hand
+-- a row of the current pledge
 hand_kept : (b c : Begun) (number : ℕ) (o : Option RawPledge) (f : RawPledge → Result RawPledge Cause) → b.at_hand ≡ o → on_hand b number o f ≡ Ok c
     → ((p q : RawPledge) → f p ≡ Ok q → IsWithin b.version p → (q.columns ≡ p.columns) × IsWithin b.version q) → IsLaidSoFar b → IsLaidSoFar c
 hand_kept b c number None f at h keeps laid = cc
@@ -192,7 +192,7 @@ run_kept (r ∷ rows) s t h laid =
       | Err e ↦ λ at rest. cc
     ] refl h
 
--- ---- rows that are taken to their end
+-- ---- rows that are accepted to their end
 
 pub taken_are_laid_out : TakenAreLaidOut
 taken_are_laid_out rows b ran whole =

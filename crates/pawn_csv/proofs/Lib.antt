@@ -13,8 +13,7 @@ pub mod FitLemmas
 pub mod OneReading
 pub mod OneBook
 pub mod SentLemmas
-pub mod ListLemmas
-pub mod RecordLemmas
+pub mod ItemLemmas
 pub mod CountLemmas
 pub mod ExportLemmas
 pub mod PadLemmas

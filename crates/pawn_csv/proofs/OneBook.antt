@@ -1,4 +1,4 @@
--- A text holds one book.
+-- A text is the text of at most one book.
 use Rattle.pawn_csv.proofs.Basics.{◌≡◌, ◌∙◌, ◌++◌, ◌∷◌, ◌≤◌, ℕ, [], Bool, true, false, List, length, Option, Some, refl}
 use Rattle.pawn_csv.proofs.Basics.{sym, ap, subst, arith, nat_le, map, append-nil, nat_tests}
 use Rattle.pawn_csv.proofs.FinishLemmas.{same_closing, same_rates}

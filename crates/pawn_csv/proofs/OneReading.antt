@@ -22,7 +22,7 @@ same_read p q o a b = let e = sym a ∙ b in cc
 no_read : (p : Read) (o : Option Read) → o ≡ None → o ≡ Some p → ⊥
 no_read p o a b = let e = sym a ∙ b in cc
 
--- of two lists that were reached the longer goes on from the shorter
+-- if two lists of records were reached, the longer one begins with the shorter one
 pub reached_on : (cfg : Config) (fronts bs : List (List (List ℕ))) (s : State) (xs : List ℕ) (s2 : State) (ys : List ℕ) (s3 : State) (zs : List ℕ)
     → Reached cfg s xs fronts s2 ys → Reached cfg s xs bs s3 zs → length fronts ≤ length bs
     → (more : List (List (List ℕ))) × (fronts ++ more ≡ bs) × Reached cfg s2 ys more s3 zs
@@ -35,7 +35,7 @@ reached_on cfg (f ∷ fronts) (r ∷ bs) s xs s2 ys s3 zs a b short =
     reached_on cfg fronts bs a.0.1 a.0.2 s2 ys s3 zs a.3 (subst (λ (q : Read). Reached cfg q.1 q.2 bs s3 zs) (sym same) b.3) (omega (arith, short)) in
     (more, ap (λ x. x ∷ (fronts ++ more)) (a.2 ∙ ap (λ (q : Read). q.0) same ∙ sym b.2) ∙ ap (λ xs. r ∷ xs) whole, on)
 
--- the first of the records that go on
+-- the first of the records that follow
 next_of : (cfg : Config) (s : State) (xs : List ℕ) (x : List (List ℕ)) (more : List (List (List ℕ))) (s2 : State) (ys : List ℕ)
     → Reached cfg s xs (x ∷ more) s2 ys → (p : Read) × (next_record cfg s [] [] xs ≡ Some p) × (x ≡ p.0)
 unfolding Reached
@@ -59,14 +59,14 @@ same_rows (r ∷ rs) (s ∷ ss) hr hs e =
 same_begun : (s t : Option Begun) (o : Result (Option Begun) Cause) → o ≡ Ok s → o ≡ Ok t → s ≡ t
 same_begun s t o a b = let e = sym a ∙ b in cc
 
--- what the same records make is the same
+-- the same records lead to the same state
 pub taken_same : (before : List (List (List ℕ))) (rows others : List Row) (s t : Option Begun) → AreTaken before rows s → AreTaken before others t → s ≡ t
 taken_same [] rows others s t a b = a.1 ∙ sym b.1
 taken_same (h ∷ rs) rows others s t a b =
     let same = same_rows rows others a.2 b.2 (sym a.1 ∙ b.1) in
     same_begun s t (run None rows) a.3 (subst (λ (xs : List Row). run None xs ≡ Ok t) (sym same) b.3)
 
--- the columns of a row are fifteen
+-- a row has fifteen columns
 fifteen : (r : Row) → length (row_fields r) ≡ length header
 fifteen (Row.Book version terms pledges) = refl
 fifteen r = refl
@@ -77,20 +77,20 @@ same_answer o c d a b = let e = sym a ∙ b in cc
 no_answer : (o : Result Begun Cause) (b : Begun) (c : Cause) → o ≡ Ok b → o ≡ Err c → ⊥
 no_answer o b c a e = let x = sym a ∙ e in cc
 
--- columns are refused for one cause
+-- columns are refused for only one cause
 one_refusal : (fields : List (List ℕ)) (s : Option Begun) (c d : Cause) → IsRowRefused fields s c → IsRowRefused fields s d → c ≡ d
 one_refusal fields s c d a b =
     let same = one_row a.0 b.0 a.1.0 b.1.0 (sym a.1.1 ∙ b.1.1) in
     same_answer (place s a.0) c d a.2 (subst (λ (r : Row). place s r ≡ Err d) (sym same) b.2)
 
--- columns that were taken are refused for none
+-- columns of an accepted row are not refused
 no_refusal : (fields : List (List ℕ)) (s : Option Begun) (r : Row) (b : Begun) (c : Cause) → FitsColumns r → fields ≡ row_fields r → place s r ≡ Ok b
     → IsRowRefused fields s c → ⊥
 no_refusal fields s r b c fits spelled placed a =
     let same = one_row r a.0 fits a.1.0 (sym spelled ∙ a.1.1) in
     no_answer (place s a.0) b c (subst (λ (x : Row). place s x ≡ Ok b) same placed) a.2
 
--- columns that were taken are refused for no cause
+-- columns that were accepted are refused for no cause
 not_taken : (x : List (List ℕ)) (s : Option Begun) (r : Row) (u : Begun) → FitsColumns r → x ≡ row_fields r → place s r ≡ Ok u → (e : Cause) → e ≢ Cause.Memory
     → RefusesRow x s e → ⊥
 not_taken x s r u fits spelled placed e other (inl memory) = other memory
@@ -98,7 +98,7 @@ not_taken x s r u fits spelled placed e other (inr (inl few)) = few.1 (ap length
 not_taken x s r u fits spelled placed e other (inr (inr (inl none))) = none.2 r fits spelled
 not_taken x s r u fits spelled placed e other (inr (inr (inr refusal))) = no_refusal x s r u e fits spelled placed refusal
 
--- of rows that ran the first was placed, and the others ran from there
+-- if rows were accepted, the first one was, and the others were accepted after it
 run_first : (from : Option Begun) (r : Row) (later : List Row) (t : Option Begun) (o : Result Begun Cause) → place from r ≡ o
     → then_run o (λ v. run v later) ≡ Ok t → (u : Begun) × (place from r ≡ Ok u) × (run (Some u) later ≡ Ok t)
 run_first from r later t (Ok u) is ran = (u, is, ran)
@@ -139,12 +139,12 @@ taken_next (h ∷ rs) x more rows others s t c why a b refused =
     taken_after x more rs rows others None s t c why (sym a.1) a.2 a.3 (sym b.1) b.2 b.3
     (subst (λ (v : Bool). Taking v x s (let r : Result (Unit {0}) Cause = Err c in r) s) later refused)
 
--- why the records that were taken go on no further
+-- why no record after those that were accepted is accepted
 abbrev pub Stops : List (List (List ℕ)) → State → List ℕ → Option Begun → Cause → Type 0
 Stops before state rest s c = ((p : Read) × (next_record default_config state [] [] rest ≡ Some p) × Taking (nat_eq (length before) 0) p.0 s
     (let r : Result (Unit {0}) Cause = Err c in r) s) ⊎ ((next_record default_config state [] [] rest ≡ None) × EndsReadingAs before s c)
 
--- they stop where no other reading goes on
+-- where they stop, every other reading stops too
 goes_on : (before : List (List (List ℕ))) (x : List (List ℕ)) (more : List (List (List ℕ))) (rows others : List Row) (s t : Option Begun) (c : Cause)
     (state : State) (rest : List ℕ) (s2 : State) (ys : List ℕ) → c ≢ Cause.Memory → AreTaken before rows s → AreTaken (before ++ x ∷ more) others t
     → Reached default_config state rest (x ∷ more) s2 ys → Stops before state rest s c → ⊥
@@ -180,7 +180,7 @@ one_taking : (first : Bool) (x : List (List ℕ)) (s : Option Begun) (c d : Caus
 one_taking true x s c d hc hd a b = a.1 ∙ sym b.1
 one_taking false x s c d hc hd a b = one_verdict x s c d (verdict_of x s c hc a) (verdict_of x s d hd b)
 
--- why the end is refused: rows are wanting, or they make no book
+-- why the end is refused: rows are missing, or they are those of no book
 end_of : (s : Option Begun) (e : Cause) → e ≢ Cause.Memory → RefusesEnd s e
     → ((e ≡ Cause.Order) × (is_whole s ≡ false)) ⊎ ((e ≡ Cause.NotReplayable) × IsOfNoBook s)
 end_of s Cause.Order other says = inl (refl, says)
@@ -202,7 +202,7 @@ one_end (h ∷ rs) s c d hc hd a b = from (end_of s c hc a) (end_of s d hd b) wh
   from (inr x) (inl y) = absurd (whole_or_not (is_whole s) y.1 x.1.2)
   from (inr x) (inr y) = x.0 ∙ sym y.0
 
--- they stop for one cause
+-- they stop for only one cause
 one_stop : (before : List (List (List ℕ))) (state : State) (rest : List ℕ) (s : Option Begun) (c d : Cause) → c ≢ Cause.Memory → d ≢ Cause.Memory
     → Stops before state rest s c → Stops before state rest s d → c ≡ d
 one_stop before state rest s c d hc hd (inl a) (inl b) =
@@ -213,7 +213,7 @@ one_stop before state rest s c d hc hd (inl a) (inr b) = absurd (no_read a.0 _ b
 one_stop before state rest s c d hc hd (inr a) (inl b) = absurd (no_read b.0 _ a.0 b.1)
 one_stop before state rest s c d hc hd (inr a) (inr b) = one_end before s c d hc hd a.1 b.1
 
--- of two first faults one reading goes on from the other, and so nowhere
+-- of the readings up to two first faults, one would continue the other, but nothing follows a fault
 no_longer : (text : List ℕ) (c d : Cause) (m n : ℕ) (f : IsFirstCause text c m) (g : IsFirstCause text d n) → c ≢ Cause.Memory
     → (more : List (List (List ℕ))) → f.at.before ++ more ≡ g.at.before → Reached default_config f.at.state f.at.rest more g.at.state g.at.rest → more ≡ []
 no_longer text c d m n f g why [] whole on = refl
@@ -221,7 +221,7 @@ no_longer text c d m n f g why (x ∷ more) whole on =
     absurd (goes_on f.at.before x more f.at.rows g.at.rows f.at.begun g.at.begun c f.at.state f.at.rest g.at.state g.at.rest why f.at.taken
     (subst (λ (b : List (List (List ℕ))). AreTaken b g.at.rows g.at.begun) (sym whole) g.at.taken) on f.why)
 
--- one that is no shorter has the same cause and the same row
+-- a reading that is at least as long has the same cause and the same row
 same_fault : (text : List ℕ) (c d : Cause) (m n : ℕ) (f : IsFirstCause text c m) (g : IsFirstCause text d n) → c ≢ Cause.Memory → d ≢ Cause.Memory
     → length f.at.before ≤ length g.at.before → (c ≡ d) × (m ≡ n)
 same_fault text c d m n f g hc hd short =

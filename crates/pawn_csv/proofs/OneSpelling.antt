@@ -17,7 +17,7 @@ use Rattle.std.proofs.lemmas.Fmt.{decimal_injective, decimal_nonempty}
 column : (place : ℕ) (a b : List (List ℕ)) → a ≡ b → get_or a place [] ≡ get_or b place []
 column place a b e = ap (λ (fields : List (List ℕ)). get_or fields place []) e
 
--- two words that begin alike
+-- two words that are equal have the same letter at each place
 letter : (place : ℕ) (a b : List ℕ) → a ≡ b → get_or a place 0 ≡ get_or b place 0
 letter place a b e = ap (λ (text : List ℕ). get_or text place 0) e
 

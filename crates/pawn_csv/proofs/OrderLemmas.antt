@@ -1,4 +1,4 @@
--- Rows that were taken are shown by what they made.
+-- The state after rows were accepted shows which rows they were.
 use Rattle.pawn_csv.proofs.Basics.{◌≡◌, ◌∙◌, ◌+◌, ℕ, Bool, true, false, List, [], ◌∷◌, ◌++◌, length, Option, Some, None}
 use Rattle.pawn_csv.proofs.Basics.{Result, Ok, Err, refl, sym, ap, subst, append_assoc, arith, cond, nat_le, ◌==◌, ◌&&◌}
 use Rattle.pawn_csv.proofs.Basics.{and_parts, append-nil, nat_tests}
@@ -39,7 +39,7 @@ extension_rows-snoc k n [] x = ap (λ (m : ℕ). Row.Extension k m x ∷ []) (om
 extension_rows-snoc k n (e ∷ es) x = ap (λ (rs : List Row). Row.Extension k n e ∷ rs)
     (extension_rows-snoc k (n + 1) es x ∙ ap (λ (m : ℕ). extension_rows k (n + 1) es ++ Row.Extension k m x ∷ []) (omega arith))
 
--- one more of each kind, where the later kinds are not there
+-- one more row of each kind, if there are no rows of the later kinds yet
 secret_more : (n : ℕ) (is : List Issued) (x : Issued) → list_rows n (is ++ x ∷ []) [] [] None ≡ list_rows n is [] [] None ++ Row.Secret n (1 + length is) x ∷ []
 secret_more n is x = append-nil (secret_rows n 1 (is ++ x ∷ [])) ∙ secret_rows-snoc n 1 is x
     ∙ ap (λ (rs : List Row). rs ++ Row.Secret n (1 + length is) x ∷ []) (sym (append-nil (secret_rows n 1 is)))
@@ -66,7 +66,7 @@ booking_more n is es xs b =
     1 xs)))) ∙ ap (λ (rs : List Row). secret_rows n 1 is ++ rs) (sym (append_assoc (entry_rows n es) (extension_rows n 1 xs ++ []) (Row.Booking n b ∷ [])))
     ∙ sym (append_assoc (secret_rows n 1 is) (entry_rows n es ++ (extension_rows n 1 xs ++ [])) (Row.Booking n b ∷ []))
 
--- a row that a pledge takes is its last
+-- a row that a pledge accepts becomes its last row
 abbrev pub Shows : RawPledge → RawPledge → Row → Type 0
 Shows p q row = raw_rows q ≡ raw_rows p ++ row ∷ []
 

@@ -88,13 +88,13 @@ pub bom_passed : (o : Option (List ℕ)) (P : List ℕ → Type 0) → IfSome (o
 bom_passed None P h = tt
 bom_passed (Some text) P h = h
 
--- a first fault is the text's, whatever its cause
+-- the first fault is the fault of the text, whatever its cause
 pub first_is : (text : List ℕ) (c : Cause) (row : ℕ) → IsFirstCause text c row → IsFaultOf text c row
 first_is text Cause.Memory row h = h.at
 first_is text Cause.Read row h = h.at
 first_is text c row h = h
 
--- the records so far were taken before the next row
+-- the records so far were accepted before the next row
 abbrev pub so_far_before : {R : Type 0} (rem : R → Option (List ℕ)) (text : List ℕ) (a : Reader R) (i : ℕ) (raw : Option Begun) → SoFar rem text a i raw
     → AreTakenBefore text (i + 1)
 so_far_before rem text a i raw so = record {
@@ -108,7 +108,7 @@ so_far_before rem text a i raw so = record {
   place = ap (λ n. n + 1) so.count;
 }
 
--- an error of a reader that takes any length is the reader's own or memory's
+-- a CSV reader that accepts records of any length fails only because the inner reader failed or memory ran out
 pub reader_fault : {R : Type 0} (rem : R → Option (List ℕ)) (text : List ℕ) (a b : Reader R) (i : ℕ) (raw : Option Begun) (k : ErrorKind) (c : Cause)
     → a.flexible ≡ true → SoFar rem text a i raw → ExplainsRead rem a b false k → CauseOf k c → IsFaultOf text c (i + 1)
 reader_fault rem text a b i raw (ErrorKind.Io e) c flexible so why is =
@@ -130,7 +130,7 @@ next_was : (f : List (List ℕ)) (s : State) (k : Option (List ℕ)) (xs : List 
 next_was f s None xs state h = absurd h
 next_was f s (Some ys) xs state h = next_is (next_record default_config state [] [] xs) f s ys h
 
--- a refusal allows any state after it
+-- after a refusal the state may be any
 refused_as : (first : Bool) (f : List (List ℕ)) (raw new other : Option Begun) (c : Cause)
     → Taking first f raw (let r : Result (Unit {0}) Cause = Err c in r) new → Taking first f raw (let r : Result (Unit {0}) Cause = Err c in r) other
 refused_as true f raw new other c h = h

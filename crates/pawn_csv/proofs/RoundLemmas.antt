@@ -33,7 +33,7 @@ no_mark : (rest : List ℕ) → strip_bom (row_text default_writer header ++ res
 unfolding strip_bom escaped fields_text is_blank
 no_mark rest = refl
 
--- the text of a book that a text can hold
+-- the text of a book that can be written as a text
 pub held_texts_are_read : (k : BookRows) → IsHeldBy Version.Two k → IsTextOf (strip_bom (csv_of k)) k
 unfolding Reached
 held_texts_are_read k held =

@@ -1,4 +1,4 @@
--- The rows of a book are taken to their end.
+-- The rows of a book are accepted to their end.
 use Rattle.pawn_base.proofs.TestLemmas.{equal}
 use Rattle.pawn_csv.proofs.Basics.{◌≡◌, ◌∙◌, ◌+◌, ◌≤◌, ◌<◌, ℕ, Bool, true, false, List, [], ◌∷◌, ◌++◌, length, map}
 use Rattle.pawn_csv.proofs.Basics.{Option, Some, None, Result, Ok, Err, refl, sym, ap, subst, append_assoc, arith, cond}
@@ -17,7 +17,7 @@ use Rattle.pawn_csv.specs.Rows.{Knows, booking_csv_rows, entry_rows, extension_r
 use Rattle.pawn_csv.specs.Rows.{terms_rows, version_rows}
 use Rattle.pawn_csv.specs.Types.{Cause, PledgeColumns, RawPledge, Row, Version}
 
--- ---- tests that hold, and rows one after the other
+-- ---- tests that are true, and rows one after another
 
 ordered : {A : Type 0} (test : Bool) (x : A) → test ≡ true → in_order test x ≡ Ok x
 ordered true x e = refl
@@ -42,7 +42,7 @@ run_on (x ∷ xs) ys s t e =
       | Err c ↦ λ on. cc
     ] e
 
--- ---- what was read, by its parts
+-- ---- the parts of what was read
 
 abbrev begun : Version → ℕ → ℕ → List Rates → List RawPledge → Option RawPledge → Begun
 begun v m n terms pledges at_hand = record { version = v; terms_due = m; pledges_due = n; terms = terms; pledges = pledges; at_hand = at_hand }
@@ -127,7 +127,7 @@ run_extensions m n k terms pledges c i is entries done (x ∷ xs) at few =
     xs (omega (arith, at, longer done x)) (omega (arith, few, longer done x)) ∙ ap (λ (y : List Extension). let r : Result (Option Begun) Cause =
     Ok (Some (begun Version.Two m n terms pledges (Some (raw c (i ∷ is) entries y None)))) in r) (append_assoc done (x ∷ []) xs)
 
--- extensions, where the version knows them
+-- extensions, if the version has them
 run_known : (v : Version) (m n : ℕ) (terms : List Rates) (pledges : List RawPledge) (c : PledgeColumns) (i : Issued) (is : List Issued) (entries : List Entry)
     (xs : List Extension) → (v ≡ Version.One → xs ≡ []) → length xs ≤ most_extensions → run (Some (begun v m n terms pledges
     (Some (raw c (i ∷ is) entries [] None)))) (extension_rows c.number 1 xs) ≡ Ok (Some (begun v m n terms pledges (Some (raw c (i ∷ is) entries xs None))))
@@ -168,7 +168,7 @@ first_there : (taken credit : ℕ) (is : List Issued) → AreIssued taken credit
 first_there taken credit [] h = absurd h
 first_there taken credit (i ∷ is) h = tt
 
--- the rows of a pledge that is next
+-- the rows of the next pledge
 run_pledge : (v : Version) (m n : ℕ) (terms : List Rates) (done : List RawPledge) (at_hand : Option RawPledge) (p : RawPledge) → length terms ≡ m
     → may_end at_hand ≡ true → p.columns.number ≡ length (done ++ hand at_hand) + 1 → p.columns.number ≤ n → has_secret p ≡ true → IsWithin v p
     → run (Some (begun v m n terms done at_hand)) (raw_rows p) ≡ Ok (Some (begun v m n terms (done ++ hand at_hand) (Some p)))
@@ -195,7 +195,7 @@ run_pledge v m n terms done at_hand p all over at due first within = from p.secr
 
 -- ---- the rows of a book
 
--- pledges were taken after others: they follow those, and the last may end
+-- pledges were accepted after others: they follow them, and the last one is complete
 abbrev Follows : Version → ℕ → ℕ → List Rates → List RawPledge → Option RawPledge → List RawPledge → Type 0
 Follows v m n terms done at_hand ps = (now : List RawPledge) × (last : Option RawPledge) × (run (Some (begun v m n terms done at_hand))
     (flat_map raw_rows ps) ≡ Ok (Some (begun v m n terms now last))) × (now ++ hand last ≡ (done ++ hand at_hand) ++ ps) × (may_end last ≡ true)
@@ -230,7 +230,7 @@ begins v m n few_terms few_pledges =
     let few : (nat_lt most_terms m || nat_lt most_pledges n) ≡ false = grind (arith, nat_tests, few_terms, few_pledges) in
     ap (λ (t : Bool). let r : Result Begun Cause = cond t (Err Cause.TooMany) (Ok (begun v m n [] [] None)) in r) few
 
--- rows that are laid out are taken to their end
+-- rows in the layout of a book are accepted to their end
 pub layouts_are_taken : LayoutsAreTaken
 layouts_are_taken v terms pledges laid =
     let m = length terms in
@@ -280,11 +280,11 @@ laid_book v k replayable knows = record {
   laid = laid_from v 1 k.pledges replayable.numbered replayable.reachable (plain v k knows);
 }
 
--- its rows are laid out
+-- its rows have the layout
 pub book_rows_are : (v : Version) (k : BookRows) → laid_rows v k.terms (map raw_of k.pledges) ≡ rows_of_csv v k
 book_rows_are v k = λ i. Row.Book v (length k.terms) (length-raw k.pledges i) ∷ (terms_rows 1 k.terms ++ flat_map-raw k.pledges i)
 
--- the rows of a book were taken, and make it
+-- the rows of a book were accepted, and the book is made of them
 abbrev pub Makes : Version → BookRows → Type 0
 Makes v k = (b : Begun) × (run None (rows_of_csv v k) ≡ Ok (Some b)) × (is_whole (Some b) ≡ true) × IsBegunOf b k
 
@@ -297,7 +297,7 @@ run_book v k replayable knows =
       (terms, (pledges, subst (λ (ts : List Rates). Each (IsUnder ts) k.pledges) (sym terms) replayable.under, are_raw k.pledges replayable.reachable)),
     )
 
--- the records of a text that holds a book are taken to their end, and make that book
+-- the records of a text with a book are accepted to their end, and that book is made of them
 pub texts_are_read_as : TextsAreReadAs
 texts_are_read_as text k (v, are, held) =
     let (b, ran, whole, is) = run_book v k held.0 held.1 in

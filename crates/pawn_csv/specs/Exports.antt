@@ -1,33 +1,40 @@
 -- What an export writes and answers.
-use Rattle.pawn_csv.specs.Common.{Entry, Extension, Flow, Go, Host, Issued, KeepError, Stop, ViewFault, Whole, get}
-use Rattle.pawn_csv.specs.Common.{rows_of_book}
-use Rattle.pawn_csv.specs.Rows.{csv_of}
+use Rattle.pawn_book.specs.declared.items.PledgeItem.{PledgeItem}
+use Rattle.pawn_book.specs.declared.items.RowItem.{RowItem}
+use Rattle.pawn_csv.specs.Common.{Flow, Go, Host, KeepError, Stop, ViewFault, Whole, get, rows_of_book}
+use Rattle.pawn_csv.specs.Rows.{closing_amount, closing_day, closing_word, csv_of}
 use Rattle.pawn_csv.specs.Sent.{PutsRow, has_ended, text_of_row, seen}
-use Rattle.pawn_csv.specs.Types.{Row, RowWriter, Sink}
+use Rattle.pawn_csv.specs.Types.{PledgeColumns, Row, RowWriter, Sink}
 use Rattle.pawn_writing.specs.Ends.{PutFront, Written, write_failed}
 use Rattle.pawn_writing.specs.Fault.{view_fault}
-use Rattle.std.specs.Prelude.{◌≡◌, ℕ, ◌+◌, ◌-◌, ◌^◌, min, Bool, true, false, if◌then◌else◌, List, [], Option, Some}
+use Rattle.std.specs.Prelude.{◌≡◌, ℕ, Bool, true, false, if◌then◌else◌, List, [], Option, Some}
 use Rattle.std.specs.Prelude.{None, option_map, unwrap_or, Result, Ok, Err}
 
--- the row of a pledge's secret, at its place
-abbrev pub secret_line : ℕ → ℕ → Issued → List ℕ
-secret_line number place issued = text_of_row (Row.Secret number place issued)
+-- the columns of a pledge's own row
+abbrev pub item_columns : PledgeItem → PledgeColumns
+item_columns q = record {
+  number = q.number;
+  opening = q.opening;
+  taken = q.taken;
+  version = q.version;
+  held = q.held;
+  last = q.last;
+  closing = closing_word q.closing;
+  closing_day = closing_day q.closing;
+  amount = closing_amount q.closing;
+}
 
--- the row of a pledge's entry, which has its own number and needs no place
-abbrev pub entry_row_text : ℕ → ℕ → Entry → List ℕ
-entry_row_text number place entry = text_of_row (Row.Entry number entry)
+-- a row of a pledge, as a row of a book's text
+abbrev pub csv_row : RowItem → Row
+csv_row (RowItem.Pledge pledge) = Row.Pledge (item_columns pledge)
+csv_row (RowItem.Secret number place issued) = Row.Secret number place issued
+csv_row (RowItem.Entry number entry) = Row.Entry number entry
+csv_row (RowItem.Extension number place extension) = Row.Extension number place extension
+csv_row (RowItem.Booking number booking) = Row.Booking number booking
 
--- the row of a pledge's extension, at its place
-abbrev pub extension_line : ℕ → ℕ → Extension → List ℕ
-extension_line number place extension = text_of_row (Row.Extension number place extension)
-
--- a row writer as a visitor: it writes an item's row at its place, advances to the next place, and stops once a row was
--- not written completely
-pub record PutsAt {W T : Type 0} (contents : W → Option (List ℕ)) (line : ℕ → ℕ → T → List ℕ) (v : RowWriter W) (item : T) (flow : Flow)
-    (w : RowWriter W) : Type 0 where
-  pub puts : PutsRow contents v.sink (line v.number v.place item) w.sink
-  pub number : w.number ≡ v.number
-  pub place : w.place ≡ min (v.place + 1) (2 ^ 64 - 1)
+-- a row writer as a visitor: it writes the row, and stops once a row was not written completely
+pub record PutsRowItem {W : Type 0} (contents : W → Option (List ℕ)) (v : RowWriter W) (item : RowItem) (flow : Flow) (w : RowWriter W) : Type 0 where
+  pub puts : PutsRow contents v.sink (text_of_row (csv_row item)) w.sink
   pub flow_is : flow ≡ (if has_ended w.sink then Stop else Go)
 
 -- the text of a book, if the host has the book

@@ -1,7 +1,7 @@
 -- What contracts state about a writer of rows, and when a text counts as written.
-use Rattle.pawn_csv.specs.Common.{BriefFields, End, default_writer, row_text}
-use Rattle.pawn_csv.specs.Rows.{own_columns, row_fields}
-use Rattle.pawn_csv.specs.Types.{PledgeColumns, Row, Sink}
+use Rattle.pawn_csv.specs.Common.{End, default_writer, row_text}
+use Rattle.pawn_csv.specs.Rows.{row_fields}
+use Rattle.pawn_csv.specs.Types.{Row, Sink}
 use Rattle.pawn_writing.specs.Ends.{Share, Written, end_by, write_failed}
 use Rattle.pawn_writing.specs.declared.writing.Writing.{Writing}
 use Rattle.std.specs.Prelude.{ℕ, Bool, true, false, List, ◌||◌, ◌≡◌, Option}
@@ -28,7 +28,3 @@ PutsRowsShare contents old text end new = Share (PutsRow contents) has_ended old
 -- the text of a row
 abbrev pub text_of_row : Row → List ℕ
 text_of_row row = row_text default_writer (row_fields row)
-
--- the columns of a pledge's own row, which do not depend on its lists
-abbrev pub brief_columns : BriefFields → PledgeColumns
-brief_columns b = own_columns b.agreement b.standing

@@ -3,9 +3,9 @@ use Rattle.pawn_base.specs.Text.{IsText}
 use Rattle.pawn_csv.specs.Columns.{kind_text, text_if_any, yes_text}
 use Rattle.pawn_csv.specs.Common.{IsOpening, IsUtf8, Opening, credit_of}
 use Rattle.pawn_csv.specs.Rows.{IsColumnNumber}
-use Rattle.pawn_csv.specs.Types.{COLUMNS}
 use Rattle.pawn_terms.specs.Calendar.{IsStampDay, day_text}
-use Rattle.std.specs.Prelude.{◌≡◌, ℕ, ◌≤◌, ◌<◌, List, [], Option, None, Some, IfSome, decimal, get_or}
+use Rattle.std.specs.Borrow.{Bor}
+use Rattle.std.specs.Prelude.{◌≡◌, ℕ, List, [], map, Option, None, Some, IfSome, decimal, get_or}
 
 -- the result of reading a column: the value that is spelled like this and satisfies its rule, or `None` if there is no
 -- such value
@@ -17,9 +17,9 @@ ReadsAs text Keeps spelled None = (x : _) → Keeps x → spelled ≡ text x →
 abbrev pub column_at : List (List ℕ) → ℕ → List ℕ
 column_at fields place = get_or fields place []
 
--- the columns from this place on are empty
-abbrev pub AreBlankFrom : ℕ → List (List ℕ) → Type 0
-AreBlankFrom first fields = (place : ℕ) → first ≤ place → place < COLUMNS → column_at fields place ≡ []
+-- the texts of columns that the program has as borrowed bytes
+abbrev pub texts_of : List (Bor (List ℕ)) → List (List ℕ)
+texts_of columns = map (λ column. column.now) columns
 
 -- a text of 1 to `most` bytes, in UTF-8
 abbrev pub IsTextColumn : ℕ → List ℕ → Type 0
@@ -36,9 +36,9 @@ pub record IsOpeningOf (fields : List (List ℕ)) (o : Opening) : Type 0 where
   pub opening : IsOpening o
   pub utf8 : IsUtf8 o.reference × IsUtf8 o.article
   pub credit : IsColumnNumber (credit_of o.kind)
-  pub c2 : column_at fields 2 ≡ o.reference
-  pub c3 : column_at fields 3 ≡ o.article
-  pub c4 : column_at fields 4 ≡ kind_text o.kind
-  pub c5 : column_at fields 5 ≡ decimal (credit_of o.kind)
-  pub c7 : column_at fields 7 ≡ text_if_any day_text o.agreed
-  pub c8 : column_at fields 8 ≡ yes_text o.five_days
+  pub reference_is : column_at fields 2 ≡ o.reference
+  pub article_is : column_at fields 3 ≡ o.article
+  pub kind_is : column_at fields 4 ≡ kind_text o.kind
+  pub amount_is : column_at fields 5 ≡ decimal (credit_of o.kind)
+  pub agreed_is : column_at fields 7 ≡ text_if_any day_text o.agreed
+  pub five_days_is : column_at fields 8 ≡ yes_text o.five_days

@@ -1,13 +1,14 @@
 //! Reads single columns: numbers, days, secrets, texts and words. A malformed column reads as `None`.
 ghost use Rattle.pawn_csv.specs.Columns.{IsAny, closing_text, form_text, issue_text, kind_text, text_if_any, yes_text};
-ghost use Rattle.pawn_csv.specs.Common.{IsWord, credit_of, fields_of, secret_text, sort_text, state_text};
+ghost use Rattle.pawn_csv.specs.Common.{Each, IsWord, credit_of, fields_of, secret_text, sort_text, state_text};
 ghost use Rattle.pawn_csv.specs.Rows.{IsColumnNumber};
-ghost use Rattle.pawn_csv.specs.Spelling.{AreBlankFrom, IsColumnNumberIfAny, IsStampDayIfAny, IsTextColumn, ReadsAs};
-ghost use Rattle.pawn_csv.specs.Spelling.{column_at};
+ghost use Rattle.pawn_csv.specs.Spelling.{IsColumnNumberIfAny, IsStampDayIfAny, IsTextColumn, ReadsAs, column_at};
+ghost use Rattle.pawn_csv.specs.Spelling.{texts_of};
 ghost use Rattle.pawn_terms.specs.Calendar.{IsStampDay, day_text};
-ghost use Rattle.std.specs.Prelude.{◌≡◌, ℕ, ◌↔◌, List, IfOk, IfNone, IfSome, IsTrue, decimal};
+ghost use Rattle.std.specs.Prelude.{◌≡◌, ◌≢◌, ℕ, ◌↔◌, List, [], All, Contains, IfOk, IfNone, IfSome, IsTrue, decimal, length};
 
 use crate::row::{COLUMNS, ClosingWord, NUMBERS_END, Version};
+use crate::words::ColumnWord;
 use csv::ByteRecord;
 use itoa::Buffer;
 use pawn_book::{BookingState, Day, Issue, Kind, RequestDay, Secret, Sort, Text};
@@ -22,6 +23,18 @@ pub(crate) fn column(columns: &ByteRecord, place: usize) -> &[u8]
         Some(field) => field,
         None => &[],
     }
+}
+
+/// Returns the columns of a record that has `COLUMNS` of them.
+pub(crate) fn columns_of(fields: &ByteRecord) -> [&[u8]; COLUMNS]
+    requires wide { length (fields_of fields.now) ≡ COLUMNS }
+    ensures value { texts_of result ≡ fields_of fields.now }
+{
+    let mut columns: [&[u8]; COLUMNS] = [b""; COLUMNS];
+    for place in 0..COLUMNS {
+        columns[place] = column(fields, place);
+    }
+    columns
 }
 
 /// Reads a number: decimal, at most 12 digits, without a sign or leading zeros.
@@ -73,81 +86,67 @@ pub(crate) fn read_secret(field: &[u8]) -> Option<Secret>
     }
 }
 
+/// Returns the one of these values that the column states by its word.
+fn value_of<A: ColumnWord>(field: &[u8], values: &[A]) -> Option<A>
+    ensures found { IfSome result (λ value. Contains values.now value × (field.now ≡ A.text value)) }
+    ensures none { IfNone result (Each (λ value. field.now ≢ A.text value) values.now) }
+{
+    for value in values {
+        let word = value.column_word();
+        if word == field {
+            return Some(*value);
+        }
+    }
+    None
+}
+
 /// Reads the version of the text's form.
 pub(crate) fn read_version(field: &[u8]) -> Option<Version>
     ensures value { ReadsAs form_text IsAny field.now result }
 {
-    match field {
-        b"1" => Some(Version::One),
-        b"2" => Some(Version::Two),
-        _ => None,
-    }
-}
-
-/// Returns whether a column is this word.
-fn is_word(field: &[u8], word: &[u8]) -> bool
-    ensures answer { IsTrue result ↔ (field.now ≡ word.now) }
-{
-    field == word
+    value_of(field, &[Version::One, Version::Two])
 }
 
 /// Reads a flag: `yes` is true and `no` is false.
 pub(crate) fn read_yes(field: &[u8]) -> Option<bool>
     ensures value { ReadsAs yes_text IsAny field.now result }
 {
-    match field {
-        _ if is_word(field, b"yes") => Some(true),
-        _ if is_word(field, b"no") => Some(false),
-        _ => None,
-    }
+    value_of(field, &[true, false])
 }
 
-/// Reads how a pledge was closed, if it was: `open`, `redeemed` or `sold`.
+/// Reads whether a pledge is open, redeemed or sold.
 pub(crate) fn read_closing(field: &[u8]) -> Option<ClosingWord>
     ensures value { ReadsAs closing_text IsAny field.now result }
 {
-    match field {
-        _ if is_word(field, b"open") => Some(ClosingWord::Open),
-        _ if is_word(field, b"redeemed") => Some(ClosingWord::Redeemed),
-        _ if is_word(field, b"sold") => Some(ClosingWord::Sold),
-        _ => None,
-    }
+    let values = [ClosingWord::Open, ClosingWord::Redeemed, ClosingWord::Sold];
+    value_of(field, &values)
 }
 
-/// Reads why a secret was issued: `opening`, `sworn` or `written`.
+/// Reads why a secret was issued.
 pub(crate) fn read_issue(field: &[u8]) -> Option<Issue>
     ensures value { ReadsAs issue_text IsAny field.now result }
 {
-    match field {
-        _ if is_word(field, b"opening") => Some(Issue::Opening),
-        _ if is_word(field, b"sworn") => Some(Issue::Sworn),
-        _ if is_word(field, b"written") => Some(Issue::Written),
-        _ => None,
-    }
+    value_of(field, &[Issue::Opening, Issue::Sworn, Issue::Written])
 }
 
-/// Reads the sort of an entry: `draw` (a drawing) or `repay` (a repayment).
+/// Reads the sort of an entry.
 pub(crate) fn read_sort(field: &[u8]) -> Option<Sort>
     ensures value { ReadsAs sort_text IsAny field.now result }
 {
-    match field {
-        _ if is_word(field, b"draw") => Some(Sort::Draw),
-        _ if is_word(field, b"repay") => Some(Sort::Repay),
-        _ => None,
-    }
+    value_of(field, &[Sort::Draw, Sort::Repay])
 }
 
-/// Reads the state of a booking: `asked`, `confirmed`, `refused` or `cancelled`.
+/// Reads the state of a booking.
 pub(crate) fn read_state(field: &[u8]) -> Option<BookingState>
     ensures value { ReadsAs state_text IsAny field.now result }
 {
-    match field {
-        _ if is_word(field, b"asked") => Some(BookingState::Asked),
-        _ if is_word(field, b"confirmed") => Some(BookingState::Confirmed),
-        _ if is_word(field, b"refused") => Some(BookingState::Refused),
-        _ if is_word(field, b"cancelled") => Some(BookingState::Cancelled),
-        _ => None,
-    }
+    let values = [
+        BookingState::Asked,
+        BookingState::Confirmed,
+        BookingState::Refused,
+        BookingState::Cancelled,
+    ];
+    value_of(field, &values)
 }
 
 /// Reads a number. `Some(None)` if the column is empty; `None` if it is malformed.
@@ -210,21 +209,12 @@ pub(crate) fn read_kind(word: &[u8], amount: &[u8]) -> Option<Kind>
     let Some(amount) = read_number(amount) else {
         return None;
     };
-    match word {
-        _ if is_word(word, b"fixed") => Some(Kind::Fixed(amount)),
-        _ if is_word(word, b"running") => Some(Kind::Running(amount)),
-        _ => None,
-    }
+    value_of(word, &[Kind::Fixed(amount), Kind::Running(amount)])
 }
 
-/// Returns whether the columns are empty from a place on.
-pub(crate) fn are_blank(columns: &ByteRecord, first: usize) -> bool
-    ensures answer { IsTrue result ↔ AreBlankFrom first (fields_of columns.now) }
+/// Returns whether all of these columns are empty.
+pub(crate) fn are_blank(columns: &[&[u8]]) -> bool
+    ensures answer { IsTrue result ↔ All (λ column. column.now ≡ []) columns.now }
 {
-    for place in first..COLUMNS {
-        if !column(columns, place).is_empty() {
-            return false;
-        }
-    }
-    true
+    columns.iter().all(|column| column.is_empty())
 }

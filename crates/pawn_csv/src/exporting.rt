@@ -1,24 +1,16 @@
 //! The export of a book as comma-separated rows.
-ghost use Rattle.pawn_csv.specs.Common.{BookValue, Go, IsSound, IsSteady, PledgeValue, Reads, Stop, book_head};
-ghost use Rattle.pawn_csv.specs.Common.{brief_of, call_end, entries_of, extensions_of, flat_map, get, pledge_in};
-ghost use Rattle.pawn_csv.specs.Common.{pledges_of, secrets_of, terms_of};
-ghost use Rattle.pawn_csv.specs.Exports.{Exports, PutsAt, sink_ending, entry_row_text, extension_line, secret_line};
-ghost use Rattle.pawn_csv.specs.Exports.{text_of};
-ghost use Rattle.pawn_csv.specs.Rows.{booking_csv_rows, entry_rows, extension_rows, pledge_csv_rows, secret_rows};
-ghost use Rattle.pawn_csv.specs.Rows.{terms_rows};
-ghost use Rattle.pawn_csv.specs.Sent.{PutsRow, PutsRowsShare, has_ended, text_of_row};
+ghost use Rattle.pawn_csv.specs.Common.{BookValue, Go, IsSound, IsSteady, Reads, Stop, book_head, call_end, flat_map};
+ghost use Rattle.pawn_csv.specs.Common.{get, pledges_of, terms_of};
+ghost use Rattle.pawn_csv.specs.Exports.{Exports, PutsRowItem, sink_ending, text_of};
+ghost use Rattle.pawn_csv.specs.Rows.{pledge_csv_rows, terms_rows};
+ghost use Rattle.pawn_csv.specs.Sent.{PutsRowsShare, has_ended, text_of_row};
 ghost use Rattle.pawn_writing.specs.Ends.{write_failed, writing_inner};
 ghost use Rattle.pawn_writing.specs.Fault.{IsQuietView};
-ghost use Rattle.std.specs.Prelude.{◌≡◌, ◌++◌, ◌+◌, ◌-◌, ◌^◌, min, if◌then◌else◌, false, true, Some, length, IsErrOf};
+ghost use Rattle.std.specs.Prelude.{◌≡◌, ◌++◌, false, true, Some, length, IsErrOf};
 
-use crate::writing::{
-    Sink, put_book, put_booking, put_entry, put_extension, put_header, put_pledge, put_secret,
-    put_terms,
-};
-use pawn_book::{
-    BookHead, Booking, Brief, Entry, Extension, Flow, Issued, Keep, KeepError, Number, Visitor,
-};
-use pawn_writing::{ViewFault, visit_entries, visit_extensions};
+use crate::writing::{Sink, put_book, put_header, put_item, put_terms};
+use pawn_book::{BookHead, Flow, Keep, KeepError, Number, RowItem, Visitor};
+use pawn_writing::ViewFault;
 use std::alloc::Global;
 use std::io::Write;
 
@@ -26,10 +18,6 @@ use std::io::Write;
 #[derive(Drop)]
 pub struct RowWriter<W> {
     sink: Sink<W>,
-    /// The number of the pledge whose list is being written.
-    number: u64,
-    /// The place of the next row in that list, counted from 1.
-    place: u64,
 }
 
 impl<W> RowWriter<W> {
@@ -40,8 +28,6 @@ impl<W> RowWriter<W> {
     {
         RowWriter {
             sink: Sink::new(alloc, inner),
-            number: 0,
-            place: 0,
         }
     }
 
@@ -51,131 +37,19 @@ impl<W> RowWriter<W> {
     {
         self.sink.into_inner()
     }
+}
 
-    /// Advances to the next place after a row. Stops if that row was not written completely.
-    fn go_on(&mut self) -> Flow
-        ensures sink { self.new.sink ≡ self.old.sink }
-        ensures number { self.new.number ≡ self.old.number }
-        ensures place { self.new.place ≡ min (self.old.place + 1) (2 ^ 64 - 1) }
-        ensures flow { result ≡ (if has_ended self.old.sink then Stop else Go) }
-    {
-        self.place = self.place.saturating_add(1);
+impl<W: Write> Visitor<RowItem> for RowWriter<W> {
+    ghost step = { λ v item flow w. PutsRowItem W.contents v item flow w };
+
+    fn visit(&mut self, item: &RowItem) -> Flow {
+        put_item(&mut self.sink, item);
         if self.sink.has_ended() {
             Flow::Stop
         } else {
             Flow::Go
         }
     }
-}
-
-impl<W: Write> Visitor<Issued> for RowWriter<W> {
-    ghost step = { λ v issued flow w. PutsAt W.contents secret_line v issued flow w };
-
-    fn visit(&mut self, issued: &Issued) -> Flow {
-        put_secret(&mut self.sink, self.number, self.place, issued);
-        self.go_on()
-    }
-}
-
-impl<W: Write> Visitor<Entry> for RowWriter<W> {
-    ghost step = { λ v entry flow w. PutsAt W.contents entry_row_text v entry flow w };
-
-    fn visit(&mut self, entry: &Entry) -> Flow {
-        put_entry(&mut self.sink, self.number, entry);
-        self.go_on()
-    }
-}
-
-impl<W: Write> Visitor<Extension> for RowWriter<W> {
-    ghost step = { λ v extension flow w. PutsAt W.contents extension_line v extension flow w };
-
-    fn visit(&mut self, extension: &Extension) -> Flow {
-        put_extension(&mut self.sink, self.number, self.place, extension);
-        self.go_on()
-    }
-}
-
-/// Writes the rows of a pledge's secrets.
-fn put_secrets<K: Keep, W: Write>(
-    keep: &mut K,
-    book: Number,
-    number: Number,
-    rows: &mut RowWriter<W>,
-) -> Result<(), KeepError>
-    ensures shares { Reads K.keeping keep.old keep.new (λ h. IsSound h → PutsRowsShare W.contents rows.old.sink
-        (flat_map text_of_row (secret_rows number 1 (secrets_of (pledge_in (get h.books book) number)))) (call_end result) rows.new.sink) }
-    ensures steady { IsSteady K.keeping keep.old result }
-{
-    rows.number = u64::from(number.get());
-    rows.place = 1;
-    keep.secrets(book, number, rows)
-}
-
-/// Writes the rows of the entries of the pledge to which this brief belongs.
-fn put_entries<K: Keep, W: Write>(
-    keep: &mut K,
-    book: Number,
-    number: Number,
-    brief: &Brief,
-    rows: &mut RowWriter<W>,
-) -> Result<(), KeepError>
-    ensures shares { Reads K.keeping keep.old keep.new
-        (λ h. IsSound h → (p : PledgeValue) → pledge_in (get h.books book) number ≡ Some p → brief.now ≡ brief_of p → PutsRowsShare W.contents rows.old.sink
-        (flat_map text_of_row (entry_rows number (entries_of (pledge_in (get h.books book) number)))) (call_end result) rows.new.sink) }
-    ensures steady { IsSteady K.keeping keep.old result }
-{
-    rows.number = u64::from(number.get());
-    rows.place = 1;
-    visit_entries(keep, book, number, brief, rows)
-}
-
-/// Writes the rows of the extensions of the pledge to which this brief belongs.
-fn put_extensions<K: Keep, W: Write>(
-    keep: &mut K,
-    book: Number,
-    number: Number,
-    brief: &Brief,
-    rows: &mut RowWriter<W>,
-) -> Result<(), KeepError>
-    ensures shares { Reads K.keeping keep.old keep.new
-        (λ h. IsSound h → (p : PledgeValue) → pledge_in (get h.books book) number ≡ Some p → brief.now ≡ brief_of p → PutsRowsShare W.contents rows.old.sink
-        (flat_map text_of_row (extension_rows number 1 (extensions_of (pledge_in (get h.books book) number)))) (call_end result) rows.new.sink) }
-    ensures steady { IsSteady K.keeping keep.old result }
-{
-    rows.number = u64::from(number.get());
-    rows.place = 1;
-    visit_extensions(keep, book, number, brief, rows)
-}
-
-/// Writes the row of a pledge's booking, if there is one.
-fn put_booked<W: Write>(sink: &mut Sink<W>, number: Number, booking: Option<Booking>)
-    ensures puts { PutsRow W.contents sink.old (flat_map text_of_row (booking_csv_rows number booking)) sink.new }
-{
-    match booking {
-        Some(booking) => put_booking(sink, u64::from(number.get()), booking),
-        None => {}
-    }
-}
-
-/// Writes all rows of the pledge to which this brief belongs.
-fn put_record<K: Keep, W: Write>(
-    keep: &mut K,
-    book: Number,
-    number: Number,
-    brief: &Brief,
-    rows: &mut RowWriter<W>,
-) -> Result<(), KeepError>
-    ensures shares { Reads K.keeping keep.old keep.new (λ h. IsSound h → (p : PledgeValue) → pledge_in (get h.books book) number ≡ Some p
-        → brief.now ≡ brief_of p → PutsRowsShare W.contents rows.old.sink (flat_map text_of_row (pledge_csv_rows p)) (call_end result) rows.new.sink) }
-    ensures steady { IsSteady K.keeping keep.old result }
-{
-    let fields = brief.fields();
-    put_pledge(&mut rows.sink, fields);
-    put_secrets(keep, book, number, rows)?;
-    put_entries(keep, book, number, brief, rows)?;
-    put_extensions(keep, book, number, brief, rows)?;
-    put_booked(&mut rows.sink, number, fields.standing.booking);
-    Ok(())
 }
 
 /// Writes the rows of versions 1 to `count` of a book's terms.
@@ -198,27 +72,17 @@ fn put_versions<K: Keep, W: Write>(
     Ok(())
 }
 
-/// Writes all rows of pledges 1 to `count` of a book.
+/// Writes all rows of a book's pledges.
 fn put_pledges<K: Keep, W: Write>(
     keep: &mut K,
     book: Number,
-    count: u64,
     rows: &mut RowWriter<W>,
 ) -> Result<(), KeepError>
-    ensures shares { Reads K.keeping keep.old keep.new (λ h. IsSound h → count ≡ length (pledges_of (get h.books book)) → PutsRowsShare W.contents rows.old.sink
+    ensures shares { Reads K.keeping keep.old keep.new (λ h. PutsRowsShare W.contents rows.old.sink
         (flat_map text_of_row (flat_map pledge_csv_rows (pledges_of (get h.books book)))) (call_end result) rows.new.sink) }
     ensures steady { IsSteady K.keeping keep.old result }
 {
-    for index in 0..count {
-        let Some(number) = Number::new(index + 1) else {
-            return Ok(());
-        };
-        let Some(brief) = keep.brief(book, number)? else {
-            return Ok(());
-        };
-        put_record(keep, book, number, &brief, rows)?;
-    }
-    Ok(())
+    keep.rows_each(book, rows)
 }
 
 /// Writes the rows after a book's first row: its terms and its pledges.
@@ -229,12 +93,12 @@ fn put_rows<K: Keep, W: Write>(
     rows: &mut RowWriter<W>,
 ) -> Result<(), KeepError>
     ensures shares { Reads K.keeping keep.old keep.new
-        (λ h. IsSound h → (at : BookValue) → get h.books book ≡ Some at → head.now ≡ book_head at → PutsRowsShare W.contents rows.old.sink
+        (λ h. (at : BookValue) → get h.books book ≡ Some at → head.now ≡ book_head at → PutsRowsShare W.contents rows.old.sink
         (flat_map text_of_row (terms_rows 1 at.terms) ++ flat_map text_of_row (flat_map pledge_csv_rows at.pledges)) (call_end result) rows.new.sink) }
     ensures steady { IsSteady K.keeping keep.old result }
 {
     put_versions(keep, book, head.terms, rows)?;
-    put_pledges(keep, book, head.pledges, rows)
+    put_pledges(keep, book, rows)
 }
 
 /// Returns the result of an export: `Write` if the writer failed, otherwise `Memory` if memory ran out for a row,

@@ -1,42 +1,105 @@
-//! The words and texts that columns are written with.
-ghost use Rattle.pawn_csv.specs.Columns.{closing_text, issue_text, kind_text, text_if_any, yes_text};
-ghost use Rattle.pawn_csv.specs.Common.{secret_text};
+//! The words that columns state values by, and the texts that columns are written with.
+ghost use Rattle.pawn_csv.specs.Columns.{closing_text, form_text, issue_text, kind_text, text_if_any, yes_text};
+ghost use Rattle.pawn_csv.specs.Common.{secret_text, sort_text, state_text};
 ghost use Rattle.pawn_csv.specs.Rows.{closing_amount, closing_day, closing_word};
 ghost use Rattle.pawn_terms.specs.Calendar.{day_text};
-ghost use Rattle.std.specs.Prelude.{◌≡◌, decimal};
+ghost use Rattle.std.specs.Prelude.{◌≡◌, ℕ, List, decimal};
 
+use crate::row::{ClosingWord, Version};
 use itoa::Buffer;
-use pawn_book::{Closing, Day, Issue, Kind, Secret};
+use pawn_book::{BookingState, Closing, Day, Issue, Kind, Secret, Sort};
 use uuid::Uuid;
 
-/// Returns `yes` or `no`.
-pub(crate) fn yes_word(flag: bool) -> &'static [u8]
-    ensures value { result.now ≡ yes_text flag }
-{
-    match flag {
-        true => b"yes",
-        false => b"no",
+/// A value that a column states by a word. Its row is written with this word, and is read by comparing with it.
+pub(crate) trait ColumnWord: Copy {
+    ghost text: { Self → List ℕ };
+
+    /// Returns the word.
+    fn column_word(&self) -> &[u8]
+        ensures value { result.now ≡ text self.now };
+}
+
+impl ColumnWord for Version {
+    ghost text = { form_text };
+
+    fn column_word(&self) -> &[u8] {
+        match self {
+            Version::One => b"1",
+            Version::Two => b"2",
+        }
     }
 }
 
-/// Returns `fixed` or `running`.
-pub(crate) fn kind_word(kind: Kind) -> &'static [u8]
-    ensures value { result.now ≡ kind_text kind }
-{
-    match kind {
-        Kind::Fixed(_) => b"fixed",
-        Kind::Running(_) => b"running",
+impl ColumnWord for bool {
+    ghost text = { yes_text };
+
+    fn column_word(&self) -> &[u8] {
+        match self {
+            true => b"yes",
+            false => b"no",
+        }
     }
 }
 
-/// Returns `open`, `redeemed` or `sold`.
-pub(crate) fn closing_word(closing: Closing) -> &'static [u8]
-    ensures value { result.now ≡ closing_text (closing_word closing) }
+impl ColumnWord for Kind {
+    ghost text = { kind_text };
+
+    fn column_word(&self) -> &[u8] {
+        match self {
+            Kind::Fixed(_) => b"fixed",
+            Kind::Running(_) => b"running",
+        }
+    }
+}
+
+impl ColumnWord for ClosingWord {
+    ghost text = { closing_text };
+
+    fn column_word(&self) -> &[u8] {
+        match self {
+            ClosingWord::Open => b"open",
+            ClosingWord::Redeemed => b"redeemed",
+            ClosingWord::Sold => b"sold",
+        }
+    }
+}
+
+impl ColumnWord for Issue {
+    ghost text = { issue_text };
+
+    fn column_word(&self) -> &[u8] {
+        match self {
+            Issue::Opening => b"opening",
+            Issue::Sworn => b"sworn",
+            Issue::Written => b"written",
+        }
+    }
+}
+
+impl ColumnWord for Sort {
+    ghost text = { sort_text };
+
+    fn column_word(&self) -> &[u8] {
+        self.word().as_bytes()
+    }
+}
+
+impl ColumnWord for BookingState {
+    ghost text = { state_text };
+
+    fn column_word(&self) -> &[u8] {
+        self.word().as_bytes()
+    }
+}
+
+/// Returns whether a pledge is open, redeemed or sold.
+pub(crate) fn closing_word(closing: Closing) -> ClosingWord
+    ensures value { result ≡ closing_word closing }
 {
     match closing {
-        Closing::Open => b"open",
-        Closing::Redeemed { .. } => b"redeemed",
-        Closing::Sold { .. } => b"sold",
+        Closing::Open => ClosingWord::Open,
+        Closing::Redeemed { .. } => ClosingWord::Redeemed,
+        Closing::Sold { .. } => ClosingWord::Sold,
     }
 }
 
@@ -59,17 +122,6 @@ pub(crate) fn closing_amount(closing: Closing) -> Option<u64>
         Closing::Open => None,
         Closing::Redeemed { day: _, paid } => Some(paid),
         Closing::Sold { day: _, net } => Some(net),
-    }
-}
-
-/// Returns `opening`, `sworn` or `written`.
-pub(crate) fn issue_word(issue: Issue) -> &'static [u8]
-    ensures value { result.now ≡ issue_text issue }
-{
-    match issue {
-        Issue::Opening => b"opening",
-        Issue::Sworn => b"sworn",
-        Issue::Written => b"written",
     }
 }
 

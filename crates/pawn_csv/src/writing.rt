@@ -1,20 +1,20 @@
 //! Writes the rows of a book's text, one function for each kind of row.
-ghost use Rattle.pawn_csv.specs.Common.{credit_of, default_writer, row_text};
+ghost use Rattle.pawn_csv.specs.Common.{default_writer, row_text};
 ghost use Rattle.pawn_csv.specs.Rows.{empty_columns, header};
-ghost use Rattle.pawn_csv.specs.Sent.{PutsRow, brief_columns, has_ended, text_of_row};
+ghost use Rattle.pawn_csv.specs.Exports.{csv_row, item_columns};
+ghost use Rattle.pawn_csv.specs.Sent.{PutsRow, has_ended, text_of_row};
+ghost use Rattle.pawn_csv.specs.Spelling.{texts_of};
 ghost use Rattle.pawn_csv.specs.Types.{Row, Version};
-ghost use Rattle.pawn_terms.specs.Calendar.{day_text};
 ghost use Rattle.pawn_writing.specs.Ends.{write_failed, writing_inner};
-ghost use Rattle.std.specs.Prelude.{◌≡◌, ◌≤◌, ◌-◌, ◌∷◌, ◌++◌, [], IfOk, true, false, codes, decimal, length, map};
+ghost use Rattle.std.specs.Prelude.{◌≡◌, ◌≤◌, ◌-◌, ◌++◌, IfOk, true, false, length};
 
-use crate::row::{COLUMNS, HEADER};
+use crate::row::{COLUMNS, HEADER, Version};
 use crate::words::{
-    closing_amount, closing_day, closing_word, day_if_any, issue_word, kind_word, number_if_any,
-    secret_text, yes_word,
+    ColumnWord, closing_amount, closing_day, closing_word, day_if_any, number_if_any, secret_text,
 };
 use csv::Writer;
 use itoa::Buffer;
-use pawn_book::{Booking, BriefFields, Day, Entry, Extension, Issued, Rates, RequestDay};
+use pawn_book::{Booking, Day, Entry, Extension, Issued, PledgeItem, Rates, RequestDay, RowItem};
 use pawn_writing::{Writing, put};
 use std::alloc::{AllocError, Global};
 use std::io::Write;
@@ -69,7 +69,7 @@ impl<W> Sink<W> {
 /// writer does not report how much it wrote before it failed. Each row has a CSV writer of its own, because a CSV
 /// writer returns its buffer only when it ends.
 fn row_text(alloc: Global, columns: &[&[u8]]) -> Result<Vec<u8>, AllocError>
-    ensures value { IfOk result (λ text. text.items ≡ row_text default_writer (map (λ c. c.now) columns.now)) }
+    ensures value { IfOk result (λ text. text.items ≡ row_text default_writer (texts_of columns.now)) }
 {
     let mut writer = Writer::from_writer(Vec::new(alloc));
     match writer.write_fields(columns) {
@@ -84,7 +84,7 @@ fn row_text(alloc: Global, columns: &[&[u8]]) -> Result<Vec<u8>, AllocError>
 
 /// Writes a row with these columns. Does nothing if an earlier row was not written completely.
 pub(crate) fn put_row<W: Write>(sink: &mut Sink<W>, columns: &[&[u8]])
-    ensures puts { PutsRow W.contents sink.old (row_text default_writer (map (λ c. c.now) columns.now)) sink.new }
+    ensures puts { PutsRow W.contents sink.old (row_text default_writer (texts_of columns.now)) sink.new }
 {
     if sink.has_ended() {
         return;
@@ -99,7 +99,7 @@ pub(crate) fn put_row<W: Write>(sink: &mut Sink<W>, columns: &[&[u8]])
 fn put_padded<W: Write>(sink: &mut Sink<W>, columns: &[&[u8]])
     requires few { length columns.now ≤ COLUMNS }
     ensures puts { PutsRow W.contents sink.old (row_text default_writer
-        (map (λ c. c.now) columns.now ++ empty_columns (COLUMNS - length columns.now))) sink.new }
+        (texts_of columns.now ++ empty_columns (COLUMNS - length columns.now))) sink.new }
 {
     let mut row: [&[u8]; COLUMNS] = [b""; COLUMNS];
     for place in 0..columns.len() {
@@ -124,7 +124,7 @@ pub(crate) fn put_book<W: Write>(sink: &mut Sink<W>, terms: u64, pledges: u64)
         sink,
         &[
             b"B",
-            b"2",
+            Version::Two.column_word(),
             Buffer::new().format(terms).as_bytes(),
             Buffer::new().format(pledges).as_bytes(),
         ],
@@ -150,68 +150,28 @@ pub(crate) fn put_terms<W: Write>(sink: &mut Sink<W>, version: u64, rates: Rates
 
 /// Writes a pledge's own row, such as `P,1,A1,Gold ring,fixed,10000,2024-01-31,,no,1,no,2024-02-01,open,,`: what was
 /// agreed when the pledge was taken, and its present state. Amounts are in pence.
-pub(crate) fn put_pledge<W: Write>(sink: &mut Sink<W>, brief: &BriefFields)
-    ensures puts { PutsRow W.contents sink.old (text_of_row (Row.Pledge (brief_columns brief.now))) sink.new }
+fn put_pledge<W: Write>(sink: &mut Sink<W>, pledge: &PledgeItem)
+    ensures puts { PutsRow W.contents sink.old (text_of_row (Row.Pledge (item_columns pledge.now))) sink.new }
 {
-    let opening = &brief.agreement.opening;
-    let standing = &brief.standing;
-    put_columns(
-        sink,
-        brief,
-        opening.reference.as_str().as_bytes(),
-        opening.article.as_str().as_bytes(),
-        kind_word(opening.kind),
-        day_if_any(agreed_end(opening.agreed), &mut [0; 10]),
-        yes_word(opening.five_days),
-        yes_word(standing.held),
-        closing_word(standing.closing),
-        day_if_any(closing_day(standing.closing), &mut [0; 10]),
-        number_if_any(closing_amount(standing.closing), &mut Buffer::new()),
-    );
-}
-
-/// Writes a pledge's own row from these texts and from the numbers and days of the brief.
-fn put_columns<'a, W: Write>(
-    sink: &mut Sink<W>,
-    brief: &BriefFields,
-    reference: &'a [u8],
-    article: &'a [u8],
-    kind: &'a [u8],
-    agreed: &'a [u8],
-    five_days: &'a [u8],
-    held: &'a [u8],
-    closing: &'a [u8],
-    closed: &'a [u8],
-    amount: &'a [u8],
-)
-    ensures puts { PutsRow W.contents sink.old (row_text default_writer (
-        codes "P" ∷ decimal brief.now.agreement.number ∷ reference.now ∷ article.now ∷ kind.now ∷ decimal (credit_of brief.now.agreement.opening.kind)
-        ∷ day_text brief.now.agreement.taken ∷ agreed.now ∷ five_days.now ∷ decimal
-        brief.now.agreement.version ∷ held.now
-        ∷ day_text brief.now.standing.last ∷ closing.now ∷ closed.now ∷ amount.now ∷ [])) sink.new }
-{
+    let opening = &pledge.opening;
     put_row(
         sink,
         &[
             b"P",
-            Buffer::new()
-                .format(brief.agreement.number.get())
-                .as_bytes(),
-            reference,
-            article,
-            kind,
-            Buffer::new()
-                .format(brief.agreement.opening.kind.credit())
-                .as_bytes(),
-            &brief.agreement.taken.text(),
-            agreed,
-            five_days,
-            Buffer::new().format(brief.agreement.version).as_bytes(),
-            held,
-            &brief.standing.last.text(),
-            closing,
-            closed,
-            amount,
+            Buffer::new().format(pledge.number.get()).as_bytes(),
+            opening.reference.as_str().as_bytes(),
+            opening.article.as_str().as_bytes(),
+            opening.kind.column_word(),
+            Buffer::new().format(opening.kind.credit()).as_bytes(),
+            &pledge.taken.text(),
+            day_if_any(agreed_end(opening.agreed), &mut [0; 10]),
+            opening.five_days.column_word(),
+            Buffer::new().format(pledge.version).as_bytes(),
+            pledge.held.column_word(),
+            &pledge.last.text(),
+            closing_word(pledge.closing).column_word(),
+            day_if_any(closing_day(pledge.closing), &mut [0; 10]),
+            number_if_any(closing_amount(pledge.closing), &mut Buffer::new()),
         ],
     );
 }
@@ -227,7 +187,7 @@ fn agreed_end(agreed: Option<RequestDay>) -> Option<Day>
 }
 
 /// Writes a secret, such as `S,1,2,2024-02-01,sworn,00000000-0000-0000-0000-000000000004`. Its place is counted from 1.
-pub(crate) fn put_secret<W: Write>(sink: &mut Sink<W>, number: u64, place: u64, issued: &Issued)
+fn put_secret<W: Write>(sink: &mut Sink<W>, number: u64, place: u64, issued: &Issued)
     ensures puts { PutsRow W.contents sink.old (text_of_row (Row.Secret number place issued.now)) sink.new }
 {
     put_padded(
@@ -237,14 +197,14 @@ pub(crate) fn put_secret<W: Write>(sink: &mut Sink<W>, number: u64, place: u64, 
             Buffer::new().format(number).as_bytes(),
             Buffer::new().format(place).as_bytes(),
             &issued.day.text(),
-            issue_word(issued.sort),
+            issued.sort.column_word(),
             secret_text(issued.secret, &mut Uuid::encode_buffer()),
         ],
     );
 }
 
 /// Writes an entry, such as `E,1,1,2024-02-01,repay,1000`. The amount is in pence.
-pub(crate) fn put_entry<W: Write>(sink: &mut Sink<W>, number: u64, entry: &Entry)
+fn put_entry<W: Write>(sink: &mut Sink<W>, number: u64, entry: &Entry)
     ensures puts { PutsRow W.contents sink.old (text_of_row (Row.Entry number entry.now)) sink.new }
 {
     put_padded(
@@ -254,19 +214,14 @@ pub(crate) fn put_entry<W: Write>(sink: &mut Sink<W>, number: u64, entry: &Entry
             Buffer::new().format(number).as_bytes(),
             Buffer::new().format(entry.seq).as_bytes(),
             &entry.day.text(),
-            entry.sort.word().as_bytes(),
+            entry.sort.column_word(),
             Buffer::new().format(entry.pence).as_bytes(),
         ],
     );
 }
 
 /// Writes an extension, such as `X,1,1,2024-02-01,2024-09-30`. Its place is counted from 1.
-pub(crate) fn put_extension<W: Write>(
-    sink: &mut Sink<W>,
-    number: u64,
-    place: u64,
-    extension: &Extension,
-)
+fn put_extension<W: Write>(sink: &mut Sink<W>, number: u64, place: u64, extension: &Extension)
     ensures puts { PutsRow W.contents sink.old (text_of_row (Row.Extension number place extension.now)) sink.new }
 {
     put_padded(
@@ -282,7 +237,7 @@ pub(crate) fn put_extension<W: Write>(
 }
 
 /// Writes a booking, such as `K,1,2024-02-10,3,asked`.
-pub(crate) fn put_booking<W: Write>(sink: &mut Sink<W>, number: u64, booking: Booking)
+fn put_booking<W: Write>(sink: &mut Sink<W>, number: u64, booking: Booking)
     ensures puts { PutsRow W.contents sink.old (text_of_row (Row.Booking number booking)) sink.new }
 {
     put_padded(
@@ -292,7 +247,30 @@ pub(crate) fn put_booking<W: Write>(sink: &mut Sink<W>, number: u64, booking: Bo
             Buffer::new().format(number).as_bytes(),
             &booking.day.text(),
             Buffer::new().format(booking.window).as_bytes(),
-            booking.state.word().as_bytes(),
+            booking.state.column_word(),
         ],
     );
+}
+
+/// Writes the row of a pledge.
+pub(crate) fn put_item<W: Write>(sink: &mut Sink<W>, item: &RowItem)
+    ensures puts { PutsRow W.contents sink.old (text_of_row (csv_row item.now)) sink.new }
+{
+    match item {
+        RowItem::Pledge(pledge) => put_pledge(sink, pledge),
+        RowItem::Secret {
+            number,
+            place,
+            issued,
+        } => put_secret(sink, u64::from(number.get()), *place, issued),
+        RowItem::Entry { number, entry } => put_entry(sink, u64::from(number.get()), entry),
+        RowItem::Extension {
+            number,
+            place,
+            extension,
+        } => put_extension(sink, u64::from(number.get()), *place, extension),
+        RowItem::Booking { number, booking } => {
+            put_booking(sink, u64::from(number.get()), *booking)
+        }
+    }
 }

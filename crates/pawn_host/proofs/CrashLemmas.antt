@@ -1,4 +1,4 @@
--- What a crash may leave: in wider words, over two runs in turn, and as whole requests.
+-- What a crash may leave: seen from an earlier start, after two runs, and in terms of whole requests.
 use Rattle.pawn_book.specs.Plans.{IsLeftByStep, next_host}
 use Rattle.pawn_host.specs.Common.{Host, IsSound, Keeping, Makes, Mark, Outcome, Refuses, Says, Stamp, WireFault}
 use Rattle.pawn_host.specs.Common.{host_after_event, host_after_mark, host_step, no_memory, no_store, read_as, Reads}
@@ -8,7 +8,7 @@ use Rattle.pawn_host.specs.Run.{Item, event_of, host_after_run}
 use Rattle.std.proofs.Common.{◌≡◌, ◌∙◌, ◌⊎◌, ℕ, suc, List, [], ◌∷◌, ◌++◌, inl, inr, refl, ap, sym, subst, Ok, Err}
 use Rattle.pawn_book.specs.HostStep as book
 
--- ---- where a crash might have left more before
+-- ---- seen from a start at which a crash might have left more
 
 step_wider : (h : Host) (b : ℕ) (o : Outcome) (these those : Host → Type 0) → ((g : Host) → these g → those g) → (left : Host) → IsLeftByStep h b o these left
     → IsLeftByStep h b o those left
@@ -48,17 +48,17 @@ goes_from before now items kept same wider goes =
 
 -- ---- a call that changes nothing
 
--- the keeper was not asked
+-- the keeper was not called
 pub goes_none : {K : Type 0} (k : Keeping K) (keep : K) (h : Host) → k.stands keep h → IsSound h
     → GoesTo (record { stands = k.stands keep; leaves = k.leaves keep }) h (k.leaves keep)
 goes_none k keep h at sound = record { stands_for = at; sound = sound; crash = λ left by. by }
 
--- it was asked
+-- the keeper was called
 pub goes_read : {K : Type 0} {k : Keeping K} {old new : K} {P : Host → Type 0} → Reads k old new P → k.honest new → (h : Host) → k.stands old h → IsSound h
     → GoesTo (record { stands = k.stands new; leaves = k.leaves new }) h (k.leaves old)
 goes_read reads honest h at sound = record { stands_for = reads.same honest h at; sound = sound; crash = reads.crash honest }
 
--- ---- two runs in turn
+-- ---- one run after another
 
 pub host_after-append : (h : Host) (operator : ℕ) (a b : List Item)
     → host_after_run h operator (a ++ b) ≡ host_after_run (host_after_run h operator a) operator b
@@ -86,7 +86,7 @@ whole_step h b (Refuses why) before left by = inl (by, refl)
 whole_step h b (Says out) before left by = inl (by, refl)
 whole_step h b (Makes change reply) before left by = inr by
 
--- a host that a crash may leave after an item: the host after it, or one of before where it changed nothing, or with its request done
+-- the hosts that a crash may leave after an item: the host after it; a host of before, if it changed nothing; or a host with its change
 data WholeItem (h : Host) (operator : ℕ) (stamp : Stamp) (bytes : List ℕ) (mark : Mark WireFault) (before : Host → Type 0) (left : Host) : Type 0 where
   same : before left → host_after_mark h operator stamp mark ≡ h → WholeItem h operator stamp bytes mark before left
   after : left ≡ host_after_mark h operator stamp mark → WholeItem h operator stamp bytes mark before left
@@ -105,7 +105,7 @@ whole_item h operator stamp bytes no_memory before left (inr done) = more (inl r
 whole_item h operator stamp bytes no_store before left (inl by) = same by refl
 whole_item h operator stamp bytes no_store before left (inr done) = more (inr refl) refl done
 
--- .. after the items of a run
+-- the same after the items of a run
 abbrev IsWhole : Host → ℕ → List Item → (Host → Type 0) → Host → Type 0
 IsWhole h operator items before left = (before left × (host_after_run h operator items ≡ h)) ⊎ (left ≡ host_after_run h operator items)
     ⊎ IsOneMore (host_after_run h operator items) operator items left

@@ -49,7 +49,7 @@ found_faulty (Some x) (Some y) buffer f k answers = subst (λ (s : List ℕ). Ha
 
 -- ---- the end
 
--- nothing is left to be read
+-- nothing is left to read
 all_read : (x old : List ℕ) (b c : Option (List ℕ)) → Keeps (Some x) (prepend_known old b) → Keeps b c → IsAtEnd c → x ≡ old
 all_read x old None c k kept end = absurd k
 all_read x old (Some y) None k kept end = absurd kept
@@ -85,7 +85,7 @@ found_request (Some x) (Some y) old f k has fits =
     let more : f.body ≤ length (has.1 ++ y) = omega (arith, length-append has.1 y, len, has.3.len, fits) in
     subst (λ (s : List ℕ). FindsHead s (Ok f)) k (has.0, has.1 ++ y, reads_more old y has.0 has.1 has.2, has.3, more)
 
--- what stopped a search is not the writer
+-- the writer is never what ends a wait for a request
 pub not_by_writer : (cause : Cause) (failed : Bool) (reads : ℕ) → IsCausedBy cause failed reads false → cause ≢ Write
 not_by_writer Read failed reads by is = cc
 not_by_writer Reads failed reads by is = cc

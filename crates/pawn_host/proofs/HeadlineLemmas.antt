@@ -1,4 +1,4 @@
--- Each answer of a run is that of a machine alone.
+-- Each answer of a run is the answer of a machine that gets nothing but the requests of its slot.
 use Rattle.pawn_book.proofs.SlotRuns.{books_answer_alone, slots_answer_alone}
 use Rattle.pawn_book.proofs.Sounds.{absurd_none, some_is}
 use Rattle.pawn_host.proofs.RunMore.{marked_all}
@@ -24,13 +24,13 @@ answer_at h operator (x ∷ items) zero item answer is told =
     sym (some_is _ answer told) ∙ ap (λ (y : Item). said_text (mark_reply h operator y.stamp y.mark)) (some_is x item is)
 answer_at h operator (x ∷ items) (suc i) item answer is told = answer_at (host_after_event h operator (event_of x)) operator items i item answer is told
 
--- and the item there has its mark
+-- the item at that place has its mark
 marked_at : (Steady : Type 0) (items : List Item) (i : ℕ) (item : Item) → All (IsMarked Steady) items → slice_get items i ≡ Some item → IsMarked Steady item
 marked_at Steady [] i item marked is = absurd_none is
 marked_at Steady (x ∷ items) zero item marked is = subst (IsMarked Steady) (some_is x item is) (All-head (IsMarked Steady) x items marked)
 marked_at Steady (x ∷ items) (suc i) item marked is = marked_at Steady items i item (All-tail (IsMarked Steady) x items marked) is
 
--- what is none of the three texts is settled
+-- an answer that is none of the three texts is settled
 settled_refusal : (why : Refusal) → IsSettled (reply_bytes (Denied why)) → is_settled (Denied why) ≡ true
 settled_refusal Refusal.Full settled = absurd (settled.0 refl)
 settled_refusal Refusal.Memory settled = absurd (settled.1 refl)
@@ -49,7 +49,7 @@ request_read : (bytes : List ℕ) (request : Request) (said : Result Request Wir
     → said ≡ Ok request
 request_read bytes request said asked read = reads_unique bytes said (Ok request) read asked
 
--- a settled answer is the host's reply to the request, and that is settled
+-- a settled answer is the host's reply to the request, and that reply is settled
 pub record IsHostsReply (h : Host) (operator : ℕ) (stamp : Stamp) (request : Request) (answer : List ℕ) : Type 0 where
   pub text : answer ≡ reply_bytes (out_of (host_step h operator stamp request))
   pub settled : is_settled (out_of (host_step h operator stamp request)) ≡ true

@@ -1,4 +1,4 @@
--- A stream has one split.
+-- A stream can be split in only one way.
 use Rattle.httparse.proofs.GrammarLemmas.{request_unique}
 use Rattle.pawn_host.proofs.SplitLemmas.{length_snoc, passes-snoc}
 use Rattle.pawn_host.specs.Common.{EndsInTarget, Event, HasNoRequest, HeadFault, Host, IsBadHead, Mark, ReadsHead}
@@ -19,7 +19,7 @@ use Rattle.std.proofs.lemmas.Bool.Decides.{nat_tests}
 use Rattle.std.proofs.lemmas.List.{append_cancel_left, take-append-le}
 use Rattle.std.proofs.lemmas.List.Elements.{All-head, All-tail}
 
--- ---- fronts
+-- ---- prefixes
 
 pub ok_same : (m n : ℕ) → ◌≡◌ {A = Result ℕ HeadFault} (Ok m) (Ok n) → m ≡ n
 ok_same m n e = cc
@@ -40,7 +40,7 @@ cancel_by_length x y s t len e =
     let same : x ≡ y = sym a ∙ ap (take (length x)) e ∙ b in
     (same, append_cancel_left y s t (ap (λ (l : List ℕ). l ++ s) (sym same) ∙ e))
 
--- two whole requests at the front of one stream are one
+-- two whole requests at the beginning of one stream are equal
 pub fronts_same : (x y s t : List ℕ) (c d : Bool) → x ++ s ≡ y ++ t → IsRequest x c → IsRequest y d → (x ≡ y) × (s ≡ t) × (c ≡ d)
 fronts_same x y s t c d e p q =
     let p' : ReadsHead (y ++ t) p.head (p.body ++ s) = subst (λ (l : List ℕ). ReadsHead l p.head (p.body ++ s)) e (reads_more x s p.head p.body p.reads) in
@@ -133,7 +133,7 @@ stops_alike cut (faulted g) n rest x y = (let k = cut_and_fault rest g x.1 y.1 i
 stops_alike (faulted g) cut n rest x y = (let k = cut_and_fault rest g y.1 x.1 in inr (k.0, inr (ap faulted k.1, refl)))
 stops_alike (faulted f) (faulted g) n rest x y = inl (ap faulted (faults_same rest f g x.1 y.1))
 
--- ---- one goes on where the other has stopped
+-- ---- one split continues after the place where the other stops
 
 abbrev pub GoesOn : List (List ℕ) → List ℕ → List (List ℕ) → List ℕ → Type 0
 GoesOn a p b q = (more : List (List ℕ)) × (b ≡ a ++ more) × PassesOver p more q
@@ -151,7 +151,7 @@ aligned s (m ∷ a) (k ∷ b) p q x y =
 longer : (a : List (List ℕ)) (m : List ℕ) (ms b : List (List ℕ)) → b ≡ a ++ m ∷ ms → length a < length b
 longer a m ms b e = omega (arith, ap length e, length-append a (m ∷ ms))
 
--- a split that stops goes no further than another
+-- a split that stops is not longer than another one
 stopped : (e : Ending) (a : List (List ℕ)) (p : List ℕ) (b : List (List ℕ)) (q : List ℕ) → StopsAt e (length a) p → length b ≤ 1000 → GoesOn a p b q
     → (a ≡ b) × (p ≡ q)
 stopped e a p b q s few ([], is, x) = (sym (is ∙ append-nil a), x)
@@ -311,9 +311,10 @@ fault_is_exact rest = (never, bad) where
   bad : (MayGoOn rest → ⊥) → (length rest < most_head) → HasFault rest BadHead
   bad stuck short = inl (inl (λ more h r x. cases (nat_le (length h.fields) most_fields) h refl (λ few. stuck (short, (more, h, r, x, few)))), refl)
 
--- ---- what is wanted
+-- ---- when more bytes are wanted
 
--- where requests that do not close come first, and then one more, nothing else was wanted before it
+-- A stream begins with the requests `a` and then `last`. It is also the requests `b` and then an incomplete rest. Then `last`
+-- is one of `b`, and does not close the connection.
 wants_no_more : (come : List ℕ) (a b : List (List ℕ)) (last rest tail : List ℕ) (closes : Bool) → PassesOver come a (last ++ tail) → IsRequest last closes
     → PassesOver come b rest → HasNoWhole rest → (length a < length b) × (closes ≡ false)
 wants_no_more come [] [] last rest tail closes p q w none = absurd (none last tail closes (sym w ∙ p) q)
@@ -331,7 +332,8 @@ closed_wants_nothing come requests c w =
     let more = wants_no_more come c.0 w.0 c.1 w.1 c.2 true c.3 c.4 w.2 w.4 in
     not_both more.1
 
--- the requests that a stream passes over are among those after which more is wanted
+-- A stream begins with the requests `a`. It is also the requests `b` and then an incomplete rest. Then `b` has at least as
+-- many requests.
 wants_all : (come : List ℕ) (a b : List (List ℕ)) (rest tail : List ℕ) → PassesOver come a tail → PassesOver come b rest → HasNoWhole rest → length a ≤ length b
 wants_all come [] b rest tail p w none = omega arith
 wants_all come (r ∷ rs) [] rest tail p w none = absurd (none r p.0 false (sym w ∙ p.1) p.2)

@@ -1,4 +1,4 @@
--- What was read while a request was looked for.
+-- What was read while the service waited for a request.
 use Rattle.httparse.proofs.GrammarLemmas.{request_unique}
 use Rattle.pawn_host.proofs.LawLemmas.{ok_same}
 use Rattle.pawn_host.proofs.SplitLemmas.{front_request, length_snoc, passes-snoc}
@@ -33,7 +33,7 @@ short_has_no_whole buffer f has short request more closes parts q =
     let len : length buffer ≡ length (print_request has.0) + length has.1 = ap length has.2.0.1 ∙ length-append (print_request has.0) has.1 in
     omega (arith, short, body, has.3.len, len, ap length same.1, length-append q.body more)
 
--- ---- pieces
+-- ---- the pieces that were read
 
 missing_more : (buffer : List ℕ) (pieces : List (List ℕ)) (more : List (List ℕ)) → AreMissing buffer pieces → AreMissing (buffer ++ concat pieces) more
     → AreMissing buffer (pieces ++ more)
@@ -47,9 +47,9 @@ concat_one p = append-nil p
 concat_snoc : (pieces : List (List ℕ)) (p : List ℕ) → concat (pieces ++ p ∷ []) ≡ concat pieces ++ p
 concat_snoc pieces p = concat-append pieces (p ∷ []) ∙ ap (λ (l : List ℕ). concat pieces ++ l) (concat_one p)
 
--- ---- a search goes on by one read more
+-- ---- one more read while a request is awaited
 
--- what was read so far, while one thing is looked for
+-- what was read so far while a head or a body is awaited
 pub record FetchedSoFar (buffer now : List ℕ) (before after : Option (List ℕ)) (reads reads' : ℕ) : Type 0 where
   pub pieces : List (List ℕ)
   pub count : reads' ≡ reads + length pieces
@@ -73,24 +73,24 @@ keeps_is_none None c k = tt
 keeps_is_none (Some x) None k = k
 keeps_is_none (Some x) (Some y) k = sym k
 
--- a search that ended by a read whose bytes found no room
+-- the wait ended because there was no memory for the bytes that were read
 pub fetched_last : (buffer now piece : List ℕ) (a b c : Option (List ℕ)) (reads reads' reads'' : ℕ) → FetchedSoFar buffer now a b reads reads' → HasNoWhole now
     → reads'' ≡ reads' + 1 → Consumes b c piece → FetchedSoFar buffer (now ++ piece) a c reads reads''
 fetched_last buffer now piece a b c reads reads' reads'' so none counted gave =
     fetched_more buffer now (now ++ piece) piece a b c reads reads' reads'' so none counted gave refl
 
--- a search that ended without a request, whatever is left of the buffer
+-- the wait ended without a request, whatever is left in the buffer
 pub fetched_other : (rest : Rest) (buffer now now' : List ℕ) (a b : Option (List ℕ)) (reads reads' : ℕ) → FetchedSoFar buffer now a b reads reads'
     → IsFetched (Err rest) buffer now' a b reads reads'
 fetched_other rest buffer now now' a b reads reads' so = record { pieces = so.pieces; count = so.count; missing = so.missing; gave = so.gave; grown = tt }
 
--- a read gave nothing
+-- a read returned no bytes
 pub fetched_nothing : (buffer now : List ℕ) (a b c : Option (List ℕ)) (reads reads' reads'' : ℕ) → FetchedSoFar buffer now a b reads reads' → HasNoWhole now
     → reads'' ≡ reads' + 1 → Keeps b c → FetchedSoFar buffer now a c reads reads''
 fetched_nothing buffer now a b c reads reads' reads'' so none counted kept =
     fetched_more buffer now now [] a b c reads reads' reads'' so none counted (keeps_is_none b c kept) (sym (append-nil now))
 
--- two searches in turn
+-- one wait after another
 pub fetched_then : (found : Result HeadFacts Rest) (head : HeadFacts) (buffer now now' : List ℕ) (a b c : Option (List ℕ)) (reads reads' reads'' : ℕ)
     → IsFetched (Ok head) buffer now a b reads reads' → IsFetched found now now' b c reads' reads'' → IsFetched found buffer now' a c reads reads''
 fetched_then found head buffer now now' a b c reads reads' reads'' one two = record {
@@ -116,7 +116,7 @@ passes-append : (s : List ℕ) (requests : List (List ℕ)) (rest more : List �
 passes-append s [] rest more p = ap (λ (l : List ℕ). l ++ more) p
 passes-append s (r ∷ rs) rest more p = (p.0 ++ more, ap (λ (l : List ℕ). l ++ more) p.1 ∙ append_assoc r p.0 more, p.2, passes-append p.0 rs rest more p.3)
 
--- pieces that are missing in the buffer are wanted after all bytes that have arrived
+-- pieces that were read while the buffer had no whole request were read while more bytes were wanted
 wanted_of : (come : List ℕ) (requests : List (List ℕ)) (buffer : List ℕ) (pieces : List (List ℕ)) → PassesOver come requests buffer
     → length requests < most_requests → AreMissing buffer pieces → AreWanted come pieces
 wanted_of come requests buffer [] passes few missing = tt
@@ -146,7 +146,7 @@ read_none a count buffer none empty =
 pub read_all : (a b : Option (List ℕ)) (count acted : ℕ) (buffer : List ℕ) → ReadSoFar a b count acted buffer → IsReadWhileWanted count a b
 read_all a b count acted buffer so = record { pieces = so.pieces; count_is = so.count_is; wanted = so.wanted; gave = so.gave }
 
--- the session is over after a search
+-- the session is over after a wait
 pub read_then : (found : Result HeadFacts Rest) (a b c : Option (List ℕ)) (count count' acted : ℕ) (buffer buffer' : List ℕ) → ReadSoFar a b count acted buffer
     → acted < 1000 → IsFetched found buffer buffer' b c count count' → IsReadWhileWanted count' a c
 read_then found a b c count count' acted buffer buffer' so few fetched = record {

@@ -11,7 +11,7 @@ use Rattle.std.proofs.Common.{◌≡◌, ◌∙◌, ℕ, List, ap, sym, Some, No
 abbrev pub rows_request : ℕ → ℕ → Request
 rows_request book key = view_request book key View.Rows
 
--- what comes of an export that is asked for with the book's key
+-- the outcome of an export with the book's key
 step_rows : (h : Host) (operator : ℕ) (stamp : Stamp) (book key : ℕ) (with_key : IsKeyOf h book key)
     → host_step h operator stamp (rows_request book key) ≡ Says (Exported (rows_of_book with_key.0))
 step_rows h operator stamp book key with_key = step_past_gate h operator stamp book key View.Rows with_key
@@ -20,7 +20,7 @@ step_rows h operator stamp book key with_key = step_past_gate h operator stamp b
 text_is : (h : Host) (book key : ℕ) (with_key : IsKeyOf h book key) → text_of h book ≡ Some (csv_of (rows_of_book with_key.0))
 text_is h book key with_key = ap (option_map (λ (at : BookValue). csv_of (rows_of_book at))) with_key.1
 
--- a book that the host has has a text
+-- each book of the host has a text
 pub no_text : (h : Host) (book key : ℕ) → IsKeyOf h book key → text_of h book ≡ None → ⊥
 no_text h book key with_key none = (let some = sym (text_is h book key with_key) ∙ none in cc)
 

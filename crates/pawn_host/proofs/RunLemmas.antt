@@ -25,7 +25,7 @@ use Rattle.std.proofs.Common.{append-nil}
 use Rattle.std.proofs.lemmas.Bool.Decides.{nat_tests}
 use Rattle.pawn_reply.specs.declared.reply.Out.TheVariants as wire
 
--- memory was wanting, and nothing changed
+-- memory ran out, and nothing changed
 pub acted_memory : (start : Start) (stamp : Stamp) (bytes reply : List ℕ) (kept : Kept) → reply ≡ memory_text → GoesTo kept start.host start.leaves
     → IsActed start stamp bytes reply kept
 acted_memory start stamp bytes reply kept is goes = record { mark = no_memory; marked = tt; text = is; goes = goes_wider goes (λ left by. inl by) }
@@ -72,12 +72,12 @@ acted_fault start stamp bytes Memory kept e read is goes = acted_memory start st
 
 -- ---- requests
 
--- where the keeper goes on after a request's step
+-- the host of the keeper after a request's step
 abbrev pub GoesByStep : Start → Stamp → Request → Kept → Type 0
 GoesByStep start stamp request kept = GoesTo kept (next_host start.host start.operator stamp request)
     (IsLeftByStep start.host request.book (host_step start.host start.operator stamp request) start.leaves)
 
--- the outcome is the step's
+-- the outcome is that of the step
 pub goes_by : (start : Start) (stamp : Stamp) (request : Request) (kept : Kept) (o : Outcome) → host_step start.host start.operator stamp request ≡ o
     → GoesTo kept (host_after start.host request.book o) (IsLeftByStep start.host request.book o start.leaves) → GoesByStep start stamp request kept
 goes_by start stamp request kept o is goes =
@@ -94,12 +94,12 @@ acted_said start stamp bytes reply kept request out read is text goes = record {
   goes = goes;
 }
 
--- nothing changed, but for a request that the keeper did not answer, which a crash may leave done all the same
+-- nothing changed; but if the keeper did not answer the request, a crash may leave a host with its change
 abbrev pub GoesUnmade : Start → Stamp → Request → Refusal → Kept → Type 0
 GoesUnmade start stamp request why kept = (IsUnwell why × GoesTo kept start.host (IsLeftByAct start.host start.operator stamp request start.leaves (Err why)))
     ⊎ ((host_step start.host start.operator stamp request ≡ Refuses why) × GoesTo kept start.host start.leaves)
 
--- it was not answered
+-- the keeper did not answer
 goes_unwell : (start : Start) (stamp : Stamp) (bytes : List ℕ) (request : Request) (why : Refusal) (kept : Kept) → SaysRequest bytes (Ok request)
     → GoesTo kept start.host (IsLeftByAct start.host start.operator stamp request start.leaves (Err why))
     → GoesTo kept start.host (λ left. start.leaves left ⊎ IsDone start.host start.operator stamp bytes left)
@@ -132,7 +132,7 @@ acted_unmade start stamp bytes (Bytes v) kept request why read is (inr refused) 
     acted_said start stamp bytes v.items kept request (Denied why) read (ap out_of refused.0) is
     (goes_by start stamp request kept (Refuses why) refused.0 refused.1)
 
--- the same, where the keeper was read alone
+-- the same, if the keeper was only read
 pub acted_refused : (start : Start) (stamp : Stamp) (bytes : List ℕ) (answer : Answer) (kept : Kept) (request : Request) (why : Refusal)
     → SaysRequest bytes (Ok request) → Tells answer (out_text (wire.Refused why)) → GoesTo kept start.host start.leaves
     → IsRefused (host_step start.host start.operator stamp request) why → (start.Steady → why ≡ Refusal.Store → ⊥)
@@ -149,7 +149,7 @@ pub acted_done : (start : Start) (stamp : Stamp) (bytes text : List ℕ) (kept :
 acted_done start stamp bytes text kept request reply read is acts crash =
     acted_said start stamp bytes text kept request (Replied reply) read acts.0 is (record { stands_for = acts.1; sound = acts.2; crash = crash })
 
--- a change was not made: where there was no room for it a crash does not leave it either
+-- a change was not made: if there was no room for it, a crash does not leave it either
 pub goes_unmade : (start : Start) (stamp : Stamp) (request : Request) (kept : Kept) (change : Option Change) (why : Refusal) → IsSound start.host
     → Commits start.host change (Err why) kept.stands → Acts start.host start.operator stamp request (Err why) kept.stands → ((left : Host) → kept.leaves left
     → IsLeftByAct start.host start.operator stamp request start.leaves (Err why) left) → GoesUnmade start stamp request why kept
@@ -185,7 +185,7 @@ plain = codes "text/plain; charset=utf-8"
 abbrev pub present_request : ℕ → List Receipt → Request
 present_request book receipts = record { book = book; caller = Bearer (Present receipts) }
 
--- what comes of receipts, by whether one of them is live
+-- the outcome for receipts, which depends on whether one of them is live
 step_unknown : (h : Host) (operator : ℕ) (stamp : Stamp) (book : ℕ) (receipts : List Receipt) → are_unknown (live_pledges h book receipts) ≡ true
     → host_step h operator stamp (present_request book receipts) ≡ Refuses Refusal.NoSuchReceipt
 step_unknown h operator stamp book receipts is =
@@ -204,7 +204,7 @@ text_unknown : (u : Bool) (shown : List ℕ) → (let none : Option (List ℕ) =
 text_unknown true shown is = refl
 text_unknown false shown is = cc
 
--- nothing was to show
+-- there was nothing to show
 pub nothing_shown : (h : Host) (operator : ℕ) (stamp : Stamp) (book day : ℕ) (receipts : List Receipt) → presentation_of h book receipts day ≡ None
     → host_step h operator stamp (present_request book receipts) ≡ Refuses Refusal.NoSuchReceipt
 nothing_shown h operator stamp book day receipts is = step_unknown h operator stamp book receipts
@@ -222,7 +222,7 @@ acted_shown start stamp bytes answer kept book day receipts text out read day_is
     acted_text start stamp bytes answer kept (present_request book receipts) (Shown stamp.day shown) plain out read step
     (ap (reply_text 200 plain) same) tells goes
 
--- ---- what the holder of a book's key asks to see
+-- ---- what the holder of a book's key asks for
 
 abbrev pub view_request : ℕ → ℕ → View → Request
 view_request book key view = record { book = book; caller = Viewer key view }
@@ -230,7 +230,7 @@ view_request book key view = record { book = book; caller = Viewer key view }
 abbrev pub show_request : ℕ → ℕ → ℕ → Request
 show_request book key number = view_request book key (View.Pledge number)
 
--- what comes of a request with the book's key
+-- the outcome of a request with the book's key
 pub step_past_gate : (h : Host) (operator : ℕ) (stamp : Stamp) (book key : ℕ) (view : View) (with_key : IsKeyOf h book key)
     → host_step h operator stamp (view_request book key view) ≡ within_limit h book (view_step with_key.0 stamp view)
 step_past_gate h operator stamp book key view with_key =
@@ -239,7 +239,7 @@ step_past_gate h operator stamp book key view with_key =
     ap (λ (o : Option BookValue). within_limit h book (gate_step o key (λ (k : BookValue). view_step k stamp view))) with_key.1
     ∙ ap (λ (v : Bool). within_limit h book (if v then view_step at stamp view else Refuses Refusal.NoSuchBook)) same
 
--- .. for a pledge
+-- the same for a pledge
 step_key : (h : Host) (operator : ℕ) (stamp : Stamp) (book key number : ℕ) → IsKeyOf h book key
     → host_step h operator stamp (show_request book key number) ≡ within_limit h book (show_pledge stamp (pledge_at h book number))
 step_key h operator stamp book key number with_key = step_past_gate h operator stamp book key (View.Pledge number) with_key
@@ -271,7 +271,7 @@ acted_statement start stamp bytes answer kept book key number day text out read 
           sym all ∙ sym (some_same is) ∙ ap (λ (x : ℕ). statement_text x p) day_is ∙ sym (append-nil (statement_text stamp.day p)) in
           acted_text start stamp bytes answer kept (show_request book key number) said plain out read step (ap (reply_text 200 plain) same) tells goes
 
--- the key was another's, or the keeper did not answer
+-- the key was that of another book or of none, or the keeper did not answer
 pub gate_refused : (h : Host) (operator : ℕ) (stamp : Stamp) (book key : ℕ) (view : View) (why : Refusal) → Gates (get h.books book) key (Err why)
     → IsUnwell why ⊎ (host_step h operator stamp (view_request book key view) ≡ Refuses why)
 gate_refused h operator stamp book key view why refused =
@@ -284,7 +284,7 @@ gate_refused h operator stamp book key view why refused =
 pub all_written : (old new out text : List ℕ) → out ≡ new → new ≡ old ++ text → old ≡ [] → text ≡ out
 all_written old new out text same written empty = sym (same ∙ written ∙ ap (λ (x : List ℕ). x ++ text) empty)
 
--- a request, by its parts
+-- a request from its parts
 pub read_view : (bytes : List ℕ) (request : Request) (key : ℕ) (view : View) → request.caller ≡ Viewer key view
     → SaysRequest bytes (Ok request) → SaysRequest bytes (Ok (view_request request.book key view))
 read_view bytes request key view called read =

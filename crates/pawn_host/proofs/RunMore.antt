@@ -10,14 +10,14 @@ use Rattle.std.proofs.Common.{subst, Vec, Global, All}
 use Rattle.std.proofs.lemmas.List.{map_more}
 use Rattle.std.proofs.lemmas.List.Elements.{All-append, All-cons, All-head, All-nil, All-tail}
 
--- two runs in turn
+-- one run after another
 pub replies-append : (h : Host) (operator : ℕ) (a b : List Item)
     → replies h operator (a ++ b) ≡ replies h operator a ++ replies (host_after_run h operator a) operator b
 replies-append h operator [] b = refl
 replies-append h operator (x ∷ a) b =
     ap (λ (l : List (List ℕ)). said_text (event_reply h operator (event_of x)) ∷ l) (replies-append (host_after_event h operator (event_of x)) operator a b)
 
--- marks over a keeper are marks over one that was steady before
+-- marks that are right for a keeper are right for the same keeper at an earlier time, because a steady keeper stays steady
 pub marked_all : (Now Before : Type 0) (items : List Item) → (Before → Now) → All (IsMarked Now) items → All (IsMarked Before) items
 marked_all Now Before [] stays marked = All-nil (IsMarked Before)
 marked_all Now Before (i ∷ items) stays marked =
@@ -39,7 +39,7 @@ run_more start given answers kept kept' stamp bytes reply r a =
       goes = goes-append start kept' r.items (item ∷ []) a.goes;
     }
 
--- a turn of the loop over the items
+-- one iteration of the loop over the items
 pub run_turn : (start : Start) (kept kept' : Kept) (i : ℕ) (items : List (Stamp × Vec ℕ Global)) (item : Stamp × Vec ℕ Global) (answers answers' : List Answer)
     (answer : Answer) → i < length items → item ≡ get_or items i item → answers' ≡ answers ++ answer ∷ []
     → (r : IsRun start (map (λ p. (p.0, p.1.items)) (take i items)) (map answer_bytes answers) kept) → IsActed (start_after start r.items) item.0 item.1.items

@@ -28,7 +28,7 @@ next shard k x t all part i item mine same placed = record {
   before = inl (mine, (inputs (take placed.place part), (λ j. same j ∷ inputs (take placed.place part)), placed.before));
 }
 
--- each request has a place among those that its shard gets
+-- each request has a place among the requests that its shard gets
 pub requests_are_placed : RequestsArePlaced
 requests_are_placed shard k [] part hands i item is mine = absurd_none is
 requests_are_placed shard k (x ∷ all) [] (inl (for, (more, is, hands))) i item at mine = absurd cc

@@ -16,7 +16,7 @@ sheet_request book key day = view_request book key (View.Sheet day)
 abbrev book_listed : ℕ → BookValue → Out
 book_listed day book = Listed day book.capacity (day_sheet book.pledges day)
 
--- what comes of a day that is asked for with the book's key
+-- the outcome of a request for a day, with the book's key
 step_sheet : (h : Host) (operator : ℕ) (stamp : Stamp) (book key day : ℕ) (with_key : IsKeyOf h book key)
     → host_step h operator stamp (sheet_request book key day) ≡ Says (book_listed day with_key.0)
 step_sheet h operator stamp book key day with_key = step_past_gate h operator stamp book key (View.Sheet day) with_key
@@ -25,7 +25,7 @@ step_sheet h operator stamp book key day with_key = step_past_gate h operator st
 sheet_is : (h : Host) (book key day : ℕ) (with_key : IsKeyOf h book key) → sheet_of h book day ≡ Some (book_sheet day with_key.0)
 sheet_is h book key day with_key = ap (option_map (book_sheet day)) with_key.1
 
--- a book that the host has has a sheet
+-- each book of the host has a sheet
 pub no_sheet : (h : Host) (book key day : ℕ) → IsKeyOf h book key → sheet_of h book day ≡ None → ⊥
 no_sheet h book key day with_key none = (let some = sym (sheet_is h book key day with_key) ∙ none in cc)
 

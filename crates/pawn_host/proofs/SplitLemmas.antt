@@ -1,4 +1,4 @@
--- How the split of a stream goes on from what was taken of it.
+-- How a split of a stream continues after the requests that were taken from it.
 use Rattle.pawn_host.specs.Common.{HeadFacts, HeadFault, Keeps, ReadsHead, prepend_known, print_request}
 use Rattle.pawn_host.specs.Finding.{FindsHead, FindsRest}
 use Rattle.pawn_host.specs.Split.{Begins, BeginsAndGoesOn, Ending, IsRequest, IsUnderWay, PassesOver, Splits, StopsAt}
@@ -13,7 +13,7 @@ use Rattle.std.proofs.lemmas.List.{take-append-le}
 pub length_snoc : (requests : List (List ℕ)) (x : List ℕ) → length (requests ++ x ∷ []) ≡ suc (length requests)
 length_snoc requests x = length-append requests (x ∷ []) ∙ (omega arith)
 
--- the stream from its start is these requests and then what is left
+-- the stream consists of these requests and then of what is left
 abbrev pub SplitsOn : Option (List ℕ) → Option (List ℕ) → List (List ℕ) → Type 0
 SplitsOn None rest requests = Unit {0}
 SplitsOn (Some s) None requests = ⊥
@@ -92,7 +92,7 @@ closed_begins None requests h = tt
 closed_begins (Some s) requests (inl x) = absurd x.2
 closed_begins (Some s) requests (inr x) = inr x.0
 
--- the request that was taken is one of the split's
+-- the request that was taken is one of the split
 pub splits_begun : (s rest left : Option (List ℕ)) (requests : List (List ℕ)) (buffer : List ℕ) (f : HeadFacts) → SplitsOn s rest requests
     → IfSome rest (λ r. FindsHead r (Ok f)) → Keeps rest (prepend_known buffer left) → f.len + f.body ≤ length buffer → length requests < 1000
     → IfSome s (λ x. Begins x (requests ++ take (f.len + f.body) buffer ∷ []))

@@ -6,7 +6,7 @@ use Rattle.pawn_host.specs.Views.{TellsView}
 use Rattle.pawn_host.specs.declared.service.Answer.{Answer}
 use Rattle.std.proofs.Common.{◌≡◌, ℕ, List, Result, Ok, Err, inl, inr, refl, ap}
 
--- what is answered, if a text that was written whole is the step's, and one of which there is nothing to show is refused
+-- the answer: the text of the step, if it was written completely; a refusal, if there is nothing to show
 pub view_acted : (start : Start) (stamp : Stamp) (bytes : List ℕ) (answer : Answer) (kept : Kept) (request : Request) (unknown : Refusal) (told : List ℕ)
     (shown : Result (Unit {0}) ViewFault) → SaysRequest bytes (Ok request) → TellsView answer shown told unknown → GoesTo kept start.host start.leaves
     → (unknown ≡ Refusal.Store → ⊥) → ((u : Unit {0}) → shown ≡ Ok u → Tells answer told → IsActed start stamp bytes (answer_bytes answer) kept)

@@ -2,7 +2,7 @@
 use Rattle.pawn_book.proofs.VisitLemmas.{cut_at, handed-snoc}
 use Rattle.pawn_list_keeper.specs.Common.{Flow, Go, Handed, HandsOver, IsShare, Stop, Visits, Whole}
 use Rattle.std.proofs.Common.{◌≡◌, ◌∙◌, ℕ, List, [], ◌∷◌, ◌++◌, refl, sym, ap, subst, ◌<◌, ◌+◌, length, take, drop}
-use Rattle.std.proofs.Common.{get_or, append_assoc}
+use Rattle.std.proofs.Common.{get_or, append-nil, append_assoc, take_all, ◌≤◌}
 use Rattle.std.proofs.lemmas.List.{take_more}
 
 -- it gets nothing
@@ -18,6 +18,17 @@ visits_stopped step v u w xs i x lt is before here = (
   handed-snoc step v u w (take i xs) x Stop before here,
   (drop (i + 1) xs, append_assoc (take i xs) (x ∷ []) (drop (i + 1) xs) ∙ ap (λ y. take i xs ++ y ∷ drop (i + 1) xs) is ∙ cut_at xs i x lt, λ e. cc e),
 )
+
+-- it got all of them
+pub hands_whole : {V T : Type 0} (step : V → T → Flow → V → Type 0) (v w : V) (xs : List T) (i : ℕ) → length xs ≤ i → Handed step v (take i xs) Go w
+    → HandsOver step v xs Go w
+hands_whole step v w xs i le handed = (take i xs, handed, ([], append-nil (take i xs) ∙ take_all i xs le, λ go whole. refl))
+
+-- it stopped, and got no more
+pub hands_stopped : {V T : Type 0} (step : V → T → Flow → V → Type 0) (v u w : V) (xs : List T) (i : ℕ) (x : T) → i < length xs → x ≡ get_or xs i x
+    → Handed step v (take i xs) Go u → step u x Stop w → HandsOver step v xs Stop w
+unfolding visits_stopped
+hands_stopped step v u w xs i x lt is before here = let visits = visits_stopped step v u w xs i x lt is before here in (visits.0, visits.2, visits.3)
 
 -- it goes on after the item at this place
 pub visits_more : {V T : Type 0} (step : V → T → Flow → V → Type 0) (v u w : V) (xs : List T) (i : ℕ) (x : T) → i < length xs → x ≡ get_or xs i x

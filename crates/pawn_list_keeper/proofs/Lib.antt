@@ -1,7 +1,8 @@
-pub mod PledgePlaces
 pub mod HandLemmas
-pub mod PartLemmas
-pub mod ListReads
-pub mod NextLemmas
 pub mod ListKeeping
+pub mod ListReads
 pub mod ListSaves
+pub mod NextLemmas
+pub mod PartLemmas
+pub mod PledgePlaces
+pub mod RowLemmas

@@ -9,7 +9,7 @@ use Rattle.std.proofs.Common.{false, ◌==◌, ◌⊎◌, take_all}
 use Rattle.std.proofs.lemmas.Bool.Decides.{nat_tests}
 use Rattle.std.proofs.lemmas.List.{get_or-map, length-map, take_more}
 
--- a book stands with one more behind it
+-- a book that is followed by one more
 stands_before : (es : List (ℕ × BookValue)) (e : ℕ × BookValue) (b : ℕ) (book : BookValue) → book_at es b ≡ Some book → book_at (es ++ e ∷ []) b ≡ Some book
 stands_before [] e b book is = absurd_none is
 stands_before (f ∷ es) e b book is =

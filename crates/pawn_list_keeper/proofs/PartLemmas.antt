@@ -57,7 +57,7 @@ module _ {V : Type 0} (step : V → SheetItem → Flow → V → Type 0) (v u w 
   headed is counted =
       ap (λ i. i ∷ part_items part day pledges) (is ∙ ap (part_head part) (counted ∙ sym (length-filter_map (part_item part day) pledges)))
 
-  -- a part's items behind their number
+  -- a part's items after their number
   pub head_goes : (flow : Flow) → heading ≡ part_head part count → count ≡ count_by (λ p. is_some (part_item part day p)) pledges → step v heading Go u
       → HandsOver step u (part_items part day pledges) flow w → HandsOver step v (with_head part (part_items part day pledges)) flow w
   head_goes flow is counted here rest =
@@ -71,7 +71,7 @@ module _ {V : Type 0} (step : V → SheetItem → Flow → V → Type 0) (v u w 
       subst (λ items. HandsOver step v items Stop w) (headed is counted)
       (hands_stop step v w (heading ∷ []) (part_items part day pledges) (hands_one step v w heading Stop here))
 
--- a window for which nobody comes, and one for which somebody does
+-- a window without a confirmed visit, and one with a confirmed visit
 pub window_none : (part : Part) (items : List SheetItem) → length items ≡ 0 → window_items part items ≡ []
 window_none part [] none = refl
 window_none part (i ∷ is) none = absurd (omega (arith, none))
@@ -80,7 +80,7 @@ pub window_some : (part : Part) (items : List SheetItem) → length items ≢ 0 
 window_some part [] some = absurd (some refl)
 window_some part (i ∷ is) some = refl
 
--- a window's items behind those of the windows below it
+-- a window's items after those of the windows before it
 pub window_next : {V T : Type 0} (step : V → T → Flow → V → Type 0) (v u w : V) (f : ℕ → List T) (n : ℕ) (flow : Flow)
     → HandsOver step v (flat_map f (windows_below n)) Go u → HandsOver step u (f n) flow w → HandsOver step v (flat_map f (windows_below (n + 1))) flow w
 window_next step v u w f n flow before here =

@@ -7,6 +7,7 @@ mod filling;
 mod kept;
 mod list;
 mod reading;
+mod rows;
 mod saving;
 mod sheet;
 

@@ -9,11 +9,12 @@ use crate::reading::{
     bound, brief_in, confirmed_count, entries_in, extensions_in, hand, head_in, next_number,
     number_in, pledge_copy, pledges_in, secrets_in, terms_in,
 };
+use crate::rows::hand_rows;
 use crate::saving::{make_change, rows_with};
 use crate::sheet::hand_sheet;
 use pawn_book::{
     BookHead, Brief, Change, Day, Entry, Extension, Issued, Keep, KeepError, MOST_ROWS, Number,
-    Pledge, Reference, SaveError, SheetItem, Terms, Visitor,
+    Pledge, Reference, RowItem, SaveError, SheetItem, Terms, Visitor,
 };
 use std::alloc::Global;
 use std::marker::Model;
@@ -177,6 +178,17 @@ impl Keep for ListKeep {
         visitor: &mut V,
     ) -> Result<(), KeepError> {
         hand_sheet(day, pledges_in(&self.books, book), visitor);
+        Ok(())
+    }
+
+    fn rows_each<V: Visitor<RowItem>>(
+        &mut self,
+        book: Number,
+        visitor: &mut V,
+    ) -> Result<(), KeepError> {
+        let Ok(()) = hand_rows(self.alloc, pledges_in(&self.books, book), visitor) else {
+            return Err(KeepError::Memory);
+        };
         Ok(())
     }
 

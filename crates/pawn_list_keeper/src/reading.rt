@@ -1,4 +1,5 @@
 //! The reads of the trait `Keep`, over books in a list.
+ghost use Rattle.pawn_list_keeper.specs.Common.{HandsOver};
 ghost use Rattle.pawn_list_keeper.specs.Common.{IsShare, Visits, Whole, book_head, brief_of, confirmed_count};
 ghost use Rattle.pawn_list_keeper.specs.Common.{entries_of, extensions_of, number_of, pledge_in, pledges_of};
 ghost use Rattle.pawn_list_keeper.specs.Common.{secrets_of, terms_at, terms_of, with_reference};
@@ -185,6 +186,20 @@ fn nearer_number(number: Number, after: u32, next: Option<Number>) -> Option<Num
         return Some(number);
     }
     next
+}
+
+/// Passes the items to the visitor in order, until it answers `Stop`. Returns the visitor's last answer, or `Go` if there
+/// are no items.
+pub(crate) fn hand_over<T, V: Visitor<T>>(items: &[T], visitor: &mut V) -> Flow
+    ensures hands { HandsOver V.step visitor.old items.now result visitor.new }
+{
+    for item in items {
+        match visitor.visit(item) {
+            Flow::Go => {}
+            Flow::Stop => return Flow::Stop,
+        }
+    }
+    Flow::Go
 }
 
 /// Passes the items to the visitor in order, until it answers `Stop`.

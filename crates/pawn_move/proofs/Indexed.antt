@@ -9,7 +9,7 @@ use Rattle.pawn_opening.specs.declared.indexing.Lacking.{Lacking}
 use Rattle.pawn_opening.specs.declared.indexing.Lacking.TheVariants.{Both}
 use Rattle.sqlite.specs.State.{Shows, Survives}
 use Rattle.sqlite_schema.specs.Names.{same_name}
-use Rattle.std.proofs.Common.{◌≡◌, ◌⊎◌, inl, inr, ℕ, None, false, Option, Some, Ok, sym, ap, subst, refl, arith, ◌∙◌}
+use Rattle.std.proofs.Common.{◌≡◌, ◌⊎◌, inl, inr, ℕ, false, Option, Some, Ok, sym, ap, subst, refl, arith, ◌∙◌}
 
 -- a store of an older schema that stands for a host has neither index
 lacks_both : (n : ℕ) → (n ≡ 1) ⊎ (n ≡ 2) → (db : Database) (h : Host) → StandsUnder n db h → lacking db.schema ≡ Some Both

@@ -10,7 +10,7 @@ pub both_true : (a b : Bool) → IsTrue (a && b) → IsTrue a × IsTrue b
 both_true true b h = (refl, h)
 both_true false b h = absurd (cc)
 
--- what digits and the hyphen pass, each byte of a day's text passes
+-- a test that digits and the hyphen pass is passed by each byte of a day's text
 each_passes : (test : ℕ → Bool) → ((m : ℕ) → m < 10 → test (48 + m) ≡ true) → test 45 ≡ true → (c : Civil) → list_all test (civil_text c) ≡ true
 each_passes test digits hyphen c = simp (passes, hyphen) where
   passes : (n : ℕ) → test (48 + n % 10) ≡ true

@@ -12,7 +12,7 @@ use Rattle.sqlite_rules.specs.Keys.{conflicts, shares}
 use Rattle.std.proofs.Common.{◌≡◌, ◌&&◌, ◌||◌, ◌++◌, ℕ, ℤ, ◌/◌, List, [], ◌∷◌, length, Bool, true, false, Option, Ok}
 use Rattle.std.proofs.Common.{refl, sym, ap, filter, IsPermutation, ◌∙◌}
 
--- the tables list other rows, under the schema that they had
+-- the tables list other rows, under the same schema as before
 pub under_same : {db old : Database} {listed was : Listed} (st : ListsOurs old was) → Lists (with_indexes st.more) db listed → ListsOurs db listed
 under_same st lists = record { more = st.more; loose = st.loose; lists = lists }
 

@@ -38,7 +38,7 @@ module _ (n : ℕ) (p : PledgeValue) where
   abbrev pub Splits : List PledgeValue → Option PledgeValue → List PledgeValue → Type 0
   Splits ps stood put = (others : List PledgeValue) × IsPermutation ps (those stood ++ others) × IsPermutation put (p ∷ others)
 
-  -- the pledges are the one that stands at a number, if one does, and others, which stay where one is put there
+  -- the pledges are the one with a number, if there is one, and the others, which stay as they are when one is put there
   pub put_split : (k : ℕ) (ps : List PledgeValue) → Splits ps (pledge_from k ps n) (put_from k ps n p)
   put_split k [] = ([], IsPermutation-refl [], IsPermutation-refl (p ∷ []))
   put_split k (q ∷ ps) = go (n == k) (put_split (k + 1) ps) where

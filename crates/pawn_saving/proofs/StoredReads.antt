@@ -16,7 +16,7 @@ use Rattle.pawn_tables.specs.StandsFor.{StandsFor}
 use Rattle.std.proofs.Common.{◌≡◌, Bool, ◌⊎◌, inl, inr, ◌↔◌, ℕ, zero, suc, ◌+◌, ◌≤◌, List, [], ◌∷◌, Option, Some, None}
 use Rattle.std.proofs.Common.{true, false, length, IsTrue, refl, sym, subst, arith, is_some, slice_get, ◌++◌}
 
--- ---- an element stands at each place up to the length of a list
+-- ---- there is an element at each place up to the length of a list
 
 within_length : {A : Type 0} (xs : List A) (i : ℕ) → IsTrue (is_some (slice_get xs i)) ↔ (suc i ≤ length xs)
 within_length [] i = ((λ is. absurd (let e = is in cc)), (λ le. absurd (omega (arith, le))))
@@ -34,7 +34,7 @@ tells_within list named p xs place x there is long same at low =
     let told = subst (λ b. IsTrue b ↔ (place ≤ length xs)) (sym same) (tells_place xs place x at low) in
     subst (λ (l : PledgeList). IsTrue there ↔ (place ≤ length_in l p)) (sym is) (subst (λ n. IsTrue there ↔ (place ≤ n)) (sym long) told)
 
--- the entry of a number stands at that place, in a sound host
+-- the entry with a number is at that place, in a sound host
 pub entry_placed : (h : Host) (b n s : ℕ) → IsSound h
     → with_seq (entries_of (pledge_in (get h.books b) n)) s ≡ at_place (entries_of (pledge_in (get h.books b) n)) s
 entry_placed h b n s sound = go (pledge_in (get h.books b) n) refl where

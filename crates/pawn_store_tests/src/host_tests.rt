@@ -17,6 +17,7 @@ mod ends;
 mod failing_writers;
 mod stops;
 mod turns;
+mod visits;
 
 use ends::{Calls, Log, Sink, Source, Stamps};
 use pawn_book::{Keep, RequestDay, Secret, Stamp};

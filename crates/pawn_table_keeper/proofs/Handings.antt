@@ -1,4 +1,4 @@
--- Calls that hand over one list after another.
+-- Calls that pass one list after another to a visitor.
 use Rattle.pawn_book.proofs.Reading.{reads_as, reads_none, reads_then}
 use Rattle.pawn_book.proofs.SheetLemmas.{handed-append, windows_begin, windows_more}
 use Rattle.pawn_table_keeper.proofs.Walks.{errs_ok}
@@ -43,7 +43,7 @@ module _ {K V T : Type 0} (k : Keeping K) (step : V → T → Flow → V → Typ
   hands_after a b c v w r xs ys before same hands = hands_rows hands.given hands.handed (reads_then before hands.reads
       (λ h p share. subst (IsShare hands.given (flow_of r) (call_end r)) (same h p) share)) (errs_after k a b c r before hands.reads hands.errs)
 
-  -- there is nothing to hand over
+  -- there is nothing to pass
   pub hands_nothing : {IsUnsound : Host → Type 0} (a b : K) (v : V) (xs : Host → List T) {P : Host → Type 0} → Reads k a b P → ((h : Host) → P h → xs h ≡ [])
       → HandsRows k IsUnsound step a b v v (Ok Go) xs
   hands_nothing a b v xs read none = hands_rows [] (refl, refl) (reads_as read (λ h p. ([], sym (none h p), λ go whole. refl))) (errs_ok k a b (Ok Go) Go refl)

@@ -34,7 +34,7 @@ module _ {V A T : Type 0} (step : V → T → Flow → V → Type 0) (shows : A 
       (map shows (drop (i + 1) xs), sym (map-append shows (take (i + 1) xs) (drop (i + 1) xs)) ∙ ap (map shows) (take-append-drop (i + 1) xs), λ e. cc e),
     )
 
--- ---- pages behind a place
+-- ---- pages after a place
 
 short_last : {A : Type 0} (k : ℕ) (xs : List A) → length (take k xs) < k → drop k xs ≡ []
 short_last zero xs short = absurd (omega (arith, short))
@@ -42,11 +42,11 @@ short_last (suc k) [] short = refl
 short_last (suc k) (x ∷ xs) short = short_last k xs (omega (arith, short))
 
 module _ {A : Type 0} (n : ℕ) (xs page : List A) (is : page ≡ page_behind n xs) where
-  -- what is left goes on behind the page
+  -- the rest goes on after the page
   page_next : drop n xs ≡ page ++ drop (n + most_page_rows) xs
   page_next = sym (take-append-drop most_page_rows (drop n xs)) ∙ (λ i. sym is i ++ drop-drop most_page_rows n xs i)
 
-  -- nothing is left behind one that is not full
+  -- nothing follows a page that is not full
   page_ends : length page < most_page_rows → drop (n + most_page_rows) xs ≡ []
   page_ends short = sym (drop-drop most_page_rows n xs) ∙ short_last most_page_rows (drop n xs) (subst (λ l. length l < most_page_rows) is short)
 

@@ -17,7 +17,7 @@ module _ (part : Part) (day : ℕ) (ps : List PledgeValue) (page : List Line) (t
   pub whole_page : length page < most_page_rows → part_items part day ps ≡ items_of part page
   whole_page short = told.goes_on ∙ ap (λ xs. items_of part page ++ xs) (told.is_last short) ∙ append-nil (items_of part page)
 
--- a window for which somebody comes is named
+-- a window with a confirmed visit is named
 some_head : (part : Part) (page : List Line) (more : List SheetItem) → page ≢ []
     → window_items part (items_of part page ++ more) ≡ with_head part (items_of part page ++ more)
 some_head part [] more some = absurd (some refl)
@@ -42,7 +42,7 @@ module _ (named : List ℕ) (ps : List PledgeValue) (day w : ℕ) where
   pub not_named : list_any (λ n. n == w) named ≡ false → named_sheet named ps day w ≡ []
   not_named is = ap (λ c. cond c (window_sheet ps day w) []) is
 
--- they are all in which somebody comes
+-- they are all windows with a confirmed visit
 pub named_all : (day : ℕ) (ps : List PledgeValue) (named : List ℕ) → NamesWindows day ps named → named_sheets named ps day ≡ windows_sheet ps day
 named_all day ps named names = upto 16 (omega arith) where
   one : (w : ℕ) → w ≤ 15 → (c : Bool) → list_any (λ n. n == w) named ≡ c → cond c (window_sheet ps day w) [] ≡ window_sheet ps day w

@@ -1,3 +1,4 @@
 pub mod Common
+pub mod Exports
 pub mod Handing
 pub mod Windows

@@ -4,6 +4,7 @@ ghost use Rattle.pawn_tables.specs.Keeps.{keeping_by};
 ghost use Rattle.std.proofs.Props.{props};
 ghost use Rattle.std.specs.Prelude.{◌≡◌, IfErr, IfOk, IsTrue, false, unwrap_or};
 
+mod exports;
 mod handing;
 mod lists;
 mod sheets;
@@ -11,7 +12,7 @@ mod sheets;
 use one_table::know_settled;
 use pawn_book::{
     BookHead, Brief, Change, Day, Entry, Extension, Flow, Issued, Keep, KeepError, MOST_PLEDGES,
-    Number, Pledge, Reference, SaveError, SheetItem, StoreFault, Terms, Visitor,
+    Number, Pledge, Reference, RowItem, SaveError, SheetItem, StoreFault, Terms, Visitor,
 };
 use pawn_saving::save;
 use pawn_tables::{
@@ -191,6 +192,15 @@ impl<S: Alter> Keep for TableKeep<S> {
         visitor: &mut V,
     ) -> Result<(), KeepError> {
         self.hand_sheet(book, day, visitor)?;
+        Ok(())
+    }
+
+    fn rows_each<V: Visitor<RowItem>>(
+        &mut self,
+        book: Number,
+        visitor: &mut V,
+    ) -> Result<(), KeepError> {
+        self.hand_rows(book, visitor)?;
         Ok(())
     }
 

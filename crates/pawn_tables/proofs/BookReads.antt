@@ -142,7 +142,7 @@ none_above n (e ∷ es) none b k at = go (λ none at. none_above n es none b k a
   go rest false up true here none at = let same = same_key e.0 b here in grind (arith, nat_tests, up, same)
   go rest false up false here none at = rest none at
 
--- a key that is found behind a lower bound
+-- a key that is found after a lower bound
 pub below_key : (n : ℕ) (es : List Entry) → T (below_all nat_cmp n es) → (b : ℕ) (k : BookValue) → find_key nat_cmp b es ≡ Some k → n < b
 below_key n [] low' b k at = absurd (let e = at in cc)
 below_key n (e ∷ es) low' b k at = go (λ at. below_key n es (both_pass _ _ low').1 b k at) (is_eq (nat_cmp b e.0)) refl at where

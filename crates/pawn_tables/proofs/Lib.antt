@@ -1,11 +1,14 @@
 pub mod Basics
 pub mod BookReads
 pub mod Counts
+pub mod ItemOrder
+pub mod ItemReads
 pub mod Joins
 pub mod Lent
 pub mod LineReads
 pub mod ListElementReads
 pub mod ListEndReads
+pub mod ListItems
 pub mod ListPageReads
 pub mod ListsOfRows
 pub mod NextEntries
@@ -16,6 +19,8 @@ pub mod PageLemmas
 pub mod PlacedRows
 pub mod PledgeReads
 pub mod PledgeSearches
+pub mod RangeFinds
+pub mod RangeReads
 pub mod ReadTexts
 pub mod Reading
 pub mod RowCells

@@ -1,24 +1,20 @@
 -- What the queries for the ends of a pledge's lists show, where the tables stand for a host.
 use Rattle.one_table.proofs.Found.{last_of}
-use Rattle.pawn_tables.proofs.Basics.{length-map}
-use Rattle.pawn_tables.proofs.Counts.{count_of, shown_count}
+use Rattle.pawn_tables.proofs.Lent.{debts_of}
 use Rattle.pawn_tables.proofs.ListElementReads.{at_each}
 use Rattle.pawn_tables.proofs.PageLemmas.{last_later, last_some}
-use Rattle.pawn_tables.proofs.PledgeReads.{extensions_list, extensions_up, four, last_shown, one_mapped, secrets_list}
-use Rattle.pawn_tables.proofs.PledgeReads.{secrets_up, under_map}
-use Rattle.pawn_tables.proofs.RowsUnderKey.{of_one_pledge, rows_at}
+use Rattle.pawn_tables.proofs.PledgeReads.{entries_list, entries_up, extensions_list, extensions_up, four, last_shown}
+use Rattle.pawn_tables.proofs.PledgeReads.{one_mapped, secrets_list, secrets_up}
+use Rattle.pawn_tables.proofs.RowsUnderKey.{rows_at}
 use Rattle.pawn_tables.proofs.SoundReads.{secrets_unsound}
-use Rattle.pawn_tables.specs.At.{at_pledge}
 use Rattle.pawn_tables.specs.Common.{get, Row, column, Shown, State, IsDayNumber, PledgeValue, last_element, Each}
-use Rattle.pawn_tables.specs.Common.{Extension, Issued, pledge_in, Host, entries_of, extensions_of, secrets_of}
+use Rattle.pawn_tables.specs.Common.{Entry, Extension, Issued, pledge_in, Host, entries_of, extensions_of, secrets_of}
 use Rattle.pawn_tables.specs.Common.{IsUnsoundAt, AreWords, IsWord}
 use Rattle.pawn_tables.specs.Heads.{number_cells}
-use Rattle.pawn_tables.specs.ListEnds.{AreListEnds, last_cells, last_issued}
-use Rattle.pawn_tables.specs.Ours.{with_indexes}
+use Rattle.pawn_tables.specs.ListEnds.{AreListEnds, last_cells, last_issued, last_seq}
 use Rattle.pawn_tables.specs.Rows.{at_most_one, entries_listed, entry_cells, extension_cells, extensions_listed, number}
 use Rattle.pawn_tables.specs.Rows.{placed_from, secret_cells, secrets_listed, under}
-use Rattle.pawn_tables.specs.Schema.{entries_tree, secrets, entries}
-use Rattle.pawn_tables.specs.StandsFor.{AreStorable, StandsFor, of_pledges}
+use Rattle.pawn_tables.specs.StandsFor.{AreStorable, StandsFor}
 use Rattle.pawn_tables.specs.declared.joining.LastSecret.{LastSecret}
 use Rattle.pawn_tables.specs.declared.joining.ListEnds.{ListEnds}
 use Rattle.std.proofs.Common.{◌≡◌, ℕ, suc, ◌+◌, ◌-◌, List, [], ◌∷◌, length, map, Option, Some, None, option_map, refl}
@@ -33,6 +29,13 @@ last_placed g told cells is k place [] end = refl
 last_placed g told cells is k place (x ∷ []) end = let same : k ≡ place = omega (arith, end) in ap (λ r. r ∷ []) (is k x ∙ ap (λ m. told m x) same)
 last_placed g told cells is k place (x ∷ (y ∷ xs)) end = last_placed g told cells is (k + 1) place (y ∷ xs) (omega (arith, end))
     ∙ ap (at_most_one (told place)) (sym (last_later x y xs))
+
+-- the last of elements that bring their own numbers
+last_mapped : {A : Type 0} (f told : A → Row) (cells : Row → Row) → ((x : A) → cells (f x) ≡ told x) → (xs : List A)
+    → map cells (last_of (map f xs)) ≡ at_most_one told (last_element xs)
+last_mapped f told cells is [] = refl
+last_mapped f told cells is (x ∷ []) = ap (λ r. r ∷ []) (is x)
+last_mapped f told cells is (x ∷ (y ∷ xs)) = last_mapped f told cells is (y ∷ xs) ∙ ap (at_most_one told) (sym (last_later x y xs))
 
 -- its place gives how many they are
 pub place_count : {A : Type 0} (xs : List A) → unwrap_or (option_map (λ (x : A). length xs) (last_element xs)) 0 ≡ length xs
@@ -70,16 +73,19 @@ module _ (old new : State) (h : Host) (b n : ℕ) (rows : List Row) (st : Stands
   abbrev found : Option PledgeValue
   found = pledge_in (get h.books b) n
 
-  pub count_shown : Shown text.COUNT_ENTRIES.now params old new rows → rows ≡ count_of (length (entries_of found)) ∷ []
-  count_shown shown =
-      shown_count (with_indexes st.schema.more) entries_tree (λ _. refl) (record entries { tree = entries_tree }) text.of_pledge params (at_pledge b n)
-      (λ _. refl) text.COUNT_ENTRIES.now _ ((text.texts st.schema.more).entry_count_is) old new (of_pledges h entries_listed) rows st.schema.is st.entries shown
-      ∙ ap (λ k. count_of k ∷ [])
-      (ap length (of_one_pledge h b n entries_listed st.ordered (λ m p. under_map m p.agreement.number entry_cells p.entries)) ∙ many found)
+  pub seq_shown : Shown text.READ_LAST_SEQ.now params old new rows
+      → rows ≡ at_most_one number_cells (option_map (λ (e : Entry). e.seq) (last_element (entries_of found)))
+  seq_shown shown = last_shown old new st.schema h _ _ (entries_list _ h (debts_of _ h st)) b n text.last_place_shows seq (λ _. refl) text.READ_LAST_SEQ.now _
+      rows (entries_up h b n st.ordered) ((text.texts st.schema.more).last_seq_is) shown ∙ cells found
     where
-      many : (o : Option PledgeValue) → length (rows_at o (entries_listed b)) ≡ length (entries_of o)
-      many None = refl
-      many (Some p) = length-map p.entries _
+      seq : Row → Row
+      seq v = column v 2 ∷ []
+
+      cells : (o : Option PledgeValue) → map seq (last_of (rows_at o (entries_listed b))) ≡ at_most_one number_cells
+          (option_map (λ (e : Entry). e.seq) (last_element (entries_of o)))
+      cells None = refl
+      cells (Some p) = last_mapped (λ e. under b p.agreement.number (entry_cells e)) (λ (e : Entry). number_cells e.seq) seq (λ e. refl) p.entries
+          ∙ one_mapped (λ (e : Entry). e.seq) number_cells (last_element p.entries)
 
   pub secret_shown : Shown text.READ_LAST_SECRET.now params old new rows → rows ≡ at_most_one last_cells (last_issued (secrets_of found))
   secret_shown shown = last_shown old new st.schema h _ _ (secrets_list _ h st) b n text.four_shown four (λ _. refl) text.READ_LAST_SECRET.now _ rows
@@ -107,7 +113,7 @@ module _ (old new : State) (h : Host) (b n : ℕ) (rows : List Row) (st : Stands
           (length p.extensions) p.extensions (omega arith) ∙ one_mapped (λ (e : Extension). length p.extensions) number_cells (last_element p.extensions)
 
 -- what the ends tell together
-pub list_ends_told : (o : Option PledgeValue) (t : ListEnds) → t.entries ≡ length (entries_of o) → t.last ≡ last_issued (secrets_of o)
+pub list_ends_told : (o : Option PledgeValue) (t : ListEnds) → t.last_entry ≡ last_seq (entries_of o) → t.last ≡ last_issued (secrets_of o)
     → t.extensions ≡ length (extensions_of o) → IfSome o (AreListEnds t)
 list_ends_told None t many last longer = tt
-list_ends_told (Some p) t many last longer = record { entries = many; last = last; extensions = longer }
+list_ends_told (Some p) t many last longer = record { last_entry = many; last = last; extensions = longer }

@@ -1,4 +1,4 @@
--- What the queries of a pledge's lists show behind a place, where the tables stand for a host.
+-- What the queries of a pledge's lists show after a place, where the tables stand for a host.
 use Rattle.pawn_tables.proofs.Basics.{cond-false, cond-true, nat_tests}
 use Rattle.pawn_tables.proofs.BookReads.{above}
 use Rattle.pawn_tables.proofs.PageLemmas.{take_each}
@@ -44,7 +44,7 @@ take_placed f zero at xs = refl
 take_placed f (suc n) at [] = refl
 take_placed f (suc n) at (x ∷ xs) = ap (λ l. f at x ∷ l) (take_placed f n (at + 1) xs)
 
-drop_each : {A : Type 0} (P : A → Type 0) (n : ℕ) (xs : List A) → Each P xs → Each P (drop n xs)
+pub drop_each : {A : Type 0} (P : A → Type 0) (n : ℕ) (xs : List A) → Each P xs → Each P (drop n xs)
 drop_each P zero xs all = all
 drop_each P (suc n) [] all = tt
 drop_each P (suc n) (x ∷ xs) all = drop_each P n xs all.1
@@ -61,7 +61,7 @@ module _ (old new : State) (h : Host) (b n s : ℕ) (rows : List Row) (st : Stan
   abbrev found : Option PledgeValue
   found = pledge_in (get h.books b) n
 
-  -- the elements behind the place
+  -- the elements after the place
   behind_of : {A : Type 0} (cells : Row → Row) (told : ℕ → A → Row) (m : ℕ) → ((at : ℕ) (x : A) → cells (under b m (told at x)) ≡ told at x)
       → ((at : ℕ) (x : A) → column (under b m (told at x)) 2 ≡ number at) → (xs : List A) → take most_page_rows
       (map cells (filter (has_behind s) (placed_from (λ place x. under b m (told place x)) 1 xs))) ≡ placed_from told (s + 1) (page_behind s xs)

@@ -1,10 +1,10 @@
 -- Lists that are read of rows, one row for each element.
 use Rattle.pawn_base.proofs.ListLemmas.{take_next}
 use Rattle.pawn_tables.specs.Common.{Row, Each, KeepError, Database, NoRecord}
-use Rattle.pawn_tables.specs.Finding.{IsRead}
+use Rattle.pawn_tables.specs.Finding.{Finds, IsRead}
 use Rattle.pawn_tables.specs.Rows.{at_most_one, placed_from}
 use Rattle.std.proofs.Common.{◌≡◌, ◌++◌, ℕ, zero, suc, ◌+◌, ◌<◌, List, [], ◌∷◌, length, take, map, get_or, slice_get}
-use Rattle.std.proofs.Common.{Option, Some, None, Ok, Err, refl, sym, ap, subst, ◌∙◌, arith, IfSome}
+use Rattle.std.proofs.Common.{Option, Some, None, Result, Ok, Err, refl, sym, ap, subst, ◌∙◌, arith, IfSome}
 use Rattle.pawn_book.specs.declared.fault.KeepError.TheVariants as Keeper
 
 -- the element of a row, with its place
@@ -75,6 +75,12 @@ read_part Keeper.Memory x Q R part f = tt
 read_part (Keeper.Store Database) x Q R part f = tt
 read_part (Keeper.Store NoRecord) x Q R part f = λ whole. f (part whole)
 
+-- the same error for something else, which can be kept only if the first can
+pub read_other : {A B : Type 0} (e : KeepError) (x : A) (y : B) (Q R : Type 0) → (R → Q) → IsRead (Err e) x Q → IsRead (Err e) y R
+read_other Keeper.Memory x y Q R part f = tt
+read_other (Keeper.Store Database) x y Q R part f = tt
+read_other (Keeper.Store NoRecord) x y Q R part f = λ whole. f (part whole)
+
 -- what can always be read is not refused as a row that cannot be decoded
 pub always_read : {A B : Type 0} (e : KeepError) (x : A) (y : B) (Q : Type 0) → IsRead (Err e) x (Unit {0}) → IsRead (Err e) y Q
 always_read Keeper.Memory x y Q f = tt
@@ -99,3 +105,35 @@ pub first_of : {A : Type 0} (f : A → Row) (W : A → Type 0) (rows : List Row)
     → ((x : A) → W x → r ≡ f x → y ≡ x) → (o : Option A) → IfSome o W → rows ≡ at_most_one f o → Some y ≡ o
 first_of f W rows r y is lt read None fits are = absurd (let short = subst (λ rs. 0 < length rs) are lt in omega (arith, short))
 first_of f W rows r y is lt read (Some x) fits are = ap Some (read x fits (is ∙ ap (λ rs. get_or rs 0 r) are))
+
+-- ---- what is found of one row after another
+
+-- an error says the same of whatever was asked for
+pub err_finds : {A B : Type 0} (e : KeepError) (P : A → Type 0) (R : B → Type 0) (Q : Type 0) → Finds (Err e) P Q → Finds (Err e) R Q
+err_finds Keeper.Memory P R Q f = tt
+err_finds (Keeper.Store Database) P R Q f = tt
+err_finds (Keeper.Store NoRecord) P R Q f = f
+
+-- it is passed on
+pub finds_failed : {A B : Type 0} (r : Result B KeepError) (e : KeepError) (P : A → Type 0) (R : B → Type 0) (Q U : Type 0) → r ≡ Err e → Finds (Err e) P Q
+    → (Q → U) → Finds r R U
+finds_failed r e P R Q U is f bad = subst (λ x. Finds x R U) (sym is) (go e f) where
+  go : (k : KeepError) → Finds (Err k) P Q → Finds (Err k) R U
+  go Keeper.Memory f = tt
+  go (Keeper.Store Database) f = tt
+  go (Keeper.Store NoRecord) f = bad f
+
+-- what can be kept, if only less can be
+pub kept_less : {A : Type 0} (r : Result A KeepError) (x : A) (Q R : Type 0) → (R → Q) → IsRead r x Q → IsRead r x R
+kept_less (Ok y) x Q R part f = f
+kept_less (Err Keeper.Memory) x Q R part f = tt
+kept_less (Err (Keeper.Store Database)) x Q R part f = tt
+kept_less (Err (Keeper.Store NoRecord)) x Q R part f = λ whole. f (part whole)
+
+-- one more is added
+pub added_more : {A : Type 0} (f : ℕ → A → Row) (W : A → Type 0) (rows : List Row) (i : ℕ) (got more : List A) (r : Row) → i < length rows
+    → r ≡ get_or rows i r → ((place : ℕ) (x : A) → W x → r ≡ f place x → more ≡ got ++ x ∷ []) → AreReadTo f W rows i got → AreReadTo f W rows (i + 1) more
+added_more f W rows i got more r lt is added so from xs words are = let at = element_at f from xs rows i r are lt is in
+    let next : i + 1 ≡ suc i = omega arith in
+    added at.0 at.1 (each_at W xs i at.1 at.3 words) at.2 ∙ ap (λ l. l ++ at.1 ∷ []) (so from xs words are) ∙ sym (take_next xs i at.1 at.3)
+    ∙ ap (λ n. take n xs) (sym next)

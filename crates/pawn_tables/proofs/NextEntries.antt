@@ -23,7 +23,7 @@ none_under k s (e ∷ es) lt numbered = let at = numbered.0 in
     let other : (e.seq == s) ≡ false = grind (arith, nat_tests, lt, at) in
     cond-false _ _ _ other ∙ none_under (k + 1) s es (omega (arith, lt)) numbered.1
 
--- the entry of a number stands at that place
+-- the entry with a number is at that place
 numbered_at : (k s n : ℕ) (es : List Entry) → s ≡ k + n → AreNumbered k es → with_seq es s ≡ slice_get es n
 numbered_at k s n [] is numbered = refl
 numbered_at k s zero (e ∷ es) is numbered = let at = numbered.0 in
@@ -76,7 +76,8 @@ first_from n k (x ∷ xs) rise e more is = go (first_from n (x.seq + 1) xs rise.
   go rest false is = let low = rest is in let at = rise.0 in omega (arith, low, at)
 
 -- those after the first have greater numbers
-rest_from : (n k : ℕ) (es : List Entry) → RiseFrom k es → (e : Entry) (more : List Entry) → entries_from n es ≡ e ∷ more → entries_from (e.seq + 1) es ≡ more
+pub rest_from : (n k : ℕ) (es : List Entry) → RiseFrom k es → (e : Entry) (more : List Entry) → entries_from n es ≡ e ∷ more → entries_from (e.seq + 1) es ≡
+    more
 rest_from n k [] rise e more is = absurd (let x = is in cc)
 rest_from n k (x ∷ xs) rise e more is = go (rest_from n (x.seq + 1) xs rise.1 e more) (nat_le n x.seq) refl is where
   left_out : x.seq ≤ e.seq → entries_from (e.seq + 1) (x ∷ xs) ≡ entries_from (e.seq + 1) xs

@@ -107,7 +107,7 @@ pledge_same ts us n (Some p) (Some q) terms' a b row es ss xs booking = let alik
     let terms'' = some_is _ _ (sym mine.1 ∙ ap (λ v. terms_at ts v) alike.version ∙ ap (λ l. terms_at l q.agreement.version) terms' ∙ theirs.1) in
     ap Some (whole p q alike (mine.0 ∙ sym theirs.0) terms'' es ss xs booking)
 
--- ---- lists, by what stands at each number
+-- ---- lists, by the element at each number
 
 same_slices : {A : Type 0} (xs ys : List A) → ((n : ℕ) → slice_get xs n ≡ slice_get ys n) → xs ≡ ys
 same_slices [] [] at = refl

@@ -1,4 +1,4 @@
--- The first elements of a list of which one knows what is left behind each.
+-- The first elements of a list, if the elements that follow each of them are known.
 use Rattle.pawn_tables.proofs.Basics.{cond_both, map-append}
 use Rattle.pawn_tables.specs.Common.{last_element, Each}
 use Rattle.pawn_tables.specs.Pages.{most_page_rows, IsPage, page_end}
@@ -22,7 +22,7 @@ end_after behind n x (y ∷ ys) = let last = last_some y ys in
     ap (λ o. unwrap_or (option_map behind o) n) (last_later x y ys ∙ last.1) ∙ sym (ap (λ o. unwrap_or (option_map behind o) (behind x)) last.1)
 
 module _ {A : Type 0} (left : ℕ → List A) (behind : A → ℕ) (step : (n : ℕ) (x : A) (more : List A) → left n ≡ x ∷ more → left (behind x) ≡ more) where
-  -- what is left behind the first elements
+  -- the elements after the first ones
   pub page_left : (k n : ℕ) → left n ≡ take k (left n) ++ left (page_end behind n (take k (left n)))
   page_left zero n = refl
   page_left (suc k) n = go (λ m. page_left k m) (left n) refl where

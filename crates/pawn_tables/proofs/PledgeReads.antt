@@ -88,7 +88,7 @@ pub extensions_up : (b : ℕ) (o : Option PledgeValue) → Rise (λ v. column v 
 extensions_up b o = rises_at o (extensions_listed b) (λ v. column v 2)
     (λ p is. placed_rise (λ place e. under b p.agreement.number (extension_cells place e)) (λ v. column v 2) (λ place e. refl) 1 p.extensions)
 
--- ---- what its rows show behind its number
+-- ---- what its rows show after its number
 
 abbrev pub three : Row → Row
 three v = column v 2 ∷ column v 3 ∷ column v 4 ∷ []
@@ -218,7 +218,7 @@ module _ (old new : State) (ours : HasOurTables old.now.schema) (h : Host) (t : 
       (ap (map cells) of_one ∙ tells (pledge_in (get h.books b) n)) (shown_listed (with_indexes ours.more) t.tree list.is_tree t text.of_pledge shows
       (number b ∷ number n ∷ []) (at_pledge b n) cells (list.of_pledge b n) shows_is sql names [] asks old new (of_pledges h f) rows ours.is list.holds shown))
 
-  -- which rise in the column behind the number
+  -- which rise in the column after the number
   module _ (up : Rise (λ v. column v 2) (rows_at (pledge_in (get h.books b) n) (f b))) where
     up_here : Rise (λ v. column v 2) (filter (at_pledge b n) (of_pledges h f))
     up_here = subst (Rise (λ v. column v 2)) (sym of_one) up

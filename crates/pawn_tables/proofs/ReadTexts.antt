@@ -1,5 +1,5 @@
 -- What the texts of the queries mean.
-pub use Rattle.pawn_tables.specs.declared.texts.TheConstants.{COUNT_ASKED, COUNT_CONFIRMED, COUNT_ENDS, COUNT_ENTRIES}
+pub use Rattle.pawn_tables.specs.declared.texts.TheConstants.{COUNT_ASKED, COUNT_CONFIRMED, COUNT_ENDS}
 pub use Rattle.pawn_tables.specs.declared.texts.TheConstants.{FIND_NEXT_BOOK, FIND_REFERENCE, READ_ASKED_PAGE}
 pub use Rattle.pawn_tables.specs.declared.texts.TheConstants.{READ_BOOKING, READ_CONFIRMED_PAGE, READ_CREDIT}
 pub use Rattle.pawn_tables.specs.declared.texts.TheConstants.{READ_ENDS_PAGE, READ_ENTRIES, READ_ENTRIES_PAGE}
@@ -7,12 +7,15 @@ pub use Rattle.pawn_tables.specs.declared.texts.TheConstants.{READ_ENTRY, READ_E
 pub use Rattle.pawn_tables.specs.declared.texts.TheConstants.{READ_EXTENSIONS_PAGE, READ_HEAD, READ_LAST_PLACE}
 pub use Rattle.pawn_tables.specs.declared.texts.TheConstants.{READ_LAST_SECRET, READ_PLEDGE, READ_ROWS, READ_SECRET}
 pub use Rattle.pawn_tables.specs.declared.texts.TheConstants.{READ_SECRETS, READ_SECRETS_PAGE, READ_TERMS, READ_TOTALS}
-pub use Rattle.pawn_tables.specs.declared.texts.TheConstants.{READ_WINDOWS}
+pub use Rattle.pawn_tables.specs.declared.texts.TheConstants.{READ_WINDOWS, READ_BOOKINGS_RANGE, READ_ENTRIES_RANGE}
+pub use Rattle.pawn_tables.specs.declared.texts.TheConstants.{READ_EXTENSIONS_RANGE, READ_PLEDGES_RANGE}
+pub use Rattle.pawn_tables.specs.declared.texts.TheConstants.{READ_SECRETS_RANGE, READ_LAST_SEQ}
+use Rattle.one_table.proofs.Orders.{by_columns}
 use Rattle.one_table.proofs.Distinct.{once_of_table}
 use Rattle.pawn_tables.proofs.Basics.{few_of_table, first_of_table, over_table, Asks, by_column, by_column_down}
 use Rattle.pawn_tables.proofs.Basics.{is_param}
 use Rattle.pawn_tables.proofs.Counts.{how_many}
-use Rattle.pawn_tables.specs.Common.{Index, Compare, Eq, Ge, Gt, Lt, Binary, understood, Term, col, lit, op2, Int, Text}
+use Rattle.pawn_tables.specs.Common.{Index, Compare, Eq, Ge, Gt, Le, Lt, Binary, understood, Term, col, lit, op2, Int, Text}
 use Rattle.pawn_tables.specs.Ours.{with_indexes}
 use Rattle.pawn_tables.specs.Pages.{most_page_rows}
 use Rattle.pawn_tables.specs.Schema.{bookings_tree, books_tree, entries_tree, extensions_tree, meta_tree, pledges_tree}
@@ -28,7 +31,7 @@ of_book = is_param 0 0 ∷ []
 abbrev pub of_pledge : List Term
 of_pledge = is_param 1 0 ∷ is_param 2 1 ∷ []
 
--- the columns behind the number of a book, and those behind the number of its pledge
+-- the columns after the number of a book, and those after the number of its pledge
 abbrev pub one_shown : List Term
 one_shown = col 1 2 ∷ []
 
@@ -85,7 +88,7 @@ is_number place n = op2 (Compare Eq Binary) (col 1 place) (lit (Int (pos n)))
 abbrev is_over : ℕ → ℕ → Term
 is_over place param = op2 (Compare Gt Binary) (col 1 place) (col 0 param)
 
--- a row of a pledge, behind a place
+-- a row of a pledge, after a place
 abbrev pub behind_tests : List Term
 behind_tests = is_param 1 0 ∷ is_param 2 1 ∷ is_over 3 2 ∷ []
 
@@ -97,7 +100,7 @@ asked_tests = is_param 1 0 ∷ is_param 3 1 ∷ is_number 5 0 ∷ []
 abbrev pub ends_tests : List Term
 ends_tests = is_param 1 0 ∷ is_number 14 0 ∷ is_param 11 1 ∷ []
 
--- the windows in which somebody comes, each once
+-- the windows with a confirmed visit, each once
 abbrev pub windows_tests : List Term
 windows_tests = is_param 1 0 ∷ is_param 3 1 ∷ is_number 5 1 ∷ op2 (Compare Lt Binary) (col 1 4) (lit (Int (pos 16))) ∷ []
 
@@ -115,6 +118,22 @@ asked_page_shows = col 1 2 ∷ col 1 4 ∷ []
 
 abbrev pub ends_page_tests : List Term
 ends_page_tests = is_param 1 0 ∷ is_over 2 1 ∷ is_number 14 0 ∷ is_param 11 2 ∷ []
+
+-- ---- the rows of a range of pledges
+
+abbrev pub range_tests : List Term
+range_tests = is_param 1 0 ∷ is_over 2 1 ∷ op2 (Compare Le Binary) (col 1 2) (col 0 2) ∷ []
+
+abbrev pub pledge_range_shows : List Term
+pledge_range_shows =
+    col 1 3 ∷ col 1 4 ∷ col 1 5 ∷ col 1 6 ∷ col 1 7 ∷ col 1 8 ∷ col 1 9 ∷ col 1 10 ∷ col 1 11 ∷ col 1 12 ∷ col 1 13 ∷ col 1 14 ∷ col 1 15 ∷ col 1 16
+    ∷ col 1 2 ∷ []
+
+abbrev pub four_range_shows : List Term
+four_range_shows = col 1 3 ∷ col 1 4 ∷ col 1 5 ∷ col 1 6 ∷ col 1 2 ∷ []
+
+abbrev pub three_range_shows : List Term
+three_range_shows = col 1 3 ∷ col 1 4 ∷ col 1 5 ∷ col 1 2 ∷ []
 
 -- what each text asks, whatever indexes the tables have
 pub record Texts (more : List Index) : Type 0 where
@@ -149,7 +168,8 @@ pub record Texts (more : List Index) : Type 0 where
       (codes "place" ∷ codes "day" ∷ codes "sort" ∷ codes "secret" ∷ [])
   pub extension_is : Asks (with_indexes more) READ_EXTENSION.now (over_table extensions_tree of_place three_shown [])
       (codes "place" ∷ codes "day" ∷ codes "until_day" ∷ [])
-  pub entry_count_is : Asks (with_indexes more) COUNT_ENTRIES.now (how_many entries_tree of_pledge) (codes "count(*)" ∷ [])
+  pub last_seq_is : Asks (with_indexes more) READ_LAST_SEQ.now (first_of_table entries_tree of_pledge last_place_shows (by_column_down 3))
+      (codes "seq" ∷ [])
   pub last_secret_is : Asks (with_indexes more) READ_LAST_SECRET.now (first_of_table secrets_tree of_pledge four_shown (by_column_down 3))
       (codes "place" ∷ codes "day" ∷ codes "sort" ∷ codes "secret" ∷ [])
   pub last_place_is : Asks (with_indexes more) READ_LAST_PLACE.now (first_of_table extensions_tree of_pledge last_place_shows (by_column_down 3))
@@ -167,6 +187,22 @@ pub record Texts (more : List Index) : Type 0 where
       (codes "number" ∷ codes "slot" ∷ [])
   pub ends_page_is : Asks (with_indexes more) READ_ENDS_PAGE.now (few_of_table most_page_rows pledges_tree ends_page_tests one_shown (by_column 2))
       (codes "number" ∷ [])
+  pub pledges_range_is : Asks (with_indexes more) READ_PLEDGES_RANGE.now
+      (few_of_table most_page_rows pledges_tree range_tests pledge_range_shows (by_column 2))
+      (codes "ref" ∷ codes "article" ∷ codes "kind" ∷ codes "credit" ∷ codes "taken" ∷ codes "agreed" ∷ codes "five" ∷ codes "version" ∷ codes "ends"
+      ∷ codes "held" ∷ codes "last_day" ∷ codes "closed" ∷ codes "closed_day" ∷ codes "amount" ∷ codes "number" ∷ [])
+  pub secrets_range_is : Asks (with_indexes more) READ_SECRETS_RANGE.now
+      (few_of_table most_page_rows secrets_tree range_tests four_range_shows (by_columns 2 3))
+      (codes "place" ∷ codes "day" ∷ codes "sort" ∷ codes "secret" ∷ codes "number" ∷ [])
+  pub entries_range_is : Asks (with_indexes more) READ_ENTRIES_RANGE.now
+      (few_of_table most_page_rows entries_tree range_tests four_range_shows (by_columns 2 3))
+      (codes "seq" ∷ codes "day" ∷ codes "sort" ∷ codes "pence" ∷ codes "number" ∷ [])
+  pub extensions_range_is : Asks (with_indexes more) READ_EXTENSIONS_RANGE.now
+      (few_of_table most_page_rows extensions_tree range_tests three_range_shows (by_columns 2 3))
+      (codes "place" ∷ codes "day" ∷ codes "until_day" ∷ codes "number" ∷ [])
+  pub bookings_range_is : Asks (with_indexes more) READ_BOOKINGS_RANGE.now
+      (few_of_table most_page_rows bookings_tree range_tests three_range_shows (by_column 2))
+      (codes "day" ∷ codes "slot" ∷ codes "state" ∷ codes "number" ∷ [])
 
 pub texts : (more : List Index) → Texts more
 unfolding understood everything
@@ -188,7 +224,7 @@ texts more = record {
   entry_is = (refl, refl, (refl, refl));
   secret_is = (refl, refl, (refl, refl));
   extension_is = (refl, refl, (refl, refl));
-  entry_count_is = (refl, refl, (refl, refl));
+  last_seq_is = (refl, refl, (refl, refl));
   last_secret_is = (refl, refl, (refl, refl));
   last_place_is = (refl, refl, (refl, refl));
   secrets_page_is = (refl, refl, (refl, refl));
@@ -199,4 +235,9 @@ texts more = record {
   confirmed_page_is = (refl, refl, (refl, refl));
   asked_page_is = (refl, refl, (refl, refl));
   ends_page_is = (refl, refl, (refl, refl));
+  pledges_range_is = (refl, refl, (refl, refl));
+  secrets_range_is = (refl, refl, (refl, refl));
+  entries_range_is = (refl, refl, (refl, refl));
+  extensions_range_is = (refl, refl, (refl, refl));
+  bookings_range_is = (refl, refl, (refl, refl));
 }

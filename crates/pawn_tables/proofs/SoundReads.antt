@@ -2,28 +2,32 @@
 use Rattle.pawn_base.proofs.ListLemmas.{last_by-le, DoNotFall-each}
 use Rattle.pawn_base.proofs.RefusalLemmas.{first_of-is_ok}
 use Rattle.pawn_base.specs.Lists.{DoNotFall, last_by}
+use Rattle.pawn_book.proofs.Sounds.{reachable_at}
 use Rattle.pawn_debt.specs.Answers.{draw_rows, is_bad_amount, repay_rows, with_entry}
 use Rattle.pawn_debt.specs.Replay.{AreEntriesAccepted, sort_answer}
 use Rattle.pawn_pledge.proofs.Briefs.{brief_is_within}
+use Rattle.pawn_pledge.specs.declared.brief.BriefFields.{BriefFields}
 use Rattle.pawn_tables.proofs.Basics.{each_at, nat_tests}
-use Rattle.pawn_tables.proofs.PageLemmas.{last_some}
+use Rattle.pawn_tables.proofs.PageLemmas.{last_later, last_some}
 use Rattle.pawn_tables.specs.Common.{get, IsDayNumber, IsStampDay, later_of, six_months, IsChecked, Rates, DebtValue}
 use Rattle.pawn_tables.specs.Common.{Entry, Sort, Draw, Repay, PledgeValue, debt_of, end_of, last_element, last_until}
-use Rattle.pawn_tables.specs.Common.{AreExtended, AreIssued, Each, IsBooked, IsClosed, IsReachable, Booking, Closing}
+use Rattle.pawn_tables.specs.Common.{AreExtended, AreIssued, AreNumbered, Each, IsBooked, IsBriefWithin, IsClosed, IsReachable}
+use Rattle.pawn_tables.specs.Common.{Booking, Closing, IsSound, brief_of}
 use Rattle.pawn_tables.specs.Common.{Open, Redeemed, Sold, Extension, Issued, BookValue, pledge_from, pledge_in, Host}
 use Rattle.pawn_tables.specs.Common.{entries_of, extensions_of, secrets_of, terms_of, terms_at, IsSoundBook}
 use Rattle.pawn_tables.specs.Common.{IsUnsoundAt, AreWords, HasTextsAndWords, KeepError, Database, NoRecord, last_of}
 use Rattle.pawn_tables.specs.Entries.{IsAmount, IsEntryTold}
 use Rattle.pawn_tables.specs.Finding.{Finds, IsRead}
+use Rattle.pawn_tables.specs.ListEnds.{last_seq, stored_brief}
 use Rattle.pawn_tables.specs.PledgeRows.{IsBriefTold, IsCreditTold, IsRowTold, booking_of, totals_in}
 use Rattle.pawn_tables.specs.Rows.{closed_day}
 use Rattle.pawn_tables.specs.StandsFor.{AreStorable}
 use Rattle.pawn_terms.proofs.CalendarLemmas.{page_date}
 use Rattle.pawn_terms.proofs.SixMonths.{six_months_is}
 use Rattle.pawn_terms.specs.Limits.{first_day, last_stamp_day}
-use Rattle.std.proofs.Common.{◌≡◌, ℕ, zero, suc, ◌-◌, ◌≤◌, List, [], ◌∷◌, slice_get, Option, Some, None, Result, Ok}
+use Rattle.std.proofs.Common.{◌≡◌, ℕ, zero, suc, ◌+◌, ◌-◌, ◌≤◌, List, [], ◌∷◌, slice_get, Option, Some, None, Result, Ok}
 use Rattle.std.proofs.Common.{Err, refl, sym, subst, arith, length, option_map, ◌++◌, IsOk, false, IfSome, IsTrue}
-use Rattle.std.proofs.Common.{is_some}
+use Rattle.std.proofs.Common.{is_some, ap, ◌∙◌, unwrap_or}
 use Rattle.pawn_book.specs.declared.fault.KeepError.TheVariants as Keeper
 
 -- ---- answers
@@ -104,29 +108,48 @@ module _ (h : Host) (storable : AreStorable h) (b n : ℕ) where
   abbrev found : Option PledgeValue
   found = pledge_in (get h.books b) n
 
-  pub entries_unsound : (Each IsEntryTold (entries_of found) → ⊥) → IsUnsoundAt b h
-  entries_unsound bad = unsound_pledge h b n (λ o. Each IsEntryTold (entries_of o)) tt (λ k p is sound at. let s = reachable_of k n p sound at in
+  -- the pledge of this number in a sound book
+  abbrev pub IsIn : BookValue → PledgeValue → Type 0
+  IsIn k p = (get h.books b ≡ Some k) × IsSoundBook k × (pledge_from 1 k.pledges n ≡ Some p)
+
+  pub entries_told : (k : BookValue) (p : PledgeValue) → IsIn k p → Each IsEntryTold p.entries
+  entries_told k p (is, sound, at) = let s = reachable_of k n p sound at in
       both_told p.entries (all_amounts (debt_of p) [] p.entries s.replayable.entered.accepted) (days_in (λ e. e.day) p.agreement.taken p.standing.last p.entries
-      (taken_of h storable b n k p is at) s.replayable.entered.ordered s.replayable.entered.before s.within.last)) bad
+      (taken_of h storable b n k p is at) s.replayable.entered.ordered s.replayable.entered.before s.within.last)
+
+  pub entries_unsound : (Each IsEntryTold (entries_of found) → ⊥) → IsUnsoundAt b h
+  entries_unsound bad =
+      unsound_pledge h b n (λ o. Each IsEntryTold (entries_of o)) tt (λ k p is sound at. entries_told k p (is, sound, at)) bad
+
+  pub secrets_told : (k : BookValue) (p : PledgeValue) → IsIn k p → Each (λ i. IsDayNumber i.day) p.secrets
+  secrets_told k p (is, sound, at) = let s = reachable_of k n p sound at in
+      days_in (λ i. i.day) p.agreement.taken p.standing.last p.secrets
+      (taken_of h storable b n k p is at) s.replayable.issued.ordered s.replayable.issued.before s.within.last
 
   pub secrets_unsound : (Each (λ i. IsDayNumber i.day) (secrets_of found) → ⊥) → IsUnsoundAt b h
-  secrets_unsound bad = unsound_pledge h b n (λ o. Each (λ i. IsDayNumber i.day) (secrets_of o)) tt (λ k p is sound at. let s = reachable_of k n p sound at in
-      days_in (λ i. i.day) p.agreement.taken p.standing.last p.secrets
-      (taken_of h storable b n k p is at) s.replayable.issued.ordered s.replayable.issued.before s.within.last) bad
+  secrets_unsound bad =
+      unsound_pledge h b n (λ o. Each (λ i. IsDayNumber i.day) (secrets_of o)) tt (λ k p is sound at. secrets_told k p (is, sound, at)) bad
+
+  pub extensions_told : (k : BookValue) (p : PledgeValue) → IsIn k p → Each (λ e. IsDayNumber e.day × IsDayNumber e.until) p.extensions
+  extensions_told k p (is, sound, at) = let s = reachable_of k n p sound at in
+      days_extended p.agreement.taken _ p.extensions (taken_of h storable b n k p is at) s.replayable.extended.each s.within.untils
 
   pub extensions_unsound : (Each (λ e. IsDayNumber e.day × IsDayNumber e.until) (extensions_of found) → ⊥) → IsUnsoundAt b h
   extensions_unsound bad = unsound_pledge h b n (λ o. Each (λ e. IsDayNumber e.day × IsDayNumber e.until) (extensions_of o)) tt
-      (λ k p is sound at. let s = reachable_of k n p sound at in
-      days_extended p.agreement.taken _ p.extensions (taken_of h storable b n k p is at) s.replayable.extended.each s.within.untils) bad
+      (λ k p is sound at. extensions_told k p (is, sound, at)) bad
 
   booked_day : (p : PledgeValue) (o : Option Booking) → first_day ≤ p.agreement.taken → IsBooked p o → IfSome o (λ k. k.day ≤ last_stamp_day)
       → IfSome o (λ k. IsDayNumber k.day)
   booked_day p None first booked named = tt
   booked_day p (Some k) first booked named = let a = booked.0 in (omega (arith, first, a), omega (arith, named))
 
+  pub booking_told : (k : BookValue) (p : PledgeValue) → IsIn k p → IfSome p.standing.booking (λ c. IsDayNumber c.day)
+  booking_told k p (is, sound, at) = let s = reachable_of k n p sound at in
+      booked_day p p.standing.booking (taken_of h storable b n k p is at) s.replayable.booked s.within.booking
+
   pub booking_unsound : (IfSome (booking_of found) (λ k. IsDayNumber k.day) → ⊥) → IsUnsoundAt b h
-  booking_unsound bad = unsound_pledge h b n (λ o. IfSome (booking_of o) (λ k. IsDayNumber k.day)) tt (λ k p is sound at. let s = reachable_of k n p sound at in
-      booked_day p p.standing.booking (taken_of h storable b n k p is at) s.replayable.booked s.within.booking) bad
+  booking_unsound bad =
+      unsound_pledge h b n (λ o. IfSome (booking_of o) (λ k. IsDayNumber k.day)) tt (λ k p is sound at. booking_told k p (is, sound, at)) bad
 
   pub totals_unsound : (IfSome (totals_in found) (λ t. IsDayNumber t.day) → ⊥) → IsUnsoundAt b h
   totals_unsound bad = unsound_pledge h b n (λ o. IfSome (totals_in o) (λ t. IsDayNumber t.day)) tt (λ k p is sound at.
@@ -140,7 +163,7 @@ module _ (h : Host) (storable : AreStorable h) (b n : ℕ) where
   closed_in p (Redeemed day paid) first low high closed = let e = closed.0 in (omega (arith, first, low, e), omega (arith, high, e))
   closed_in p (Sold day net) first low high closed = let e = closed.0 in (omega (arith, first, low, e), omega (arith, high, e))
 
-  row_told : (k : BookValue) (p : PledgeValue) → get h.books b ≡ Some k → IsSoundBook k → pledge_from 1 k.pledges n ≡ Some p → IsRowTold p
+  pub row_told : (k : BookValue) (p : PledgeValue) → get h.books b ≡ Some k → IsSoundBook k → pledge_from 1 k.pledges n ≡ Some p → IsRowTold p
   row_told k p is sound at = let s = reachable_of k n p sound at in
       let w : HasTextsAndWords p = each_at HasTextsAndWords 1 k.pledges n p sound.written at in
       let first = taken_of h storable b n k p is at in let low = s.replayable.last_in in
@@ -233,6 +256,32 @@ has_secret : (taken credit : ℕ) (is : List Issued) → AreIssued taken credit 
 has_secret taken credit [] issued = absurd issued
 has_secret taken credit (i ∷ is) issued = subst (λ o. IsTrue (is_some o)) (sym (last_some i is).1) refl
 
+-- where entries are numbered k + 1, k + 2, .., the last one's number says how many there are
+seq_counts : (k : ℕ) (es : List Entry) → AreNumbered (k + 1) es → unwrap_or (option_map (λ (e : Entry). e.seq) (last_element es)) k ≡ k + length es
+seq_counts k [] numbered = omega arith
+seq_counts k (e ∷ []) numbered = let first = numbered.0 in omega (arith, first)
+seq_counts k (e ∷ (f ∷ es)) numbered = let last = last_some f es in let later = seq_counts (k + 1) (f ∷ es) numbered.1 in
+    let more : (k + 1) + length (f ∷ es) ≡ k + length (e ∷ f ∷ es) = omega arith in
+    ap (λ o. unwrap_or (option_map (λ (e : Entry). e.seq) o) k) (last_later e f es ∙ last.1)
+    ∙ sym (ap (λ o. unwrap_or (option_map (λ (e : Entry). e.seq) o) (k + 1)) last.1) ∙ later ∙ more
+
+-- the brief that is read of a reachable pledge is its brief
+stored_is : (p : PledgeValue) → IsReachable p → stored_brief p ≡ brief_of p
+stored_is p s = ap with_entries count where
+  with_entries : ℕ → BriefFields
+  with_entries n = record (brief_of p) { counts = record { entries = n; secrets = length p.secrets; extensions = length p.extensions } }
+
+  count : last_seq p.entries ≡ length p.entries
+  count = let it = seq_counts 0 p.entries s.replayable.entered.numbered in omega (arith, it)
+
+-- the briefs that are read of the books of a sound host are those of its pledges
+pub sound_briefs : (h : Host) → IsSound h → (b n : ℕ)
+    → option_map stored_brief (pledge_in (get h.books b) n) ≡ option_map brief_of (pledge_in (get h.books b) n)
+sound_briefs h sound b n = go (pledge_in (get h.books b) n) refl where
+  go : (o : Option PledgeValue) → pledge_in (get h.books b) n ≡ o → option_map stored_brief o ≡ option_map brief_of o
+  go None is = refl
+  go (Some p) is = ap Some (stored_is p (reachable_at h b n p sound is).0)
+
 -- a pledge that has no brief is of a book that is not sound
 pub brief_unsound : (h : Host) → AreStorable h → (b n : ℕ) (p : PledgeValue) → pledge_in (get h.books b) n ≡ Some p → (IsBriefTold p → ⊥) → IsUnsoundAt b h
 brief_unsound h storable b n p at bad = unsound_pledge h b n (λ o. IfSome o IsBriefTold) tt (λ k q is sound here.
@@ -240,5 +289,5 @@ brief_unsound h storable b n p at bad = unsound_pledge h b n (λ o. IfSome o IsB
     record {
       secret = has_secret q.agreement.taken _ q.secrets s.replayable.issued.sorts;
       ends = end_day q s (taken_of h storable b n k q is here);
-      within = brief_is_within q s;
+      within = subst IsBriefWithin (sym (stored_is q s)) (brief_is_within q s);
     }) (λ all. bad (subst (λ o. IfSome o IsBriefTold) at all))

@@ -34,7 +34,7 @@ comes_on day k = (k.day == day) && (is_confirmed k.state && nat_lt k.window 16)
 abbrev window_told : ℕ → PledgeValue → Option ℕ
 window_told day p = tell_of (comes_on day) (λ n (k : Booking). k.window) (number_in_book p) p.standing.booking
 
--- nobody comes in a window that has no pledge's line
+-- a window without a pledge's line has no confirmed visit
 none_comes : (day w : ℕ) → w < 16 → (ps : List PledgeValue) → AllByRecursion (λ (n : ℕ). n ≢ w) (filter_map (window_told day) ps)
     → part_items (part_of.Confirmed w) day ps ≡ []
 none_comes day w few [] all = refl
@@ -66,12 +66,12 @@ one_shown : {X : Type 0} (c : Bool) (x : X) (xs : List X) → c ≡ true → con
 one_shown true x xs is = λ none. absurd (let e = none in cc)
 one_shown false x xs is = absurd (true≢false (sym is))
 
--- a window of the day, in which somebody comes of a pledge with this booking and of these others
+-- a window of the day with a confirmed visit of a pledge with this booking, or of these other pledges
 abbrev Comes : ℕ → PledgeValue → List PledgeValue → Option Booking → ℕ → Type 0
 Comes day p ps o n =
     (n ≤ 15) × (cons_option (cond (is_confirmed_for day n o) (Some (Confirmed (number_in_book p))) None) (part_items (part_of.Confirmed n) day ps) ≢ [])
 
--- somebody comes in a window that has a pledge's line
+-- a window with a pledge's line has a confirmed visit
 some_comes : (day : ℕ) (ps : List PledgeValue)
     → AllByRecursion (λ (n : ℕ). (n ≤ 15) × (part_items (part_of.Confirmed n) day ps ≢ [])) (filter_map (window_told day) ps)
 some_comes day [] = tt

@@ -1,5 +1,5 @@
 -- The tests by which queries choose rows.
-use Rattle.pawn_tables.specs.Common.{list_all, Compare, Eq, Ge, Gt, Lt, Binary, binary, is_true, Row, column, Value}
+use Rattle.pawn_tables.specs.Common.{list_all, Compare, Eq, Ge, Gt, Le, Lt, Binary, binary, is_true, Row, column, Value}
 use Rattle.pawn_tables.specs.Rows.{number}
 use Rattle.std.specs.Prelude.{ℕ, Bool, [], ◌∷◌}
 
@@ -14,6 +14,10 @@ is_above v w = is_true (binary (Compare Gt Binary) v w)
 -- SQL's >=
 abbrev pub is_from : Value → Value → Bool
 is_from v w = is_true (binary (Compare Ge Binary) v w)
+
+-- SQL's <=
+abbrev pub is_upto : Value → Value → Bool
+is_upto v w = is_true (binary (Compare Le Binary) v w)
 
 -- SQL's <
 abbrev pub is_below : Value → Value → Bool

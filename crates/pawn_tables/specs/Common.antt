@@ -18,6 +18,7 @@ pub use Rattle.pawn_book.specs.Written.{AreWords, HasTextsAndWords, IsWord}
 pub use Rattle.pawn_book.specs.declared.change.Imported.{Imported}
 pub use Rattle.pawn_book.specs.declared.fault.KeepError.{KeepError}
 pub use Rattle.pawn_book.specs.declared.fault.StoreFault.TheVariants.{Database, NoRecord}
+pub use Rattle.pawn_book.specs.declared.items.PledgeItem.{PledgeItem}
 pub use Rattle.pawn_book.specs.declared.sheet.Part.{Part}
 pub use Rattle.pawn_book.specs.declared.sheet.SheetItem.{SheetItem}
 pub use Rattle.pawn_book.specs.declared.sheet.SheetItem.TheVariants.{Confirmed}
@@ -51,14 +52,14 @@ pub use Rattle.sqlite.specs.State.{Executes, HasCleanDisk, Shown, State}
 pub use Rattle.sqlite.specs.Tree.{IsAscending}
 pub use Rattle.sqlite.specs.Values.{bound}
 pub use Rattle.sqlite_schema.specs.declared.schema.Index.{Index}
-pub use Rattle.sqlite_sql.specs.declared.ops.CompareOp.TheVariants.{Ge, Gt, Lt}
+pub use Rattle.sqlite_sql.specs.declared.ops.CompareOp.TheVariants.{Ge, Gt, Le, Lt}
 pub use Rattle.std.specs.Cmp.{IsTotalOrder, nat_cmp_total, on_total}
 pub use Rattle.std.specs.FinMap.{empty, entries, entries_sorted, find, find as find_key, get, get-entries, insert}
 pub use Rattle.std.specs.FinMap.{is_sorted, nat_cmp-IsAntisymmetric, same_map}
 pub use Rattle.std.specs.FinMap.Entries.{below_all}
 pub use Rattle.std.specs.Int.{from_be_bytes, to_be_bytes, w128}
 pub use Rattle.std.specs.List.{AllZip, cons_option, AllByRecursion, list_all, list_any}
-pub use Rattle.std.specs.Ordering.{is_ge, is_gt, nat_cmp, ordering_reverse, ordering_then, eq_by_cmp, is_eq, is_lt}
+pub use Rattle.std.specs.Ordering.{is_ge, is_gt, is_le, nat_cmp, ordering_reverse, ordering_then, eq_by_cmp, is_eq, is_lt}
 unfoldable pub use Rattle.sqlite.specs.Listing.{understood}
 unfoldable pub use Rattle.sqlite.specs.Ops.{binary}
 unfoldable pub use Rattle.sqlite.specs.Order.{value_cmp}

@@ -3,6 +3,7 @@ pub mod Common
 pub mod Entries
 pub mod Finding
 pub mod Heads
+pub mod Kinds
 pub mod Keeps
 pub mod Lines
 pub mod ListEnds

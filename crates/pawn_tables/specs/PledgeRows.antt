@@ -1,8 +1,9 @@
 -- The row of a pledge, its rows in other tables, and when they can be decoded.
 use Rattle.pawn_pledge.specs.Limits.{most_article_bytes, most_reference_bytes}
 use Rattle.pawn_pledge.specs.declared.record.Opening.{Opening}
-use Rattle.pawn_tables.specs.Common.{IsDayNumber, IsStampDay, totals_of, Totals, IsBriefWithin, brief_of, PledgeValue}
+use Rattle.pawn_tables.specs.Common.{IsDayNumber, IsStampDay, totals_of, Totals, IsBriefWithin, PledgeValue}
 use Rattle.pawn_tables.specs.Common.{debt_of, end_of, last_element, IsText, Booking}
+use Rattle.pawn_tables.specs.ListEnds.{stored_brief}
 use Rattle.pawn_tables.specs.Rows.{closed_day}
 use Rattle.pawn_tables.specs.declared.credits.Credit.{Credit}
 use Rattle.pawn_tables.specs.declared.joining.Lists.{Lists}
@@ -79,8 +80,8 @@ AreTold (Some t) (Some p) = (t.row ≡ row_of p) × AreSides t.sides p
 abbrev pub HasSecret : PledgeValue → Type 0
 HasSecret p = IsTrue (is_some (last_element p.secrets))
 
--- the brief can be read: the pledge has a secret, its end is a day, and the brief is within its limits
+-- the brief can be read: the pledge has a secret, its end is a day, and what is read is within the limits of a brief
 pub record IsBriefTold (p : PledgeValue) : Type 0 where
   pub secret : HasSecret p
   pub ends : IsDayNumber (end_of p)
-  pub within : IsBriefWithin (brief_of p)
+  pub within : IsBriefWithin (stored_brief p)

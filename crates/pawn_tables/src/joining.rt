@@ -22,10 +22,10 @@ pub(crate) struct LastSecret {
     pub issued: Issued,
 }
 
-/// How many entries and extensions a pledge has, and its last secret.
+/// The number of the last entry of a pledge or 0, its last secret, and how many extensions it has.
 #[derive(Clone, Copy)]
 pub(crate) struct ListEnds {
-    pub entries: u64,
+    pub last_entry: u64,
     pub last: Option<LastSecret>,
     pub extensions: u64,
 }

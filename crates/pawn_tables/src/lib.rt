@@ -10,6 +10,7 @@ mod credits;
 mod encoding;
 mod heads;
 mod joining;
+mod kinds;
 mod laws;
 mod line;
 mod lines;
@@ -18,6 +19,7 @@ mod list_ends;
 mod lists;
 mod pages;
 mod queries;
+mod ranges;
 mod records;
 mod rows;
 mod sheets;
@@ -34,11 +36,13 @@ pub use encoding::{
     REFUSED, agreed_value, closed_amount, closed_day, closed_number, flag_number, in_32_bits,
     issue_number, kind_number, sort_number, state_number,
 };
+pub use kinds::RowKind;
 pub use laws::tables_stand_for_one;
 pub use line::Line;
 pub use list_elements::{entry_in, extension_in, secret_in};
 pub use pages::{PAGE_ROWS, entries_page, extensions_page, secrets_page};
 pub use queries::{booking_in, entries_in, terms_in};
+pub use ranges::{KindPage, RANGE, kind_page, list_page};
 pub use sheets::{count_in, lines_page, windows_in};
 pub use whole::{pledge_of, terms_under};
 pub use worked::worked_tables;

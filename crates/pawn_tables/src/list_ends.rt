@@ -5,17 +5,16 @@ ghost use Rattle.pawn_tables.specs.Common.{get, IsDayNumber, pledge_in, entries_
 ghost use Rattle.pawn_tables.specs.Common.{IsUnsoundAt, IsWord, Lends};
 ghost use Rattle.pawn_tables.specs.Finding.{FindsBy, IsRead};
 ghost use Rattle.pawn_tables.specs.Heads.{number_cells};
-ghost use Rattle.pawn_tables.specs.ListEnds.{AreListEnds, last_cells, last_issued};
+ghost use Rattle.pawn_tables.specs.ListEnds.{AreListEnds, last_cells, last_issued, last_seq};
 ghost use Rattle.pawn_tables.specs.Rows.{at_most_one};
 ghost use Rattle.pawn_tables.specs.declared.joining.LastSecret.{LastSecret};
 ghost use Rattle.std.specs.Prelude.{◌≡◌, ℕ, IfSome, Option, is_ok, length, unwrap_or, ⊤};
 
 use crate::cells::number_at;
-use crate::heads::only_count;
 use crate::joining::{LastSecret, ListEnds};
 use crate::lists::issued_of;
 use crate::queries::run_query;
-use crate::texts::{COUNT_ENTRIES, READ_LAST_PLACE, READ_LAST_SECRET};
+use crate::texts::{READ_LAST_PLACE, READ_LAST_SECRET, READ_LAST_SEQ};
 use pawn_book::KeepError;
 use sqlite::{Alter, Row, Transaction, params};
 
@@ -39,8 +38,8 @@ fn first_last(rows: &[Row]) -> Result<Option<LastSecret>, KeepError>
     Ok(Some(last_of(row)?))
 }
 
-/// The length of a list: the first row has the place of its last element, and without a row the list is empty.
-fn first_place(rows: &[Row]) -> Result<u64, KeepError>
+/// The place or the number in the first row, or 0 if there is no row.
+fn first_number(rows: &[Row]) -> Result<u64, KeepError>
     ensures read { (n : Option ℕ) → rows.now ≡ at_most_one number_cells n → IsRead result (unwrap_or n 0) ⊤ }
 {
     let [row, ..] = rows else {
@@ -49,19 +48,19 @@ fn first_place(rows: &[Row]) -> Result<u64, KeepError>
     number_at(row, 0)
 }
 
-/// How many entries a pledge has. The rows are counted, because the number of the last entry does not show whether a
-/// number before it is missing.
-fn entry_count<S: Alter>(
+/// The number of the last entry of a pledge, or 0 if it has none. Only in a sound book it shows how many entries there
+/// are, because elsewhere a number before it may be missing.
+fn last_entry_number<S: Alter>(
     tx: &mut Transaction<'_, S>,
     book: u32,
     number: u32,
 ) -> Result<u64, KeepError>
     ensures finds { FindsBy S.Store tx.old.conn tx.new.conn (IsUnsoundAt book) result
-        (λ h count. count ≡ length (entries_of (pledge_in (get h.books book) number))) }
+        (λ h last. last ≡ last_seq (entries_of (pledge_in (get h.books book) number))) }
     ensures lent { Lends S.Store tx.old.conn tx.new.conn (is_ok result) }
 {
-    let rows = run_query(tx, COUNT_ENTRIES, params![book, number])?;
-    only_count(&rows)
+    let rows = run_query(tx, READ_LAST_SEQ, params![book, number])?;
+    first_number(&rows)
 }
 
 /// The last secret of a pledge, and its place, if there is one.
@@ -89,10 +88,10 @@ fn extension_count<S: Alter>(
     ensures lent { Lends S.Store tx.old.conn tx.new.conn (is_ok result) }
 {
     let rows = run_query(tx, READ_LAST_PLACE, params![book, number])?;
-    first_place(&rows)
+    first_number(&rows)
 }
 
-/// How many entries and extensions a pledge has, and its last secret.
+/// The number of the last entry of a pledge, its last secret, and how many extensions it has.
 #[tactic(auto, using(crate::proofs::Basics::lent_then))]
 pub(crate) fn list_ends_in<S: Alter>(
     tx: &mut Transaction<'_, S>,
@@ -102,11 +101,11 @@ pub(crate) fn list_ends_in<S: Alter>(
     ensures finds { FindsBy S.Store tx.old.conn tx.new.conn (IsUnsoundAt book) result (λ h t. IfSome (pledge_in (get h.books book) number) (AreListEnds t)) }
     ensures lent { Lends S.Store tx.old.conn tx.new.conn (is_ok result) }
 {
-    let entries = entry_count(tx, book, number)?;
+    let last_entry = last_entry_number(tx, book, number)?;
     let last = last_secret(tx, book, number)?;
     let extensions = extension_count(tx, book, number)?;
     Ok(ListEnds {
-        entries,
+        last_entry,
         last,
         extensions,
     })

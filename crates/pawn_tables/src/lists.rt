@@ -1,9 +1,10 @@
 //! Decodes the rows of a pledge's lists: its entries, secrets and extensions.
 ghost use Rattle.pawn_tables.specs.Common.{IsDayNumber, Entry, Each, Extension, Issued, AreWords, IsWord};
+ghost use Rattle.pawn_tables.specs.Common.{Row as Cells};
 ghost use Rattle.pawn_tables.specs.Entries.{IsEntryTold};
 ghost use Rattle.pawn_tables.specs.Finding.{IsRead};
 ghost use Rattle.pawn_tables.specs.Rows.{at_most_one, entry_cells, extension_cells, placed_from, secret_cells};
-ghost use Rattle.std.specs.Prelude.{◌≡◌, ℕ, IfSome, List, Option, map};
+ghost use Rattle.std.specs.Prelude.{◌≡◌, ◌++◌, ℕ, IfSome, List, Option, map};
 
 use crate::cells::{amount_of, day_at, issue_of, number_at, sort_of, word_at};
 use pawn_book::{Entry, Extension, Issued, KeepError};
@@ -14,7 +15,7 @@ use std::alloc::Global;
 
 /// The entry that a row encodes.
 pub(crate) fn entry_of(row: &Row) -> Result<Entry, KeepError>
-    ensures read { (e : Entry) → row.now ≡ entry_cells e → IsRead result e (IsEntryTold e) }
+    ensures read { (e : Entry) (more : Cells) → row.now ≡ entry_cells e ++ more → IsRead result e (IsEntryTold e) }
 {
     let seq = number_at(row, 0)?;
     let day = day_at(row, 1)?;
@@ -31,7 +32,8 @@ pub(crate) fn entry_of(row: &Row) -> Result<Entry, KeepError>
 
 /// The secret that a row encodes, with how it was issued.
 pub(crate) fn issued_of(row: &Row) -> Result<Issued, KeepError>
-    ensures read { (place : ℕ) (i : Issued) → IsWord i.secret → row.now ≡ secret_cells place i → IsRead result i (IsDayNumber i.day) }
+    ensures read { (place : ℕ) (i : Issued) (more : Cells) → IsWord i.secret → row.now ≡ secret_cells place i ++ more
+        → IsRead result i (IsDayNumber i.day) }
 {
     let day = day_at(row, 1)?;
     let sort = issue_of(number_at(row, 2)?)?;
@@ -41,7 +43,8 @@ pub(crate) fn issued_of(row: &Row) -> Result<Issued, KeepError>
 
 /// The extension that a row encodes.
 pub(crate) fn extension_of(row: &Row) -> Result<Extension, KeepError>
-    ensures read { (place : ℕ) (e : Extension) → row.now ≡ extension_cells place e → IsRead result e (IsDayNumber e.day × IsDayNumber e.until) }
+    ensures read { (place : ℕ) (e : Extension) (more : Cells) → row.now ≡ extension_cells place e ++ more
+        → IsRead result e (IsDayNumber e.day × IsDayNumber e.until) }
 {
     let day = day_at(row, 1)?;
     let until = day_at(row, 2)?;

@@ -1,9 +1,10 @@
 //! Decodes the single rows of a pledge and the terms of a book.
 ghost use Rattle.pawn_tables.specs.Common.{IsDayNumber, IsChecked, Rates, credit_of, Kind, Totals, Booking, Closing};
+ghost use Rattle.pawn_tables.specs.Common.{Row as Cells};
 ghost use Rattle.pawn_tables.specs.Finding.{IsRead};
 ghost use Rattle.pawn_tables.specs.Rows.{at_most_one, booking_cells, closed_amount, closed_day, closed_number};
 ghost use Rattle.pawn_tables.specs.Rows.{kind_number, terms_cells, totals_cells};
-ghost use Rattle.std.specs.Prelude.{◌≡◌, Option, IfSome, ⊤};
+ghost use Rattle.std.specs.Prelude.{◌≡◌, ◌++◌, Option, IfSome, ⊤};
 
 use crate::cells::{NO_RECORD, day_at, day_of, number_at, state_of};
 use pawn_book::{Booking, Closing, Day, KeepError, Kind, Opening, Rates, Terms};
@@ -61,8 +62,8 @@ pub(crate) fn closing_of(
 }
 
 /// The booking that a row encodes.
-fn booking_of(row: &Row) -> Result<Booking, KeepError>
-    ensures read { (k : Booking) → row.now ≡ booking_cells k → IsRead result k (IsDayNumber k.day) }
+pub(crate) fn booking_of(row: &Row) -> Result<Booking, KeepError>
+    ensures read { (k : Booking) (more : Cells) → row.now ≡ booking_cells k ++ more → IsRead result k (IsDayNumber k.day) }
 {
     let day = day_at(row, 0)?;
     let window = number_at(row, 1)?;

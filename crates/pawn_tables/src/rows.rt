@@ -1,9 +1,10 @@
 //! Decodes the row of a pledge.
-ghost use Rattle.pawn_tables.specs.Common.{IsDayNumber, PledgeValue};
+ghost use Rattle.pawn_tables.specs.Common.{IsDayNumber, PledgeItem, PledgeValue, Row as Cells};
 ghost use Rattle.pawn_tables.specs.Finding.{IsRead};
+ghost use Rattle.pawn_tables.specs.Kinds.{IsOwnTold, own_cells, own_row};
 ghost use Rattle.pawn_tables.specs.PledgeRows.{IsRowTold, IsTold, row_of};
 ghost use Rattle.pawn_tables.specs.Rows.{at_most_one, closed_day, pledge_cells};
-ghost use Rattle.std.specs.Prelude.{◌≡◌, Option, IfSome, option_map};
+ghost use Rattle.std.specs.Prelude.{◌≡◌, ◌++◌, Option, IfSome, option_map};
 
 use crate::cells::{day_at, flag_at, number_at, optional_at, request_day, text_at};
 use crate::records::{PledgeRow, closing_of, kind_of, optional_day};
@@ -13,7 +14,7 @@ use std::alloc::Global;
 
 /// The opening that the row of a pledge encodes.
 fn opening_at(alloc: Global, row: &Row) -> Result<Opening, KeepError>
-    ensures read { (p : PledgeValue) → row.now ≡ pledge_cells p → IsRead result p.agreement.opening (IsTold p.agreement.opening) }
+    ensures read { (q : PledgeItem) (more : Cells) → row.now ≡ own_cells q ++ more → IsRead result q.opening (IsTold q.opening) }
 {
     let number = number_at(row, 2)?;
     let credit = number_at(row, 3)?;
@@ -33,7 +34,7 @@ fn opening_at(alloc: Global, row: &Row) -> Result<Opening, KeepError>
 
 /// The closing that the row of a pledge encodes.
 fn closing_at(row: &Row) -> Result<Closing, KeepError>
-    ensures read { (p : PledgeValue) → row.now ≡ pledge_cells p → IsRead result p.standing.closing (IfSome (closed_day p.standing.closing) IsDayNumber) }
+    ensures read { (q : PledgeItem) (more : Cells) → row.now ≡ own_cells q ++ more → IsRead result q.closing (IfSome (closed_day q.closing) IsDayNumber) }
 {
     let closed = number_at(row, 11)?;
     let day = optional_day(optional_at(row, 12)?)?;
@@ -42,8 +43,8 @@ fn closing_at(row: &Row) -> Result<Closing, KeepError>
 }
 
 /// The row of a pledge, decoded.
-fn pledge_row(alloc: Global, row: &Row) -> Result<PledgeRow, KeepError>
-    ensures read { (p : PledgeValue) → row.now ≡ pledge_cells p → IsRead result (row_of p) (IsRowTold p) }
+pub(crate) fn pledge_row(alloc: Global, row: &Row) -> Result<PledgeRow, KeepError>
+    ensures read { (q : PledgeItem) (more : Cells) → row.now ≡ own_cells q ++ more → IsRead result (own_row q) (IsOwnTold q) }
 {
     let taken = day_at(row, 4)?;
     let version = number_at(row, 7)?;

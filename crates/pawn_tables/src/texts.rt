@@ -95,6 +95,13 @@ pub(crate) const READ_PLEDGE: &str = "\
     closed, closed_day, amount \
     FROM pledges WHERE book = ?1 AND number = ?2";
 
+/// Reads the rows of the pledges of a range, which begins above ?2 and ends with ?3.
+pub(crate) const READ_PLEDGES_RANGE: &str = "\
+    SELECT ref, article, kind, credit, taken, agreed, five, version, ends, held, last_day, \
+    closed, closed_day, amount, number \
+    FROM pledges WHERE book = ?1 AND number > ?2 AND number <= ?3 \
+    ORDER BY number LIMIT 64";
+
 /// Reads the part of what was agreed on a pledge that its debt depends on.
 pub(crate) const READ_CREDIT: &str =
     "SELECT kind, credit, taken, agreed, version FROM pledges WHERE book = ?1 AND number = ?2";
@@ -149,13 +156,19 @@ pub(crate) const READ_ENTRIES_PAGE: &str = "\
     SELECT seq, day, sort, pence FROM entries WHERE book = ?1 AND number = ?2 AND seq >= ?3 \
     ORDER BY seq LIMIT 64";
 
+/// Reads a page of the entries of the pledges of a range, which begins above ?2 and ends with ?3.
+pub(crate) const READ_ENTRIES_RANGE: &str = "\
+    SELECT seq, day, sort, pence, number FROM entries \
+    WHERE book = ?1 AND number > ?2 AND number <= ?3 \
+    ORDER BY number, seq LIMIT 64";
+
 /// Reads the entry of a pledge with a number.
 pub(crate) const READ_ENTRY: &str =
     "SELECT seq, day, sort, pence FROM entries WHERE book = ?1 AND number = ?2 AND seq = ?3";
 
-/// Counts the entries of a pledge.
-pub(crate) const COUNT_ENTRIES: &str =
-    "SELECT count(*) FROM entries WHERE book = ?1 AND number = ?2";
+/// Reads the number of the last entry of a pledge.
+pub(crate) const READ_LAST_SEQ: &str =
+    "SELECT seq FROM entries WHERE book = ?1 AND number = ?2 ORDER BY seq DESC LIMIT 1";
 
 /// Inserts an entry of a pledge.
 pub const PUT_ENTRY: &str = "INSERT INTO entries VALUES (?1, ?2, ?3, ?4, ?5, ?6)";
@@ -183,6 +196,12 @@ pub(crate) const READ_SECRETS: &str =
 pub(crate) const READ_SECRETS_PAGE: &str = "\
     SELECT place, day, sort, secret FROM secrets WHERE book = ?1 AND number = ?2 AND place > ?3 \
     ORDER BY place LIMIT 64";
+
+/// Reads a page of the secrets of the pledges of a range, which begins above ?2 and ends with ?3.
+pub(crate) const READ_SECRETS_RANGE: &str = "\
+    SELECT place, day, sort, secret, number FROM secrets \
+    WHERE book = ?1 AND number > ?2 AND number <= ?3 \
+    ORDER BY number, place LIMIT 64";
 
 /// Reads the secret of a pledge at a place.
 pub(crate) const READ_SECRET: &str =
@@ -217,6 +236,12 @@ pub const MAKE_BOOKINGS_BY_TIME: &str =
 /// Reads the booking of a pledge.
 pub(crate) const READ_BOOKING: &str =
     "SELECT day, slot, state FROM bookings WHERE book = ?1 AND number = ?2";
+
+/// Reads the bookings of the pledges of a range, which begins above ?2 and ends with ?3.
+pub(crate) const READ_BOOKINGS_RANGE: &str = "\
+    SELECT day, slot, state, number FROM bookings \
+    WHERE book = ?1 AND number > ?2 AND number <= ?3 \
+    ORDER BY number LIMIT 64";
 
 /// Counts the bookings that are confirmed for a window of a day.
 pub(crate) const COUNT_CONFIRMED: &str =
@@ -295,6 +320,12 @@ pub(crate) const READ_EXTENSIONS: &str =
 pub(crate) const READ_EXTENSIONS_PAGE: &str = "\
     SELECT place, day, until_day FROM extensions WHERE book = ?1 AND number = ?2 AND place > ?3 \
     ORDER BY place LIMIT 64";
+
+/// Reads a page of the extensions of the pledges of a range, which begins above ?2 and ends with ?3.
+pub(crate) const READ_EXTENSIONS_RANGE: &str = "\
+    SELECT place, day, until_day, number FROM extensions \
+    WHERE book = ?1 AND number > ?2 AND number <= ?3 \
+    ORDER BY number, place LIMIT 64";
 
 /// Reads the extension of a pledge at a place.
 pub(crate) const READ_EXTENSION: &str =

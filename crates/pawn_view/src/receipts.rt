@@ -15,7 +15,7 @@ const UNKNOWN: &[u8] = b"Unknown receipt\n";
 
 /// Returns whether at least one of the receipts is live.
 fn is_any_live<K: Keep>(keep: &mut K, book: Number, receipts: &[Receipt]) -> Result<bool, KeepError>
-    ensures reads { Reads K.keeping keep.old keep.new (λ h. IfOk result (λ live. live ≡ not (are_unknown (live_pledges h book receipts.now)))) }
+    ensures reads { Reads K.keeping keep.old keep.new (λ h. IsSound h → IfOk result (λ live. live ≡ not (are_unknown (live_pledges h book receipts.now)))) }
     ensures steady { IsSteady K.keeping keep.old result }
 {
     for receipt in receipts {

@@ -1,4 +1,4 @@
--- On short numerals.
+-- Short numerals.
 use Rattle.pawn_reply.proofs.DayLemmas.{both_true}
 use Rattle.pawn_wire.specs.Common.{AllDigits, digit_value, digits_value, is_ascii_digit, list_all}
 use Rattle.pawn_wire.specs.Limits.{most_digits}

@@ -1,4 +1,4 @@
--- On the fields of a head.
+-- The fields of a head.
 use Rattle.pawn_wire.specs.Common.{Bor, HeaderSpan, cons_option, header_bytes, list_any, str_eq_ignore_ascii_case}
 use Rattle.pawn_wire.specs.Fields.{values_of, value_under, IsFound}
 use Rattle.pawn_wire.specs.Types.{Missing, One, Several, Found}
@@ -13,7 +13,7 @@ use Rattle.std.proofs.lemmas.List.Folds.{list_any-append}
 abbrev pub no_span : HeaderSpan
 no_span = record { name = record { start = 0; end = 0 }; value = record { start = 0; end = 0 } }
 
--- the values among one field more
+-- the values after one more field
 pub values_more : (name bytes : List ℕ) (fs : List HeaderSpan) (i : ℕ) (d : HeaderSpan) → i < length fs → values_of name (map (header_bytes bytes)
     (take (i + 1) fs)) ≡ values_of name (map (header_bytes bytes) (take i fs)) ++ cons_option (value_under name (header_bytes bytes (get_or fs i d))) []
 values_more name bytes fs i d h = ap (values_of name) (map_more (header_bytes bytes) fs i d h)
@@ -46,7 +46,7 @@ module _ (name bytes : List ℕ) (fs : List HeaderSpan) (i : ℕ) (d : HeaderSpa
       → IsFound (values_of name (map (header_bytes bytes) (take (i + 1) fs))) Several
   find_again f e h other = rw (values_more name bytes fs i d fits, e) (found_again _ _ f h other)
 
-  -- one field more, under a test of the value
+  -- one more field, with a test of its value
   pub says_more : (t : List ℕ → Bool)
       → list_any t (values_of name (map (header_bytes bytes) (take (i + 1) fs))) ≡ (list_any t (values_of name (map (header_bytes bytes) (take i fs)))
       || (str_eq_ignore_ascii_case (header_bytes bytes (get_or fs i d)).0 name && t (header_bytes bytes (get_or fs i d)).1))

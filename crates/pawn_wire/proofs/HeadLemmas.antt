@@ -10,20 +10,20 @@ use Rattle.std.proofs.Common.{append_assoc, length-append, length-take, Result, 
 use Rattle.std.proofs.Math.Seq.{take-append-add}
 use Rattle.std.proofs.lemmas.List.{length-map, take-append-le}
 
--- what follows the front is no part of the head
+-- what follows the prefix is no part of the head
 pub reads_on : (s : List ℕ) (n : ℕ) (h : RequestHead) (rest : List ℕ) → ReadsRequest (take n s) h rest → ReadsRequest s h (rest ++ drop n s)
 reads_on s n h rest r =
     let a = ReadsRequest-append (take n s) h rest (drop n s) r in
     (a.0, sym (take-append-drop n s) ∙ a.1)
 
--- no head of so few fields can follow the front
+-- if each head that begins with the prefix has too many fields, so has each head that begins with the stream
 pub overflows_on : (s : List ℕ) (n : ℕ) → RequestOverflows most_fields (take n s) → RequestOverflows most_fields s
 overflows_on s n over more h rest r =
     let whole : s ++ more ≡ take n s ++ (drop n s ++ more) =
     sym (sym (append_assoc (take n s) (drop n s) more) ∙ ap (λ xs. xs ++ more) (take-append-drop n s)) in
     over (drop n s ++ more) h rest (rw whole at r)
 
--- a full front without a head
+-- a prefix of full length without a head
 pub never_by_length : (s : List ℕ) → most_head ≤ length s → HasNoRequest (take most_head s) → NeverHasHead s
 never_by_length s long none more h rest r = none h (take (most_head - length (print_request h)) rest) (r.0.0, front) where
   split : most_head ≡ length (print_request h) + (most_head - length (print_request h))
@@ -42,7 +42,7 @@ fields_fit buf spans n h same le =
     let g : length (take n spans) ≤ n = rw length-take (omega arith) in
     omega (arith, f)
 
--- a head of the front is one of the stream
+-- a head of the prefix is one of the stream
 pub whole_head : (s : List ℕ) (n : ℕ) (headers : List HeaderSpan) (r : RequestSpans) (h : RequestHead)
     → IsRequestAt (take n s) headers r h → n ≤ most_head → r.headers ≤ most_fields → ReadsHead s h (drop r.len (take n s) ++ drop n s)
 whole_head s n headers r h at small few =

@@ -23,7 +23,7 @@ use Rattle.std.proofs.lemmas.Str.Parse.{IsNumeralModel, digit_from_value}
 
 -- ---- numbers of books and pledges
 
--- digits with no zero in front write the value that they have
+-- digits without a leading zero are the decimal text of their value
 digits_model : IsNumeralModel (AllDigits 10) (digits_value 10)
 digits_model = record { to = λ ds h. h; from = λ ds h. h; same = λ ds h. refl }
 
@@ -117,7 +117,7 @@ pub number_said-leading_zero : (rest : List ℕ) → number_said (48 ∷ rest) �
 number_said-leading_zero rest = number_said-none (48 ∷ rest) (λ n range e. (let first = first_decimal n range.0 (omega (arith, range.1)) in
     let here : get_or (decimal n) 0 0 ≡ 48 = sym (ap (λ (l : List ℕ). get_or l 0 0) e) in omega (arith, first, here)))
 
--- the number that was read is the one that the text writes
+-- the number that was read is the one whose text it is
 pub number_said-of : (r : Option ℕ) (text : List ℕ) → IfSome r (λ n. IsNumber n × (text ≡ decimal n)) → IfNone r ((n : ℕ) → IsNumber n → text ≡ decimal n → ⊥)
     → r ≡ number_said text
 number_said-of None text some none = sym (number_said-none text none)
@@ -141,14 +141,14 @@ is_text_of_day-of text day stamp e =
 digit_said : (n : ℕ) → digit_value (digit n) ≡ n % 10
 digit_said n = omega (arith, digit_value_digit (digit n) (omega arith, omega arith))
 
--- two digits, and four, write the number that they are digits of
+-- two digits, and four, are the decimal text of their number
 two_said : (n a b : ℕ) → n < 100 → a ≡ n / 10 % 10 → b ≡ n % 10 → (0 * 10 + a) * 10 + b ≡ n
 two_said n a b small e f = omega arith
 
 four_said : (n a b c d : ℕ) → n < 10000 → a ≡ n / 1000 % 10 → b ≡ n / 100 % 10 → c ≡ n / 10 % 10 → d ≡ n % 10 → (((0 * 10 + a) * 10 + b) * 10 + c) * 10 + d ≡ n
 four_said n a b c d small e f g h = omega arith
 
--- the digits of a text that is written write the day
+-- the digits in the text of a day determine the day
 civil_said-of : (c : Civil) → IsWritable c → civil_said (civil_text c) ≡ c
 civil_said-of c w =
     let year : digits_value 10 (take 4 (civil_text c)) ≡ c.year =

@@ -1,4 +1,4 @@
--- On receipts and the fields that name them.
+-- Receipts and the fields that name them.
 use Rattle.pawn_reply.proofs.DayLemmas.{both_true}
 use Rattle.pawn_wire.proofs.FieldLemmas.{values_hit, values_other}
 use Rattle.pawn_wire.proofs.NamedLemmas.{none_said, number_said-is, number_said-some}
@@ -24,7 +24,7 @@ use Rattle.std.proofs.lemmas.List.Sums.{split_at_first, passes_at_first}
 use Rattle.std.specs.Option.{ok_or}
 use Rattle.uuid.proofs.OnLiterals.{uuid_on_literals}
 
--- ---- a text is cut at its first hyphen
+-- ---- a text is split at its first hyphen
 
 abbrev no_hyphen : List ℕ → Bool
 no_hyphen s = list_all (λ b. not (b == 45)) s
@@ -137,7 +137,7 @@ all_said-bad (v ∷ vs) value more bad = rw (all_said-bad vs value more bad) (no
   none None = refl
   none (Some r) = refl
 
--- as many receipts as values
+-- there are as many receipts as values
 pub all_said-length : (values : List (List ℕ)) (receipts : List Receipt) → all_said values ≡ Some receipts → length receipts ≡ length values
 all_said-length [] receipts all = (let none : [] ≡ receipts = cc in ap length (sym none))
 all_said-length (v ∷ vs) receipts all = by_first (receipt_said v) (all_said vs) (all_said-length vs) refl all where
@@ -180,7 +180,7 @@ module _ (bytes : List ℕ) (fs : List HeaderSpan) (i : ℕ) (d : HeaderSpan) (f
       ap all_said (values_of-rest (codes "pledge-receipt") bytes fs (i + 1) ∙ ap (λ (l : List (List ℕ)). l ++ others)
       (values_hit (codes "pledge-receipt") bytes fs i d fits e) ∙ append_assoc front (value ∷ []) others) ∙ all_said-bad front value others bad
 
--- ---- as many receipts as there may be
+-- ---- the limit on receipts
 
 pub few_said : (values : List (List ℕ)) (items : List Receipt) (few : Option (List Receipt)) (answer : Result (List Receipt) WireFault)
     → answer ≡ ok_or few BadReceipt → IfSome few (λ r. r ≡ items) → (IsSome few ↔ AreFew items)

@@ -1,4 +1,4 @@
--- On requests.
+-- Requests.
 use Rattle.csv.specs.Reading.{strip_bom}
 use Rattle.httparse.proofs.GrammarLemmas.{request_unique}
 use Rattle.httparse.specs.Grammar.{HasNoRequest, RequestHead, print_request}
@@ -25,7 +25,7 @@ is_read s (Ok v) h body x e = inl (h, body, x, e)
 is_read s (Err f) h body x (inl m) = inl m
 is_read s (Err f) h body x (inr e) = inr (inl (h, body, x, e))
 
--- reading by the spans has the same result as reading by the head
+-- reading a request through the spans has the same result as reading it from the head
 pub said_by_spans : (s : List ℕ) (n : ℕ) (headers : List HeaderSpan) (r : RequestSpans) (h : RequestHead) (answer : Result Request WireFault) → IsRequestAt
     (take n s) headers r h → r.len ≤ length (take n s) → OrMemory (IsOutlined (take (length s - r.len) (drop r.len s)) (outline_by (span_bytes (take n s)
     r.method) (span_bytes (take n s) r.path) (map (header_bytes (take n s)) (take r.headers headers)) (take (length s - r.len) (drop r.len s)))) answer
@@ -38,7 +38,7 @@ said_by_spans s n headers r h answer at fits said =
     rest = ap (λ m. take m (drop r.len s)) (sym (length-drop r.len s))
         ∙ take-length (drop r.len s) ∙ sym (ap (drop r.len) (take-append-drop n s)) ∙ drop-append-le r.len (take n s) (drop n s) fits
 
--- no head in the front is none at all
+-- if there is no head in the prefix, there is none
 pub none_in_front : (s : List ℕ) (n : ℕ) → n ≡ min (length s) most_head → HasNoRequest (take n s) → (h : RequestHead) (body : List ℕ) → ReadsHead s h body → ⊥
 none_in_front s n e none h body x = none h (take (n - length (print_request h)) body) (x.0.0, front) where
   fits : length (print_request h) ≤ n
@@ -55,7 +55,7 @@ none_by_overflow s n over h body x =
     let k = overflows_on s n over [] h body (x.0.0, append-nil s ∙ x.0.1) in
     omega (arith, x.1)
 
--- a body holds one book, or has one first fault
+-- a body is the text of at most one book, or has one first fault
 held_once : (body : List ℕ) (a b : Result BookRows WireFault) → HoldsRows body a → HoldsRows body b → a ≡ b
 held_once body (Ok j) (Ok k) x y = ap Ok (texts_hold_one_book (strip_bom body) j k x y)
 held_once body (Ok j) (Err fault) x y = absurd (first_faults_exclude_books (strip_bom body) y.0.cause y.0.row j y.2 y.3 x)

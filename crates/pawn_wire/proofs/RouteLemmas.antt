@@ -1,4 +1,4 @@
--- On the routes.
+-- The routes.
 use Rattle.matchit.specs.Route.{Scan, parse_route}
 use Rattle.matchit.specs.Router.{InsertsRead}
 use Rattle.matchit.specs.declared.error.InsertError.{InsertError}
@@ -29,7 +29,7 @@ with_routes_more items i d start old new fits e h = inserted (parse_route (get_o
     ∙ ap (with_route (parse_route (get_or items i d).0.now) (get_or items i d).1) e
     ∙ sym (ap (λ xs. with_routes xs start) (map_more plain items i d fits) ∙ with_routes-push (map plain (take i items)) (plain (get_or items i d)) start)
 
--- ---- the parts that parameters took
+-- ---- the parts that match the parameters
 
 pub part_ascii : (bytes : List ℕ) (start end : ℕ) → IsAscii bytes → IsAscii (part_of bytes start end)
 part_ascii bytes start end h = by_test (leb start end && leb end (length bytes)) where

@@ -1,4 +1,4 @@
--- Heads at the front of a stream, and what follows them.
+-- Heads at the beginning of a stream, and what follows them.
 use Rattle.httparse.proofs.GrammarLemmas.{ReadsRequest-append, print_request-append}
 use Rattle.httparse.specs.Grammar.{IsRequestHead, RequestHead, is_token_byte, is_uri_byte, lf, print_request}
 use Rattle.pawn_reply.specs.declared.fault.HeadFault.TheVariants.{Transfer, BadLength, BodyTooLong}
@@ -14,7 +14,7 @@ use Rattle.std.proofs.Math.Seq.{take-append-add}
 use Rattle.std.proofs.lemmas.Bool.Decides.{nat_tests}
 use Rattle.std.proofs.lemmas.List.Elements.{All-cons, All-nil}
 
--- a head stays one, whatever follows
+-- a head stays a head, whatever follows
 pub reads_more : (s more : List ℕ) (h : RequestHead) (rest : List ℕ) → ReadsHead s h rest → ReadsHead (s ++ more) h (rest ++ more)
 reads_more s more h rest x = (ReadsRequest-append s h rest more x.0, x.1, x.2)
 
@@ -24,12 +24,12 @@ overflows_more s more over rest h q x = over (more ++ rest) h q (x.0, sym (appen
 never_more : (s more : List ℕ) → NeverHasHead s → NeverHasHead (s ++ more)
 never_more s more never rest h q x = never (more ++ rest) h q ((x.0.0, sym (append_assoc s more rest) ∙ x.0.1), x.1, x.2)
 
--- a bad head stays one, whatever follows
+-- a bad head stays bad, whatever follows
 pub bad_head_stays : (s more : List ℕ) → IsBadHead s → IsBadHead (s ++ more)
 bad_head_stays s more (inl over) = inl (overflows_more s more over)
 bad_head_stays s more (inr full) = inr (simp length-append (omega (arith, full.0)), never_more s more full.1)
 
--- no head follows a bad one
+-- bytes that begin with a bad head have no head
 pub bad_head_never : (s : List ℕ) → IsBadHead s → NeverHasHead s
 bad_head_never s (inl over) more h rest r = let k = over more h rest r.0 in omega (arith, r.1)
 bad_head_never s (inr full) more h rest r = full.1 more h rest r

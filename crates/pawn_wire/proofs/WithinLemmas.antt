@@ -1,4 +1,4 @@
--- Each part of a request that bytes encode is within its limits.
+-- Each part of a request that is read from bytes is within its limits.
 use Rattle.pawn_wire.proofs.NamedLemmas.{number_said-is, day_said-is}
 use Rattle.pawn_wire.proofs.ReceiptLemmas.{all_said-length}
 use Rattle.pawn_wire.specs.Body.{day_if_any, day_or_null, kind_of, new_book_of, new_terms_of, opening_of}
@@ -58,7 +58,7 @@ first_ok [] answer a e = e
 first_ok ((true, fault) ∷ rows) answer a e = absurd cc
 first_ok ((false, fault) ∷ rows) answer a e = first_ok rows answer a e
 
--- a property of f a, for each possible a, holds of the mapped value
+-- a property that is true of f a for each possible a is true of the mapped value
 mapped : {A B : Type 0} (P : B → Type 0) (f : A → B) (x : Option A) (b : B) → option_map f x ≡ Some b → ((a : A) → x ≡ Some a → P (f a)) → P b
 mapped P f None b e each = absurd cc
 mapped P f (Some a) b e each = (let same : f a ≡ b = cc in subst P same (each a refl))
@@ -223,7 +223,7 @@ IsTargetWithin (OnPledge number action) = IsNumber number
 IsTargetWithin (ShowDay day) = IsStampDay day
 IsTargetWithin other = Unit {0}
 
--- what is asked whole is within its limits
+-- what is asked is within its limits
 abbrev AreAsksWithin : Asks → Type 0
 AreAsksWithin (Asks.Whole caller) = IsCallerWithin caller
 AreAsksWithin (Asks.Import key importing) = Unit {0}
@@ -298,7 +298,7 @@ place_within target place e = by_test (is_ascii_text target) e where
   by_test true same = (let asked = given_some (route_of target) place_asked place same in asked_within asked.0 place asked.2)
   by_test false same = absurd cc
 
--- an outline is of a book's number, and what it asks whole is within its limits
+-- an outline has a valid book number, and what it asks is within its limits
 abbrev IsOutlineWithin : Outline → Type 0
 IsOutlineWithin outline = IsNumber outline.book × AreAsksWithin outline.asks
 
@@ -316,7 +316,7 @@ outline_within method target fields body outline e =
 abbrev IsWithin : Request → Type 0
 IsWithin request = IsNumber request.book × IsCallerWithin request.caller
 
--- the rows that a body holds are replayable
+-- the rows in a body are replayable
 filled_within : (body : List ℕ) (book key importing : ℕ) (held : Result BookRows WireFault) (request : Request) → IsNumber book → HoldsRows body held
     → Ok request ≡ after held (λ rows. Ok (record { book = book; caller = Broker key (broker.Import importing rows) })) → IsWithin request
 filled_within body book key importing (Ok rows) request range text same =
@@ -335,7 +335,7 @@ outlined : (body : List ℕ) (said : Result Outline WireFault) (request : Reques
 outlined body (Ok outline) request within it = (let here = within outline refl in asked_in body outline.book outline.asks request here.0 here.1 it)
 outlined body (Err fault) request within same = absurd cc
 
--- each part of a request that bytes encode is within its limits
+-- each part of a request that is read from bytes is within its limits
 pub reads_within : (bytes : List ℕ) (request : Request) → SaysRequest bytes (Ok request) → IsNumber request.book × IsCallerWithin request.caller
 reads_within bytes request (inl x) =
     outlined x.1 (outline_by x.0.method x.0.target (fields_of x.0) x.1) request (outline_within x.0.method x.0.target (fields_of x.0) x.1) x.3

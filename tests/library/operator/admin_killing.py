@@ -22,19 +22,25 @@ KEPT = "etc", "lib", "backups", "system", "units"
 
 class Story:
     """A machine with three books in `main` and one in `west`, which is laid out anew before each kill."""
+    STORES = {"main": (7, 8, 9), "west": (10,)}
 
     def __init__(self, machine):
         self.machine = machine
         machine.store("west")
-        self.callers = {number: machine.book(number, "west" if number == 10 else "main", pledges=2)
-                        for number in (7, 8, 9, 10)}
+        self.callers = {number: machine.book(number, store, pledges=2)
+                        for store, numbers in self.STORES.items() for number in numbers}
+        self.end_of_making()
         for caller in self.callers.values():
             caller.repay()
-        machine.admin("copy", "main"), machine.admin("copy", "west")
-        self.copy = os.path.basename(machine.newest("main"))
+        for store in self.STORES:
+            machine.admin("copy", store)
+        self.copy = os.path.basename(machine.newest(next(iter(self.STORES))))
         for caller in self.callers.values():
             caller.repay()
         self.keep()
+
+    def end_of_making(self):
+        """What else is done when the books are made."""
 
     def stop(self):
         for name in os.listdir(self.machine.stores):
@@ -74,6 +80,26 @@ class Story:
                 self.machine.await_store(store)
 
 
+class FarStory(Story):
+    """A second machine, without `main`: its nginx stands for the relay, which passes a book without a line to `west`."""
+    STORES = {"west": (7, 8, 9, 10)}
+
+    def end_of_making(self):
+        without_main(self.machine)
+
+
+def without_main(machine):
+    """The machine has no store `main` any more, and no line for a book of `west`."""
+    machine.systemctl("stop", "pawnd@main")
+    for path in ("units/enabled-pawnd@main.service", "units/enabled-pawnd-copy@main.timer", "etc/stores/main.conf"):
+        os.unlink(machine.place(path))
+    shutil.rmtree(machine.place("lib/main"))
+    machine.write("etc/books.map", "")
+    with open(machine.place("nginx.conf")) as file:
+        machine.write("nginx.conf", file.read().replace("default main;", "default west;"))
+    machine.admin("reload")
+
+
 def expect_right_or_away(caller):
     """What is served is what was acknowledged, and its changes count; or the proxy says that its store is away."""
     status, said = caller.request("GET", "/pledges/1")
@@ -95,13 +121,13 @@ def drawn_steps(steps, draw, named):
     return sorted(drawn)
 
 
-def killed(words, after, goes_back=(), named=(), meanwhile=lambda story: None):
+def killed(words, after, goes_back=(), named=(), meanwhile=lambda story: None, kind=Story):
     """A verb at some of its steps, and at those that are named by a part of their text. `after` says how it is when the
     verb has ended; books of `goes_back` are put back to what a copy has of them. `meanwhile` happens between the kill
     and the second run."""
     draw = random.Random(f"{SEED} {words}")
     with Machine() as it:
-        story = Story(it)
+        story = kind(it)
         words = [{"COPY": story.copy, "NEW": it.place("new-key")}.get(word, word) for word in words]
         it.admin_with(*words, KILL_AT="0", STEPS=it.place("steps"))
         after(story)

@@ -1,6 +1,7 @@
 """Debian machines that run systemd: a small Debian is made once by debootstrap, with the packages that pawnd asks for
 waiting in apt's own folder, and each machine is booted from it by systemd-nspawn, with changes and a network of its own."""
 import contextlib
+import itertools
 import os
 import re
 import signal
@@ -82,6 +83,28 @@ def steps(machines, *tests):
         print(f"        {test.__name__.replace('_', ' ')}: {time.monotonic() - begun:.1f} s", flush=True)
 
 
+BOOTS = itertools.count(1)
+
+
+def own_groups():
+    """The control groups of this process that systemd uses. Each machine gets groups of its own below them. If machines
+    shared them, each machine's systemd would remove groups into which another one is just putting a service."""
+    with open("/proc/self/cgroup") as file:
+        paths = dict(line.rstrip("\n").split(":", 2)[1:] for line in file)
+    with open("/proc/mounts") as file:
+        for _, folder, kind, options, *_ in map(str.split, file):
+            name = "" if kind == "cgroup2" else "name=systemd" if "name=systemd" in options.split(",") else None
+            if name in paths:
+                yield folder + paths[name].rstrip("/")
+
+
+def remove_group(group):
+    """Removes what a machine left of its groups. No process is left in them."""
+    for folder, *_ in os.walk(group, topdown=False):
+        with contextlib.suppress(OSError):
+            os.rmdir(folder)
+
+
 class Booted:
     """A machine that runs, until the block is left. The folder `packages` is its /root/packages. `words` are
     systemd-nspawn's options for its network and its disks."""
@@ -119,10 +142,18 @@ class Booted:
                 self.stack.callback(subprocess.run, ["umount", "-l", words[-1]], timeout=30)
 
     def boot(self):
+        name = f"pawnd-{self.name}-{os.getpid()}-{next(BOOTS)}"
+        groups = [os.path.join(it, name) for it in own_groups()]
+        for it in groups:
+            os.mkdir(it)
+            self.stack.callback(remove_group, it)
         words = ["systemd-nspawn", "-q", "-D", self.root, "--register=no", "--keep-unit", "-b", *self.words,
                  f"--machine=pawnd-{self.name}-{os.getpid()}"]
+        # A shell puts itself into the groups first.
+        enter = 'for it in $1; do echo 0 >"$it/cgroup.procs"; done; shift; exec "$@"'
         self.nspawn = subprocess.Popen(
-            [*words, f"--bind-ro={self.packages}:/root/packages", "--kill-signal=SIGRTMIN+3"],
+            ["sh", "-e", "-c", enter, "sh", " ".join(groups), *words, f"--bind-ro={self.packages}:/root/packages",
+             "--kill-signal=SIGRTMIN+3"],
             stdin=subprocess.DEVNULL,
             stdout=subprocess.DEVNULL,
             stderr=subprocess.PIPE,
@@ -178,6 +209,14 @@ class Booted:
         """Starts a unit, and waits until it has started, or has ended if it runs once."""
         self.run(f"systemctl start {unit} || {{ journalctl -u {unit} -n 25 -o cat --no-pager; exit 1; }}", within=within)
 
+    def until(self, condition, within=60):
+        """Waits until a condition of the shell holds."""
+        self.run(f"end=$((SECONDS + {within})); until {condition}; do [ $SECONDS -lt $end ]; sleep 0.2; done")
+
+    def journal(self, unit):
+        """All that a unit has written so far."""
+        return self.run(f"journalctl --sync; journalctl -u {unit} -o cat --no-pager")
+
     def state(self, unit, *names):
         """What systemd says of a unit."""
         told = self.run(f"systemctl show -p {','.join(names)} {unit}")
@@ -186,10 +225,7 @@ class Booted:
 
     def complaints(self):
         """What systemd could not read in a unit of ours, or could not do of it."""
-        # (That a group of processes can't be killed at once is this kind of machine's.)
-        told = self.run(
-            "journalctl --no-pager -o cat -t systemd | grep -i pawnd | grep -v 'kill control group' || true"
-        ).splitlines()
+        told = self.run("journalctl --no-pager -o cat -t systemd | grep -i pawnd || true").splitlines()
         return [line for line in told if re.search("unknown|invalid|ignoring|unsupported|failed to parse", line, re.I)]
 
     def line_to(self, other, own, others):

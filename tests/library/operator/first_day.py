@@ -1,4 +1,5 @@
 """The first day of docs/DEPLOYING.md on a machine, and a broker's requests there."""
+import contextlib
 import json
 import os
 import time
@@ -47,6 +48,24 @@ def first_day(machine, package):
     return told
 
 
+def reach(*machines):
+    """The roots of these machines reach each other by ssh, as the page's scp asks."""
+    for machine in machines:
+        machine.run("mkdir -p -m 700 /root/.ssh; [ -e /root/.ssh/id_ed25519 ] || ssh-keygen -q -t ed25519 -N '' -f "
+                    "/root/.ssh/id_ed25519; systemctl start ssh")
+        machine.run("printf 'Host *\\nStrictHostKeyChecking no\\nUserKnownHostsFile /dev/null\\n' >/root/.ssh/config")
+    for machine in machines:
+        key = machine.run("cat /root/.ssh/id_ed25519.pub").strip()
+        for peer in machines:
+            peer.run(f"cat >>/root/.ssh/authorized_keys <<<'{key}'")
+
+
+def carry_passphrase(one, standby):
+    """From the sending machine to the receiving one, as the page asks."""
+    passphrase = one.run("cat /etc/pawnd/offsite.passphrase")
+    standby.run(f"umask 077; cat >/etc/pawnd/offsite.passphrase <<<'{passphrase.strip()}'")
+
+
 def ask(machine, target, *words, key="/root/7.key", trusted=True):
     """A request by the broker of a book, over TLS to the proxy of this machine: the reply's status and body, or 0 if there
     is none."""
@@ -67,6 +86,34 @@ def with_terms(machine, book=7, key="/root/7.key"):
     terms = """'{"keep_after":0,"keep_before":0,"rate":0,"version":1}'"""
     expect("its terms", ask(machine, f"/books/{book}/terms", "-d", terms, key=key), (200, '{"version":1}'))
     expect("a pledge", enter(machine, 1, book, key)[0], 200)
+
+
+# Requests whose heads do not end. A worker of nginx that has one goes on by its settings for ten seconds after a reload.
+SLOW_REQUESTS = f"""import contextlib, socket, ssl, time
+kept = []
+while True:
+    with contextlib.suppress(OSError):
+        plain = socket.create_connection(("127.0.0.1", 443), timeout=5)
+        kept.append(ssl._create_unverified_context().wrap_socket(plain, server_hostname="{NAME}"))
+        kept[-1].sendall(b"GET / HTTP/1.1\\r\\n")
+    time.sleep(0.5)
+"""
+
+
+@contextlib.contextmanager
+def slow_requests(machine):
+    """Callers whose requests are under way come all the time within the block. What is done in it reloads nginx, and no
+    worker goes on by the older settings when it ends."""
+    with open(os.path.join(machine.root, "root/slow.py"), "w") as it:
+        it.write(SLOW_REQUESTS)
+    machine.run("systemd-run -q --unit=slow python3 /root/slow.py")
+    machine.until("ss -Htn state established 'sport = :443' | grep -q .")
+    workers = "cat /proc/$(cat /run/nginx.pid)/task/*/children"
+    before = machine.run(workers).split()
+    yield
+    left = [it for it in machine.run(workers).split() if it in before]
+    machine.run("systemctl stop slow")
+    expect("workers of nginx by the older settings", left, [])
 
 
 def answers_again(machine, wanted=200, within=60, target="/books/7/pledges/1", key="/root/7.key"):

@@ -1,7 +1,9 @@
 """A headless chromium, driven over HTTP by chromedriver, and nginx with the pages in front of a service whose
 replies can be lost."""
+import atexit
 import base64
 import contextlib
+import functools
 import json
 import os
 import shutil
@@ -15,7 +17,7 @@ import urllib.error
 import urllib.request
 
 from tests.library.checks import Failed, expect
-from tests.library.paths import TOP
+from tests.library.paths import PROGRAM, TOP
 from tests.library.program import Server, free_port
 from tests.library.sessions import Once
 from tests.library.waiting import answers, wait_for
@@ -94,6 +96,61 @@ class Relay:
         return head + b"\r\n\r\n" + body
 
 
+class Cut:
+    """A line between the browser and nginx. It ends the connection of the first POST to a target that ends so, once nginx
+    has replied, and passes nothing of the reply on. `begun` counts such requests."""
+
+    def __init__(self, port, target):
+        self.to, self.head, self.begun = port, f"{target} HTTP/1.1\r\n".encode(), 0
+
+    def __enter__(self):
+        self.listener = socket.create_server(("127.0.0.1", 0))
+        self.address = f"http://localhost:{self.listener.getsockname()[1]}"
+        threading.Thread(target=self.accept, daemon=True).start()
+        return self
+
+    def __exit__(self, *_):
+        self.listener.close()
+
+    def accept(self):
+        with contextlib.suppress(OSError):
+            while True:
+                threading.Thread(target=self.carry, args=(self.listener.accept()[0],), daemon=True).start()
+
+    def carry(self, asking):
+        with asking, contextlib.suppress(OSError), socket.create_connection(("127.0.0.1", self.to)) as nginx:
+            cut = threading.Event()
+            threading.Thread(target=self.pass_back, args=(nginx, asking, cut), daemon=True).start()
+            while piece := asking.recv(65536):
+                if piece.startswith(b"POST ") and self.head in piece:
+                    self.begun += 1
+                    if self.begun == 1:
+                        cut.set()
+                nginx.sendall(piece)
+
+    @staticmethod
+    def pass_back(nginx, asking, cut):
+        with contextlib.suppress(OSError):
+            while (piece := nginx.recv(65536)) and not cut.is_set():
+                asking.sendall(piece)
+            asking.shutdown(socket.SHUT_RDWR)
+
+
+@functools.cache
+def release():
+    """A folder as a release has it, in which `tools/pages` finds the pages built: they are built once for a script, since
+    a busy machine takes seconds for that."""
+    room = tempfile.mkdtemp(prefix="pawnd-pages-")
+    atexit.register(shutil.rmtree, room, ignore_errors=True)
+    os.chmod(room, 0o711)
+    subprocess.run([os.path.join(TOP, "tools/web"), os.path.join(room, "web")], check=True, timeout=120)
+    for name in ("pages", "common.sh"):
+        shutil.copy(os.path.join(TOP, "tools", name), room)
+    os.symlink(os.path.join(TOP, "deploy"), os.path.join(room, "deploy"))
+    os.symlink(PROGRAM, os.path.join(room, "pawnd"))
+    return room
+
+
 class Pages:
     """The pages by `tools/pages`, in front of a service; of a store in memory, where no other is made in the room."""
 
@@ -109,8 +166,9 @@ class Pages:
         self.port = free_port()
         self.address = f"http://localhost:{self.port}"
         self.session = Once(self.server.port)
+        self.web = os.path.join(release(), "web")
         self.nginx = subprocess.Popen(
-            [os.path.join(TOP, "tools/pages")], stdin=subprocess.DEVNULL, stdout=subprocess.DEVNULL,
+            [os.path.join(release(), "pages")], stdin=subprocess.DEVNULL, stdout=subprocess.DEVNULL,
             stderr=subprocess.DEVNULL, start_new_session=True,
             env={
                 **os.environ, "PORT": str(self.relay.port), "PAGES_PORT": str(self.port),
@@ -126,15 +184,14 @@ class Pages:
 
     def with_modules(self):
         """Puts the modules beside the pages that were built of them, for tests of one module alone."""
-        web = os.path.join(self.room, "room", "web")
         for folder in ("shared", "broker"):
             for name in os.listdir(os.path.join(TOP, "web", folder)):
-                if not os.path.exists(os.path.join(web, folder, name)):
-                    shutil.copy(os.path.join(TOP, "web", folder, name), os.path.join(web, folder))
+                if not os.path.exists(os.path.join(self.web, folder, name)):
+                    shutil.copy(os.path.join(TOP, "web", folder, name), os.path.join(self.web, folder))
         subprocess.run(
             [
                 "esbuild", os.path.join(TOP, "web/shared/qr.js"), "--bundle", "--format=esm", "--allow-overwrite",
-                "--log-level=warning", f"--outfile={web}/shared/qr.js",
+                "--log-level=warning", f"--outfile={self.web}/shared/qr.js",
             ],
             env={**os.environ, "NODE_PATH": "/usr/share/nodejs"}, check=True, timeout=30,
         )

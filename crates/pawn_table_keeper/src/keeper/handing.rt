@@ -1,8 +1,9 @@
 //! Passes items that were read to a visitor.
 ghost use Rattle.pawn_table_keeper.specs.Common.{with_head, HandsOver, item_of};
+ghost use Rattle.pawn_tables.specs.Kinds.{own_items};
 ghost use Rattle.std.specs.Prelude.{map};
 
-use pawn_book::{Flow, Part, SheetItem, Visitor};
+use pawn_book::{Flow, Part, RowItem, SheetItem, Visitor};
 use pawn_tables::Line;
 
 /// Passes the items to the visitor in order, until it answers `Stop`. Returns the visitor's last answer, or `Go` if
@@ -14,6 +15,25 @@ pub(super) fn hand_all<T, V: Visitor<T>>(items: &[T], visitor: &mut V) -> Flow
         match visitor.visit(item) {
             Flow::Go => {}
             Flow::Stop => return Flow::Stop,
+        }
+    }
+    Flow::Go
+}
+
+/// Passes those of the rows that belong to pledge `number` to the visitor until it answers `Stop`.
+pub(super) fn hand_items<V: Visitor<RowItem>>(
+    number: u32,
+    items: &[RowItem],
+    visitor: &mut V,
+) -> Flow
+    ensures hands { HandsOver V.step visitor.old (own_items number items.now) result visitor.new }
+{
+    for item in items {
+        if item.number().get() == number {
+            match visitor.visit(item) {
+                Flow::Go => {}
+                Flow::Stop => return Flow::Stop,
+            }
         }
     }
     Flow::Go

@@ -1,7 +1,7 @@
 //! Joins what was read of a pledge into its brief.
-ghost use Rattle.pawn_tables.specs.Common.{IsDayNumber, brief_of, PledgeValue, end_of, last_secret, live_under, Issued};
+ghost use Rattle.pawn_tables.specs.Common.{IsDayNumber, PledgeValue, end_of, last_secret, live_under, Issued};
 ghost use Rattle.pawn_tables.specs.Finding.{IsRead};
-ghost use Rattle.pawn_tables.specs.ListEnds.{AreListEnds, last_issued};
+ghost use Rattle.pawn_tables.specs.ListEnds.{AreListEnds, last_issued, stored_brief};
 ghost use Rattle.pawn_tables.specs.PledgeRows.{AreSides, HasSecret, IsBriefTold, row_of};
 ghost use Rattle.std.specs.Prelude.{◌≡◌, List, length};
 
@@ -42,12 +42,12 @@ fn secret_count(last: Option<LastSecret>) -> u64
     }
 }
 
-/// How many entries, secrets and extensions there are.
+/// How many secrets and extensions there are, and as many entries as the last entry's number says.
 fn counts_of(list_ends: ListEnds) -> Counts
-    ensures value { (p : PledgeValue) → AreListEnds list_ends p → result ≡ (brief_of p).counts }
+    ensures value { (p : PledgeValue) → AreListEnds list_ends p → result ≡ (stored_brief p).counts }
 {
     Counts {
-        entries: list_ends.entries as usize,
+        entries: list_ends.last_entry as usize,
         secrets: secret_count(list_ends.last) as usize,
         extensions: list_ends.extensions as usize,
     }
@@ -62,7 +62,7 @@ fn fields_of(
     list_ends: ListEnds,
 ) -> Result<BriefFields, KeepError>
     ensures read { (p : PledgeValue) → number ≡ p.agreement.number → row ≡ row_of p
-        → AreSides sides p → AreListEnds list_ends p → IsRead result (brief_of p) (HasSecret p × IsDayNumber (end_of p)) }
+        → AreSides sides p → AreListEnds list_ends p → IsRead result (stored_brief p) (HasSecret p × IsDayNumber (end_of p)) }
 {
     let Some((terms, booking, totals)) = joined_rows(sides) else {
         return Err(NO_RECORD);
@@ -91,7 +91,7 @@ pub(crate) fn join_brief(
     list_ends: ListEnds,
 ) -> Result<Brief, KeepError>
     ensures read { (p : PledgeValue) → number ≡ p.agreement.number → row ≡ row_of p
-        → AreSides sides p → AreListEnds list_ends p → IsRead result (brief_of p) (IsBriefTold p) }
+        → AreSides sides p → AreListEnds list_ends p → IsRead result (stored_brief p) (IsBriefTold p) }
 {
     let fields = fields_of(number, row, sides, list_ends)?;
     match Brief::of_fields(fields) {

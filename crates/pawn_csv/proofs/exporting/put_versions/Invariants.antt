@@ -1,6 +1,5 @@
 use Rattle.pawn_csv.proofs.Basics.{take}
-use Rattle.pawn_csv.proofs.CountLemmas.{version_line}
-use Rattle.pawn_csv.proofs.ListLemmas.{lines_from}
+use Rattle.pawn_csv.proofs.CountLemmas.{lines_from, version_line}
 use Rattle.pawn_csv.specs.Common.{Reads, Whole, get, terms_of}
 use Rattle.pawn_csv.specs.Sent.{PutsRowsShare}
 use Rattle.pawn_csv.proofs.exporting.put_versions.Given as goal

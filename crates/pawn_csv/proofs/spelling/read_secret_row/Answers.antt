@@ -1,34 +1,54 @@
 use Rattle.pawn_base.proofs.ListLemmas.{◌&◌}
-use Rattle.pawn_csv.proofs.Basics.{◌≡◌, ◌∙◌, ℕ, List, ap, arith, get_or, refl, sym, codes}
-use Rattle.pawn_csv.proofs.RowLemmas.{blank_follow, columns_are}
-use Rattle.pawn_csv.specs.Common.{Issued, fields_of}
-use Rattle.pawn_csv.specs.Reading.{IsNoRow}
-use Rattle.pawn_csv.specs.Rows.{FitsColumns, row_fields}
-use Rattle.pawn_csv.specs.Spelling.{column_at}
-use Rattle.pawn_csv.specs.Types.{Row}
+use Rattle.pawn_csv.proofs.Basics.{◌∙◌, refl}
+use Rattle.pawn_csv.proofs.RowLemmas.{blank_follow, blank_left, columns_are, named, no_secret, spelled_at}
+use Rattle.pawn_csv.specs.Spelling.{texts_of}
 use Rattle.pawn_csv.proofs.spelling.read_secret_row.Goals as goal
 
--- columns that begin with the letter of a secret, and spell none
-no_secret : (fs : List (List ℕ)) → column_at fs 0 ≡ codes "S"
-    → ((number place : ℕ) (issued : Issued) → FitsColumns (Row.Secret number place issued) → fs ≡ row_fields (Row.Secret number place issued) → ⊥) → IsNoRow fs
-no_secret fs is none (Row.Secret number place issued) fits spelled = none number place issued fits spelled
-no_secret fs is none r fits spelled = absurd (omega (arith, ap (λ (l : List ℕ). get_or l 0 0) (sym is ∙ ap (λ (f : List (List ℕ)). column_at f 0) spelled)))
+pub returns-in_err-number : goal.returns-in_err-number
+returns-in_err-number c = record {
+  value = rw c.from_residual.ensures (no_secret (texts_of c.args.columns.now) c.requires.letter
+      (λ number place issued fits is. c.in_err-number.ensures.value number fits.0 (spelled_at c.args.columns.now 1 is)));
+}
+
+pub returns-in_err-place : goal.returns-in_err-place
+returns-in_err-place c = record {
+  value = rw c.from_residual-in_err-place.ensures (no_secret (texts_of c.args.columns.now) c.requires.letter
+      (λ number place issued fits is. c.in_err-place.ensures.value place fits.1 (spelled_at c.args.columns.now 2 is)));
+}
+
+pub returns-in_err-day : goal.returns-in_err-day
+returns-in_err-day c = record {
+  value = rw c.from_residual-in_err-day.ensures (no_secret (texts_of c.args.columns.now) c.requires.letter
+      (λ number place issued fits is. c.in_err-day.ensures.value issued.day fits.2 (spelled_at c.args.columns.now 3 is)));
+}
+
+pub returns-in_err-sort : goal.returns-in_err-sort
+returns-in_err-sort c = record {
+  value = rw c.from_residual-in_err-sort.ensures (no_secret (texts_of c.args.columns.now) c.requires.letter
+      (λ number place issued fits is. c.in_err-sort.ensures.value issued.sort tt (spelled_at c.args.columns.now 4 is)));
+}
 
 pub returns-in_err-secret : goal.returns-in_err-secret
 returns-in_err-secret c = record {
-  value = rw c.from_residual.ensures (no_secret (fields_of c.args.columns.now) c.requires.letter
-      (λ number place issued fits is. c.in_err-secret.ensures.value issued.secret fits.3 (c.column-5.ensures.value ∙ ap (λ f. column_at f 5) is)));
+  value = rw c.from_residual-in_err-secret.ensures (no_secret (texts_of c.args.columns.now) c.requires.letter
+      (λ number place issued fits is. c.in_err-secret.ensures.value issued.secret fits.3 (spelled_at c.args.columns.now 5 is)));
+}
+
+pub returns-then-not-are_blank : goal.returns-then-not-are_blank
+returns-then-not-are_blank c = record {
+  value = no_secret (texts_of c.args.columns.now) c.requires.letter
+      (λ number place issued fits is. let blank = c.if-not-are_blank.ensures.answer.1 (blank_left c.args.columns.now 6 9 is refl) in cc);
 }
 
 pub returns : goal.returns
 returns c =
-    let a = c.in-Some-Some-Some-Some in
+    let cols = c.args.columns.now in
     record {
       value = (
-        (a.ensures.value.0, a.ensures'.value.0, a.ensures''.value.0, c.in_ok-secret.ensures.value.0),
-        columns_are c.requires.wide (c.requires.letter & sym c.column.ensures.value ∙ a.ensures.value.1 & sym c.column-2.ensures.value ∙ a.ensures'.value.1
-            & sym c.column-3.ensures.value ∙ a.ensures''.value.1 & sym c.column-4.ensures.value ∙ a.ensures'''.value.1
-            & sym c.column-5.ensures.value ∙ c.in_ok-secret.ensures.value.1
-            & blank_follow (fields_of c.args.columns.now) 6 9 (c.if-not-are_blank.ensures.answer.0 refl) (omega arith)),
+        (c.in_ok-number.ensures.value.0, c.in_ok-place.ensures.value.0, c.in_ok-day.ensures.value.0, c.in_ok-secret.ensures.value.0),
+        columns_are cols c.requires.wide (c.requires.letter & named cols 1 ∙ c.in_ok-number.ensures.value.1 & named cols 2 ∙ c.in_ok-place.ensures.value.1
+            & named cols 3 ∙ c.in_ok-day.ensures.value.1 & named cols 4 ∙ c.in_ok-sort.ensures.value.1
+            & named cols 5 ∙ c.in_ok-secret.ensures.value.1
+            & blank_follow cols 6 9 c.requires.wide (c.if-not-are_blank.ensures.answer.0 refl)),
       );
     }

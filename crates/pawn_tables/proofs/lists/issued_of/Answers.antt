@@ -3,8 +3,8 @@ use Rattle.pawn_tables.proofs.lists.issued_of.Goals as goal
 
 pub returns-in_err-day : goal.returns-in_err-day
 returns-in_err-day c =
-    record { read = λ place i fits is. let at = cell_at 1 is (omega arith) refl in let r = c.in_err-day.ensures.read _ at.0 at.1 in search rules }
+    record { read = λ place i more fits is. let at = cell_at 1 is (omega arith) refl in let r = c.in_err-day.ensures.read _ at.0 at.1 in search rules }
 
 pub returns-in_err-number_at : goal.returns-in_err-number_at
 returns-in_err-number_at c =
-    record { read = λ place i fits is. let at = cell_at 2 is (omega arith) refl in let r = c.in_err-number_at.ensures.read _ at.0 at.1 in search rules }
+    record { read = λ place i more fits is. let at = cell_at 2 is (omega arith) refl in let r = c.in_err-number_at.ensures.read _ at.0 at.1 in search rules }

@@ -2,11 +2,14 @@ use Rattle.pawn_tables.proofs.RowReading.{arith, refl, rules, cell_at}
 use Rattle.pawn_tables.proofs.records.booking_of.Goals as goal
 
 pub returns-in_err-day : goal.returns-in_err-day
-returns-in_err-day c = record { read = λ k is. let at = cell_at 0 is (omega arith) refl in let r = c.in_err-day.ensures.read _ at.0 at.1 in search rules }
+returns-in_err-day c = record { read = λ k more is. let at = cell_at 0 is (omega arith) refl in let r = c.in_err-day.ensures.read _ at.0 at.1 in search rules }
 
 pub returns-in_err-window : goal.returns-in_err-window
-returns-in_err-window c = record { read = λ k is. let a = cell_at 1 is (omega arith) refl in let r = c.in_err-window.ensures.read _ a.0 a.1 in search rules }
+returns-in_err-window c = record {
+  read = λ k more is. let a = cell_at 1 is (omega arith) refl in let r = c.in_err-window.ensures.read _ a.0 a.1 in search
+      rules;
+}
 
 pub returns-in_err-number_at : goal.returns-in_err-number_at
 returns-in_err-number_at c =
-    record { read = λ k is. let at = cell_at 2 is (omega arith) refl in let r = c.in_err-number_at.ensures.read _ at.0 at.1 in search rules }
+    record { read = λ k more is. let at = cell_at 2 is (omega arith) refl in let r = c.in_err-number_at.ensures.read _ at.0 at.1 in search rules }

@@ -9,4 +9,4 @@ pub returns-clause-shows : goal.returns-clause-shows
 returns-clause-shows g c = reads_then c.in_ok-live.ensures.reads c.put_further-done.ensures.shares
     (λ h said share sound. dead_first_shows g.W.Write.contents c.args.writer.now c.put.new.writer c.put_further-done.new.writer c.args.day
     (live_pledges h c.args.book c.args.receipts.now) (are_unknown (live_pledges h c.args.book c.args.receipts.now)) c.put_further-done.result c.ending.result
-    c.requires.fine c.ending.ensures.answer (sym c.if-not-live.false ∙ said) c.put.ensures.puts (share sound))
+    c.requires.fine c.ending.ensures.answer (sym c.if-not-live.false ∙ said sound) c.put.ensures.puts (share sound))

@@ -9,7 +9,7 @@ use Rattle.pawn_tables.proofs.Basics.{nat_tests}
 use Rattle.std.proofs.Common.{Err, None, Option, Some, arith, refl, rules, slice_get, sym, ℕ, ◌+◌, ◌<◌, ◌∙◌, ◌≡◌}
 use Rattle.pawn_table_keeper.proofs.keeper.TableKeepKeep.walk.Goals as goal
 
--- the pledge that was read stands at the place
+-- the pledge that was read is the one at the place
 next : {K : Type 0} {k : Keeping K} {a b : K} (book place number : ℕ) (read told : Option PledgeValue) → read ≡ told → number ≡ place + 1
     → Reads k a b (λ h. read ≡ pledge_in (get h.books book) number) → Reads k a b (λ h. told ≡ slice_get (pledges_of (get h.books book)) place)
 next book place number read told is at reads = reads_as reads (λ h found. sym is ∙ found ∙ pledge_at (get h.books book) place number at)
