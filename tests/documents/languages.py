@@ -109,6 +109,14 @@ CUT_IN_THE_HEAD = {
 }
 
 
+def read_request(stream):
+    """Reads one whole request, however many pieces it comes in: its method, or "" at the connection's end."""
+    method = stream.readline().decode().partition(" ")[0]
+    if method:
+        stream.read(int(http.client.parse_headers(stream).get("Content-Length", 0)))
+    return method
+
+
 @contextlib.contextmanager
 def cutting(reply):
     """A server that answers each request with these bytes: its port."""
@@ -118,8 +126,8 @@ def cutting(reply):
                 peer, _ = it.accept()
             except OSError:
                 return
-            with peer:
-                peer.recv(10_000)
+            with contextlib.suppress(OSError), peer, peer.makefile("rb") as stream:
+                read_request(stream)
                 peer.sendall(reply)
 
     with socket.create_server(("127.0.0.1", 0)) as it:
@@ -348,12 +356,12 @@ def ending_in_a_second_request():
     read = []
 
     def answer(peer):
-        with peer:
+        with contextlib.suppress(OSError), peer, peer.makefile("rb") as stream:
             for first in (True, False):
-                asked = peer.recv(10_000)
-                if asked:
-                    read.append(asked.split()[0].decode())
-                if not asked or not first:
+                method = read_request(stream)
+                if method:
+                    read.append(method)
+                if not method or not first:
                     return
                 peer.sendall(b"HTTP/1.1 200 OK\r\nContent-Length: 2\r\n\r\n{}")
 
