@@ -8,9 +8,11 @@ use Rattle.pawn_book.specs.Books.{BookRows, NewBook}
 use Rattle.pawn_book.specs.Common.{DoNotFall, Each, IsChecked, IsNumber, IsReachable, IsText, IsUtf8, PledgeValue}
 use Rattle.pawn_book.specs.Common.{Rates}
 use Rattle.pawn_book.specs.HostStep.{Host, with_book}
+use Rattle.pawn_book.specs.Keeping.{HasTermsOf}
 use Rattle.pawn_book.specs.Limits.{IsCapacity, most_name_bytes, most_pledges, most_terms}
 use Rattle.pawn_book.specs.Rows.{AreDistinct, AreNumberedFrom, AreReplayable, IsUnder, references_of, version_of}
 use Rattle.pawn_book.specs.Sound.{AreSound, HasTextsAndWords, IsSound, IsSoundAt, IsSoundBook, IsWord}
+use Rattle.pawn_pledge.specs.Brief.{brief_of}
 use Rattle.std.proofs.Common.{◌≡◌, ◌≢◌, ℕ, ◌+◌, ◌<◌, ◌≤◌, List, [], ◌∷◌, ◌++◌, length, Some, None, suc, refl, ◌∙◌, ap}
 use Rattle.std.proofs.Common.{sym, subst, arith, length-append, if◌then◌else◌, Option, Bool, true, false, ◌==◌}
 use Rattle.std.proofs.lemmas.Bool.Decides.{nat_tests}
@@ -181,3 +183,10 @@ reachable_at h b n p sound is = from (get h.books b) refl is where
   from (Some book) e is =
       let one = (sound.books b book e).1 in
       (each_at IsReachable 1 book.pledges n p one.rows.reachable is, numbered_at 1 book.pledges n p one.rows.numbered is)
+
+-- the terms in the brief of a pledge of a sound host are those of its book
+pub has_terms : (h : Host) (b n : ℕ) (p : PledgeValue) → IsSound h → pledge_in (get h.books b) n ≡ Some p → HasTermsOf (get h.books b) (brief_of p)
+has_terms h b n p sound is = from (get h.books b) refl is where
+  from : (o : Option BookValue) → get h.books b ≡ o → pledge_in o n ≡ Some p → HasTermsOf o (brief_of p)
+  from None e is = absurd_none is
+  from (Some book) e is = each_at (IsUnder book.terms) 1 book.pledges n p ((sound.books b book e).1).rows.under is

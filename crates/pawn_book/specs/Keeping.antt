@@ -3,6 +3,7 @@ use Rattle.pawn_book.specs.BookStep.{BookValue, with_reference}
 use Rattle.pawn_book.specs.Changes.{with_change}
 use Rattle.pawn_book.specs.Common.{Issued, PledgeValue, Rates}
 use Rattle.pawn_book.specs.HostStep.{Host, rows}
+use Rattle.pawn_book.specs.Rows.{terms_at}
 use Rattle.pawn_book.specs.Sound.{IsSound}
 use Rattle.pawn_book.specs.declared.change.Change.{Change}
 use Rattle.pawn_book.specs.declared.fault.KeepError.{KeepError}
@@ -10,6 +11,7 @@ use Rattle.pawn_book.specs.declared.fault.SaveError.{SaveError}
 use Rattle.pawn_book.specs.declared.fault.StoreFault.TheVariants.{NoRecord}
 use Rattle.pawn_book.specs.declared.refusal.Refusal.{Refusal}
 use Rattle.pawn_debt.specs.declared.entry.Entry.{Entry}
+use Rattle.pawn_pledge.specs.declared.brief.BriefFields.{BriefFields}
 use Rattle.pawn_pledge.specs.declared.record.Extension.{Extension}
 use Rattle.std.specs.FinMap.{get}
 use Rattle.std.specs.Prelude.{◌≡◌, ◌⊎◌, ℕ, ◌≤◌, ◌<◌, List, [], Option, Some, None, Result, Ok, Err, option_map, IfErr}
@@ -107,6 +109,10 @@ pub record Saves {K T : Type 0} (k : Keeping K) (old new : K) (change : Change) 
 abbrev pub terms_of : Option BookValue → List Rates
 terms_of None = []
 terms_of (Some book) = book.terms
+
+-- the terms in a brief are those that the book has under the same version
+abbrev pub HasTermsOf : Option BookValue → BriefFields → Type 0
+HasTermsOf book brief = terms_at (terms_of book) brief.agreement.version ≡ Some brief.agreement.terms
 
 -- the pledges of a book; none if there is no book
 abbrev pub pledges_of : Option BookValue → List PledgeValue

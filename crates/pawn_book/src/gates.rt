@@ -1,12 +1,13 @@
 //! The checks of access: by a book's key, and by a live receipt.
-ghost use Rattle.pawn_book.specs.BookStep.{live_at, pledge_in};
-ghost use Rattle.pawn_book.specs.Keeping.{IsQuiet, IsSteady, Reads};
+ghost use Rattle.pawn_book.specs.BookStep.{live_at, only_live, pledge_in};
+ghost use Rattle.pawn_book.specs.Common.{PledgeValue};
+ghost use Rattle.pawn_book.specs.Keeping.{HasTermsOf, IsQuiet, IsSteady, Reads};
 ghost use Rattle.pawn_book.specs.Plans.{Gates, IsUnwell};
 ghost use Rattle.pawn_book.specs.Sound.{IsSound, IsWord};
 ghost use Rattle.pawn_pledge.specs.Brief.{brief_of};
 ghost use Rattle.pawn_terms.specs.Calendar.{IsStampDay};
 ghost use Rattle.std.specs.FinMap.{get};
-ghost use Rattle.std.specs.Prelude.{◌≡◌, IfOk, option_map};
+ghost use Rattle.std.specs.Prelude.{◌≡◌, IfOk, Option, option_map};
 
 use crate::change::BookHead;
 use crate::fault::KeepError;
@@ -49,6 +50,16 @@ pub fn find_live<K: Keep>(
     }
 }
 
+/// The brief, if this is its live secret.
+fn only_live(brief: Option<Brief>, secret: Secret) -> Option<Brief>
+    ensures live { (pledge : Option PledgeValue) → brief ≡ option_map brief_of pledge → result ≡ option_map brief_of (only_live secret pledge) }
+{
+    match brief {
+        Some(brief) if brief.fields().live == Some(secret) => Some(brief),
+        _ => None,
+    }
+}
+
 /// The brief of a receipt's pledge, if the receipt is live in the book. Of a host that is not sound nothing is said, as
 /// of `Keep::brief`.
 pub fn live_brief<K: Keep>(
@@ -60,10 +71,24 @@ pub fn live_brief<K: Keep>(
         (λ h. IsSound h → IfOk result (λ brief. brief ≡ option_map brief_of (live_at (pledge_in (get h.books book)) receipt.now))) }
     ensures steady { IsSteady K.keeping keep.old result }
 {
-    match keep.brief(book, receipt.number)? {
-        Some(brief) if brief.fields().live == Some(receipt.secret) => Ok(Some(brief)),
-        _ => Ok(None),
-    }
+    let brief = keep.brief(book, receipt.number)?;
+    Ok(only_live(brief, receipt.secret))
+}
+
+/// The same as `live_brief`, for a caller that has the brief of another pledge of this book, `known`: the terms need not
+/// be read again. Of a book that has other terms under that version nothing is said, as of `Keep::further_brief`.
+pub fn live_further_brief<K: Keep>(
+    keep: &mut K,
+    book: Number,
+    receipt: &Receipt,
+    known: &Brief,
+) -> Result<Option<Brief>, KeepError>
+    ensures reads { Reads K.keeping keep.old keep.new (λ h. IsSound h → HasTermsOf (get h.books book) known.now
+        → IfOk result (λ brief. brief ≡ option_map brief_of (live_at (pledge_in (get h.books book)) receipt.now))) }
+    ensures steady { IsSteady K.keeping keep.old result }
+{
+    let brief = keep.further_brief(book, receipt.number, known)?;
+    Ok(only_live(brief, receipt.secret))
 }
 
 /// The refusal for an error of the keeper.

@@ -5,8 +5,8 @@ ghost use Rattle.pawn_book.specs.Bookings.{confirmed_count};
 ghost use Rattle.pawn_book.specs.Changes.{CanSave};
 ghost use Rattle.pawn_book.specs.HostStep.{rows};
 ghost use Rattle.pawn_book.specs.Items.{rows_of_pledges};
-ghost use Rattle.pawn_book.specs.Keeping.{Errs, IsNextBook, Keeping, OfHost, Reads, Saves, WholeIsSound, entries_of};
-ghost use Rattle.pawn_book.specs.Keeping.{extensions_of, number_of, pledges_of, secrets_of, terms_of};
+ghost use Rattle.pawn_book.specs.Keeping.{Errs, HasTermsOf, IsNextBook, Keeping, OfHost, Reads, Saves, WholeIsSound};
+ghost use Rattle.pawn_book.specs.Keeping.{entries_of, extensions_of, number_of, pledges_of, secrets_of, terms_of};
 ghost use Rattle.pawn_book.specs.Rows.{terms_at};
 ghost use Rattle.pawn_book.specs.Sheet.{day_sheet};
 ghost use Rattle.pawn_book.specs.Sound.{HasUnsoundBook, IsSound, IsUnsoundAt};
@@ -73,6 +73,19 @@ pub trait Keep {
         ensures reads { Reads keeping self.old self.new
             (λ h. IsSound h → IfOk result (λ brief. brief ≡ option_map brief_of (pledge_in (get h.books book) number))) }
         ensures errs { Errs keeping self.old self.new (IsUnsoundAt book) result };
+
+    /// The same as `brief`, for a caller that has the brief of another pledge of this book, `known`. A keeper need not
+    /// read the terms again if both pledges are under the same version. Nothing is said of a host that is not sound or
+    /// whose book has other terms than `known` under that version.
+    fn further_brief(
+        &mut self,
+        book: Number,
+        number: Number,
+        known: &Brief,
+    ) -> Result<Option<Brief>, KeepError>
+        ensures reads { Reads keeping self.old self.new (λ h. IsSound h → HasTermsOf (get h.books book) known.now
+            → IfOk result (λ brief. brief ≡ option_map brief_of (pledge_in (get h.books book) number))) }
+        ensures errs { Errs keeping self.old self.new (λ h. HasTermsOf (get h.books book) known.now → IsUnsoundAt book h) result };
 
     /// Passes the entries of a pledge in order to the visitor, until it returns `Stop`. If the call fails, the visitor
     /// may have got only a prefix of them.

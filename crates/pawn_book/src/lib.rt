@@ -39,6 +39,7 @@ pub use fault::StoreFault;
 pub use gates::find_live;
 pub use gates::gate;
 pub use gates::live_brief;
+pub use gates::live_further_brief;
 pub use gather::day_sheet;
 pub use importing::ReplayableRows;
 pub use items::PledgeItem;

@@ -141,6 +141,15 @@ impl Keep for ListKeep {
         Ok(brief)
     }
 
+    fn further_brief(
+        &mut self,
+        book: Number,
+        number: Number,
+        _known: &Brief,
+    ) -> Result<Option<Brief>, KeepError> {
+        self.brief(book, number)
+    }
+
     fn entries<V: Visitor<Entry>>(
         &mut self,
         book: Number,

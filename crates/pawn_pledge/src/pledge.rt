@@ -157,20 +157,14 @@ impl Pledge {
     pub fn is_live(&self, secret: &Secret) -> bool
         ensures answer { IsTrue result ↔ (live_of self.now ≡ Some secret.now) }
     {
-        match self.standing.closing {
-            Closing::Redeemed { .. } => false,
-            Closing::Open | Closing::Sold { .. } => self.last_secret().word() == secret.word(),
-        }
+        self.live() == Some(*secret)
     }
 
     /// The live secret, unless the pledge is redeemed.
     pub fn live(&self) -> Option<Secret>
         ensures value { result ≡ live_of self.now }
     {
-        match self.standing.closing {
-            Closing::Redeemed { .. } => None,
-            Closing::Open | Closing::Sold { .. } => Some(self.last_secret()),
-        }
+        self.standing.closing.live_secret(Some(self.last_secret()))
     }
 
     /// The last secret that was issued.

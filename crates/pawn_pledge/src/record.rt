@@ -1,5 +1,6 @@
 //! The parts of a pledge's record: its agreement, secrets, booking, extensions and closing. Also its statuses.
 
+ghost use Rattle.pawn_pledge.specs.Pledge.{live_under};
 ghost use Rattle.pawn_pledge.specs.Words.{state_text};
 ghost use Rattle.std.specs.Prelude.{◌≡◌};
 
@@ -194,6 +195,18 @@ pub enum Closing {
     Open,
     Redeemed { day: Day, paid: u64 },
     Sold { day: Day, net: u64 },
+}
+
+impl Closing {
+    /// The live secret of a pledge with this closing: the last that was issued, unless the pledge is redeemed.
+    pub fn live_secret(self, last: Option<Secret>) -> Option<Secret>
+        ensures value { result ≡ live_under self last }
+    {
+        match self {
+            Closing::Redeemed { .. } => None,
+            Closing::Open | Closing::Sold { .. } => last,
+        }
+    }
 }
 
 /// The part of a pledge's record that later commands replace: the hold, the booking, the day of the last change, and

@@ -13,6 +13,7 @@ macro_rules! book_text {
 }
 
 mod at_the_limit;
+mod briefs;
 mod ends;
 mod failing_writers;
 mod stops;

@@ -24,6 +24,11 @@ found (Err e) Q R U f = tt
 unfound : {A : Type 0} (r : Result A KeepError) (P : A → Type 0) (U : Type 0) → r ≡ Err (Keeper.Store NoRecord) → Finds r P U → U
 unfound r P U is f = subst (λ x. Finds x P U) is f
 
+-- what was found on a condition that holds
+pub known_then : {A E : Type 0} (r : Result A E) (K : Type 0) (x y : A) → IfOk r (λ v. K → v ≡ x) → K → x ≡ y → IfOk r (λ v. v ≡ y)
+known_then (Ok v) K x y found known same = found known ∙ same
+known_then (Err e) K x y found known same = tt
+
 -- the state of a transaction that begins
 abbrev pub begun_of : State → State
 begun_of s = record s { in_transaction = true }

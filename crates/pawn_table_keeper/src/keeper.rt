@@ -16,7 +16,8 @@ use pawn_book::{
 };
 use pawn_saving::save;
 use pawn_tables::{
-    brief_in, confirmed_in, head_in, next_in, pledge_of, ref_in, rows_in, terms_under,
+    brief_in, confirmed_in, further_brief_in, head_in, next_in, pledge_of, ref_in, rows_in,
+    terms_under,
 };
 use sqlite::{Alter, Connection, Error, ErrorCode};
 use std::alloc::Global;
@@ -151,6 +152,19 @@ impl<S: Alter> Keep for TableKeep<S> {
         know_settled(&self.conn);
         let mut tx = self.conn.transaction();
         let brief = brief_in(&mut tx, self.alloc, book.get(), number);
+        tx.rollback();
+        brief
+    }
+
+    fn further_brief(
+        &mut self,
+        book: Number,
+        number: Number,
+        known: &Brief,
+    ) -> Result<Option<Brief>, KeepError> {
+        know_settled(&self.conn);
+        let mut tx = self.conn.transaction();
+        let brief = further_brief_in(&mut tx, self.alloc, book.get(), number, known);
         tx.rollback();
         brief
     }

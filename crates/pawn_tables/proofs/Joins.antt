@@ -1,11 +1,12 @@
 -- A pledge of what was read of it.
 use Rattle.pawn_book.proofs.SoundLists.{under_length}
+use Rattle.pawn_pledge.specs.declared.brief.BriefFields.{BriefFields}
 use Rattle.pawn_tables.proofs.Basics.{PledgeRow}
 use Rattle.pawn_tables.proofs.Lent.{unfound}
 use Rattle.pawn_tables.proofs.PledgeReads.{number_in, under_in}
 use Rattle.pawn_tables.specs.Common.{get, State, Rates, PledgeValue, BookValue, pledge_in, Host, entries_of}
 use Rattle.pawn_tables.specs.Common.{extensions_of, secrets_of, terms_of, terms_at, IsUnsoundAt, KeepError, IsLent}
-use Rattle.pawn_tables.specs.Common.{Rests}
+use Rattle.pawn_tables.specs.Common.{HasTermsOf, Rests}
 use Rattle.pawn_tables.specs.Finding.{FindsIn, IsRead}
 use Rattle.pawn_tables.specs.PledgeRows.{AreLists, AreSides, AreTold, booking_of, row_of, totals_in}
 use Rattle.pawn_tables.specs.StandsFor.{AreBooksOrdered, AreStorable}
@@ -71,6 +72,15 @@ pub told_of : (h : Host) (b n v : ℕ) (p : PledgeValue) (t : StoredPledge) → 
     → IfSome (pledge_in (get h.books b) n) (λ q. v ≡ q.agreement.version → AreSides t.sides q) → AreTold (Some t) (pledge_in (get h.books b) n)
 told_of h b n v p t at of version sides = let beside = subst (λ o. IfSome o (λ q. v ≡ q.agreement.version → AreSides t.sides q)) at sides in
     subst (AreTold (Some t)) (sym at) (of, beside (version ∙ ap (λ (r : PledgeRow). r.version) of))
+
+-- the same, with terms that are known of another pledge under the same version
+pub known_told : (h : Host) (b n : ℕ) (row : PledgeRow) (sides : RowsBeside) (terms : Rates) (known : BriefFields) → AreBooksOrdered h
+    → Some row ≡ option_map row_of (pledge_in (get h.books b) n) → (terms ≡ known.agreement.terms) × (row.version ≡ known.agreement.version)
+    → (sides.terms ≡ Some terms) × (sides.booking ≡ booking_of (pledge_in (get h.books b) n)) × (sides.totals ≡ totals_in (pledge_in (get h.books b) n))
+    → HasTermsOf (get h.books b) known → AreTold (Some (record { row = row; sides = sides })) (pledge_in (get h.books b) n)
+known_told h b n row sides terms known ordered found same beside has = let r = row_is (pledge_in (get h.books b) n) row found in
+    told_of h b n known.agreement.version r.0 (record { row = row; sides = sides }) r.1 r.2 (sym same.1)
+    (sides_told h b n known.agreement.version sides ordered (beside.0 ∙ ap Some same.0 ∙ sym has) beside.1 beside.2)
 
 -- .. which is of a pledge that stands
 told_is : (o : Option PledgeValue) (t : StoredPledge) → AreTold (Some t) o → (p : PledgeValue) × (o ≡ Some p) × (t.row ≡ row_of p) × AreSides t.sides p

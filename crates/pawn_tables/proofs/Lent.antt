@@ -75,6 +75,17 @@ next_unfound {s0 = s0} {s1 = s1} {s2 = s2} {F = F} {q = q} {e = e} U Q r W found
     unfound e r (λ y. Q h y × Rests s1 s2) (λ y. W h y × Rests s0 s2) (U h) same
     (subst (λ s. Finds s (λ y. Q h y × Rests s1 s2) (U h)) failed (f clean one.0.2.inside h (λ _. one.1)))
 
+-- ---- what is found, if something holds of the host
+
+pub finds_if : {A : Type 0} (K U : Host → Type 0) (s0 s1 : State) (r : Result A KeepError) (P : Host → A → Type 0) → FindsIn U s0 s1 r P
+    → FindsIn (λ h. K h → U h) s0 s1 r (λ h x. K h → P h x)
+finds_if {A = A} K U s0 s1 r P f clean within h stood = go r (f clean within h stood) where
+  go : (q : Result A KeepError) → Finds q (λ x. P h x × Rests s0 s1) (U h) → Finds q (λ x. (K h → P h x) × Rests s0 s1) (K h → U h)
+  go (Ok x) found = (λ known. found.0, found.1)
+  go (Err Keeper.Memory) found = tt
+  go (Err (Keeper.Store NoRecord)) found = λ known. found
+  go (Err (Keeper.Store Database)) found = tt
+
 -- ---- tables that stand for a host list its debts
 
 pub debts_of : (db : Tables) (h : Host) → StandsFor db h → ListDebts db h

@@ -41,6 +41,14 @@ unjoined e x s P V U same read bad = subst (λ r. Finds r P U) (sym same) (go e 
   go (Keeper.Store NoRecord) f = bad f
   go (Keeper.Store Database) f = tt
 
+-- an error that says something only if a row could not be decoded
+pub undecoded : {B : Type 0} (e : KeepError) (s : Result B KeepError) (P : B → Type 0) (U : Type 0) → s ≡ Err e → (e ≡ Keeper.Store NoRecord → U) → Finds s P U
+undecoded e s P U same bad = subst (λ r. Finds r P U) (sym same) (go e bad) where
+  go : (k : KeepError) → (k ≡ Keeper.Store NoRecord → U) → Finds (Err k) P U
+  go Keeper.Memory bad = tt
+  go (Keeper.Store NoRecord) bad = bad refl
+  go (Keeper.Store Database) bad = tt
+
 -- ---- a pledge of a sound book
 
 -- where a fact that sound books have of their pledges fails of this one, its book is not sound

@@ -8,8 +8,8 @@ pub use Rattle.pawn_base.specs.Text.{IsText}
 pub use Rattle.pawn_book.specs.BookStep.{BookValue, book_head, pledge_from, pledge_in, with_reference}
 pub use Rattle.pawn_book.specs.Bookings.{confirmed_count, is_asked, is_confirmed, is_confirmed_for}
 pub use Rattle.pawn_book.specs.HostStep.{Host, rows}
-pub use Rattle.pawn_book.specs.Keeping.{IsNextBook, Keeping, WholeIsSound, entries_of, extensions_of, number_of}
-pub use Rattle.pawn_book.specs.Keeping.{pledges_of, secrets_of, terms_of}
+pub use Rattle.pawn_book.specs.Keeping.{HasTermsOf, IsNextBook, Keeping, WholeIsSound, entries_of, extensions_of}
+pub use Rattle.pawn_book.specs.Keeping.{number_of, pledges_of, secrets_of, terms_of}
 pub use Rattle.pawn_book.specs.Limits.{IsCapacity, most_name_bytes}
 pub use Rattle.pawn_book.specs.Rows.{AreNumberedFrom, IsUnder, is_same_text, terms_at}
 pub use Rattle.pawn_book.specs.Sheet.{part_item, part_items}

@@ -29,7 +29,7 @@ mod worked;
 mod writing;
 
 pub use books::{confirmed_in, head_in, next_in, ref_in, rows_in};
-pub use briefs::brief_in;
+pub use briefs::{brief_in, further_brief_in};
 pub use cells::refused;
 pub use credits::{Credit, credit_in};
 pub use encoding::{

@@ -1,9 +1,10 @@
 -- What is shown for receipts, one after the other.
+use Rattle.pawn_book.proofs.Sounds.{has_terms}
 use Rattle.pawn_book.proofs.VisitLemmas.{cut_at}
 use Rattle.pawn_view.proofs.StatementLemmas.{some_same, shows_ended}
-use Rattle.pawn_view.specs.Common.{BriefFields, End, Front, KeepError, PledgeValue, Puts, PutsShare, Receipt, ViewFault}
-use Rattle.pawn_view.specs.Common.{Whole, Writing, are_unknown, brief_of, call_end, ending_of, is_live, live_at}
-use Rattle.pawn_view.specs.Common.{only_live, write_failed}
+use Rattle.pawn_view.specs.Common.{BriefFields, End, Front, HasTermsOf, Host, IsSound, KeepError, PledgeValue, Puts}
+use Rattle.pawn_view.specs.Common.{PutsShare, Receipt, ViewFault, Whole, Writing, are_unknown, brief_of, call_end}
+use Rattle.pawn_view.specs.Common.{ending_of, get, is_live, live_at, only_live, pledge_in, write_failed}
 use Rattle.pawn_view.specs.Shown.{Shows, shown_of}
 use Rattle.pawn_view.specs.Text.{further_texts, presented_text, shown_text, statement_text}
 use Rattle.pawn_writing.proofs.ShareLemmas.{share_puts, share_more, share_then, writings_in_turn}
@@ -52,6 +53,20 @@ pub unknown_more : (f : Receipt → Option PledgeValue) (receipts : List Receipt
     → are_unknown (map f (take i receipts)) ≡ true → None ≡ option_map brief_of (f x) → are_unknown (map f (take (i + 1) receipts)) ≡ true
 unknown_more f receipts i x lt at before is = subst (λ (rs : List Receipt). are_unknown (map f rs) ≡ true) (sym (take_more receipts i x lt))
     (unknown-snoc f (take i receipts) (get_or receipts i x) before (ap f (sym at) ∙ none_of (f x) is))
+
+-- the terms in the brief of a live receipt's pledge are those of its book
+pub live_terms : (h : Host) (b : ℕ) (r : Receipt) (brief : BriefFields) → IsSound h → Some brief ≡ option_map brief_of (live_at (pledge_in (get h.books b)) r)
+    → HasTermsOf (get h.books b) brief
+live_terms h b r brief sound is =
+    elim (pledge_in (get h.books b) r.number) as (λ (o : Option PledgeValue). pledge_in (get h.books b) r.number ≡ o
+    → Some brief ≡ option_map brief_of (only_live r.secret o) → HasTermsOf (get h.books b) brief) [
+      | None ↦ λ at said. cc
+      | Some p ↦ λ at said.
+          elim (is_live r.secret p) as (λ (v : Bool). Some brief ≡ option_map brief_of (if v then Some p else None) → HasTermsOf (get h.books b) brief) [
+            | true ↦ λ e. subst (HasTermsOf (get h.books b)) (sym (some_same e)) (has_terms h b r.number p sound at)
+            | false ↦ λ e. cc
+          ] said
+    ] refl is
 
 -- ---- one receipt
 

@@ -1,7 +1,7 @@
 -- Names from other crates that many files of this crate use.
 pub use Rattle.pawn_book.specs.BookStep.{BookValue, are_unknown, book_head, is_live, live_at, only_live, pledge_in}
 pub use Rattle.pawn_book.specs.HostStep.{Host}
-pub use Rattle.pawn_book.specs.Keeping.{IsSteady, Reads, entries_of, extensions_of, pledges_of}
+pub use Rattle.pawn_book.specs.Keeping.{HasTermsOf, IsSteady, Reads, entries_of, extensions_of, pledges_of}
 pub use Rattle.pawn_book.specs.Sheet.{day_sheet}
 pub use Rattle.pawn_book.specs.Sound.{IsSound}
 pub use Rattle.pawn_book.specs.Visits.{End, Front, Handed, IsShare, Whole, call_end}

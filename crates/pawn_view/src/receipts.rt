@@ -1,45 +1,53 @@
 //! Writes the statements for the receipts that a bearer presents.
-ghost use Rattle.pawn_view.specs.Common.{IsQuietView, IsSound, IsSteady, PledgeValue, PutsShare, Reads, are_unknown};
-ghost use Rattle.pawn_view.specs.Common.{brief_of, call_end, get, live_at, pledge_in, write_failed};
+ghost use Rattle.pawn_view.specs.Common.{HasTermsOf, IsQuietView, IsSound, IsSteady, PledgeValue, PutsShare, Reads};
+ghost use Rattle.pawn_view.specs.Common.{are_unknown, brief_of, call_end, get, live_at, pledge_in, write_failed};
 ghost use Rattle.pawn_view.specs.Shown.{Shows, live_pledges, pledge_at, presentation_of, shown_of};
 ghost use Rattle.pawn_view.specs.Text.{further_texts, shown_text, statement_text};
-ghost use Rattle.std.specs.Prelude.{◌≡◌, ◌++◌, ◌∷◌, false, true, not, Some, None, IfOk, IsErrOf};
+ghost use Rattle.std.specs.Prelude.{◌≡◌, ◌++◌, ◌∷◌, false, true, not, is_some, Some, None, IfOk, IfSome, IsErrOf};
 
 use crate::statements::{ending, put_statement};
-use pawn_book::{Brief, Day, Keep, KeepError, Number, Receipt, live_brief};
+use pawn_book::{Brief, Day, Keep, KeepError, Number, Receipt, live_brief, live_further_brief};
 use pawn_writing::{ViewFault, Writing, put};
 use std::io::Write;
 
 /// The line for a receipt that is not live.
 const UNKNOWN: &[u8] = b"Unknown receipt\n";
 
-/// Returns whether at least one of the receipts is live.
-fn is_any_live<K: Keep>(keep: &mut K, book: Number, receipts: &[Receipt]) -> Result<bool, KeepError>
-    ensures reads { Reads K.keeping keep.old keep.new (λ h. IsSound h → IfOk result (λ live. live ≡ not (are_unknown (live_pledges h book receipts.now)))) }
+/// Returns the brief of the first receipt that is live, if at least one of them is.
+fn first_live<K: Keep>(
+    keep: &mut K,
+    book: Number,
+    receipts: &[Receipt],
+) -> Result<Option<Brief>, KeepError>
+    ensures reads { Reads K.keeping keep.old keep.new (λ h. IsSound h → IfOk result (λ brief.
+        (is_some brief ≡ not (are_unknown (live_pledges h book receipts.now))) × IfSome brief (HasTermsOf (get h.books book)))) }
     ensures steady { IsSteady K.keeping keep.old result }
 {
     for receipt in receipts {
         match live_brief(keep, book, receipt)? {
-            Some(_) => return Ok(true),
+            Some(brief) => return Ok(Some(brief)),
             None => {}
         }
     }
-    Ok(false)
+    Ok(None)
 }
 
-/// Writes the statement of a receipt's pledge, or the line of an unknown receipt.
+/// Writes the statement of a receipt's pledge, or the line of an unknown receipt. `known` is the brief of a pledge of the
+/// book, whose terms need not be read again.
 fn put_shown<K: Keep, W: Write>(
     keep: &mut K,
     book: Number,
     receipt: &Receipt,
+    known: &Brief,
     day: Day,
     writer: &mut Writing<W>,
 ) -> Result<(), KeepError>
     ensures shares { Reads K.keeping keep.old keep.new
-        (λ h. IsSound h → PutsShare W.contents writer.old (shown_text day (live_at (pledge_in (get h.books book)) receipt.now)) (call_end result) writer.new) }
+        (λ h. IsSound h → HasTermsOf (get h.books book) known.now
+        → PutsShare W.contents writer.old (shown_text day (live_at (pledge_in (get h.books book)) receipt.now)) (call_end result) writer.new) }
     ensures steady { IsSteady K.keeping keep.old result }
 {
-    match live_brief(keep, book, receipt) {
+    match live_further_brief(keep, book, receipt, known) {
         Ok(Some(brief)) => put_statement(keep, book, receipt.number, &brief, day, writer),
         Ok(None) => {
             put(writer, UNKNOWN);
@@ -49,21 +57,23 @@ fn put_shown<K: Keep, W: Write>(
     }
 }
 
-/// Writes the text for each of these receipts, each after a blank line.
+/// Writes the text for each of these receipts, each after a blank line. `known` is the brief of a pledge of the book.
 fn put_further<K: Keep, W: Write>(
     keep: &mut K,
     book: Number,
     receipts: &[Receipt],
+    known: &Brief,
     day: Day,
     writer: &mut Writing<W>,
 ) -> Result<(), KeepError>
     ensures shares { Reads K.keeping keep.old keep.new
-        (λ h. IsSound h → PutsShare W.contents writer.old (further_texts day (live_pledges h book receipts.now)) (call_end result) writer.new) }
+        (λ h. IsSound h → HasTermsOf (get h.books book) known.now
+        → PutsShare W.contents writer.old (further_texts day (live_pledges h book receipts.now)) (call_end result) writer.new) }
     ensures steady { IsSteady K.keeping keep.old result }
 {
     for receipt in receipts {
         put(writer, b"\n");
-        put_shown(keep, book, receipt, day, writer)?;
+        put_shown(keep, book, receipt, known, day, writer)?;
     }
     Ok(())
 }
@@ -83,7 +93,7 @@ fn put_from<K: Keep, W: Write>(
     ensures steady { IsSteady K.keeping keep.old result }
 {
     put_statement(keep, book, number, brief, day, writer)?;
-    put_further(keep, book, receipts, day, writer)
+    put_further(keep, book, receipts, brief, day, writer)
 }
 
 /// Writes the line for a receipt that is not live, and then the text for each of the other receipts. If none of those
@@ -101,12 +111,11 @@ fn show_others<K: Keep, W: Write>(
     ensures write { IsErrOf result ViewFault.Write → write_failed writer.new ≡ true }
     ensures steady { IsQuietView K.keeping keep.old result }
 {
-    let live = is_any_live(keep, book, receipts)?;
-    if !live {
+    let Some(known) = first_live(keep, book, receipts)? else {
         return Err(ViewFault::Unknown);
-    }
+    };
     put(writer, UNKNOWN);
-    let done = put_further(keep, book, receipts, day, writer);
+    let done = put_further(keep, book, receipts, &known, day, writer);
     ending(done, writer)
 }
 

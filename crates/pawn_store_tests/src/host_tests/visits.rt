@@ -12,11 +12,11 @@ use std::process::Abort;
 use std::test::Fail;
 
 /// The request that makes the book.
-const BOOK: &str =
+pub(super) const BOOK: &str =
     "POST /books/7 HTTP/1.1\r\nPledge-Key: 11111111-1111-1111-1111-111111111111\r\nContent-Length: 80\r\n\r\n\
     {\"capacity\":1,\"key\":\"22222222-2222-2222-2222-222222222222\",\"name\":\"High Street\"}";
 
-const TERMS: &str = "{\"keep_after\":0,\"keep_before\":0,\"rate\":0,\"version\":1}";
+pub(super) const TERMS: &str = "{\"keep_after\":0,\"keep_before\":0,\"rate\":0,\"version\":1}";
 
 /// One range of pledges and the first pledge of the next one.
 const PLEDGES: u64 = 33;
@@ -61,7 +61,7 @@ impl Visitor<RowItem> for Noting {
 }
 
 /// Sends a request of the broker, which must succeed.
-fn send<K: Keep>(
+pub(super) fn send<K: Keep>(
     rt: &impl Abort,
     service: &mut Service<K>,
     alloc: Global,

@@ -1,5 +1,5 @@
 //! Joins what was read of a pledge into its brief.
-ghost use Rattle.pawn_tables.specs.Common.{IsDayNumber, PledgeValue, end_of, last_secret, live_under, Issued};
+ghost use Rattle.pawn_tables.specs.Common.{IsDayNumber, PledgeValue, end_of, last_secret, Issued};
 ghost use Rattle.pawn_tables.specs.Finding.{IsRead};
 ghost use Rattle.pawn_tables.specs.ListEnds.{AreListEnds, last_issued, stored_brief};
 ghost use Rattle.pawn_tables.specs.PledgeRows.{AreSides, HasSecret, IsBriefTold, row_of};
@@ -9,7 +9,7 @@ use super::pledges::{ends_of, joined_rows, record_of};
 use crate::cells::{NO_RECORD, day_of};
 use crate::joining::{LastSecret, ListEnds, RowsBeside};
 use crate::records::PledgeRow;
-use pawn_book::{Brief, BriefFields, Closing, KeepError, Number, Secret};
+use pawn_book::{Brief, BriefFields, KeepError, Number, Secret};
 use pawn_pledge::Counts;
 
 /// The secret itself, without its place and how it was issued.
@@ -19,16 +19,6 @@ fn secret_of(last: Option<LastSecret>) -> Option<Secret>
     match last {
         Some(last) => Some(last.issued.secret),
         None => None,
-    }
-}
-
-/// The live secret: the last one, unless the pledge is redeemed.
-fn live_of(closing: Closing, last: Option<LastSecret>) -> Option<Secret>
-    ensures value { (secrets : List Issued) → last ≡ last_issued secrets → result ≡ live_under closing (last_secret secrets) }
-{
-    match closing {
-        Closing::Redeemed { .. } => None,
-        Closing::Open | Closing::Sold { .. } => secret_of(last),
     }
 }
 
@@ -72,7 +62,7 @@ fn fields_of(
     }
     let ends = day_of(ends_of(&row))?;
     let (agreement, standing) = record_of(number, row, terms, booking);
-    let live = live_of(standing.closing, list_ends.last);
+    let live = standing.closing.live_secret(secret_of(list_ends.last));
     Ok(BriefFields {
         agreement,
         counts: counts_of(list_ends),

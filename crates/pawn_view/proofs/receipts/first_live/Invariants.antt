@@ -1,6 +1,6 @@
 use Rattle.pawn_view.specs.Common.{IsSound, Reads, are_unknown, get, live_at, pledge_in}
 use Rattle.std.proofs.Common.{◌≡◌, true, take, map}
-use Rattle.pawn_view.proofs.receipts.is_any_live.Given as goal
+use Rattle.pawn_view.proofs.receipts.first_live.Given as goal
 
 abbrev pub invariant-loop-receipt : goal.invariant-loop-receipt
 invariant-loop-receipt g l = record {
