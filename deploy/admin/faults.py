@@ -84,9 +84,16 @@ def faults_of_disks():
         wanted = max(min(int(SMALL_PART * whole), SMALL_DISK), size)
         if free < wanted:
             wrong.append(f"the disk of {folder} is nearly full: {free:,} bytes are free, and {wanted:,} are wanted "
-                         f"for the files that come next: {wanted - free:,} are missing. `du -xh {folder} | sort -h` "
-                         "shows what fills it")
+                         f"for the files that come next: {wanted - free:,} are missing. `du -xh {top_of_disk(folder)} | "
+                         "sort -h` shows what fills it")
     return disks, wrong
+
+
+def top_of_disk(folder):
+    """The folder at which the disk of this one is mounted: what fills the disk may be in any folder below it."""
+    while not os.path.ismount(folder):
+        folder = os.path.dirname(folder)
+    return folder
 
 
 def leftovers():

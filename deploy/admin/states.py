@@ -62,13 +62,14 @@ def newest_offsite(name, wrong, notes):
         else:
             notes.append("no copy goes off this machine: a fire takes the copies with the books")
         return None
-    hours = (copies.utc_now().timestamp() - os.path.getmtime(path)) / 3600
-    if hours > OLD_OFFSITE:
-        wrong.append(f"no copy was sent off this machine for {hours:.0f} hours: `journalctl -u pawnd-offsite@{name}`")
-    if hours < -1:
-        wrong.append(f"{path} is dated in the future: is the clock right?")
     with open(path) as file:
-        return {"name": file.read().strip(), "hours": round(hours, 1)}
+        sent = file.read().strip()
+    hours = (copies.utc_now() - copies.time_of(sent)).total_seconds() / 3600
+    if hours > OLD_OFFSITE:
+        wrong.append(f"the newest copy off this machine is {hours:.0f} hours old: `journalctl -u pawnd-offsite@{name}`")
+    if hours < -1:
+        wrong.append(f"its newest copy off this machine, {sent}, is dated in the future: is the clock right?")
+    return {"name": sent, "hours": round(hours, 1)}
 
 
 def state_of_units(store, wrong):

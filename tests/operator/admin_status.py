@@ -168,11 +168,14 @@ def copies_and_disks():
         it.admin("copy", "main")
         it.write("units/enabled-pawnd-offsite@main.timer", "")
         expect_wrong(it, "no copy was sent off this machine yet")
-        it.write("offsite/main", "20261129T071500Z\n")
+        sent(it, "main", 49)
         expect_wrong(it)
-        os.utime(it.place("offsite/main"), (1, 1))
-        expect_wrong(it, "no copy was sent off this machine for")
-        it.write("offsite/main", "20261129T071500Z\n")
+        expect("how old it is", it.status()["stores"][0]["offsite"]["hours"], 49.0)
+        sent(it, "main", 51)
+        expect_wrong(it, "the newest copy off this machine is 51 hours old")
+        sent(it, "main", -2)
+        expect_wrong(it, "is dated in the future")
+        sent(it, "main", 0)
         with it.filled(it.copies):
             expect_wrong(it, f"the disk of {it.copies} is nearly full")
         caller.repay(), it.admin("copy", "main")
@@ -185,6 +188,24 @@ def copies_and_disks():
         it.systemctl("start", "pawnd@main")
         it.await_store("main")
         expect_wrong(it, "store main: holds less than its newest copy")
+
+
+def a_disk_that_other_files_fill():
+    """What fills the disk of the copies may be beside them."""
+    if os.geteuid():
+        not_tried("a disk that other files fill", "this is not root")
+        return
+    with Machine(small="48m") as it:
+        it.book(7)
+        it.environment["COPIES"] = os.path.join(it.copies, "below")
+        os.makedirs(os.path.join(it.copies, "below"))
+        with it.filled(it.copies):
+            expect_wrong(it, f"`du -xh {it.copies} | sort -h`", "store main: has no copy")
+
+
+def sent(machine, store, hours):
+    """The newest copy off the machine was sent just now, and was made so many hours ago."""
+    machine.write(f"offsite/{store}", time.strftime("%Y%m%dT%H%M%SZ\n", time.gmtime(time.time() - 3600 * hours)))
 
 
 def a_clock_that_was_set_back():
@@ -272,10 +293,10 @@ def a_store_that_is_not_sent():
         it.admin("copy", "main"), it.admin("copy", "west")
         expect_wrong(it)
         it.write("units/enabled-pawnd-offsite@main.timer", "")
-        it.write("offsite/main", "20261129T071500Z\n")
+        sent(it, "main", 0)
         expect_wrong(it, "store west: is not sent off this machine, as others are")
         it.write("units/enabled-pawnd-offsite@west.timer", "")
-        it.write("offsite/west", "20261129T071500Z\n")
+        sent(it, "west", 0)
         expect_wrong(it)
         with open(it.place("etc/stores/west.conf")) as file:
             port = file.read().partition("PORT=")[2].strip()
@@ -362,6 +383,7 @@ if __name__ == "__main__":
         the_proxy_and_its_files,
         books_and_lines,
         copies_and_disks,
+        a_disk_that_other_files_fill,
         a_clock_that_was_set_back,
         a_copy_of_a_store_that_lost_its_log,
         less_than_the_copy_by_a_command,

@@ -19,8 +19,8 @@ def growth():
             one.line_to(second, "10.0.0.1", "10.0.0.3")
             first_day(one, f"{folder}/pawnd_0.0.1_amd64.deb")
             with_terms(one)
-            steps((one, second), a_second_store, a_full_store_is_divided, a_second_machine, a_division_there,
-                  an_upgrade_there, a_lost_second_machine)
+            steps((one, second), a_second_store, a_full_store_is_divided, a_second_machine, a_boot_there,
+                  a_division_there, an_upgrade_there, a_lost_second_machine)
 
 
 def a_second_store(one, second):
@@ -64,6 +64,17 @@ def a_second_machine(one, second):
     answers_again(one, target="/books/10/pledges/2", key="/root/10.key")
     second.run("pawnd-admin status; pawnd-admin remove-book 11; pawnd-admin status")
     expect("a book that left", ask(one, "/books/11/pledges/1", key="/root/11.key")[0], 404)
+    answers_again(one, target="/books/10/pledges/2", key="/root/10.key")
+
+
+def a_boot_there(one, second):
+    """The private line is up only after nginx has started. The relay answers then all the same."""
+    second.cut()
+    second.boot()
+    expect("nginx without the line", second.run("systemctl is-active nginx || true").strip(), "active")
+    # The kernel takes its time to remove the end of the line that was cut.
+    one.until("! ip link show to-second 2>/dev/null")
+    one.line_to(second, "10.0.0.1", "10.0.0.3")
     answers_again(one, target="/books/10/pledges/2", key="/root/10.key")
 
 

@@ -1,5 +1,6 @@
-"""The units of deploy/systemd: that systemd reads them, and that the program makes no call of the system that they
-bar."""
+"""The units of deploy/systemd: that systemd reads them, that the program makes no call of the system that they bar, and
+that the daily run on a receiving machine removes nothing by a wrong clock."""
+import datetime
 import os
 import re
 import shutil
@@ -125,8 +126,45 @@ def a_copy_makes_no_call_that_its_unit_bars():
         expect("it was seen at work", {"flock", "fsync"} <= made, True)
 
 
+def nothing_is_removed_by_a_clock_that_is_ahead():
+    """By the clock of the receiving machine all archives are old ones. None is removed until there is a new one."""
+    if os.geteuid() or provide({"borg": "borgbackup"}):
+        not_tried("the removal of old archives", "it needs root and borg")
+        return
+    with tempfile.TemporaryDirectory() as room:
+        repository, passphrase = os.path.join(room, "received/copies"), os.path.join(room, "passphrase")
+        os.mkdir(os.path.dirname(repository))
+        with open(passphrase, "w") as it:
+            it.write("of-the-test\n")
+        environment = {**os.environ, "FOLDER": os.path.dirname(repository), "PASSPHRASE": passphrase, "TZ": "UTC",
+                       "BORG_PASSPHRASE": "of-the-test", "BORG_BASE_DIR": os.path.join(room, "of-the-test")}
+
+        def run(*words, wanted=0):
+            ran = subprocess.run(words, capture_output=True, text=True, stdin=subprocess.DEVNULL, env=environment, timeout=300)
+            expect(f"{words}: {ran.stdout}{ran.stderr}", ran.returncode, wanted)
+            return ran.stdout + ran.stderr
+
+        def send(when):
+            name = f"main.{when:%Y%m%dT%H%M%SZ}.{when:%Y%m%dT%H%M%SZ}"
+            run("borg", "create", "--timestamp", f"{when:%Y-%m-%dT%H:%M:%S}", f"{repository}::{name}", passphrase)
+            return name
+
+        prune = os.path.join(TOP, "deploy/offsite/prune")
+        now = datetime.datetime.now(datetime.timezone.utc)
+        month = (now - datetime.timedelta(days=90)).replace(hour=4, minute=0, second=0)
+        run("borg", "init", "--encryption", "repokey-blake2", repository)
+        names = [send(month.replace(day=day)) for day in (10, 11, 12)]
+        told = run(prune, wanted=1)
+        expect(f"why: {told}", "nothing is removed" in told and "clock" in told, True)
+        expect("what is there", run("borg", "list", "--short", repository).split(), names)
+        newest = send(now)
+        run(prune)
+        expect("what is there then", run("borg", "list", "--short", repository).split(), [names[0], names[2], newest])
+
+
 main(
     the_units_are_as_systemd_reads_them,
     the_program_makes_no_call_that_its_unit_bars,
     a_copy_makes_no_call_that_its_unit_bars,
+    nothing_is_removed_by_a_clock_that_is_ahead,
 )
