@@ -563,6 +563,8 @@ def a_question_about_a_pledge_that_is_open_over_midnight_is_asked_again():
         browser.press("#taking button", "Take the pledge")
         browser.says(f"The period ends on {in_words(six_months_after(ago(0)))}", "dialog")
         the_clock_goes_on(86_400)
+        browser.says("A new day has begun since this was asked. Days and sums in it are those of "
+                     f"{in_words(ago(0))}.", "dialog")
         browser.press("dialog button", "Take it for £100.00")
         browser.says(f"The period ends on {in_words(six_months_after(ago(-1)))}", "dialog")
         browser.says("A new day has begun since you were asked.", "dialog")
