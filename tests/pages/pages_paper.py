@@ -167,6 +167,10 @@ def a_receipt_without_more():
         )
 
 
+# Lists come from the copy of the book in the page, which lacks what other tills did since.
+AS_READ = "By the book as it was read "
+
+
 def all_else_goes_on_a4():
     with Pages() as pages:
         make_book(pages, terms=False)
@@ -181,26 +185,29 @@ def all_else_goes_on_a4():
         the_book_is_read()
         never = ("Read the book again", "What you can do now", "Record the repayment", "Close the book")
         browser.says("No visit is confirmed", "#sheet")
-        is_printed("paper-today", A4, f"Today, {in_words(today())}", "No visit is confirmed", never=never)
+        is_printed(
+            "paper-today", A4, f"Today, {in_words(today())}", "No visit is confirmed", "By the sheet as it was read ",
+            never=never,
+        )
         find("1")
         browser.says("The last 12 of 30", "#statement")
         is_printed(
             "paper-statement", A4, "Article 1", "reference J1", f"owed on {in_short(today())}",
             "High Street Pawnbrokers", "£1.01", "£1.30", "Payments and drawings",
-            never=(*never, "The last 12", "owed today", "Find a pledge"),
+            never=(*never, "The last 12", "owed today", "Find a pledge", AS_READ),
         )
         browser.says("The last 12 of 30", "#statement")
         part("due")
         browser.says("Can be sold now", "#due")
         is_printed(
-            "paper-due", A4, "Can be sold now", "Article 59", "Article 120", "Ends within 7 days",
+            "paper-due", A4, "Can be sold now", "Article 59", "Article 120", "Ends within 7 days", AS_READ,
             never=(*never, "Show 31 more"),
         )
         part("till")
-        is_printed("paper-till", A4, "Sums of today", "Repaid", "£34.65", never=never[1:])
+        is_printed("paper-till", A4, "Sums of today", "Repaid", "£34.65", AS_READ, never=never[1:])
         part("all")
         browser.says("120 of 120 pledges", "#all")
-        is_printed("paper-all", A4, "Article 1 ", "Article 60", "Article 120", never=never)
+        is_printed("paper-all", A4, "Article 1 ", "Article 60", "Article 120", AS_READ, never=never)
         expect(
             "the screen has its few rows again", browser.run("return document.querySelectorAll('.row').length") < 40,
             True,
