@@ -4,31 +4,24 @@
 package main
 
 import (
-	"fmt"
 	"io"
 	"log"
 	"net/http"
+	"net/url"
 	"os"
 )
 
 func main() {
-	// The service answers one connection at a time, so each request has a connection of its own.
-	client := &http.Client{Transport: &http.Transport{DisableKeepAlives: true}}
+	address, _ := url.Parse(os.Args[1] + "/books/" + os.Args[2] + "/held") // Do reports an address that is none.
 	for _, receipt := range os.Args[3:] {
-		request, err := http.NewRequest("GET", os.Args[1]+"/books/"+os.Args[2]+"/held", nil)
-		if err != nil {
+		// The service answers one connection at a time, so each request closes its connection.
+		request := &http.Request{URL: address, Header: http.Header{"Pledge-Receipt": {receipt}}, Close: true}
+		if reply, err := http.DefaultClient.Do(request); err != nil {
 			log.Fatal(err)
-		}
-		request.Header.Set("Pledge-Receipt", receipt)
-		reply, err := client.Do(request)
-		if err != nil {
+		} else if text, err := io.ReadAll(reply.Body); err != nil { // The reply was cut.
 			log.Fatal(err)
+		} else {
+			os.Stdout.WriteString(reply.Status + "\n" + string(text))
 		}
-		text, err := io.ReadAll(reply.Body)
-		reply.Body.Close()
-		if err != nil {
-			log.Fatal(err)
-		}
-		fmt.Println(reply.StatusCode, string(text))
 	}
 }

@@ -90,6 +90,17 @@ def each_language_asks_twice_without_waiting():
             expect(f"the second request of {language} does not wait", twice - once < PATIENCE - 1, True)
 
 
+def each_example_is_short():
+    """A reader sees an example as a whole; that in Go is laid out as gofmt does it."""
+    for example, _, _ in LANGUAGES.values():
+        with open(os.path.join(FIRST, example), encoding="utf-8") as it:
+            lines = len(it.read().splitlines())
+        expect(f"{example} has at most 27 lines, and not {lines}", lines <= 27, True)
+    if has("Go"):
+        ran = subprocess.run(["gofmt", "-d", os.path.join(FIRST, "show.go")], capture_output=True, text=True, timeout=60)
+        expect("what gofmt changes", (ran.returncode, ran.stdout, ran.stderr), (0, "", ""))
+
+
 # How an example ends if its reply was cut. Perl's library makes a reply of its own from such a fault.
 AFTER_A_CUT = {
     "Go": (1, "unexpected EOF"), "Ruby": (1, "the reply was cut"), "Perl": (0, ""), "PHP": (1, "no whole reply"),
@@ -410,7 +421,7 @@ def some_clients_send_a_post_again_by_themselves():
 if not shutil.which("curl"):
     provide({"curl": "curl"})
 main(
-    each_language_asks_twice_without_waiting, a_reply_that_was_cut_is_not_shown,
+    each_example_is_short, each_language_asks_twice_without_waiting, a_reply_that_was_cut_is_not_shown,
     a_reply_that_was_cut_in_its_head_is_no_success, a_body_of_ruby_is_binary_if_it_is_not_ascii,
     some_clients_send_a_post_again_by_themselves, the_requests_for_editors_are_answered,
     each_line_of_a_statement_is_read_by_the_expression, a_story_of_the_page_is_played, the_rows_of_the_page_can_be_sold,

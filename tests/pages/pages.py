@@ -142,8 +142,8 @@ PARTS = ("today", "take", "pledge", "all", "due", "till", "terms", "files", "sho
 
 
 def is_right(name):
-    """A telephone of 390 points that is shown twice as large has room for 195."""
-    for width in (195, 320, 390, 1280):
+    """A telephone of 390 points that is shown twice as large has room for 195, and half as large again for 260."""
+    for width in (195, 260, 320, 390, 1280):
         browser.resize(width)
         expect(f"{name}: what is wrong at {width}", browser.run(WRONG), [])
     browser.resize(390)
@@ -171,12 +171,12 @@ RING = "2-00000002-0000-4000-8000-000000000000"
 
 
 def fill_with_all_sorts(pages):
-    """A book with a pledge of each sort, long names and large sums; a pawnor asks to come."""
+    """A book with a pledge of each sort, long names and large sums, and terms of six places; a pawnor asks to come."""
     fill_book(pages, book_text([
         ("Clock", "G1", 9000, ago(400), ago(2), "yes"), (*LONG_NAMES, 9000, ago(3), "", "no"),
         ("Lamp", "G5", 100000000, ago(400), ago(-30), "no"), ("Vase", "G7", 9000, ago(400), "", "no"),
         ("Watch", "G8", 5000, ago(400), "", "no"),
-    ]))
+    ], rates=(12667, 9123456, 1234567)))
     pages.session.bearer(RING, "POST", "/books/7/held/ask", {"day": str(ago(-3)), "window": 2})
     pages.session.bearer(RING, "POST", "/books/7/held/repay", {"pence": 1234, "seq": 1})
 

@@ -226,10 +226,15 @@ def the_till_tells_it():
             "Received": "£355.25",
         },
     )
-    browser.says("The drawer has £54.75 more than at the day’s beginning", "#till-lists")
+    # The book does not say which till did what, so the sums of a shop with several are those of all its drawers.
+    browser.says("Sums of todayof all tills", "#till-lists")
+    browser.says("The drawers of all tills together have £54.75 more than at the day’s beginning", "#till-lists")
+    browser.fill("#till-lists .float", amount="200")
+    browser.press("#till-lists .float button", "Keep the floats")
+    browser.says("With their floats of £200.00 they should have £254.75.", "#till-lists")
     browser.shoot("broker-till")
     browser.ask("POST", "/refresh", {})
-    browser.says("The drawer has £54.75 more", "#till-lists")
+    browser.says("The drawers of all tills together have £54.75 more", "#till-lists")
     no_faults()
 
 

@@ -472,6 +472,36 @@ def a_renewal_of_a_book_that_was_closed_says_how_far_it_came():
         no_faults()
 
 
+def no_question_is_asked_about_a_book_that_was_closed():
+    """The book is closed before the look that precedes the question has come: the act ends there, and says so."""
+    for title, button, method, end, typed in (
+        ("Extend the period", "Extend", "GET", "/pledges/1", {"until": str(ago(-300))}),
+        ("Renew", "Renew the pledge", "GET", "/pledges/1", {}),
+        ("Redeem by the paper", "Redeem", "GET", "/held", {"receipt": f"1-{secret_of(1)}", "amount": "100"}),
+    ):
+        with Pages() as pages:
+            make_book(pages, terms=False)
+            fill_book(pages, book_text([("Gold ring", "A1", 10000, ago(30), "", "no")], rates=(0, 0, 0)))
+            open_book(pages)
+            the_book_is_read()
+            find("1")
+            browser.says("Gold ring", "#statement")
+            browser.rests()
+            browser.run(SLOW_REPLY, method, end)
+            command(title, button, **typed)
+            browser.until("return window.held", "a look that is late")
+            browser.press("#close-book")
+            browser.element("#open")
+            browser.run("window.letGo()")
+            browser.until(
+                "return document.querySelector('dialog') || document.querySelector('#elsewhere').textContent",
+                f"what comes of it: {title}",
+            )
+            expect(f"no question: {title}", browser.run("return document.querySelector('dialog')"), None)
+            browser.says("Book 7, pledge 1: The book was closed before this was sent, so it was not done.", "#elsewhere")
+            no_faults()
+
+
 def a_file_has_the_name_of_its_own_book():
     with Pages() as pages:
         two_pledges(pages)
@@ -563,6 +593,8 @@ def a_question_about_a_pledge_that_is_open_over_midnight_is_asked_again():
         browser.press("#taking button", "Take the pledge")
         browser.says(f"The period ends on {in_words(six_months_after(ago(0)))}", "dialog")
         the_clock_goes_on(86_400)
+        browser.says("A new day has begun since this was asked. Days and sums in it are those of "
+                     f"{in_words(ago(0))}.", "dialog")
         browser.press("dialog button", "Take it for £100.00")
         browser.says(f"The period ends on {in_words(six_months_after(ago(-1)))}", "dialog")
         browser.says("A new day has begun since you were asked.", "dialog")
@@ -695,7 +727,8 @@ main(
         the_age_of_the_book_is_not_read_out_each_minute, a_reply_that_was_cut_in_its_head_is_a_lost_one,
         a_question_names_its_pledge_and_does_not_stay_above_another, each_question_names_its_pledge,
         an_act_of_a_book_that_was_closed_is_reported_with_its_book,
-        a_renewal_of_a_book_that_was_closed_says_how_far_it_came, a_file_has_the_name_of_its_own_book,
+        a_renewal_of_a_book_that_was_closed_says_how_far_it_came,
+        no_question_is_asked_about_a_book_that_was_closed, a_file_has_the_name_of_its_own_book,
         what_is_typed_for_one_book_is_not_left_for_another, what_was_looked_for_in_a_book_is_not_said_of_another,
         what_came_of_a_take_is_said_in_another_part,
         a_question_about_a_pledge_that_is_open_over_midnight_is_asked_again,

@@ -242,6 +242,27 @@ def receipts_as_people_write_them():
         no_faults()
 
 
+def a_cut_receipt_among_others_is_told():
+    """However short it is: nothing is shown as if it were all that was typed."""
+    with Pages() as pages:
+        make_book(pages)
+        receipt = pages.session.open_pledge(1)
+        for cut, why in (
+            ("2-12345", "There are 5 digits after the number, and a receipt has 32."),
+            (receipt[:12], "digits after the number, and a receipt has 32."),
+            (f"{pages.address}/pawn/#book=7&recei", "The link is not whole."),
+        ):
+            type_receipts(pages, f"{receipt}\n{cut}", "7")
+            browser.says(f"This is no receipt: {cut}.", "#find")
+            browser.says(why, "#find")
+            browser.says("Nothing was shown: correct it, or leave it out.", "#find")
+            expect("no card", browser.run("return document.querySelectorAll('.card.pledge').length"), 0)
+        # Words beside a receipt are no receipt, and are left out.
+        type_receipts(pages, f"My ring, of 30 November:\n{receipt}\n\n", "7")
+        browser.says("Gold ring", "#cards")
+        no_faults()
+
+
 def forty_receipts_at_once():
     with Pages() as pages:
         make_book(pages)
@@ -361,7 +382,7 @@ main(
         a_receipt_that_died_says_one_thing, what_was_redeemed_on_this_page_stays_redeemed, a_redemption_that_is_refused_is_not_asked_about, what_the_page_says_of_links, without_a_line,
         a_payment_on_a_line_that_drops, a_receipt_that_is_typed_again_takes_the_place_of_the_mistyped_one,
         a_payment_whose_reply_is_lost_for_good, a_visit_after_the_end, receipts_as_people_write_them,
-        forty_receipts_at_once, the_link_names_the_shop,
+        a_cut_receipt_among_others_is_told, forty_receipts_at_once, the_link_names_the_shop,
         a_confirmed_visit_is_given_up_after_a_question, a_pledge_that_was_shown_has_the_focus,
     ),
 )

@@ -407,6 +407,29 @@ def a_pledge_is_renewed_in_one_step():
         no_faults()
 
 
+def once_the_period_is_over_it_says_how_to_go_on():
+    """In the days of grace and after them, beside the commands that can't be done any more."""
+    with Pages() as pages:
+        make_book(pages, terms=False)
+        fill_book(pages, book_text([
+            ("Ring", "R1", 10000, ago(400), ago(2), "yes"), ("Clock", "C1", 10000, ago(400), ago(20), "no"),
+        ]))
+        open_book(pages)
+        the_book_is_read()
+        for number, badge in (("1", "Days of grace"), ("2", "Period over")):
+            find(number)
+            browser.says(badge, "#statement")
+            for title in ("Renew", "Extend the period"):
+                browser.rests()
+                unfold(title)
+                browser.says(
+                    "The period is over, so its end can’t be moved any more. If the pawnor wants to go on, redeem the "
+                    "pledge by the paper for what is owed, and take the article anew under another reference.",
+                    ".action[open]",
+                )
+        no_faults()
+
+
 main(
     360, (),
     (
@@ -418,6 +441,6 @@ main(
         a_look_before_a_command_that_fails_is_told,
         what_came_of_an_act_is_told_although_the_book_was_read_meanwhile, terms_are_put_after_a_take_that_wanted_them,
         the_key_is_forgotten, a_hold_bars_redemption_before_it_is_sent, a_pledge_is_renewed_in_one_step,
-        an_extension_whose_reply_is_lost_is_told,
+        once_the_period_is_over_it_says_how_to_go_on, an_extension_whose_reply_is_lost_is_told,
     ),
 )

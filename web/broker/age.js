@@ -10,12 +10,14 @@ export const dateOf = (time) =>
   new Date(time).toLocaleDateString("en-GB", { day: "numeric", month: "long", year: "numeric" });
 export const clockOf = (time) => new Date(time).toLocaleTimeString("en-GB", { hour: "2-digit", minute: "2-digit" });
 
-function ageInWords(readAt) {
-  const minutes = Math.floor((Date.now() - readAt) / MINUTE);
-  const clock = clockOf(readAt);
-  if (minutes === 0) return `The book was read less than a minute ago, at ${clock}.`;
-  return `The book was read ${minutes === 1 ? "a minute" : `${minutes} minutes`} ago, at ${clock}.`;
+/** How long something is past: less than a minute, a minute, 2 minutes. */
+export function minutesSince(time) {
+  const minutes = Math.floor((Date.now() - time) / MINUTE);
+  if (minutes === 0) return "less than a minute";
+  return minutes === 1 ? "a minute" : `${minutes} minutes`;
 }
+
+const ageInWords = (readAt) => `The book was read ${minutesSince(readAt)} ago, at ${clockOf(readAt)}.`;
 
 const megabytes = (bytes) => (bytes / 1e6).toFixed(1);
 

@@ -7,7 +7,7 @@ import { today } from "../shared/days.js";
 import { byId } from "../shared/dom.js";
 import { explainWaiting, onSend, tell } from "../shared/forms.js";
 import { startPage } from "../shared/start.js";
-import { clockOf, dateOf, setUpAge, showAge, waitingInWords } from "./age.js";
+import { clockOf, dateOf, minutesSince, setUpAge, showAge, waitingInWords } from "./age.js";
 import { setUpAll, showAll } from "./all.js";
 import { setUpDue, showDue } from "./due.js";
 import { clearElsewhere, setUpElsewhere } from "./elsewhere.js";
@@ -21,7 +21,7 @@ import { keepShop, refuseReceipts, setUpShop, shop, showShop } from "./shop.js";
 import { clearTaking, setUpTaking, showTaking } from "./take.js";
 import { clearTerms, redrawTerms, setUpTerms, showTerms } from "./terms.js";
 import { redrawTill, setUpTill, showTill } from "./till.js";
-import { clearToday, redrawToday, refreshToday, setUpToday, showToday } from "./today.js";
+import { clearToday, redrawToday, refreshToday, setUpToday, sheetReadAt, showToday } from "./today.js";
 
 /** What each part does when it is opened. Its argument is the text after an equals sign in the address. */
 const PARTS = {
@@ -52,11 +52,21 @@ function place() {
   return PARTS[name] ? { name, detail } : { name: "today", detail: undefined };
 }
 
+/** When what a list shows was read, for paper: it lacks what other tills and pawnors did since. */
+function copyInWords() {
+  const { name } = place();
+  if (name === "today") {
+    return sheetReadAt() === null ? "" : `By the sheet as it was read ${minutesSince(sheetReadAt())} before. `;
+  }
+  if (!LISTS.includes(name) || ledger.book === null) return "";
+  return `By the book as it was read ${minutesSince(ledger.readAt)} before. `;
+}
+
 function showWhose() {
   const { name, till } = shop();
   const whose = [`Book ${current().book}`, name, till].filter(Boolean).join(", ");
   byId("whose-book").textContent = whose;
-  byId("paper-head").textContent = `${whose}. Printed on ${dateOf(now())} at ${clockOf(now())}.`;
+  byId("paper-head").textContent = `${whose}. ${copyInWords()}Printed on ${dateOf(now())} at ${clockOf(now())}.`;
 }
 
 /** Marks the part that is shown among all, and moves the row of parts to it, if another was marked before. */

@@ -52,7 +52,7 @@ function drawing(statement, desk) {
   const left = `${inPounds(credit - owed.principal)} can still be drawn, up to the limit of ${inPounds(credit)}.`;
   return {
     title: "Drawing",
-    barred: fixed ?? (statement.status === "inside" ? null : "The period is over."),
+    barred: fixed ?? (statement.status === "inside" ? null : "The period is over, so nothing more is drawn."),
     parts: [
       lead(`Money that you pay out on a running account. ${fixed ? "" : left}`), amountField("Paid out, in pounds"),
       buttons(button("Record the drawing")),

@@ -23,6 +23,12 @@ export function checkEnd(until, shown, now) {
   if (until <= now.ends) throw new Unreadable(`The new end is to be after ${inShort(now.ends)}.`, "until");
 }
 
+/** Why the end of a pledge can’t be moved any more, and what can be done in place of it; or null in its period. */
+export const barredOf = ({ status }) => (status === "inside"
+  ? null
+  : "The period is over, so its end can’t be moved any more. If the pawnor wants to go on, redeem the pledge by the "
+    + "paper for what is owed, and take the article anew under another reference.");
+
 /** The lines of a question about a new end of a pledge. */
 export function endLines({ ends, taken, credit }, until) {
   const days = daysBetween(ends, until);
@@ -67,7 +73,7 @@ async function extend({ until }, shown, desk) {
 
 export const extension = (statement, desk) => ({
   title: "Extend the period",
-  barred: statement.status === "inside" ? null : "The period is over.",
+  barred: barredOf(statement),
   parts: [
     make("p", { className: "lead" }, `You and the pawnor agree on a later end than ${inWords(statement.ends)}. `
       + "It can’t be made earlier again, so you are asked once more."),

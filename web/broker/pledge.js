@@ -58,9 +58,10 @@ class Desk {
     return ledger.known(this.number);
   }
 
-  /** The present statement of the pledge. */
+  /** The present statement of the pledge. What comes of a book that was closed meanwhile is no reason to ask anything. */
   async read(number = this.number) {
     const statement = await statementOf(number, this.session);
+    if (this.session) this.refuseOtherBook();
     if (statement === null) throw refusalOf("NoSuchPledge");
     return statement;
   }
@@ -87,8 +88,10 @@ class Desk {
     return askHeld(receipt, "/redeem", { body: { paid }, harmless: false, begun: this.session });
   }
 
-  held(receipt) {
-    return heldBy(receipt, this.session);
+  async held(receipt) {
+    const held = await heldBy(receipt, this.session);
+    this.refuseOtherBook();
+    return held;
   }
 
   whyDead(receipt) {

@@ -10,7 +10,7 @@ import { buttons, field } from "../shared/forms.js";
 import { inPounds } from "../shared/money.js";
 import { recordEntry } from "../shared/payments.js";
 import { confirmed, NEW_DAY, NOTHING_DONE } from "../shared/questions.js";
-import { checkEnd, endLines, sendEnd } from "./extending.js";
+import { barredOf, checkEnd, endLines, sendEnd } from "./extending.js";
 
 /** The refusals of a pledge that is over; any other is out of its period. */
 const REFUSED = { passed: "Passed", redeemed: "Closed", sold: "Closed" };
@@ -108,7 +108,7 @@ async function renew({ until }, shown, desk) {
 }
 
 export function renewal(statement, desk) {
-  const { status, owed, ends } = statement;
+  const { owed, ends } = statement;
   const until = make("input", {
     type: "date", name: "until", min: ends, max: "2199-12-31", value: sixMonthsAfter(ends > today() ? ends : today()),
     required: true,
@@ -118,7 +118,7 @@ export function renewal(statement, desk) {
     : `No charges are owed today. Agree on a later end than ${inWords(ends)}.`;
   return {
     title: "Renew",
-    barred: status === "inside" ? null : "The period is over.",
+    barred: barredOf(statement),
     parts: [
       make("p", { className: "lead" }, `${lead} Then the paper is printed with its new end.`), field("New end", until),
       buttons(make("button", {}, "Renew the pledge")),

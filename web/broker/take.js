@@ -199,6 +199,7 @@ async function take(fields) {
   refuseAmount(opening);
   const again = lost && isEqual(lost.opening, opening) ? lost : null;
   await refuseWithoutTerms();
+  refuseOther(begun);
   await refuseStanding(opening.ref, again?.known);
   const asked = again ? again.asked : await agreedTo(opening);
   if (asked === null) return NOTHING_DONE;

@@ -83,13 +83,28 @@ const partsOf = (name, { sums, charges }) => [
   ["of which charges", inPounds(charges[name])], ["of which loans", inPounds(sums[name] - charges[name])],
 ];
 
-/** The float: what the drawer had when the day began. This machine keeps it, for this till and this day alone. */
+/** The float: what the drawer had when the day began, or all drawers. This machine keeps it, for this day alone. */
 const floatOf = (day) => kept("float", {})[day] ?? null;
 
 function keepFloat(day, pence) {
   const days = Object.entries({ ...kept("float", {}), [day]: pence }).sort().slice(-31);
   keep("float", Object.fromEntries(days));
 }
+
+/** What the float is of. The book does not say at which till something was done, so of several only the sum is known. */
+const FLOATS = {
+  one: {
+    label: "Float: in the drawer when the day began, in pounds", keep: "Keep the float",
+    drawer: "The drawer has", with: "With its float of", should: "it should have",
+  },
+  several: {
+    label: "Floats: in the drawers of all tills when the day began, in pounds", keep: "Keep the floats",
+    drawer: "The drawers of all tills together have", with: "With their floats of", should: "they should have",
+  },
+};
+
+/** A till has a name only in a shop that has more than one. */
+const drawers = () => FLOATS[shop().till ? "several" : "one"];
 
 const floatField = () => byId("till-lists").querySelector(".float [name=amount]");
 
@@ -99,8 +114,8 @@ function floatForm(day) {
     name: "amount", inputMode: "decimal", value: pence === null ? "" : inPounds(pence).slice(1), required: true,
   });
   const form = make("form", { className: "screen float", autocomplete: "off" },
-    field("Float: in the drawer when the day began, in pounds", amount, "Kept in this browser, for this day."),
-    buttons(make("button", { className: "plain" }, "Keep the float")));
+    field(drawers().label, amount, "Kept in this browser, for this day."),
+    buttons(make("button", { className: "plain" }, drawers().keep)));
   onSend(form, "broker", async (fields) => {
     keepFloat(day, readPounds(fields.amount));
     show(day);
@@ -109,16 +124,17 @@ function floatForm(day) {
   return form;
 }
 
-/** By how much the drawer changed, and what it should have where its float is known. */
+/** By how much the drawer changed, or all drawers together; and what should be in it where its float is known. */
 function drawerLine(till, day) {
+  const words = drawers();
   const change = till.in - till.out;
   const by = `${inPounds(Math.abs(change))} ${change < 0 ? "less" : "more"} than`;
-  const line = `The drawer has ${change === 0 ? "as much as" : by} at the day’s beginning, by the book.`;
+  const line = `${words.drawer} ${change === 0 ? "as much as" : by} at the day’s beginning, by the book.`;
   const float = floatOf(day);
   if (float === null) return line;
   const should = float + change;
   const has = should < 0 ? `${inPounds(-should)} less than nothing: count again` : inPounds(should);
-  return `${line} With its float of ${inPounds(float)} it should have ${has}.`;
+  return `${line} ${words.with} ${inPounds(float)} ${words.should} ${has}.`;
 }
 
 /** The sums in a card: what came in, what went out, and by how much the drawer changed. */
@@ -134,10 +150,9 @@ function sumsCard(till, day) {
     ["Received", inPounds(till.in)],
   ]);
   for (const row of told.children) if (row.firstChild.textContent.startsWith("of which ")) row.classList.add("part");
-  const { till: name } = shop();
   const title = make(
     "h2", {}, day === today() ? "Sums of today" : `Sums of ${inWords(day)}`,
-    name && make("span", { className: "count" }, name),
+    shop().till && make("span", { className: "count" }, "of all tills"),
   );
   const line = make("p", { className: "example" }, drawerLine(till, day));
   return make("section", { className: "card sums" }, title, told, line, floatForm(day));

@@ -119,6 +119,9 @@ const hasNews = ({ day, asked: all }) => ledger.book !== null && all.some(({ num
   return booking?.day !== day || booking.window !== window || booking.state !== "asked";
 });
 
+/** When the sheet that is shown was read, or null if none is shown. */
+export const sheetReadAt = () => (sheet === null ? null : readAt);
+
 function noteRead() {
   readAt = Date.now();
   tell(byId("sheet-old"), "");

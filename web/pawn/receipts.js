@@ -11,14 +11,18 @@ export const CUT = "That link is not whole, so it opens nothing: it should have 
 const FORM = "It is the pledge’s number, a hyphen, and 32 digits from 0 to 9 and a to f: copy it from the paper.";
 const LINK = /#\S*book=/i;
 
+/** Why a line is no whole receipt, or an empty text. A pawnor types receipts and no references. */
+const whyNot = (line) => whyNotWhole(line, { orReference: false });
+
 /** Says what is wrong where a text has no receipt at all, or a line that was meant as one is not whole. */
 function refuseOthers(text, found) {
   if (found.length === 0) throw new Unreadable(
-    LINK.test(text) ? CUT : `That is no receipt. ${whyNotWhole(text) || FORM}`, "receipts",
+    LINK.test(text) ? CUT : `That is no receipt. ${whyNot(text) || FORM}`, "receipts",
   );
-  const other = linesTyped(text).find((line) => receiptsTyped(line).length === 0 && whyNotWhole(line));
+  const other = linesTyped(text).find((line) => receiptsTyped(line).length === 0 && (LINK.test(line) || whyNot(line)));
   if (other) throw new Unreadable(
-    `This is no receipt: ${other.trim()}. ${whyNotWhole(other)} Nothing was shown: correct it, or leave it out.`,
+    `This is no receipt: ${other.trim()}. ${whyNot(other) || "The link is not whole."} `
+      + "Nothing was shown: correct it, or leave it out.",
     "receipts",
   );
 }

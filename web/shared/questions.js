@@ -1,5 +1,9 @@
 /** A question before what can't be taken back. */
+import { inWords, today } from "./days.js";
 import { foreign, make } from "./dom.js";
+
+/** How often an open question looks at the day, in milliseconds. */
+const LOOK = 1000;
 
 let asked = 0;
 
@@ -9,6 +13,18 @@ const lineOf = (line) => make("p", {}, ...(Array.isArray(line) ? line : [line]))
 /** Which pledge a question is about: another one may be shown by the time that it is asked. */
 const aboutOf = ({ number, article }) => [`Pledge ${number}: `, foreign(article)];
 
+/** A line that is empty until a new day begins: a question that is open then names days and sums of the day before. */
+function dayLine() {
+  const line = make("p", { className: "loud", role: "status" });
+  const day = today();
+  const timer = setInterval(() => {
+    if (today() === day) return;
+    clearInterval(timer);
+    line.textContent = `A new day has begun since this was asked. Days and sums in it are those of ${inWords(day)}.`;
+  }, LOOK);
+  return { line, end: () => clearInterval(timer) };
+}
+
 /**
  * Asks in a dialog, and returns whether the answer was yes. `about` is the statement of the pledge in question, if there
  * is one. Escape is no; so is going to another address, after which the question would be above something else.
@@ -17,7 +33,8 @@ export function confirmed({ title, about = null, lines, yes, no }) {
   asked += 1;
   const heading = make("h2", { id: `question-${asked}` }, title);
   const said = [about && aboutOf(about), ...lines].filter(Boolean).map(lineOf);
-  const text = make("div", { id: `question-${asked}-text` }, ...said);
+  const { line, end } = dayLine();
+  const text = make("div", { id: `question-${asked}-text` }, line, ...said);
   const dialog = make("dialog", { className: "question" }, heading, text);
   const agree = make("button", { type: "button", className: "grave" }, yes);
   const refuse = make("button", { type: "button", className: "plain", autofocus: true }, no);
@@ -33,6 +50,7 @@ export function confirmed({ title, about = null, lines, yes, no }) {
     refuse.addEventListener("click", leave);
     dialog.addEventListener("close", () => {
       removeEventListener("hashchange", leave);
+      end();
       dialog.remove();
       answer(dialog.returnValue === "yes");
     });

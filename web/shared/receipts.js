@@ -15,6 +15,8 @@ const LONGEST_LINK = 280;
 
 /** What was meant as a receipt, perhaps with too few digits, too many, or other letters. A reference is shorter. */
 const MEANT = /^[^0-9a-z]*[1-9]\d{0,8}\s*-\s*((?:[0-9a-z][\s-]*){20,})$/i;
+/** The same where no references are typed. */
+const MEANT_OR_CUT = /^[^0-9a-z]*[1-9]\d{0,8}\s*-\s*((?:[0-9a-z][\s-]*)+)$/i;
 const NO_DIGIT = /[g-z]/i;
 const DIGITS = 32;
 
@@ -33,9 +35,12 @@ export function receiptsIn(text) {
   return [...plain(text).matchAll(RECEIPT)].map(([, number, digits]) => written(number, digits));
 }
 
-/** What is wrong with a text that was meant as a receipt, as a sentence; or an empty text. */
-export function whyNotWhole(text) {
-  const [, meant] = MEANT.exec(plain(text).trim()) ?? [];
+/**
+ * What is wrong with a text that was meant as a receipt, as a sentence; or an empty text. A short text is meant as one
+ * only where no references are typed.
+ */
+export function whyNotWhole(text, { orReference = true } = {}) {
+  const [, meant] = (orReference ? MEANT : MEANT_OR_CUT).exec(plain(text).trim()) ?? [];
   if (meant === undefined) return "";
   const [letter] = NO_DIGIT.exec(meant) ?? [];
   if (letter) return `It has the letter “${letter}”, and a receipt has only the digits 0 to 9 and a to f.`;
