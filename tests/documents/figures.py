@@ -449,6 +449,14 @@ def each_limit_has_a_definition_and_a_worked_fact():
     expect("how many limits there are", count >= 30, True)
 
 
+def each_limit_is_in_the_book_of_changes():
+    """It says of each limit what another number means for stored rows."""
+    (table,) = re.findall(r"(?s)\n\| Figure \|(.*?)\n\n", read("docs/CHANGING.md"))
+    names = {it for path in glob.glob("crates/*/src/limits.rt", root_dir=TOP) for it in re.findall(r"const ([A-Z_]+): ", read(path))}
+    told = set(re.findall(r"`([A-Z]+_[A-Z_]+|PENNY)`", table))
+    expect("limits that the table of docs/CHANGING.md lacks, and names that are no limits", (sorted(names - told), sorted(told - names)), ([], []))
+
+
 def each_limit_that_is_new_has_an_edit():
     """A wrong body that moves the border of a new limit shows that the contracts depend on it."""
     for path in sorted(glob.glob("crates/*/src/limits.rt", root_dir=TOP)):
@@ -490,7 +498,7 @@ main(
     each_limit_is_one_number, each_comment_of_the_crates_has_the_same, each_limit_in_letters_is_the_same,
     each_number_above_a_limit_is_one_above_it, each_mention_of_small_credits_is_compared, each_mention_of_a_limit_is_compared,
     each_mention_of_an_unmistakable_limit_on_a_page_is_compared, each_limit_has_its_row,
-    each_limit_has_a_definition_and_a_worked_fact, each_limit_that_is_new_has_an_edit,
+    each_limit_has_a_definition_and_a_worked_fact, each_limit_is_in_the_book_of_changes, each_limit_that_is_new_has_an_edit,
     each_changed_limit_is_in_the_changelog, declarations_and_days_are_those_of_the_crates,
     numbers_are_read_as_people_write_them,
 )
