@@ -4,6 +4,7 @@ the routes that answer it, but for those named below."""
 import atexit
 import datetime
 import importlib.util
+import json
 import os
 import random
 import re
@@ -271,6 +272,18 @@ def members_that_are_ignored_are_read():
             body = compact(operation.first_body())[:-1] + f',"more":{more}}}'
             said = RUN.send(operation.name, None, body.encode(), STRANGER if operation.caller != "bearer" else None)
             expect(f"{operation.name} with {more}", said["code"] == 708, is_bad)
+
+
+def the_last_of_members_with_one_name_counts():
+    """Where the first value is refused and the last is not, the body is read, and the other way round it is refused."""
+    turn_to(None)
+    for operation in (it for it in OPERATIONS.values() if it.body_kind == "application/json"):
+        plain = operation.first_body()
+        for name in plain:
+            for first, last, is_bad in (({}, plain[name], False), (plain[name], {}, True)):
+                body = f"{{{json.dumps(name)}:{json.dumps(first)},{json.dumps({**plain, name: last})[1:]}"
+                said = RUN.send(operation.name, None, body.encode(), STRANGER if operation.caller != "bearer" else None)
+                expect(f"{operation.name} with {body}", said["code"] == 708, is_bad)
 
 
 def texts_that_an_import_takes():
@@ -607,6 +620,6 @@ main(
     its_refusals_and_routes_are_those_of_the_rules,
     its_refusals_are_those_of_the_pages, the_page_has_each_reply_of_the_proxy, each_operation_stands_once_among_the_retries,
     its_story_is_what_the_program_answers, bodies_are_refused_where_the_description_refuses_them,
-    members_that_are_ignored_are_read, texts_that_an_import_takes, heads_are_refused, each_refusal_is_met,
+    members_that_are_ignored_are_read, the_last_of_members_with_one_name_counts, texts_that_an_import_takes, heads_are_refused, each_refusal_is_met,
     two_thousand_requests_at_random, each_pair_and_each_example_was_seen,
 )

@@ -1,6 +1,6 @@
 """Each limit of the rules is one number, in the crate where it is defined. The rules, the description with the inputs that it is
 made of, and the labels and messages of the pages have the same number: a figure that is changed in one place only is found
-here. Of the figure of small credits every mention is compared, so that no new one can be forgotten."""
+here. Each mention of a limit is compared, or is known to be the number of something else, so that no new mention can be forgotten."""
 import glob
 import os
 import re
@@ -9,7 +9,7 @@ from tests.library.checks import Failed, expect, main
 from tests.library.described import DESCRIPTION
 from tests.library.paths import TOP
 
-RULES = "docs/RULES.md"
+RULES, PROVED = "docs/RULES.md", "docs/PROVED.md"
 SCHEMAS = DESCRIPTION["components"]["schemas"]
 PARAMETERS = DESCRIPTION["components"]["parameters"]
 
@@ -56,7 +56,8 @@ SAID = {
     ),
     ("pawn_debt", "MOST_ENTRIES"): (
         [(RULES, rf"206 EntriesFull \(there are {NUMBER}\)"), ("web/shared/refusals.js", f"pledge has {NUMBER} entries"),
-         ("docs/CLIENTS.md", f"pledge has {NUMBER} entries")],
+         ("docs/CLIENTS.md", f"pledge has {NUMBER} entries"), ("docs/DEPLOYING.md", f"a pledge with {NUMBER} entries \\d+ times"),
+         (PROVED, f"show a pledge with {NUMBER} entries")],
         [],
     ),
     ("pawn_pledge", "MOST_NUMBER"): (
@@ -105,7 +106,7 @@ SAID = {
     ),
     ("pawn_book", "MOST_RECEIPTS"): (
         [(RULES, f"a bearer with 1 to {NUMBER} receipts"), (RULES, f"711 TooManyReceipts: above {NUMBER},"),
-         ("docs/CLIENTS.md", f"Send {NUMBER} receipts at most")],
+         ("docs/CLIENTS.md", f"Send {NUMBER} receipts at most"), ("docs/DEPLOYING.md", f"a pledge with [\\d,]+ entries {NUMBER} times")],
         [DESCRIPTION["paths"]["/books/{book}/held"]["get"]["x-receipts"]["most"]],
     ),
     ("pawn_book", "MOST_TERMS"): (
@@ -121,9 +122,12 @@ SAID = {
          SCHEMAS["Imported"]["properties"]["imported"]["maximum"]],
     ),
     ("pawn_host", "MOST_REQUESTS"): (
-        [(RULES, rf"\*\*Limit\*\* after {NUMBER} requests"), ("docs/CLIENTS.md", rf"after its {NUMBER}th reply")],
+        [(RULES, rf"\*\*Limit\*\* after {NUMBER} requests"), ("docs/CLIENTS.md", rf"after its {NUMBER}th reply"),
+         ("docs/PROMISES.md", f"stream, answers at most {NUMBER} requests"), (PROVED, f"send {NUMBER} requests in one stream"),
+         (PROVED, f"up to {NUMBER} stamps")],
         [DESCRIPTION["x-limits"]["requests-of-a-connection"]],
     ),
+    ("pawn_host", "MOST_READS"): ([("docs/PROMISES.md", f"makes at most {NUMBER} reads")], []),
     ("pawn_wire", "MOST_HEAD"): (
         [(RULES, f"no end within {NUMBER} bytes"), ("docs/CLIENTS.md", f"fields and {NUMBER} bytes"),
          ("docs/DEPLOYING.md", rf"a request's head \| {NUMBER} bytes")],
@@ -138,6 +142,9 @@ SAID = {
          ("docs/DEPLOYING.md", rf"a request's body \| {NUMBER} bytes")],
         [DESCRIPTION["x-limits"]["body-bytes"], SCHEMAS["RowsHandedIn"]["x-max-bytes"]],
     ),
+    ("pawn_wire", "MOST_DIGITS"): (
+        [(path, f"value (?:that )?is not 1 to {NUMBER} digits") for path in (RULES, "docs/CLIENTS.md")], [],
+    ),
     ("pawn_wire", "MOST_NUMERAL"): ([(RULES, f"a whole number from 0 to {NUMBER} without")], [SCHEMAS["Pence"]["maximum"]]),
 }
 # The same in the words of the description, which tools/describe makes of its inputs in tools/description.
@@ -147,40 +154,77 @@ IN_WORDS = {
     ("pawn_terms", "MOST_KEEP"): [f"safe keeping is above {NUMBER} millionths"],
     ("pawn_debt", "MOST_PENCE"): [f"or for a sale from nothing, to {NUMBER} pence", f"{NUMBER} pence are a million pounds"],
     ("pawn_debt", "MOST_ENTRIES"): [f"pledge has {NUMBER} entries", rf"A pledge has at most {NUMBER} \(206\)"],
+    ("pawn_pledge", "MOST_REFERENCE_BYTES"): [f"is known by it\\. At least one byte and at most {NUMBER} bytes"],
+    ("pawn_pledge", "MOST_ARTICLE_BYTES"): [f"pledged, in words\\. At least one byte and at most {NUMBER} bytes"],
     ("pawn_pledge", "SMALL_CREDIT"): [f"for a credit of at most {NUMBER} pence"],
     ("pawn_pledge", "MOST_EXTENSIONS"): [f"pledge has {NUMBER} extensions"],
     ("pawn_pledge", "LAST_WINDOW"): [f"The window is above {NUMBER}\\.", f"in which to come, from 0 to {NUMBER}\\."],
+    ("pawn_book", "MOST_NAME_BYTES"): [f"name of the shop\\. At least one byte and at most {NUMBER} bytes"],
+    ("pawn_book", "MOST_RECEIPTS"): [f"for `showHeld`, which takes up to {NUMBER}\\.", f"Send {NUMBER} receipts at most"],
     ("pawn_book", "MOST_TERMS"): [f"book has {NUMBER} versions of terms", rf"at most {NUMBER} \(411\)"],
     ("pawn_book", "MOST_PLEDGES"): [f"book has {NUMBER} pledges"],
     ("pawn_host", "MOST_REQUESTS"): [f"after its {NUMBER}th request"],
     ("pawn_wire", "MOST_HEAD"): [f"or more than {NUMBER} bytes", f"fields and {NUMBER} bytes"],
     ("pawn_wire", "MOST_FIELDS"): [f"more than {NUMBER} fields", f"at most {NUMBER} fields"],
+    ("pawn_wire", "MOST_DIGITS"): [f"its value is not 1 to {NUMBER} digits"],
     ("pawn_wire", "MOST_BODY"): [f"body is above {NUMBER} bytes", f"A body above {NUMBER} bytes"],
 }
-# The same in the comments of the crates, each of which is found at least once.
+# The same in the comments of the crates' code and definitions, each of which is found at least once.
 IN_COMMENTS = {
-    ("pawn_terms", "MOST_RATE"): [f"rate of interest above {NUMBER} millionths", f"The rate is at most {NUMBER} millionths"],
+    ("pawn_terms", "MOST_RATE"): [f"rate of interest above {NUMBER} millionths", f"The rate is at most {NUMBER} millionths",
+                                  f"interest of {NUMBER} millionths on the largest principal"],
     ("pawn_terms", "MOST_KEEP"): [f"safe keeping above {NUMBER} millionths", f"keeping is at most {NUMBER} millionths"],
     ("pawn_debt", "MOST_PENCE"): [f"sum of 0, or above {NUMBER} pence"],
     ("pawn_debt", "MOST_ENTRIES"): [f"debt has {NUMBER} entries"],
-    ("pawn_pledge", "MOST_NUMBER"): [f"a book or of a pledge, from 1 to {NUMBER}", f"The number, if it is from 1 to {NUMBER}"],
+    ("pawn_pledge", "MOST_NUMBER"): [
+        f"a book or of a pledge, from 1 to {NUMBER}", f"The number, if it is from 1 to {NUMBER}", f"zero, if it is from 1 to {NUMBER}",
+        f"that a text writes, from 1 to {NUMBER}", f"a number is from 1 to {NUMBER}",
+    ],
     ("pawn_pledge", "MOST_REFERENCE_BYTES"): [f"reference for a pledge, in 1 to {NUMBER} bytes"],
     ("pawn_pledge", "MOST_ARTICLE_BYTES"): [f"description of the article, in 1 to {NUMBER} bytes"],
     ("pawn_pledge", "MOST_SECRETS"): [f"pledge has {NUMBER} secrets"],
     ("pawn_pledge", "MOST_EXTENSIONS"): [f"pledge has {NUMBER} extensions"],
-    ("pawn_pledge", "LAST_WINDOW"): [f"window of that day, 0 to {NUMBER}", f"A window above {NUMBER}", f"a window, 0 to {NUMBER}"],
+    ("pawn_pledge", "LAST_WINDOW"): [f"window of that day, 0 to {NUMBER}", f"A window above {NUMBER}", f"a window, 0 to {NUMBER}",
+                                     f"window of 0 to {NUMBER} that", f"the window of its booking, 0 to {NUMBER}"],
     ("pawn_book", "MOST_BOOKINGS"): [
         f"window of a day: 1 to {NUMBER}", f"of bookings, or `None` if the number is not 1 to {NUMBER}",
     ],
     ("pawn_book", "MOST_NAME_BYTES"): [f"A book's name: 1 to {NUMBER} bytes"],
     ("pawn_book", "MOST_RECEIPTS"): [
         f"presents, in order: 1 to {NUMBER} of them", f"if their number is not 1 to {NUMBER}", f"the 1 to {NUMBER} receipts",
+        f"presented at once: 1 to {NUMBER}", f"(?m)^1 to {NUMBER} receipts", f"one receipt, or 1 to {NUMBER};",
     ],
+    ("pawn_book", "MOST_ROWS"): [f"(?:rows|it may have|store may hold), 1 to {NUMBER}", f"The limit is at most {NUMBER}"],
     ("pawn_book", "MOST_TERMS"): [f"book has {NUMBER} versions of terms"],
     ("pawn_book", "MOST_PLEDGES"): [f"book has {NUMBER} pledges"],
-    ("pawn_host", "MOST_REQUESTS"): [f"or after {NUMBER} requests", f"acted on, at most {NUMBER}", f"At most {NUMBER} requests"],
-    ("pawn_wire", "MOST_HEAD"): [f"within the first {NUMBER} bytes"],
+    ("pawn_host", "MOST_REQUESTS"): [
+        f"or after {NUMBER} requests", f"acted on, at most {NUMBER}", f"[Aa]t most {NUMBER} requests", f"{NUMBER} requests were answered",
+        f"of the stream\\. There are at most {NUMBER}", f"one session: at most {NUMBER}", f"up to {NUMBER} stamps",
+        f"the settings: up to {NUMBER} of", f"a command line: up to {NUMBER}",
+    ],
+    ("pawn_host", "MOST_READS"): [
+        f"were made, at most {NUMBER}", f"fewer than {NUMBER} reads", f"All of the {NUMBER} reads", f"At most {NUMBER} reads",
+    ],
+    ("pawn_wire", "MOST_HEAD"): [f"within the first {NUMBER} bytes", f"or {NUMBER} bytes have arrived"],
     ("pawn_wire", "MOST_FIELDS"): [f"at most {NUMBER} fields"],
+    ("pawn_wire", "MOST_BODY"): [f"up to {NUMBER} bytes"],
+    ("pawn_wire", "MOST_DIGITS"): [r"1 to (\d\d) digits"],
+}
+# By path, or for the comments of the crates, what else is a number that is that of a limit.
+COMMENTS = "the comments of the crates"
+OTHERS = {
+    COMMENTS: r"\b32[ -]bits?\b|2\^32|32 pledges|of 32 of them|64 hexadecimal digits|64 bytes|15 columns"
+              r"|the first page has 64|after place 64|limit of 1,000 rows",
+    RULES: r"32 hexadecimal digits|101 BadDay|\(64 hexadecimal digits|At most 64 bytes of that file|answers up to 1,000,000 connections"
+           r"|\"(?:pence|shortfall)\":1000",
+    "docs/CLIENTS.md": r"32 hexadecimal digits|64 random hexadecimal digits",
+    PROVED: r"the same of 1,000,000 connections",
+    "docs/openapi.json": r"\{32\}|32 hexadecimal digits|64 hexadecimal digits|rows of 15 columns|of columns than 15|-02-15|int(?:32|64)",
+}
+# Numbers that the rules name because they are one above a limit.
+ONE_ABOVE = {
+    ("pawn_pledge", "LAST_WINDOW"): [(RULES, f"for a window of {NUMBER} this is 313")],
+    ("pawn_book", "MOST_BOOKINGS"): [(RULES, f"as for a capacity of {NUMBER}, the refusal is 708")],
 }
 # Limits that the rules say otherwise than the constant: one of the secrets is the opening's, and days are dates.
 DECLARATIONS = [
@@ -222,8 +266,8 @@ OF_RELEASE = {
     "MOST_RATE": 20_000, "MOST_KEEP": 10_000_000, "MOST_PENCE": 100_000_000, "MOST_ENTRIES": 9_999, "MOST_NUMBER": 999_999_999,
     "MOST_REFERENCE_BYTES": 40, "MOST_ARTICLE_BYTES": 80, "SMALL_CREDIT": 7_500, "GRACE_DAYS": 5, "MOST_SECRETS": 101,
     "MOST_EXTENSIONS": 99, "LAST_WINDOW": 15, "MOST_BOOKINGS": 1_000, "MOST_NAME_BYTES": 60, "MOST_RECEIPTS": 32,
-    "MOST_TERMS": 99, "MOST_PLEDGES": 1_000_000, "MOST_REQUESTS": 1_000, "MOST_HEAD": 8_192, "MOST_FIELDS": 64,
-    "MOST_BODY": 1_048_576, "MOST_NUMERAL": 999_999_999_999,
+    "MOST_TERMS": 99, "MOST_PLEDGES": 1_000_000, "MOST_REQUESTS": 1_000, "MOST_READS": 100_000, "MOST_HEAD": 8_192,
+    "MOST_FIELDS": 64, "MOST_BODY": 1_048_576, "MOST_DIGITS": 19, "MOST_NUMERAL": 999_999_999_999,
 }
 
 
@@ -251,11 +295,12 @@ def each_limit_is_one_number():
 
 
 def comments_of_the_crates():
-    """The comments of the crates' code, each as one line."""
+    """The comments of the crates' code and definitions, each as one line."""
     found = []
-    for path in sorted(glob.glob("crates/*/src/**/*.rt", root_dir=TOP, recursive=True)):
-        if "_tests/" not in path:
-            found += re.findall(r"(?m)^ *//[/!]? (.*)$|^(.*)$", read(path))
+    for pattern, begin in (("crates/*/src/**/*.rt", "//[/!]?"), ("crates/*/specs/**/*.antt", "--")):
+        for path in sorted(glob.glob(pattern, root_dir=TOP, recursive=True)):
+            if "_tests/" not in path:
+                found += re.findall(rf"(?m)^ *{begin} (.*)$|^(.*)$", read(path))
     return re.sub(r"\n\n+", "\n", re.sub(r"(?<=.)\n(?=.)", " ", "\n".join(comment for comment, _ in found)))
 
 
@@ -267,6 +312,13 @@ def each_comment_of_the_crates_has_the_same():
             expect(f"that a comment of the crates says {pattern!r}", bool(told), True)
             for it in told:
                 expect(f"{name} of {crate} in a comment, at {pattern!r}", number(it.rstrip(",")), constant(crate, name))
+
+
+def each_number_above_a_limit_is_one_above_it():
+    for (crate, name), places in ONE_ABOVE.items():
+        for path, pattern in places:
+            for it in found(path, pattern):
+                expect(f"what {path} names as above {name} of {crate}", number(it.rstrip(",")), constant(crate, name) + 1)
 
 
 def each_limit_in_letters_is_the_same():
@@ -315,39 +367,104 @@ def each_mention_of_small_credits_is_compared():
             expect(f"that {path} says the figure of small credits where this script compares it: {around!r}", inside, True)
 
 
-# Limits whose number means nothing else where people read it, with the documents and pages in which each mention is compared.
-UNMISTAKABLE = (
-    ("pawn_terms", "MOST_KEEP"), ("pawn_debt", "MOST_PENCE"), ("pawn_debt", "MOST_ENTRIES"), ("pawn_pledge", "MOST_NUMBER"),
-    ("pawn_wire", "MOST_HEAD"), ("pawn_wire", "MOST_BODY"), ("pawn_wire", "MOST_NUMERAL"),
-)
-SHOWN = (RULES, "docs/CLIENTS.md", "docs/GLOSSARY.md", API, "web/*/*.js", "web/*/*.html", "web/*.html")
+# Where each mention of a limit is compared, or is known to be another number; and what stands around both.
+READ_WHOLE = (RULES, "docs/CLIENTS.md", "docs/GLOSSARY.md", "docs/PROMISES.md", PROVED, API)
 
 
-def each_mention_of_an_unmistakable_limit_is_compared():
-    """In sentences and in code; a member of the description that is a number is compared by tests/documents/description.py,
-    which sends the number after it."""
-    for crate, name in UNMISTAKABLE:
-        for path in sorted({it for form in SHOWN for it in glob.glob(form, root_dir=TOP)}):
-            text = read(path)
-            patterns = [it for where, it in SAID[crate, name][0] if where == path]
-            patterns += IN_WORDS.get((crate, name), []) if path == API else []
-            compared = [it.span() for pattern in patterns for it in re.finditer(pattern, text)]
-            for it in re.finditer(forms_of(constant(crate, name)), text):
+def compared_in(path, text):
+    """Where this script compares a number of a text, or knows that it is no limit. A span for each."""
+    patterns = [it for places, _ in SAID.values() for where, it in places if where == path]
+    patterns += [it for places in ONE_ABOVE.values() for where, it in places if where == path]
+    patterns += [it for where, it in DECLARATIONS if where == path]
+    patterns += [it for of in {API: IN_WORDS, COMMENTS: IN_COMMENTS}.get(path, {}).values() for it in of]
+    patterns += [OTHERS[path]] if path in OTHERS else []
+    return [it.span() for pattern in patterns for it in re.finditer(pattern, text)]
+
+
+def each_mention_of_a_limit_is_compared():
+    """A mention that is in no table would keep the old number when the constant changes. A number below ten is read in too many
+    senses. In the description a member that is a number is compared by tests/documents/description.py, which sends the number
+    after it."""
+    limits = {}
+    for crate, name in {**SAID, **IN_COMMENTS}:
+        limits.setdefault(constant(crate, name), []).append(name)
+    for path in (*READ_WHOLE, COMMENTS):
+        text = comments_of_the_crates() if path == COMMENTS else read(path)
+        compared, missing = compared_in(path, text), []
+        for limit, names in limits.items():
+            for it in re.finditer(forms_of(limit), text) if limit >= 10 else ():
                 begin, end = it.span()
                 inside = any(first <= begin and end <= last for first, last in compared)
                 member = path == API and re.search(r'": $', text[:begin])
-                around = text[max(0, begin - 40):end + 20]
-                where = f"{path} says {name} of {crate} where this script compares it: {around!r}"
-                expect(f"that {where}", bool(inside or member), True)
+                part_of_a_word = re.match(r"\w", text[begin - 1:begin]) or re.match(r"\w", text[end:end + 1])
+                if not (inside or member or part_of_a_word):
+                    missing.append((names, text[max(0, begin - 40):end + 20]))
+        expect(f"mentions of limits in {path} that are in no table of this script", missing, [])
+
+
+# Limits whose number means nothing else in the scripts of the pages, where each mention is compared, and all others.
+UNMISTAKABLE = {"MOST_KEEP", "MOST_PENCE", "MOST_ENTRIES", "MOST_NUMBER", "SMALL_CREDIT", "MOST_HEAD", "MOST_BODY", "MOST_NUMERAL"}
+MISTAKABLE = {
+    "MOST_RATE", "MOST_REFERENCE_BYTES", "MOST_ARTICLE_BYTES", "MOST_EXTENSIONS", "LAST_WINDOW", "MOST_BOOKINGS", "MOST_NAME_BYTES",
+    "MOST_RECEIPTS", "MOST_TERMS", "MOST_PLEDGES", "MOST_REQUESTS", "MOST_READS", "MOST_FIELDS", "MOST_DIGITS",
+}
+PAGES = ("web/*/*.js", "web/*/*.html", "web/*.html")
+
+
+def each_mention_of_an_unmistakable_limit_on_a_page_is_compared():
+    names = {name for _, name in SAID}
+    expect("limits that are in neither set, or in both", sorted(names ^ UNMISTAKABLE ^ MISTAKABLE), [])
+    for path in sorted({it for form in PAGES for it in glob.glob(form, root_dir=TOP)}):
+        text = read(path)
+        compared = compared_in(path, text)
+        for crate, name in (it for it in SAID if it[1] in UNMISTAKABLE):
+            for it in re.finditer(forms_of(constant(crate, name)), text):
+                inside = any(first <= it.start() and it.end() <= last for first, last in compared)
+                around = text[max(0, it.start() - 40):it.end() + 20]
+                expect(f"that {path} says {name} of {crate} where this script compares it: {around!r}", inside, True)
 
 
 def each_limit_has_its_row():
     """No limit of these crates is left out, but for those that no request meets."""
-    unmet = {"FIRST_DAY", "LAST_STAMP_DAY", "FINAL_DAY", "PENNY", "MOST_MILLIONTHS", "MOST_SECRETS", "GRACE_DAYS", "MOST_ROWS",
-             "MOST_READS", "MOST_DIGITS"}
+    unmet = {"FIRST_DAY", "LAST_STAMP_DAY", "FINAL_DAY", "PENNY", "MOST_MILLIONTHS", "MOST_SECRETS", "GRACE_DAYS", "MOST_ROWS"}
     for crate in sorted({crate for crate, _ in SAID}):
         names = set(re.findall(r"const ([A-Z_]+):", read(f"crates/{crate}/src/limits.rt")))
         expect(f"limits of {crate} without a row", names - unmet - {name for it, name in SAID if it == crate}, set())
+
+
+def each_limit_has_a_definition_and_a_worked_fact():
+    """The proof compares a constant and a definition only if some clause mentions both."""
+    count = 0
+    for path in sorted(glob.glob("crates/*/src/limits.rt", root_dir=TOP)):
+        folder = os.path.join(os.path.dirname(os.path.dirname(path)), "specs")
+        worked = "".join(read(it) for it in sorted(glob.glob(f"{folder}/Worked*.antt", root_dir=TOP)))
+        defined = read(f"{folder}/Limits.antt")
+        for name, value in re.findall(r"const ([A-Z_]+): \w+ = ([\d_]+);", read(path)):
+            low = name.lower()
+            is_constant = bool(re.search(rf"(?m)^{low} = {name}$", defined))
+            facts = {it for it in (low, name) if re.search(rf"\({it} ≡ {int(value.replace('_', ''))}\)", worked)}
+            expect(f"that {folder}/Limits.antt defines {low}", bool(re.search(rf"(?m)^{low} = ", defined)), True)
+            expect(f"facts on {name} in {folder}/Worked*.antt", facts, {low} if is_constant else {low, name})
+            count += 1
+    expect("how many limits there are", count >= 30, True)
+
+
+def each_limit_is_in_the_book_of_changes():
+    """It says of each limit what another number means for stored rows."""
+    (table,) = re.findall(r"(?s)\n\| Figure \|(.*?)\n\n", read("docs/CHANGING.md"))
+    names = {it for path in glob.glob("crates/*/src/limits.rt", root_dir=TOP) for it in re.findall(r"const ([A-Z_]+): ", read(path))}
+    told = set(re.findall(r"`([A-Z]+_[A-Z_]+|PENNY)`", table))
+    expect("limits that the table of docs/CHANGING.md lacks, and names that are no limits", (sorted(names - told), sorted(told - names)), ([], []))
+
+
+def each_limit_that_is_new_has_an_edit():
+    """A wrong body that moves the border of a new limit shows that the contracts depend on it."""
+    for path in sorted(glob.glob("crates/*/src/limits.rt", root_dir=TOP)):
+        crate = path.split("/")[1]
+        edits = "".join(read(it) for it in glob.glob(f"crates/{crate}/must-fail/*.edit", root_dir=TOP))
+        for name in re.findall(r"const ([A-Z_]+): ", read(path)):
+            is_older = name in OF_RELEASE or name in ("FIRST_DAY", "LAST_STAMP_DAY", "FINAL_DAY", "PENNY", "MOST_MILLIONTHS", "MOST_ROWS")
+            expect(f"that an edit of crates/{crate}/must-fail changes {name}", is_older or name in edits, True)
 
 
 def each_changed_limit_is_in_the_changelog():
@@ -379,7 +496,9 @@ def numbers_are_read_as_people_write_them():
 
 main(
     each_limit_is_one_number, each_comment_of_the_crates_has_the_same, each_limit_in_letters_is_the_same,
-    each_mention_of_small_credits_is_compared, each_mention_of_an_unmistakable_limit_is_compared, each_limit_has_its_row,
+    each_number_above_a_limit_is_one_above_it, each_mention_of_small_credits_is_compared, each_mention_of_a_limit_is_compared,
+    each_mention_of_an_unmistakable_limit_on_a_page_is_compared, each_limit_has_its_row,
+    each_limit_has_a_definition_and_a_worked_fact, each_limit_is_in_the_book_of_changes, each_limit_that_is_new_has_an_edit,
     each_changed_limit_is_in_the_changelog, declarations_and_days_are_those_of_the_crates,
     numbers_are_read_as_people_write_them,
 )

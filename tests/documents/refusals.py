@@ -177,6 +177,26 @@ def each_list_of_the_definitions_is_in_the_order_of_the_rules():
     expect("how many there are", count > 5, True)
 
 
+def each_refusal_of_a_pledge_has_a_worked_example():
+    """A refusal of terms, of a debt or of a pledge, in an example of a crate that can answer it."""
+    crates = {code: name for code, (name,) in of_the_crates().items() if code < 400}
+    worked = "".join(
+        re.sub(r"(?m)^use .*$", "", read(path))
+        for crate in ("terms", "debt", "pledge") for path in glob.glob(f"crates/pawn_{crate}/specs/Worked*.antt", root_dir=TOP)
+    )
+    missing = [(code, name) for code, name in crates.items() if not re.search(rf"\b{name}\b", worked)]
+    expect("refusals that no worked example meets", (missing, len(crates) > 20), ([], True))
+
+
+def each_refusal_that_is_new_has_an_edit():
+    """A must-fail edit names it, in its text or in the name of its file."""
+    edits = {path: read(path) for path in glob.glob("crates/*/must-fail/*.edit", root_dir=TOP)}
+    for code, (name,) in of_the_crates().items():
+        words = re.sub(r"(?<!^)(?=[A-Z])", "_", name).lower()
+        named = any(name in text or words in os.path.basename(path) for path, text in edits.items())
+        expect(f"that a must-fail edit names {code} {name}, or {words}", named or code in OF_RELEASE or code in OF_THE_LIBRARY, True)
+
+
 def codes_of(words):
     """The codes that words name: 102 to 104, 201 and 701 to 712, except 706."""
     named, _, left_out = words.partition("except")
@@ -335,7 +355,8 @@ def these_checks_can_fail():
 
 main(
     each_refusal_is_in_every_list, each_operation_has_the_refusals_of_the_rules_in_order,
-    each_list_of_the_definitions_is_in_the_order_of_the_rules, each_status_is_that_of_the_rules,
+    each_list_of_the_definitions_is_in_the_order_of_the_rules,
+    each_refusal_of_a_pledge_has_a_worked_example, each_refusal_that_is_new_has_an_edit, each_status_is_that_of_the_rules,
     each_refusal_has_the_members_of_the_rules, the_forms_of_a_key_are_those_of_the_rules, each_new_refusal_is_in_the_changelog,
     each_refusal_has_a_field_of_a_form_or_none_on_purpose,
     the_generator_names_what_is_missing, these_checks_can_fail,
