@@ -460,7 +460,8 @@ def each_limit_has_a_definition_and_a_worked_fact():
             low = name.lower()
             is_constant = bool(re.search(rf"(?m)^{low} = {name}$", defined))
             facts = {it for it in (low, name) if re.search(rf"\({it} ≡ {int(value.replace('_', ''))}\)", worked)}
-            expect(f"that {folder}/Limits.antt defines {low}", bool(re.search(rf"(?m)^{low} = ", defined)), True)
+            numbers = [it.replace("_", "") for it in re.findall(rf"(?m)^{low} = (\w+)$", defined)]
+            expect(f"{low} in {folder}/Limits.antt", numbers, [name.replace("_", "") if is_constant else value.replace("_", "")])
             expect(f"facts on {name} in {folder}/Worked*.antt", facts, {low} if is_constant else {low, name})
             count += 1
     expect("how many limits there are", count >= 30, True)
