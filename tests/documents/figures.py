@@ -220,6 +220,7 @@ OTHERS = {
            r"|\"(?:pence|shortfall)\":1000",
     "docs/CLIENTS.md": r"32 hexadecimal digits|64 random hexadecimal digits",
     PROVED: r"the same of 1,000,000 connections",
+    "web/shared/refusals.js": r"A key is 32 digits",
     "docs/openapi.json": r"\{32\}|32 hexadecimal digits|64 hexadecimal digits|rows of 15 columns|of columns than 15|-02-15|int(?:32|64)",
 }
 # Numbers that the rules name because they are one above a limit.
@@ -369,7 +370,7 @@ def each_mention_of_small_credits_is_compared():
 
 
 # Where each mention of a limit is compared, or is known to be another number; and what stands around both.
-READ_WHOLE = (RULES, "docs/CLIENTS.md", "docs/GLOSSARY.md", "docs/PROMISES.md", PROVED, API)
+READ_WHOLE = (RULES, "docs/CLIENTS.md", "docs/GLOSSARY.md", "docs/PROMISES.md", PROVED, API, "web/shared/refusals.js")
 
 
 def compared_in(path, text):
