@@ -11,8 +11,11 @@ from tests.library.keys import BROKER, OPERATOR, SEED
 from tests.library.paths import PROGRAM
 from tests.library.program import check
 from tests.library.requests import request
+from tests.library.sums import LARGE
 
 IMPORT = "44444444-4444-4444-4444-444444444444"
+# The largest credit that is small, in pence. A written statement is enough for it, and its article passes to the broker.
+SMALL_CREDIT = 7_500
 TERMS = [(0, 0, 0), (0, 1, 1), (20_000, 10_000_000, 10_000_000)]
 
 
@@ -23,9 +26,9 @@ def day(text):
 
 
 def pledge(number, **own):
-    """A pledge of 100 pounds, taken on 1 February under version 2, to which nothing happened but this."""
+    """A pledge for a large credit, taken on 1 February under version 2, to which nothing happened but this."""
     plain = {
-        "number": number, "ref": f"A{number}", "kind": "fixed", "sum": 10_000, "five": "no", "version": 2, "held": "no",
+        "number": number, "ref": f"A{number}", "kind": "fixed", "sum": LARGE, "five": "no", "version": 2, "held": "no",
         "last": "2-1", "closed": "open", "closed_on": "", "amount": "", "secrets": [("2-1", "opening", 1)],
         "entries": [], "extensions": [], "booking": None,
     }
@@ -34,7 +37,7 @@ def pledge(number, **own):
 
 def book():
     """Pledge 1 with three secrets, two repayments, a longer period and a confirmed booking; pledge 2, a running
-    account of 75 pounds that was redeemed on the last day with 25 that were owing; pledge 3, sold on the day after
+    account for the largest small credit that was redeemed on the last day with 25 that were owing; pledge 3, sold on the day after
     its period for a million."""
     return {
         1: pledge(
@@ -43,7 +46,7 @@ def book():
             booking=("8-10", 3, "confirmed"), last="8-5",
         ),
         2: pledge(
-            2, version=1, kind="running", sum=7500, secrets=[("2-1", "opening", 1), ("3-1", "written", 2)],
+            2, version=1, kind="running", sum=SMALL_CREDIT, secrets=[("2-1", "opening", 1), ("3-1", "written", 2)],
             entries=[(1, "2-1", "draw", 2000), (2, "4-1", "draw", 500)], booking=("8-1", 15, "cancelled"),
             **redeemed("8-1", 2500),
         ),
@@ -132,7 +135,7 @@ def booking(*it):
 
 
 GRACE = {"five": "yes"}
-RUNNING = {"kind": "running", "sum": 10_000}
+RUNNING = {"kind": "running", "sum": LARGE}
 
 # What is bent: the pledge, how it is bent first, the last form that requests can produce, and one that they can't.
 BORDERS = [
@@ -141,7 +144,7 @@ BORDERS = [
     ("a version below that of the pledge before", 1, [], {"version": 1}, {"version": 2}),
     ("the largest sum", 3, [], {"sum": 100_000_000}, {"sum": 100_000_001}),
     ("the smallest sum", 3, [still_open("2-1")], {"sum": 1}, {"sum": 0}),
-    ("a written statement on a small credit", 2, [], {"sum": 7500}, {"sum": 7501}),
+    ("a written statement on a small credit", 2, [], {"sum": SMALL_CREDIT}, {"sum": SMALL_CREDIT + 1}),
     ("the first secret is the opening's", 1, [], secret(0, "2-1", "opening", 1), secret(0, "2-1", "sworn", 1)),
     ("the first secret of the day taken", 1, [], secret(0, "2-1", "opening", 1), secret(0, "2-2", "opening", 1)),
     ("one opening", 1, [], secret(2, "3-1", "sworn", 3), secret(2, "3-1", "opening", 3)),
@@ -150,13 +153,16 @@ BORDERS = [
     ("no secret after the last change", 1, [], secret(2, "8-5", "sworn", 3), secret(2, "8-6", "sworn", 3)),
     ("no drawing on a fixed sum", 1, [], entry(1, 2, "2-2", "repay", 500), entry(1, 2, "2-2", "draw", 500)),
     ("no repayment of nothing", 1, [], entry(1, 2, "2-2", "repay", 1), entry(1, 2, "2-2", "repay", 0)),
-    ("no repayment above what is owing", 1, [], entry(1, 2, "2-2", "repay", 9000), entry(1, 2, "2-2", "repay", 9001)),
+    (
+        "no repayment above what is owing", 1, [], entry(1, 2, "2-2", "repay", LARGE - 1000),
+        entry(1, 2, "2-2", "repay", LARGE - 999),
+    ),
     ("days of entries don't fall", 1, [], entry(0, 1, "2-2", "repay", 1), entry(0, 1, "2-3", "repay", 1)),
     ("no entry before the day taken", 1, [], entry(0, 1, "2-1", "repay", 1), entry(0, 1, "1-31", "repay", 1)),
     ("no entry after the last change", 1, [], entry(1, 2, "8-5", "repay", 1), entry(1, 2, "8-6", "repay", 1)),
     (
-        "no drawing above the limit", 2, [still_open("8-1")], entry(1, 2, "8-1", "draw", 5500),
-        entry(1, 2, "8-1", "draw", 5501),
+        "no drawing above the limit", 2, [still_open("8-1")], entry(1, 2, "8-1", "draw", SMALL_CREDIT - 2000),
+        entry(1, 2, "8-1", "draw", SMALL_CREDIT - 1999),
     ),
     (
         "no drawing after the end", 3, [still_open("8-2"), RUNNING], entry(0, 1, "8-1", "draw", 1),

@@ -20,6 +20,7 @@ from tests.library.described import (
 )
 from tests.library.keys import BROKER
 from tests.library.paths import TOP
+from tests.library.sums import LARGE, SMALL
 from tests.library.tables import opened
 
 STRANGER = [["Pledge-Key", "99999999-9999-9999-9999-999999999999"]]
@@ -355,12 +356,12 @@ def open_books():
     return [
         RUN.send("takePledge", 0, opening(ref, pence, kind))["receipt"]
         for ref, pence, kind in (
-            ("A", 10000, "fixed"), ("S", 7500, "fixed"), ("R", 10000, "running"), ("T", 10000, "fixed"),
+            ("A", LARGE, "fixed"), ("S", SMALL, "fixed"), ("R", LARGE, "running"), ("T", LARGE, "fixed"),
         )
     ]
 
 
-def opening(ref, pence=10000, kind="fixed"):
+def opening(ref, pence=LARGE, kind="fixed"):
     return {"article": "Ring", "five_days": False, "kind": kind, "pence": pence, "ref": ref}
 
 
@@ -395,7 +396,7 @@ def entries(clock):
     for name, to in (("repay", {"number": 2}), ("repayHeld", {"receipt": clock})):
         for wanted, seq, pence in ((302, 0, 1), (201, 1, 0), (204, 1, 99_999_999), (0, 1, 5), (301, 1, 6)):
             RUN.send(name, wanted, {"pence": pence, "seq": seq}, **to)
-    for wanted, seq, pence in ((0, 1, 100), (301, 1, 101), (302, 5, 1), (201, 2, 0), (203, 2, 10000)):
+    for wanted, seq, pence in ((0, 1, 100), (301, 1, 101), (302, 5, 1), (201, 2, 0), (203, 2, LARGE)):
         RUN.send("draw", wanted, {"pence": pence, "seq": seq}, number=3)
     RUN.send("draw", 202, {"pence": 1, "seq": 1})
 
@@ -475,7 +476,7 @@ def counts_at_their_limits():
     RUN.send("makeBook", 0, {"capacity": 1, "key": BROKER, "name": "Full Street"}, book=9)
     terms = [row("T", version, version, 0, 0) for version in range(1, 100)]
     pledges = [
-        row("P", number, f"L{number}", "Ring", "running", 10000, DAY, "", "no", 99, "no", DAY, "open")
+        row("P", number, f"L{number}", "Ring", "running", LARGE, DAY, "", "no", 99, "no", DAY, "open")
         for number in (1, 2)
     ]
     entered = [row("E", 1, seq, DAY, "draw" if seq % 2 else "repay", 1) for seq in range(1, 10_000)]
@@ -533,7 +534,7 @@ def a_store_with_more_rows_than_its_limit(ring):
     RUN.send("extend", 490, {"until": "2024-12-01"})
     RUN.send("decideBooking", 490, {"yes": False})
     RUN.send("cancelBooking", 490, receipt=ring)
-    RUN.send("redeem", 490, {"paid": 9999}, receipt=ring)
+    RUN.send("redeem", 490, {"paid": LARGE - 1}, receipt=ring)
     RUN.send("sell", 490, {"net": 1}, day=LATE)
 
 

@@ -2,7 +2,7 @@
 to a heading of it, each definition that the glossary names is in the file that it names, each clause of docs/PROVED.md
 is in the contract of its call, each definition of specs has a name of its own, each definition that is quoted is in the
 file that it is quoted from. The sentences of the documents that are read in need are short, and so are the lines of the
-crates. Each source begins with what is found in it. An import names one crate. A measured figure is in one document,
+crates. Each source begins with what is found in it. The text that a must-fail edit replaces is there. An import names one crate. A measured figure is in one document,
 and docs/BENCH.md is what its script writes.
 """
 import csv
@@ -218,6 +218,21 @@ def no_line_of_the_crates_is_long():
     expect("how many were read", len(texts) > 900, True)
 
 
+def each_edit_is_of_a_text_that_is_there():
+    """Of each file that a must-fail edit names, the text that it replaces. The proof would report a BAD EDIT after minutes."""
+    edits = sorted(glob.glob("crates/*/must-fail/*.edit", root_dir=TOP))
+    gone = []
+    for path in edits:
+        file, crate = None, path.split("/")[1]
+        for name, text in re.findall(r"(?ms)^(file|old|new):(.*?)(?=^(?:file|old|new):|\Z)", read(path)):
+            if name == "file":
+                file = text.strip()
+            elif name == "old" and text.removeprefix(" ").strip("\n") not in read(f"crates/{crate}/{file}"):
+                gone.append((path, text.strip()))
+    expect("must-fail edits of a text that is not in its file", gone, [])
+    expect("how many there are", len(edits) > 100, True)
+
+
 def imported_crates(line):
     """The crates that an import of definitions or lemmas names."""
     tree = IMPORT.fullmatch(line)
@@ -370,8 +385,7 @@ def these_checks_can_fail():
 main(
     each_path_is_there, each_script_is_on_the_map, each_link_leads_somewhere, each_word_is_defined_where_the_glossary_says,
     each_installed_path_is_in_the_package, each_clause_stands_in_its_contract, each_definition_has_one_name,
-    no_line_of_the_crates_is_long, each_source_says_what_is_in_it, each_import_names_one_crate, each_quotation_is_true,
-    these_checks_can_fail,
-    no_sentence_is_too_long, building_and_testing_take_the_same_time_everywhere, each_figure_stands_in_one_document,
+    no_line_of_the_crates_is_long, each_source_says_what_is_in_it, each_edit_is_of_a_text_that_is_there, each_import_names_one_crate,
+    each_quotation_is_true, these_checks_can_fail, no_sentence_is_too_long, building_and_testing_take_the_same_time_everywhere, each_figure_stands_in_one_document,
     the_page_of_figures_is_what_its_script_writes,
 )

@@ -8,6 +8,7 @@ import re
 from tests.library.checks import Failed, expect, main
 from tests.library.described import DESCRIPTION
 from tests.library.paths import TOP
+from tests.library.sums import LARGE, SMALL
 
 RULES, PROVED = "docs/RULES.md", "docs/PROVED.md"
 SCHEMAS = DESCRIPTION["components"]["schemas"]
@@ -219,6 +220,7 @@ OTHERS = {
            r"|\"(?:pence|shortfall)\":1000",
     "docs/CLIENTS.md": r"32 hexadecimal digits|64 random hexadecimal digits",
     PROVED: r"the same of 1,000,000 connections",
+    "web/shared/refusals.js": r"A key is 32 digits",
     "docs/openapi.json": r"\{32\}|32 hexadecimal digits|64 hexadecimal digits|rows of 15 columns|of columns than 15|-02-15|int(?:32|64)",
 }
 # Numbers that the rules name because they are one above a limit.
@@ -368,7 +370,7 @@ def each_mention_of_small_credits_is_compared():
 
 
 # Where each mention of a limit is compared, or is known to be another number; and what stands around both.
-READ_WHOLE = (RULES, "docs/CLIENTS.md", "docs/GLOSSARY.md", "docs/PROMISES.md", PROVED, API)
+READ_WHOLE = (RULES, "docs/CLIENTS.md", "docs/GLOSSARY.md", "docs/PROMISES.md", PROVED, API, "web/shared/refusals.js")
 
 
 def compared_in(path, text):
@@ -400,6 +402,22 @@ def each_mention_of_a_limit_is_compared():
                 if not (inside or member or part_of_a_word):
                     missing.append((names, text[max(0, begin - 40):end + 20]))
         expect(f"mentions of limits in {path} that are in no table of this script", missing, [])
+
+
+# Where examples take pledges: stories, and what is shown to people and made for them.
+EXAMPLES = ("tests/turns/*.txt", "tests/library/*.py", "tools/sandbox", "tools/description/story.py", "README.md", "docs/*.md", "examples/*.*")
+
+
+def no_example_is_at_the_border_of_small_credits():
+    """An example that is for the figure itself, or for a penny more, changes its meaning with each change of the figure. Only the
+    scripts of tests/answers/borders.py and tests/store/kept.py are about the border."""
+    limit = constant("pawn_pledge", "SMALL_CREDIT")
+    for path in sorted({it for form in EXAMPLES for it in glob.glob(form, root_dir=TOP)}):
+        sums = re.findall(r"""["']?kind["']?\W[^\n]*["']?pence["']?(?::| =>?) *([\d_]+)""", read(path))
+        expect(f"pledges of {path} for {limit} or {limit + 1} pence", [it for it in sums if number(it) in (limit, limit + 1)], [])
+    expect("that the example sums are far from it", 1.3 * SMALL < limit < LARGE / 1.3, True)
+    others = [constant(crate, name) for crate, name in SAID]
+    expect("that they are no limit, and not next to one", [it for it in others if min(abs(it - SMALL), abs(it - LARGE)) < 100], [])
 
 
 # Limits whose number means nothing else in the scripts of the pages, where each mention is compared, and all others.
@@ -443,7 +461,8 @@ def each_limit_has_a_definition_and_a_worked_fact():
             low = name.lower()
             is_constant = bool(re.search(rf"(?m)^{low} = {name}$", defined))
             facts = {it for it in (low, name) if re.search(rf"\({it} ≡ {int(value.replace('_', ''))}\)", worked)}
-            expect(f"that {folder}/Limits.antt defines {low}", bool(re.search(rf"(?m)^{low} = ", defined)), True)
+            numbers = [it.replace("_", "") for it in re.findall(rf"(?m)^{low} = (\w+)$", defined)]
+            expect(f"{low} in {folder}/Limits.antt", numbers, [name.replace("_", "") if is_constant else value.replace("_", "")])
             expect(f"facts on {name} in {folder}/Worked*.antt", facts, {low} if is_constant else {low, name})
             count += 1
     expect("how many limits there are", count >= 30, True)
@@ -497,7 +516,7 @@ def numbers_are_read_as_people_write_them():
 main(
     each_limit_is_one_number, each_comment_of_the_crates_has_the_same, each_limit_in_letters_is_the_same,
     each_number_above_a_limit_is_one_above_it, each_mention_of_small_credits_is_compared, each_mention_of_a_limit_is_compared,
-    each_mention_of_an_unmistakable_limit_on_a_page_is_compared, each_limit_has_its_row,
+    no_example_is_at_the_border_of_small_credits, each_mention_of_an_unmistakable_limit_on_a_page_is_compared, each_limit_has_its_row,
     each_limit_has_a_definition_and_a_worked_fact, each_limit_is_in_the_book_of_changes, each_limit_that_is_new_has_an_edit,
     each_changed_limit_is_in_the_changelog, declarations_and_days_are_those_of_the_crates,
     numbers_are_read_as_people_write_them,

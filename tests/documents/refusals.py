@@ -156,25 +156,27 @@ def each_operation_has_the_refusals_of_the_rules_in_order():
 
 
 def lists_of_the_definitions():
-    """The lists of conditions and refusals in the definitions of a pledge's commands: the refusals' codes, in order."""
+    """The lists of conditions and refusals in the definitions of the rules: by path and name, the refusals' codes in order."""
     names = {name: code for code, name in of_the_rules().items()}
-    text = read("crates/pawn_pledge/specs/Step.antt")
-    for name, body in re.findall(r"(?m)^abbrev pub (\w+) : .*List \(Bool × Refusal\)\n((?:.+\n)+)", text):
-        if re.search(r"∷ \[\]", body):
-            found = re.findall(r", Refusal\.(?:Debt )?(\w+)", body)
-            missing = [it for it in found if it not in names]
-            expect(f"refusals of {name} of pawn_pledge/specs/Step.antt that docs/RULES.md does not name", missing, [])
-            yield name, once(names[it] for it in found)
+    row = re.compile(r", (?:\w+\.)?\(?(?:Debt |Terms )?([A-Z]\w+)[^)∷]*\)+\s*∷")
+    for path in sorted(glob.glob("crates/pawn_*/specs/*.antt", root_dir=TOP)):
+        for block in re.split(r"\n\n+", read(path)) if "/Worked" not in path else ():
+            name, found = re.search(r"(?m)^abbrev pub (\w+)", block), row.findall(block)
+            if name and any(it in names for it in found):
+                missing = [it for it in found if it not in names]
+                expect(f"refusals of {name[1]} of {path} that docs/RULES.md does not name", missing, [])
+                yield path, name[1], once(names[it] for it in found)
 
 
 def each_list_of_the_definitions_is_in_the_order_of_the_rules():
-    orders = orders_of_commands()
-    count = 0
-    for name, codes in lists_of_the_definitions():
-        fits = [command for command, order in orders.items() if [code for code in order if code in codes] == codes]
-        expect(f"that {name} of pawn_pledge/specs/Step.antt, {codes}, is in the rules' order of a command", bool(fits), True)
-        count += 1
-    expect("how many there are", count > 5, True)
+    orders = [order_of_bytes(), *(wanted_of(operation) for operation in OPERATIONS.values())]
+    listed = list(lists_of_the_definitions())
+    for path, name, codes in listed:
+        fits = [order for order in orders if [code for code in order if code in codes] == codes]
+        expect(f"that {name} of {path}, {codes}, is in the rules' order of a request", bool(fits), True)
+    crates = {path.split("/")[1] for path, _, _ in listed}
+    expect("crates with such lists", {"pawn_terms", "pawn_debt", "pawn_pledge", "pawn_book", "pawn_wire"} - crates, set())
+    expect("how many lists there are", len(listed) > 15, True)
 
 
 def each_refusal_of_a_pledge_has_a_worked_example():

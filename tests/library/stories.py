@@ -3,6 +3,7 @@ from tests.library.checks import Failed, expect
 from tests.library.keys import BROKER, KEY, OPERATOR
 from tests.library.refusing import Story, body_of
 from tests.library.requests import request
+from tests.library.sums import LARGE, SMALL
 
 IMPORT = "Import-Key: 44444444-4444-4444-4444-444444444444"
 
@@ -17,7 +18,7 @@ def begun(name, capacity=2):
     return story
 
 
-def opened(story, number, pence=10_000):
+def opened(story, number, pence=LARGE):
     """The receipt of the story's next pledge."""
     said = story.ask(
         "POST", "/books/7/pledges", KEY,
@@ -28,7 +29,7 @@ def opened(story, number, pence=10_000):
 
 
 def a_first_pledge():
-    """The four requests of the stored run."""
+    """Four requests, like those of the stored run in crates/pawnd."""
     story = begun("a first pledge")
     receipt = opened(story, 1)
     story.ask("GET", "/books/7/held", f"Pledge-Receipt: {receipt}")
@@ -43,7 +44,7 @@ def a_lost_receipt():
     new = story.ask("POST", "/books/7/pledges/3/declare", KEY, {"paper": "sworn"})["receipt"]
     for receipts in ((old,), (new,), (old, new)):
         story.ask("GET", "/books/7/held", *[f"Pledge-Receipt: {it}" for it in receipts])
-    story.ask("POST", "/books/7/held/redeem", f"Pledge-Receipt: {new}", {"paid": 10_000})
+    story.ask("POST", "/books/7/held/redeem", f"Pledge-Receipt: {new}", {"paid": LARGE})
     story.ask("GET", "/books/7/held", f"Pledge-Receipt: {old}", f"Pledge-Receipt: {new}")
     story.ask("GET", "/books/7/pledges/3", KEY)
     return story
@@ -66,7 +67,7 @@ def a_book_that_moves():
     """A book with a receipt that was replaced, an entry and a booking, taken out and put into another."""
     story = begun("a book that moves")
     receipt = opened(story, 1)
-    opened(story, 2, pence=7_500)
+    opened(story, 2, pence=SMALL)
     story.ask("POST", "/books/7/held/repay", f"Pledge-Receipt: {receipt}", {"pence": 1000, "seq": 1})
     story.ask("POST", "/books/7/held/ask", f"Pledge-Receipt: {receipt}", {"day": "2024-03-04", "window": 3})
     story.ask("POST", "/books/7/pledges/2/declare", KEY, {"paper": "written"})
