@@ -13,7 +13,6 @@ import sys
 import tempfile
 import threading
 import time
-import uuid
 
 from tests.library.checks import Failed, expect
 from tests.library.keys import OPERATOR
@@ -183,16 +182,14 @@ class Machine:
         expect("the end of status", ran.returncode, 1 if told["wrong"] else 0)
         return told
 
-    def store(self, name, port=None):
-        self.admin("store", name, "--port", str(port or free_port()))
+    def store(self, name):
+        self.admin("store", name)
 
-    def book(self, number, store="main", key=None, pledges=0):
+    def book(self, number, store="main", pledges=0):
         """A book with terms and some pledges, and its key."""
-        key = key or str(uuid.uuid4())
-        path = self.place("key")
-        self.write("key", key + "\n", 0o600)
-        self.admin("book", number, "--name", f"Book {number}", "--store", store, "--key-file", path)
-        caller = Caller(self, number, key)
+        self.admin("book", number, "--name", f"Book {number}", "--store", store, "--key-to", self.place("key"))
+        with open(self.place("key")) as file:
+            caller = Caller(self, number, file.read().strip())
         caller.ask("POST", "/terms", {"keep_after": 0, "keep_before": 0, "rate": 0, "version": 1})
         for _ in range(pledges):
             caller.open_pledge()
