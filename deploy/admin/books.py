@@ -66,9 +66,9 @@ def claim(book, where, made):
     path = pending_file(book)
     if not os.path.exists(path):
         stop_if_taken(book, where)
-        write_note(path, {**made, "key": made["key"] or str(uuid.uuid4()), "store": where})
+        write_note(path, {**made, "key": str(uuid.uuid4()), "store": where})
     begun = read_note(path)
-    if made["key"] not in (None, begun["key"]) or {**begun, **made, "key": 0, "store": where} != {**begun, "key": 0}:
+    if {**begun, **made, "store": where} != begun:
         raise Stop(
             f"book {book} was being made in the store {begun['store']} as {begun['name']!r}, with capacity "
             f"{begun['capacity']}. Run that command again to end it. If no such book is wanted, remove {path} and its "
@@ -86,8 +86,8 @@ def stop_if_taken(book, where):
 
 
 def is_made(book, where, made, key_to):
-    """Whether the book is there as this command makes it: an earlier run of the command has ended. The key counts as far
-    as the command names one."""
+    """Whether the book is there as this command makes it: an earlier run of the command has ended. The key counts if the
+    command names a file for it."""
     store = Store(where)
     if os.path.exists(pending_file(book)) or where not in stores_with(book) or proxy.store_of(book) != where:
         return False
@@ -96,25 +96,24 @@ def is_made(book, where, made, key_to):
         return False
     own = str(uuid.UUID(bytes=found["key"]))
     outside, _ = proxy.exchanges().get(book, (own, own))
-    return made["key"] in (None, own) and (key_to is None or os.path.exists(key_to) and key_of_file(key_to) == outside)
+    return key_to is None or os.path.exists(key_to) and key_of_file(key_to) == outside
 
 
-def make_book(number, where=MAIN, name=None, capacity=CAPACITY, key_file=None, key_to=None):
+def make_book(number, where=MAIN, name=None, capacity=CAPACITY, key_to=None):
     """The verb `book`. The line of the map is written before the book is made: a book that answers always has it."""
     book = book_number(number)
     proxy.stop_if_of_another_machine("book")
-    made = {"capacity": capacity, "key": key_of_file(key_file) if key_file else None, "name": name}
+    made = {"capacity": capacity, "name": name}
     if store_name(where) not in store_names():
         raise Stop(f"there is no store {where}. Make it first: `pawnd-admin store {where}`")
     store = Store(where)
     with alone_with(where):
         if is_made(book, where, made, key_to):
             say(f"book {book} ({name}) is in the store {where} already, and nothing was changed"
-                + ("" if made["key"] or key_to else f". Its key was shown when it was made: `pawnd-admin new-key {book}` if "
-                   "nobody has it"))
+                + ("" if key_to else f". Its key was shown when it was made: `pawnd-admin new-key {book}` if nobody has it"))
             return
         with alone_with_settings():
-            was_there, given = os.path.exists(pending_file(book)), made["key"] is not None
+            was_there = os.path.exists(pending_file(book))
             made = claim(book, where, made)
             turned = proxy.store_of(book) != where
             proxy.turn({book}, where)
@@ -122,8 +121,7 @@ def make_book(number, where=MAIN, name=None, capacity=CAPACITY, key_file=None, k
             proxy.reload_nginx()
         services.post(store, f"/books/{book}", services.operators_key(), made, f'{{"book":{book}}}')
         forget_exchange(book)
-        if not given or key_to:
-            hand_over(made["key"], f"the key of book {book}", key_to)
+        hand_over(made["key"], f"the key of book {book}", key_to)
         os.unlink(pending_file(book))
     say(f"book {book} ({made['name']}) is in the store {where}")
 

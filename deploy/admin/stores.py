@@ -35,13 +35,13 @@ def is_taken(port):
     return False
 
 
-def make_settings(name, port=None):
+def make_settings(name):
     """The file of a store that gives it its port, its user, and an empty folder for its copies. What is there already
     stays as it is."""
     with alone_with_settings():
         os.makedirs(os.path.dirname(conf_of(name)), exist_ok=True)
         if name not in store_names():
-            write_whole(conf_of(name), f"PORT={port or free_port()}\n", 0o644)
+            write_whole(conf_of(name), f"PORT={free_port()}\n", 0o644)
     folder = os.path.join(SYSTEM, "sysusers.d")
     path = os.path.join(folder, f"pawnd-{name}.conf")
     if not os.path.exists(path) and not os.path.exists(f"/usr/lib/sysusers.d/pawnd-{name}.conf"):
@@ -144,11 +144,11 @@ def make_empty(name):
         put_new(name, room)
 
 
-def new_store(name, port=None):
+def new_store(name):
     """The verb `store`. Each step leaves what is there already, so a command that was killed is run again."""
     store_name(name)
     with alone_with(name):
-        store = make_settings(name, port)
+        store = make_settings(name)
         if not files_of_store(store_file(name)):
             make_empty(name)
         enable(name)

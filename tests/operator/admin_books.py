@@ -45,10 +45,9 @@ def a_book_that_is_made_again():
     nothing. With another name, capacity, store or key the number is taken."""
     with Machine() as it:
         it.store("west")
-        it.write("own", str(uuid.uuid4()) + "\n", 0o600)
         of_book = {
             7: ("--name", "High Street", "--key-to", it.place("key-7")),
-            8: ("--name", "Low Street", "--capacity", 5, "--store", "west", "--key-file", it.place("own")),
+            8: ("--name", "Low Street", "--capacity", 5, "--store", "west", "--key-to", it.place("key-8")),
             9: ("--name", "Far Street"),
         }
         for number, words in of_book.items():
@@ -64,7 +63,7 @@ def a_book_that_is_made_again():
         it.write("other", str(uuid.uuid4()) + "\n", 0o600)
         for number, *more in (
             (7, "--name", "Other"), (7, "--capacity", 3), (7, "--store", "west"), (7, "--key-to", it.place("other")),
-            (7, "--key-to", it.place("none")), (8, "--key-file", it.place("other")),
+            (7, "--key-to", it.place("none")), (8, "--key-to", it.place("other")),
         ):
             said = it.admin("book", number, *of_book[number], *more, wanted=1)
             expect(f"{more}: {said}", "Choose another number" in said, True)

@@ -216,8 +216,7 @@ def old_copies_are_removed():
     one that has a book stays, however old."""
     with Machine() as it:
         it.write("etc/pawnd.conf", "# how many copies stay\nKEEP=3\n")
-        caller = it.book(7, pledges=1)
-        it.book(8, pledges=1)
+        it.book(7, pledges=1), it.book(8, pledges=1)
         for days in (9, 8, 7):
             it.admin("copy", "main")
             redate(it, copies(it)[-1], days_ago(days))
@@ -226,7 +225,7 @@ def old_copies_are_removed():
             os.rename(it.path("main") + end, it.place("lost" + end))
         shutil.rmtree(it.place("lib/main"))
         it.admin("store", "main")
-        again = it.book(7, key=caller.key, pledges=1)
+        again = it.book(7, pledges=1)
         for days in (6, 5, 4, 3, 2):
             it.admin("copy", "main")
             redate(it, copies(it)[-1], days_ago(days))

@@ -6,12 +6,10 @@ from tests.library.checks import expect
 from tests.library.operator.admin_killing import ALL, expect_well, killed
 from tests.library.operator.admin_machine import PACKAGES
 from tests.library.packages import main_with
-from tests.library.program import free_port
 
 
 def killed_store():
-    words = ["store", "north", "--port", str(free_port())]
-    killed(words, lambda story: expect_well(story, *ALL, ["north: has no copy"]))
+    killed(["store", "north"], lambda story: expect_well(story, *ALL, ["north: has no copy"]))
 
 
 def killed_book():

@@ -21,7 +21,7 @@ def begun(machine, *words, **environment):
 def both(machine, first, second):
     """How two commands end that run at the same time, and what they say."""
     running = [begun(machine, *words) for words in (first, second)]
-    said = [" ".join(it.communicate(timeout=250)) for it in running]
+    said = [" ".join(it.communicate(timeout=900)) for it in running]
     return [it.returncode for it in running], said
 
 
@@ -71,7 +71,7 @@ def two_verbs_on_one_store():
                 ("split", "main", "west", 8), ("copy", "main"), ("remove-book", 9),
                 ("restore-book", 8, "newest", "north"),
             )]
-            said = [" ".join(one.communicate(timeout=250)) for one in running]
+            said = [" ".join(one.communicate(timeout=900)) for one in running]
             await_load(callers[7])
         ends = [one.returncode for one in running]
         # Whichever of the two comes first with book 8, the other one is refused.

@@ -1,5 +1,6 @@
 """The commands of docs/DEPLOYING.md and docs/OPERATING.md on Debians that run systemd, as they are written: the copies
 of the first week, and the bad days."""
+import re
 import tempfile
 
 from tests.library.checks import expect
@@ -70,6 +71,8 @@ def one_book_put_back(one):
     one.run("pawnd-admin book 8 --name 'Low Street' --key-to /root/8.key")
     with_terms(one, 8, "/root/8.key")
     one.run("sleep 1; systemctl start pawnd-copy@main")
+    told = one.run(command(OPERATING, "490, a full store", "copy.json"))
+    expect("how many rows each book has", re.findall(r'"(\d+)": \{\s+"rows": (\d+),', told), [("7", "6"), ("8", "4")])
     expect("spoilt", (enter(one, 3)[0], enter(one, 2, 8, "/root/8.key")[0]), (200, 200))
     one.run(command(OPERATING, "One book put back", "restore-book"))
     answers_again(one)

@@ -70,7 +70,8 @@ def a_copy_is_sent(one, standby):
     clear = standby.run(f"grep -rlE 'SQLite format|High Street' {REPOSITORY} || true")
     expect("nothing that is sent can be read there", clear, "")
     standby.run(pruning)
-    standby.run("printf '#!/bin/sh\\ncat >>/root/mails; echo \"$@\" >>/root/mails\\n' >/usr/local/bin/mail; chmod +x /usr/local/bin/mail")
+    standby.run("printf '#!/bin/sh\\ncat >>/root/mails; echo \"$@\" >>/root/mails\\n' >/usr/local/bin/mail; "
+                "chmod +x /usr/local/bin/mail")
     standby.run(command(DEPLOYING, "Messages about problems", "on-failure"))
     standby.run("systemctl start pawnd-received")
     expect("the drill", standby.run(drill).splitlines()[-1], "books 1 pledges 0 rows 1")

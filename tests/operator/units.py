@@ -140,7 +140,9 @@ def nothing_is_removed_by_a_clock_that_is_ahead():
                        "BORG_PASSPHRASE": "of-the-test", "BORG_BASE_DIR": os.path.join(room, "of-the-test")}
 
         def run(*words, wanted=0):
-            ran = subprocess.run(words, capture_output=True, text=True, stdin=subprocess.DEVNULL, env=environment, timeout=300)
+            ran = subprocess.run(
+                words, capture_output=True, text=True, stdin=subprocess.DEVNULL, env=environment, timeout=300
+            )
             expect(f"{words}: {ran.stdout}{ran.stderr}", ran.returncode, wanted)
             return ran.stdout + ran.stderr
 

@@ -13,7 +13,6 @@ import sys
 import tempfile
 import threading
 import time
-import uuid
 
 from tests.library.checks import Failed, expect
 from tests.library.keys import OPERATOR
@@ -99,7 +98,7 @@ class Machine:
             **os.environ, "PATH": f"{self.place('bin')}:{PATHS}", "PAWND": PROGRAM, "SETTINGS": self.settings,
             "STORES": self.stores, "COPIES": self.copies, "OFFSITE": self.place("offsite"), "MACHINE": self.room,
             "SYSTEM": self.place("system"), "PROXY": f"127.0.0.1:{self.port}", "NGINX_PID": self.place("nginx.pid"),
-            "WAIT": "120", "FIRST_PORT": str(random.randrange(10_000, 30_000)), **self.more,
+            "WAIT": "600", "FIRST_PORT": str(random.randrange(10_000, 30_000)), **self.more,
         }
         self.write("etc/operator.key", OPERATOR + "\n", 0o600)
         self.write("etc/name.conf", f"server_name {NAME};\n")
@@ -141,7 +140,7 @@ class Machine:
                 with contextlib.suppress(OSError, ValueError), open(path) as file:
                     os.kill(int(file.read()), signal.SIGTERM if name == "nginx.pid" else signal.SIGKILL)
 
-    def admin(self, *words, wanted=0, within=200, **environment):
+    def admin(self, *words, wanted=0, within=900, **environment):
         """What `pawnd-admin` prints, or what it complains of where it is to end with another status than 0."""
         ran = subprocess.run(
             [ADMIN, *map(str, words)], env={**self.environment, **environment}, capture_output=True, text=True,
@@ -152,7 +151,7 @@ class Machine:
                          f"{ran.stderr[-900:]}")
         return ran.stdout + ran.stderr
 
-    def admin_with(self, *words, wanted=0, within=200, **environment):
+    def admin_with(self, *words, wanted=0, within=900, **environment):
         """The same with something done to the command: admin_run.py says what."""
         ran = subprocess.run(
             [sys.executable, RUN, *map(str, words)], env={**self.environment, **environment}, capture_output=True,
@@ -183,16 +182,14 @@ class Machine:
         expect("the end of status", ran.returncode, 1 if told["wrong"] else 0)
         return told
 
-    def store(self, name, port=None):
-        self.admin("store", name, "--port", str(port or free_port()))
+    def store(self, name):
+        self.admin("store", name)
 
-    def book(self, number, store="main", key=None, pledges=0):
+    def book(self, number, store="main", pledges=0):
         """A book with terms and some pledges, and its key."""
-        key = key or str(uuid.uuid4())
-        path = self.place("key")
-        self.write("key", key + "\n", 0o600)
-        self.admin("book", number, "--name", f"Book {number}", "--store", store, "--key-file", path)
-        caller = Caller(self, number, key)
+        self.admin("book", number, "--name", f"Book {number}", "--store", store, "--key-to", self.place("key"))
+        with open(self.place("key")) as file:
+            caller = Caller(self, number, file.read().strip())
         caller.ask("POST", "/terms", {"keep_after": 0, "keep_before": 0, "rate": 0, "version": 1})
         for _ in range(pledges):
             caller.open_pledge()
@@ -212,7 +209,7 @@ class Machine:
                 connection.request("GET", "/books/1/held", headers={"Connection": "close"})
                 return connection.getresponse().read()
 
-        wait_for(answers, f"the store {name}", 100)
+        wait_for(answers, f"the store {name}", 300)
 
     @contextlib.contextmanager
     def own_disk(self, name):
