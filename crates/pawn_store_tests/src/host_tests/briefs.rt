@@ -15,15 +15,15 @@ const LATER_TERMS: &str = "{\"keep_after\":0,\"keep_before\":0,\"rate\":1000,\"v
 /// How many pledges the book has: the first two are under the first terms, the others under the later ones.
 const PLEDGES: u64 = 4;
 
-/// Takes pledges of these numbers.
+/// Takes pledges of the numbers from `first` up to the one before `after`.
 fn take<K: Keep>(
     rt: &impl Abort,
     service: &mut Service<K>,
     alloc: Global,
     first: u64,
-    last: u64,
+    after: u64,
 ) -> Result<(), Fail> {
-    for number in first..last + 1 {
+    for number in first..after {
         let body = format!(in alloc;
             "{{\"article\":\"Ring\",\"five_days\":false,\"kind\":\"fixed\",\"pence\":10000,\"ref\":\"A{number}\"}}"
         )?;
@@ -36,9 +36,9 @@ fn take<K: Keep>(
 fn fill<K: Keep>(rt: &impl Abort, service: &mut Service<K>, alloc: Global) -> Result<(), Fail> {
     service.answer_one(&stamp(rt, 0), BOOK.as_bytes());
     send(rt, service, alloc, 0, "/terms", TERMS)?;
-    take(rt, service, alloc, 1, 2)?;
+    take(rt, service, alloc, 1, 3)?;
     send(rt, service, alloc, 0, "/terms", LATER_TERMS)?;
-    take(rt, service, alloc, 3, PLEDGES)
+    take(rt, service, alloc, 3, PLEDGES + 1)
 }
 
 /// What a brief has of a pledge: its number, its terms and its live secret.
