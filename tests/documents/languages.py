@@ -66,9 +66,9 @@ def shown(language, room, server, receipts):
     return ran.stdout, time.monotonic() - begun
 
 
-def build_for_go(room):
+def build_for_go(room, source=os.path.join(FIRST, "show.go"), name="show"):
     how = {**os.environ, "GO111MODULE": "off", "GOCACHE": os.path.join(room, "cache"), "GOFLAGS": ""}
-    words = ["go", "build", "-o", os.path.join(room, "show"), os.path.join(FIRST, "show.go")]
+    words = ["go", "build", "-o", os.path.join(room, name), source]
     subprocess.run(words, check=True, env=how, capture_output=True, timeout=200)
 
 
@@ -347,6 +347,36 @@ for (const method of ["GET", "POST"]) {
 }
 process.exit();
 """
+# With a third word the requests have the field that Go takes for a promise that a repeat is harmless.
+GO_TWICE = """
+package main
+
+import (
+	"bytes"
+	"fmt"
+	"io"
+	"net/http"
+	"os"
+	"time"
+)
+
+func main() {
+	for _, method := range []string{"GET", "POST"} {
+		request, _ := http.NewRequest(method, os.Args[1]+"/"+method, bytes.NewReader([]byte("{}")))
+		if os.Args[2] != "" {
+			request.Header.Set(os.Args[2], "1")
+		}
+		if reply, err := http.DefaultClient.Do(request); err != nil {
+			fmt.Print("error ")
+		} else {
+			io.ReadAll(reply.Body)
+			reply.Body.Close()
+			fmt.Print(reply.StatusCode, " ")
+		}
+		time.Sleep(100 * time.Millisecond)
+	}
+}
+"""
 RUBY_TWICE = """
 Net::HTTP.start("127.0.0.1", URI(ARGV[0]).port) do |call|
   print call.get("/").code, " "
@@ -395,9 +425,13 @@ def some_clients_send_a_post_again_by_themselves():
     twice, once = ["GET", "POST", "POST"], ["GET", "POST"]
     curl = ["curl", "-s", "-X", "GET", "{url}", "--next", "-s", "-X", "POST", "{url}"]
     with tempfile.TemporaryDirectory() as room:
-        java = os.path.join(room, "Twice.java")
+        java, go = os.path.join(room, "Twice.java"), os.path.join(room, "twice")
         with open(java, "w") as file:
             file.write(JAVA_TWICE)
+        with open(go + ".go", "w") as file:
+            file.write(GO_TWICE)
+        if has("Go"):
+            build_for_go(room, go + ".go", "twice")
         runs = [
             (None, "curl", curl, "{}{}", twice), ("PHP", "PHP, kept", ["php", "-r", PHP_TWICE, "{url}", "kept"], "200 200 ", twice),
             ("PHP", "PHP, CURLOPT_FORBID_REUSE", ["php", "-r", PHP_TWICE, "{url}", "closing"], "200 200 ", once),
@@ -408,6 +442,9 @@ def some_clients_send_a_post_again_by_themselves():
             ("JavaScript", "node's fetch", ["node", "--input-type=module", "-e", NODE_TWICE, "{url}"], "200 error ", once),
             ("Ruby", "Net::HTTP", ["ruby", "-rnet/http", "-e", RUBY_TWICE, "{url}"], "200 error ", once),
             ("Perl", "HTTP::Tiny", ["perl", "-e", PERL_TWICE, "{url}"], "200 599 ", once),
+            ("Go", "Go's own client", [go, "{url}", ""], "200 error ", once),
+            ("Go", "Go's own client with Idempotency-Key", [go, "{url}", "Idempotency-Key"], "200 200 ", twice),
+            ("Go", "Go's own client with X-Idempotency-Key", [go, "{url}", "X-Idempotency-Key"], "200 200 ", twice),
         ]
         for language, who, words, shown, methods in runs:
             if language and not has(language):
