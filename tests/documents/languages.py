@@ -347,7 +347,8 @@ for (const method of ["GET", "POST"]) {
 }
 process.exit();
 """
-# With a third word the requests have the field that Go takes for a promise that a repeat is harmless.
+# The second word says how a connection is kept from being used again, or names a field that Go takes for a promise that a
+# repeat is harmless.
 GO_TWICE = """
 package main
 
@@ -361,12 +362,15 @@ import (
 )
 
 func main() {
+	client := http.DefaultClient
+	if os.Args[2] == "transport" {
+		client = &http.Client{Transport: &http.Transport{DisableKeepAlives: true}}
+	}
 	for _, method := range []string{"GET", "POST"} {
 		request, _ := http.NewRequest(method, os.Args[1]+"/"+method, bytes.NewReader([]byte("{}")))
-		if os.Args[2] != "" {
-			request.Header.Set(os.Args[2], "1")
-		}
-		if reply, err := http.DefaultClient.Do(request); err != nil {
+		request.Close = os.Args[2] == "request"
+		request.Header.Set(os.Args[2], "1")
+		if reply, err := client.Do(request); err != nil {
 			fmt.Print("error ")
 		} else {
 			io.ReadAll(reply.Body)
@@ -442,7 +446,9 @@ def some_clients_send_a_post_again_by_themselves():
             ("JavaScript", "node's fetch", ["node", "--input-type=module", "-e", NODE_TWICE, "{url}"], "200 error ", once),
             ("Ruby", "Net::HTTP", ["ruby", "-rnet/http", "-e", RUBY_TWICE, "{url}"], "200 error ", once),
             ("Perl", "HTTP::Tiny", ["perl", "-e", PERL_TWICE, "{url}"], "200 599 ", once),
-            ("Go", "Go's own client", [go, "{url}", ""], "200 error ", once),
+            ("Go", "Go's own client, kept", [go, "{url}", "kept"], "200 error ", once),
+            ("Go", "Go's own client by Close", [go, "{url}", "request"], "200 200 ", once),
+            ("Go", "Go's own client by DisableKeepAlives", [go, "{url}", "transport"], "200 200 ", once),
             ("Go", "Go's own client with Idempotency-Key", [go, "{url}", "Idempotency-Key"], "200 200 ", twice),
             ("Go", "Go's own client with X-Idempotency-Key", [go, "{url}", "X-Idempotency-Key"], "200 200 ", twice),
         ]
