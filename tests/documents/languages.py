@@ -10,14 +10,13 @@ import socket
 import subprocess
 import tempfile
 import threading
-import time
 
 from tests.library.checks import expect, main, not_tried
 from tests.library.keys import BROKER, OPERATOR
 from tests.library.packages import missing, provide
 from tests.library.paths import PROGRAM, TOP
 from tests.library.program import Server
-from tests.library.sessions import PATIENCE
+from tests.library.relayed import Relay
 
 FIRST = os.path.join(TOP, "examples/first")
 # Each language: its example, how it is run, and Debian's packages for it.
@@ -58,14 +57,6 @@ def run_example(language, room, port, receipts):
     )
 
 
-def shown(language, room, server, receipts):
-    """What the example prints for these receipts, and the seconds that it takes."""
-    begun = time.monotonic()
-    ran = run_example(language, room, server.port, receipts)
-    expect(f"how the example in {language} ends", (ran.returncode, ran.stderr), (0, ""))
-    return ran.stdout, time.monotonic() - begun
-
-
 def build_for_go(room, source=os.path.join(FIRST, "show.go"), name="show"):
     how = {**os.environ, "GO111MODULE": "off", "GOCACHE": os.path.join(room, "cache"), "GOFLAGS": ""}
     words = ["go", "build", "-o", os.path.join(room, name), source]
@@ -73,7 +64,7 @@ def build_for_go(room, source=os.path.join(FIRST, "show.go"), name="show"):
 
 
 def each_language_asks_twice_without_waiting():
-    with Server() as server, tempfile.TemporaryDirectory() as room:
+    with Server() as server, tempfile.TemporaryDirectory() as room, Relay(server.port) as relay:
         session = server.session()
         session.open_book()
         receipts = [session.open_pledge(number) for number in (1, 2)]
@@ -83,11 +74,12 @@ def each_language_asks_twice_without_waiting():
                 continue
             if language == "Go":
                 build_for_go(room)
-            _, once = shown(language, room, server, receipts[:1])
-            told, twice = shown(language, room, server, receipts)
-            print(f"        {once:.2f} s for one receipt, {twice:.2f} s for two, in {language}", flush=True)
-            expect(f"what {language} shows", (told.count("200"), told.count("Pledge 1\n"), told.count("Pledge 2\n")), (2, 1, 1))
-            expect(f"the second request of {language} does not wait", twice - once < PATIENCE - 1, True)
+            ran = run_example(language, room, relay.port, receipts)
+            expect(f"how the example in {language} ends", (ran.returncode, ran.stderr), (0, ""))
+            shown = ran.stdout
+            expect(f"what {language} shows", (shown.count("200"), shown.count("Pledge 1\n"), shown.count("Pledge 2\n")), (2, 1, 1))
+            print(f"        {max(relay.waits):.2f} s, the longer wait of two requests in {language}", flush=True)
+            relay.none_waited(language, 2)
 
 
 def each_example_is_short():
