@@ -20,6 +20,7 @@ from tests.library.keys import BROKER, OPERATOR, SEED
 from tests.library.packages import BUILDING, provide
 from tests.library.paths import PROGRAM, TOP
 from tests.library.program import Server, free_port
+from tests.library.relayed import Relay
 from tests.library.requests import refusal, request
 from tests.library.sessions import PATIENCE, Once, Session, read_all
 
@@ -37,10 +38,8 @@ public class Five {
             for (int turn = 0; turn < 5; turn++) {
                 var asked = HttpRequest.newBuilder(URI.create(words[0]));
                 for (int at = 1; at < words.length; at++) asked.header("Pledge-Receipt", words[at]);
-                long begun = System.nanoTime();
                 var reply = client.send(asked.build(), BodyHandlers.ofString());
-                var waited = System.nanoTime() - begun > 4_000_000_000L ? " waited" : "";
-                System.out.println(reply.statusCode() + " " + reply.body().split("Pledge ").length + waited);
+                System.out.println(reply.statusCode() + " " + reply.body().split("Pledge ").length);
             }
         }
     }
@@ -92,12 +91,11 @@ def held(server):
 
 
 def timed(who, asked):
-    """What comes of it, and the seconds that it takes, which are printed."""
+    """What comes of it. The seconds that it takes are printed."""
     begun = time.monotonic()
     said = asked()
-    taken = time.monotonic() - begun
-    print(f"        {taken:6.2f} s  {who}", flush=True)
-    return said, taken
+    print(f"        {time.monotonic() - begun:6.2f} s  {who}", flush=True)
+    return said
 
 
 def output(*words, **how):
@@ -123,25 +121,29 @@ def five_requests_by_each_client():
     """All are answered. Those that close each connection wait for none. Those that keep one and open another mostly
     wait for its end, which is shown and not required: it hangs on which reply comes first. What an idle connection does
     to others is shown below."""
-    with two_pledges() as (server, receipts):
-        by_curl(server, ["curl", "-sS", "-H", f"Pledge-Receipt: {receipts[0]}"])
+    with two_pledges() as (server, receipts), Relay(server.port) as relay:
+        by_curl(relay, ["curl", "-sS", "-H", f"Pledge-Receipt: {receipts[0]}"])
         for closes in (False, True):
             who = f"http.client, {'closed' if closes else 'kept'}"
-            said, taken = timed(who, lambda: by_http_client(server, receipts[0], closes))
-            expect(f"the replies to {who}", (said, taken < PATIENCE), ([(200, True)] * 5, True))
-        by_node(server, receipts)
-        by_java(server, receipts)
+            said = timed(who, lambda: by_http_client(relay, receipts[0], closes))
+            expect(f"the replies to {who}", said, [(200, True)] * 5)
+            relay.none_waited(who, 5)
+        by_node(relay, receipts)
+        by_java(relay, receipts)
 
 
-def by_curl(server, curl):
-    five, together = [held(server)] * 5, ["-Z", "--no-progress-meter"]
-    said, _ = timed("curl -Z, kept", lambda: output(*curl, *together, *five))
+def by_curl(relay, curl):
+    five, together = [held(relay)] * 5, ["-Z", "--no-progress-meter"]
+    said = timed("curl -Z, kept", lambda: output(*curl, *together, *five))
     expect("the replies to curl -Z", said.count("Pledge 1"), 5)
+    relay.waits = []
     for who, words in (("curl, one process", five), ("curl -Z, closed", [*together, "-H", CLOSE, *five])):
-        said, taken = timed(who, lambda: output(*curl, *words))
-        expect(f"the replies to {who}", (said.count("Pledge 1"), taken < PATIENCE - 1), (5, True))
-    said, taken = timed("curl, five times", lambda: "".join(output(*curl, held(server)) for _ in range(5)))
-    expect("the replies to curl, five times", (said.count("Pledge 1"), taken < PATIENCE - 1), (5, True))
+        said = timed(who, lambda: output(*curl, *words))
+        expect(f"the replies to {who}", said.count("Pledge 1"), 5)
+        relay.none_waited(who, 5)
+    said = timed("curl, five times", lambda: "".join(output(*curl, held(relay)) for _ in range(5)))
+    expect("the replies to curl, five times", said.count("Pledge 1"), 5)
+    relay.none_waited("curl, five times", 5)
 
 
 def node(*words):
@@ -149,19 +151,22 @@ def node(*words):
     return output("node", "--input-type=module", "-e", f"process.argv.splice(1, 0, '');{NODE}", *words)
 
 
-def by_node(server, receipts):
+def by_node(relay, receipts):
     if not has("node"):
         return not_tried("the clients of node", "node is not installed")
-    said, _ = timed("node, fetch kept", lambda: node("fetch kept", held(server), receipts[0]))
+    said = timed("node, fetch kept", lambda: node("fetch kept", held(relay), receipts[0]))
     expect("the replies to fetch", said, "2 fetch kept\n" * 5)
+    relay.waits = []
     for how, asked in (("fetch closed", receipts[:1]), ("http", receipts)):
-        said, taken = timed(f"node, {how}", lambda: node(how, held(server), *asked))
-        expect(f"the replies to {how}", (said, taken < PATIENCE - 1), (f"{len(asked) + 1} {how}\n" * 5, True))
-    said = node("fetch appended", held(server), *receipts)
+        said = timed(f"node, {how}", lambda: node(how, held(relay), *asked))
+        expect(f"the replies to {how}", said, f"{len(asked) + 1} {how}\n" * 5)
+        relay.none_waited(f"node, {how}", 5)
+    said = node("fetch appended", held(relay), *receipts)
     expect("fetch joins receipts by a comma", said.split("\n")[0], "1 fetch appended")
+    relay.waits = []
 
 
-def by_java(server, receipts):
+def by_java(relay, receipts):
     if not shutil.which("java") or not shutil.which("javac"):
         return not_tried("the client of Java", "its kit is not installed")
     with tempfile.TemporaryDirectory() as room:
@@ -170,8 +175,9 @@ def by_java(server, receipts):
             it.write(JAVA)
         output("javac", "-d", room, path)
         java = ["java", "-Djdk.httpclient.keepalive.timeout=0", "-cp", room, "Five"]
-        said, _ = timed("Java, twice five by two clients", lambda: output(*java, held(server), *receipts))
-        expect("the replies to Java, of which none waited", said.split("\n")[:-1], ["200 3"] * 10)
+        said = timed("Java, twice five by two clients", lambda: output(*java, held(relay), *receipts))
+        expect("the replies to Java", said.split("\n")[:-1], ["200 3"] * 10)
+        relay.none_waited("Java", 10)
 
 
 def an_idle_connection_bars_the_others():

@@ -134,6 +134,9 @@ for (const one of seen) {
 }
 const heading = document.querySelector(".head h2");
 if (heading?.checkVisibility() && heading.clientWidth < 120) wrong.push(`a heading ${heading.clientWidth} wide`);
+for (const one of seen) {
+  if (one.matches(".row-article") && one.clientWidth < 80) wrong.push(`an article ${one.clientWidth} wide`);
+}
 const { scrollWidth, clientWidth } = document.documentElement;
 if (scrollWidth > clientWidth) wrong.push(`it is ${scrollWidth} wide`);
 return wrong;

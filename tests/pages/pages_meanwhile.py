@@ -502,6 +502,30 @@ def no_question_is_asked_about_a_book_that_was_closed():
             no_faults()
 
 
+def no_pledge_is_asked_about_for_a_book_that_was_closed():
+    """The book has no terms, so the page looks whether another till has added some; and it is closed meanwhile."""
+    with Pages() as pages:
+        make_book(pages, terms=False)
+        open_book(pages)
+        the_book_is_read()
+        part("take")
+        browser.rests()
+        browser.run(SLOW_REPLY, "GET", "/export")
+        browser.fill("#taking", article="Gold ring", ref="A1", amount="100")
+        browser.press("#taking button", "Take the pledge")
+        browser.until("return window.held", "a look that is late")
+        browser.press("#close-book")
+        browser.element("#open")
+        browser.run("window.letGo()")
+        browser.until(
+            "return document.querySelector('dialog') || document.querySelector('#elsewhere').textContent",
+            "what comes of it",
+        )
+        expect("no question", browser.run("return document.querySelector('dialog')"), None)
+        browser.says("Book 7: The book was closed before this was sent, so it was not done.", "#elsewhere")
+        no_faults()
+
+
 def a_file_has_the_name_of_its_own_book():
     with Pages() as pages:
         two_pledges(pages)
@@ -728,7 +752,8 @@ main(
         a_question_names_its_pledge_and_does_not_stay_above_another, each_question_names_its_pledge,
         an_act_of_a_book_that_was_closed_is_reported_with_its_book,
         a_renewal_of_a_book_that_was_closed_says_how_far_it_came,
-        no_question_is_asked_about_a_book_that_was_closed, a_file_has_the_name_of_its_own_book,
+        no_question_is_asked_about_a_book_that_was_closed, no_pledge_is_asked_about_for_a_book_that_was_closed,
+        a_file_has_the_name_of_its_own_book,
         what_is_typed_for_one_book_is_not_left_for_another, what_was_looked_for_in_a_book_is_not_said_of_another,
         what_came_of_a_take_is_said_in_another_part,
         a_question_about_a_pledge_that_is_open_over_midnight_is_asked_again,

@@ -179,7 +179,7 @@ def all_else_goes_on_a4():
             (f"Article {number}", f"J{number}", 9000 + number, ago(220), ago(-5) if number < 60 else "", "no")
             for number in range(1, 121)
         ]
-        pledges.append((LONG, "J121", 9000, ago(1), "", "no"))
+        pledges.append((LONG, "J121", 100_000_000, ago(1), "", "no"))
         fill_book(pages, book_text(pledges, rates=(0, 0, 0)))
         for seq in range(1, 31):
             pages.session.broker("POST", "/books/7/pledges/1/repay", {"pence": 100 + seq, "seq": seq})
@@ -210,7 +210,8 @@ def all_else_goes_on_a4():
         part("all")
         browser.says("121 of 121 pledges", "#all")
         count = is_printed(
-            "paper-all", A4, "Article 1 ", "Article 60", "Article 120", f"{LONG} J121", AS_READ, never=never,
+            "paper-all", A4, "Article 1 ", "Article 60", "Article 120", f"{LONG} J121", "£1,000,000.00", AS_READ,
+            never=never,
         )
         expect(f"121 pledges are on at most four pages, and not on {count}", count <= 4, True)
         expect(

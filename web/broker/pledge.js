@@ -58,7 +58,7 @@ class Desk {
     return ledger.known(this.number);
   }
 
-  /** The present statement of the pledge. What comes of a book that was closed meanwhile is no reason to ask anything. */
+  /** The present statement of the pledge. Throws if the book was closed meanwhile, so that nothing is asked about it. */
   async read(number = this.number) {
     const statement = await statementOf(number, this.session);
     if (this.session) this.refuseOtherBook();

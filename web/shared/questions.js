@@ -15,11 +15,12 @@ const aboutOf = ({ number, article }) => [`Pledge ${number}: `, foreign(article)
 
 /** A line that is empty until a new day begins: a question that is open then names days and sums of the day before. */
 function dayLine() {
-  const line = make("p", { className: "loud", role: "status" });
+  const line = make("p", { role: "status" });
   const day = today();
   const timer = setInterval(() => {
     if (today() === day) return;
     clearInterval(timer);
+    line.className = "loud";
     line.textContent = `A new day has begun since this was asked. Days and sums in it are those of ${inWords(day)}.`;
   }, LOOK);
   return { line, end: () => clearInterval(timer) };

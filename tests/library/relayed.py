@@ -1,0 +1,54 @@
+"""A relay in front of a service, which measures how long each request waits there for the first byte of its reply. On a
+busy machine the client itself may be slow; that is not measured."""
+import contextlib
+import socket
+import threading
+import time
+
+from tests.library.checks import expect
+from tests.library.sessions import PATIENCE
+
+
+class Relay:
+    """A port that leads to another. `waits` has the seconds that each request waited."""
+
+    def __init__(self, port):
+        self.to, self.waits = port, []
+
+    def __enter__(self):
+        self.listener = socket.create_server(("127.0.0.1", 0))
+        self.port = self.listener.getsockname()[1]
+        threading.Thread(target=self.accept, daemon=True).start()
+        return self
+
+    def __exit__(self, *_):
+        self.listener.shutdown(socket.SHUT_RDWR)
+        self.listener.close()
+
+    def accept(self):
+        with contextlib.suppress(OSError):
+            while True:
+                threading.Thread(target=self.carry, args=(self.listener.accept()[0],), daemon=True).start()
+
+    def carry(self, client):
+        asked = []
+        with client, contextlib.suppress(OSError), socket.create_connection(("127.0.0.1", self.to)) as service:
+            threading.Thread(target=self.pass_on, args=(client, service, asked), daemon=True).start()
+            while piece := service.recv(65536):
+                if asked:
+                    self.waits.append(time.monotonic() - asked[-1])
+                    asked.clear()
+                client.sendall(piece)
+
+    @staticmethod
+    def pass_on(client, service, asked):
+        with contextlib.suppress(OSError):
+            while piece := client.recv(65536):
+                asked.append(time.monotonic())
+                service.sendall(piece)
+            service.shutdown(socket.SHUT_WR)
+
+    def none_waited(self, who, count):
+        """So many requests came since this was asked last, and none waited for the end of another's connection."""
+        waits, self.waits = self.waits, []
+        expect(f"the requests of {who}, and whether one waited", (len(waits), max(waits) < PATIENCE - 1), (count, True))
