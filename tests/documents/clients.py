@@ -224,21 +224,27 @@ def how_connections_end():
             expect("the reply then", read_all(peer).endswith(b'{"version":1}'), True)
 
 
-def a_body_that_is_too_long():
-    """It is refused while it is written: the reply is seen, or that the connection is broken. One byte less is read."""
+def refused_while_it_is_written(server, code, made):
+    """Sends a body twenty times, and checks that the client sees this refusal or that the connection is broken."""
+    seen, fields = {}, {"Pledge-Key": BROKER, "Import-Key": BROKER, "Connection": "close"}
+    for _ in range(20):
+        connection = http.client.HTTPConnection("127.0.0.1", server.port, timeout=60)
+        try:
+            connection.request("POST", "/books/7/import", made(), fields)
+            said = json.loads(connection.getresponse().read())["code"]
+        except OSError as why:
+            said = type(why).__name__
+        connection.close()
+        seen[said] = seen.get(said, 0) + 1
+    print(f"        http.client saw {seen}", flush=True)
+    expect("what was seen", set(seen) <= {code, "BrokenPipeError", "ConnectionResetError"}, True)
+
+
+def a_body_that_is_refused_while_it_is_written():
+    """A body that is too long, and one in chunks even if it is short. One byte less than too long is read."""
     with two_pledges() as (server, _):
-        seen, fields = {}, {"Pledge-Key": BROKER, "Import-Key": BROKER, "Connection": "close"}
-        for _ in range(20):
-            connection = http.client.HTTPConnection("127.0.0.1", server.port, timeout=60)
-            try:
-                connection.request("POST", "/books/7/import", b"x" * 2 * BODY_BYTES, fields)
-                said = json.loads(connection.getresponse().read())["code"]
-            except OSError as why:
-                said = type(why).__name__
-            connection.close()
-            seen[said] = seen.get(said, 0) + 1
-        print(f"        http.client saw {seen}", flush=True)
-        expect("what was seen", set(seen) <= {705, "BrokenPipeError", "ConnectionResetError"}, True)
+        refused_while_it_is_written(server, 705, lambda: b"x" * 2 * BODY_BYTES)
+        refused_while_it_is_written(server, 703, lambda: iter([b"{}"]))
         with server.connect() as peer:
             peer.sendall(request("POST", "/books/7/import", KEY, IMPORT, CLOSE, body="x" * BODY_BYTES))
             expect("the longest body", read_all(peer).endswith(b'{"code":602,"name":"Columns","row":1}'), True)
@@ -501,6 +507,9 @@ AFTER_FAULTS = (
 if __name__ == "__main__":
     if refusing.library() is None:
         not_tried("491 and 492", "no C compiler is there")
-    main(five_requests_by_each_client, an_idle_connection_bars_the_others, how_connections_end, a_body_that_is_too_long,
-         a_length_that_is_not_that_of_the_body, several_receipts, two_senders_of_one_entry, what_the_proxy_says_by_itself,
-         two_ways_to_try, old_days_by_an_import, *([] if refusing.library() is None else AFTER_FAULTS))
+    main(
+        five_requests_by_each_client, an_idle_connection_bars_the_others, how_connections_end,
+        a_body_that_is_refused_while_it_is_written, a_length_that_is_not_that_of_the_body, several_receipts,
+        two_senders_of_one_entry, what_the_proxy_says_by_itself, two_ways_to_try, old_days_by_an_import,
+        *([] if refusing.library() is None else AFTER_FAULTS),
+    )

@@ -82,7 +82,10 @@ WORDS = {
         "BadHead",
         "There is no head of a request, or it has more than 64 fields, or more than 8,192 bytes. The connection ends.",
     ),
-    703: ("Transfer", "There is a `Transfer-Encoding`. Send a `Content-Length`. The connection ends."),
+    703: (
+        "Transfer",
+        "There is a `Transfer-Encoding`. Send a `Content-Length`. The connection ends, maybe while the client still writes.",
+    ),
     704: (
         "BadLength",
         "There are two `Content-Length`, or its value is not 1 to 19 digits. The connection ends.",
