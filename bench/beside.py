@@ -107,7 +107,7 @@ def streams():
         (f"a view of {PRESENTED} receipts", 2.5, [request("GET", "/books/1/held", *fields) for fields in presented]),
         ("an opening", 1.8, [request("POST", "/books/3/pledges", key, body=opening % at) for at in range(900)]),
         (f"a statement of {LONG} entries", 2.3, [request("GET", "/books/2/pledges/1", key)] * 300),
-        ("a day's sheet", 2.2, [request("GET", f"/books/1/days/2024-02-{3 + at % 5:02}", key) for at in range(80)]),
+        ("a day's sheet", 2.2, [request("GET", f"/books/1/days/2024-02-{3 + at % 5:02}", key) for at in range(800)]),
         ("an export", 3.0, [request("GET", "/books/1/export", key)] * 4),
     ]
 
