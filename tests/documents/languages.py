@@ -373,16 +373,19 @@ func main() {
 	}
 }
 """
+# The second word is the method of the second request; a third one makes Ruby repeat nothing.
 RUBY_TWICE = """
-Net::HTTP.start("127.0.0.1", URI(ARGV[0]).port) do |call|
+call = Net::HTTP.new("127.0.0.1", URI(ARGV[0]).port)
+call.max_retries = 0 if ARGV[2]
+call.start do
   print call.get("/").code, " "
-  print((call.post("/", "").code rescue "error"), " ")
+  print((call.send_request(ARGV[1], "/", ARGV[1] == "POST" ? "" : nil).code rescue "error"), " ")
 end
 """
 PERL_TWICE = """
 use HTTP::Tiny;
 my $client = HTTP::Tiny->new(keep_alive => 1);
-print $client->request($_, "$ARGV[0]/$_")->{status}, " " for "GET", "POST";
+print $client->request($_, "$ARGV[0]/$_")->{status}, " " for "GET", $ARGV[1];
 """
 
 
@@ -436,8 +439,12 @@ def some_clients_send_a_post_again_by_themselves():
              "200 error ", once),
             ("Java", "java.net.http", ["java", java, "{url}", "newer"], "200 error ", once),
             ("JavaScript", "node's fetch", ["node", "--input-type=module", "-e", NODE_TWICE, "{url}"], "200 error ", once),
-            ("Ruby", "Net::HTTP", ["ruby", "-rnet/http", "-e", RUBY_TWICE, "{url}"], "200 error ", once),
-            ("Perl", "HTTP::Tiny", ["perl", "-e", PERL_TWICE, "{url}"], "200 599 ", once),
+            ("Ruby", "Net::HTTP", ["ruby", "-rnet/http", "-e", RUBY_TWICE, "{url}", "POST"], "200 error ", once),
+            ("Ruby", "Net::HTTP with GET", ["ruby", "-rnet/http", "-e", RUBY_TWICE, "{url}", "GET"], "200 200 ", ["GET"] * 3),
+            ("Ruby", "Net::HTTP without retries", ["ruby", "-rnet/http", "-e", RUBY_TWICE, "{url}", "GET", "none"],
+             "200 error ", ["GET"] * 2),
+            ("Perl", "HTTP::Tiny", ["perl", "-e", PERL_TWICE, "{url}", "POST"], "200 599 ", once),
+            ("Perl", "HTTP::Tiny with GET", ["perl", "-e", PERL_TWICE, "{url}", "GET"], "200 200 ", ["GET"] * 3),
             ("Go", "Go's own client, kept", [go, "{url}", "kept"], "200 error ", once),
             ("Go", "Go's own client by Close", [go, "{url}", "request"], "200 200 ", once),
             ("Go", "Go's own client by DisableKeepAlives", [go, "{url}", "transport"], "200 200 ", once),
