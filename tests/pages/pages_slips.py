@@ -412,7 +412,7 @@ def once_the_period_is_over_it_says_how_to_go_on():
     with Pages() as pages:
         make_book(pages, terms=False)
         fill_book(pages, book_text([
-            ("Ring", "R1", 10000, ago(400), ago(2), "yes"), ("Clock", "C1", 10000, ago(400), ago(20), "no"),
+            ("Ring", "Ring-1", 10000, ago(400), ago(2), "yes"), ("Clock", "Clock-1", 10000, ago(400), ago(20), "no"),
         ]))
         open_book(pages)
         the_book_is_read()

@@ -267,13 +267,13 @@ export function goTo(number, statement = null) {
   return null;
 }
 
-/** Why no article is handed out for a receipt that is still live, although its pledge is over. */
+/** Why the article is not given back for a receipt that is still live, although its pledge is over. */
 const overMessage = (closing) => (closing
   ? `This receipt is live, but the article was sold on ${inShort(closing.day)}.`
   : "This receipt is live, but the period is over and the article belongs to the pawnbroker. "
     + "Don’t hand out the article.");
 
-/** What is said of a live receipt. On a hold, or once the pledge is over, the article is not handed out for it. */
+/** What is said of a live receipt. On a hold, or once the pledge is over, the article is not given back for it. */
 function liveMessage({ status, owed, held, closing }) {
   if (!isOpen(status)) return { message: overMessage(closing), tone: "bad", fold: null };
   const live = `This receipt is live. ${inPounds(owed.owing)} is owed today.`;

@@ -5,7 +5,7 @@ import { daysBetween } from "./days.js";
 const PENNY = 1_000_000n;
 
 /**
- * The charges of the days after one day, up to another: interest on what is lent, and safe keeping before and after the
+ * The charges of the days after one day, up to another: interest on the loan, and safe keeping before and after the
  * end.
  */
 function chargesBetween(from, to, { ends, rates, principal }) {

@@ -51,7 +51,7 @@ export async function readUnrefused(read, sort, pence) {
   return now;
 }
 
-/** Whether an amount is unlike the pledge: above its charges and half of what is lent, or above half of its limit. */
+/** Whether an amount is unlike the pledge: above its charges and half of the loan, or above half of its limit. */
 function isUnlike({ owed, credit }, sort, pence) {
   if (!owed) return false;
   return sort === "repay" ? pence > owed.charges + owed.principal / 2 : pence > credit / 2;
