@@ -1,17 +1,17 @@
 -- A plan by a keeper's answers is the book's step.
-use Rattle.pawn_base.proofs.RefusalLemmas.{past_row-ok}
+use Rattle.pawn_base.proofs.RefusalLemmas.{first_of-ok, past_row-ok}
 use Rattle.pawn_book.proofs.Sounds.{IsNext, absurd_none, some_is, sound_filled, sound_made, sound_next, sound_terms}
 use Rattle.pawn_book.proofs.Sounds.{sound_with}
 use Rattle.pawn_book.specs.BookStep.{BookValue, Makes, Outcome, Refuses, book_head, changed_book, filled_book}
 use Rattle.pawn_book.specs.BookStep.{first_receipt, import_rows, is_empty, made_book, make_book, make_or_refuse, newest}
 use Rattle.pawn_book.specs.BookStep.{next_pledge, next_terms, pledge_from, pledge_in, put_from, put_terms, take_pledge}
-use Rattle.pawn_book.specs.BookStep.{under_pledge, with_reference, with_room}
+use Rattle.pawn_book.specs.BookStep.{opening_refusals, with_reference}
 use Rattle.pawn_book.specs.Books.{AddTerms, BookFilled, BookMade, BookNotEmpty, BookRows, Change, ImportBook, MakeBook}
 use Rattle.pawn_book.specs.Books.{Memory, NewBook, NewTerms, Opened, Planned, PledgesFull, PutPledge, Refusal}
 use Rattle.pawn_book.specs.Books.{TermsFull, TermsPut, TermsSeq}
 use Rattle.pawn_book.specs.Changes.{CanSave, IsUnfilled, book_number, with_change}
 use Rattle.pawn_book.specs.Common.{Each, IsChecked, IsNumber, IsReachable, IsText, IsUtf8, Issued, Opening}
-use Rattle.pawn_book.specs.Common.{PledgeRefusal, PledgeValue, Rates, Stamp, pledge_start, result_unwrap_or}
+use Rattle.pawn_book.specs.Common.{PledgeValue, Rates, Stamp, new_pledge, result_unwrap_or}
 use Rattle.pawn_book.specs.HostStep.{Host, with_book}
 use Rattle.pawn_book.specs.Keeping.{number_of, pledges_of, terms_of}
 use Rattle.pawn_book.specs.Limits.{IsCapacity, most_name_bytes, most_pledges, most_terms}
@@ -19,8 +19,6 @@ use Rattle.pawn_book.specs.Plans.{Plans}
 use Rattle.pawn_book.specs.Rows.{AreNumberedFrom, AreReplayable, is_same_text, terms_at}
 use Rattle.pawn_book.specs.Sound.{AreSound, AreWords, HasTextsAndWords, IsSound, IsWord}
 use Rattle.pawn_book.specs.declared.change.BookHead.{BookHead}
-use Rattle.pawn_debt.specs.Answers.{is_bad_amount}
-use Rattle.pawn_debt.specs.Due.{credit_of}
 use Rattle.pawn_terms.specs.Calendar.{IsDayNumber}
 use Rattle.std.proofs.Common.{◌≡◌, ◌≢◌, ℕ, ◌+◌, ◌<◌, ◌≤◌, zero, suc, List, [], ◌∷◌, ◌++◌, length, Some, None, Ok, Err}
 use Rattle.std.proofs.Common.{refl, ◌∙◌, ap, sym, subst, arith, inl, if◌then◌else◌, Option, Result, ◌==◌, true, false}
@@ -110,7 +108,7 @@ pub pledge_plans : (h : Host) (b : ℕ) (at : BookValue) (opening : Opening) (st
     → with_reference at.pledges opening.reference ≡ None → next_pledge (book_head at) opening stamp (newest at.terms) ≡ Ok p
     → IsNext at p → IsReachable p → HasTextsAndWords p → Plans h b (take_pledge at b opening stamp (with_reference at.pledges opening.reference))
     (Ok (record { change = Some (PutPledge b p.agreement.number p); reply = Opened (first_receipt p) }))
-pledge_plans h b at opening stamp p sound is none answer next standing written =
+pledge_plans h b at opening stamp p sound is none answer next reachable written =
     let book : BookValue = record at { pledges = put_from 1 at.pledges p.agreement.number p } in
     let same : with_change h (PutPledge b p.agreement.number p) ≡ with_book h b (Some book) =
     changed_is h b (PutPledge b p.agreement.number p) book refl (ap (λ o. changed_book o (PutPledge b p.agreement.number p)) is) in (
@@ -120,7 +118,7 @@ pledge_plans h b at opening stamp p sound is none answer next standing written =
         record {
           follows = (at, is, inl next.number);
           sound = subst AreSound (sym same)
-              (sound_with h b book sound.books ((sound.books b at is).0, sound_next at p (sound.books b at is).1 next standing written));
+              (sound_with h b book sound.books ((sound.books b at is).0, sound_next at p (sound.books b at is).1 next reachable written));
         },
       ),
     )
@@ -161,12 +159,12 @@ found_by_number h b n reference sound is = from (get h.books b) refl is where
   from (Some book) e is = at book (sound.books b book e).1.rows.numbered (with_reference book.pledges reference) refl is ∙ refl
 
 -- terms that are not refused have the next version, and there is room for them
-pub next_is : (standing : ℕ) (new : NewTerms) (terms : Rates) → next_terms standing new ≡ Ok terms
-    → (1 ≤ new.version) × (new.version ≤ standing + 1) × (standing < most_terms)
-next_is standing new terms is =
+pub next_is : (versions : ℕ) (new : NewTerms) (terms : Rates) → next_terms versions new ≡ Ok terms
+    → (1 ≤ new.version) × (new.version ≤ versions + 1) × (versions < most_terms)
+next_is versions new terms is =
     let zero_free = past_row-ok (new.version == 0) TermsSeq _ terms is in
-    let not_ahead = past_row-ok (nat_lt (standing + 1) new.version) TermsSeq _ terms zero_free.1 in
-    let not_full = past_row-ok (nat_le most_terms standing) TermsFull _ terms not_ahead.1 in
+    let not_ahead = past_row-ok (nat_lt (versions + 1) new.version) TermsSeq _ terms zero_free.1 in
+    let not_full = past_row-ok (nat_le most_terms versions) TermsFull _ terms not_ahead.1 in
     (grind (arith, nat_tests, zero_free.0), grind (arith, nat_tests, not_ahead.0), grind (arith, nat_tests, not_full.0))
 
 -- a version that the book does not have is above those that it has
@@ -206,24 +204,18 @@ pub record IsTakenAs (head : BookHead) (opening : Opening) (stamp : Stamp) (newe
 pub taken_is : (head : BookHead) (opening : Opening) (stamp : Stamp) (newest : Option Rates) (p : PledgeValue) → next_pledge head opening stamp newest ≡ Ok p
     → IsTakenAs head opening stamp newest p
 taken_is head opening stamp None p is = cc is
-taken_is head opening stamp (Some terms) p is = from (pledge_start (head.pledges + 1) opening head.terms terms stamp) refl is where
-  from : (r : Result PledgeValue PledgeRefusal) → pledge_start (head.pledges + 1) opening head.terms terms stamp ≡ r
-      → with_room head.pledges (under_pledge r) ≡ Ok p → IsTakenAs head opening stamp (Some terms) p
-  from (Err why) at is = cc is
-  from (Ok q) at is =
-      let row = past_row-ok (nat_le most_pledges head.pledges) PledgesFull _ p is in
-      let few : head.pledges < most_pledges = grind (arith, nat_tests, row.0) in
-      let same : q ≡ p = ap (λ (r : Result PledgeValue Refusal). result_unwrap_or r q) row.1 in
-      let start = past_row-ok (is_bad_amount (credit_of opening.kind)) _ _ q at in
-      subst (IsTakenAs head opening stamp (Some terms)) (ap (λ (r : Result PledgeValue PledgeRefusal). result_unwrap_or r q) start.1 ∙ same)
-      (record { number = refl; asked = refl; version = refl; under = refl; first = (_, refl, refl); day = refl; few = few })
+taken_is head opening stamp (Some terms) p is =
+    let passed = first_of-ok (opening_refusals head opening (Some terms)) (Ok (new_pledge (head.pledges + 1) opening head.terms terms stamp)) p is in
+    let few : head.pledges < most_pledges = grind (arith, nat_tests, passed.0.1.1.0) in
+    subst (IsTakenAs head opening stamp (Some terms)) (ap (λ (r : Result PledgeValue Refusal). result_unwrap_or r p) passed.1)
+    (record { number = refl; asked = refl; version = refl; under = refl; first = (_, refl, refl); day = refl; few = few })
 
 -- the next pledge, by the answers of a keeper
 pub taken_plans : (h : Host) (b : ℕ) (at : BookValue) (head : BookHead) (opening : Opening) (stamp : Stamp) (p : PledgeValue) → IsSound h → get h.books b
     ≡ Some at → head ≡ book_head at → None ≡ with_reference (pledges_of (get h.books b)) opening.reference → next_pledge head opening stamp (newest at.terms)
     ≡ Ok p → IsReachable p → IsUtf8 opening.reference → IsUtf8 opening.article → IsWord stamp.word → IsDayNumber stamp.day → Plans h b (take_pledge at b opening
     stamp (with_reference at.pledges opening.reference)) (Ok (record { change = Some (PutPledge b p.agreement.number p); reply = Opened (first_receipt p) }))
-taken_plans h b at head opening stamp p sound is heads none answer standing reference article word day =
+taken_plans h b at head opening stamp p sound is heads none answer reachable reference article word day =
     let absent : with_reference at.pledges opening.reference ≡ None = sym (none ∙ ap (λ o. with_reference (pledges_of o) opening.reference) is) in
     let next : next_pledge (book_head at) opening stamp (newest at.terms) ≡ Ok p =
     ap (λ (q : BookHead). next_pledge q opening stamp (newest at.terms)) (sym heads) ∙ answer in
@@ -241,4 +233,4 @@ taken_plans h b at head opening stamp p sound is heads none answer standing refe
       secrets = subst AreWords (sym taken.first.1) (subst IsWord (sym taken.first.2) word, tt);
       taken = subst IsDayNumber (sym taken.day) day;
     } in
-    pledge_plans h b at opening stamp p sound is absent next is_next standing written
+    pledge_plans h b at opening stamp p sound is absent next is_next reachable written

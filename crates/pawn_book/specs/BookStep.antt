@@ -2,7 +2,7 @@
 use Rattle.pawn_book.specs.Bookings.{confirmed_count, is_confirmed}
 use Rattle.pawn_book.specs.Common.{Answered, Booking, Changed, Command, Done, Fixed, Issued, Judged, Kind, Opening}
 use Rattle.pawn_book.specs.Common.{PledgeRefusal, PledgeValue, Rates, Receipt, Refused, Running, Stamp, TermsFault}
-use Rattle.pawn_book.specs.Common.{first_of, live_of, pledge_start, pledge_step, terms_answer}
+use Rattle.pawn_book.specs.Common.{first_of, is_bad_opening, live_of, new_pledge, pledge_step, terms_answer}
 use Rattle.pawn_book.specs.Limits.{most_terms, most_pledges}
 use Rattle.pawn_book.specs.Rows.{is_same_text, terms_at}
 use Rattle.pawn_book.specs.Sheet.{day_sheet}
@@ -27,8 +27,9 @@ use Rattle.pawn_book.specs.declared.request.NewTerms.{NewTerms}
 use Rattle.pawn_book.specs.declared.request.View.{View}
 use Rattle.pawn_book.specs.declared.rows.BookRows.{BookRows}
 use Rattle.pawn_book.specs.declared.sheet.SheetItem.{SheetItem}
+use Rattle.pawn_debt.specs.declared.fault.DebtFault.TheVariants.{BadAmount}
 use Rattle.std.specs.Prelude.{ℕ, ◌+◌, List, [], ◌∷◌, ◌++◌, Bool, true, false, ◌&&◌, Option, Some, None, Result, Ok, Err}
-use Rattle.std.specs.Prelude.{if◌then◌else◌, ◌==◌, nat_le, nat_lt, length, map, find}
+use Rattle.std.specs.Prelude.{if◌then◌else◌, ◌==◌, nat_le, nat_lt, length, map, find, is_none, ok_or, option_map}
 use Rattle.pawn_book.specs.declared.request.View.TheVariants as seen
 
 -- a book: its key, name and capacity, and its terms, pledges and import
@@ -153,13 +154,13 @@ abbrev pub under_terms : Result Rates TermsFault → Result Rates Refusal
 under_terms (Ok terms) = Ok terms
 under_terms (Err fault) = Err (Terms fault)
 
--- the terms of a version that a book with `standing` versions does not have yet, or their refusal
+-- the terms of a version that a book with this many `versions` does not have yet, or their refusal
 abbrev pub next_terms : ℕ → NewTerms → Result Rates Refusal
-next_terms standing new =
+next_terms versions new =
     first_of
     ((new.version == 0, TermsSeq)
-    ∷ (nat_lt (standing + 1) new.version, TermsSeq)
-    ∷ (nat_le most_terms standing, TermsFull)
+    ∷ (nat_lt (versions + 1) new.version, TermsSeq)
+    ∷ (nat_le most_terms versions, TermsFull)
     ∷ [])
     (under_terms (terms_answer new.rates))
 
@@ -201,21 +202,20 @@ is_same_flag false false = true
 abbrev pub is_same_opening : Opening → Opening → Bool
 is_same_opening a b = is_same_text a.article b.article && is_same_kind a.kind b.kind && is_same_end a.agreed b.agreed && is_same_flag a.five_days b.five_days
 
--- the pledge, or the refusal by its own rules
-abbrev pub under_pledge : Result PledgeValue PledgeRefusal → Result PledgeValue Refusal
-under_pledge (Ok p) = Ok p
-under_pledge (Err refusal) = Err (Pledge refusal)
+-- the refusals of an opening whose reference no pledge of the book has, in their order
+abbrev pub opening_refusals : BookHead → Opening → Option Rates → List (Bool × Refusal)
+opening_refusals head opening newest =
+    (is_none newest, NoTerms)
+    ∷ (is_bad_opening opening, Pledge (PledgeRefusal.Debt BadAmount))
+    ∷ (nat_le most_pledges head.pledges, PledgesFull)
+    ∷ []
 
--- the pledge, if a book with `standing` pledges has room for it
-abbrev pub with_room : ℕ → Result PledgeValue Refusal → Result PledgeValue Refusal
-with_room standing (Ok p) = first_of ((nat_le most_pledges standing, PledgesFull) ∷ []) (Ok p)
-with_room standing (Err why) = Err why
-
--- a new pledge, with the next number of the book and under its newest terms
+-- a new pledge, with the next number of the book and under its newest terms, or the first refusal
 abbrev pub next_pledge : BookHead → Opening → Stamp → Option Rates → Result PledgeValue Refusal
-next_pledge head opening stamp None = Err NoTerms
-next_pledge head opening stamp (Some terms) =
-    with_room head.pledges (under_pledge (pledge_start (head.pledges + 1) opening head.terms terms stamp))
+next_pledge head opening stamp newest =
+    first_of
+    (opening_refusals head opening newest)
+    (ok_or (option_map (λ terms. new_pledge (head.pledges + 1) opening head.terms terms stamp) newest) NoTerms)
 
 -- `TakePledge`: an equal opening gets the answer of the first time
 abbrev pub take_pledge : BookValue → ℕ → Opening → Stamp → Option PledgeValue → Outcome

@@ -29,7 +29,7 @@ fn are_replayable(terms: &[Rates], pledges: &[Parts]) -> bool
         && are_numbered(pledges)
         && do_not_fall(pledges)
         && are_under(terms, pledges)
-        && can_stand(pledges)
+        && are_reachable(pledges)
         && are_distinct(pledges)
 }
 
@@ -102,11 +102,11 @@ fn are_under(terms: &[Rates], pledges: &[Parts]) -> bool
 }
 
 /// Whether each pledge is reachable and within its limits.
-fn can_stand(pledges: &[Parts]) -> bool
+fn are_reachable(pledges: &[Parts]) -> bool
     ensures answer { IsTrue result ↔ Each IsReachable pledges.now }
 {
     for parts in pledges {
-        if !parts.can_stand() {
+        if !parts.is_reachable() {
             return false;
         }
     }

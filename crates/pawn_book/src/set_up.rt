@@ -108,15 +108,15 @@ fn are_same_rates(a: Rates, b: Rates) -> bool
     a.rate == b.rate && a.keep_before == b.keep_before && a.keep_after == b.keep_after
 }
 
-/// The terms, if they may be the next version of a book that has `standing` versions and does not have this one.
-fn next_terms(standing: u64, new_terms: &NewTerms) -> Result<Terms, Refusal>
-    ensures value { result ≡ next_terms standing new_terms.now }
+/// The terms, if they may be the next version of a book that has this many `versions` and does not have this one.
+fn next_terms(versions: u64, new_terms: &NewTerms) -> Result<Terms, Refusal>
+    ensures value { result ≡ next_terms versions new_terms.now }
     ensures checked { IfOk result IsChecked }
 {
-    if new_terms.version == 0 || new_terms.version - 1 > standing {
+    if new_terms.version == 0 || new_terms.version - 1 > versions {
         return Err(Refusal::TermsSeq);
     }
-    if standing >= MOST_TERMS {
+    if versions >= MOST_TERMS {
         return Err(Refusal::TermsFull);
     }
     match new_terms.rates.check() {

@@ -97,7 +97,7 @@ fn next_step<K: Keep>(
     let parts = read_parts(keep, book, number)?;
     know_written(&parts);
     let next = parts.agreement.version;
-    if parts.agreement.number != number || next < version || !parts.can_stand() {
+    if parts.agreement.number != number || next < version || !parts.is_reachable() {
         return Err(CheckFault::Damaged);
     }
     let rows = rows_of_parts(&parts);

@@ -24,5 +24,5 @@ AreEntriesAccepted debt prior (e ∷ es) =
     IsEntryAccepted (record debt { entries = prior }) e × AreEntriesAccepted debt (prior ++ e ∷ []) es
 
 -- a reachable debt: its sum or limit is in range, and the rules accept its entries in turn
-abbrev pub CanStand : DebtValue → Type 0
-CanStand p = (1 ≤ credit_of p.kind) × (credit_of p.kind ≤ most_pence) × AreEntriesAccepted p [] p.entries
+abbrev pub IsReachableDebt : DebtValue → Type 0
+IsReachableDebt p = (1 ≤ credit_of p.kind) × (credit_of p.kind ≤ most_pence) × AreEntriesAccepted p [] p.entries

@@ -5,7 +5,7 @@ ghost use Rattle.pawn_debt.specs.Due.{due, last_of, credit_of, after_sort};
 ghost use Rattle.pawn_debt.specs.Kept.{IsDebtKept, sums_of, totals_of};
 ghost use Rattle.pawn_debt.specs.Limits.{most_pence, most_entries, most_a_day, most_millionths};
 ghost use Rattle.pawn_debt.specs.Owing.{owing_of};
-ghost use Rattle.pawn_debt.specs.Replay.{CanStand};
+ghost use Rattle.pawn_debt.specs.Replay.{IsReachableDebt};
 ghost use Rattle.pawn_terms.specs.Calendar.{IsDayNumber};
 ghost use Rattle.std.specs.Prelude.{find, ◌==◌, ◌≡◌, ◌-◌, ◌*◌, ◌≤◌, ◌<◌, length, OnOk, OnErr, IfOk, IfErr};
 
@@ -104,9 +104,9 @@ impl Debt {
         ends: Day,
         entries: Entries,
     ) -> Result<Debt, Entries>
-        ensures ok { IfOk result (λ d. (d ≡ record { kind = kind; terms = terms; taken = taken; ends = ends; entries = entries }) × CanStand d) }
+        ensures ok { IfOk result (λ d. (d ≡ record { kind = kind; terms = terms; taken = taken; ends = ends; entries = entries }) × IsReachableDebt d) }
         ensures err { IfErr result (λ e. e ≡ entries) }
-        ensures refused { OnErr result (CanStand (record { kind = kind; terms = terms; taken = taken; ends = ends; entries = entries }) → ⊥) }
+        ensures refused { OnErr result (IsReachableDebt (record { kind = kind; terms = terms; taken = taken; ends = ends; entries = entries }) → ⊥) }
     {
         if kind.credit() == 0 || kind.credit() > MOST_PENCE {
             return Err(entries);

@@ -34,11 +34,11 @@ pub(crate) fn rows_with(books: &[Kept], rows: u64, change: &Change) -> u128
             number,
             pledge,
         } => {
-            let standing = match kept_pledge(books, *book, *number) {
+            let before = match kept_pledge(books, *book, *number) {
                 None => 0,
-                Some(standing) => rows_of_pledge(standing),
+                Some(kept) => rows_of_pledge(kept),
             };
-            u128::from(rows) + u128::from(rows_of_pledge(pledge)) - u128::from(standing)
+            u128::from(rows) + u128::from(rows_of_pledge(pledge)) - u128::from(before)
         }
         Change::ImportBook { rows: imported, .. } => {
             u128::from(rows) + u128::from(count_rows(imported))

@@ -1,5 +1,5 @@
 -- Tables during a migration from an older schema.
-use Rattle.pawn_debt.specs.Replay.{CanStand}
+use Rattle.pawn_debt.specs.Replay.{IsReachableDebt}
 use Rattle.pawn_move.specs.StandsUnder.{HasNoExtension, StandsUnder, listed_under}
 use Rattle.pawn_opening.specs.Common.{Row, HasCleanDisk, State, Host, Listed, with_rows, ListsOurs, StandsFor}
 use Rattle.pawn_opening.specs.Common.{Index, Lists, Schema, with_indexes}
@@ -50,7 +50,7 @@ pub record ListFirstDebts (db : Tables) (h : Host) : Type 0 where
 -- the debt of a pledge is reachable: its terms are within their limits, and its sum and its entries, one after the
 -- other, are such that commands can produce them
 abbrev pub CanBeOwed : PledgeValue → Type 0
-CanBeOwed p = IsChecked p.agreement.terms × CanStand (debt_of p)
+CanBeOwed p = IsChecked p.agreement.terms × IsReachableDebt (debt_of p)
 
 -- the debts of all pledges of a book are reachable
 abbrev pub AreOwedIn : Host → ℕ → Type 0

@@ -10,13 +10,13 @@ use Rattle.pawn_pledge.specs.Common.{with_entry}
 use Rattle.pawn_pledge.specs.Limits.{last_window, most_extensions}
 use Rattle.pawn_pledge.specs.Pledge.{PledgeValue, debt_of, end_of, is_realisable, open_status, total_on}
 use Rattle.pawn_pledge.specs.Replayable.{IsDrawnBy, IsNotPassed}
-use Rattle.pawn_pledge.specs.Step.{Answered, Changed, Judged, ask_bars, ask_once, ask_step, bars, cancel_in}
-use Rattle.pawn_pledge.specs.Step.{cancel_step, confirm_in, decide_step, declare_bars, declare_step, decline_in}
-use Rattle.pawn_pledge.specs.Step.{entry_step, extend_bars, extend_step, hold_step, makes_booking, numbered_step}
-use Rattle.pawn_pledge.specs.Step.{where_clear, period_bars, pledge_step, redeem_bars, redeem_step, sell_bars}
+use Rattle.pawn_pledge.specs.Step.{Answered, Changed, Judged, ask_refusals, ask_once, ask_step, shared_refusals, cancel_in}
+use Rattle.pawn_pledge.specs.Step.{cancel_step, confirm_in, decide_step, declare_refusals, declare_step, decline_in}
+use Rattle.pawn_pledge.specs.Step.{entry_step, extend_refusals, extend_step, hold_step, makes_booking, numbered_step}
+use Rattle.pawn_pledge.specs.Step.{where_clear, period_refusals, pledge_step, redeem_refusals, redeem_step, sell_refusals}
 use Rattle.pawn_pledge.specs.Step.{sell_step, under_debt, unless}
 use Rattle.pawn_pledge.specs.Words.{in_state, is_ahead, is_open, is_repeat, is_active, issue_of, new_entry, same_flag}
-use Rattle.pawn_pledge.specs.Words.{stands_for, with_booking, with_extension, with_last, with_secret, with_standing}
+use Rattle.pawn_pledge.specs.Words.{is_asked_again, with_booking, with_extension, with_last, with_secret, with_standing}
 use Rattle.pawn_pledge.specs.declared.command.Command.{Command}
 use Rattle.pawn_pledge.specs.declared.command.Decision.{Decision}
 use Rattle.pawn_pledge.specs.declared.command.Decision.TheVariants.{Confirm, Refuse}
@@ -68,8 +68,8 @@ open-is : (c : Closing) → not (is_open c) ≡ false → c ≡ Closing.Open
 open-is Closing.Open h = refl
 open-is closed h = absurd (true≢false h)
 
-pub gate-is : (p : PledgeValue) (x : ℕ) → NoneApplies (bars p x) → IsGated p x
-gate-is p x h = record { later = not_below x p.standing.last h.0; standing = open-is p.standing.closing h.1.0; not_passed = h.1.1.0 }
+pub past-shared : (p : PledgeValue) (x : ℕ) → NoneApplies (shared_refusals p x) → IsGated p x
+past-shared p x h = record { later = not_below x p.standing.last h.0; standing = open-is p.standing.closing h.1.0; not_passed = h.1.1.0 }
 
 -- the moves: what a step that changes the pledge does, on the day x with the word w; a day in the command is one that a
 -- request may name
@@ -77,7 +77,7 @@ pub data Move (p : PledgeValue) (x w : ℕ) (command : Command) (q : PledgeValue
   Entering : (sort : Sort) (pence : ℕ) → sort_answer sort (debt_of p) x pence ≡ Ok (with_entry (debt_of p) x sort pence)
       → last_of p.agreement.taken p.entries ≤ x → length p.entries < most_entries → IsDrawnBy (end_of p) sort x
       → q ≡ record p { entries = p.entries ++ new_entry p x sort pence ∷ []; standing = with_last p.standing x } → Move p x w command q
-  Declaring : (paper : Paper) → NoneApplies (declare_bars p paper w)
+  Declaring : (paper : Paper) → NoneApplies (declare_refusals p paper w)
       → q ≡ with_secret p (record { day = x; sort = issue_of paper; secret = w }) → Move p x w command q
   Extending : (until : ℕ) → x ≤ end_of p → end_of p < until → length p.extensions < most_extensions
       → (IsCommand command → until ≤ last_stamp_day) → q ≡ with_extension p (record { day = x; until = until }) → Move p x w command q
@@ -96,7 +96,7 @@ under_debt-moves p q c w x sort pence (Err fault) d is drawn h = cc
 
 entry-moves : (p q : PledgeValue) (c : Command) (w x : ℕ) (sort : Sort) (pence : ℕ) (d : Done) → entry_step p x sort pence ≡ Changed q d → Move p x w c q
 entry-moves p q c w x Draw pence d h =
-    let a = unless-changed (period_bars p x) (under_debt p x Draw pence (draw_answer (debt_of p) x pence)) q d h in
+    let a = unless-changed (period_refusals p x) (under_debt p x Draw pence (draw_answer (debt_of p) x pence)) q d h in
     under_debt-moves p q c w x Draw pence (draw_answer (debt_of p) x pence) d refl (not_below (end_of p) x a.0.0) a.1
 entry-moves p q c w x Repay pence d h = under_debt-moves p q c w x Repay pence (repay_answer (debt_of p) x pence) d refl tt h
 
@@ -105,10 +105,10 @@ abbrev pub Goes : PledgeValue → ℕ → ℕ → Command → PledgeValue → Ty
 Goes p x w c q = IsGated p x × Move p x w c q
 
 gated : (p q : PledgeValue) (c : Command) (w x : ℕ) (own : Judged) (d : Done) → (IsGated p x → own ≡ Changed q d → Move p x w c q)
-    → unless (bars p x) own ≡ Changed q d → Goes p x w c q
+    → unless (shared_refusals p x) own ≡ Changed q d → Goes p x w c q
 gated p q c w x own d moves h =
-    let a = unless-changed (bars p x) own q d h in
-    let g = gate-is p x a.0 in
+    let a = unless-changed (shared_refusals p x) own q d h in
+    let g = past-shared p x a.0 in
     (g, moves g a.1)
 
 numbered-moves : (p q : PledgeValue) (c : Command) (w x seq : ℕ) (sort : Sort) (pence : ℕ) (o : Option Entry) (d : Done)
@@ -118,7 +118,7 @@ numbered-moves p q c w x seq sort pence (Some e) d h =
     let never : Answered (Done.Entered e) ≡ Changed q d = a.1 in
     cc
 numbered-moves p q c w x seq sort pence None d h =
-    let a = unless-changed ((is_ahead p seq, Refusal.SeqAhead) ∷ []) (unless (bars p x) (entry_step p x sort pence)) q d h in
+    let a = unless-changed ((is_ahead p seq, Refusal.SeqAhead) ∷ []) (unless (shared_refusals p x) (entry_step p x sort pence)) q d h in
     gated p q c w x (entry_step p x sort pence) d (λ g k. entry-moves p q c w x sort pence d k) a.1
 
 -- a move that changes only the `Standing` of the pledge
@@ -137,11 +137,11 @@ declare-moves : (p q : PledgeValue) (c : Command) (stamp : Stamp) (paper : Paper
     → Move p stamp.day stamp.word c q
 declare-moves p q c stamp paper d h =
     let next : PledgeValue = with_secret p (record { day = stamp.day; sort = issue_of paper; secret = stamp.word }) in
-    let a = unless-changed (declare_bars p paper stamp.word) (Changed next (Done.Declared stamp.word)) q d h in
+    let a = unless-changed (declare_refusals p paper stamp.word) (Changed next (Done.Declared stamp.word)) q d h in
     Declaring paper a.0 (changed-is next q _ d a.1)
 
 -- bookings; one for that day and window that doesn't stand is another than the one asked for
-stands-asked : (b : Booking) → b.state ≡ BookingState.Asked → stands_for b b.day b.window ≡ true
+stands-asked : (b : Booking) → b.state ≡ BookingState.Asked → is_asked_again b b.day b.window ≡ true
 stands-asked b e = let s : is_active b.state ≡ true = rw e refl in grind (arith, nat_tests, s)
 
 ask_once-moves : (p q : PledgeValue) (c : Command) (w x day window : ℕ) (o : Option Booking) (d : Done) → p.standing.booking ≡ o
@@ -152,18 +152,18 @@ ask_once-moves p q c w x day window None d is settles h =
     settled p q c w x _ _ d (settles b refl refl (λ e. let f : None ≡ Some b = sym is ∙ e in cc)) h
 ask_once-moves p q c w x day window (Some o) d is settles h =
     let b : Booking = record { day = day; window = window; state = BookingState.Asked } in
-    let a = if-unanswered (stands_for o day window) _ _ q d h in
+    let a = if-unanswered (is_asked_again o day window) _ _ q d h in
     settled p q c w x _ _ d (settles b refl refl (λ e.
     let f : Some o ≡ Some b = sym is ∙ e in
     let g : o ≡ b = cc in
-    let t : stands_for o day window ≡ true = ap (λ (k : Booking). stands_for k day window) g ∙ stands-asked b refl in
+    let t : is_asked_again o day window ≡ true = ap (λ (k : Booking). is_asked_again k day window) g ∙ stands-asked b refl in
     true≢false (sym t ∙ a.0)))
     a.1
 
 ask-moves : (p q : PledgeValue) (c : Command) (w x day window : ℕ) (d : Done) → (IsCommand c → day ≤ last_stamp_day) → IsGated p x
     → ask_step p x day window ≡ Changed q d → Move p x w c q
 ask-moves p q c w x day window d named g h =
-    let a = unless-changed (ask_bars p x day window) (ask_once p x day window p.standing.booking) q d h in
+    let a = unless-changed (ask_refusals p x day window) (ask_once p x day window p.standing.booking) q d h in
     let later = not_below day x a.0.1.0 in
     let small = not_below last_window window a.0.0 in
     ask_once-moves p q c w x day window p.standing.booking d refl (λ b at same new. ask-settles p x c b g (omega (arith, later, at))
@@ -219,7 +219,7 @@ decide-moves p q c w x Refuse (Some b) d g is h = decline_in-moves p q c w x b b
 -- closings
 redeem-moves : (p q : PledgeValue) (c : Command) (w x paid : ℕ) (d : Done) → IsGated p x → redeem_step p x paid ≡ Changed q d → Move p x w c q
 redeem-moves p q c w x paid d g h =
-    let a = unless-changed (redeem_bars p x paid) _ q d h in
+    let a = unless-changed (redeem_refusals p x paid) _ q d h in
     settled p q c w x _ _ d (close-settles p x c (Closing.Redeemed x paid) g (refl, not_other paid (total_on p x) a.0.1.0, a.0.0) (λ e. cc)) a.1
 
 realisable-is : (s : Status) → not (is_realisable s) ≡ false → s ≡ Status.Realisable
@@ -228,7 +228,7 @@ realisable-is other h = absurd (true≢false h)
 
 sell-moves : (p q : PledgeValue) (c : Command) (w x net : ℕ) (d : Done) → IsGated p x → sell_step p x net ≡ Changed q d → Move p x w c q
 sell-moves p q c w x net d g h =
-    let a = unless-changed (sell_bars p x net) _ q d h in
+    let a = unless-changed (sell_refusals p x net) _ q d h in
     settled p q c w x _ _ d
     (close-settles p x c (Closing.Sold x net) g (refl, realisable-is (open_status p x) a.0.0, not_below most_pence net a.0.1.0) (λ e. cc)) a.1
 
@@ -240,10 +240,10 @@ extend-moves : (p q : PledgeValue) (c : Command) (w x until : ℕ) (d : Done) �
     → Move p x w c q
 extend-moves p q c w x until d named h =
     let next : PledgeValue = with_extension p (record { day = x; until = until }) in
-    let own : Judged = unless (extend_bars p until) (Changed next (Done.Extended until)) in
-    let a = unless-changed (period_bars p x) (if until == end_of p then Answered (Done.Extended until) else own) q d h in
+    let own : Judged = unless (extend_refusals p until) (Changed next (Done.Extended until)) in
+    let a = unless-changed (period_refusals p x) (if until == end_of p then Answered (Done.Extended until) else own) q d h in
     let b = if-unanswered (until == end_of p) _ own q d a.1 in
-    let e = unless-changed (extend_bars p until) (Changed next (Done.Extended until)) q d b.1 in
+    let e = unless-changed (extend_refusals p until) (Changed next (Done.Extended until)) q d b.1 in
     Extending until (not_below (end_of p) x a.0.0) (above until (end_of p) (not_below until (end_of p) e.0.0) (not_same until (end_of p) b.0))
     (not_most most_extensions (length p.extensions) e.0.1.0) named (changed-is next q _ d e.1)
 

@@ -1,12 +1,12 @@
 -- Which secret of a pledge is live.
-use Rattle.pawn_pledge.proofs.Moves.{Move, changed-is, gate-is, unless-changed, pledge_moves, Entering, Declaring}
+use Rattle.pawn_pledge.proofs.Moves.{Move, changed-is, past-shared, unless-changed, pledge_moves, Entering, Declaring}
 use Rattle.pawn_pledge.proofs.Moves.{Extending, Settling}
 use Rattle.pawn_pledge.proofs.Pushes.{last_element-push}
 use Rattle.pawn_pledge.proofs.Settled.{IsGated}
 use Rattle.pawn_pledge.specs.Laws.{EarlierAreSpent, IsSpent, NeverLiveAgain}
 use Rattle.pawn_pledge.specs.Pledge.{PledgeValue, last_secret, live_of, live_under}
-use Rattle.pawn_pledge.specs.Step.{Answered, Changed, Judged, Refused, bars, declare_bars, declare_step, pledge_after}
-use Rattle.pawn_pledge.specs.Step.{pledge_step, redeem_bars, redeem_step, unless}
+use Rattle.pawn_pledge.specs.Step.{Answered, Changed, Judged, Refused, shared_refusals, declare_refusals, declare_step, pledge_after}
+use Rattle.pawn_pledge.specs.Step.{pledge_step, redeem_refusals, redeem_step, unless}
 use Rattle.pawn_pledge.specs.Words.{close, is_open, issue_of, with_secret}
 use Rattle.pawn_pledge.specs.declared.command.Command.{Command}
 use Rattle.pawn_pledge.specs.declared.command.Done.{Done}
@@ -96,22 +96,22 @@ never_live_again p (c ∷ cs) secret spent =
 
 -- a declaration adds a new secret after those that were issued
 spent-by-declaration : (p q : PledgeValue) (stamp : Stamp) (paper : Paper) (d : Done) (secret : ℕ)
-    → list_any (λ (i : Issued). i.secret == secret) p.secrets ≡ true → unless (bars p stamp.day) (declare_step p stamp paper) ≡ Changed q d → IsSpent q secret
+    → list_any (λ (i : Issued). i.secret == secret) p.secrets ≡ true → unless (shared_refusals p stamp.day) (declare_step p stamp paper) ≡ Changed q d → IsSpent q secret
 spent-by-declaration p q stamp paper d secret issued h =
     let new : Issued = record { day = stamp.day; sort = issue_of paper; secret = stamp.word } in
-    let a = unless-changed (bars p stamp.day) (declare_step p stamp paper) q d h in
-    let b = unless-changed (declare_bars p paper stamp.word) (Changed (with_secret p new) (Done.Declared stamp.word)) q d a.1 in
+    let a = unless-changed (shared_refusals p stamp.day) (declare_step p stamp paper) q d h in
+    let b = unless-changed (declare_refusals p paper stamp.word) (Changed (with_secret p new) (Done.Declared stamp.word)) q d a.1 in
     let is : q ≡ with_secret p new = changed-is (with_secret p new) q _ d b.1 in
-    spent-declared p q stamp.day new secret issued (gate-is p stamp.day a.0)
+    spent-declared p q stamp.day new secret issued (past-shared p stamp.day a.0)
     (ap (λ (v : PledgeValue). v.secrets) is) (ap (λ (v : PledgeValue). v.standing.closing) is) b.0.1.1.0
 
 -- a redemption leaves none live
 spent-by-redemption : (p q : PledgeValue) (stamp : Stamp) (paid : ℕ) (d : Done) (secret : ℕ) → list_any (λ (i : Issued). i.secret == secret) p.secrets ≡ true
-    → unless (bars p stamp.day) (redeem_step p stamp.day paid) ≡ Changed q d → IsSpent q secret
+    → unless (shared_refusals p stamp.day) (redeem_step p stamp.day paid) ≡ Changed q d → IsSpent q secret
 spent-by-redemption p q stamp paid d secret issued h =
     let next : PledgeValue = close p stamp.day (Closing.Redeemed stamp.day paid) in
-    let a = unless-changed (bars p stamp.day) (redeem_step p stamp.day paid) q d h in
-    let b = unless-changed (redeem_bars p stamp.day paid) (Changed next (Done.Redeemed stamp.day paid)) q d a.1 in
+    let a = unless-changed (shared_refusals p stamp.day) (redeem_step p stamp.day paid) q d h in
+    let b = unless-changed (redeem_refusals p stamp.day paid) (Changed next (Done.Redeemed stamp.day paid)) q d a.1 in
     let is : q ≡ next = changed-is next q _ d b.1 in
     record {
       issued = ap (λ (v : PledgeValue). list_any (λ (i : Issued). i.secret == secret) v.secrets) is ∙ issued;

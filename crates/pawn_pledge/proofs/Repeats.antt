@@ -10,8 +10,8 @@ use Rattle.pawn_pledge.specs.Laws.{EntriesActOnce, ExtensionsActOnce, SameEndIsA
 use Rattle.pawn_pledge.specs.Laws.{pledge_after_all}
 use Rattle.pawn_pledge.specs.Pledge.{PledgeValue, debt_of, end_of}
 use Rattle.pawn_pledge.specs.Replayable.{AreNumbered}
-use Rattle.pawn_pledge.specs.Step.{Answered, Changed, Judged, bars, entry_of, entry_step, extend_bars, numbered_step}
-use Rattle.pawn_pledge.specs.Step.{where_clear, period_bars, pledge_step, under_debt, unless}
+use Rattle.pawn_pledge.specs.Step.{Answered, Changed, Judged, shared_refusals, entry_of, entry_step, extend_refusals, numbered_step}
+use Rattle.pawn_pledge.specs.Step.{where_clear, period_refusals, pledge_step, under_debt, unless}
 use Rattle.pawn_pledge.specs.Words.{is_ahead, is_repeat, new_entry, same_sort, with_extension, with_last}
 use Rattle.pawn_pledge.specs.declared.command.Command.{Command}
 use Rattle.pawn_pledge.specs.declared.command.Done.{Done}
@@ -43,7 +43,7 @@ under_debt-made p q x sort pence (Err fault) d is h = cc
 
 entry-made : (p q : PledgeValue) (x : ℕ) (sort : Sort) (pence : ℕ) (d : Done) → entry_step p x sort pence ≡ Changed q d → IsMade p x sort pence q d
 entry-made p q x Draw pence d h =
-    let a = unless-changed (period_bars p x) (under_debt p x Draw pence (draw_answer (debt_of p) x pence)) q d h in
+    let a = unless-changed (period_refusals p x) (under_debt p x Draw pence (draw_answer (debt_of p) x pence)) q d h in
     under_debt-made p q x Draw pence (draw_answer (debt_of p) x pence) d refl a.1
 entry-made p q x Repay pence d h = under_debt-made p q x Repay pence (repay_answer (debt_of p) x pence) d refl h
 
@@ -89,8 +89,8 @@ numbered-again p next q x y seq sort pence (Some e) d numbered at h grows =
     let never : Answered (Done.Entered e) ≡ Changed next d = a.1 in
     cc
 numbered-again p next q x y seq sort pence None d numbered at h grows =
-    let ahead = unless-changed ((is_ahead p seq, Refusal.SeqAhead) ∷ []) (unless (bars p x) (entry_step p x sort pence)) next d h in
-    let barred = unless-changed (bars p x) (entry_step p x sort pence) next d ahead.1 in
+    let ahead = unless-changed ((is_ahead p seq, Refusal.SeqAhead) ∷ []) (unless (shared_refusals p x) (entry_step p x sort pence)) next d h in
+    let barred = unless-changed (shared_refusals p x) (entry_step p x sort pence) next d ahead.1 in
     let made = entry-made p next x sort pence d barred.1 in
     let test : is_ahead p seq ≡ false = ahead.0.0 in
     let low : 1 ≤ seq = grind (arith, nat_tests, test) in
@@ -123,18 +123,18 @@ same_end_is_answered p stamp h =
     let x = stamp.day in
     let inside : nat_lt (end_of p) x ≡ false = grind (arith, nat_tests, h.1) in
     let here : (end_of p == end_of p) ≡ true = grind (arith, nat_tests) in
-    unless-past (bars p x) _ h.0 ∙ unless-past (period_bars p x) _ (inside, tt) ∙ rw here refl
+    unless-past (shared_refusals p x) _ h.0 ∙ unless-past (period_refusals p x) _ (inside, tt) ∙ rw here refl
 
 pub extended-made : (p q : PledgeValue) (stamp : Stamp) (until : ℕ) (d : Done) → pledge_step p stamp (Command.Extend until) ≡ Changed q d
     → d ≡ Done.Extended until
 extended-made p q stamp until d h =
     let x = stamp.day in
     let next : PledgeValue = with_extension p (record { day = x; until = until }) in
-    let own : Judged = unless (extend_bars p until) (Changed next (Done.Extended until)) in
-    let a = unless-changed (bars p x) _ q d h in
-    let b = unless-changed (period_bars p x) (if until == end_of p then Answered (Done.Extended until) else own) q d a.1 in
+    let own : Judged = unless (extend_refusals p until) (Changed next (Done.Extended until)) in
+    let a = unless-changed (shared_refusals p x) _ q d h in
+    let b = unless-changed (period_refusals p x) (if until == end_of p then Answered (Done.Extended until) else own) q d a.1 in
     let f = if-unanswered (until == end_of p) _ own q d b.1 in
-    let e = unless-changed (extend_bars p until) (Changed next (Done.Extended until)) q d f.1 in
+    let e = unless-changed (extend_refusals p until) (Changed next (Done.Extended until)) q d f.1 in
     (changed-both next q (Done.Extended until) d e.1).1
 
 pub extensions_act_once : ExtensionsActOnce

@@ -14,7 +14,7 @@ use Rattle.pawn_pledge.specs.Limits.{grace_days, most_secrets, small_credit}
 use Rattle.pawn_pledge.specs.Pledge.{PledgeValue, debt_of, end_of, end_with, is_passed, is_small, last_until}
 use Rattle.pawn_pledge.specs.Replayable.{IsBooked, IsClosed, IsDrawnBy, IsLaterIssue, IsNotPassed, IsOverUnder}
 use Rattle.pawn_pledge.specs.Replayable.{IsReplayable, IsWithinLimits}
-use Rattle.pawn_pledge.specs.Step.{declare_bars}
+use Rattle.pawn_pledge.specs.Step.{declare_refusals}
 use Rattle.pawn_pledge.specs.Words.{is_written, issue_of, new_entry, with_extension, with_last, with_secret}
 use Rattle.pawn_pledge.specs.Words.{with_standing}
 use Rattle.pawn_pledge.specs.declared.command.Command.{Command}
@@ -112,7 +112,7 @@ later-issue : (p : PledgeValue) (paper : Paper) → (is_written paper && not (is
 later-issue p Paper.Written h = small_enough (credit_of p.agreement.opening.kind) h
 later-issue p Paper.Sworn h = tt
 
-pub stays-declared : (p : PledgeValue) (x word : ℕ) (paper : Paper) → IsReplayable p → IsGated p x → NoneApplies (declare_bars p paper word)
+pub stays-declared : (p : PledgeValue) (x word : ℕ) (paper : Paper) → IsReplayable p → IsGated p x → NoneApplies (declare_refusals p paper word)
     → IsReplayable (with_secret p (record { day = x; sort = issue_of paper; secret = word }))
 stays-declared p x word paper h g ok =
     let i : Issued = record { day = x; sort = issue_of paper; secret = word } in

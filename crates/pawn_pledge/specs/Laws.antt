@@ -9,7 +9,7 @@ use Rattle.pawn_pledge.specs.Pledge.{PledgeValue, end_of, debt_of, status_of, li
 use Rattle.pawn_pledge.specs.Receipt.{receipt_text, IsReceiptText}
 use Rattle.pawn_pledge.specs.Replayable.{IsOpening, IsReplayable, IsWithinLimits, IsReachable}
 use Rattle.pawn_pledge.specs.Secret.{secret_text, secret_of_text}
-use Rattle.pawn_pledge.specs.Step.{Answered, Changed, bars, pledge_step, pledge_after, pledge_start}
+use Rattle.pawn_pledge.specs.Step.{Answered, Changed, shared_refusals, pledge_step, pledge_after, pledge_start}
 use Rattle.pawn_pledge.specs.Words.{is_open}
 use Rattle.pawn_pledge.specs.declared.command.Command.{Command}
 use Rattle.pawn_pledge.specs.declared.command.Done.{Done}
@@ -107,7 +107,7 @@ EntriesActOnce =
 
 -- none of the refusals that all commands share applies on the day x, and the period is not over
 abbrev pub MayExtend : PledgeValue → ℕ → Type 0
-MayExtend p x = NoneApplies (bars p x) × (x ≤ end_of p)
+MayExtend p x = NoneApplies (shared_refusals p x) × (x ≤ end_of p)
 
 -- an extension to the present end is answered with that end and changes nothing, if the pledge may be extended
 abbrev pub SameEndIsAnswered : Type 0

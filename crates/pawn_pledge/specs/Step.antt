@@ -7,7 +7,7 @@ use Rattle.pawn_pledge.specs.Pledge.{PledgeValue, end_of, is_small, debt_of, tot
 use Rattle.pawn_pledge.specs.Pledge.{is_realisable}
 use Rattle.pawn_pledge.specs.Refusal.{refusal_of}
 use Rattle.pawn_pledge.specs.Words.{with_last, with_hold, with_booking, with_standing, is_open, is_repeat, is_ahead}
-use Rattle.pawn_pledge.specs.Words.{new_entry, same_flag, is_written, issue_of, with_secret, in_state, stands_for}
+use Rattle.pawn_pledge.specs.Words.{new_entry, same_flag, is_written, issue_of, with_secret, in_state, is_asked_again}
 use Rattle.pawn_pledge.specs.Words.{close, with_extension}
 use Rattle.pawn_pledge.specs.declared.command.Applied.{Applied}
 use Rattle.pawn_pledge.specs.declared.command.Command.{Command}
@@ -26,18 +26,24 @@ use Rattle.std.specs.List.{list_any}
 use Rattle.std.specs.Prelude.{◌≡◌, ℕ, ◌-◌, nat_lt, nat_le, ◌==◌, ◌&&◌, not, Bool, true, false, if◌then◌else◌, List, []}
 use Rattle.std.specs.Prelude.{◌∷◌, length, find, Option, Some, None, Result, Ok, Err, ◌⊎◌}
 
--- a new pledge, whose one secret is the stamp's word, or its refusal
+-- a new pledge, whose one secret is the stamp's word
+abbrev pub new_pledge : ℕ → Opening → ℕ → Rates → Stamp → PledgeValue
+new_pledge number opening version terms stamp = record {
+  agreement = record { number = number; opening = opening; taken = stamp.day; version = version; terms = terms };
+  entries = [];
+  secrets = record { day = stamp.day; sort = Issue.Opening; secret = stamp.word } ∷ [];
+  extensions = [];
+  standing = record { held = false; booking = None; last = stamp.day; closing = Closing.Open };
+}
+
+-- the sum or the limit of an opening is 0 or above the greatest amount
+abbrev pub is_bad_opening : Opening → Bool
+is_bad_opening opening = is_bad_amount (credit_of opening.kind)
+
+-- a new pledge, or its refusal
 abbrev pub pledge_start : ℕ → Opening → ℕ → Rates → Stamp → Result PledgeValue Refusal
 pledge_start number opening version terms stamp =
-    first_of
-    ((is_bad_amount (credit_of opening.kind), Refusal.Debt BadAmount) ∷ [])
-    (Ok (record {
-      agreement = record { number = number; opening = opening; taken = stamp.day; version = version; terms = terms };
-      entries = [];
-      secrets = record { day = stamp.day; sort = Issue.Opening; secret = stamp.word } ∷ [];
-      extensions = [];
-      standing = record { held = false; booking = None; last = stamp.day; closing = Closing.Open };
-    }))
+    first_of ((is_bad_opening opening, Refusal.Debt BadAmount) ∷ []) (Ok (new_pledge number opening version terms stamp))
 
 -- the result of a command
 pub data Judged : Type 0 where
@@ -57,16 +63,16 @@ abbrev pub unless : List (Bool × Refusal) → Judged → Judged
 unless rows judged = where_clear (first_of rows (Ok tt)) judged
 
 -- the refusals that all commands share, on the day x
-abbrev pub bars : PledgeValue → ℕ → List (Bool × Refusal)
-bars p x =
+abbrev pub shared_refusals : PledgeValue → ℕ → List (Bool × Refusal)
+shared_refusals p x =
     (nat_lt x p.standing.last, Refusal.Debt EarlierDay)
     ∷ (not (is_open p.standing.closing), Refusal.Closed)
     ∷ (is_passed (open_status p x), Refusal.Passed)
     ∷ []
 
 -- the refusal of a drawing or an extension after the end of the period
-abbrev pub period_bars : PledgeValue → ℕ → List (Bool × Refusal)
-period_bars p x = (nat_lt (end_of p) x, Refusal.PeriodOver) ∷ []
+abbrev pub period_refusals : PledgeValue → ℕ → List (Bool × Refusal)
+period_refusals p x = (nat_lt (end_of p) x, Refusal.PeriodOver) ∷ []
 
 -- drawings and repayments
 
@@ -79,7 +85,7 @@ under_debt p x sort pence (Err fault) = Refused (refusal_of fault)
 -- a drawing is refused after the end of the period; the other refusals are those of the debt
 abbrev pub entry_step : PledgeValue → ℕ → Sort → ℕ → Judged
 entry_step p x Draw pence =
-    unless (period_bars p x) (under_debt p x Draw pence (draw_answer (debt_of p) x pence))
+    unless (period_refusals p x) (under_debt p x Draw pence (draw_answer (debt_of p) x pence))
 entry_step p x Repay pence = under_debt p x Repay pence (repay_answer (debt_of p) x pence)
 
 -- if the number of an entry is taken, a repeat gets the answer of the first time and an entry that differs is refused,
@@ -88,7 +94,7 @@ abbrev pub numbered_step : PledgeValue → ℕ → ℕ → Sort → ℕ → Opti
 numbered_step p x seq sort pence (Some e) =
     unless ((not (is_repeat e sort pence), Refusal.SeqTaken) ∷ []) (Answered (Done.Entered e))
 numbered_step p x seq sort pence None =
-    unless ((is_ahead p seq, Refusal.SeqAhead) ∷ []) (unless (bars p x) (entry_step p x sort pence))
+    unless ((is_ahead p seq, Refusal.SeqAhead) ∷ []) (unless (shared_refusals p x) (entry_step p x sort pence))
 
 -- the entry with this number, if there is one
 abbrev pub entry_of : PledgeValue → ℕ → Option Entry
@@ -103,8 +109,8 @@ hold_step p x flag =
 -- declarations
 
 -- the refusals that only a declaration can have, in order
-abbrev pub declare_bars : PledgeValue → Paper → ℕ → List (Bool × Refusal)
-declare_bars p paper word =
+abbrev pub declare_refusals : PledgeValue → Paper → ℕ → List (Bool × Refusal)
+declare_refusals p paper word =
     (is_written paper && not (is_small (credit_of p.agreement.opening.kind)), Refusal.NotSmall)
     ∷ (nat_le most_secrets (length p.secrets), Refusal.DeclarationsFull)
     ∷ (list_any (λ issued. issued.secret == word) p.secrets, Refusal.SecretUsed)
@@ -113,7 +119,7 @@ declare_bars p paper word =
 -- the stamp's word is the new and only live secret
 abbrev pub declare_step : PledgeValue → Stamp → Paper → Judged
 declare_step p stamp paper =
-    unless (declare_bars p paper stamp.word)
+    unless (declare_refusals p paper stamp.word)
     (Changed (with_secret p (record { day = stamp.day; sort = issue_of paper; secret = stamp.word })) (Done.Declared stamp.word))
 
 -- bookings
@@ -127,12 +133,12 @@ makes_booking p x booking = Changed (with_standing p (with_booking p.standing bo
 abbrev pub ask_once : PledgeValue → ℕ → ℕ → ℕ → Option Booking → Judged
 ask_once p x day window None = makes_booking p x (record { day = day; window = window; state = BookingState.Asked })
 ask_once p x day window (Some booking) =
-    if stands_for booking day window then Answered (Done.Booked booking)
+    if is_asked_again booking day window then Answered (Done.Booked booking)
     else makes_booking p x (record { day = day; window = window; state = BookingState.Asked })
 
 -- the refusals of asking for a booking, in order
-abbrev pub ask_bars : PledgeValue → ℕ → ℕ → ℕ → List (Bool × Refusal)
-ask_bars p x day window =
+abbrev pub ask_refusals : PledgeValue → ℕ → ℕ → ℕ → List (Bool × Refusal)
+ask_refusals p x day window =
     (nat_lt last_window window, Refusal.BadWindow)
     ∷ (nat_lt day x, Refusal.BookingDay)
     ∷ (is_passed (open_status p day), Refusal.BookingDay)
@@ -140,7 +146,7 @@ ask_bars p x day window =
 
 -- the result of asking for a booking
 abbrev pub ask_step : PledgeValue → ℕ → ℕ → ℕ → Judged
-ask_step p x day window = unless (ask_bars p x day window) (ask_once p x day window p.standing.booking)
+ask_step p x day window = unless (ask_refusals p x day window) (ask_once p x day window p.standing.booking)
 
 -- the result of cancelling, by the booking's state
 abbrev pub cancel_in : PledgeValue → ℕ → Booking → BookingState → Judged
@@ -178,8 +184,8 @@ decide_step p x Refuse (Some booking) = decline_in p x booking booking.state
 -- closing a pledge
 
 -- the refusals of a redemption, in order
-abbrev pub redeem_bars : PledgeValue → ℕ → ℕ → List (Bool × Refusal)
-redeem_bars p x paid =
+abbrev pub redeem_refusals : PledgeValue → ℕ → ℕ → List (Bool × Refusal)
+redeem_refusals p x paid =
     (p.standing.held, Refusal.Held)
     ∷ (not (paid == total_on p x), Refusal.WrongAmount (total_on p x))
     ∷ []
@@ -187,11 +193,11 @@ redeem_bars p x paid =
 -- the result of a redemption
 abbrev pub redeem_step : PledgeValue → ℕ → ℕ → Judged
 redeem_step p x paid =
-    unless (redeem_bars p x paid) (Changed (close p x (Closing.Redeemed x paid)) (Done.Redeemed x paid))
+    unless (redeem_refusals p x paid) (Changed (close p x (Closing.Redeemed x paid)) (Done.Redeemed x paid))
 
 -- the refusals of a sale, in order
-abbrev pub sell_bars : PledgeValue → ℕ → ℕ → List (Bool × Refusal)
-sell_bars p x net =
+abbrev pub sell_refusals : PledgeValue → ℕ → ℕ → List (Bool × Refusal)
+sell_refusals p x net =
     (not (is_realisable (open_status p x)), Refusal.NotRealisable)
     ∷ (nat_lt most_pence net, Refusal.Debt BadAmount)
     ∷ []
@@ -199,12 +205,12 @@ sell_bars p x net =
 -- the result of a sale, with the surplus over the sum owed or the shortfall below it
 abbrev pub sell_step : PledgeValue → ℕ → ℕ → Judged
 sell_step p x net =
-    unless (sell_bars p x net)
+    unless (sell_refusals p x net)
     (Changed (close p x (Closing.Sold x net)) (Done.Sold net (net - total_on p x) (total_on p x - net)))
 
 -- the refusals of an extension to another end, in order
-abbrev pub extend_bars : PledgeValue → ℕ → List (Bool × Refusal)
-extend_bars p until =
+abbrev pub extend_refusals : PledgeValue → ℕ → List (Bool × Refusal)
+extend_refusals p until =
     (nat_lt until (end_of p), Refusal.NotLater)
     ∷ (nat_le most_extensions (length p.extensions), Refusal.ExtensionsFull)
     ∷ []
@@ -212,25 +218,25 @@ extend_bars p until =
 -- an extension of the period; one to the present end is answered and changes nothing
 abbrev pub extend_step : PledgeValue → ℕ → ℕ → Judged
 extend_step p x until =
-    unless (period_bars p x)
+    unless (period_refusals p x)
     (if until == end_of p then Answered (Done.Extended until)
-    else unless (extend_bars p until)
+    else unless (extend_refusals p until)
     (Changed (with_extension p (record { day = x; until = until })) (Done.Extended until)))
 
 -- the result of a command
 abbrev pub pledge_step : PledgeValue → Stamp → Command → Judged
 pledge_step p stamp (Command.Draw seq pence) = numbered_step p stamp.day seq Draw pence (entry_of p seq)
 pledge_step p stamp (Command.Repay seq pence) = numbered_step p stamp.day seq Repay pence (entry_of p seq)
-pledge_step p stamp Command.Hold = unless (bars p stamp.day) (hold_step p stamp.day true)
-pledge_step p stamp Command.Release = unless (bars p stamp.day) (hold_step p stamp.day false)
-pledge_step p stamp (Command.Declare paper) = unless (bars p stamp.day) (declare_step p stamp paper)
-pledge_step p stamp (Command.AskBooking day window) = unless (bars p stamp.day) (ask_step p stamp.day day window)
-pledge_step p stamp Command.CancelBooking = unless (bars p stamp.day) (cancel_step p stamp.day p.standing.booking)
+pledge_step p stamp Command.Hold = unless (shared_refusals p stamp.day) (hold_step p stamp.day true)
+pledge_step p stamp Command.Release = unless (shared_refusals p stamp.day) (hold_step p stamp.day false)
+pledge_step p stamp (Command.Declare paper) = unless (shared_refusals p stamp.day) (declare_step p stamp paper)
+pledge_step p stamp (Command.AskBooking day window) = unless (shared_refusals p stamp.day) (ask_step p stamp.day day window)
+pledge_step p stamp Command.CancelBooking = unless (shared_refusals p stamp.day) (cancel_step p stamp.day p.standing.booking)
 pledge_step p stamp (Command.DecideBooking decision) =
-    unless (bars p stamp.day) (decide_step p stamp.day decision p.standing.booking)
-pledge_step p stamp (Command.Redeem paid) = unless (bars p stamp.day) (redeem_step p stamp.day paid)
-pledge_step p stamp (Command.Sell net) = unless (bars p stamp.day) (sell_step p stamp.day net)
-pledge_step p stamp (Command.Extend until) = unless (bars p stamp.day) (extend_step p stamp.day until)
+    unless (shared_refusals p stamp.day) (decide_step p stamp.day decision p.standing.booking)
+pledge_step p stamp (Command.Redeem paid) = unless (shared_refusals p stamp.day) (redeem_step p stamp.day paid)
+pledge_step p stamp (Command.Sell net) = unless (shared_refusals p stamp.day) (sell_step p stamp.day net)
+pledge_step p stamp (Command.Extend until) = unless (shared_refusals p stamp.day) (extend_step p stamp.day until)
 
 -- the answer to the caller
 abbrev pub reply_of : Judged → Result Done Refusal

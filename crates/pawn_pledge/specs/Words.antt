@@ -88,8 +88,8 @@ is_active BookingState.Confirmed = true
 is_active other = false
 
 -- the booking is active, and for this day and window
-abbrev pub stands_for : Booking → ℕ → ℕ → Bool
-stands_for booking day window = (booking.day == day) && (booking.window == window) && is_active booking.state
+abbrev pub is_asked_again : Booking → ℕ → ℕ → Bool
+is_asked_again booking day window = (booking.day == day) && (booking.window == window) && is_active booking.state
 
 -- the state of a booking after its pledge is closed: an active one is cancelled
 abbrev pub after_closing : BookingState → BookingState

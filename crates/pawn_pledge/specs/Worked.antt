@@ -4,6 +4,7 @@ use Rattle.pawn_debt.specs.declared.entry.Kind.{Kind}
 use Rattle.pawn_debt.specs.declared.entry.Kind.TheVariants.{Fixed, Running}
 use Rattle.pawn_pledge.specs.Common.{BadAmount, Draw, EarlierDay, FixedSum, OverLimit, OverOwing, Rates, Repay, Sort}
 use Rattle.pawn_pledge.specs.Common.{rates_of}
+use Rattle.pawn_pledge.specs.Limits.{small_credit}
 use Rattle.pawn_pledge.specs.Pledge.{PledgeValue, end_of, status_of, live_of}
 use Rattle.pawn_pledge.specs.Step.{Answered, pledge_start, pledge_step, pledge_after, reply_of}
 use Rattle.pawn_pledge.specs.declared.command.Command.{Command}
@@ -20,7 +21,7 @@ use Rattle.pawn_pledge.specs.declared.record.Status.{Status}
 use Rattle.pawn_pledge.specs.declared.refusal.Refusal.{Refusal}
 use Rattle.pawn_terms.specs.Worked.{date}
 use Rattle.std.specs.List.{repeat}
-use Rattle.std.specs.Prelude.{◌≡◌, ℕ, true, false, Bool, [], ◌∷◌, Option, Some, None, Result, Ok, Err, codes}
+use Rattle.std.specs.Prelude.{◌≡◌, ◌+◌, ◌-◌, ℕ, true, false, Bool, [], ◌∷◌, Option, Some, None, Result, Ok, Err, codes}
 
 -- the opening for a ring
 abbrev pub ring_opening : Kind → Bool → Option ℕ → Opening
@@ -42,6 +43,13 @@ ring_pledge kind five_days agreed terms = record {
   extensions = [];
   standing = record { held = false; booking = None; last = date 2024 1 31; closing = Closing.Open };
 }
+
+-- a small credit and a large one, in pence; the figure of small credits may become another one between them
+abbrev pub small : ℕ
+small = 5000
+
+abbrev pub large : ℕ
+large = 50000
 
 -- the ring for a fixed sum, without charges, an agreed end or the five days
 abbrev pub ring : ℕ → PledgeValue
@@ -74,78 +82,78 @@ entry_answer seq day sort pence = Done.Entered (record { seq = seq; day = day; s
 -- a new pledge has a sum or limit within the limits, and its first secret is live
 abbrev pub WorkedPledgeStarts : Type 0
 WorkedPledgeStarts =
-    (pledge_start 1 (ring_opening (Fixed 10000) false None) 1 free (record { day = date 2024 1 31; word = 1 }) ≡ Ok (ring 10000))
-    × (live_of (ring 10000) ≡ Some 1)
+    (pledge_start 1 (ring_opening (Fixed large) false None) 1 free (record { day = date 2024 1 31; word = 1 }) ≡ Ok (ring large))
+    × (live_of (ring large) ≡ Some 1)
     × (pledge_start 1 (ring_opening (Fixed 0) false None) 1 free (on (date 2024 1 31)) ≡ Err (Refusal.Debt BadAmount))
     × (pledge_start 1 (ring_opening (Running 100000001) false None) 1 free (on (date 2024 1 31)) ≡ Err (Refusal.Debt BadAmount))
 
 -- a pledge for a small credit and six months passes after the end of the period, or after the five days if they apply
 abbrev pub WorkedStatuses : Type 0
 WorkedStatuses =
-    (status_of (ring 7500) (date 2024 7 31) ≡ Status.Inside)
-    × (status_of (ring 7500) (date 2024 8 1) ≡ Status.Passed)
-    × (status_of (ring 7501) (date 2024 8 1) ≡ Status.Realisable)
-    × (status_of (ring_with_grace 7500) (date 2024 8 5) ≡ Status.Grace)
-    × (status_of (ring_with_grace 7500) (date 2024 8 6) ≡ Status.Passed)
-    × (status_of (ring_with_grace 7501) (date 2024 8 6) ≡ Status.Realisable)
-    × (status_of (ring_pledge (Fixed 7500) false (Some (date 2024 8 1)) free) (date 2024 8 1) ≡ Status.Inside)
-    × (status_of (ring_pledge (Fixed 7500) false (Some (date 2024 8 1)) free) (date 2024 8 2) ≡ Status.Realisable)
+    (status_of (ring small_credit) (date 2024 7 31) ≡ Status.Inside)
+    × (status_of (ring small_credit) (date 2024 8 1) ≡ Status.Passed)
+    × (status_of (ring (small_credit + 1)) (date 2024 8 1) ≡ Status.Realisable)
+    × (status_of (ring_with_grace small_credit) (date 2024 8 5) ≡ Status.Grace)
+    × (status_of (ring_with_grace small_credit) (date 2024 8 6) ≡ Status.Passed)
+    × (status_of (ring_with_grace (small_credit + 1)) (date 2024 8 6) ≡ Status.Realisable)
+    × (status_of (ring_pledge (Fixed small) false (Some (date 2024 8 1)) free) (date 2024 8 1) ≡ Status.Inside)
+    × (status_of (ring_pledge (Fixed small) false (Some (date 2024 8 1)) free) (date 2024 8 2) ≡ Status.Realisable)
 
 -- drawings are accepted in the period, on a running account, up to its limit
 abbrev pub WorkedPledgeDrawings : Type 0
 WorkedPledgeDrawings =
-    let drawn = after_telling (ring_on_account 5000) (date 2024 1 31) (Command.Draw 1 3000) in
-    (told (ring_on_account 5000) (date 2024 1 31) (Command.Draw 1 3000) ≡ Ok (entry_answer 1 (date 2024 1 31) Draw 3000))
+    let drawn = after_telling (ring_on_account small) (date 2024 1 31) (Command.Draw 1 3000) in
+    (told (ring_on_account small) (date 2024 1 31) (Command.Draw 1 3000) ≡ Ok (entry_answer 1 (date 2024 1 31) Draw 3000))
     × (told drawn (date 2024 1 31) (Command.Draw 2 2001) ≡ Err (Refusal.Debt OverLimit))
     × (told drawn (date 2024 7 31) (Command.Draw 2 2000) ≡ Ok (entry_answer 2 (date 2024 7 31) Draw 2000))
     × (told drawn (date 2024 8 1) (Command.Draw 2 2000) ≡ Err Refusal.Passed)
-    × (told (ring_on_account 7501) (date 2024 8 1) (Command.Draw 1 1) ≡ Err Refusal.PeriodOver)
-    × (told (ring 10000) (date 2024 1 31) (Command.Draw 1 1) ≡ Err (Refusal.Debt FixedSum))
-    × (told (ring 10000) (date 2024 8 1) (Command.Draw 1 1) ≡ Err Refusal.PeriodOver)
+    × (told (ring_on_account large) (date 2024 8 1) (Command.Draw 1 1) ≡ Err Refusal.PeriodOver)
+    × (told (ring large) (date 2024 1 31) (Command.Draw 1 1) ≡ Err (Refusal.Debt FixedSum))
+    × (told (ring large) (date 2024 8 1) (Command.Draw 1 1) ≡ Err Refusal.PeriodOver)
 
 -- a repayment, and the same number sent again on any day
 abbrev pub WorkedPledgeRepayments : Type 0
 WorkedPledgeRepayments =
-    let repaid = after_telling (ring 10000) (date 2024 2 29) (Command.Repay 1 1000) in
+    let repaid = after_telling (ring large) (date 2024 2 29) (Command.Repay 1 1000) in
     let first = entry_answer 1 (date 2024 2 29) Repay 1000 in
-    (told (ring 10000) (date 2024 2 29) (Command.Repay 1 1000) ≡ Ok first)
+    (told (ring large) (date 2024 2 29) (Command.Repay 1 1000) ≡ Ok first)
     × (pledge_step repaid (on (date 2024 2 1)) (Command.Repay 1 1000) ≡ Answered first)
-    × (pledge_step (after_telling repaid (date 2024 3 1) (Command.Redeem 9000)) (on (date 2025 1 1)) (Command.Repay 1 1000) ≡ Answered first)
+    × (pledge_step (after_telling repaid (date 2024 3 1) (Command.Redeem (large - 1000))) (on (date 2025 1 1)) (Command.Repay 1 1000) ≡ Answered first)
     × (told repaid (date 2024 2 1) (Command.Repay 1 999) ≡ Err Refusal.SeqTaken)
     × (told repaid (date 2024 2 1) (Command.Draw 1 1000) ≡ Err Refusal.SeqTaken)
     × (told repaid (date 2024 2 1) (Command.Repay 3 1000) ≡ Err Refusal.SeqAhead)
     × (told repaid (date 2024 2 29) (Command.Repay 0 1000) ≡ Err Refusal.SeqAhead)
     × (told repaid (date 2024 2 28) (Command.Repay 2 1000) ≡ Err (Refusal.Debt EarlierDay))
     × (told repaid (date 2024 2 29) (Command.Repay 2 0) ≡ Err (Refusal.Debt BadAmount))
-    × (told repaid (date 2024 2 29) (Command.Repay 2 9001) ≡ Err (Refusal.Debt (OverOwing 9000)))
-    × (told (ring 7500) (date 2024 8 1) (Command.Repay 1 1000) ≡ Err Refusal.Passed)
+    × (told repaid (date 2024 2 29) (Command.Repay 2 (large - 999)) ≡ Err (Refusal.Debt (OverOwing (large - 1000))))
+    × (told (ring small) (date 2024 8 1) (Command.Repay 1 1000) ≡ Err Refusal.Passed)
 
 -- a pledge on hold cannot be redeemed until it is released
 abbrev pub WorkedHolds : Type 0
 WorkedHolds =
-    let held = after_telling (ring 7500) (date 2024 2 1) Command.Hold in
-    (told (ring 7500) (date 2024 2 1) Command.Hold ≡ Ok (Done.Held true))
+    let held = after_telling (ring small) (date 2024 2 1) Command.Hold in
+    (told (ring small) (date 2024 2 1) Command.Hold ≡ Ok (Done.Held true))
     × (pledge_step held (on (date 2024 2 2)) Command.Hold ≡ Answered (Done.Held true))
-    × (told held (date 2024 2 2) (Command.Redeem 7500) ≡ Err Refusal.Held)
+    × (told held (date 2024 2 2) (Command.Redeem small) ≡ Err Refusal.Held)
     × (told held (date 2024 2 2) Command.Release ≡ Ok (Done.Held false))
-    × (told (after_telling held (date 2024 2 2) Command.Release) (date 2024 2 2) (Command.Redeem 7500) ≡ Ok (Done.Redeemed (date 2024 2 2) 7500))
-    × (pledge_step (ring 7500) (on (date 2024 2 1)) Command.Release ≡ Answered (Done.Held false))
+    × (told (after_telling held (date 2024 2 2) Command.Release) (date 2024 2 2) (Command.Redeem small) ≡ Ok (Done.Redeemed (date 2024 2 2) small))
+    × (pledge_step (ring small) (on (date 2024 2 1)) Command.Release ≡ Answered (Done.Held false))
     × (told held (date 2024 1 31) Command.Release ≡ Err (Refusal.Debt EarlierDay))
     × (told held (date 2024 8 1) Command.Release ≡ Err Refusal.Passed)
 
 -- the secret of a declaration replaces the live one; a written statement is accepted for a small credit only
 abbrev pub WorkedDeclarations : Type 0
 WorkedDeclarations =
-    let many = record (ring 7500) { secrets = repeat 101 (record { day = date 2024 1 31; sort = Issue.Sworn; secret = 1 } ∷ []) } in
-    (told (ring 7501) (date 2024 3 2) (Command.Declare Paper.Sworn) ≡ Ok (Done.Declared 9))
-    × (live_of (after_telling (ring 7501) (date 2024 3 2) (Command.Declare Paper.Sworn)) ≡ Some 9)
-    × (told (ring 7501) (date 2024 3 2) (Command.Declare Paper.Written) ≡ Err Refusal.NotSmall)
-    × (told (ring 7500) (date 2024 3 2) (Command.Declare Paper.Written) ≡ Ok (Done.Declared 9))
-    × (told (after_telling (ring 7500) (date 2024 3 2) (Command.Declare Paper.Sworn)) (date 2024 3 2) (Command.Declare Paper.Sworn) ≡ Err Refusal.SecretUsed)
-    × (reply_of (pledge_step (ring 7500) (record { day = date 2024 3 2; word = 1 }) (Command.Declare Paper.Sworn)) ≡ Err Refusal.SecretUsed)
+    let many = record (ring small) { secrets = repeat 101 (record { day = date 2024 1 31; sort = Issue.Sworn; secret = 1 } ∷ []) } in
+    (told (ring (small_credit + 1)) (date 2024 3 2) (Command.Declare Paper.Sworn) ≡ Ok (Done.Declared 9))
+    × (live_of (after_telling (ring (small_credit + 1)) (date 2024 3 2) (Command.Declare Paper.Sworn)) ≡ Some 9)
+    × (told (ring (small_credit + 1)) (date 2024 3 2) (Command.Declare Paper.Written) ≡ Err Refusal.NotSmall)
+    × (told (ring small_credit) (date 2024 3 2) (Command.Declare Paper.Written) ≡ Ok (Done.Declared 9))
+    × (told (after_telling (ring small) (date 2024 3 2) (Command.Declare Paper.Sworn)) (date 2024 3 2) (Command.Declare Paper.Sworn) ≡ Err Refusal.SecretUsed)
+    × (reply_of (pledge_step (ring small) (record { day = date 2024 3 2; word = 1 }) (Command.Declare Paper.Sworn)) ≡ Err Refusal.SecretUsed)
     × (told many (date 2024 3 2) (Command.Declare Paper.Sworn) ≡ Err Refusal.DeclarationsFull)
-    × (told (after_telling (after_telling (ring 7500) (date 2024 2 1) Command.Hold) (date 2024 2 1) (Command.Declare Paper.Sworn)) (date 2024 2 1)
-    (Command.Redeem 7500) ≡ Err Refusal.Held)
+    × (told (after_telling (after_telling (ring small) (date 2024 2 1) Command.Hold) (date 2024 2 1) (Command.Declare Paper.Sworn)) (date 2024 2 1)
+    (Command.Redeem small) ≡ Err Refusal.Held)
 
 -- the answer to a command on a booking
 abbrev pub booking_answer : ℕ → ℕ → BookingState → Done
@@ -153,7 +161,7 @@ booking_answer day window state = Done.Booked (record { day = day; window = wind
 
 -- the ring after a booking for 2024-03-04 was asked for
 abbrev pub ring_asked_for : PledgeValue
-ring_asked_for = after_telling (ring 10000) (date 2024 3 1) (Command.AskBooking (date 2024 3 4) 3)
+ring_asked_for = after_telling (ring large) (date 2024 3 1) (Command.AskBooking (date 2024 3 4) 3)
 
 -- the ring after that booking was confirmed
 abbrev pub ring_confirmed : PledgeValue
@@ -162,12 +170,12 @@ ring_confirmed = after_telling ring_asked_for (date 2024 3 1) (Command.DecideBoo
 -- a booking is accepted for a window of a day that is not over, and on which the property will not have passed
 abbrev pub WorkedAskings : Type 0
 WorkedAskings =
-    (told (ring 10000) (date 2024 3 1) (Command.AskBooking (date 2024 3 4) 3) ≡ Ok (booking_answer (date 2024 3 4) 3 Asked))
-    × (told (ring 10000) (date 2024 3 1) (Command.AskBooking (date 2024 3 1) 15) ≡ Ok (booking_answer (date 2024 3 1) 15 Asked))
-    × (told (ring 10000) (date 2024 3 1) (Command.AskBooking (date 2024 2 29) 16) ≡ Err Refusal.BadWindow)
-    × (told (ring 10000) (date 2024 3 1) (Command.AskBooking (date 2024 2 29) 15) ≡ Err Refusal.BookingDay)
-    × (told (ring 7500) (date 2024 3 1) (Command.AskBooking (date 2024 7 31) 0) ≡ Ok (booking_answer (date 2024 7 31) 0 Asked))
-    × (told (ring 7500) (date 2024 3 1) (Command.AskBooking (date 2024 8 1) 0) ≡ Err Refusal.BookingDay)
+    (told (ring large) (date 2024 3 1) (Command.AskBooking (date 2024 3 4) 3) ≡ Ok (booking_answer (date 2024 3 4) 3 Asked))
+    × (told (ring large) (date 2024 3 1) (Command.AskBooking (date 2024 3 1) 15) ≡ Ok (booking_answer (date 2024 3 1) 15 Asked))
+    × (told (ring large) (date 2024 3 1) (Command.AskBooking (date 2024 2 29) 16) ≡ Err Refusal.BadWindow)
+    × (told (ring large) (date 2024 3 1) (Command.AskBooking (date 2024 2 29) 15) ≡ Err Refusal.BookingDay)
+    × (told (ring small) (date 2024 3 1) (Command.AskBooking (date 2024 7 31) 0) ≡ Ok (booking_answer (date 2024 7 31) 0 Asked))
+    × (told (ring small) (date 2024 3 1) (Command.AskBooking (date 2024 8 1) 0) ≡ Err Refusal.BookingDay)
     × (pledge_step ring_asked_for (on (date 2024 3 4)) (Command.AskBooking (date 2024 3 4) 3) ≡ Answered (booking_answer (date 2024 3 4) 3 Asked))
     × (pledge_step ring_confirmed (on (date 2024 3 2)) (Command.AskBooking (date 2024 3 4) 3) ≡ Answered (booking_answer (date 2024 3 4) 3 Confirmed))
     × (told ring_confirmed (date 2024 3 2) (Command.AskBooking (date 2024 3 4) 4) ≡ Ok (booking_answer (date 2024 3 4) 4 Asked))
@@ -178,7 +186,7 @@ abbrev pub WorkedCancellings : Type 0
 WorkedCancellings =
     let cancelled = after_telling ring_confirmed (date 2024 3 5) Command.CancelBooking in
     let refused = after_telling ring_confirmed (date 2024 3 2) (Command.DecideBooking Refuse) in
-    (told (ring 10000) (date 2024 3 1) Command.CancelBooking ≡ Err Refusal.NoBooking)
+    (told (ring large) (date 2024 3 1) Command.CancelBooking ≡ Err Refusal.NoBooking)
     × (told ring_asked_for (date 2024 3 1) Command.CancelBooking ≡ Ok (booking_answer (date 2024 3 4) 3 Cancelled))
     × (told ring_confirmed (date 2024 3 5) Command.CancelBooking ≡ Ok (booking_answer (date 2024 3 4) 3 Cancelled))
     × (pledge_step cancelled (on (date 2024 3 6)) Command.CancelBooking ≡ Answered (booking_answer (date 2024 3 4) 3 Cancelled))
@@ -189,8 +197,8 @@ abbrev pub WorkedDecisions : Type 0
 WorkedDecisions =
     let cancelled = after_telling ring_asked_for (date 2024 3 1) Command.CancelBooking in
     let refused = after_telling ring_asked_for (date 2024 3 1) (Command.DecideBooking Refuse) in
-    (told (ring 10000) (date 2024 3 1) (Command.DecideBooking Confirm) ≡ Err Refusal.NoBooking)
-    × (told (ring 10000) (date 2024 3 1) (Command.DecideBooking Refuse) ≡ Err Refusal.NoBooking)
+    (told (ring large) (date 2024 3 1) (Command.DecideBooking Confirm) ≡ Err Refusal.NoBooking)
+    × (told (ring large) (date 2024 3 1) (Command.DecideBooking Refuse) ≡ Err Refusal.NoBooking)
     × (told ring_asked_for (date 2024 3 4) (Command.DecideBooking Confirm) ≡ Ok (booking_answer (date 2024 3 4) 3 Confirmed))
     × (told ring_asked_for (date 2024 3 5) (Command.DecideBooking Confirm) ≡ Err Refusal.BookingDay)
     × (pledge_step ring_confirmed (on (date 2024 3 5)) (Command.DecideBooking Confirm) ≡ Answered (booking_answer (date 2024 3 4) 3 Confirmed))
@@ -203,31 +211,31 @@ WorkedDecisions =
 -- a redemption pays exactly the sum owed, before the property passes; it spends the receipt and cancels the booking
 abbrev pub WorkedRedemptions : Type 0
 WorkedRedemptions =
-    let redeemed = after_telling ring_confirmed (date 2024 3 4) (Command.Redeem 10000) in
-    (told (ring 7500) (date 2024 2 1) (Command.Redeem 7499) ≡ Err (Refusal.WrongAmount 7500))
-    × (told (ring 7500) (date 2024 7 31) (Command.Redeem 7500) ≡ Ok (Done.Redeemed (date 2024 7 31) 7500))
-    × (told (ring 7500) (date 2024 8 1) (Command.Redeem 7500) ≡ Err Refusal.Passed)
-    × (told (ring 7501) (date 2024 8 1) (Command.Redeem 7501) ≡ Ok (Done.Redeemed (date 2024 8 1) 7501))
-    × (told (ring_with_grace 7500) (date 2024 8 5) (Command.Redeem 7500) ≡ Ok (Done.Redeemed (date 2024 8 5) 7500))
-    × (told (ring_with_grace 7500) (date 2024 8 6) (Command.Redeem 7500) ≡ Err Refusal.Passed)
-    × (told (ring_pledge (Fixed 7500) false (Some (date 2024 8 1)) free) (date 2024 8 2) (Command.Redeem 7500) ≡ Ok (Done.Redeemed (date 2024 8 2) 7500))
+    let redeemed = after_telling ring_confirmed (date 2024 3 4) (Command.Redeem large) in
+    (told (ring small) (date 2024 2 1) (Command.Redeem (small - 1)) ≡ Err (Refusal.WrongAmount small))
+    × (told (ring small) (date 2024 7 31) (Command.Redeem small) ≡ Ok (Done.Redeemed (date 2024 7 31) small))
+    × (told (ring small) (date 2024 8 1) (Command.Redeem small) ≡ Err Refusal.Passed)
+    × (told (ring large) (date 2024 8 1) (Command.Redeem large) ≡ Ok (Done.Redeemed (date 2024 8 1) large))
+    × (told (ring_with_grace small) (date 2024 8 5) (Command.Redeem small) ≡ Ok (Done.Redeemed (date 2024 8 5) small))
+    × (told (ring_with_grace small) (date 2024 8 6) (Command.Redeem small) ≡ Err Refusal.Passed)
+    × (told (ring_pledge (Fixed small) false (Some (date 2024 8 1)) free) (date 2024 8 2) (Command.Redeem small) ≡ Ok (Done.Redeemed (date 2024 8 2) small))
     × (live_of redeemed ≡ None)
     × (status_of redeemed (date 2024 8 1) ≡ Status.Redeemed)
     × (redeemed.standing.booking ≡ Some (record { day = date 2024 3 4; window = 3; state = Cancelled }))
-    × (told redeemed (date 2024 3 4) (Command.Redeem 10000) ≡ Err Refusal.Closed)
-    × (told redeemed (date 2024 3 3) (Command.Redeem 10000) ≡ Err (Refusal.Debt EarlierDay))
+    × (told redeemed (date 2024 3 4) (Command.Redeem large) ≡ Err Refusal.Closed)
+    × (told redeemed (date 2024 3 3) (Command.Redeem large) ≡ Err (Refusal.Debt EarlierDay))
 
 -- a realisable pledge can be sold, for more or less than the sum owed; its receipt stays live
 abbrev pub WorkedSales : Type 0
 WorkedSales =
-    let sold = after_telling (ring 10000) (date 2024 8 1) (Command.Sell 9000) in
-    (told (ring 10000) (date 2024 8 1) (Command.Sell 9000) ≡ Ok (Done.Sold 9000 0 1000))
-    × (told (ring 10000) (date 2024 8 1) (Command.Sell 12345) ≡ Ok (Done.Sold 12345 2345 0))
-    × (told (ring 10000) (date 2024 8 1) (Command.Sell 0) ≡ Ok (Done.Sold 0 0 10000))
-    × (told (ring 10000) (date 2024 8 1) (Command.Sell 100000001) ≡ Err (Refusal.Debt BadAmount))
-    × (told (ring 10000) (date 2024 7 31) (Command.Sell 9000) ≡ Err Refusal.NotRealisable)
-    × (told (ring_with_grace 10000) (date 2024 8 5) (Command.Sell 9000) ≡ Err Refusal.NotRealisable)
-    × (told (ring 7500) (date 2024 8 1) (Command.Sell 9000) ≡ Err Refusal.Passed)
+    let sold = after_telling (ring large) (date 2024 8 1) (Command.Sell 9000) in
+    (told (ring large) (date 2024 8 1) (Command.Sell (large - 1000)) ≡ Ok (Done.Sold (large - 1000) 0 1000))
+    × (told (ring large) (date 2024 8 1) (Command.Sell (large + 2345)) ≡ Ok (Done.Sold (large + 2345) 2345 0))
+    × (told (ring large) (date 2024 8 1) (Command.Sell 0) ≡ Ok (Done.Sold 0 0 large))
+    × (told (ring large) (date 2024 8 1) (Command.Sell 100000001) ≡ Err (Refusal.Debt BadAmount))
+    × (told (ring large) (date 2024 7 31) (Command.Sell 9000) ≡ Err Refusal.NotRealisable)
+    × (told (ring_with_grace large) (date 2024 8 5) (Command.Sell 9000) ≡ Err Refusal.NotRealisable)
+    × (told (ring small) (date 2024 8 1) (Command.Sell 9000) ≡ Err Refusal.Passed)
     × (live_of sold ≡ Some 1)
     × (status_of sold (date 2024 8 1) ≡ Status.Sold)
     × (told sold (date 2024 8 1) (Command.Sell 9000) ≡ Err Refusal.Closed)
@@ -235,7 +243,7 @@ WorkedSales =
 
 -- the ring with safe keeping at a penny a day in the period
 abbrev pub ring_in_safe_keeping : PledgeValue
-ring_in_safe_keeping = ring_pledge (Fixed 7500) false None (rates_of 0 1000000 0)
+ring_in_safe_keeping = ring_pledge (Fixed small) false None (rates_of 0 1000000 0)
 
 -- the same after its period was extended to 2024-09-30
 abbrev pub ring_extended : PledgeValue
@@ -244,7 +252,7 @@ ring_extended = after_telling ring_in_safe_keeping (date 2024 7 31) (Command.Ext
 -- a period can be extended while it is not over
 abbrev pub WorkedExtensions : Type 0
 WorkedExtensions =
-    let often = record (ring 10000) { extensions = repeat 99 (record { day = date 2024 7 31; until = date 2024 9 30 } ∷ []) } in
+    let often = record (ring large) { extensions = repeat 99 (record { day = date 2024 7 31; until = date 2024 9 30 } ∷ []) } in
     (told ring_in_safe_keeping (date 2024 7 31) (Command.Extend (date 2024 7 30)) ≡ Err Refusal.NotLater)
     × (pledge_step ring_in_safe_keeping (on (date 2024 7 31)) (Command.Extend (date 2024 7 31)) ≡ Answered (Done.Extended (date 2024 7 31)))
     × (told ring_in_safe_keeping (date 2024 7 31) (Command.Extend (date 2024 9 30)) ≡ Ok (Done.Extended (date 2024 9 30)))
@@ -252,7 +260,7 @@ WorkedExtensions =
     × (end_of ring_extended ≡ date 2024 9 30)
     × (status_of ring_extended (date 2024 8 5) ≡ Status.Inside)
     × (status_of ring_extended (date 2024 10 1) ≡ Status.Realisable)
-    × (told ring_extended (date 2024 10 1) (Command.Redeem 7743) ≡ Ok (Done.Redeemed (date 2024 10 1) 7743))
+    × (told ring_extended (date 2024 10 1) (Command.Redeem (small + 243)) ≡ Ok (Done.Redeemed (date 2024 10 1) (small + 243)))
     × (told ring_in_safe_keeping (date 2024 8 1) (Command.Extend (date 2024 9 30)) ≡ Err Refusal.Passed)
-    × (told (ring 10000) (date 2024 8 1) (Command.Extend (date 2024 9 30)) ≡ Err Refusal.PeriodOver)
+    × (told (ring large) (date 2024 8 1) (Command.Extend (date 2024 9 30)) ≡ Err Refusal.PeriodOver)
     × (told often (date 2024 7 31) (Command.Extend (date 2024 10 1)) ≡ Err Refusal.ExtensionsFull)

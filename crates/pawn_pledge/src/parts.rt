@@ -17,7 +17,7 @@ use pawn_debt::{Day, Entries, Entry, MOST_PENCE, Sort, Terms, Totals, owing_at, 
 use pawn_terms::LAST_STAMP_DAY;
 use std::alloc::AllocError;
 
-/// The record of a pledge as plain fields. It need not be one that a pledge can have; `can_stand` checks that.
+/// The record of a pledge as plain fields. It need not be one that a pledge can have; `is_reachable` checks that.
 #[derive(Drop)]
 pub struct Parts {
     pub agreement: Agreement,
@@ -29,7 +29,7 @@ pub struct Parts {
 
 impl Parts {
     /// Whether a pledge can have this record: whether commands can produce it, and it is within the limits.
-    pub fn can_stand(&self) -> bool
+    pub fn is_reachable(&self) -> bool
         ensures answer { IsTrue result ↔ IsReachable self.now }
     {
         validate(self).is_some()

@@ -1,12 +1,12 @@
 -- Worked examples of statements and of their lines.
 use Rattle.pawn_debt.specs.declared.entry.Kind.TheVariants.{Fixed, Running}
 use Rattle.pawn_debt.specs.declared.entry.Sort.TheVariants.{Draw, Repay}
-use Rattle.pawn_pledge.specs.Worked.{after_telling, ring, ring_pledge}
+use Rattle.pawn_pledge.specs.Worked.{after_telling, large, ring, ring_pledge, small}
 use Rattle.pawn_terms.specs.Terms.{rates_of}
 use Rattle.pawn_view.specs.Common.{Command, Open, PledgeValue, Redeemed, Sold, date}
 use Rattle.pawn_view.specs.Text.{money, date_text, kind_line, extended_line, held_line, booking_line, closing_line}
 use Rattle.pawn_view.specs.Text.{entry_line, statement_text, presented_text}
-use Rattle.std.specs.Prelude.{◌≡◌, false, true, [], ◌∷◌, Some, None, codes, List, ℕ, ◌++◌}
+use Rattle.std.specs.Prelude.{◌≡◌, false, true, [], ◌∷◌, Some, None, codes, List, ℕ, ◌+◌, ◌++◌}
 use Rattle.pawn_pledge.specs.declared.record.BookingState.TheVariants as state
 
 -- pounds, and two digits of pence
@@ -57,41 +57,41 @@ WorkedClosings =
 abbrev pub ring_at_interest : PledgeValue
 ring_at_interest = ring_pledge (Fixed 10000) false None (rates_of 2667 0 0)
 
--- how each statement of the ring in pledge for 100 pounds begins
-abbrev pub begun : List ℕ
-begun = codes "Pledge 1\nArticle Gold ring\nKind fixed 100.00\nTaken 2024-01-31\nEnds 2024-07-31\nStatus "
+-- how each statement of the ring begins, given the text of its sum
+abbrev pub begun : List ℕ → List ℕ
+begun sum = codes "Pledge 1\nArticle Gold ring\nKind fixed " ++ sum ++ codes "\nTaken 2024-01-31\nEnds 2024-07-31\nStatus "
 
--- the statement of the ring in pledge for 75 pounds, after it has passed to the broker
+-- the statement of the ring in pledge for a small credit, after it has passed to the broker
 abbrev pub passed : List ℕ
-passed = codes "Pledge 1\nArticle Gold ring\nKind fixed 75.00\nTaken 2024-01-31\nEnds 2024-07-31\nStatus passed\nHeld no\nBooking none\n"
+passed = begun (codes "50.00") ++ codes "passed\nHeld no\nBooking none\n"
 
 -- statements from the day taken on; they have no amounts after the ring has passed to the broker
 abbrev pub WorkedStatements : Type 0
 WorkedStatements =
-    let inside = begun ++ codes "inside\nPrincipal 100.00\nCharges 0.00\nOwing 100.00\nHeld no\nBooking none\n" in
+    let inside = begun (codes "100.00") ++ codes "inside\nPrincipal 100.00\nCharges 0.00\nOwing 100.00\nHeld no\nBooking none\n" in
     (statement_text (date 2024 1 31) (ring 10000) ≡ inside)
     × (statement_text (date 2020 2 29) (ring 10000) ≡ inside)
-    × (statement_text (date 2024 8 1) (ring 7500) ≡ passed)
+    × (statement_text (date 2024 8 1) (ring small) ≡ passed)
 
 -- statements of a ring at interest: ten pounds are repaid after thirty days; eight of them pay the charges
 abbrev pub WorkedCharges : Type 0
 WorkedCharges =
     (statement_text (date 2024 3 1) ring_at_interest
-    ≡ begun ++ codes "inside\nPrincipal 100.00\nCharges 8.00\nOwing 108.00\nHeld no\nBooking none\n")
+    ≡ begun (codes "100.00") ++ codes "inside\nPrincipal 100.00\nCharges 8.00\nOwing 108.00\nHeld no\nBooking none\n")
     × (statement_text (date 2024 3 1) (after_telling ring_at_interest (date 2024 3 1) (Command.Repay 1 1000))
-    ≡ begun ++ codes "inside\nPrincipal 98.00\nCharges 0.00\nOwing 98.00\nHeld no\nBooking none\nEntry 1 2024-03-01 repay 10.00\n")
+    ≡ begun (codes "100.00") ++ codes "inside\nPrincipal 98.00\nCharges 0.00\nOwing 98.00\nHeld no\nBooking none\nEntry 1 2024-03-01 repay 10.00\n")
 
 -- statements of a ring that was redeemed or sold, on any later day
 abbrev pub WorkedEndings : Type 0
 WorkedEndings =
-    (statement_text (date 2025 1 1) (after_telling (ring 10000) (date 2024 8 1) (Command.Redeem 10000))
-    ≡ begun ++ codes "redeemed\nPrincipal 100.00\nCharges 0.00\nOwing 100.00\nHeld no\nBooking none\nRedeemed 2024-08-01 paid 100.00\n")
-    × (statement_text (date 2025 1 1) (after_telling (ring 10000) (date 2024 8 1) (Command.Sell 12345))
-    ≡ begun ++ codes "sold\nPrincipal 100.00\nCharges 0.00\nOwing 100.00\nHeld no\nBooking none\nSold 2024-08-01 net 123.45 surplus 23.45 shortfall 0.00\n")
+    (statement_text (date 2025 1 1) (after_telling (ring large) (date 2024 8 1) (Command.Redeem large))
+    ≡ begun (codes "500.00") ++ codes "redeemed\nPrincipal 500.00\nCharges 0.00\nOwing 500.00\nHeld no\nBooking none\nRedeemed 2024-08-01 paid 500.00\n")
+    × (statement_text (date 2025 1 1) (after_telling (ring large) (date 2024 8 1) (Command.Sell (large + 2345)))
+    ≡ begun (codes "500.00") ++ codes "sold\nPrincipal 500.00\nCharges 0.00\nOwing 500.00\nHeld no\nBooking none\nSold 2024-08-01 net 523.45 surplus 23.45 shortfall 0.00\n")
 
 -- receipts: the line of an unknown one, and a blank line between two texts
 abbrev pub WorkedPresented : Type 0
 WorkedPresented =
-    (presented_text (date 2024 8 1) (None ∷ Some (ring 7500) ∷ None ∷ [])
+    (presented_text (date 2024 8 1) (None ∷ Some (ring small) ∷ None ∷ [])
     ≡ codes "Unknown receipt\n\n" ++ passed ++ codes "\nUnknown receipt\n")
     × (presented_text (date 2024 8 1) (None ∷ []) ≡ codes "Unknown receipt\n")

@@ -3,8 +3,8 @@
 ghost use Rattle.pawn_pledge.specs.Common.{Entry, first_of};
 ghost use Rattle.pawn_pledge.specs.Limits.{most_secrets};
 ghost use Rattle.pawn_pledge.specs.Pledge.{end_of};
-ghost use Rattle.pawn_pledge.specs.Step.{Changed, IsApplied, IsStep, ask_once, ask_step, bars, cancel_step, confirm_in};
-ghost use Rattle.pawn_pledge.specs.Step.{decide_step, declare_bars, declare_step, decline_in, entry_of, entry_step};
+ghost use Rattle.pawn_pledge.specs.Step.{Changed, IsApplied, IsStep, ask_once, ask_step, shared_refusals, cancel_step, confirm_in};
+ghost use Rattle.pawn_pledge.specs.Step.{decide_step, declare_refusals, declare_step, decline_in, entry_of, entry_step};
 ghost use Rattle.pawn_pledge.specs.Step.{extend_step, hold_step, makes_booking, numbered_step, pledge_step};
 ghost use Rattle.pawn_pledge.specs.Step.{redeem_step, sell_step, unless};
 ghost use Rattle.pawn_pledge.specs.Words.{after_closing, booking_after, in_state, is_ahead, is_repeat, is_active};
@@ -58,8 +58,8 @@ impl Pledge {
 
     /// Checks the refusals that all commands share: a day before the last change, a closed pledge, and a pledge that
     /// has passed. A repeated entry is answered before this check.
-    fn gate(&self, day: Day) -> Result<(), Refusal>
-        ensures answer { result ≡ first_of (bars self.now day) (Ok tt) }
+    fn check_shared_refusals(&self, day: Day) -> Result<(), Refusal>
+        ensures answer { result ≡ first_of (shared_refusals self.now day) (Ok tt) }
         ensures later { OnOk result (self.now.standing.last ≤ day) }
     {
         if day < self.standing.last {
@@ -79,22 +79,22 @@ impl Pledge {
     fn enter(&mut self, day: Day, seq: u64, sort: Sort, pence: u64) -> Result<Applied, Refusal>
         ensures step { IsApplied (numbered_step self.old day seq sort pence (entry_of self.old seq)) self.old result self.new }
     {
-        let standing = self.debt.entry(seq);
-        self.enter_once(standing, day, seq, sort, pence)
+        let existing = self.debt.entry(seq);
+        self.enter_once(existing, day, seq, sort, pence)
     }
 
-    /// Does the same as `enter`, given `standing`, the entry that already has this number, if there is one.
+    /// Does the same as `enter`, given `existing`, the entry that already has this number, if there is one.
     fn enter_once(
         &mut self,
-        standing: Option<Entry>,
+        existing: Option<Entry>,
         day: Day,
         seq: u64,
         sort: Sort,
         pence: u64,
     ) -> Result<Applied, Refusal>
-        ensures step { IsApplied (numbered_step self.old day seq sort pence standing) self.old result self.new }
+        ensures step { IsApplied (numbered_step self.old day seq sort pence existing) self.old result self.new }
     {
-        if let Some(entry) = standing {
+        if let Some(entry) = existing {
             if !is_repeat(&entry, sort, pence) {
                 return Err(Refusal::SeqTaken);
             }
@@ -103,7 +103,7 @@ impl Pledge {
         if self.is_ahead(seq) {
             return Err(Refusal::SeqAhead);
         }
-        self.gate(day)?;
+        self.check_shared_refusals(day)?;
         match sort {
             Sort::Draw => self.draw(day, pence),
             Sort::Repay => self.repay(day, pence),
@@ -156,9 +156,9 @@ impl Pledge {
 
     /// Puts the pledge on hold, or ends the hold. If the flag already has this value, nothing changes.
     fn hold(&mut self, day: Day, flag: bool) -> Result<Applied, Refusal>
-        ensures step { IsApplied (unless (bars self.old day) (hold_step self.old day flag)) self.old result self.new }
+        ensures step { IsApplied (unless (shared_refusals self.old day) (hold_step self.old day flag)) self.old result self.new }
     {
-        self.gate(day)?;
+        self.check_shared_refusals(day)?;
         if self.standing.held == flag {
             return Ok(Applied::of_answer(Done::Held(flag)));
         }
@@ -169,10 +169,10 @@ impl Pledge {
 
     /// Issues the stamp's word as the new secret, on a declaration.
     fn declare(&mut self, stamp: &Stamp, paper: Paper) -> Result<Applied, Refusal>
-        ensures step { IsApplied (unless (bars self.old stamp.now.day) (declare_step self.old stamp.now paper)) self.old result self.new }
+        ensures step { IsApplied (unless (shared_refusals self.old stamp.now.day) (declare_step self.old stamp.now paper)) self.old result self.new }
     {
         let day = stamp.day.day();
-        self.gate(day)?;
+        self.check_shared_refusals(day)?;
         let issued = Issued {
             day,
             sort: paper.issue(),
@@ -184,7 +184,7 @@ impl Pledge {
 
     /// Checks the refusals that only a declaration can have.
     fn may_declare(&self, paper: Paper, issued: &Issued) -> Result<(), Refusal>
-        ensures answer { result ≡ first_of (declare_bars self.now paper issued.now.secret) (Ok tt) }
+        ensures answer { result ≡ first_of (declare_refusals self.now paper issued.now.secret) (Ok tt) }
         ensures few { OnOk result (length self.now.secrets < most_secrets) }
     {
         if paper == Paper::Written && !is_small(self.agreement.opening.kind.credit()) {
@@ -228,9 +228,9 @@ impl Pledge {
 
     /// Asks for a booking of a day and a window.
     fn ask(&mut self, day: Day, wanted: Day, window: u64) -> Result<Applied, Refusal>
-        ensures step { IsApplied (unless (bars self.old day) (ask_step self.old day wanted window)) self.old result self.new }
+        ensures step { IsApplied (unless (shared_refusals self.old day) (ask_step self.old day wanted window)) self.old result self.new }
     {
-        self.gate(day)?;
+        self.check_shared_refusals(day)?;
         if window > LAST_WINDOW {
             return Err(Refusal::BadWindow);
         }
@@ -264,9 +264,9 @@ impl Pledge {
 
     /// Cancels the booking. If it is already cancelled, the answer is that booking and nothing changes.
     fn cancel(&mut self, day: Day) -> Result<Applied, Refusal>
-        ensures step { IsApplied (unless (bars self.old day) (cancel_step self.old day self.old.standing.booking)) self.old result self.new }
+        ensures step { IsApplied (unless (shared_refusals self.old day) (cancel_step self.old day self.old.standing.booking)) self.old result self.new }
     {
-        self.gate(day)?;
+        self.check_shared_refusals(day)?;
         let Some(booking) = self.standing.booking else {
             return Err(Refusal::NoBooking);
         };
@@ -281,9 +281,9 @@ impl Pledge {
 
     /// Confirms or refuses a booking.
     fn decide(&mut self, day: Day, decision: Decision) -> Result<Applied, Refusal>
-        ensures step { IsApplied (unless (bars self.old day) (decide_step self.old day decision self.old.standing.booking)) self.old result self.new }
+        ensures step { IsApplied (unless (shared_refusals self.old day) (decide_step self.old day decision self.old.standing.booking)) self.old result self.new }
     {
-        self.gate(day)?;
+        self.check_shared_refusals(day)?;
         let Some(booking) = self.standing.booking else {
             return Err(Refusal::NoBooking);
         };
@@ -326,9 +326,9 @@ impl Pledge {
 
     /// Closes the pledge on payment of the sum owed, which is 0 for an account that was never drawn on.
     fn redeem(&mut self, day: Day, paid: u64) -> Result<Applied, Refusal>
-        ensures step { IsApplied (unless (bars self.old day) (redeem_step self.old day paid)) self.old result self.new }
+        ensures step { IsApplied (unless (shared_refusals self.old day) (redeem_step self.old day paid)) self.old result self.new }
     {
-        self.gate(day)?;
+        self.check_shared_refusals(day)?;
         if self.standing.held {
             return Err(Refusal::Held);
         }
@@ -344,9 +344,9 @@ impl Pledge {
 
     /// Closes the pledge by a sale for `net` pence.
     fn sell(&mut self, day: Day, net: u64) -> Result<Applied, Refusal>
-        ensures step { IsApplied (unless (bars self.old day) (sell_step self.old day net)) self.old result self.new }
+        ensures step { IsApplied (unless (shared_refusals self.old day) (sell_step self.old day net)) self.old result self.new }
     {
-        self.gate(day)?;
+        self.check_shared_refusals(day)?;
         let Status::Realisable = self.open_status(day) else {
             return Err(Refusal::NotRealisable);
         };
@@ -366,9 +366,9 @@ impl Pledge {
 
     /// Extends the period to a later end. If `until` is already the end, nothing changes.
     fn extend(&mut self, day: Day, until: Day) -> Result<Applied, Refusal>
-        ensures step { IsApplied (unless (bars self.old day) (extend_step self.old day until)) self.old result self.new }
+        ensures step { IsApplied (unless (shared_refusals self.old day) (extend_step self.old day until)) self.old result self.new }
     {
-        self.gate(day)?;
+        self.check_shared_refusals(day)?;
         let ends = self.debt.ends();
         if day > ends {
             return Err(Refusal::PeriodOver);

@@ -4,7 +4,7 @@ use Rattle.pawn_check.proofs.Fronts.{both_ways, falls_below, handed_on, unfit_at
 use Rattle.pawn_check.proofs.pledges.next_step.Goals.{then-not-under-via-then-not-under}
 use Rattle.pawn_check.proofs.pledges.next_step.Goals.{then-not-under-via-else-not-under+then-not-first}
 use Rattle.pawn_check.proofs.pledges.next_step.Goals.{then-ne-via-then-ne, then-ne-via-else-ne+then-next-version}
-use Rattle.pawn_check.proofs.pledges.next_step.Goals.{then-ne-via-else-ne+else-next-version+then-not-can_stand}
+use Rattle.pawn_check.proofs.pledges.next_step.Goals.{then-ne-via-else-ne+else-next-version+then-not-is_reachable}
 use Rattle.std.proofs.Common.{rules, ◌≡◌, ◌≤◌, ℕ, Err, refl, arith}
 use Rattle.std.proofs.lemmas.Bool.Decides.{nat_tests}
 use Rattle.pawn_check.proofs.pledges.next_step.Goals as goal
@@ -18,8 +18,8 @@ returns-then-ne-clause-reads g c =
       | then-ne-via-then-ne w ↦
           unfit_at h c.args.book n k c.in_ok-parts.parts is at (λ fits. let other = w.if-ne.ensures in grind (arith, nat_tests, fits.number, other))
       | then-ne-via-else-ne+then-next-version w ↦ falls_below h c.args.book place n c.args.version k c.in_ok-parts.parts is next at last w.if-next-version.true
-      | then-ne-via-else-ne+else-next-version+then-not-can_stand w ↦ unfit_at h c.args.book n k c.in_ok-parts.parts is at
-          (λ fits. let stands = w.can_stand.ensures.answer.1 fits.reachable in let not' = w.if-not-can_stand.true in both_ways _ stands not')
+      | then-ne-via-else-ne+else-next-version+then-not-is_reachable w ↦ unfit_at h c.args.book n k c.in_ok-parts.parts is at
+          (λ fits. let stands = w.is_reachable.ensures.answer.1 fits.reachable in let not' = w.if-not-is_reachable.true in both_ways _ stands not')
     ])
 
 pub returns-in_err-under-clause-reads : goal.returns-in_err-under-clause-reads
@@ -54,7 +54,7 @@ returns-clause-reads g c =
       both.0 k is within,
       record {
         number = let same = c.if-ne.ensures in grind (arith, nat_tests, same);
-        reachable = c.can_stand.ensures.answer.0 c.if-not-can_stand.false;
+        reachable = c.is_reachable.ensures.answer.0 c.if-not-is_reachable.false;
         under = (both.1 k is).0 c.if-not-under.false;
         reference = (said k is).0 c.if-not-first.false;
         written = c.know_written.ensures.written;

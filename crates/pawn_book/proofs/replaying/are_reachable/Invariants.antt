@@ -1,6 +1,6 @@
 use Rattle.pawn_book.specs.Common.{Each, IsReachable, PledgeValue}
 use Rattle.std.proofs.Common.{drop}
-use Rattle.pawn_book.proofs.replaying.can_stand.Given as goal
+use Rattle.pawn_book.proofs.replaying.are_reachable.Given as goal
 
 abbrev pub invariant-loop-parts : goal.invariant-loop-parts
 invariant-loop-parts l = record {
