@@ -96,7 +96,8 @@ never_live_again p (c ∷ cs) secret spent =
 
 -- a declaration adds a new secret after those that were issued
 spent-by-declaration : (p q : PledgeValue) (stamp : Stamp) (paper : Paper) (d : Done) (secret : ℕ)
-    → list_any (λ (i : Issued). i.secret == secret) p.secrets ≡ true → unless (shared_refusals p stamp.day) (declare_step p stamp paper) ≡ Changed q d → IsSpent q secret
+    → list_any (λ (i : Issued). i.secret == secret) p.secrets ≡ true
+    → unless (shared_refusals p stamp.day) (declare_step p stamp paper) ≡ Changed q d → IsSpent q secret
 spent-by-declaration p q stamp paper d secret issued h =
     let new : Issued = record { day = stamp.day; sort = issue_of paper; secret = stamp.word } in
     let a = unless-changed (shared_refusals p stamp.day) (declare_step p stamp paper) q d h in

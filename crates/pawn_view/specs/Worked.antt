@@ -87,7 +87,8 @@ WorkedEndings =
     (statement_text (date 2025 1 1) (after_telling (ring large) (date 2024 8 1) (Command.Redeem large))
     ≡ begun (codes "500.00") ++ codes "redeemed\nPrincipal 500.00\nCharges 0.00\nOwing 500.00\nHeld no\nBooking none\nRedeemed 2024-08-01 paid 500.00\n")
     × (statement_text (date 2025 1 1) (after_telling (ring large) (date 2024 8 1) (Command.Sell (large + 2345)))
-    ≡ begun (codes "500.00") ++ codes "sold\nPrincipal 500.00\nCharges 0.00\nOwing 500.00\nHeld no\nBooking none\nSold 2024-08-01 net 523.45 surplus 23.45 shortfall 0.00\n")
+    ≡ begun (codes "500.00") ++ codes "sold\nPrincipal 500.00\nCharges 0.00\nOwing 500.00\nHeld no\nBooking none\n"
+    ++ codes "Sold 2024-08-01 net 523.45 surplus 23.45 shortfall 0.00\n")
 
 -- receipts: the line of an unknown one, and a blank line between two texts
 abbrev pub WorkedPresented : Type 0

@@ -281,7 +281,8 @@ impl Pledge {
 
     /// Confirms or refuses a booking.
     fn decide(&mut self, day: Day, decision: Decision) -> Result<Applied, Refusal>
-        ensures step { IsApplied (unless (shared_refusals self.old day) (decide_step self.old day decision self.old.standing.booking)) self.old result self.new }
+        ensures step { IsApplied (unless (shared_refusals self.old day) (decide_step self.old day decision self.old.standing.booking)) self.old
+            result self.new }
     {
         self.check_shared_refusals(day)?;
         let Some(booking) = self.standing.booking else {
