@@ -6,7 +6,7 @@ ghost use Rattle.pawn_book.specs.Changes.{CanSave};
 ghost use Rattle.pawn_book.specs.HostStep.{rows};
 ghost use Rattle.pawn_book.specs.Items.{rows_of_pledges};
 ghost use Rattle.pawn_book.specs.Keeping.{Errs, HasTermsOf, IsNextBook, Keeping, OfHost, Reads, Saves, WholeIsSound};
-ghost use Rattle.pawn_book.specs.Keeping.{entries_of, extensions_of, number_of, pledges_of, secrets_of, terms_of};
+ghost use Rattle.pawn_book.specs.Keeping.{entries_of, extensions_of, number_of, pledges_of, terms_of};
 ghost use Rattle.pawn_book.specs.Rows.{terms_at};
 ghost use Rattle.pawn_book.specs.Sheet.{day_sheet};
 ghost use Rattle.pawn_book.specs.Sound.{HasUnsoundBook, IsSound, IsUnsoundAt};
@@ -20,7 +20,7 @@ use crate::fault::{KeepError, SaveError};
 use crate::items::RowItem;
 use crate::sheet::SheetItem;
 use crate::visit::Visitor;
-use pawn_pledge::{Brief, Day, Entry, Extension, Issued, Number, Pledge, Reference, Terms};
+use pawn_pledge::{Brief, Day, Entry, Extension, Number, Pledge, Reference, Terms};
 
 /// A keeper: a value that keeps a host, in a list or in tables. Only `save` changes the host.
 pub trait Keep {
@@ -97,18 +97,6 @@ pub trait Keep {
     ) -> Result<(), KeepError>
         ensures reads { Visits V.step visitor.old visitor.new (λ given flow. Reads keeping self.old self.new
             (λ h. IsShare given flow (call_end result) (entries_of (pledge_in (get h.books book) number)))) }
-        ensures errs { Errs keeping self.old self.new (IsUnsoundAt book) result };
-
-    /// Passes the secrets of a pledge in order to the visitor, until it returns `Stop`. If the call fails, the visitor
-    /// may have got only a prefix of them.
-    fn secrets<V: Visitor<Issued>>(
-        &mut self,
-        book: Number,
-        number: Number,
-        visitor: &mut V,
-    ) -> Result<(), KeepError>
-        ensures reads { Visits V.step visitor.old visitor.new (λ given flow. Reads keeping self.old self.new
-            (λ h. IsShare given flow (call_end result) (secrets_of (pledge_in (get h.books book) number)))) }
         ensures errs { Errs keeping self.old self.new (IsUnsoundAt book) result };
 
     /// Passes the extensions of a pledge in order to the visitor, until it returns `Stop`. If the call fails, the

@@ -189,6 +189,17 @@ acted_at now before stamp bytes bytes' reply text kept acted stays same wider e 
       goes = goes_from before now (record { stamp = stamp; bytes = bytes'; mark = a.mark } ∷ []) kept same wider a.goes;
     }
 
+-- the next item of a session: the service, which now holds the host after these items, acted on the first `len` bytes of
+-- the buffer
+pub acted_next : {K : Type 0} {k : Keeping K} (old now : Service K) (h : Host) (items : List Item) (stamp : Stamp) (whole buffer reply text : List ℕ)
+    (needed len : ℕ) (kept : Kept) → StaysOpen k old now
+    → IsActed (start_of k now (host_by (start_of k old h) items)) stamp (take needed whole) reply kept
+    → ((left : Host) → (start_of k now (host_by (start_of k old h) items)).leaves left → (start_after (start_of k old h) items).leaves left)
+    → whole ≡ buffer → needed ≡ len → text ≡ reply → IsActed (start_after (start_of k old h) items) stamp (take len buffer) text kept
+acted_next {k = k} old now h items stamp whole buffer reply text needed len kept stays acted wider same exact written =
+    acted_at (start_of k now (host_by (start_of k old h) items)) (start_after (start_of k old h) items) stamp (take needed whole) (take len buffer) reply text
+    kept acted stays.on.stays stays.operator wider (ap (take needed) same ∙ ap (λ (n : ℕ). take n buffer) exact) written
+
 -- one call of a service after another
 pub open_then : {K : Type 0} {k : Keeping K} {a b c : Service K} → StaysOpen k a b → StaysOpen k b c → StaysOpen k a c
 open_then first then = record { on = on_then first.on then.on; operator = then.operator ∙ first.operator }

@@ -14,7 +14,7 @@ use pawn_book::{
     Stamp, View, commit, gate, plan,
 };
 use pawn_csv::{RowWriter, export};
-use pawn_reply::{Out, write_reply};
+use pawn_reply::{Out, into_reply, write_reply};
 use pawn_view::{show_day_sheet, show_presented, show_statement};
 use pawn_wire::{Router, read_request};
 use pawn_writing::{ViewFault, Writing};
@@ -40,10 +40,10 @@ pub struct Service<K> {
 }
 
 /// Returns the answer with this content, or `Memory` if memory runs out for its bytes.
-fn contents_answer(alloc: Global, out: &Out) -> Answer
-    ensures tells { Tells result (out_text out.now) }
+fn contents_answer(alloc: Global, out: Out) -> Answer
+    ensures tells { Tells result (out_text out) }
 {
-    match write_reply(alloc, out) {
+    match into_reply(alloc, out) {
         Ok(bytes) => Answer::Bytes(bytes),
         Err(_) => Answer::Memory,
     }
@@ -53,7 +53,7 @@ fn contents_answer(alloc: Global, out: &Out) -> Answer
 fn refuse(alloc: Global, refusal: Refusal) -> Answer
     ensures tells { Tells result (out_text (wire.Refused refusal)) }
 {
-    contents_answer(alloc, &Out::Refused(refusal))
+    contents_answer(alloc, Out::Refused(refusal))
 }
 
 /// Returns the reply to a request that was done.
@@ -65,8 +65,8 @@ fn write_done(alloc: Global, reply: Reply) -> Result<Vec<u8>, AllocError>
 
 /// Returns the answer to a view: the text if it was written completely, and the refusal `unknown` if there is nothing
 /// to show. Otherwise the answer is `Memory` or the refusal `Store`.
-fn view_answer(alloc: Global, shown: Result<(), ViewFault>, text: &Out, unknown: Refusal) -> Answer
-    ensures tells { TellsView result shown (out_text text.now) unknown }
+fn view_answer(alloc: Global, shown: Result<(), ViewFault>, text: Out, unknown: Refusal) -> Answer
+    ensures tells { TellsView result shown (out_text text) unknown }
 {
     match shown {
         Ok(()) => contents_answer(alloc, text),
@@ -114,7 +114,7 @@ impl<K: Keep> Service<K> {
         let day = stamp.day.day();
         let shown = show_presented(&mut self.keep, book, receipts.as_slice(), day, &mut writer);
         let text = Out::Plain(writer.into_inner());
-        view_answer(self.alloc, shown, &text, Refusal::NoSuchReceipt)
+        view_answer(self.alloc, shown, text, Refusal::NoSuchReceipt)
     }
 
     /// Checks the key of a book, and shows the view to the holder of the key.
@@ -150,7 +150,7 @@ impl<K: Keep> Service<K> {
         let day = stamp.day.day();
         let shown = show_statement(&mut self.keep, book, number, day, &mut writer);
         let text = Out::Plain(writer.into_inner());
-        view_answer(self.alloc, shown, &text, Refusal::NoSuchPledge)
+        view_answer(self.alloc, shown, text, Refusal::NoSuchPledge)
     }
 
     /// Shows the sheet of a day of a book whose key has been checked.
@@ -161,7 +161,7 @@ impl<K: Keep> Service<K> {
         let mut writer = Writing::new(Vec::new(self.alloc));
         let shown = show_day_sheet(&mut self.keep, book, day.day(), &mut writer);
         let text = Out::Plain(writer.into_inner());
-        view_answer(self.alloc, shown, &text, Refusal::NoSuchBook)
+        view_answer(self.alloc, shown, text, Refusal::NoSuchBook)
     }
 
     /// Exports the rows of a book whose key has been checked.
@@ -172,7 +172,7 @@ impl<K: Keep> Service<K> {
         let mut rows = RowWriter::new(self.alloc, Vec::new(self.alloc));
         let shown = export(&mut self.keep, book, &mut rows);
         let text = Out::Csv(rows.into_inner());
-        view_answer(self.alloc, shown, &text, Refusal::NoSuchBook)
+        view_answer(self.alloc, shown, text, Refusal::NoSuchBook)
     }
 
     /// Answers the request of a bearer.
@@ -229,7 +229,7 @@ impl<K: Keep> Service<K> {
     {
         let request = match read_request(self.alloc, &self.router, bytes) {
             Ok(request) => request,
-            Err(fault) => return contents_answer(self.alloc, &Out::Fault(fault)),
+            Err(fault) => return contents_answer(self.alloc, Out::Fault(fault)),
         };
         self.answer_request(stamp, &request)
     }

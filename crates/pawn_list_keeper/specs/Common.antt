@@ -6,7 +6,7 @@ pub use Rattle.pawn_book.specs.Bookings.{confirmed_count, is_confirmed_for}
 pub use Rattle.pawn_book.specs.Changes.{CanSave, Continues, Follows, book_number, with_change}
 pub use Rattle.pawn_book.specs.HostStep.{Host, book_rows, pledge_rows, rows, with_book}
 pub use Rattle.pawn_book.specs.Keeping.{IsNextBook, Keeping, Reads, entries_of, extensions_of, number_of, pledges_of}
-pub use Rattle.pawn_book.specs.Keeping.{secrets_of, terms_of}
+pub use Rattle.pawn_book.specs.Keeping.{terms_of}
 pub use Rattle.pawn_book.specs.Limits.{most_rows, most_terms}
 pub use Rattle.pawn_book.specs.Rows.{AreReplayable, is_same_text, terms_at}
 pub use Rattle.pawn_book.specs.Sheet.{asked_item, day_sheet, part_head, part_item, part_items, window_items}

@@ -7,14 +7,14 @@ ghost use Rattle.std.specs.Prelude.{◌≡◌, ◌≤◌, [], map};
 use crate::kept::Kept;
 use crate::reading::{
     bound, brief_in, confirmed_count, entries_in, extensions_in, hand, head_in, next_number,
-    number_in, pledge_copy, pledges_in, secrets_in, terms_in,
+    number_in, pledge_copy, pledges_in, terms_in,
 };
 use crate::rows::hand_rows;
 use crate::saving::{make_change, rows_with};
 use crate::sheet::hand_sheet;
 use pawn_book::{
-    BookHead, Brief, Change, Day, Entry, Extension, Issued, Keep, KeepError, MOST_ROWS, Number,
-    Pledge, Reference, RowItem, SaveError, SheetItem, Terms, Visitor,
+    BookHead, Brief, Change, Day, Entry, Extension, Keep, KeepError, MOST_ROWS, Number, Pledge,
+    Reference, RowItem, SaveError, SheetItem, Terms, Visitor,
 };
 use std::alloc::Global;
 use std::marker::Model;
@@ -167,16 +167,6 @@ impl Keep for ListKeep {
         visitor: &mut V,
     ) -> Result<(), KeepError> {
         hand(extensions_in(&self.books, book, number), visitor);
-        Ok(())
-    }
-
-    fn secrets<V: Visitor<Issued>>(
-        &mut self,
-        book: Number,
-        number: Number,
-        visitor: &mut V,
-    ) -> Result<(), KeepError> {
-        hand(secrets_in(&self.books, book, number), visitor);
         Ok(())
     }
 

@@ -2,14 +2,14 @@
 ghost use Rattle.pawn_list_keeper.specs.Common.{HandsOver};
 ghost use Rattle.pawn_list_keeper.specs.Common.{IsShare, Visits, Whole, book_head, brief_of, confirmed_count};
 ghost use Rattle.pawn_list_keeper.specs.Common.{entries_of, extensions_of, number_of, pledge_in, pledges_of};
-ghost use Rattle.pawn_list_keeper.specs.Common.{secrets_of, terms_at, terms_of, with_reference};
+ghost use Rattle.pawn_list_keeper.specs.Common.{terms_at, terms_of, with_reference};
 ghost use Rattle.pawn_list_keeper.specs.Listed.{IsLeastAbove, book_at, listed_book};
 ghost use Rattle.std.specs.Prelude.{◌≡◌, ◌+◌, ◌&&◌, if◌then◌else◌, IfOk, Some, map, nat_lt, option_map, unwrap_or};
 
 use crate::kept::{Kept, kept_at, kept_pledge};
 use crate::sheet::is_confirmed_for;
 use pawn_book::{
-    BookHead, Brief, Day, Entry, Extension, Flow, Issued, Number, Pledge, Reference, Terms, Visitor,
+    BookHead, Brief, Day, Entry, Extension, Flow, Number, Pledge, Reference, Terms, Visitor,
 };
 use std::alloc::AllocError;
 
@@ -120,16 +120,6 @@ pub(crate) fn entries_in(books: &[Kept], book: Number, number: Number) -> &[Entr
     match kept_pledge(books, book, number) {
         None => &[],
         Some(pledge) => pledge.entries(),
-    }
-}
-
-/// The secrets of a pledge in a book; none if there is no such pledge.
-pub(crate) fn secrets_in(books: &[Kept], book: Number, number: Number) -> &[Issued]
-    ensures value { result.now ≡ secrets_of (pledge_in (book_at (map listed_book books.now) book) number) }
-{
-    match kept_pledge(books, book, number) {
-        None => &[],
-        Some(pledge) => pledge.secrets(),
     }
 }
 

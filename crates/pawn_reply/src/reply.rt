@@ -30,6 +30,12 @@ pub enum Out {
     Csv(Vec<u8>),
 }
 
+/// The content type of lines of text.
+const PLAIN: &str = "text/plain; charset=utf-8";
+
+/// The content type of a book's rows.
+const CSV: &str = "text/csv; charset=utf-8";
+
 /// The bytes of the reply when memory runs out: status 503, code 491. It is a constant, so sending it allocates no
 /// memory.
 pub const MEMORY_REPLY: &[u8] =
@@ -176,7 +182,29 @@ pub fn write_reply(alloc: Global, out: &Out) -> Result<Vec<u8>, AllocError>
             refusal_reply(alloc, refusal.code(), refusal.name(), total)
         }
         Out::Fault(fault) => refusal_reply(alloc, fault.code(), fault.name(), fault.detail()),
-        Out::Plain(text) => reply(alloc, StatusCode::OK, "text/plain; charset=utf-8", text),
-        Out::Csv(text) => reply(alloc, StatusCode::OK, "text/csv; charset=utf-8", text),
+        Out::Plain(text) => reply(alloc, StatusCode::OK, PLAIN, text),
+        Out::Csv(text) => reply(alloc, StatusCode::OK, CSV, text),
+    }
+}
+
+/// Puts the head of a reply before a text, in the memory of the text.
+fn put_head(alloc: Global, kind: &str, mut text: Vec<u8>) -> Result<Vec<u8>, AllocError>
+    ensures text { IfOk result (λ v. v.items ≡ reply_text 200 kind.now text.items) }
+{
+    let head = head(alloc, StatusCode::OK, text.len(), kind)?;
+    text.extend_from_slice(head.as_bytes())?;
+    text.as_mut_slice().rotate_right(head.len());
+    Ok(text)
+}
+
+/// Returns the same bytes as `write_reply`. A text is not copied: the reply is made in its memory, so that a long text
+/// is in memory once. Fails only if memory runs out.
+pub fn into_reply(alloc: Global, out: Out) -> Result<Vec<u8>, AllocError>
+    ensures text { IfOk result (λ v. v.items ≡ out_text out) }
+{
+    match out {
+        Out::Plain(text) => put_head(alloc, PLAIN, text),
+        Out::Csv(text) => put_head(alloc, CSV, text),
+        other => write_reply(alloc, &other),
     }
 }

@@ -2,10 +2,10 @@
 use Rattle.pawn_book.proofs.Sounds.{each_at}
 use Rattle.pawn_book.specs.Limits.{most_pledges}
 use Rattle.pawn_debt.specs.Limits.{most_entries}
-use Rattle.pawn_pledge.specs.Limits.{most_extensions, most_secrets}
+use Rattle.pawn_pledge.specs.Limits.{most_extensions}
 use Rattle.pawn_pledge.specs.Replayable.{IsReachable}
 use Rattle.pawn_table_keeper.specs.Common.{get, cons_option, filter_map, PledgeValue, BookValue, pledge_in, Host}
-use Rattle.pawn_table_keeper.specs.Common.{entries_of, extensions_of, pledges_of, secrets_of, part_item, part_items}
+use Rattle.pawn_table_keeper.specs.Common.{entries_of, extensions_of, pledges_of, part_item, part_items}
 use Rattle.pawn_table_keeper.specs.Common.{IsSoundAt, IsUnsoundAt, Part}
 use Rattle.std.proofs.Common.{◌≡◌, ◌≤◌, ◌<◌, ℕ, suc, List, [], ◌∷◌, length, Option, Some, None, refl, ap, arith}
 
@@ -27,13 +27,10 @@ module _ {T : Type 0} (list : Option PledgeValue → List T) (most : ℕ) (none 
     of_book (Some k) is above = (k, is, in_book k (pledge_in (Some k) n) refl above)
 
 pub too_many_entries : (h : Host) (b n : ℕ) → most_entries < length (entries_of (pledge_in (get h.books b) n)) → IsUnsoundAt b h
-too_many_entries = too_many entries_of most_entries refl (λ p standing. standing.within.entries)
-
-pub too_many_secrets : (h : Host) (b n : ℕ) → most_secrets < length (secrets_of (pledge_in (get h.books b) n)) → IsUnsoundAt b h
-too_many_secrets = too_many secrets_of most_secrets refl (λ p standing. standing.within.secrets)
+too_many_entries = too_many entries_of most_entries refl (λ p reachable. reachable.within.entries)
 
 pub too_many_extensions : (h : Host) (b n : ℕ) → most_extensions < length (extensions_of (pledge_in (get h.books b) n)) → IsUnsoundAt b h
-too_many_extensions = too_many extensions_of most_extensions refl (λ p standing. standing.within.extensions)
+too_many_extensions = too_many extensions_of most_extensions refl (λ p reachable. reachable.within.extensions)
 
 -- of a book
 pub too_many_pledges : (h : Host) (b : ℕ) → most_pledges < length (pledges_of (get h.books b)) → IsUnsoundAt b h

@@ -8,7 +8,7 @@ pub use Rattle.pawn_book.specs.declared.visit.Flow.TheVariants.{Go, Stop}
 pub use Rattle.pawn_tables.specs.Common.{Database, Held, IsSoundAt, IsUnsoundAt, KeepError, Keeping, NoRecord, Part}
 pub use Rattle.pawn_tables.specs.Common.{SheetItem, cons_option, part_item, part_items, pledges_of, BookValue}
 pub use Rattle.pawn_tables.specs.Common.{HasCleanDisk, Host, PledgeValue, State, entries_of, extensions_of, get}
-pub use Rattle.pawn_tables.specs.Common.{list_any, pledge_in, secrets_of, state}
+pub use Rattle.pawn_tables.specs.Common.{list_any, pledge_in, state}
 pub use Rattle.pawn_tables.specs.Lines.{IsLinesPage, NamesWindows, item_of, items_past}
 pub use Rattle.pawn_tables.specs.Pages.{page_end, most_page_rows}
 pub use Rattle.pawn_tables.specs.Places.{page_behind}

@@ -11,8 +11,8 @@ mod sheets;
 
 use one_table::know_settled;
 use pawn_book::{
-    BookHead, Brief, Change, Day, Entry, Extension, Flow, Issued, Keep, KeepError, MOST_PLEDGES,
-    Number, Pledge, Reference, RowItem, SaveError, SheetItem, StoreFault, Terms, Visitor,
+    BookHead, Brief, Change, Day, Entry, Extension, Flow, Keep, KeepError, MOST_PLEDGES, Number,
+    Pledge, Reference, RowItem, SaveError, SheetItem, StoreFault, Terms, Visitor,
 };
 use pawn_saving::save;
 use pawn_tables::{
@@ -176,16 +176,6 @@ impl<S: Alter> Keep for TableKeep<S> {
         visitor: &mut V,
     ) -> Result<(), KeepError> {
         self.hand_entries(book, number, visitor)?;
-        Ok(())
-    }
-
-    fn secrets<V: Visitor<Issued>>(
-        &mut self,
-        book: Number,
-        number: Number,
-        visitor: &mut V,
-    ) -> Result<(), KeepError> {
-        self.hand_secrets(book, number, visitor)?;
         Ok(())
     }
 

@@ -40,7 +40,7 @@ pub use kinds::RowKind;
 pub use laws::tables_stand_for_one;
 pub use line::Line;
 pub use list_elements::{entry_in, extension_in, secret_in};
-pub use pages::{PAGE_ROWS, entries_page, extensions_page, secrets_page};
+pub use pages::{PAGE_ROWS, entries_page, extensions_page};
 pub use queries::{booking_in, entries_in, terms_in};
 pub use ranges::{KindPage, RANGE, kind_page, list_page};
 pub use sheets::{count_in, lines_page, windows_in};

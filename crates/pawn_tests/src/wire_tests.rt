@@ -4,7 +4,7 @@
 use pawn_book::{
     BrokerRequest, Caller, Kind, Number, PledgeRefusal, Receipt, Refusal, Reply, Request, Secret,
 };
-use pawn_reply::{Out, WireFault, write_reply};
+use pawn_reply::{Out, WireFault, into_reply, write_reply};
 use pawn_wire::{Router, read_request};
 use std::alloc::{AllocError, Global};
 use std::process::Abort;
@@ -77,6 +77,11 @@ fn replies_are_written(rt: HostRuntime) -> Result<(), Fail> {
     ] {
         let reply = write_reply(rt.alloc(), &out)?;
         assert!(rt; reply.as_slice() == wanted.as_bytes(), "not {wanted}");
+        let made = into_reply(rt.alloc(), out)?;
+        assert!(rt;
+            made.as_slice() == wanted.as_bytes(),
+            "made to other bytes than {wanted}"
+        );
     }
     Ok(())
 }

@@ -1,5 +1,5 @@
 //! Reads the lists of a pledge in pages, and passes their elements to a visitor.
-ghost use Rattle.pawn_table_keeper.specs.Common.{get, pledge_in, entries_of, extensions_of, secrets_of, Database};
+ghost use Rattle.pawn_table_keeper.specs.Common.{get, pledge_in, entries_of, extensions_of, Database};
 ghost use Rattle.pawn_table_keeper.specs.Common.{page_end, page_behind};
 ghost use Rattle.pawn_table_keeper.specs.Handing.{Hands, ReadsOfBook};
 ghost use Rattle.pawn_tables.specs.Entries.{IsEntriesPage, behind};
@@ -9,10 +9,10 @@ ghost use Rattle.pawn_book.specs.declared.fault.KeepError.TheVariants as Keeper;
 use super::handing::hand_all;
 use super::{BEYOND, TOO_MANY, TableKeep};
 use one_table::know_settled;
-use pawn_book::{Entry, Extension, Flow, Issued, KeepError, Number, Visitor};
+use pawn_book::{Entry, Extension, Flow, KeepError, Number, Visitor};
 use pawn_debt::{Entries, MOST_ENTRIES};
-use pawn_pledge::{Extensions, MOST_EXTENSIONS, MOST_SECRETS, Secrets};
-use pawn_tables::{PAGE_ROWS, entries_page, extensions_page, secrets_page};
+use pawn_pledge::{Extensions, MOST_EXTENSIONS};
+use pawn_tables::{PAGE_ROWS, entries_page, extensions_page};
 use sqlite::Alter;
 
 /// How many elements a full page has, as a 32-bit number.
@@ -57,45 +57,6 @@ impl<S: Alter> TableKeep<S> {
                 return Ok(Flow::Go);
             }
             from = behind_entries(from, page.as_slice())?;
-        }
-        Err(TOO_MANY)
-    }
-
-    /// A page of a pledge's secrets: those at places greater than `behind`.
-    fn secrets_behind(
-        &mut self,
-        book: Number,
-        number: Number,
-        behind: u32,
-    ) -> Result<Secrets, KeepError>
-        ensures tells { ReadsOfBook S.Store self.old self.new book result
-            (λ h page. page ≡ page_behind behind (secrets_of (pledge_in (get h.books book) number))) }
-    {
-        know_settled(&self.conn);
-        let mut tx = self.conn.transaction();
-        let page = secrets_page(&mut tx, self.alloc, book.get(), number.get(), behind);
-        tx.rollback();
-        page
-    }
-
-    /// Passes the secrets of a pledge to the visitor until it answers `Stop`.
-    pub(super) fn hand_secrets<V: Visitor<Issued>>(
-        &mut self,
-        book: Number,
-        number: Number,
-        visitor: &mut V,
-    ) -> Result<Flow, KeepError>
-        ensures hands { Hands S.Store book V.step self.old self.new visitor.old visitor.new result (λ h. secrets_of (pledge_in (get h.books book) number)) }
-    {
-        for turn in 0..MOST_SECRETS as u32 + 1 {
-            let page = self.secrets_behind(book, number, turn * PLACES)?;
-            match hand_all(page.as_slice(), visitor) {
-                Flow::Go => {}
-                Flow::Stop => return Ok(Flow::Stop),
-            }
-            if page.len() < PAGE_ROWS {
-                return Ok(Flow::Go);
-            }
         }
         Err(TOO_MANY)
     }

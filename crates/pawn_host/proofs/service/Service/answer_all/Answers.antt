@@ -1,12 +1,12 @@
 use Rattle.pawn_host.proofs.CrashLemmas.{goes_none}
 use Rattle.pawn_host.proofs.ReadLemmas.{read_none, read_then, read_more, read_all}
 use Rattle.pawn_host.proofs.SessionLemmas.{over, over_leaves, ended_limit, ended_dry, broken_write, ended_closed}
-use Rattle.pawn_host.proofs.SessionLemmas.{goes_on, acted_at, starts, taken_none, taken_more, are_taken, open_then}
+use Rattle.pawn_host.proofs.SessionLemmas.{goes_on, acted_next, starts, taken_none, taken_more, are_taken, open_then}
 use Rattle.pawn_host.proofs.SessionLemmas.{given_by, left_behind}
 use Rattle.pawn_host.specs.Common.{write_failed, written_bytes}
 use Rattle.pawn_host.specs.Ends.{left_of, read_failed, reads}
 use Rattle.pawn_host.specs.Finding.{StopsBy}
-use Rattle.pawn_host.specs.Keeps.{host_by, service_keep, start_after, start_of}
+use Rattle.pawn_host.specs.Keeps.{host_by, service_keep, start_of}
 use Rattle.pawn_host.specs.Unanswered.{unanswered}
 use Rattle.std.proofs.Common.{ℕ, arith, refl, ap, subst, Bool, Ok, Err, ◌∙◌, take, ◌+◌}
 use Rattle.pawn_host.proofs.service.Service.answer_all.Goals as goal
@@ -62,13 +62,11 @@ returns-then-count-text g c = record {
   stays = open_then c.loop-acted.invariant.stays c.answer_one-answer.ensures.stays;
   session = λ honest h sound at.
       let so = c.loop-acted.invariant.so_far (c.answer_one-answer.ensures.stays.on.was_honest honest) h sound at in
-      let start = start_of g.K.Keep.keeping c.args.self.now h in
-      let mid = host_by start so.items in
-      let acted = acted_at _ (start_after start so.items) c.in-Some.stamp _
-      (take (c.in-Ok.head.len + c.in-Ok.head.body) (unanswered c.next_request.new.buffer)) _ c.answer_slice-text.result.now _
-      (c.answer_one-answer.ensures.acted honest mid so.served.goes.sound so.served.goes.stands_for) c.loop-acted.invariant.stays.on.stays
-      c.loop-acted.invariant.stays.operator so.served.goes.crash (ap (take c.request_len-needed.result) c.as_slice.ensures.value
-      ∙ ap (λ (k : ℕ). take k (unanswered c.next_request.new.buffer)) c.request_len-needed.ensures.answer) c.answer_slice-text.ensures.bytes in
+      let mid = host_by (start_of g.K.Keep.keeping c.args.self.now h) so.items in
+      let acted = acted_next c.args.self.now _ h so.items c.in-Some.stamp _ (unanswered c.next_request.new.buffer) _ c.answer_slice-text.result.now _
+      (c.in-Ok.head.len + c.in-Ok.head.body) _ c.loop-acted.invariant.stays
+      (c.answer_one-answer.ensures.acted honest mid so.served.goes.sound so.served.goes.stands_for) so.served.goes.crash c.as_slice.ensures.value
+      c.request_len-needed.ensures.answer c.answer_slice-text.ensures.bytes in
       broken_write {given = given_by g.K.Keep.keeping c.args.self.now h c.args.stamps.now (left_of g.R.Read.remaining c.args.reader.now)
       (written_bytes g.W.Write.contents c.args.writer.now)} _ _ _ _ c.in-Some.stamp c.in-Ok.head c.send-count.result c.answer_slice-text.result.now
       (unanswered c.next_request.new.buffer) so c.loop-acted-test.true c.in-Some.ensures.steps acted c.in-Ok.ensures.found c.in-Ok.ensures.kept
@@ -85,13 +83,11 @@ returns-then-head g c = record {
   stays = open_then c.loop-acted.invariant.stays c.answer_one-answer.ensures.stays;
   session = λ honest h sound at.
       let so = c.loop-acted.invariant.so_far (c.answer_one-answer.ensures.stays.on.was_honest honest) h sound at in
-      let start = start_of g.K.Keep.keeping c.args.self.now h in
-      let mid = host_by start so.items in
-      let acted = acted_at _ (start_after start so.items) c.in-Some.stamp _
-      (take (c.in-Ok.head.len + c.in-Ok.head.body) (unanswered c.next_request.new.buffer)) _ c.answer_slice-text.result.now _
-      (c.answer_one-answer.ensures.acted honest mid so.served.goes.sound so.served.goes.stands_for) c.loop-acted.invariant.stays.on.stays
-      c.loop-acted.invariant.stays.operator so.served.goes.crash (ap (take c.request_len-needed.result) c.as_slice.ensures.value
-      ∙ ap (λ (k : ℕ). take k (unanswered c.next_request.new.buffer)) c.request_len-needed.ensures.answer) c.answer_slice-text.ensures.bytes in
+      let mid = host_by (start_of g.K.Keep.keeping c.args.self.now h) so.items in
+      let acted = acted_next c.args.self.now _ h so.items c.in-Some.stamp _ (unanswered c.next_request.new.buffer) _ c.answer_slice-text.result.now _
+      (c.in-Ok.head.len + c.in-Ok.head.body) _ c.loop-acted.invariant.stays
+      (c.answer_one-answer.ensures.acted honest mid so.served.goes.sound so.served.goes.stands_for) so.served.goes.crash c.as_slice.ensures.value
+      c.request_len-needed.ensures.answer c.answer_slice-text.ensures.bytes in
       ended_closed {given = given_by g.K.Keep.keeping c.args.self.now h c.args.stamps.now (left_of g.R.Read.remaining c.args.reader.now)
       (written_bytes g.W.Write.contents c.args.writer.now)} _ _ _ _ c.in-Some.stamp c.in-Ok.head c.send-count.result c.answer_slice-text.result.now
       (unanswered c.next_request.new.buffer) so c.loop-acted-test.true c.in-Some.ensures.steps acted c.in-Ok.ensures.found c.in-Ok.ensures.kept
@@ -117,13 +113,11 @@ loop-acted-preserved g c = record {
   stays = open_then c.loop-acted.invariant.stays c.answer_one-answer.ensures.stays;
   so_far = λ honest h sound at.
       let so = c.loop-acted.invariant.so_far (c.answer_one-answer.ensures.stays.on.was_honest honest) h sound at in
-      let start = start_of g.K.Keep.keeping c.args.self.now h in
-      let mid = host_by start so.items in
-      let acted = acted_at _ (start_after start so.items) c.in-Some.stamp _
-      (take (c.in-Ok.head.len + c.in-Ok.head.body) (unanswered c.next_request.new.buffer)) _ c.answer_slice-text.result.now _
-      (c.answer_one-answer.ensures.acted honest mid so.served.goes.sound so.served.goes.stands_for) c.loop-acted.invariant.stays.on.stays
-      c.loop-acted.invariant.stays.operator so.served.goes.crash (ap (take c.request_len-needed.result) c.as_slice.ensures.value
-      ∙ ap (λ (k : ℕ). take k (unanswered c.next_request.new.buffer)) c.request_len-needed.ensures.answer) c.answer_slice-text.ensures.bytes in
+      let mid = host_by (start_of g.K.Keep.keeping c.args.self.now h) so.items in
+      let acted = acted_next c.args.self.now _ h so.items c.in-Some.stamp _ (unanswered c.next_request.new.buffer) _ c.answer_slice-text.result.now _
+      (c.in-Ok.head.len + c.in-Ok.head.body) _ c.loop-acted.invariant.stays
+      (c.answer_one-answer.ensures.acted honest mid so.served.goes.sound so.served.goes.stands_for) so.served.goes.crash c.as_slice.ensures.value
+      c.request_len-needed.ensures.answer c.answer_slice-text.ensures.bytes in
       goes_on {given = given_by g.K.Keep.keeping c.args.self.now h c.args.stamps.now (left_of g.R.Read.remaining c.args.reader.now)
       (written_bytes g.W.Write.contents c.args.writer.now)} _ _ _ _ c.in-Some.stamp c.in-Ok.head c.send-count.result c.answer_slice-text.result.now
       (unanswered c.next_request.new.buffer) _ so c.loop-acted-test.true c.in-Some.ensures.steps acted c.in-Ok.ensures.found c.in-Ok.ensures.kept
