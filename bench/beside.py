@@ -4,18 +4,20 @@ usage: python3 -m bench.beside [--pledges N] PEER [PROGRAM]     (default: 10,000
 
 PEER is a program of the form `PEER answer DATABASE DAY SEED KEY` that keeps its books in tables of the same names and
 columns, but for those that it leaves out. Each makes its own tables, and Python's sqlite3 fills both with the same
-rows. The requests of a kind are a stream; its time is that of the whole process, that of a process without requests
-taken off, and the best of some runs in turns. Then come the slowest requests of the book in absolute words.
+rows. The requests of a kind are sent to a process that has opened its file; their time is the processor time of that
+process from then on, the best of some runs in turns.
 """
+import glob
 import hashlib
 import os
 import random
-import resource
+import re
 import shutil
 import sqlite3
 import subprocess
 import sys
 import tempfile
+import threading
 
 WORDS = sys.argv[1:]
 PLEDGES = int(WORDS.pop(WORDS.index("--pledges") + 1)) if "--pledges" in WORDS else 10_000
@@ -31,6 +33,8 @@ RUNS = 30
 TODAY, ENDS, DAY = 19753, 19935, "2024-01-31"  # 2024-01-31 and 2024-07-31, as days since 1970-01-01
 LONG = 999
 PRESENTED = 32
+# A request that changes nothing; its reply shows that the file is open.
+FIRST = request("GET", "/books/9/export", f"Pledge-Key: {BROKER}")
 
 
 def word(book, number):
@@ -112,18 +116,39 @@ def streams():
     ]
 
 
+def used(process):
+    """The processor time of a process so far, in seconds."""
+    spans = [open(path).read() for path in glob.glob(f"/proc/{process.pid}/task/*/schedstat")]
+    return sum(int(span.split()[0]) for span in spans) / 1e9
+
+
+def read_reply(stream):
+    """The bytes of the next reply."""
+    head = b""
+    while not head.endswith(b"\r\n\r\n"):
+        line = stream.readline()
+        if not line:
+            sys.exit("a program ended before it had answered")
+        head += line
+    return head + stream.read(int(re.search(rb"(?i)content-length: *(\d+)", head).group(1)))
+
+
 def spent(program, path, asked):
-    """The processor time of a run over a copy of the file, in seconds, and the replies' bytes."""
-    with tempfile.TemporaryDirectory(dir=os.path.dirname(path)) as room, tempfile.TemporaryFile() as stream:
-        scratch = shutil.copy(path, room)
-        stream.write(b"".join(asked))
-        stream.seek(0)
-        before = resource.getrusage(resource.RUSAGE_CHILDREN)
-        ran = subprocess.run(
-            [program, "answer", scratch, DAY, SEED, OPERATOR], stdin=stream, stdout=subprocess.PIPE, check=True,
-        )
-        after = resource.getrusage(resource.RUSAGE_CHILDREN)
-    return after.ru_utime + after.ru_stime - before.ru_utime - before.ru_stime, ran.stdout
+    """The processor time of these requests in a process over a copy of the file, in seconds, and the replies' bytes. It
+    is measured from the reply to a first request on, so that the opening of the file is not in it."""
+    with tempfile.TemporaryDirectory(dir=os.path.dirname(path)) as room:
+        command = [program, "answer", shutil.copy(path, room), DAY, SEED, OPERATOR]
+        with subprocess.Popen(command, stdin=subprocess.PIPE, stdout=subprocess.PIPE) as process:
+            process.stdin.write(FIRST)
+            process.stdin.flush()
+            read_reply(process.stdout)
+            before = used(process)
+            sender = threading.Thread(target=lambda: (process.stdin.write(b"".join(asked)), process.stdin.flush()))
+            sender.start()
+            said = b"".join(read_reply(process.stdout) for _ in asked)
+            time = used(process) - before
+            sender.join()
+    return time, said
 
 
 def main():
@@ -137,17 +162,14 @@ def main():
         paths = [(program, os.path.join(room, name)) for program, name in programs]
         for program, path in paths:
             fill(program, path)
-        idle = [min(spent(program, path, [])[0] for _ in range(RUNS)) for program, path in paths]
         print(f"microseconds of processor time a request, over files of {PLEDGES} pledges")
         for kind, line, asked in streams():
             best, said = [None, None], [b"", b""]
             for _ in range(RUNS):
                 for at, (program, path) in enumerate(paths):
-                    # (a processor may be slow for seconds, so each turn has a process without requests too)
-                    idle[at] = min(idle[at], spent(program, path, [])[0])
                     time, said[at] = spent(program, path, asked)
                     best[at] = time if best[at] is None else min(best[at], time)
-            each = [(best[at] - idle[at]) / len(asked) * 1e6 for at in range(len(paths))]
+            each = [time / len(asked) * 1e6 for time in best]
             alike = "" if said[0] == said[1] else "  OTHER BYTES"
             times = each[0] / max(each[1], 0.1)
             told = f"{kind}: {each[0]:.0f}, beside {each[1]:.0f}: {times:.1f} times, the line is {line}{alike}"

@@ -1,9 +1,8 @@
 -- When tables stand for a host under one of the schemas 1 to 3.
 use Rattle.pawn_opening.specs.Common.{Host, rows, Listed, Lists, with_rows, notes, ListsOurs, StandsFor}
-use Rattle.pawn_saving.specs.Counted.{listed_as}
 use Rattle.pawn_tables.specs.Common.{get, Each, BookValue}
 use Rattle.pawn_tables.specs.Schema.{first_schema, meta_tree, second_schema}
-use Rattle.pawn_tables.specs.StandsFor.{AreBooksOrdered, AreStorable}
+use Rattle.pawn_tables.specs.StandsFor.{AreBooksOrdered, AreStorable, listed_as}
 use Rattle.sqlite.specs.Effect.{Database}
 use Rattle.std.specs.Prelude.{◌≡◌, ◌≤◌, ◌<◌, ◌==◌, ℕ, Bool, true, false, [], Some}
 

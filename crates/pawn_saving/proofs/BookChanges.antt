@@ -6,7 +6,7 @@ use Rattle.pawn_saving.proofs.Hosting.{AreSame, relisted}
 use Rattle.pawn_saving.proofs.RowsInOrder.{placed_parts}
 use Rattle.pawn_saving.specs.Common.{Database, changed_book, made_book, with_change, book_rows, with_book, AddTerms}
 use Rattle.pawn_saving.specs.Common.{MakeBook, NewBook, with_rows, ListsOurs}
-use Rattle.pawn_saving.specs.Counted.{IsWrittenPart, ListsHost, listed_as}
+use Rattle.pawn_saving.specs.Counted.{IsWrittenPart, ListsHost}
 use Rattle.pawn_saving.specs.Writing.{IsOnly}
 use Rattle.pawn_tables.proofs.Basics.{nat_tests, IsPermutation-map, IsPermutation-sym, IsPermutation-trans}
 use Rattle.pawn_tables.proofs.Basics.{length_permutation, IsPermutation-filter}
@@ -14,7 +14,7 @@ use Rattle.pawn_tables.specs.At.{at_book}
 use Rattle.pawn_tables.specs.Common.{entries, get, Row, Rates, BookValue, Host, rows}
 use Rattle.pawn_tables.specs.Rows.{book_row, booking_listed, entries_listed, extensions_listed, number, pledge_listed}
 use Rattle.pawn_tables.specs.Rows.{secrets_listed, terms_cells, terms_listed, totals_listed}
-use Rattle.pawn_tables.specs.StandsFor.{of_books}
+use Rattle.pawn_tables.specs.StandsFor.{listed_as, of_books}
 use Rattle.std.proofs.Common.{◌≡◌, ◌≢◌, ◌++◌, ◌==◌, ℕ, suc, ◌+◌, List, [], ◌∷◌, map, filter, flat_map, length}
 use Rattle.std.proofs.Common.{length-append, true, false, ◌&&◌, Some, None, refl, sym, ap, subst, ◌∙◌, arith}
 use Rattle.std.proofs.Common.{IsPermutation, if◌then◌else◌}

@@ -4,7 +4,7 @@ use Rattle.pawn_book.specs.Written.{AreWords}
 use Rattle.pawn_saving.proofs.Basics.{IsPermutation-refl, swapped}
 use Rattle.pawn_saving.proofs.OurTables.{with_tables}
 use Rattle.pawn_saving.specs.Common.{Database, AreSound, HasTextsAndWords, with_rows, ListsOurs}
-use Rattle.pawn_saving.specs.Counted.{listed_as, ListsHost}
+use Rattle.pawn_saving.specs.Counted.{ListsHost}
 use Rattle.pawn_tables.proofs.Basics.{IsPermutation-trans}
 use Rattle.pawn_tables.proofs.NextEntries.{numbered_rise}
 use Rattle.pawn_tables.proofs.SoundReads.{each_weaker}
@@ -13,7 +13,7 @@ use Rattle.pawn_tables.specs.Entries.{RiseFrom}
 use Rattle.pawn_tables.specs.Meta.{meta_row, other_rows}
 use Rattle.pawn_tables.specs.Schema.{bookings_tree, books_tree, entries_tree, extensions_tree, meta_tree, pledges_tree}
 use Rattle.pawn_tables.specs.Schema.{secrets_tree, terms_tree, totals_tree}
-use Rattle.pawn_tables.specs.StandsFor.{AreBooksOrdered, AreStorable, HoldHost, StandsFor}
+use Rattle.pawn_tables.specs.StandsFor.{AreBooksOrdered, AreStorable, HoldHost, StandsFor, listed_as}
 use Rattle.pawn_terms.specs.Limits.{first_day}
 use Rattle.std.proofs.Common.{◌≡◌, ◌≤◌, ℕ, List, [], ◌∷◌, codes, IsPermutation, subst, arith}
 

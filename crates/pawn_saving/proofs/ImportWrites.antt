@@ -7,7 +7,7 @@ use Rattle.pawn_saving.proofs.Hosting.{AreSame, relisted, relisted_by}
 use Rattle.pawn_saving.proofs.RowsInOrder.{carried_then, until}
 use Rattle.pawn_saving.specs.Common.{Database, changed_book, filled_book, IsUnfilled, with_change, book_rows}
 use Rattle.pawn_saving.specs.Common.{pledge_rows, with_book, AreSound, ImportBook, BookRows, with_rows, ListsOurs}
-use Rattle.pawn_saving.specs.Counted.{IsWrittenPart, ListsHost, listed_as}
+use Rattle.pawn_saving.specs.Counted.{IsWrittenPart, ListsHost}
 use Rattle.pawn_saving.specs.Importing.{whole_pledges}
 use Rattle.pawn_saving.specs.Putting.{beside, booking_under, whole_pledge}
 use Rattle.pawn_saving.specs.Writing.{IsCarried}
@@ -19,7 +19,7 @@ use Rattle.pawn_tables.specs.Rows.{at_most_one, book_row, booking_cells, booking
 use Rattle.pawn_tables.specs.Rows.{extensions_listed, number, number_in_book, placed_from, pledge_listed}
 use Rattle.pawn_tables.specs.Rows.{secrets_listed, terms_cells, terms_listed, totals_listed, under}
 use Rattle.pawn_tables.specs.Schema.{bookings_tree}
-use Rattle.pawn_tables.specs.StandsFor.{AreBooksOrdered, of_pledges}
+use Rattle.pawn_tables.specs.StandsFor.{AreBooksOrdered, listed_as, of_pledges}
 use Rattle.std.proofs.Common.{◌≡◌, ◌≢◌, ◌++◌, ◌==◌, ◌&&◌, ℕ, ◌+◌, ◌<◌, ◌≤◌, zero, suc, List, [], ◌∷◌, take, filter}
 use Rattle.std.proofs.Common.{flat_map, length, get_or, append-nil, true, false, Option, Some, None, IsTrue, Result, Ok}
 use Rattle.std.proofs.Common.{Err, IfOk, refl, sym, ap, subst, ◌∙◌, arith, IsPermutation, sum_by, take_all}

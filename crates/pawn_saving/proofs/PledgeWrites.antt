@@ -9,7 +9,7 @@ use Rattle.pawn_saving.proofs.PledgeChanges.{put_length, put_named, rest, rows_g
 use Rattle.pawn_saving.proofs.RowsInOrder.{placed_parts}
 use Rattle.pawn_saving.specs.Common.{Database, Grows, Agreement, Continues, with_change, pledge_rows, AreSound}
 use Rattle.pawn_saving.specs.Common.{PutPledge, with_rows, ListsOurs}
-use Rattle.pawn_saving.specs.Counted.{IsWrittenPart, ListsHost, listed_as}
+use Rattle.pawn_saving.specs.Counted.{IsWrittenPart, ListsHost}
 use Rattle.pawn_saving.specs.Putting.{AreSidesPut, beside, booking_under, entries_past, extensions_past, lists_past}
 use Rattle.pawn_saving.specs.Putting.{row_under, secrets_past, totals_under, whole_pledge, with_sides}
 use Rattle.pawn_saving.specs.declared.lengths.Lengths.{Lengths}
@@ -20,7 +20,7 @@ use Rattle.pawn_tables.specs.Rows.{book_row, booking_listed, entries_listed, ent
 use Rattle.pawn_tables.specs.Rows.{extensions_listed, placed_from, pledge_listed, secret_cells, secrets_listed}
 use Rattle.pawn_tables.specs.Rows.{terms_listed, totals_listed, under}
 use Rattle.pawn_tables.specs.Schema.{bookings_tree, pledges_tree}
-use Rattle.pawn_tables.specs.StandsFor.{AreBooksOrdered, of_pledges}
+use Rattle.pawn_tables.specs.StandsFor.{AreBooksOrdered, listed_as, of_pledges}
 use Rattle.std.proofs.Common.{◌≡◌, ◌⊎◌, inl, inr, ◌++◌, ◌==◌, ℕ, ◌+◌, ◌≤◌, List, [], ◌∷◌, map, drop, length, filter}
 use Rattle.std.proofs.Common.{IsPermutation, Some, None, refl, sym, ap, subst, ◌∙◌, arith, if◌then◌else◌}
 use Rattle.std.proofs.Math.Seq.{drop-append_seam}

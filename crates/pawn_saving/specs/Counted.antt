@@ -1,29 +1,10 @@
 -- The tables in the middle of a change: its rows are written, but not yet counted.
 use Rattle.pawn_saving.specs.Common.{Database, CanSave, with_change, Change, SaveError, ListsOurs}
-use Rattle.pawn_tables.specs.Common.{entries, HasCleanDisk, State, BookValue, Host, rows, IsSound, Listed}
-use Rattle.pawn_tables.specs.Meta.{meta_rows}
-use Rattle.pawn_tables.specs.Rows.{book_row, booking_listed, entries_listed, extensions_listed, pledge_listed}
-use Rattle.pawn_tables.specs.Rows.{secrets_listed, terms_listed, totals_listed}
-use Rattle.pawn_tables.specs.Schema.{bookings_tree, books_tree, entries_tree, extensions_tree, meta_tree, pledges_tree}
-use Rattle.pawn_tables.specs.Schema.{secrets_tree, terms_tree, totals_tree}
-use Rattle.pawn_tables.specs.StandsFor.{StandsFor, of_books, of_pledges}
-use Rattle.std.specs.Prelude.{◌≡◌, ◌==◌, ◌↔◌, ℕ, ◌+◌, ◌≤◌, ◌<◌, if◌then◌else◌, [], map, Bool, IsTrue, Result, Ok, Err}
+use Rattle.pawn_tables.specs.Common.{HasCleanDisk, State, Host, rows, IsSound}
+use Rattle.pawn_tables.specs.StandsFor.{StandsFor, listed_as}
+use Rattle.std.specs.Prelude.{◌≡◌, ◌↔◌, ℕ, ◌+◌, ◌≤◌, ◌<◌, Bool, IsTrue, Result, Ok, Err}
 use Rattle.std.specs.Prelude.{IfOk}
 use Rattle.pawn_book.specs.declared.fault.SaveError.TheVariants as Save
-
--- the rows of a host by their tree, where meta notes the given count
-abbrev pub listed_as : Host → ℕ → Listed
-listed_as h counted t =
-    if t == books_tree then map (λ (e : ℕ × BookValue). book_row e.0 e.1) (entries h.books)
-    else if t == terms_tree then of_books h terms_listed
-    else if t == pledges_tree then of_pledges h pledge_listed
-    else if t == entries_tree then of_pledges h entries_listed
-    else if t == secrets_tree then of_pledges h secrets_listed
-    else if t == bookings_tree then of_pledges h booking_listed
-    else if t == meta_tree then meta_rows counted h.limit
-    else if t == totals_tree then of_pledges h totals_listed
-    else if t == extensions_tree then of_pledges h extensions_listed
-    else []
 
 -- the tables hold the rows of the host, and note this count
 abbrev pub ListsHost : Database → Host → ℕ → Type 0

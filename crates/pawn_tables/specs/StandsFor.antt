@@ -1,6 +1,6 @@
 -- The relation *stands for*: when tables represent a host.
-use Rattle.pawn_tables.specs.Common.{entries, get, Row, Schema, Trees, PledgeValue, Each, BookValue, Host, rows}
-use Rattle.pawn_tables.specs.Common.{AreNumberedFrom, IsUnder, AreWords, IsWord, Holds}
+use Rattle.pawn_tables.specs.Common.{entries, get, Row, Schema, Table, Trees, PledgeValue, Each, BookValue, Host, rows}
+use Rattle.pawn_tables.specs.Common.{AreNumberedFrom, IsUnder, AreWords, IsWord, Holds, Listed}
 use Rattle.pawn_tables.specs.Entries.{RiseFrom}
 use Rattle.pawn_tables.specs.Meta.{meta_rows}
 use Rattle.pawn_tables.specs.Ours.{HasOurTables}
@@ -11,7 +11,7 @@ use Rattle.pawn_tables.specs.Schema.{extensions, bookings_tree, books_tree, entr
 use Rattle.pawn_tables.specs.Schema.{pledges_tree, secrets_tree, terms_tree, totals_tree}
 use Rattle.pawn_terms.specs.Limits.{first_day}
 use Rattle.sqlite.specs.Effect.{Database, IsDatabase}
-use Rattle.std.specs.Prelude.{ℕ, ◌≡◌, ◌≤◌, ◌<◌, ◌^◌, List, length, map, flat_map, Some, IfSome}
+use Rattle.std.specs.Prelude.{ℕ, ◌≡◌, ◌==◌, ◌≤◌, ◌<◌, ◌^◌, if◌then◌else◌, List, [], length, map, flat_map, Some, IfSome}
 
 -- the rows of all books together
 abbrev pub of_books : Host → (ℕ → BookValue → List Row) → List Row
@@ -43,13 +43,31 @@ AreBooksOrdered h = (b : ℕ) (k : BookValue) → get h.books b ≡ Some k → I
 abbrev pub AreStorable : Host → Type 0
 AreStorable h = (b : ℕ) (k : BookValue) → get h.books b ≡ Some k → IsStorable k
 
+-- the rows of a host by the tree of their table, where meta notes the given count of counted rows
+abbrev pub listed_as : Host → ℕ → Listed
+listed_as h counted t =
+    if t == books_tree then map (λ (e : ℕ × BookValue). book_row e.0 e.1) (entries h.books)
+    else if t == terms_tree then of_books h terms_listed
+    else if t == pledges_tree then of_pledges h pledge_listed
+    else if t == entries_tree then of_pledges h entries_listed
+    else if t == secrets_tree then of_pledges h secrets_listed
+    else if t == bookings_tree then of_pledges h booking_listed
+    else if t == meta_tree then meta_rows counted h.limit
+    else if t == totals_tree then of_pledges h totals_listed
+    else if t == extensions_tree then of_pledges h extensions_listed
+    else []
+
+-- the table of this tree holds the host's rows, and meta notes their count
+abbrev pub HoldsTable : Trees → Host → ℕ → Table → Type 0
+HoldsTable trees h tree table = Holds trees tree (record table { tree = tree }) (listed_as h (rows h) tree)
+
 -- The tables of books, terms, pledges and entries hold the rows of the host; the other tables may hold anything.
 pub record ListDebts (db : Database) (h : Host) : Type 0 where
   pub schema : HasOurTables db.schema
-  pub books : Holds db.trees books_tree (record books { tree = books_tree }) (map (λ (e : ℕ × BookValue). book_row e.0 e.1) (entries h.books))
-  pub terms : Holds db.trees terms_tree (record terms { tree = terms_tree }) (of_books h terms_listed)
-  pub pledges : Holds db.trees pledges_tree (record pledges { tree = pledges_tree }) (of_pledges h pledge_listed)
-  pub entries : Holds db.trees entries_tree (record entries_table { tree = entries_tree }) (of_pledges h entries_listed)
+  pub books : HoldsTable db.trees h books_tree books
+  pub terms : HoldsTable db.trees h terms_tree terms
+  pub pledges : HoldsTable db.trees h pledges_tree pledges
+  pub entries : HoldsTable db.trees h entries_tree entries_table
   pub ordered : AreBooksOrdered h
   pub storable : AreStorable h
 
@@ -59,15 +77,15 @@ pub record StandsFor (db : Database) (h : Host) : Type 0 where
   pub schema : HasOurTables db.schema
   -- the database is valid under its schema
   pub sound : IsDatabase db
-  pub books : Holds db.trees books_tree (record books { tree = books_tree }) (map (λ (e : ℕ × BookValue). book_row e.0 e.1) (entries h.books))
-  pub terms : Holds db.trees terms_tree (record terms { tree = terms_tree }) (of_books h terms_listed)
-  pub pledges : Holds db.trees pledges_tree (record pledges { tree = pledges_tree }) (of_pledges h pledge_listed)
-  pub entries : Holds db.trees entries_tree (record entries_table { tree = entries_tree }) (of_pledges h entries_listed)
-  pub secrets : Holds db.trees secrets_tree (record secrets { tree = secrets_tree }) (of_pledges h secrets_listed)
-  pub bookings : Holds db.trees bookings_tree (record bookings { tree = bookings_tree }) (of_pledges h booking_listed)
-  pub meta : Holds db.trees meta_tree (record meta { tree = meta_tree }) (meta_rows (rows h) h.limit)
-  pub totals : Holds db.trees totals_tree (record totals { tree = totals_tree }) (of_pledges h totals_listed)
-  pub extensions : Holds db.trees extensions_tree (record extensions { tree = extensions_tree }) (of_pledges h extensions_listed)
+  pub books : HoldsTable db.trees h books_tree books
+  pub terms : HoldsTable db.trees h terms_tree terms
+  pub pledges : HoldsTable db.trees h pledges_tree pledges
+  pub entries : HoldsTable db.trees h entries_tree entries_table
+  pub secrets : HoldsTable db.trees h secrets_tree secrets
+  pub bookings : HoldsTable db.trees h bookings_tree bookings
+  pub meta : HoldsTable db.trees h meta_tree meta
+  pub totals : HoldsTable db.trees h totals_tree totals
+  pub extensions : HoldsTable db.trees h extensions_tree extensions
   -- conditions on the host itself
   pub ordered : AreBooksOrdered h
   pub storable : AreStorable h

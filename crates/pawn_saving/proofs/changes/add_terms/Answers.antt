@@ -4,8 +4,9 @@ use Rattle.pawn_saving.proofs.Hosting.{as_lists}
 use Rattle.pawn_saving.proofs.Writing.{[], arith, length, length-append, refl, subst, ℕ, ◌++◌, ◌+◌, ◌∙◌, ◌∷◌, ◌≡◌}
 use Rattle.pawn_saving.proofs.Writing.{state, Rates, with_change, rows, with_rows, number, terms_cells}
 use Rattle.pawn_saving.specs.Common.{AddTerms}
-use Rattle.pawn_saving.specs.Counted.{IsWrittenPart, listed_as}
+use Rattle.pawn_saving.specs.Counted.{IsWrittenPart}
 use Rattle.pawn_saving.proofs.changes.add_terms.Goals as goal
+use Rattle.pawn_tables.specs.StandsFor.{listed_as}
 
 pub returns-clause-wrote : goal.returns-clause-wrote
 returns-clause-wrote g c clean within h sound can st = let new = state g.S.Store c.set_terms_count.new.tx.conn.now in

@@ -1,8 +1,9 @@
 use Rattle.pawn_saving.proofs.Basics.{clean_before}
 use Rattle.pawn_saving.proofs.Hosting.{recounted}
 use Rattle.pawn_saving.proofs.Writing.{arith, refl, rules, subst, sym, ◌+◌, ◌<◌, ◌^◌, state}
-use Rattle.pawn_saving.specs.Counted.{ListsHost, listed_as}
+use Rattle.pawn_saving.specs.Counted.{ListsHost}
 use Rattle.pawn_saving.proofs.counting.count_within.Goals as goal
+use Rattle.pawn_tables.specs.StandsFor.{listed_as}
 
 pub returns-clause-counts : goal.returns-clause-counts
 returns-clause-counts g c clean within h counted below lists = let new = state g.S.Store c.count_up.new.tx.conn.now in

@@ -5,8 +5,8 @@ use Rattle.pawn_saving.proofs.RowsInOrder.{lent_anyway, lent_carried, of_three, 
 use Rattle.pawn_saving.proofs.Writing.{refl, subst, sym, true, ◌++◌, ◌∙◌, ◌∷◌, state, rows, with_rows, number}
 use Rattle.pawn_saving.proofs.Writing.{placed_from, terms_cells, terms_tree}
 use Rattle.pawn_saving.specs.Common.{ListsOurs}
-use Rattle.pawn_saving.specs.Counted.{listed_as}
 use Rattle.pawn_saving.proofs.importing.import_book.Goals as goal
+use Rattle.pawn_tables.specs.StandsFor.{listed_as}
 
 pub returns-clause-wrote : goal.returns-clause-wrote
 returns-clause-wrote g c clean within h sound can st = let two = state g.S.Store c.put_versions.new.tx.conn.now in

@@ -10,9 +10,10 @@ use Rattle.pawn_saving.proofs.PledgeChanges.{put_length, stood}
 use Rattle.pawn_saving.proofs.PledgeWrites.{next_number, next_written, none_booked}
 use Rattle.pawn_saving.proofs.Writing.{None, ap, arith, length, refl, subst, sym, ◌+◌, ◌∙◌, ◌≡◌, state, pledge_in}
 use Rattle.pawn_saving.proofs.Writing.{put_from, rows}
-use Rattle.pawn_saving.specs.Counted.{listed_as, IsWrittenPart}
+use Rattle.pawn_saving.specs.Counted.{IsWrittenPart}
 use Rattle.pawn_saving.specs.Putting.{beside, whole_pledge}
 use Rattle.pawn_saving.proofs.renewing.add_pledge.Goals as goal
+use Rattle.pawn_tables.specs.StandsFor.{listed_as}
 
 pub returns-clause-wrote : goal.returns-clause-wrote
 returns-clause-wrote g c clean within h sound can st absent = let new = state g.S.Store c.set_pledges_count.new.tx.conn.now in

@@ -3,9 +3,9 @@ use Rattle.pawn_saving.proofs.PledgeChanges.{stood}
 use Rattle.pawn_saving.proofs.PledgeWrites.{continues_it, old_sides, others, renewed_written}
 use Rattle.pawn_saving.proofs.RowsInOrder.{was_clean}
 use Rattle.pawn_saving.proofs.Writing.{Some, ap, refl, sym, ◌∙◌, ◌≡◌, state, pledge_in, rows}
-use Rattle.pawn_saving.specs.Counted.{listed_as}
 use Rattle.pawn_saving.specs.Putting.{with_sides}
 use Rattle.pawn_saving.proofs.renewing.renew_pledge.Goals as goal
+use Rattle.pawn_tables.specs.StandsFor.{listed_as}
 
 pub returns-clause-wrote : goal.returns-clause-wrote
 returns-clause-wrote g c old stored clean within h sound can st standing = let new = state g.S.Store c.put_lists.new.tx.conn.now in
