@@ -13,10 +13,10 @@ import (
 
 func main() {
 	address, _ := url.Parse(os.Args[1] + "/books/" + os.Args[2] + "/held") // Do reports an address that is none.
+	client := http.Client{Timeout: 30e9}                                   // Nanoseconds; without it there is no limit.
 	for _, receipt := range os.Args[3:] {
-		// The service answers one connection at a time, so each request closes its connection.
 		request := &http.Request{URL: address, Header: http.Header{"Pledge-Receipt": {receipt}}, Close: true}
-		if reply, err := http.DefaultClient.Do(request); err != nil {
+		if reply, err := client.Do(request); err != nil { // The service answers one connection at a time, hence Close.
 			log.Fatal(err)
 		} else if text, err := io.ReadAll(reply.Body); err != nil { // The reply was cut.
 			log.Fatal(err)

@@ -224,6 +224,50 @@ def how_connections_end():
             expect("the reply then", read_all(peer).endswith(b'{"version":1}'), True)
 
 
+def heads_by_the_grammar():
+    """The examples of the rules, of what a head may and may not have."""
+    asked = request("GET", "/books/7/held", CLOSE)
+    field = b"Connection: close\r\n"
+    taken = {
+        "empty lines before it": b"\r\n\n" + asked, "bytes above 0x7F": asked.replace(field, field + b"X: \xe9\xff\r\n"),
+        "two such fields": asked.replace(field, b"Connection: keep-alive\r\n" + field),
+    }
+    refused = {
+        "a blank before a colon": asked.replace(field, b"X : 1\r\n" + field),
+        "a value that goes on": asked.replace(field, b"X: 1\r\n 2\r\n" + field),
+        "two blanks": asked.replace(b"GET ", b"GET  "), "HTTP/1.2": asked.replace(b"HTTP/1.1", b"HTTP/1.2"),
+        "a byte 0": asked.replace(field, b"X: \0\r\n" + field),
+    }
+    with two_pledges() as (server, _):
+        for heads, wanted in (taken, refusal(712, "NoReceipt", "400 Bad Request")), (refused, refusal(701, "BadHead", "400 Bad Request")):
+            for name, head in heads.items():
+                with server.connect() as peer:
+                    peer.sendall(head)
+                    expect(name, read_all(peer), wanted)
+
+
+def the_columns_of_a_row_before_its_place():
+    rows = {"B": "B,2,0,0", "T": "T,1,0,0,0", "bad T": "T,1,x,0,0", "X": "X,1,1,2024-01-31,2024-09-01", "B of version 1": "B,1,0,0"}
+    texts = [(("T",), (604, 2)), (("bad T",), (603, 2)), (("B of version 1", "X"), (603, 3)), (("B", "X"), (604, 3))]
+    heading = ",".join(["row", *(f"c{at}" for at in range(1, 15))]) + "\n"
+    with two_pledges() as (server, _):
+        for names, wanted in texts:
+            text = heading + "".join(rows[name] + "," * (14 - rows[name].count(",")) + "\n" for name in names)
+            with server.connect() as peer:
+                peer.sendall(request("POST", "/books/7/import", KEY, IMPORT, CLOSE, body=text))
+                said = json.loads(read_all(peer).partition(b"\r\n\r\n")[2])
+            expect(names, (said["code"], said["row"]), wanted)
+
+
+def a_body_is_one_of_the_nested_objects():
+    with two_pledges() as (server, _):
+        for lists, wanted in (126, b'{"version":1}'), (127, b'{"code":708,"name":"BadBody"}'):
+            body = '{"keep_after":0,"keep_before":0,"rate":0,"version":1,"x":' + "[" * lists + "]" * lists + "}"
+            with server.connect() as peer:
+                peer.sendall(request("POST", "/books/7/terms", KEY, CLOSE, body=body))
+                expect(f"{lists} lists in a body", read_all(peer).partition(b"\r\n\r\n")[2], wanted)
+
+
 def refused_while_it_is_written(server, code, made):
     """Sends a body twenty times, and checks that the client sees this refusal or that the connection is broken."""
     seen, fields = {}, {"Pledge-Key": BROKER, "Import-Key": BROKER, "Connection": "close"}
@@ -338,6 +382,10 @@ def what_the_proxy_says_by_itself():
             expect("a reply to another", by_proxy(port, "/books/7/held", **view)[0], 200)
             expect("it did not wait", time.monotonic() - begun < PATIENCE - 1, True)
         expect("a target of another shape", by_proxy(port, "/books/7/held?x=1"), (404, not_handed_on(404), None))
+        for target in ("/books", "/books/", "/books/7/nothing/more"):
+            expect(target, by_proxy(port, target)[:2] in ((404, not_handed_on(404)), (404, {"code": 706, "name": "NoRoute"})), True)
+        status, said, _ = by_proxy(port, "/book/7/pledges/1")
+        expect("a target that is the pages'", (status, said[:15]), (404, b"<!doctype html>"))
         expect("a long body", by_proxy(port, "/books/7/import", b"x" * (BODY_BYTES + 1))[:2], (413, not_handed_on(413)))
         expect("a long head", by_proxy(port, "/books/7/held", X="x" * 40_000)[:2], (400, not_handed_on(400)))
         seen = [by_proxy(port, "/books/7/held", **view) for _ in range(40)]
@@ -511,5 +559,6 @@ if __name__ == "__main__":
         five_requests_by_each_client, an_idle_connection_bars_the_others, how_connections_end,
         a_body_that_is_refused_while_it_is_written, a_length_that_is_not_that_of_the_body, several_receipts,
         two_senders_of_one_entry, what_the_proxy_says_by_itself, two_ways_to_try, old_days_by_an_import,
+        heads_by_the_grammar, the_columns_of_a_row_before_its_place, a_body_is_one_of_the_nested_objects,
         *([] if refusing.library() is None else AFTER_FAULTS),
     )

@@ -373,6 +373,56 @@ func main() {
 	}
 }
 """
+# The method of the second request on a connection, or of the first one on a connection of its own.
+GO_ONCE_MORE = """
+package main
+
+import (
+	"fmt"
+	"io"
+	"net/http"
+	"os"
+)
+
+func main() {
+	for range os.Args[2:] {
+		if reply, err := http.Get(os.Args[1]); err != nil {
+			fmt.Print("error ")
+		} else {
+			io.ReadAll(reply.Body)
+			reply.Body.Close()
+			fmt.Print(reply.StatusCode, " ")
+		}
+	}
+}
+"""
+# A body whose length Go does not know, and the same with its length.
+GO_WRAPPED = """
+package main
+
+import (
+	"fmt"
+	"io"
+	"net/http"
+	"os"
+	"strings"
+)
+
+func main() {
+	for _, length := range []int64{0, 2} {
+		body := io.NopCloser(strings.NewReader("{}"))
+		request, _ := http.NewRequest("POST", os.Args[1], body)
+		request.ContentLength = length
+		request.Close = true
+		if reply, err := http.DefaultClient.Do(request); err != nil {
+			fmt.Print("error ")
+		} else {
+			text, _ := io.ReadAll(reply.Body)
+			fmt.Print(string(text), " ")
+		}
+	}
+}
+"""
 # The second word is the method of the second request; a third one makes Ruby repeat nothing.
 RUBY_TWICE = """
 call = Net::HTTP.new("127.0.0.1", URI(ARGV[0]).port)
@@ -419,18 +469,35 @@ def ending_in_a_second_request():
         it.shutdown(socket.SHUT_RDWR)
 
 
+def made_in_go(room, name, source):
+    """The path of the program of this name, which is built if there is a compiler."""
+    path = os.path.join(room, name)
+    with open(path + ".go", "w") as file:
+        file.write(source)
+    if has("Go"):
+        build_for_go(room, path + ".go", name)
+    return path
+
+
+def go_sends_a_body_in_chunks_unless_it_knows_its_length():
+    if not has("Go"):
+        return not_tried("a wrapped body of Go", "there is no Go")
+    with tempfile.TemporaryDirectory() as room, Server() as server:
+        words = [made_in_go(room, "wrapped", GO_WRAPPED), f"http://localhost:{server.port}/books/7/terms"]
+        shown = subprocess.run(words, stdin=subprocess.DEVNULL, capture_output=True, text=True, timeout=60).stdout
+    expect("without a length", shown.startswith(('{"code":703,', "error ")), True)
+    expect("with its length", shown.endswith('{"code":709,"name":"BadKey"} '), True)
+
+
 def some_clients_send_a_post_again_by_themselves():
     """On a connection that was used before, and without reporting it. On a new connection libcurl sends nothing twice."""
     twice, once = ["GET", "POST", "POST"], ["GET", "POST"]
     curl = ["curl", "-s", "-X", "GET", "{url}", "--next", "-s", "-X", "POST", "{url}"]
     with tempfile.TemporaryDirectory() as room:
-        java, go = os.path.join(room, "Twice.java"), os.path.join(room, "twice")
+        java = os.path.join(room, "Twice.java")
         with open(java, "w") as file:
             file.write(JAVA_TWICE)
-        with open(go + ".go", "w") as file:
-            file.write(GO_TWICE)
-        if has("Go"):
-            build_for_go(room, go + ".go", "twice")
+        go, more = (made_in_go(room, name, source) for name, source in (("twice", GO_TWICE), ("more", GO_ONCE_MORE)))
         runs = [
             (None, "curl", curl, "{}{}", twice), ("PHP", "PHP, kept", ["php", "-r", PHP_TWICE, "{url}", "kept"], "200 200 ", twice),
             ("PHP", "PHP, CURLOPT_FORBID_REUSE", ["php", "-r", PHP_TWICE, "{url}", "closing"], "200 200 ", once),
@@ -446,6 +513,7 @@ def some_clients_send_a_post_again_by_themselves():
             ("Perl", "HTTP::Tiny", ["perl", "-e", PERL_TWICE, "{url}", "POST"], "200 599 ", once),
             ("Perl", "HTTP::Tiny with GET", ["perl", "-e", PERL_TWICE, "{url}", "GET"], "200 200 ", ["GET"] * 3),
             ("Go", "Go's own client, kept", [go, "{url}", "kept"], "200 error ", once),
+            ("Go", "Go's own client with GET", [more, "{url}", "once", "twice"], "200 200 ", ["GET"] * 3),
             ("Go", "Go's own client by Close", [go, "{url}", "request"], "200 200 ", once),
             ("Go", "Go's own client by DisableKeepAlives", [go, "{url}", "transport"], "200 200 ", once),
             ("Go", "Go's own client with Idempotency-Key", [go, "{url}", "Idempotency-Key"], "200 200 ", twice),
@@ -465,6 +533,7 @@ if not shutil.which("curl"):
 main(
     each_example_is_short, each_language_asks_twice_without_waiting, a_reply_that_was_cut_is_not_shown,
     a_reply_that_was_cut_in_its_head_is_no_success, a_body_of_ruby_is_binary_if_it_is_not_ascii,
-    some_clients_send_a_post_again_by_themselves, the_requests_for_editors_are_answered,
+    some_clients_send_a_post_again_by_themselves, go_sends_a_body_in_chunks_unless_it_knows_its_length,
+    the_requests_for_editors_are_answered,
     each_line_of_a_statement_is_read_by_the_expression, a_story_of_the_page_is_played, the_rows_of_the_page_can_be_sold,
 )
