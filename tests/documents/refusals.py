@@ -158,7 +158,7 @@ def each_operation_has_the_refusals_of_the_rules_in_order():
 def lists_of_the_definitions():
     """The lists of conditions and refusals in the definitions of the rules: by path and name, the refusals' codes in order."""
     names = {name: code for code, name in of_the_rules().items()}
-    row = re.compile(r", (?:\w+\.)?\(?(?:Debt |Terms )?([A-Z]\w+)[^)∷]*\)+\s*∷")
+    row = re.compile(r", (?:Pledge \()?(?:\w+\.)?\(?(?:Debt |Terms )?([A-Z]\w+)[^)∷]*\)+\s*∷")
     for path in sorted(glob.glob("crates/pawn_*/specs/*.antt", root_dir=TOP)):
         for block in re.split(r"\n\n+", read(path)) if "/Worked" not in path else ():
             name, found = re.search(r"(?m)^abbrev pub (\w+)", block), row.findall(block)
