@@ -1,3 +1,4 @@
 pub mod BodyLemmas
 pub mod DayLemmas
 pub mod DoneLemmas
+pub mod PutLemmas
