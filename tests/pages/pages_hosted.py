@@ -277,4 +277,4 @@ def nothing_waits_for_the_whole_book_over_tls():
 
 
 browser.more.append(f"--ignore-certificate-errors-spki-list={make_key()}")
-main(100 + 60 * TURNS, (), (the_first_screens_are_soon, nothing_waits_for_the_whole_book_over_tls))
+main((), (the_first_screens_are_soon, nothing_waits_for_the_whole_book_over_tls), most=100 + 60 * TURNS)

@@ -346,7 +346,7 @@ def a_service_that_is_down():
 
 
 main(
-    300, (),
+    (),
     (
         the_life_of_a_pledge, a_running_account_and_what_is_refused, a_lost_receipt_is_replaced,
         wrong_keys_and_receipts, a_text_of_markup_stays_a_text, what_is_due_and_the_book_as_a_file,
