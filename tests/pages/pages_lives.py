@@ -129,7 +129,7 @@ def a_running_account_and_what_is_refused():
         part("take")
         browser.fill("#taking", article="Silver teapot", ref="R/1", kind="running", amount="1,000.00", five="yes")
         browser.press("#taking button", "Take the pledge")
-        browser.press("dialog button", "Take it for £1,000.00")
+        browser.press("dialog button", "Take it, up to £1,000.00")
         browser.says("Credit up to", ".paper")
         receipt = browser.text(".paper .secret").strip()
         find("R/1")

@@ -20,7 +20,7 @@ import { statementOf } from "./reading.js";
 import { nextReference } from "./references.js";
 import { askBook, current, refuseOther } from "./session.js";
 import { refuseStanding } from "./standing.js";
-import { settle } from "./taken.js";
+import { PAID_OUT, settle } from "./taken.js";
 
 /** From this many pence on, the question says that the sum is large. */
 const VERY_LARGE = 1_000_000;
@@ -88,12 +88,14 @@ function refuseAmount({ pence }) {
 function askOf({ article, ref, kind, pence, agreed, five_days: fiveDays }, terms, isNewDay) {
   const six = sixMonthsAfter(today());
   const end = agreed && agreed > six ? agreed : six;
+  const isFixed = kind === "fixed";
+  const amount = isFixed ? ` for ${inPounds(pence)}` : `, up to ${inPounds(pence)}`;
   return confirmed({
-    title: `Take this pledge for ${inPounds(pence)}?`,
+    title: `Take this pledge${amount}?`,
     lines: [
       isNewDay ? NEW_DAY : null,
       [foreign(article), ", reference ", foreign(ref), "."],
-      kind === "fixed" ? `${inPounds(pence)} is lent.` : `A running account up to ${inPounds(pence)}.`,
+      isFixed ? `${inPounds(pence)} is lent.` : `A running account up to ${inPounds(pence)}. ${PAID_OUT}`,
       `The period ends on ${inWords(end)}, with ${fiveDays ? "five" : "no"} days of grace.`,
       isLong(six, end) ? loudLine("That is more than a year after the six months: look at the year again.") : null,
       terms ? `Interest by version ${terms.version} of the terms: ${termsInWords(terms)}.` : null,
@@ -103,7 +105,7 @@ function askOf({ article, ref, kind, pence, agreed, five_days: fiveDays }, terms
       pence >= VERY_LARGE ? "That is a large sum: look at it again." : null,
       "It can’t be changed or taken back. If it is a mistake, redeem it the same day by its receipt.",
     ],
-    yes: `Take it for ${inPounds(pence)}`, no: "Not now",
+    yes: `Take it${amount}`, no: "Not now",
   });
 }
 

@@ -1,0 +1,194 @@
+"""What a clerk and a pawnor are warned of before money, an article or a paper is out of their hands; in a real browser,
+in front of the program."""
+import datetime
+
+from tests.library.checks import expect
+from tests.library.dates import today
+from tests.library.pages.browser import Pages
+from tests.library.pages.steps import (
+    a_pledge_at_the_counter, a_pledge_by_its_receipt, ago, an_open_book, book_text, browser, command, fill_book, find,
+    in_short, main, make_book, no_faults, open_book, part, secret_of, show_receipt, the_book_is_read, unfold,
+)
+
+PAID_OUT = "Nothing is paid out yet: record each amount that you pay out as a drawing"
+AT_THE_SHOP = "Do it only at the shop, when you are given the article: without this receipt you can’t show that it is yours."
+
+
+def a_running_account_says_that_nothing_is_paid_out_yet():
+    """A clerk who hands out money at once would not record it: the book would say that nothing is owed."""
+    with an_open_book() as pages:
+        part("take")
+        browser.fill("#taking", article="Watch", ref="A1", amount="500", kind="running")
+        browser.press("#taking button", "Take the pledge")
+        browser.says("Take this pledge, up to £500.00?", "dialog")
+        browser.says(PAID_OUT, "dialog")
+        browser.press("dialog button", "Take it, up to £500.00")
+        browser.says(f"Taken as pledge 1. Its receipt is ready to print. {PAID_OUT}", "#taking .notice")
+        browser.press("#taken-receipt a", "Pledge 1")
+        browser.says("£0.00 owed today", "#statement")
+        command("Drawing", "Record the drawing", amount="200")
+        browser.says("£200.00 owed today", "#statement")
+        part("take")
+        browser.fill("#taking", article="Ring", ref="A2", amount="50", kind="fixed")
+        browser.press("#taking button", "Take the pledge")
+        browser.says("£50.00 is lent.", "dialog")
+        expect("a fixed sum is paid out", PAID_OUT in browser.text("dialog"), False)
+        browser.press("dialog button", "Take it for £50.00")
+        browser.says("Taken as pledge 2.", "#taking .notice")
+        expect("a fixed sum is paid out", PAID_OUT in browser.text("#taking .notice"), False)
+        no_faults()
+
+
+def a_pawnor_redeems_at_the_shop():
+    """The receipt is worth nothing after it, so at home it would be given away for nothing."""
+    with a_pledge_by_its_receipt() as (pages, receipt):
+        unfold("Redeem")
+        browser.says(AT_THE_SHOP, ".action[open]")
+        browser.press(".action[open] button", "Redeem for £100.00")
+        browser.says(AT_THE_SHOP, "dialog")
+        browser.press("dialog button", "Not yet")
+        pages.session.bearer(receipt, "POST", "/books/7/held/repay", {"pence": 10000, "seq": 1})
+        browser.press("#look-again")
+        browser.says("£0.00 owed today", "#cards")
+        browser.rests()
+        unfold("Redeem")
+        browser.says("Nothing is owed any more.", ".action[open]")
+        browser.press(".action[open] button", "Redeem for £0.00")
+        browser.says("Nothing is owed any more.", "dialog")
+        browser.says(AT_THE_SHOP, "dialog")
+        expect("no amount is said to be received", "received" in browser.text("dialog"), False)
+        browser.press("dialog button", "Yes, I am given the article")
+        browser.says("£0.00 was paid.", "#cards")
+        no_faults()
+
+
+def a_payment_of_all_that_is_owed_does_not_redeem_the_pledge():
+    """The pawnor's page says so, as the broker's does."""
+    with a_pledge_by_its_receipt() as (_, _):
+        open_it = "That is all that is owed, but the pledge stays open after it"
+        browser.rests()
+        unfold("Record a part payment")
+        browser.fill(".action[open] form", amount="40")
+        browser.press(".action[open] button", "Record the payment")
+        browser.says("Record £40.00 as paid?", "dialog")
+        expect("a part is no whole", open_it in browser.text("dialog"), False)
+        browser.press("dialog button", "Not yet")
+        browser.says("Nothing was recorded.", ".action[open]")
+        browser.fill(".action[open] form", amount="100")
+        browser.press(".action[open] button", "Record the payment")
+        browser.says(f"{open_it}. To have the article, choose “Redeem” at the shop in place of this.", "dialog")
+        browser.press("dialog button", "Not yet")
+        no_faults()
+
+
+def the_till_says_what_of_a_sale_is_the_pawnors():
+    """A surplus that is paid out of the drawer is in no book, so the drawer would seem to lack it."""
+    with Pages() as pages:
+        make_book(pages, terms=False)
+        fill_book(pages, book_text(
+            [("Coat", "A1", 10000, ago(400), "", "no"), ("Lamp", "A2", 10000, ago(400), "", "no")], rates=(0, 0, 0),
+        ))
+        open_book(pages)
+        the_book_is_read()
+        for number, net in ((1, 15000), (2, 9000)):
+            sold = pages.session.broker("POST", f"/books/7/pledges/{number}/sell", {"net": net})
+            expect("sold", sold[0], 200)
+        browser.press("#read-book")
+        browser.rests()
+        part("till")
+        browser.says("£240.00", "#till-lists .sums")
+        browser.says(
+            "Of the proceeds £50.00 is surplus, which is the pawnors’. The book does not record when you pay it to them: "
+            "what you have paid of it is no longer in the drawer.", "#till-lists .sums",
+        )
+        browser.says("£50.00 surplus", "#till-lists")
+        no_faults()
+
+
+def a_receipt_that_is_cut_is_counted_where_it_is_redeemed():
+    """As where it is found."""
+    with a_pledge_at_the_counter() as (_, receipt):
+        command("Redeem by the paper", "Redeem", receipt=receipt[:-1], amount="100")
+        browser.says("There are 31 digits after the number, and a receipt has 32.", ".action[open]")
+        browser.rests()
+        browser.fill(".action[open] form", receipt=receipt[:-1] + "x")
+        browser.press(".action[open] button", "Redeem")
+        browser.says("It has the letter “x”", ".action[open]")
+        no_faults()
+
+
+def what_is_scanned_after_a_search_that_failed_takes_its_place():
+    """It would be added to what was typed, and a live receipt would be called dead."""
+    with a_pledge_at_the_counter() as (_, receipt):
+        find("99")
+        browser.says("The book has no pledge of that number or reference.", "#finding")
+        browser.rests()
+        browser.keys(receipt + "\ue007")
+        browser.says("This receipt is live. £100.00 is owed today.", "#commands")
+        no_faults()
+
+
+def a_link_that_comes_after_its_receipt_says_what_it_says():
+    """A receipt that was typed first lacks the shop, the terms and the days of grace."""
+    with a_pledge_by_its_receipt() as (_, receipt):
+        browser.says("£100.00 owed today", "#cards")
+        expect("no terms", "Interest\n" in browser.text("#cards"), False)
+        browser.rests()
+        browser.run(
+            "location.hash = arguments[0]", f"#book=7&receipt={receipt}&terms=2667.0.0&grace=5&shop=High+Street&ref=A1",
+        )
+        browser.says("Pledge 1 at High Street", "#cards")
+        browser.says("£8.00 in 30 days on £100", "#cards")
+        browser.says("five days of grace follow", "#cards")
+        expect("one pledge", browser.run("return document.querySelectorAll('#cards > *').length"), 1)
+        browser.ask("POST", "/refresh", {})
+        browser.says("Pledge 1 at High Street", "#cards")
+        no_faults()
+
+
+COME_BACK = """
+const ago = Date.now() - arguments[0];
+const real = Date.now;
+window.Date.now = () => real() + arguments[0];
+document.dispatchEvent(new Event("visibilitychange"));
+"""
+
+
+def a_pawnor_who_comes_back_sees_what_the_shop_decided():
+    """A telephone keeps a tab for days: what it shows is read again, or says when it was read."""
+    with a_pledge_by_its_receipt() as (pages, receipt):
+        day = today() + datetime.timedelta(days=3)
+        pages.session.bearer(receipt, "POST", "/books/7/held/ask", {"day": str(day), "window": 3})
+        browser.press("#look-again")
+        browser.says("asked for, not confirmed yet", "#cards")
+        browser.rests()
+        unfold("Record a part payment")
+        browser.fill(".action[open] form", amount="12.34")
+        decided = pages.session.broker("POST", "/books/7/pledges/1/decide", {"yes": True})
+        expect("confirmed", decided[0], 200)
+        browser.run(COME_BACK, 120_000)
+        browser.says("10:30 to 11:00: confirmed", "#cards")
+        expect("what was typed", browser.run("return document.querySelector('.action[open] [name=amount]').value"), "12.34")
+        with browser.without_a_line():
+            browser.run(COME_BACK, 120_000)
+            browser.says("It could not be read again just now: what is shown was read at ", "#cards")
+            browser.says("£100.00 owed today", "#cards")
+            expect(
+                "what was typed", browser.run("return document.querySelector('.action[open] [name=amount]').value"), "12.34",
+            )
+        browser.press("#look-again")
+        browser.rests()
+        expect("it was read", "could not be read again" in browser.text("#cards"), False)
+        no_faults()
+
+
+main(
+    (),
+    (
+        a_running_account_says_that_nothing_is_paid_out_yet, a_pawnor_redeems_at_the_shop,
+        a_payment_of_all_that_is_owed_does_not_redeem_the_pledge, the_till_says_what_of_a_sale_is_the_pawnors,
+        a_receipt_that_is_cut_is_counted_where_it_is_redeemed,
+        what_is_scanned_after_a_search_that_failed_takes_its_place,
+        a_link_that_comes_after_its_receipt_says_what_it_says, a_pawnor_who_comes_back_sees_what_the_shop_decided,
+    ),
+)
