@@ -52,9 +52,9 @@ def a_pawnor_redeems_at_the_shop():
         browser.says("£0.00 owed today", "#cards")
         browser.rests()
         unfold("Redeem")
-        browser.says("Nothing is owed any more.", ".action[open]")
+        browser.says("Nothing is owed today.", ".action[open]")
         browser.press(".action[open] button", "Redeem for £0.00")
-        browser.says("Nothing is owed any more.", "dialog")
+        browser.says("Nothing is owed today.", "dialog")
         browser.says(AT_THE_SHOP, "dialog")
         expect("no amount is said to be received", "received" in browser.text("dialog"), False)
         browser.press("dialog button", "Yes, I am given the article")
@@ -147,7 +147,6 @@ def a_link_that_comes_after_its_receipt_says_what_it_says():
 
 
 COME_BACK = """
-const ago = Date.now() - arguments[0];
 const real = Date.now;
 window.Date.now = () => real() + arguments[0];
 document.dispatchEvent(new Event("visibilitychange"));
@@ -169,6 +168,7 @@ def a_pawnor_who_comes_back_sees_what_the_shop_decided():
         browser.run(COME_BACK, 120_000)
         browser.says("10:30 to 11:00: confirmed", "#cards")
         expect("what was typed", browser.run("return document.querySelector('.action[open] [name=amount]').value"), "12.34")
+        no_faults()
         with browser.without_a_line():
             browser.run(COME_BACK, 120_000)
             browser.says("It could not be read again just now: what is shown was read at ", "#cards")
@@ -179,7 +179,6 @@ def a_pawnor_who_comes_back_sees_what_the_shop_decided():
         browser.press("#look-again")
         browser.rests()
         expect("it was read", "could not be read again" in browser.text("#cards"), False)
-        no_faults()
 
 
 main(

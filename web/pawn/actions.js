@@ -120,14 +120,18 @@ function cancelFold(card) {
   });
 }
 
+const ALL_PAID = "That is all that is owed, but the pledge stays open after it. To have the article, choose “Redeem” at the "
+  + "shop in place of this.";
+
 async function repay(card, { amount }) {
   const pence = readPounds(amount);
-  await readUnrefused(() => card.read(), "repay", pence);
+  const now = await readUnrefused(() => card.read(), "repay", pence);
   const yes = await confirmed({
     title: `Record ${inPounds(pence)} as paid?`, about: card.statement,
     lines: [
       "This page moves no money. Say yes only where the pawnbroker has received the amount.",
       "If the shop has recorded it already, say no: it would count twice.",
+      pence === now.owed.owing ? ALL_PAID : null,
     ],
     yes: `Yes, ${inPounds(pence)} was received`, no: "Not yet",
   });
@@ -159,15 +163,24 @@ async function readRedeemable(card) {
   return owing;
 }
 
+/** The receipt is worth nothing after a redemption, so at home it would be given away for nothing. */
+const AT_THE_SHOP = "Do it only at the shop, when you are given the article: without this receipt you can’t show that it "
+  + "is yours.";
+const NOTHING_OWED = "Nothing is owed today.";
+
 async function redeem(card) {
   const owing = await readRedeemable(card);
   const yes = await confirmed({
     title: "Redeem this pledge?", about: card.statement,
     lines: [
-      `You say that ${inPounds(owing)} has been paid and that the pawnbroker has received it.`,
-      "This page moves no money.",
-      "The pledge is over then, and this receipt is worth nothing any more. It can’t be taken back."],
-    yes: `Yes, ${inPounds(owing)} was received`, no: "Not yet",
+      ...(owing === 0 ? [NOTHING_OWED] : [
+        `You say that ${inPounds(owing)} has been paid and that the pawnbroker has received it.`,
+        "This page moves no money.",
+      ]),
+      AT_THE_SHOP,
+      "The pledge is over then, and this receipt is worth nothing any more. It can’t be taken back.",
+    ],
+    yes: owing === 0 ? "Yes, I am given the article" : `Yes, ${inPounds(owing)} was received`, no: "Not yet",
   });
   if (!yes) return NOT_NOW;
   try {
@@ -182,9 +195,11 @@ async function redeem(card) {
 
 function redeemFold(card) {
   const { owed, held } = card.statement;
+  const amount = owed.owing === 0
+    ? NOTHING_OWED
+    : `Redeeming requires all that is owed today, ${inPounds(owed.owing)}, received by the pawnbroker.`;
   const lead = held ? "The pawnbroker holds this pledge, so it can’t be redeemed just now. Ask at the shop why."
-    : `Redeeming requires all that is owed today, ${inPounds(owed.owing)}, received by the pawnbroker. `
-      + `You are asked once more before it is done.`;
+    : `${amount} ${AT_THE_SHOP} You are asked once more before it is done.`;
   const button = make("button", { className: "grave", disabled: held }, `Redeem for ${inPounds(owed.owing)}`);
   return foldOf(card, "Redeem", [make("p", { className: "lead" }, lead), buttons(button)], () => redeem(card));
 }
