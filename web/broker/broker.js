@@ -2,12 +2,12 @@
  * The broker's page: opening the book, and going from part to part. The address names the part, the pledge and the day,
  * and no secret.
  */
-import { now, onClock } from "../shared/clock.js";
+import { clockOf, now, onClock } from "../shared/clock.js";
 import { today } from "../shared/days.js";
 import { byId } from "../shared/dom.js";
 import { explainWaiting, onSend, tell } from "../shared/forms.js";
 import { startPage } from "../shared/start.js";
-import { clockOf, dateOf, minutesSince, setUpAge, showAge, waitingInWords } from "./age.js";
+import { dateOf, minutesSince, setUpAge, showAge, waitingInWords } from "./age.js";
 import { setUpAll, showAll } from "./all.js";
 import { setUpDue, showDue } from "./due.js";
 import { clearElsewhere, setUpElsewhere } from "./elsewhere.js";

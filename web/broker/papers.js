@@ -1,9 +1,9 @@
 /** The receipts of a pledge: which one is live, and why another is not. */
 import { liveReceipt } from "../shared/book.js";
+import { clockOf } from "../shared/clock.js";
 import { inShort } from "../shared/days.js";
 import { numberOf, receiptsTyped, whyNotWhole } from "../shared/receipts.js";
 import { Unreadable } from "../shared/unreadable.js";
-import { clockOf } from "./age.js";
 import { ledger } from "./ledger.js";
 import { heldBy, statementOf } from "./reading.js";
 import { current, refuseOther } from "./session.js";
