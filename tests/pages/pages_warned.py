@@ -128,6 +128,26 @@ def what_is_scanned_after_a_search_that_failed_takes_its_place():
         no_faults()
 
 
+def what_is_scanned_while_a_day_or_a_box_has_the_focus_is_found():
+    """No text can be typed there: the scan would change the day, or do nothing at all."""
+    with a_pledge_at_the_counter() as (_, receipt):
+        for name, field in (
+            ("today", "#sheet-of"), ("all", "#search-group"), ("take", "#taking [name=five]"), ("take", "#taking [name=kind]"),
+            ("till", "#till-of"), ("take", "#take-agreed"),
+        ):
+            part(name)
+            browser.element(field)
+            browser.rests()
+            browser.run("document.querySelector(arguments[0]).focus()", field)
+            browser.keys(receipt + "\ue007")
+            browser.says("This receipt is live. £100.00 is owed today.", "#commands")
+            wanted = {"#sheet-of": str(today()), "#till-of": str(today()), "#take-agreed": ""}
+            if field in wanted:
+                day = browser.run("return document.querySelector(arguments[0]).value", field)
+                expect(f"the day of {field}", day, wanted[field])
+        no_faults()
+
+
 def a_link_that_comes_after_its_receipt_says_what_it_says():
     """A receipt that was typed first lacks the shop, the terms and the days of grace."""
     with a_pledge_by_its_receipt() as (_, receipt):
@@ -188,6 +208,7 @@ main(
         a_payment_of_all_that_is_owed_does_not_redeem_the_pledge, the_till_says_what_of_a_sale_is_the_pawnors,
         a_receipt_that_is_cut_is_counted_where_it_is_redeemed,
         what_is_scanned_after_a_search_that_failed_takes_its_place,
+        what_is_scanned_while_a_day_or_a_box_has_the_focus_is_found,
         a_link_that_comes_after_its_receipt_says_what_it_says, a_pawnor_who_comes_back_sees_what_the_shop_decided,
     ),
 )
