@@ -166,11 +166,29 @@ def a_link_that_comes_after_its_receipt_says_what_it_says():
         no_faults()
 
 
+OLD = "It could not be read again just now: what is shown was read at "
 COME_BACK = """
 const real = Date.now;
 window.Date.now = () => real() + arguments[0];
 document.dispatchEvent(new Event("visibilitychange"));
 """
+
+
+def the_pledge_of_a_link_is_the_one_that_is_seen():
+    """A tab that has other receipts shows the pledges one under the other, and the new one last."""
+    with a_pledge_by_its_receipt() as (pages, receipt):
+        browser.says("£100.00 owed today", "#cards")
+        browser.rests()
+        last = pages.session.open_pledge(2, article="Pearl necklace")
+        browser.run("location.hash = arguments[0]", f"#book=7&receipt={last}")
+        browser.says("Pearl necklace", "#cards")
+        browser.rests()
+        expect("the focus", browser.run("return document.activeElement.textContent"), "Pearl necklace")
+        browser.run("location.hash = arguments[0]", f"#book=7&receipt={receipt}")
+        browser.until("return document.activeElement.textContent === 'Gold ring'", "the focus on the other")
+        browser.go(f"{pages.address}/pawn/#book=7&receipt={last}")
+        browser.until("return document.activeElement.textContent === 'Pearl necklace'", "the focus after a reload")
+        no_faults()
 
 
 def a_pawnor_who_comes_back_sees_what_the_shop_decided():
@@ -191,14 +209,18 @@ def a_pawnor_who_comes_back_sees_what_the_shop_decided():
         no_faults()
         with browser.without_a_line():
             browser.run(COME_BACK, 120_000)
-            browser.says("It could not be read again just now: what is shown was read at ", "#cards")
+            browser.says(OLD, "#cards")
+            browser.says("£100.00 owed today", "#cards")
+            browser.press("#look-again")
+            browser.until("return !document.querySelector('#look-again').disabled", "the end of the look")
+            browser.says(OLD, "#cards")
             browser.says("£100.00 owed today", "#cards")
             expect(
                 "what was typed", browser.run("return document.querySelector('.action[open] [name=amount]').value"), "12.34",
             )
         browser.press("#look-again")
         browser.rests()
-        expect("it was read", "could not be read again" in browser.text("#cards"), False)
+        expect("it was read", OLD in browser.text("#cards"), False)
 
 
 main(
@@ -210,5 +232,6 @@ main(
         what_is_scanned_after_a_search_that_failed_takes_its_place,
         what_is_scanned_while_a_day_or_a_box_has_the_focus_is_found,
         a_link_that_comes_after_its_receipt_says_what_it_says, a_pawnor_who_comes_back_sees_what_the_shop_decided,
+        the_pledge_of_a_link_is_the_one_that_is_seen,
     ),
 )

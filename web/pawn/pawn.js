@@ -83,6 +83,8 @@ async function showFragment(notice) {
   const some = receipts.map(cardOf);
   store();
   await look(some);
+  // Among others, which this tab had before, the pledge of the link is the one that is to be seen.
+  if (cards.length > some.length) some[0].focus();
 }
 
 async function find(fields) {
@@ -107,17 +109,20 @@ function tick() {
   look(cards);
 }
 
+function refresh() {
+  lookedAt = Date.now();
+  return inTurn(cards.map((card) => () => card.refresh()));
+}
+
 /** The shop may have decided on a visit, or received a payment, since the tab was left. */
 function comeBack() {
   tick();
-  if (document.hidden || Date.now() - lookedAt < LEFT) return;
-  lookedAt = Date.now();
-  inTurn(cards.map((card) => () => card.refresh()));
+  if (!document.hidden && Date.now() - lookedAt >= LEFT) refresh();
 }
 
 async function lookAgain() {
   byId("look-again").disabled = true;
-  await look(cards);
+  await refresh();
   byId("look-again").disabled = false;
 }
 
