@@ -39,6 +39,24 @@ def a_running_account_says_that_nothing_is_paid_out_yet():
         no_faults()
 
 
+def terms_that_were_added_in_the_morning_are_asked_about():
+    """The book in the page is read every ten minutes, and its terms each time that a pledge is to be taken."""
+    with an_open_book() as pages:
+        the_book_is_read()
+        browser.rests()
+        put = {"keep_after": 0, "keep_before": 0, "rate": 3000, "version": 2}
+        expect("terms", pages.session.broker("POST", "/books/7/terms", put), (200, {"version": 2}))
+        browser.run("const now = performance.now.bind(performance); performance.now = () => now() + 61000")
+        part("take")
+        browser.rests()
+        browser.fill("#taking", article="Ring", ref="A1", amount="50")
+        browser.press("#taking button", "Take the pledge")
+        browser.says("Interest by version 2 of the terms: £9.00 in 30 days on £100.", "dialog")
+        browser.press("dialog button", "Take it for £50.00")
+        browser.says("Taken as pledge 1. Its receipt is ready to print.", "#taking .notice")
+        no_faults()
+
+
 def a_pawnor_redeems_at_the_shop():
     """The receipt is worth nothing after it, so at home it would be given away for nothing."""
     with a_pledge_by_its_receipt() as (pages, receipt):
@@ -226,7 +244,8 @@ def a_pawnor_who_comes_back_sees_what_the_shop_decided():
 main(
     (),
     (
-        a_running_account_says_that_nothing_is_paid_out_yet, a_pawnor_redeems_at_the_shop,
+        a_running_account_says_that_nothing_is_paid_out_yet, terms_that_were_added_in_the_morning_are_asked_about,
+        a_pawnor_redeems_at_the_shop,
         a_payment_of_all_that_is_owed_does_not_redeem_the_pledge, the_till_says_what_of_a_sale_is_the_pawnors,
         a_receipt_that_is_cut_is_counted_where_it_is_redeemed,
         what_is_scanned_after_a_search_that_failed_takes_its_place,

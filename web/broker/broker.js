@@ -18,14 +18,14 @@ import { clearPledge, redrawPledge, showPledge } from "./pledge.js";
 import { setUpScanner } from "./scanner.js";
 import { askBook, begin, current, end, keepSession } from "./session.js";
 import { keepShop, refuseReceipts, setUpShop, shop, showShop } from "./shop.js";
-import { clearTaking, setUpTaking, showTaking } from "./take.js";
+import { clearTaking, openTaking, setUpTaking, showTaking } from "./take.js";
 import { clearTerms, redrawTerms, setUpTerms, showTerms } from "./terms.js";
 import { redrawTill, setUpTill, showTill } from "./till.js";
 import { clearToday, redrawToday, refreshToday, setUpToday, sheetReadAt, showToday } from "./today.js";
 
 /** What each part does when it is opened. Its argument is the text after an equals sign in the address. */
 const PARTS = {
-  today: showToday, take: showTaking, pledge: showPledge, all: showAll, due: showDue, till: showTill, terms: showTerms,
+  today: showToday, take: openTaking, pledge: showPledge, all: showAll, due: showDue, till: showTill, terms: showTerms,
   files: () => {}, shop: showShop,
 };
 /** What each part draws anew when the book was read or mended. */

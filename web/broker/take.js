@@ -25,6 +25,9 @@ import { PAID_OUT, settle } from "./taken.js";
 /** From this many pence on, the question says that the sum is large. */
 const VERY_LARGE = 1_000_000;
 
+/** Terms that were read so many milliseconds ago are old. */
+const OLD_TERMS = 60_000;
+
 /** The tab keeps under this name what is typed in the form, and of which book, so that a reload does not empty it. */
 const TYPED = "taking";
 
@@ -262,6 +265,12 @@ export function setUpTaking() {
     keepTyped();
     form().elements.ref.focus();
   });
+}
+
+/** Shows the form, and reads the terms anew if they are old: another till may have added some. Nothing waits for that. */
+export function openTaking() {
+  showTaking();
+  if (ledger.head && performance.now() - ledger.head.began > OLD_TERMS) ledger.readHead().then(showTaking, () => {});
 }
 
 export function showTaking() {
