@@ -11,6 +11,12 @@ from tests.library.pages.steps import (
 )
 
 PAID_OUT = "Nothing is paid out yet: record each amount that you pay out as a drawing"
+OLD = "It could not be read again just now: what is shown was read at "
+COME_BACK = """
+const real = Date.now;
+window.Date.now = () => real() + arguments[0];
+document.dispatchEvent(new Event("visibilitychange"));
+"""
 AT_THE_SHOP = "Do it only at the shop, when you are given the article: without this receipt you can’t show that it is yours."
 
 
@@ -123,6 +129,38 @@ def the_till_says_what_of_a_sale_is_the_pawnors():
         no_faults()
 
 
+def a_pledge_that_is_left_open_is_read_again():
+    """A clerk who comes back to it tells a customer what is owed. But not while a form is open: what came in between is
+    asked about when it is sent."""
+    with a_pledge_at_the_counter() as (pages, receipt):
+        browser.says("£100.00 owed today", "#statement")
+        the_book_is_read()
+        browser.rests()
+        pages.session.bearer(receipt, "POST", "/books/7/held/repay", {"pence": 1000, "seq": 1})
+        browser.run(COME_BACK, 61_000)
+        browser.says("£90.00 owed today", "#statement")
+        browser.rests()
+        unfold("Repayment")
+        browser.fill(".action[open] form", amount="20")
+        pages.session.bearer(receipt, "POST", "/books/7/held/repay", {"pence": 2000, "seq": 2})
+        browser.run(COME_BACK, 61_000)
+        browser.rests()
+        browser.says("£90.00 owed today", "#statement")
+        browser.press(".action[open] button", "Record the repayment")
+        browser.says("Something came in between", "dialog")
+        browser.press("dialog button", "No, record nothing")
+        browser.says("£70.00 owed today", "#statement")
+        browser.rests()
+        browser.run("for (const one of document.querySelectorAll('.action[open]')) one.open = false")
+        no_faults()
+        with browser.without_a_line():
+            browser.run(COME_BACK, 61_000)
+            browser.says("The pledge could not be read again just now: what is shown was read at ", "#commands")
+            browser.says("£70.00 owed today", "#statement")
+        browser.run(COME_BACK, 61_000)
+        browser.until("return !document.querySelector('#commands .notice').textContent", "no word of it any more")
+
+
 def a_receipt_that_is_cut_is_counted_where_it_is_redeemed():
     """As where it is found."""
     with a_pledge_at_the_counter() as (_, receipt):
@@ -184,14 +222,6 @@ def a_link_that_comes_after_its_receipt_says_what_it_says():
         no_faults()
 
 
-OLD = "It could not be read again just now: what is shown was read at "
-COME_BACK = """
-const real = Date.now;
-window.Date.now = () => real() + arguments[0];
-document.dispatchEvent(new Event("visibilitychange"));
-"""
-
-
 def the_pledge_of_a_link_is_the_one_that_is_seen():
     """A tab that has other receipts shows the pledges one under the other, and the new one last."""
     with a_pledge_by_its_receipt() as (pages, receipt):
@@ -247,7 +277,7 @@ main(
         a_running_account_says_that_nothing_is_paid_out_yet, terms_that_were_added_in_the_morning_are_asked_about,
         a_pawnor_redeems_at_the_shop,
         a_payment_of_all_that_is_owed_does_not_redeem_the_pledge, the_till_says_what_of_a_sale_is_the_pawnors,
-        a_receipt_that_is_cut_is_counted_where_it_is_redeemed,
+        a_pledge_that_is_left_open_is_read_again, a_receipt_that_is_cut_is_counted_where_it_is_redeemed,
         what_is_scanned_after_a_search_that_failed_takes_its_place,
         what_is_scanned_while_a_day_or_a_box_has_the_focus_is_found,
         a_link_that_comes_after_its_receipt_says_what_it_says, a_pawnor_who_comes_back_sees_what_the_shop_decided,

@@ -14,7 +14,7 @@ import { clearElsewhere, setUpElsewhere } from "./elsewhere.js";
 import { setUpFiles } from "./files.js";
 import { clearChoices, setUpFinding } from "./find.js";
 import { ledger } from "./ledger.js";
-import { clearPledge, redrawPledge, showPledge } from "./pledge.js";
+import { clearPledge, redrawPledge, refreshPledge, showPledge } from "./pledge.js";
 import { setUpScanner } from "./scanner.js";
 import { askBook, begin, current, end, keepSession } from "./session.js";
 import { keepShop, refuseReceipts, setUpShop, shop, showShop } from "./shop.js";
@@ -38,8 +38,9 @@ const LISTS = ["all", "due", "till"];
 /** Lists of these parts are emptied when another part is gone to. */
 const EMPTIED = ["due", "till"];
 const TICK = 20_000;
-/** The sheets are looked at as often as this, in milliseconds, while they are shown. */
+/** These parts are read again as often as this, in milliseconds, while they are shown. */
 const REFRESH = 60_000;
+const REFRESHED = { today: refreshToday, pledge: refreshPledge };
 
 let day = today();
 let refreshed = 0;
@@ -174,9 +175,9 @@ function tick() {
   if (day !== today()) {
     day = today();
     showPart({ focus: false });
-  } else if (place().name === "today" && Date.now() - refreshed >= REFRESH) {
+  } else if (REFRESHED[place().name] && Date.now() - refreshed >= REFRESH) {
     refreshed = Date.now();
-    refreshToday();
+    REFRESHED[place().name]();
   }
 }
 
