@@ -3,11 +3,11 @@ in front of the program."""
 import datetime
 
 from tests.library.checks import expect
-from tests.library.dates import today
+from tests.library.dates import six_months_after, today
 from tests.library.pages.browser import Pages
 from tests.library.pages.steps import (
     a_pledge_at_the_counter, a_pledge_by_its_receipt, ago, an_open_book, book_text, browser, command, fill_book, find,
-    in_short, main, make_book, no_faults, open_book, part, secret_of, show_receipt, the_book_is_read, unfold,
+    in_words, main, make_book, no_faults, open_book, part, secret_of, show_receipt, the_book_is_read, unfold,
 )
 
 PAID_OUT = "Nothing is paid out yet: record each amount that you pay out as a drawing"
@@ -222,6 +222,41 @@ def a_link_that_comes_after_its_receipt_says_what_it_says():
         no_faults()
 
 
+def a_visit_after_the_time_is_over_says_what_becomes_of_the_article():
+    """An article that may be sold never belongs to the shop, and no day is better than another; one that passes can't be
+    fetched on any day after that."""
+    with Pages() as pages:
+        make_book(pages, terms=False)
+        fill_book(pages, book_text([
+            ("Coat", "A1", 10000, ago(400), "", "no"), ("Pin", "A2", 7000, ago(30), "", "no"),
+        ]))
+        day = today() + datetime.timedelta(days=2)
+        show_receipt(pages, f"1-{secret_of(1)}&grace=0&terms=2667.0.0")
+        browser.says("You can still fetch it, until the shop sells it", "#cards")
+        command("Ask for a time to come", "Ask for this time", day=str(day), window="3")
+        browser.says("The article may be sold before you come", "dialog")
+        expect("no word of passing", "belong" in browser.text("dialog"), False)
+        browser.press("dialog button", "Ask for this day all the same")
+        browser.says(f"Asked for {in_words(day)}", "#cards")
+        end = six_months_after(ago(30))
+        after = end + datetime.timedelta(days=1)
+        show_receipt(pages, f"2-{secret_of(2)}&grace=0&terms=2667.0.0")
+        browser.says("Still yours until", "#cards")
+        command("Ask for a time to come", "Ask for this time", day=str(after), window="3")
+        browser.says(
+            f"From {in_words(after)} on the article belongs to the pawnbroker. Choose a day up to {in_words(end)}.",
+            ".action[open]",
+        )
+        expect("no question", browser.run("return document.querySelector('dialog')"), None)
+        show_receipt(pages, f"2-{secret_of(2)}")
+        browser.says("Still yours until", "#cards")
+        command("Ask for a time to come", "Ask for this time", day=str(after), window="3")
+        browser.says("the article may belong to the shop.", "dialog")
+        browser.says("If your paper says that it has days of grace, they last five days more.", "dialog")
+        browser.press("dialog button", "Choose another day")
+        no_faults()
+
+
 def the_pledge_of_a_link_is_the_one_that_is_seen():
     """A tab that has other receipts shows the pledges one under the other, and the new one last."""
     with a_pledge_by_its_receipt() as (pages, receipt):
@@ -282,5 +317,6 @@ main(
         what_is_scanned_while_a_day_or_a_box_has_the_focus_is_found,
         a_link_that_comes_after_its_receipt_says_what_it_says, a_pawnor_who_comes_back_sees_what_the_shop_decided,
         the_pledge_of_a_link_is_the_one_that_is_seen,
+        a_visit_after_the_time_is_over_says_what_becomes_of_the_article,
     ),
 )

@@ -41,13 +41,12 @@ class Desk {
    * on the page; `wanted` the number that was asked for last; `sought` the one that the form of the search found;
    * `lostRedemptions`, by their receipts, what was paid by redemptions whose replies were lost; `saidOn` the day on which
    * the notice was filled; `ofReceipt` what was said last of a receipt that was found; `readAt` when the statement was
-   * read.
+   * read; `saidOld` what was said where it could not be read again.
    */
   forget() {
     Object.assign(this, {
       statement: null, drawn: null, paper: null, fresh: null, message: null, isDrawnByBook: false, wanted: null,
-      sought: null, lostRedemptions: new Map(), saidOn: null, ofReceipt: null, readAt: 0,
-      saidOld: "",
+      sought: null, lostRedemptions: new Map(), saidOn: null, ofReceipt: null, readAt: 0, saidOld: "",
     });
     tell(this.notice, "");
   }

@@ -1,12 +1,12 @@
 /** What a pawnor may do with a pledge: ask for a time to come, take that back, pay a part, redeem. */
 import { refusalOf } from "../shared/codes.js";
-import { inWords, seenFrom, today } from "../shared/days.js";
+import { inWords, plusDays, seenFrom, today } from "../shared/days.js";
 import { make } from "../shared/dom.js";
 import { CHANGED, Lost, lookFirst, Outdated } from "../shared/faults.js";
 import { buttons, field, fold } from "../shared/forms.js";
 import { inPounds, readPounds } from "../shared/money.js";
 import { readUnrefused, recordEntry } from "../shared/payments.js";
-import { lastSafeDay } from "../shared/period.js";
+import { graceEnd, lastSafeDay, willPass } from "../shared/period.js";
 import { confirmed, NOTHING_DONE } from "../shared/questions.js";
 import { reckoningForm } from "../shared/reckoning.js";
 import { isOpen, isToCome } from "../shared/statuses.js";
@@ -22,19 +22,29 @@ const foldOf = (card, title, parts, act) =>
 /** What is said where the answer to a question was no. Nothing was changed, so nothing is looked at. */
 const NOT_NOW = { ...NOTHING_DONE, look: false };
 
-/** A visit after the period's end and its days of grace may come too late: it is asked about. */
-function agreedToLate({ statement, known }, day) {
-  const { ends, status } = statement;
-  const last = lastSafeDay({ ends, fiveDays: known.fiveDays ?? status === "grace" });
-  const isGraceKnown = known.fiveDays !== null || status !== "inside";
+/**
+ * A visit after the period's end and its days of grace may come too late: it is asked about. Throws where the article is
+ * the pawnbroker's by then.
+ */
+function agreedToLate(statement, { fiveDays }, day) {
+  const { ends, status, credit } = statement;
+  const last = lastSafeDay({ ends, fiveDays: fiveDays ?? status === "grace" });
   if (day <= last) return true;
+  const isGraceKnown = fiveDays !== null || status !== "inside";
+  const passes = willPass({ ...statement, pence: credit });
+  const safe = isGraceKnown ? last : graceEnd(ends);
+  if (passes && day > safe) throw new Unreadable(
+    `From ${inWords(plusDays(safe, 1))} on the article belongs to the pawnbroker. Choose a day up to ${inWords(last)}.`, "day",
+  );
+  const becomes = passes ? "belong to the shop" : "have been sold";
   return confirmed({
     title: "Come after the time is over?", about: statement,
-    lines: [
-      `The time of this pledge is over after ${inWords(last)}. On ${inWords(day)} the article may have been sold, `
-        + `or belong to the shop.`,
-      isGraceKnown ? null : "If your paper says that it has days of grace, they last five days more.",
-    ],
+    lines: status === "realisable"
+      ? ["The article may be sold before you come: the time of this pledge is over."]
+      : [
+        `The time of this pledge is over after ${inWords(last)}. On ${inWords(day)} the article may ${becomes}.`,
+        isGraceKnown ? null : "If your paper says that it has days of grace, they last five days more.",
+      ],
     yes: "Ask for this day all the same", no: "Choose another day",
   });
 }
@@ -68,7 +78,7 @@ async function askForVisit(card, { day, window }) {
   if (!day) throw new Unreadable("Choose a day.", "day");
   if (day < today()) throw new Unreadable("That day is over. Choose a later one.", "day");
   if (!await agreedToOver(day, Number(window))) return NOT_NOW;
-  if (!await agreedToLate(card, day)) return NOT_NOW;
+  if (!await agreedToLate(await lookFirst(card.read()), card.known, day)) return NOT_NOW;
   const now = await lookFirst(card.read());
   const isSame = now.booking?.day === day && now.booking.window === Number(window);
   if (!isSame && !await agreedToGiveUp(now, {
