@@ -45,6 +45,44 @@ def a_running_account_says_that_nothing_is_paid_out_yet():
         no_faults()
 
 
+def a_long_question_is_seen_from_its_beginning():
+    """On a small screen its title and its buttons are in view, and the text between them can be moved."""
+    with an_open_book():
+        for width, height in ((853, 533), (320, 568)):
+            browser.devtools(
+                "Emulation.setDeviceMetricsOverride", width=width, height=height, deviceScaleFactor=1, mobile=width < 600,
+            )
+            part("take")
+            browser.fill(
+                "#taking", article="Gold chain with a long description of its stones, 18 carat", ref="B-2026-0001",
+                amount="12000", kind="running", agreed="2199-12-31",
+            )
+            browser.press("#taking button", "Take the pledge")
+            browser.says("That is a large sum", "dialog")
+            expect(f"what is in view at {width}", browser.run(IN_VIEW), [True] * 4)
+            browser.press("dialog button", "Not now")
+            browser.says("Nothing was done.", "#taking .notice")
+            browser.rests()
+        browser.resize(390)
+        no_faults()
+
+
+# Whether the title, the first line and the buttons of a question are in view, and whether the rest can be reached.
+IN_VIEW = """
+const dialog = document.querySelector("dialog");
+const { top, bottom } = dialog.getBoundingClientRect();
+const isSeen = (one) => {
+  const its = one.getBoundingClientRect();
+  return its.top >= Math.max(0, top) && its.bottom <= Math.min(innerHeight, bottom);
+};
+const text = dialog.querySelector("h2 + div");
+const seen = [dialog.querySelector("h2"), text.querySelector("p:not(:empty)"), dialog.querySelector(".buttons")].map(isSeen);
+text.focus();
+text.lastChild.scrollIntoView();
+return [...seen, isSeen(text.lastChild) && (text.scrollTop === 0 || document.activeElement === text)];
+"""
+
+
 def terms_that_were_added_in_the_morning_are_asked_about():
     """The book in the page is read every ten minutes, and its terms each time that a pledge is to be taken."""
     with an_open_book() as pages:
@@ -309,8 +347,8 @@ def a_pawnor_who_comes_back_sees_what_the_shop_decided():
 main(
     (),
     (
-        a_running_account_says_that_nothing_is_paid_out_yet, terms_that_were_added_in_the_morning_are_asked_about,
-        a_pawnor_redeems_at_the_shop,
+        a_running_account_says_that_nothing_is_paid_out_yet, a_long_question_is_seen_from_its_beginning,
+        terms_that_were_added_in_the_morning_are_asked_about, a_pawnor_redeems_at_the_shop,
         a_payment_of_all_that_is_owed_does_not_redeem_the_pledge, the_till_says_what_of_a_sale_is_the_pawnors,
         a_pledge_that_is_left_open_is_read_again, a_receipt_that_is_cut_is_counted_where_it_is_redeemed,
         what_is_scanned_after_a_search_that_failed_takes_its_place,

@@ -98,14 +98,14 @@ function askOf({ article, ref, kind, pence, agreed, five_days: fiveDays }, terms
     lines: [
       isNewDay ? NEW_DAY : null,
       [foreign(article), ", reference ", foreign(ref), "."],
-      isFixed ? `${inPounds(pence)} is lent.` : `A running account up to ${inPounds(pence)}. ${PAID_OUT}`,
       `The period ends on ${inWords(end)}, with ${fiveDays ? "five" : "no"} days of grace.`,
       isLong(six, end) ? loudLine("That is more than a year after the six months: look at the year again.") : null,
+      isFixed ? `${inPounds(pence)} is lent.` : `A running account up to ${inPounds(pence)}. ${PAID_OUT}`,
+      pence >= VERY_LARGE ? "That is a large sum: look at it again." : null,
       terms ? `Interest by version ${terms.version} of the terms: ${termsInWords(terms)}.` : null,
       agreed && agreed <= six
         ? `The agreed end, ${inShort(agreed)}, counts for nothing: six months run to ${inShort(six)}.`
         : null,
-      pence >= VERY_LARGE ? "That is a large sum: look at it again." : null,
       "It can’t be changed or taken back. If it is a mistake, redeem it the same day by its receipt.",
     ],
     yes: `Take it${amount}`, no: "Not now",
