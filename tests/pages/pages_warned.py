@@ -199,6 +199,41 @@ def a_pledge_that_is_left_open_is_read_again():
         browser.until("return !document.querySelector('#commands .notice').textContent", "no word of it any more")
 
 
+LOST = "The reply was lost, but the pledge, read again, shows that it was done. "
+
+
+def what_a_look_shows_after_a_lost_reply_is_said():
+    """Of a hold and of a decision on a visit: the clerk is not sent to look at what is on the page."""
+    day = today() + datetime.timedelta(days=3)
+    with a_pledge_at_the_counter() as (pages, receipt):
+        for target, title, button, says in (
+            ("/hold", "Put on hold", "Hold", "The pledge is on hold: it can’t be redeemed."),
+            ("/release", "Release the hold", "Release", "The hold is released."),
+        ):
+            with pages.relay.loses(target, times=10):
+                command(title, button)
+                browser.says(LOST + says, "#commands", patience=30)
+        pages.session.bearer(receipt, "POST", "/books/7/held/ask", {"day": str(day), "window": 3})
+        find("1")
+        with pages.relay.loses("/decide", times=10):
+            command("Visit", "Confirm")
+            browser.says(LOST + f"The visit on {in_words(day)}, 10:30 to 11:00 is confirmed.", "#commands", patience=30)
+
+
+def what_a_look_shows_the_pawnor_after_a_lost_reply_is_said():
+    day = today() + datetime.timedelta(days=3)
+    with a_pledge_by_its_receipt() as (pages, receipt):
+        pages.session.bearer(receipt, "POST", "/books/7/held/ask", {"day": str(day), "window": 3})
+        browser.press("#look-again")
+        browser.says("10:30 to 11:00: asked for", "#cards")
+        with pages.relay.loses("/cancel", times=10):
+            command("Cancel the visit", "Cancel the visit")
+            browser.says(LOST + f"The visit is cancelled: {in_words(day)}, 10:30 to 11:00.", "#cards", patience=30)
+        with pages.relay.loses("/ask", times=10):
+            command("Ask for a time to come", "Ask for this time", day=str(day), window="4")
+            browser.says(LOST + f"Asked for {in_words(day)}, 11:00 to 11:30.", "#cards", patience=30)
+
+
 def a_receipt_that_is_cut_is_counted_where_it_is_redeemed():
     """As where it is found."""
     with a_pledge_at_the_counter() as (_, receipt):
@@ -350,7 +385,8 @@ main(
         a_running_account_says_that_nothing_is_paid_out_yet, a_long_question_is_seen_from_its_beginning,
         terms_that_were_added_in_the_morning_are_asked_about, a_pawnor_redeems_at_the_shop,
         a_payment_of_all_that_is_owed_does_not_redeem_the_pledge, the_till_says_what_of_a_sale_is_the_pawnors,
-        a_pledge_that_is_left_open_is_read_again, a_receipt_that_is_cut_is_counted_where_it_is_redeemed,
+        a_pledge_that_is_left_open_is_read_again, what_a_look_shows_after_a_lost_reply_is_said,
+        what_a_look_shows_the_pawnor_after_a_lost_reply_is_said, a_receipt_that_is_cut_is_counted_where_it_is_redeemed,
         what_is_scanned_after_a_search_that_failed_takes_its_place,
         what_is_scanned_while_a_day_or_a_box_has_the_focus_is_found,
         a_link_that_comes_after_its_receipt_says_what_it_says, a_pawnor_who_comes_back_sees_what_the_shop_decided,

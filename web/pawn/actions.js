@@ -2,7 +2,7 @@
 import { refusalOf } from "../shared/codes.js";
 import { inWords, plusDays, seenFrom, today } from "../shared/days.js";
 import { make } from "../shared/dom.js";
-import { CHANGED, Lost, lookFirst, Outdated } from "../shared/faults.js";
+import { CHANGED, Lost, lookFirst, orSeen, Outdated } from "../shared/faults.js";
 import { buttons, field, fold } from "../shared/forms.js";
 import { inPounds, readPounds } from "../shared/money.js";
 import { readUnrefused, recordEntry } from "../shared/payments.js";
@@ -85,11 +85,19 @@ async function askForVisit(card, { day, window }) {
     title: "Give up the confirmed visit?", yes: "Ask for the new time",
     line: "It is given up as soon as you ask for another time, and the shop may refuse the new one.",
   })) return NOT_NOW;
-  const { said } = await card.ask("/ask", { day, window: Number(window) }, true);
-  const when = `${inWords(said.day)}, ${windowInWords(said.window)}`;
-  if (said.booking === "confirmed") return `The shop has confirmed this time already: ${when}.`;
-  return `Asked for ${when}. The shop says yes or no; look here again.`;
+  const wanted = { day, window: Number(window) };
+  return orSeen(
+    card.ask("/ask", wanted, true).then(({ said }) => askedInWords({ ...said, state: said.booking })), () => card.read(),
+    ({ booking }) => (isToCome(booking) && booking.day === day && booking.window === wanted.window
+      ? askedInWords(booking) : null),
+  );
 }
+
+const visitInWords = ({ day, window }) => `${inWords(day)}, ${windowInWords(window)}`;
+
+const askedInWords = (visit) => (visit.state === "confirmed"
+  ? `The shop has confirmed this time already: ${visitInWords(visit)}.`
+  : `Asked for ${visitInWords(visit)}. The shop says yes or no; look here again.`);
 
 function leadOf(statement) {
   if (!stands(statement)) return "Say when you would like to fetch it. The shop confirms it or not.";
@@ -125,8 +133,11 @@ function cancelFold(card) {
       title: "Cancel the confirmed visit?", yes: "Cancel the visit",
       line: "Once it is cancelled, the shop may give its time to another.",
     })) return NOT_NOW;
-    const { said } = await card.ask("/cancel", undefined, true);
-    return `The visit is cancelled: ${inWords(said.day)}, ${windowInWords(said.window)}.`;
+    const told = (visit) => `The visit is cancelled: ${visitInWords(visit)}.`;
+    return orSeen(
+      card.ask("/cancel", undefined, true).then(({ said }) => told(said)), () => card.read(),
+      ({ booking: after }) => (after?.state === "cancelled" ? told(after) : null),
+    );
   });
 }
 
