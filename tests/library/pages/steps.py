@@ -17,7 +17,7 @@ WEB = os.path.join(TOP, "web")
 WRONG_SECRET = "00000000-0000-4000-8000-000000000000"
 SHOP = "High Street Pawnbrokers"
 # A test takes some seconds on a machine that is idle, and fails after so many.
-EACH = 150
+EACH = 300
 browser = Browser()
 
 
