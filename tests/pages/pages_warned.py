@@ -295,6 +295,19 @@ def a_link_that_comes_after_its_receipt_says_what_it_says():
         no_faults()
 
 
+def what_an_act_reports_stays_where_one_came_back_during_its_question():
+    """A pawnor rings the shop while the question is open, and comes back to it."""
+    with a_pledge_by_its_receipt() as (_, _):
+        command("Record a part payment", "Record the payment", amount="10")
+        browser.element("dialog button", "Yes, £10.00 was received")
+        browser.run(COME_BACK, 61_000)
+        browser.press("dialog button", "Yes, £10.00 was received")
+        browser.says("£90.00 owed today", "#cards")
+        browser.rests()
+        browser.says("Repaid: £10.00", "#cards .pledge > .notice")
+        no_faults()
+
+
 def a_visit_after_the_time_is_over_says_what_becomes_of_the_article():
     """An article that may be sold never belongs to the shop, and no day is better than another; one that passes can't be
     fetched on any day after that."""
@@ -390,7 +403,7 @@ main(
         what_is_scanned_after_a_search_that_failed_takes_its_place,
         what_is_scanned_while_a_day_or_a_box_has_the_focus_is_found,
         a_link_that_comes_after_its_receipt_says_what_it_says, a_pawnor_who_comes_back_sees_what_the_shop_decided,
-        the_pledge_of_a_link_is_the_one_that_is_seen,
+        what_an_act_reports_stays_where_one_came_back_during_its_question, the_pledge_of_a_link_is_the_one_that_is_seen,
         a_visit_after_the_time_is_over_says_what_becomes_of_the_article,
     ),
 )

@@ -40,6 +40,7 @@ export class Card {
     this.learn(one);
     // The act that is under way, until its result is reported.
     this.acting = Promise.resolve();
+    this.isActing = false;
     // Whether its receipt was found to open nothing, and has opened nothing before.
     this.neverOpened = false;
     // Whether the page says, in place of the pledge, that the receipt opens nothing.
@@ -211,7 +212,8 @@ export class Card {
    * refused.
    */
   perform(act, place) {
-    this.acting = this.performNow(act, place);
+    this.isActing = true;
+    this.acting = this.performNow(act, place).finally(() => { this.isActing = false; });
     return this.acting;
   }
 

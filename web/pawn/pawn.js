@@ -109,20 +109,23 @@ function tick() {
   look(cards);
 }
 
-function refresh() {
+function refresh(some) {
   lookedAt = Date.now();
-  return inTurn(cards.map((card) => () => card.refresh()));
+  return inTurn(some.map((card) => () => card.refresh()));
 }
 
-/** The shop may have decided on a visit, or received a payment, since the tab was left. */
+/**
+ * The shop may have decided on a visit, or received a payment, since the tab was left. An act that is under way reads its
+ * pledge itself, and what it reports stays.
+ */
 function comeBack() {
   tick();
-  if (!document.hidden && Date.now() - lookedAt >= LEFT) refresh();
+  if (!document.hidden && Date.now() - lookedAt >= LEFT) refresh(cards.filter(({ isActing }) => !isActing));
 }
 
 async function lookAgain() {
   byId("look-again").disabled = true;
-  await refresh();
+  await refresh(cards);
   byId("look-again").disabled = false;
 }
 
