@@ -3,7 +3,7 @@ import { clockOf } from "../shared/clock.js";
 import { refusalOf } from "../shared/codes.js";
 import { inShort, today } from "../shared/days.js";
 import { byId, foreign, make } from "../shared/dom.js";
-import { Outdated, Refused } from "../shared/faults.js";
+import { CHANGED, Outdated, Refused } from "../shared/faults.js";
 import {
   fieldsOf, foldOf, makeNotice, outcomeOf, redrawFolds, run, sayAfter, tell, tellLater,
 } from "../shared/forms.js";
@@ -257,9 +257,12 @@ class Desk {
     this.tellOld(null);
     this.readAt = Date.now();
     if (JSON.stringify(found) === JSON.stringify(statement)) return;
-    this.clearOld();
     this.fresh = found;
     await this.look(number);
+    // What was said or printed before may name another sum, or another end.
+    byId("new-receipt").replaceChildren();
+    tell(this.notice, CHANGED);
+    this.saidOn = today();
   }
 
   /** Takes away what was said on another day, or of a receipt: it names what was owed then. */
