@@ -17,7 +17,10 @@ const real = Date.now;
 window.Date.now = () => real() + arguments[0];
 document.dispatchEvent(new Event("visibilitychange"));
 """
-AT_THE_SHOP = "Do it only at the shop, when you are given the article: without this receipt you can’t show that it is yours."
+AT_THE_SHOP = (
+    "Do it only at the shop, when you are given the article: without this receipt you can’t show that it is yours."
+)
+TYPED = "return document.querySelector('.action[open] [name=amount]').value"
 
 
 def a_running_account_says_that_nothing_is_paid_out_yet():
@@ -50,7 +53,8 @@ def a_long_question_is_seen_from_its_beginning():
     with an_open_book():
         for width, height in ((853, 533), (320, 568)):
             browser.devtools(
-                "Emulation.setDeviceMetricsOverride", width=width, height=height, deviceScaleFactor=1, mobile=width < 600,
+                "Emulation.setDeviceMetricsOverride", width=width, height=height, deviceScaleFactor=1,
+                mobile=width < 600,
             )
             part("take")
             browser.fill(
@@ -76,7 +80,8 @@ const isSeen = (one) => {
   return its.top >= Math.max(0, top) && its.bottom <= Math.min(innerHeight, bottom);
 };
 const text = dialog.querySelector("h2 + div");
-const seen = [dialog.querySelector("h2"), text.querySelector("p:not(:empty)"), dialog.querySelector(".buttons")].map(isSeen);
+const first = text.querySelector("p:not(:empty)");
+const seen = [dialog.querySelector("h2"), first, dialog.querySelector(".buttons")].map(isSeen);
 text.focus();
 text.lastChild.scrollIntoView();
 return [...seen, isSeen(text.lastChild) && (text.scrollTop === 0 || document.activeElement === text)];
@@ -160,8 +165,8 @@ def the_till_says_what_of_a_sale_is_the_pawnors():
         part("till")
         browser.says("£240.00", "#till-lists .sums")
         browser.says(
-            "Of the proceeds £50.00 is surplus, which is the pawnors’. The book does not record when you pay it to them: "
-            "what you have paid of it is no longer in the drawer.", "#till-lists .sums",
+            "Of the proceeds £50.00 is surplus, which is the pawnors’. The book does not record when you pay it to "
+            "them: what you have paid of it is no longer in the drawer.", "#till-lists .sums",
         )
         browser.says("£50.00 surplus", "#till-lists")
         no_faults()
@@ -268,8 +273,8 @@ def what_is_scanned_while_a_day_or_a_box_has_the_focus_is_found():
     """No text can be typed there: the scan would change the day, or do nothing at all."""
     with a_pledge_at_the_counter() as (_, receipt):
         for name, field in (
-            ("today", "#sheet-of"), ("all", "#search-group"), ("take", "#taking [name=five]"), ("take", "#taking [name=kind]"),
-            ("till", "#till-of"), ("take", "#take-agreed"),
+            ("today", "#sheet-of"), ("all", "#search-group"), ("take", "#taking [name=five]"),
+            ("take", "#taking [name=kind]"), ("till", "#till-of"), ("take", "#take-agreed"),
         ):
             part(name)
             browser.element(field)
@@ -316,8 +321,8 @@ def what_an_act_reports_stays_where_one_came_back_during_its_question():
 
 
 def a_visit_after_the_time_is_over_says_what_becomes_of_the_article():
-    """An article that may be sold never belongs to the shop, and no day is better than another; one that passes can't be
-    fetched on any day after that."""
+    """An article that may be sold never belongs to the shop, and no day is better than another; one that passes can't
+    be fetched on any day after that."""
     with Pages() as pages:
         make_book(pages, terms=False)
         fill_book(pages, book_text([
@@ -381,7 +386,7 @@ def a_pawnor_who_comes_back_sees_what_the_shop_decided():
         expect("confirmed", decided[0], 200)
         browser.run(COME_BACK, 120_000)
         browser.says("10:30 to 11:00: confirmed", "#cards")
-        expect("what was typed", browser.run("return document.querySelector('.action[open] [name=amount]').value"), "12.34")
+        expect("what was typed", browser.run(TYPED), "12.34")
         no_faults()
         with browser.without_a_line():
             browser.run(COME_BACK, 120_000)
@@ -391,9 +396,7 @@ def a_pawnor_who_comes_back_sees_what_the_shop_decided():
             browser.until("return !document.querySelector('#look-again').disabled", "the end of the look")
             browser.says(OLD, "#cards")
             browser.says("£100.00 owed today", "#cards")
-            expect(
-                "what was typed", browser.run("return document.querySelector('.action[open] [name=amount]').value"), "12.34",
-            )
+            expect("what was typed", browser.run(TYPED), "12.34")
         browser.press("#look-again")
         browser.rests()
         expect("it was read", OLD in browser.text("#cards"), False)

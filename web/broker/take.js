@@ -267,7 +267,7 @@ export function setUpTaking() {
   });
 }
 
-/** Shows the form, and reads the terms anew if they are old: another till may have added some. Nothing waits for that. */
+/** Shows the form. Terms that are old are read anew, as another till may have added some; nothing waits for that. */
 export function openTaking() {
   showTaking();
   if (ledger.head && performance.now() - ledger.head.began > OLD_TERMS) ledger.readHead().then(showTaking, () => {});

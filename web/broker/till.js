@@ -143,8 +143,9 @@ function drawerLine(till, day) {
 }
 
 /** What is said where a sale left a surplus: no entry of the book says that it was paid to the pawnor. */
-const surplusLine = ({ surplus }) => (surplus === 0 ? "" : ` Of the proceeds ${inPounds(surplus)} is surplus, which is the `
-  + "pawnors’. The book does not record when you pay it to them: what you have paid of it is no longer in the drawer.");
+const surplusLine = ({ surplus }) => (surplus === 0 ? ""
+  : ` Of the proceeds ${inPounds(surplus)} is surplus, which is the pawnors’. The book does not record when you pay it `
+    + "to them: what you have paid of it is no longer in the drawer.");
 
 /** The sums in a card: what came in, what went out, and by how much the drawer changed. */
 function sumsCard(till, day) {

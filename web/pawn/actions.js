@@ -23,8 +23,8 @@ const foldOf = (card, title, parts, act) =>
 const NOT_NOW = { ...NOTHING_DONE, look: false };
 
 /**
- * A visit after the period's end and its days of grace may come too late: it is asked about. Throws where the article is
- * the pawnbroker's by then.
+ * A visit after the period's end and its days of grace may come too late: it is asked about. Throws where the article
+ * is the pawnbroker's by then.
  */
 function agreedToLate(statement, { fiveDays }, day) {
   const { ends, status, credit } = statement;
@@ -34,7 +34,9 @@ function agreedToLate(statement, { fiveDays }, day) {
   const passes = willPass({ ...statement, pence: credit });
   const safe = isGraceKnown ? last : graceEnd(ends);
   if (passes && day > safe) throw new Unreadable(
-    `From ${inWords(plusDays(safe, 1))} on the article belongs to the pawnbroker. Choose a day up to ${inWords(last)}.`, "day",
+    `From ${inWords(plusDays(safe, 1))} on the article belongs to the pawnbroker. `
+      + `Choose a day up to ${inWords(last)}.`,
+    "day",
   );
   const becomes = passes ? "belong to the shop" : "have been sold";
   return confirmed({
@@ -87,7 +89,8 @@ async function askForVisit(card, { day, window }) {
   })) return NOT_NOW;
   const wanted = { day, window: Number(window) };
   return orSeen(
-    card.ask("/ask", wanted, true).then(({ said }) => askedInWords({ ...said, state: said.booking })), () => card.read(),
+    card.ask("/ask", wanted, true).then(({ said }) => askedInWords({ ...said, state: said.booking })),
+    () => card.read(),
     ({ booking }) => (isToCome(booking) && booking.day === day && booking.window === wanted.window
       ? askedInWords(booking) : null),
   );
@@ -141,8 +144,8 @@ function cancelFold(card) {
   });
 }
 
-const ALL_PAID = "That is all that is owed, but the pledge stays open after it. To have the article, choose “Redeem” at the "
-  + "shop in place of this.";
+const ALL_PAID = "That is all that is owed, but the pledge stays open after it. To have the article, choose “Redeem” "
+  + "at the shop in place of this.";
 
 async function repay(card, { amount }) {
   const pence = readPounds(amount);
@@ -185,8 +188,8 @@ async function readRedeemable(card) {
 }
 
 /** The receipt is worth nothing after a redemption, so at home it would be given away for nothing. */
-const AT_THE_SHOP = "Do it only at the shop, when you are given the article: without this receipt you can’t show that it "
-  + "is yours.";
+const AT_THE_SHOP = "Do it only at the shop, when you are given the article: without this receipt you can’t show that "
+  + "it is yours.";
 const NOTHING_OWED = "Nothing is owed today.";
 
 async function redeem(card) {

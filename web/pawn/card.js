@@ -135,7 +135,8 @@ export class Card {
       tell(this.notice, "");
     } catch (fault) {
       if (isFailedLook(fault)) {
-        tell(this.notice, `It could not be read again just now: what is shown was read at ${clockOf(this.readAt)}.`, "bad");
+        const when = clockOf(this.readAt);
+        tell(this.notice, `It could not be read again just now: what is shown was read at ${when}.`, "bad");
       } else this.showFault(fault);
     }
     this.changed();

@@ -115,8 +115,8 @@ function refresh(some) {
 }
 
 /**
- * The shop may have decided on a visit, or received a payment, since the tab was left. An act that is under way reads its
- * pledge itself, and what it reports stays.
+ * The shop may have decided on a visit, or received a payment, since the tab was left. An act that is under way reads
+ * its pledge itself, and what it reports stays.
  */
 function comeBack() {
   tick();
