@@ -6,8 +6,9 @@ from tests.library.checks import expect
 from tests.library.dates import six_months_after, today
 from tests.library.pages.browser import Pages
 from tests.library.pages.steps import (
-    a_pledge_at_the_counter, a_pledge_by_its_receipt, ago, an_open_book, book_text, browser, command, fill_book, find,
-    in_words, main, make_book, no_faults, open_book, part, secret_of, show_receipt, the_book_is_read, unfold,
+    WRONG_SECRET, a_pledge_at_the_counter, a_pledge_by_its_receipt, ago, an_open_book, book_text, browser, command,
+    fill_book, find, in_words, main, make_book, no_faults, open_book, part, secret_of, show_receipt, the_book_is_read,
+    unfold,
 )
 
 PAID_OUT = "Nothing is paid out yet: record each amount that you pay out as a drawing"
@@ -211,6 +212,20 @@ def a_pledge_that_is_left_open_is_read_again():
         browser.until("return !document.querySelector('#commands .notice').textContent", "no word of it any more")
 
 
+def a_warning_of_a_dead_receipt_stays_where_its_pledge_is_read_again():
+    with a_pledge_at_the_counter() as (pages, receipt):
+        the_book_is_read()
+        find(f"1-{WRONG_SECRET}")
+        browser.says("This receipt is not live", "#commands > .notice")
+        browser.rests()
+        pages.session.bearer(receipt, "POST", "/books/7/held/repay", {"pence": 1000, "seq": 1})
+        browser.run(COME_BACK, 61_000)
+        browser.says("£90.00 owed today", "#statement")
+        browser.rests()
+        browser.says("This receipt is not live", "#commands > .notice")
+        no_faults()
+
+
 LOST = "The reply was lost, but the pledge, read again, shows that it was done. "
 
 
@@ -408,7 +423,8 @@ main(
         a_running_account_says_that_nothing_is_paid_out_yet, a_long_question_is_seen_from_its_beginning,
         terms_that_were_added_in_the_morning_are_asked_about, a_pawnor_redeems_at_the_shop,
         a_payment_of_all_that_is_owed_does_not_redeem_the_pledge, the_till_says_what_of_a_sale_is_the_pawnors,
-        a_pledge_that_is_left_open_is_read_again, what_a_look_shows_after_a_lost_reply_is_said,
+        a_pledge_that_is_left_open_is_read_again, a_warning_of_a_dead_receipt_stays_where_its_pledge_is_read_again,
+        what_a_look_shows_after_a_lost_reply_is_said,
         what_a_look_shows_the_pawnor_after_a_lost_reply_is_said, a_receipt_that_is_cut_is_counted_where_it_is_redeemed,
         what_is_scanned_after_a_search_that_failed_takes_its_place,
         what_is_scanned_while_a_day_or_a_box_has_the_focus_is_found,

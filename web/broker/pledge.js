@@ -259,8 +259,9 @@ class Desk {
     if (JSON.stringify(found) === JSON.stringify(statement)) return;
     this.fresh = found;
     await this.look(number);
-    // What was said or printed before may name another sum, or another end.
+    // What was said or printed before may name another sum, or another end; a warning stays.
     byId("new-receipt").replaceChildren();
+    if (this.notice.classList.contains("bad")) return;
     tell(this.notice, CHANGED);
     this.saidOn = today();
   }
