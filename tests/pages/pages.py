@@ -231,6 +231,6 @@ return [field.name, field.ariaInvalid, said.textContent, Math.abs(apart) < 200];
 
 
 main(
-    300, (),
+    (),
     (by_the_keyboard_alone, screens_of_each_width_light_and_dark, what_nginx_sends_and_notes, starts_that_are_refused),
 )

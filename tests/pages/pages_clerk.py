@@ -768,7 +768,7 @@ def an_agreed_end_of_a_wrong_year_is_asked_about_loudly():
 
 
 main(
-    520, (),
+    (),
     (
         terms_are_asked_for_before_the_form_is_filled, terms_that_another_till_put_are_seen,
         a_key_is_read_in_each_of_its_forms, a_sum_that_is_no_longer_owed_has_the_pledge_shown_anew,

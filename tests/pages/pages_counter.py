@@ -488,7 +488,7 @@ def the_book_is_read_anew():
 
 
 main(
-    300, (),
+    (),
     (
         a_dead_receipt_is_not_printed_as_new, a_receipt_that_dies_while_it_is_taken_is_not_printed,
         what_was_done_is_told_where_it_can_no_longer_be_looked_at, a_receipt_has_the_terms_of_its_pledge,

@@ -239,7 +239,7 @@ def the_till_tells_it():
 
 
 main(
-    290, (),
+    (),
     (
         references_are_found, what_was_typed_for_one_pledge_is_not_carried_to_another, all_entries_can_be_seen,
         back_reload_and_today, what_is_typed_is_looked_at,

@@ -20,7 +20,7 @@ from tests.library.hosting import NAME, Hosted, Store, steady_port
 from tests.library.keys import BROKER
 from tests.library.pages.large_book import filled
 from tests.library.pages.stand_in import Service
-from tests.library.pages.steps import browser, main, part
+from tests.library.pages.steps import EACH, browser, main, part
 from tests.library.paths import TOP
 
 COUNT = 20_000
@@ -277,4 +277,4 @@ def nothing_waits_for_the_whole_book_over_tls():
 
 
 browser.more.append(f"--ignore-certificate-errors-spki-list={make_key()}")
-main(100 + 60 * TURNS, (), (the_first_screens_are_soon, nothing_waits_for_the_whole_book_over_tls))
+main((), (the_first_screens_are_soon, nothing_waits_for_the_whole_book_over_tls), most=EACH + 60 * TURNS)

@@ -148,4 +148,4 @@ def a_book_of_20000():
     a_book_of(20000)
 
 
-main(170, (), (a_book_of_2000, a_book_of_20000))
+main((), (a_book_of_2000, a_book_of_20000))

@@ -129,7 +129,7 @@ def a_running_account_and_what_is_refused():
         part("take")
         browser.fill("#taking", article="Silver teapot", ref="R/1", kind="running", amount="1,000.00", five="yes")
         browser.press("#taking button", "Take the pledge")
-        browser.press("dialog button", "Take it for £1,000.00")
+        browser.press("dialog button", "Take it, up to £1,000.00")
         browser.says("Credit up to", ".paper")
         receipt = browser.text(".paper .secret").strip()
         find("R/1")
@@ -346,7 +346,7 @@ def a_service_that_is_down():
 
 
 main(
-    300, (),
+    (),
     (
         the_life_of_a_pledge, a_running_account_and_what_is_refused, a_lost_receipt_is_replaced,
         wrong_keys_and_receipts, a_text_of_markup_stays_a_text, what_is_due_and_the_book_as_a_file,

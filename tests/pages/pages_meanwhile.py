@@ -740,7 +740,7 @@ def a_day_that_cant_be_read_shows_no_other():
 
 
 main(
-    480, (),
+    (),
     (
         an_act_is_done_on_the_pledge_on_which_it_was_pressed, what_came_of_an_act_is_said_in_another_part,
         a_book_that_was_opened_meanwhile_gets_no_act, a_book_that_was_opened_meanwhile_gets_no_pledge,

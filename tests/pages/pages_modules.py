@@ -373,7 +373,7 @@ def each_refusal_has_a_sentence():
 # The time of the tests does not count what is installed for them.
 provide(READER)
 main(
-    300, (each_refusal_has_a_sentence, no_text_becomes_code_or_markup),
+    (each_refusal_has_a_sentence, no_text_becomes_code_or_markup),
     (
         days_and_amounts_as_people_write_them, statements_are_read, sheets_are_read, books_of_both_versions_are_read,
         how_a_pledge_stands, receipts_references_and_terms, codes_of_links, links_hold_what_there_is_room_for,

@@ -169,7 +169,7 @@ def a_clock_that_is_set_while_the_page_is_open():
 # The time of the tests does not count what is installed for them.
 provide(PARSER)
 main(
-    200, (nothing_later_is_used, the_scripts_are_of_their_level),
+    (nothing_later_is_used, the_scripts_are_of_their_level),
     (
         a_page_that_cant_start_says_so, a_press_before_the_script_is_held, a_clock_that_is_wrong_decides_nothing,
         a_clock_that_is_set_while_the_page_is_open,

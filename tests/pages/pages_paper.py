@@ -232,7 +232,7 @@ for what, reader in (("the text on the paper", TEXTS), ("what its square code sa
     if missing(reader):
         not_tried(what, f"there is no {missing(reader)[0]}")
 main(
-    180, (),
+    (),
     (
         a_receipt_is_one_a5, a_paper_that_is_printed_again_says_what_is_still_lent,
         the_day_and_the_hour_of_printing_are_of_one_clock, a_tag_is_a_small_paper, a_receipt_without_more,

@@ -376,7 +376,7 @@ def a_pledge_that_was_shown_has_the_focus():
 
 
 main(
-    360, (),
+    (),
     (
         two_equal_payments_are_two, an_amount_that_is_refused_is_not_asked_about,
         a_receipt_that_died_says_one_thing, what_was_redeemed_on_this_page_stays_redeemed, a_redemption_that_is_refused_is_not_asked_about, what_the_page_says_of_links, without_a_line,

@@ -191,7 +191,7 @@ def a_late_visit_of_a_receipt_without_its_link_may_be_in_time():
 
 
 main(
-    230, (),
+    (),
     (
         a_receipt_that_opens_nothing_is_not_called_used,
         a_receipt_that_the_pledge_never_had_may_be_of_another_book, a_cut_link_is_told, blanks_and_capitals_are_read_everywhere,

@@ -178,4 +178,4 @@ def what_will_be_owed_is_what_the_program_says():
         raise Failed(f"only {owed} amounts were compared")
 
 
-main(290, (), (what_will_be_owed_is_what_the_program_says,))
+main((), (what_will_be_owed_is_what_the_program_says,))

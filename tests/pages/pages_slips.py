@@ -431,7 +431,7 @@ def once_the_period_is_over_it_says_how_to_go_on():
 
 
 main(
-    360, (),
+    (),
     (
         an_extension_is_asked_about, an_earlier_end_is_not_sent, an_unlike_amount_is_asked_about,
         how_slips_are_mended_is_told, a_sale_is_asked_about_with_its_surplus,

@@ -268,7 +268,7 @@ def is_packed_and_kept(port, path):
 
 
 main(
-    280, (),
+    (),
     (
         static_files_are_few_small_and_kept, the_first_screen, nothing_waits_for_the_whole_book,
         a_reference_waits_and_says_how_far_it_is, a_book_that_cant_be_read_stops_neither_find_nor_take,

@@ -290,7 +290,7 @@ def a_dead_receipt_is_told_alike_where_it_is_found_and_redeemed():
 
 
 main(
-    290, (),
+    (),
     (
         what_a_pledge_has_beside_its_statement, the_sheet_is_read_anew, dues_are_what_is_owed_and_can_be_ticked_off,
         the_till_parts_what_was_repaid_and_has_a_float, the_sum_of_a_line_is_named, an_import_tells_of_the_other_book,

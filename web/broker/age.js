@@ -1,14 +1,14 @@
 /** How old the book in the page is, how much of it has come while it is read, and the button that reads it anew. */
+import { clockOf } from "../shared/clock.js";
 import { byId } from "../shared/dom.js";
 import { tellFault } from "../shared/faults.js";
 import { ledger } from "./ledger.js";
 
 const MINUTE = 60_000;
 
-/** A moment's date and its hour, both in the zone of this computer. */
+/** A moment's date, in the zone of this computer as its hour is. */
 export const dateOf = (time) =>
   new Date(time).toLocaleDateString("en-GB", { day: "numeric", month: "long", year: "numeric" });
-export const clockOf = (time) => new Date(time).toLocaleTimeString("en-GB", { hour: "2-digit", minute: "2-digit" });
 
 /** How long something is past: less than a minute, a minute, 2 minutes. */
 export function minutesSince(time) {

@@ -2,30 +2,30 @@
  * The broker's page: opening the book, and going from part to part. The address names the part, the pledge and the day,
  * and no secret.
  */
-import { now, onClock } from "../shared/clock.js";
+import { clockOf, now, onClock } from "../shared/clock.js";
 import { today } from "../shared/days.js";
 import { byId } from "../shared/dom.js";
 import { explainWaiting, onSend, tell } from "../shared/forms.js";
 import { startPage } from "../shared/start.js";
-import { clockOf, dateOf, minutesSince, setUpAge, showAge, waitingInWords } from "./age.js";
+import { dateOf, minutesSince, setUpAge, showAge, waitingInWords } from "./age.js";
 import { setUpAll, showAll } from "./all.js";
 import { setUpDue, showDue } from "./due.js";
 import { clearElsewhere, setUpElsewhere } from "./elsewhere.js";
 import { setUpFiles } from "./files.js";
 import { clearChoices, setUpFinding } from "./find.js";
 import { ledger } from "./ledger.js";
-import { clearPledge, redrawPledge, showPledge } from "./pledge.js";
+import { clearPledge, redrawPledge, refreshPledge, showPledge } from "./pledge.js";
 import { setUpScanner } from "./scanner.js";
 import { askBook, begin, current, end, keepSession } from "./session.js";
 import { keepShop, refuseReceipts, setUpShop, shop, showShop } from "./shop.js";
-import { clearTaking, setUpTaking, showTaking } from "./take.js";
+import { clearTaking, openTaking, setUpTaking, showTaking } from "./take.js";
 import { clearTerms, redrawTerms, setUpTerms, showTerms } from "./terms.js";
 import { redrawTill, setUpTill, showTill } from "./till.js";
 import { clearToday, redrawToday, refreshToday, setUpToday, sheetReadAt, showToday } from "./today.js";
 
 /** What each part does when it is opened. Its argument is the text after an equals sign in the address. */
 const PARTS = {
-  today: showToday, take: showTaking, pledge: showPledge, all: showAll, due: showDue, till: showTill, terms: showTerms,
+  today: showToday, take: openTaking, pledge: showPledge, all: showAll, due: showDue, till: showTill, terms: showTerms,
   files: () => {}, shop: showShop,
 };
 /** What each part draws anew when the book was read or mended. */
@@ -38,8 +38,9 @@ const LISTS = ["all", "due", "till"];
 /** Lists of these parts are emptied when another part is gone to. */
 const EMPTIED = ["due", "till"];
 const TICK = 20_000;
-/** The sheets are looked at as often as this, in milliseconds, while they are shown. */
+/** These parts are read again as often as this, in milliseconds, while they are shown. */
 const REFRESH = 60_000;
+const REFRESHED = { today: refreshToday, pledge: refreshPledge };
 
 let day = today();
 let refreshed = 0;
@@ -174,9 +175,9 @@ function tick() {
   if (day !== today()) {
     day = today();
     showPart({ focus: false });
-  } else if (place().name === "today" && Date.now() - refreshed >= REFRESH) {
+  } else if (REFRESHED[place().name] && Date.now() - refreshed >= REFRESH) {
     refreshed = Date.now();
-    refreshToday();
+    REFRESHED[place().name]();
   }
 }
 

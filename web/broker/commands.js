@@ -4,7 +4,7 @@
  */
 import { inWords } from "../shared/days.js";
 import { make } from "../shared/dom.js";
-import { lookFirst, Outdated } from "../shared/faults.js";
+import { lookFirst, orSeen, Outdated } from "../shared/faults.js";
 import { buttons, field, fold } from "../shared/forms.js";
 import { inPounds, readPounds } from "../shared/money.js";
 import { recordEntry } from "../shared/payments.js";
@@ -65,6 +65,8 @@ const visitOn = ({ day, window }) => `${inWords(day)}, ${windowInWords(window)}`
 const isSameVisit = (one, other) =>
   one?.day === other?.day && one?.window === other?.window && one?.state === other?.state;
 
+const decidedInWords = (visit) => `The visit on ${visitOn(visit)} is ${visit.state}.`;
+
 /** What is said where the visit, read again after a decision, is not as it was decided. */
 function overtaken(decided, now) {
   const isDecision = now && isSameVisit({ ...decided, state: now.state }, now) && now.state !== "cancelled";
@@ -99,11 +101,19 @@ async function decide(shown, yes, desk) {
     await readVisit(shown, desk);
   }
   const { booking } = now;
+  const wanted = { ...booking, state: yes ? "confirmed" : "refused" };
+  return orSeen(
+    sendDecision(booking, yes, desk), () => desk.read(),
+    (after) => (isSameVisit(wanted, after.booking) ? decidedInWords(wanted) : null),
+  );
+}
+
+async function sendDecision(booking, yes, desk) {
   const { said } = await desk.command("decide", { yes }, true);
   const after = await desk.read().catch(() => null);
   const decided = { day: said.day, window: said.window, state: said.booking };
   if (after && !isSameVisit(decided, after.booking)) return overtaken(decided, after.booking);
-  const done = `The visit on ${visitOn(said)} is ${said.booking}.`;
+  const done = decidedInWords(decided);
   if (said.day === booking.day && said.window === booking.window) return done;
   return {
     sentence: `${done} It is another one than was shown: the pawnor changed it at the same time. `
@@ -124,6 +134,8 @@ function visit({ booking }, desk) {
   };
 }
 
+const holdInWords = (held) => (held ? "The pledge is on hold: it can’t be redeemed." : "The hold is released.");
+
 const hold = ({ held }, desk) => ({
   title: held ? "Release the hold" : "Put on hold",
   barred: null,
@@ -132,10 +144,10 @@ const hold = ({ held }, desk) => ({
       ? "Redemption is barred now. Releasing the hold allows it again."
       : "A hold bars redemption until you release it."),
     buttons(button(held ? "Release" : "Hold"))],
-  act: async () => {
-    const { said } = await desk.command(held ? "release" : "hold", undefined, true);
-    return said.held ? "The pledge is on hold: it can’t be redeemed." : "The hold is released.";
-  },
+  act: () => orSeen(
+    desk.command(held ? "release" : "hold", undefined, true).then(({ said }) => holdInWords(said.held)),
+    () => desk.read(), (after) => (after.held === held ? null : holdInWords(after.held)),
+  ),
 });
 
 const ALL = [

@@ -1,9 +1,9 @@
 /** The receipts of a pledge: which one is live, and why another is not. */
 import { liveReceipt } from "../shared/book.js";
+import { clockOf } from "../shared/clock.js";
 import { inShort } from "../shared/days.js";
-import { numberOf, receiptsTyped } from "../shared/receipts.js";
+import { numberOf, receiptsTyped, whyNotWhole } from "../shared/receipts.js";
 import { Unreadable } from "../shared/unreadable.js";
-import { clockOf } from "./age.js";
 import { ledger } from "./ledger.js";
 import { heldBy, statementOf } from "./reading.js";
 import { current, refuseOther } from "./session.js";
@@ -82,7 +82,8 @@ export async function whyDead(receipt, begun = current()) {
 /** The one receipt that was typed or scanned, of this book. */
 export function readReceipt(typed, field, none) {
   const receipts = receiptsTyped(typed);
-  if (receipts.length !== 1) throw new Unreadable(none, field);
+  const why = receipts.length === 0 && whyNotWhole(typed, { orReference: false });
+  if (receipts.length !== 1) throw new Unreadable(why ? `That is no whole receipt. ${why}` : none, field);
   const [{ book, receipt }] = receipts;
   if (book && book !== current().book) throw new Unreadable(
     `That receipt is of book ${book}, and this is book ${current().book}.`, field,

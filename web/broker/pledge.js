@@ -1,8 +1,9 @@
 /** One pledge of the book, with its statement and its commands. What is said of it was read just then. */
+import { clockOf } from "../shared/clock.js";
 import { refusalOf } from "../shared/codes.js";
 import { inShort, today } from "../shared/days.js";
 import { byId, foreign, make } from "../shared/dom.js";
-import { Outdated, Refused } from "../shared/faults.js";
+import { CHANGED, Outdated, Refused } from "../shared/faults.js";
 import {
   fieldsOf, foldOf, makeNotice, outcomeOf, redrawFolds, run, sayAfter, tell, tellLater,
 } from "../shared/forms.js";
@@ -39,12 +40,13 @@ class Desk {
    * before its pledge is shown; `message` what is said of a pledge once it is shown; `drawn` the number whose forms are
    * on the page; `wanted` the number that was asked for last; `sought` the one that the form of the search found;
    * `lostRedemptions`, by their receipts, what was paid by redemptions whose replies were lost; `saidOn` the day on which
-   * the notice was filled; `ofReceipt` what was said last of a receipt that was found.
+   * the notice was filled; `ofReceipt` what was said last of a receipt that was found; `readAt` when the statement was
+   * read; `saidOld` what was said where it could not be read again.
    */
   forget() {
     Object.assign(this, {
       statement: null, drawn: null, paper: null, fresh: null, message: null, isDrawnByBook: false, wanted: null,
-      sought: null, lostRedemptions: new Map(), saidOn: null, ofReceipt: null,
+      sought: null, lostRedemptions: new Map(), saidOn: null, ofReceipt: null, readAt: 0, saidOld: "",
     });
     tell(this.notice, "");
   }
@@ -162,6 +164,7 @@ class Desk {
     if (this.drawn !== number) byId("commands").replaceChildren();
     this.drawn = number;
     this.statement = found;
+    this.readAt = Date.now();
     ledger.mend(found);
     this.draw(done);
     if (news) ledger.anotherChanged({ isMissing: ledger.pledge(number) === null });
@@ -222,6 +225,47 @@ class Desk {
     byId("new-receipt").scrollIntoView();
   }
 
+  /**
+   * Whether the pledge may be read again by itself. Not while a form is open: what came in between is asked about when
+   * the form is sent.
+   */
+  get isIdle() {
+    return this.statement !== null && this.wanted === this.number && this.actingOn === null
+      && byId("commands").querySelector("details[open]") === null && document.querySelector("dialog") === null;
+  }
+
+  /** Says that the pledge could not be read again, where nothing else is said; or no longer says it, for null. */
+  tellOld(readAt) {
+    if (this.notice.textContent !== this.saidOld && this.notice.textContent !== "") return;
+    this.saidOld = readAt === null
+      ? "" : `The pledge could not be read again just now: what is shown was read at ${clockOf(readAt)}.`;
+    tell(this.notice, this.saidOld);
+  }
+
+  /** Reads the pledge again that is shown, and draws it if it has changed. */
+  async refresh() {
+    if (!this.isIdle) return;
+    const { statement, number } = this;
+    let found;
+    try {
+      found = await this.read();
+    } catch {
+      if (this.isIdle && this.statement === statement) this.tellOld(this.readAt);
+      return;
+    }
+    if (!this.isIdle || this.statement !== statement) return;
+    this.tellOld(null);
+    this.readAt = Date.now();
+    if (JSON.stringify(found) === JSON.stringify(statement)) return;
+    this.fresh = found;
+    await this.look(number);
+    // What was said or printed before may name another sum, or another end; a warning stays.
+    byId("new-receipt").replaceChildren();
+    if (this.notice.classList.contains("bad")) return;
+    tell(this.notice, CHANGED);
+    this.saidOn = today();
+  }
+
   /** Takes away what was said on another day, or of a receipt: it names what was owed then. */
   clearOld() {
     if (this.saidOn !== today() || this.notice.textContent === this.ofReceipt) tell(this.notice, "");
@@ -245,6 +289,9 @@ class Desk {
 }
 
 const desk = new Desk();
+
+/** Another till, or the pawnor, may have changed the pledge that is shown. */
+export const refreshPledge = () => desk.refresh();
 
 export function clearPledge() {
   desk.forget();

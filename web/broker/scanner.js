@@ -1,15 +1,27 @@
 /**
- * A scanner types as a keyboard does. What it types while no field has the focus is found, if it looks like a receipt.
+ * A scanner types as a keyboard does. What it types while no field for a text has the focus is found, if it looks like
+ * a receipt.
  */
 import { byId } from "../shared/dom.js";
 import { isReceiptLike } from "../shared/receipts.js";
 import { current } from "./session.js";
+
+/** A text can be typed here: a scan is typed into it. */
+const TEXTS = "textarea, input:not([type=date], [type=radio], [type=checkbox], [type=file])";
 
 /** Keys that are further apart than this, in milliseconds, are not one text. */
 const APART = 1000;
 
 let typed = "";
 let last = 0;
+/** The field that had the focus when the text began, and its value then: a scan changes a day. */
+let before = null;
+
+function putBack({ field, value }) {
+  if (!field.matches("input[type=date]")) return;
+  field.value = value;
+  field.dispatchEvent(new Event("input", { bubbles: true }));
+}
 
 /** Finds what was scanned as if it were typed under “Find a pledge”. */
 function find(text) {
@@ -19,13 +31,15 @@ function find(text) {
 }
 
 function onKey(event) {
-  if (current() === null || event.target.matches("input, select, textarea") || document.querySelector("dialog")) return;
+  if (current() === null || event.target.matches(TEXTS) || document.querySelector("dialog")) return;
   if (event.timeStamp - last > APART) typed = "";
+  if (typed === "") before = { field: event.target, value: event.target.value };
   last = event.timeStamp;
   if (event.key.length === 1 && !event.ctrlKey && !event.metaKey) typed += event.key;
   if (event.key !== "Enter") return;
   if (isReceiptLike(typed)) {
     event.preventDefault();
+    putBack(before);
     find(typed);
   }
   typed = "";

@@ -20,10 +20,13 @@ import { statementOf } from "./reading.js";
 import { nextReference } from "./references.js";
 import { askBook, current, refuseOther } from "./session.js";
 import { refuseStanding } from "./standing.js";
-import { settle } from "./taken.js";
+import { PAID_OUT, settle } from "./taken.js";
 
 /** From this many pence on, the question says that the sum is large. */
 const VERY_LARGE = 1_000_000;
+
+/** Terms that were read so many milliseconds ago are old. */
+const OLD_TERMS = 60_000;
 
 /** The tab keeps under this name what is typed in the form, and of which book, so that a reload does not empty it. */
 const TYPED = "taking";
@@ -88,22 +91,24 @@ function refuseAmount({ pence }) {
 function askOf({ article, ref, kind, pence, agreed, five_days: fiveDays }, terms, isNewDay) {
   const six = sixMonthsAfter(today());
   const end = agreed && agreed > six ? agreed : six;
+  const isFixed = kind === "fixed";
+  const amount = isFixed ? ` for ${inPounds(pence)}` : `, up to ${inPounds(pence)}`;
   return confirmed({
-    title: `Take this pledge for ${inPounds(pence)}?`,
+    title: `Take this pledge${amount}?`,
     lines: [
       isNewDay ? NEW_DAY : null,
       [foreign(article), ", reference ", foreign(ref), "."],
-      kind === "fixed" ? `${inPounds(pence)} is lent.` : `A running account up to ${inPounds(pence)}.`,
       `The period ends on ${inWords(end)}, with ${fiveDays ? "five" : "no"} days of grace.`,
       isLong(six, end) ? loudLine("That is more than a year after the six months: look at the year again.") : null,
+      isFixed ? `${inPounds(pence)} is lent.` : `A running account up to ${inPounds(pence)}. ${PAID_OUT}`,
+      pence >= VERY_LARGE ? "That is a large sum: look at it again." : null,
       terms ? `Interest by version ${terms.version} of the terms: ${termsInWords(terms)}.` : null,
       agreed && agreed <= six
         ? `The agreed end, ${inShort(agreed)}, counts for nothing: six months run to ${inShort(six)}.`
         : null,
-      pence >= VERY_LARGE ? "That is a large sum: look at it again." : null,
       "It can’t be changed or taken back. If it is a mistake, redeem it the same day by its receipt.",
     ],
-    yes: `Take it for ${inPounds(pence)}`, no: "Not now",
+    yes: `Take it${amount}`, no: "Not now",
   });
 }
 
@@ -260,6 +265,12 @@ export function setUpTaking() {
     keepTyped();
     form().elements.ref.focus();
   });
+}
+
+/** Shows the form. Terms that are old are read anew, as another till may have added some; nothing waits for that. */
+export function openTaking() {
+  showTaking();
+  if (ledger.head && performance.now() - ledger.head.began > OLD_TERMS) ledger.readHead().then(showTaking, () => {});
 }
 
 export function showTaking() {

@@ -44,8 +44,12 @@ function inTurn(receipt, tag) {
   return [turn, receipt, tag];
 }
 
+/** What is said of a running account: the clerk who pays money out at once would not record it. */
+export const PAID_OUT =
+  "Nothing is paid out yet: record each amount that you pay out as a drawing, on the page of the pledge.";
+
 /** What was taken, in a sentence; loudly where its day or its terms are not those that were asked about. */
-function toldOf({ number, taken, ends }, terms, asked) {
+function toldOf({ number, taken, ends, kind }, terms, asked) {
   const other = [];
   if (taken !== asked.day) other.push(
     ` on ${inWords(taken)}, and not on the day that was asked about: the period ends on ${inWords(ends)}`
@@ -53,7 +57,8 @@ function toldOf({ number, taken, ends }, terms, asked) {
   if (asked.version !== null && terms.version !== asked.version) other.push(
     `, under terms that were added since you were asked, version ${terms.version}: ${termsInWords(terms)}`
   );
-  const sentence = `Taken as pledge ${number}${other.join("")}. Its receipt is ready to print.`;
+  const sentence = `Taken as pledge ${number}${other.join("")}. Its receipt is ready to print.`
+    + (kind === "running" ? ` ${PAID_OUT}` : "");
   return other.length === 0 ? sentence : { sentence, tone: "bad" };
 }
 

@@ -19,13 +19,15 @@ let drawn = null;
 
 const sum = (lines, name = "pence") => lines.reduce((total, line) => total + (line[name] ?? 0), 0);
 
-/** The charges in each entry of a pledge, and in what was paid when it was redeemed. */
+/** The charges in each entry of a pledge, and in what was paid when it was redeemed; and the surplus of its sale. */
 function chargesOf(pledge) {
   const terms = ledger.termsOf(pledge);
   const told = { ...pledge, credit: pledge.pence };
+  const last = terms && pledge.closed ? owedOn(told, terms, pledge.closed) : null;
   return {
     inEntries: terms ? chargesPaid(told, terms) : [],
-    atLast: terms && pledge.state === "redeemed" ? owedOn(told, terms, pledge.closed).charges : 0,
+    atLast: last && pledge.state === "redeemed" ? last.charges : 0,
+    surplus: last && pledge.state === "sold" ? Math.max(0, pledge.amount - last.owing) : 0,
   };
 }
 
@@ -44,13 +46,16 @@ function tillOf(book, day) {
     if (pledge.taken === day) lists.taken.push({ pledge, pence: pledge.kind === "fixed" ? pledge.pence : 0 });
     addEntries(lists, pledge, day);
     if (pledge.closed === day) {
-      const { atLast } = chargesOf(pledge);
-      lists[pledge.state].push({ pledge, pence: pledge.amount, charges: atLast });
+      const { atLast, surplus } = chargesOf(pledge);
+      lists[pledge.state].push({ pledge, pence: pledge.amount, charges: atLast, surplus });
     }
   }
   const sums = Object.fromEntries(Object.entries(lists).map(([name, lines]) => [name, sum(lines)]));
   const charges = { repaid: sum(lists.repaid, "charges"), redeemed: sum(lists.redeemed, "charges") };
-  return { lists, sums, charges, out: sums.taken + sums.drawn, in: sums.repaid + sums.redeemed + sums.sold };
+  return {
+    lists, sums, charges, surplus: sum(lists.sold, "surplus"), out: sums.taken + sums.drawn,
+    in: sums.repaid + sums.redeemed + sums.sold,
+  };
 }
 
 /** Each list: its title, which way the money went, what is said where it is empty, and whether charges are in it. */
@@ -62,10 +67,10 @@ const SECTIONS = {
   sold: { title: "Sold", way: "Net proceeds", empty: "Nothing was sold." },
 };
 
-function rowOf({ pledge, pence, charges }, isParted) {
-  const parts = isParted ? make(
-    "span", { className: "reference" }, `${inPounds(charges)} charges, ${inPounds(pence - charges)} lent`
-  ) : null;
+function rowOf({ pledge, pence, charges, surplus }, isParted) {
+  const told = isParted ? `${inPounds(charges)} charges, ${inPounds(pence - charges)} lent`
+    : surplus > 0 ? `${inPounds(surplus)} surplus` : null;
+  const parts = told && make("span", { className: "reference" }, told);
   return make(
     "tr", {}, numberCell(pledge), articleCell(pledge), make("td", { className: "number" }, inPounds(pence), parts),
   );
@@ -137,6 +142,11 @@ function drawerLine(till, day) {
   return `${line} ${words.with} ${inPounds(float)} ${words.should} ${has}.`;
 }
 
+/** What is said where a sale left a surplus: no entry of the book says that it was paid to the pawnor. */
+const surplusLine = ({ surplus }) => (surplus === 0 ? ""
+  : ` Of the proceeds ${inPounds(surplus)} is surplus, which is the pawnors’. The book does not record when you pay it `
+    + "to them: what you have paid of it is no longer in the drawer.");
+
 /** The sums in a card: what came in, what went out, and by how much the drawer changed. */
 function sumsCard(till, day) {
   const { sums } = till;
@@ -154,7 +164,7 @@ function sumsCard(till, day) {
     "h2", {}, day === today() ? "Sums of today" : `Sums of ${inWords(day)}`,
     shop().till && make("span", { className: "count" }, "of all tills"),
   );
-  const line = make("p", { className: "example" }, drawerLine(till, day));
+  const line = make("p", { className: "example" }, drawerLine(till, day), surplusLine(till));
   return make("section", { className: "card sums" }, title, told, line, floatForm(day));
 }
 

@@ -1,4 +1,5 @@
 /** The sheet of a day: who comes, who asked to come and waits for an answer, and which periods end. */
+import { clockOf } from "../shared/clock.js";
 import { inShort, plusDays, seenFrom, today } from "../shared/days.js";
 import { byId, foreign, make } from "../shared/dom.js";
 import { run, tell } from "../shared/forms.js";
@@ -6,7 +7,6 @@ import { inPounds } from "../shared/money.js";
 import { readSheet } from "../shared/sheet.js";
 import { termsInWords } from "../shared/terms.js";
 import { windowInWords } from "../shared/windows.js";
-import { clockOf } from "./age.js";
 import { putDay, setUpDayForm, showDayOf } from "./dayform.js";
 import { waiting } from "./groups.js";
 import { ledger } from "./ledger.js";

@@ -1,12 +1,12 @@
 /** What a pawnor may do with a pledge: ask for a time to come, take that back, pay a part, redeem. */
 import { refusalOf } from "../shared/codes.js";
-import { inWords, seenFrom, today } from "../shared/days.js";
+import { inWords, plusDays, seenFrom, today } from "../shared/days.js";
 import { make } from "../shared/dom.js";
-import { CHANGED, Lost, lookFirst, Outdated } from "../shared/faults.js";
+import { CHANGED, Lost, lookFirst, orSeen, Outdated } from "../shared/faults.js";
 import { buttons, field, fold } from "../shared/forms.js";
 import { inPounds, readPounds } from "../shared/money.js";
 import { readUnrefused, recordEntry } from "../shared/payments.js";
-import { lastSafeDay } from "../shared/period.js";
+import { graceEnd, lastSafeDay, willPass } from "../shared/period.js";
 import { confirmed, NOTHING_DONE } from "../shared/questions.js";
 import { reckoningForm } from "../shared/reckoning.js";
 import { isOpen, isToCome } from "../shared/statuses.js";
@@ -22,19 +22,31 @@ const foldOf = (card, title, parts, act) =>
 /** What is said where the answer to a question was no. Nothing was changed, so nothing is looked at. */
 const NOT_NOW = { ...NOTHING_DONE, look: false };
 
-/** A visit after the period's end and its days of grace may come too late: it is asked about. */
-function agreedToLate({ statement, known }, day) {
-  const { ends, status } = statement;
-  const last = lastSafeDay({ ends, fiveDays: known.fiveDays ?? status === "grace" });
-  const isGraceKnown = known.fiveDays !== null || status !== "inside";
+/**
+ * A visit after the period's end and its days of grace may come too late: it is asked about. Throws where the article
+ * is the pawnbroker's by then.
+ */
+function agreedToLate(statement, { fiveDays }, day) {
+  const { ends, status, credit } = statement;
+  const last = lastSafeDay({ ends, fiveDays: fiveDays ?? status === "grace" });
   if (day <= last) return true;
+  const isGraceKnown = fiveDays !== null || status !== "inside";
+  const passes = willPass({ ...statement, pence: credit });
+  const safe = isGraceKnown ? last : graceEnd(ends);
+  if (passes && day > safe) throw new Unreadable(
+    `From ${inWords(plusDays(safe, 1))} on the article belongs to the pawnbroker. `
+      + `Choose a day up to ${inWords(last)}.`,
+    "day",
+  );
+  const becomes = passes ? "belong to the shop" : "have been sold";
   return confirmed({
     title: "Come after the time is over?", about: statement,
-    lines: [
-      `The time of this pledge is over after ${inWords(last)}. On ${inWords(day)} the article may have been sold, `
-        + `or belong to the shop.`,
-      isGraceKnown ? null : "If your paper says that it has days of grace, they last five days more.",
-    ],
+    lines: status === "realisable"
+      ? ["The article may be sold before you come: the time of this pledge is over."]
+      : [
+        `The time of this pledge is over after ${inWords(last)}. On ${inWords(day)} the article may ${becomes}.`,
+        isGraceKnown ? null : "If your paper says that it has days of grace, they last five days more.",
+      ],
     yes: "Ask for this day all the same", no: "Choose another day",
   });
 }
@@ -68,18 +80,27 @@ async function askForVisit(card, { day, window }) {
   if (!day) throw new Unreadable("Choose a day.", "day");
   if (day < today()) throw new Unreadable("That day is over. Choose a later one.", "day");
   if (!await agreedToOver(day, Number(window))) return NOT_NOW;
-  if (!await agreedToLate(card, day)) return NOT_NOW;
+  if (!await agreedToLate(await lookFirst(card.read()), card.known, day)) return NOT_NOW;
   const now = await lookFirst(card.read());
   const isSame = now.booking?.day === day && now.booking.window === Number(window);
   if (!isSame && !await agreedToGiveUp(now, {
     title: "Give up the confirmed visit?", yes: "Ask for the new time",
     line: "It is given up as soon as you ask for another time, and the shop may refuse the new one.",
   })) return NOT_NOW;
-  const { said } = await card.ask("/ask", { day, window: Number(window) }, true);
-  const when = `${inWords(said.day)}, ${windowInWords(said.window)}`;
-  if (said.booking === "confirmed") return `The shop has confirmed this time already: ${when}.`;
-  return `Asked for ${when}. The shop says yes or no; look here again.`;
+  const wanted = { day, window: Number(window) };
+  return orSeen(
+    card.ask("/ask", wanted, true).then(({ said }) => askedInWords({ ...said, state: said.booking })),
+    () => card.read(),
+    ({ booking }) => (isToCome(booking) && booking.day === day && booking.window === wanted.window
+      ? askedInWords(booking) : null),
+  );
 }
+
+const visitInWords = ({ day, window }) => `${inWords(day)}, ${windowInWords(window)}`;
+
+const askedInWords = (visit) => (visit.state === "confirmed"
+  ? `The shop has confirmed this time already: ${visitInWords(visit)}.`
+  : `Asked for ${visitInWords(visit)}. The shop says yes or no; look here again.`);
 
 function leadOf(statement) {
   if (!stands(statement)) return "Say when you would like to fetch it. The shop confirms it or not.";
@@ -115,19 +136,26 @@ function cancelFold(card) {
       title: "Cancel the confirmed visit?", yes: "Cancel the visit",
       line: "Once it is cancelled, the shop may give its time to another.",
     })) return NOT_NOW;
-    const { said } = await card.ask("/cancel", undefined, true);
-    return `The visit is cancelled: ${inWords(said.day)}, ${windowInWords(said.window)}.`;
+    const told = (visit) => `The visit is cancelled: ${visitInWords(visit)}.`;
+    return orSeen(
+      card.ask("/cancel", undefined, true).then(({ said }) => told(said)), () => card.read(),
+      ({ booking: after }) => (after?.state === "cancelled" ? told(after) : null),
+    );
   });
 }
 
+const ALL_PAID = "That is all that is owed, but the pledge stays open after it. To have the article, choose “Redeem” "
+  + "at the shop in place of this.";
+
 async function repay(card, { amount }) {
   const pence = readPounds(amount);
-  await readUnrefused(() => card.read(), "repay", pence);
+  const now = await readUnrefused(() => card.read(), "repay", pence);
   const yes = await confirmed({
     title: `Record ${inPounds(pence)} as paid?`, about: card.statement,
     lines: [
       "This page moves no money. Say yes only where the pawnbroker has received the amount.",
       "If the shop has recorded it already, say no: it would count twice.",
+      pence === now.owed.owing ? ALL_PAID : null,
     ],
     yes: `Yes, ${inPounds(pence)} was received`, no: "Not yet",
   });
@@ -159,15 +187,24 @@ async function readRedeemable(card) {
   return owing;
 }
 
+/** The receipt is worth nothing after a redemption, so at home it would be given away for nothing. */
+const AT_THE_SHOP = "Do it only at the shop, when you are given the article: without this receipt you can’t show that "
+  + "it is yours.";
+const NOTHING_OWED = "Nothing is owed today.";
+
 async function redeem(card) {
   const owing = await readRedeemable(card);
   const yes = await confirmed({
     title: "Redeem this pledge?", about: card.statement,
     lines: [
-      `You say that ${inPounds(owing)} has been paid and that the pawnbroker has received it.`,
-      "This page moves no money.",
-      "The pledge is over then, and this receipt is worth nothing any more. It can’t be taken back."],
-    yes: `Yes, ${inPounds(owing)} was received`, no: "Not yet",
+      ...(owing === 0 ? [NOTHING_OWED] : [
+        `You say that ${inPounds(owing)} has been paid and that the pawnbroker has received it.`,
+        "This page moves no money.",
+      ]),
+      AT_THE_SHOP,
+      "The pledge is over then, and this receipt is worth nothing any more. It can’t be taken back.",
+    ],
+    yes: owing === 0 ? "Yes, I am given the article" : `Yes, ${inPounds(owing)} was received`, no: "Not yet",
   });
   if (!yes) return NOT_NOW;
   try {
@@ -182,9 +219,11 @@ async function redeem(card) {
 
 function redeemFold(card) {
   const { owed, held } = card.statement;
+  const amount = owed.owing === 0
+    ? NOTHING_OWED
+    : `Redeeming requires all that is owed today, ${inPounds(owed.owing)}, received by the pawnbroker.`;
   const lead = held ? "The pawnbroker holds this pledge, so it can’t be redeemed just now. Ask at the shop why."
-    : `Redeeming requires all that is owed today, ${inPounds(owed.owing)}, received by the pawnbroker. `
-      + `You are asked once more before it is done.`;
+    : `${amount} ${AT_THE_SHOP} You are asked once more before it is done.`;
   const button = make("button", { className: "grave", disabled: held }, `Redeem for ${inPounds(owed.owing)}`);
   return foldOf(card, "Redeem", [make("p", { className: "lead" }, lead), buttons(button)], () => redeem(card));
 }

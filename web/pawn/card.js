@@ -1,8 +1,9 @@
 /** One pledge of the pawnor's: its state, and what may be done. */
 import { ask } from "../shared/api.js";
+import { clockOf } from "../shared/clock.js";
 import { CODES, isRefusal } from "../shared/codes.js";
 import { foreign, make } from "../shared/dom.js";
-import { tellFault } from "../shared/faults.js";
+import { isFailedLook, tellFault } from "../shared/faults.js";
 import { fieldsOf, makeNotice, redrawFolds, run, sayAfter, tell } from "../shared/forms.js";
 import { readStatement } from "../shared/statement.js";
 import { summaryOf } from "../shared/summary.js";
@@ -34,12 +35,12 @@ const DEAD = {
 /** A pledge on the page. It looks at the service whenever something was done. */
 export class Card {
   constructor(one, forget, changed) {
-    // A tab may have kept a receipt from an older page, with fewer members.
-    const { book, receipt, shop, rate, ref, terms = null, fiveDays = null } = one;
-    const known = { reference: ref || null, fiveDays, terms, agreed: undefined };
-    Object.assign(this, { one, book, receipt, shop, rate, known, changed, statement: null, lostRedemption: false });
+    const { book, receipt } = one;
+    Object.assign(this, { one, book, receipt, changed, statement: null, lostRedemption: false, readAt: 0 });
+    this.learn(one);
     // The act that is under way, until its result is reported.
     this.acting = Promise.resolve();
+    this.isActing = false;
     // Whether its receipt was found to open nothing, and has opened nothing before.
     this.neverOpened = false;
     // Whether the page says, in place of the pledge, that the receipt opens nothing.
@@ -53,6 +54,15 @@ export class Card {
     this.element = make(
       "article", { className: "card pledge" }, this.summary, this.notice, this.actions, make("footer", {}, forgetting),
     );
+  }
+
+  /** Takes over what a link says of the pledge: the receipt may have been typed before, or come by a shorter link. */
+  learn(one) {
+    const said = Object.entries(one).filter(([, value]) => value !== "" && value !== null);
+    Object.assign(this.one, Object.fromEntries(said));
+    // A tab may have kept a receipt from an older page, with fewer members.
+    const { shop, rate, ref, terms = null, fiveDays = null } = this.one;
+    Object.assign(this, { shop, rate, known: { reference: ref || null, fiveDays, terms, agreed: undefined } });
   }
 
   /** Asks the service something with this receipt. */
@@ -72,6 +82,7 @@ export class Card {
    */
   async look(done = null) {
     this.statement = await this.read();
+    this.readAt = Date.now();
     this.isShown = true;
     this.neverOpened = this.saysDead = false;
     const { statement, known } = this;
@@ -113,6 +124,23 @@ export class Card {
       return true;
     }
     return this.showNow();
+  }
+
+  /** The same of a pledge that is shown. If it can't be read again, it stays, and the page says when it was read. */
+  async refresh() {
+    await this.acting;
+    if (!this.isShown) return this.show();
+    try {
+      await this.look();
+      tell(this.notice, "");
+    } catch (fault) {
+      if (isFailedLook(fault)) {
+        const when = clockOf(this.readAt);
+        tell(this.notice, `It could not be read again just now: what is shown was read at ${when}.`, "bad");
+      } else this.showFault(fault);
+    }
+    this.changed();
+    return this.isShown;
   }
 
   /** The same at once, after an act whose fold is named. */
@@ -185,7 +213,8 @@ export class Card {
    * refused.
    */
   perform(act, place) {
-    this.acting = this.performNow(act, place);
+    this.isActing = true;
+    this.acting = this.performNow(act, place).finally(() => { this.isActing = false; });
     return this.acting;
   }
 

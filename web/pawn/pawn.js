@@ -10,9 +10,12 @@ import { CUT, keep, kept, ofTyped, takeFragment } from "./receipts.js";
 import { inTurn } from "./turns.js";
 
 const TICK = 20_000;
+/** A tab to which one comes back after so many milliseconds is read again: a telephone keeps tabs for days. */
+const LEFT = 60_000;
 
 const cards = [];
 let day = today();
+let lookedAt = Date.now();
 
 /** The tab keeps the receipts, with what this page did with them. */
 const keepCards = () => keep(cards.map(({ one }) => one));
@@ -53,7 +56,10 @@ function forget(card) {
 /** The card of a receipt: the one that is there, or a new one at the end. */
 function cardOf(one) {
   const there = cards.find(({ book, receipt }) => book === one.book && receipt === one.receipt);
-  if (there) return there;
+  if (there) {
+    there.learn(one);
+    return there;
+  }
   const card = new Card(one, forget, noteChange);
   cards.push(card);
   byId("cards").append(card.element);
@@ -61,7 +67,10 @@ function cardOf(one) {
 }
 
 /** Looks at cards, and returns whether each shows a pledge. */
-const look = (some) => inTurn(some.map((card) => () => card.show()));
+function look(some) {
+  lookedAt = Date.now();
+  return inTurn(some.map((card) => () => card.show()));
+}
 
 async function showFragment(notice) {
   const { receipts, book, isCut } = takeFragment();
@@ -74,6 +83,8 @@ async function showFragment(notice) {
   const some = receipts.map(cardOf);
   store();
   await look(some);
+  // Among others, which this tab had before, the pledge of the link is the one that is to be seen.
+  if (cards.length > some.length) some[0].focus();
 }
 
 async function find(fields) {
@@ -98,15 +109,29 @@ function tick() {
   look(cards);
 }
 
+function refresh(some) {
+  lookedAt = Date.now();
+  return inTurn(some.map((card) => () => card.refresh()));
+}
+
+/**
+ * The shop may have decided on a visit, or received a payment, since the tab was left. An act that is under way reads
+ * its pledge itself, and what it reports stays.
+ */
+function comeBack() {
+  tick();
+  if (!document.hidden && Date.now() - lookedAt >= LEFT) refresh(cards.filter(({ isActing }) => !isActing));
+}
+
 async function lookAgain() {
   byId("look-again").disabled = true;
-  await look(cards);
+  await refresh(cards);
   byId("look-again").disabled = false;
 }
 
 startPage(() => {
   const notice = onSend(byId("find"), "pawnor", find);
-  document.addEventListener("visibilitychange", tick);
+  document.addEventListener("visibilitychange", comeBack);
   onClock(tick);
   setInterval(tick, TICK);
   byId("look-again").addEventListener("click", lookAgain);

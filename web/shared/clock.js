@@ -17,6 +17,9 @@ export const onClock = (listener) => listeners.push(listener);
 /** The service's time, in milliseconds. */
 export const now = () => Date.now() + ahead;
 
+/** The hour of a moment, in the zone of this computer. */
+export const clockOf = (time) => new Date(time).toLocaleTimeString("en-GB", { hour: "2-digit", minute: "2-digit" });
+
 /** By how many milliseconds this computer's clock is wrong; 0 where it is as good as right. */
 export const wrongBy = () => (Math.abs(ahead) < TOLD ? 0 : -ahead);
 

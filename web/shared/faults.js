@@ -54,6 +54,21 @@ export function tellFault(fault, reader) {
     + "Look at the pledge before you do anything again.";
 }
 
+/**
+ * The result of a command that was sent. If its reply was lost, the pledge is read again: `seen` returns the result if
+ * the pledge shows that the command was done, and null if not.
+ */
+export async function orSeen(sent, read, seen) {
+  try {
+    return await sent;
+  } catch (fault) {
+    if (!(fault instanceof Lost)) throw fault;
+    const result = seen(await read().catch(() => { throw fault; }));
+    if (result === null) throw fault;
+    return `The reply was lost, but the pledge, read again, shows that it was done. ${result}`;
+  }
+}
+
 /** The field of a form that a refusal speaks of, by its code. */
 const FIELDS = {
   102: "rate", 103: "before", 104: "after", 201: "amount", 203: "amount", 204: "amount", 310: "amount", 307: "paper",

@@ -116,6 +116,8 @@ export async function run({ notice, within, reader, act, about = null, mayBeOver
   } else tell(notice, said?.sentence ?? said ?? "", said?.tone ?? "good");
   const target = field?.isConnected ? field : notice;
   if (notice.textContent && target.isConnected) target.focus({ preventScroll: false });
+  // What is scanned or typed next takes the place of what was not found.
+  if (mayBeOvertaken) field?.select();
   return fault;
 }
 

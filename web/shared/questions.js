@@ -35,7 +35,7 @@ export function confirmed({ title, about = null, lines, yes, no }) {
   const heading = make("h2", { id: `question-${asked}` }, title);
   const said = [about && aboutOf(about), ...lines].filter(Boolean).map(lineOf);
   const { line, end } = dayLine();
-  const text = make("div", { id: `question-${asked}-text` }, line, ...said);
+  const text = make("div", { className: "asked", id: `question-${asked}-text` }, line, ...said);
   const dialog = make("dialog", { className: "question" }, heading, text);
   const agree = make("button", { type: "button", className: "grave" }, yes);
   const refuse = make("button", { type: "button", className: "plain", autofocus: true }, no);
@@ -44,6 +44,8 @@ export function confirmed({ title, about = null, lines, yes, no }) {
   dialog.setAttribute("aria-describedby", text.id);
   document.body.append(dialog);
   dialog.showModal();
+  // Where the text is too long for the screen, the keys can move it.
+  if (text.scrollHeight > text.clientHeight) text.tabIndex = 0;
   const leave = () => dialog.close("no");
   addEventListener("hashchange", leave);
   return new Promise((answer) => {

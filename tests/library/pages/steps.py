@@ -1,6 +1,7 @@
 """What the tests of the pages share: one browser, books, and what a clerk or a pawnor does."""
 import contextlib
 import datetime
+import functools
 import os
 import signal
 
@@ -15,6 +16,8 @@ from tests.library.paths import TOP
 WEB = os.path.join(TOP, "web")
 WRONG_SECRET = "00000000-0000-4000-8000-000000000000"
 SHOP = "High Street Pawnbrokers"
+# A test takes some seconds on a machine that is idle, and fails after so many.
+EACH = 300
 browser = Browser()
 
 
@@ -223,16 +226,30 @@ def ago(days):
     return today() - datetime.timedelta(days=days)
 
 
-def main(bound, static, in_a_browser):
-    """Runs the tests within so many seconds, those in a browser if there is one."""
-    def too_long(*_):
-        signal.alarm(2)
-        raise Failed(f"the script took more than {bound} seconds")
+def in_time(test, most):
+    """The test, which fails after so many seconds. Where a step takes that for a miss that it may have, it fails again
+    a little later."""
+    @functools.wraps(test)
+    def timed():
+        def too_long(*_):
+            signal.alarm(2)
+            raise Failed(f"the test took more than {most} seconds")
 
+        signal.signal(signal.SIGALRM, too_long)
+        signal.alarm(most)
+        try:
+            test()
+        finally:
+            signal.alarm(0)
+
+    return timed
+
+
+def main(static, in_a_browser, most=EACH):
+    """Runs the tests, those in a browser if there is one. Each ends after so many seconds: a script may have any number
+    of them, and a busy machine takes longer over all of them together."""
     if provide():
         print(f"not tried: the pages in a browser, since there is no {' and no '.join(missing())}", flush=True)
         run_tests(*static)
-    signal.signal(signal.SIGALRM, too_long)
-    signal.alarm(bound)
     with browser:
-        run_tests(*static, *in_a_browser)
+        run_tests(*(in_time(test, most) for test in (*static, *in_a_browser)))
