@@ -93,9 +93,6 @@ def state_of_units(store, wrong):
 
 def state_of_file(store, state, wrong):
     """What the store holds, and what is wrong with that."""
-    if os.path.exists(store.path + copies.OLD):
-        wrong.append("a command that replaces its files did not end: run it again")
-        return {}
     if not os.path.exists(store.path):
         wrong.append(f"its file {store.path} is missing. Is its disk there? `pawnd-admin restore {store.name} newest`")
         return {}
@@ -121,12 +118,11 @@ def state_of_file(store, state, wrong):
 
 
 def has_lost(store):
-    """Whether a store that seems to hold less than its newest copy does so while no command works on it, and though no
-    command took anything out of it on purpose since that copy: what it had then is kept until there is a newer one."""
+    """Whether a store that seems to hold less than its newest copy does so while no command works on it. A command that
+    takes anything out of it first makes a copy of what will be left."""
     with alone_if_free(store.name) as free:
         past, _ = copies.copies_of(store.name)
-        kept = [it.time for it in copies.kept_of(store.name) if it.was_in_force]
-        if not free or not past or kept and max(kept) > past[-1].name:
+        if not free or not past:
             return False
         found = contents_of(store.path)
         return any(found.counts[it] < past[-1].counts[it] for it in found.counts)

@@ -180,8 +180,7 @@ def what_stood_there_becomes_a_copy():
 
 
 def a_database_that_is_lost():
-    """Its log alone is left. A copy is put back, and the log is kept beside the copies. Also what was kept may be lost:
-    a command was killed while it removed it."""
+    """Its log alone is left. A copy is put back, and the log is kept beside the copies."""
     with Machine() as it:
         caller = it.book(7, pledges=1)
         it.admin("copy", "main")
@@ -190,9 +189,9 @@ def a_database_that_is_lost():
         expect("what is left", os.listdir(it.place("lib/main")), ["books.db-wal"])
         it.admin("restore", "main", "newest")
         caller.look_up()
-        os.mkdir(it.place("lib/.main-before-20260101T000000Z"))
-        it.write("lib/.main-before-20260101T000000Z.json", '{"why": "restore", "command": "restore main newest"}')
-        it.admin("copy", "main")
+        unsound = [name for name in os.listdir(it.place("backups/main")) if name.startswith("unsound-")]
+        kept = [os.listdir(it.place("backups/main", name)) for name in unsound]
+        expect("what is beside the copies", kept, [["books.db-wal"]])
         expect("what commands left", it.leftovers(), [])
         expect("the copies", all(os.path.exists(os.path.join(it.copies, "main", name, "books.db"))
                                  for name in copies(it)), True)

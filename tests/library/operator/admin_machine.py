@@ -253,7 +253,7 @@ class Machine:
             found += [os.path.join(folder, it) for it in os.listdir(folder) if it.startswith(".")]
         for store in os.scandir(self.stores):
             if store.is_dir():
-                found += [it.path for it in os.scandir(store) if it.name.startswith("never-in-force")]
+                found += [it.path for it in os.scandir(store) if it.name not in ("books.db", "books.db-wal")]
         return found
 
 
