@@ -162,14 +162,18 @@ def how_it_answers(store, lines, state, wrong, notes):
         return
     state["answers"] = services.answers(store.address, PATIENCE)
     if not state["answers"]:
-        unit = services.unit_of(store.name)
-        wrong.append(
-            f"does not answer on {store.address}: "
-            + ("it is being started, and answers when it has read its file. If it does not answer after some minutes, "
-               f"`journalctl -u {unit}` says why"
-               if services.is_unit("is-active", unit) and not services.listens(store.address)
-               else f"`systemctl status {unit}` and `journalctl -u {unit}` say why")
-        )
+        wrong.append(f"does not answer on {store.address}: {why_it_is_silent(store)}")
+
+
+def why_it_is_silent(store):
+    unit = services.unit_of(store.name)
+    if services.keeps_ending(unit):
+        return (f"its service ends again and again. `journalctl -u {unit} -n 20` says why, and OPERATING.md, `A store does "
+                "not start`, what to do")
+    if services.is_unit("is-active", unit) and not services.listens(store.address):
+        return ("it is being started, and answers when it has read its file. If it does not answer after some minutes, "
+                f"`journalctl -u {unit}` says why")
+    return f"`systemctl status {unit}` and `journalctl -u {unit}` say why"
 
 
 def state_of(name, lines):

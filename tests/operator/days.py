@@ -52,6 +52,9 @@ def a_store_that_does_not_start(one):
     look, restore = commands(OPERATING, "A store does not start")
     one.until(f"{look.strip()} | grep -q 'fault 50'")
     expect("what it said", "fault 50" in one.run(look), True)
+    for _ in range(5):
+        told = one.run("pawnd-admin status; sleep 0.3", wanted=None)
+        expect(f"what is wrong: {told}", ("ends again and again" in told, "being started" in told), (True, False))
     one.run(restore)
     answers_again(one)
     expect("what was in the copy", ask(one, "/books/7/pledges/2")[0], 200)

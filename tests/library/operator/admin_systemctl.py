@@ -80,6 +80,9 @@ def reload_nginx():
 
 
 def main(words):
+    if words[0] == "show":
+        print(f"ActiveState={'active' if pid_of(words[-1]) else 'inactive'}\nNRestarts=0")
+        return 0
     order, units = words[0], [word for word in words[1:] if not word.startswith("-")]
     for unit in units:
         unit = unit if "." in unit else unit + ".service"
