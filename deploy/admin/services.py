@@ -14,8 +14,6 @@ from settings import SETTINGS, Stop, warn
 
 # Opening reads the whole file: half a minute for a million pledges.
 START_PATIENCE = 300
-# A service that ends at once is started again twice within this time.
-ENDING_PATIENCE = 6
 PROBE = "/days/2024-01-01"
 PROBE_ANSWER = b'"code":709'
 
@@ -154,24 +152,13 @@ def operators_key():
         return file.read().strip()
 
 
-def restarts(unit):
-    """How often systemd has started a unit again since the operator did; None if it does not start it again."""
+def failures(unit):
+    """How often a service has failed in the last ten minutes, by the journal: systemd itself starts it again each time."""
     ran = subprocess.run(
-        ["systemctl", "show", "-p", "ActiveState,NRestarts", unit], stdin=subprocess.DEVNULL, capture_output=True,
-        text=True, timeout=30,
+        ["journalctl", "-q", "-u", unit, "--since", "-10min", "-o", "cat", "--grep", "Failed with result"],
+        stdin=subprocess.DEVNULL, capture_output=True, text=True, timeout=30,
     )
-    said = dict(line.split("=", 1) for line in ran.stdout.splitlines())
-    return None if said["ActiveState"] in ("inactive", "failed") else int(said["NRestarts"])
-
-
-def keeps_ending(unit):
-    """Whether systemd starts it again twice within some seconds. Once it does so after each million requests, too."""
-    first, end = restarts(unit), time.monotonic() + ENDING_PATIENCE
-    while first is not None and time.monotonic() < end:
-        if (restarts(unit) or 0) >= first + 2:
-            return True
-        time.sleep(0.2)
-    return False
+    return len(ran.stdout.splitlines())
 
 
 def log_bytes(path):

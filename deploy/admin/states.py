@@ -167,9 +167,10 @@ def how_it_answers(store, lines, state, wrong, notes):
 
 def why_it_is_silent(store):
     unit = services.unit_of(store.name)
-    if services.keeps_ending(unit):
-        return (f"its service ends again and again. `journalctl -u {unit} -n 20` says why, and OPERATING.md, `A store does "
-                "not start`, what to do")
+    failures = services.failures(unit)
+    if failures > 1:
+        return (f"its service keeps ending, {failures} times in the last ten minutes. `journalctl -u {unit} -n 20` says why, "
+                "and OPERATING.md, `A store does not start`, says what to do")
     if services.is_unit("is-active", unit) and not services.listens(store.address):
         return ("it is being started, and answers when it has read its file. If it does not answer after some minutes, "
                 f"`journalctl -u {unit}` says why")

@@ -90,7 +90,8 @@ def stores_that_are_away_or_damaged():
 
 
 def a_store_that_is_being_started():
-    """It reads its file before it listens: the status says so, and that nothing has to be done as long as it does."""
+    """It reads its file before it listens: the status says so, and that nothing has to be done as long as it does. If it
+    has failed again and again, the status says that."""
     with Machine() as it:
         it.book(7)
         it.admin("copy", "main")
@@ -99,6 +100,9 @@ def a_store_that_is_being_started():
         it.environment["PAWND"] = it.place("reads-for-long")
         it.systemctl("start", "pawnd@main")
         expect_wrong(it, "it is being started, and answers when", "store main: does not answer through the proxy")
+        it.write("journal", "pawnd@main.service: Failed with result 'exit-code'.\n" * 3)
+        expect_wrong(it, "its service keeps ending, 3 times in the last ten minutes. `journalctl -u pawnd@main.service",
+                     "store main: does not answer through the proxy")
 
 
 def timed(do):
