@@ -6,7 +6,7 @@ import os
 import copies
 import proxy
 from begun import begun_file, begun_notes
-from files import free_bytes, size_of_store, work_prefix
+from files import free_bytes, size_of_store
 from locks import alone_if_free
 from settings import COPIES, MAIN, STORES, conf_of, store_file, store_names
 
@@ -62,7 +62,7 @@ def removed_books_that_are_back(found):
                 yield f"book {book} was taken out at {copy.made}, and is in the store {name} again"
 
 
-# ---- disks and leftovers
+# ---- disks, and what commands left
 
 
 def faults_of_disks():
@@ -97,16 +97,8 @@ def top_of_disk(folder):
     return folder
 
 
-def leftovers():
-    """What interrupted commands left, and what is kept on purpose."""
-    for name in store_names():
-        with alone_if_free(name) as free:
-            if free:
-                for folder, prefix in ((STORES, work_prefix(name)), (os.path.join(COPIES, name), copies.PART)):
-                    for it in sorted(os.listdir(folder)) if os.path.isdir(folder) else ():
-                        if it.startswith(prefix):
-                            yield (f"{os.path.join(folder, it)} is left from a command that did not end. The next "
-                                   "such command on this store removes it")
+def unsound_states():
+    """What stores had before a copy was put back, where it was not sound."""
     for name in copies.stores_with_copies():
         for it in sorted(os.listdir(os.path.join(COPIES, name))):
             if it.startswith(copies.UNSOUND):

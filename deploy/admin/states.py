@@ -11,7 +11,7 @@ import proxy
 import replicas
 import services
 from asking import PATIENCE, answers_through_proxy, state_of_proxy
-from faults import faults_of_books, faults_of_disks, leftovers, pending, removed_books_that_are_back
+from faults import faults_of_books, faults_of_disks, pending, removed_books_that_are_back, unsound_states
 from files import files_of_store, owner_of
 from locks import alone_if_free
 from reading import contents_of
@@ -226,7 +226,7 @@ def look():
     with told(wrong):
         wrong += pending()
     with told(wrong):
-        notes += [*leftovers(), *removed_books_that_are_back(found)]
+        notes += [*unsound_states(), *removed_books_that_are_back(found)]
     with told(wrong):
         disks, more_wrong = faults_of_disks()
         wrong += more_wrong
