@@ -7,7 +7,7 @@ import shutil
 import time
 
 from files import (
-    BLOCK, LOG, copy_file, copy_store, files_of_store, open_plain, read_note, room_for, room_in, size_of_store, sync,
+    BLOCK, LOG, PART, copy_file, copy_store, files_of_store, open_plain, read_note, room_for, room_in, size_of_store, sync,
     sync_folder, time_name, write_note,
 )
 from locks import alone_with, copies_folder
@@ -18,7 +18,6 @@ from tables import NotSound, check_and_fold, counts_of, fold, in_words, keep_boo
 NOTE = "copy.json"
 TIME = "%Y%m%dT%H%M%SZ"
 COPY_NAME = re.compile(r"\d{8}T\d{6}Z")
-PART = ".part-"
 # How the names begin of what a store had, where the program does not find it sound.
 UNSOUND = "unsound-"
 # How long a command tries to copy a store whose log is begun anew during each attempt, in seconds.
@@ -178,9 +177,9 @@ def copy_served(path, target):
             )
 
 
-def finish_copy(part, target, name, source=None, books=(), before=None):
+def describe(part, name, source=None, books=(), before=None):
     """Checks a copy on a second copy of it, so that the first stays as it was made; compares it with the books of the
-    copy that it was made of; writes down what it holds; and gives it its name, by one rename."""
+    copy that it was made of; and writes down what it holds."""
     path = os.path.join(part, "books.db")
     scratch = os.path.join(part, "scratch.db")
     copy_store(path, scratch)
@@ -193,7 +192,7 @@ def finish_copy(part, target, name, source=None, books=(), before=None):
         stop_unless_same(sums, {book: source.books[book] for book in books}, f"{source.folder}, or what was made of it")
     note = {
         "store": name,
-        "made": os.path.basename(target).rpartition("-")[2],
+        "made": utc_now().strftime(TIME),
         "counts": counts,
         "bytes": {os.path.basename(it): os.path.getsize(it) for it in files_of_store(path)},
         "books": sums,
@@ -202,9 +201,6 @@ def finish_copy(part, target, name, source=None, books=(), before=None):
         note["less_than"] = before.name
     write_note(os.path.join(part, NOTE), note)
     sync_folder(part)
-    os.rename(part, target)
-    sync(os.path.dirname(target))
-    return Copy(target)
 
 
 def new_time(name, later_than=""):
@@ -215,29 +211,60 @@ def new_time(name, later_than=""):
     return made
 
 
-def make_copy(name, path, made=None, before=None):
-    """A new copy of a store, which is expected to hold no less than the copy `before`. The caller holds its lock."""
-    folder = copies_folder(name)
-    with room_for(folder, 2 * size_of_store(path) + BLOCK, f"a copy of {path} and a second one to check it"):
-        with room_in(folder, PART) as part:
-            made = made or new_time(name)
-            copy_served(path, os.path.join(part, "books.db"))
-            return finish_copy(part, os.path.join(folder, made), name, before=before)
+def named(part, name):
+    """The last step of a copy: it gets its name, by one rename. Until then nobody takes it for a copy."""
+    target = os.path.join(os.path.dirname(part), name)
+    os.rename(part, target)
+    sync(os.path.dirname(target))
+    return target
 
 
-def copy_of_books(name, source, books, made=None, write_more=lambda path: None):
-    """A new copy of a store that is to get these books of another copy: one file, compared book by book with that copy.
-    It is made before the store gets the file."""
+@contextlib.contextmanager
+def room_for_copy(name, wanted, path):
+    """A folder among the copies of a store, for one that is being made. It is gone after the block if it has no name."""
     folder = copies_folder(name)
-    with room_for(folder, 3 * size_of_store(source.path) + BLOCK, f"a copy of {source.path} and a second one"):
-        with room_in(folder, PART) as part:
-            path = os.path.join(part, "books.db")
-            copy_store(source.path, path)
-            if books != source.books.keys():
-                keep_books(path, books)
-            fold(path)
-            write_more(path)
-            return finish_copy(part, os.path.join(folder, made or new_time(name)), name, source, books)
+    with room_for(folder, wanted + BLOCK, f"a copy of {path} and a second one to check it"), room_in(folder, PART) as part:
+        yield part
+
+
+@contextlib.contextmanager
+def copy_aside(name, path, before=None):
+    """A copy of a store without its name, which is expected to hold no less than the copy `before`."""
+    with room_for_copy(name, 2 * size_of_store(path), path) as part:
+        copy_served(path, os.path.join(part, "books.db"))
+        describe(part, name, before=before)
+        yield part
+
+
+@contextlib.contextmanager
+def books_aside(name, source, books, write_more=lambda path: None):
+    """A copy without its name of what a store is to get: one file with these books of another copy, compared book by
+    book. It gets its name when the store gets the file: until then the newest copy is of what the store has."""
+    with room_for_copy(name, 3 * size_of_store(source.path), source.path) as part:
+        path = os.path.join(part, "books.db")
+        copy_store(source.path, path)
+        if books != source.books.keys():
+            keep_books(path, books)
+        fold(path)
+        write_more(path)
+        describe(part, name, source, books)
+        yield part
+
+
+@contextlib.contextmanager
+def files_aside(name, path):
+    """The files of a store that is not sound, as far as they are plain files."""
+    with room_for_copy(name, size_of_store(path), path) as part:
+        for it in filter(is_plain, files_of_store(path)):
+            copy_file(it, os.path.join(part, os.path.basename(it)))
+        sync_folder(part)
+        yield part
+
+
+def make_copy(name, path, before=None):
+    """A new copy of a store. The caller holds its lock."""
+    with copy_aside(name, path, before) as part:
+        return Copy(named(part, new_time(name)))
 
 
 def copy(name):
@@ -249,7 +276,7 @@ def copy(name):
         past, future = copies_of(name)
         before = past[-1] if past else None
         try:
-            made = make_copy(name, store.path, before=before)
+            made = make_copy(name, store.path, before)
         except NotSound as why:
             raise Stop(f"{why}. No copy was made. Run the command again. If it says the same, the store {name} is damaged: "
                        "OPERATING.md, `A store does not start`, says what to do") from None
@@ -260,19 +287,6 @@ def copy(name):
     if made.less_than:
         warn(f"the copy before, {before.name}, held more: {in_words(before.counts)}: a log may have been lost. Both copies "
              "stay, and `pawnd-admin status` says what to do")
-
-
-def put_beside_copies(name, path, made):
-    """The files of a store that is not sound, as far as they are plain files, in a folder beside its copies."""
-    folder = copies_folder(name)
-    with room_for(folder, size_of_store(path) + BLOCK, f"a copy of {path}"), room_in(folder, PART) as part:
-        for it in filter(is_plain, files_of_store(path)):
-            copy_file(it, os.path.join(part, os.path.basename(it)))
-        sync_folder(part)
-        target = os.path.join(folder, UNSOUND + made)
-        os.rename(part, target)
-        sync(folder)
-    return target
 
 
 def is_plain(path):

@@ -1,6 +1,6 @@
 """Books that leave the store that they are in: into a new store, or for good. And a book out of a copy.
 
-A store gets no file but that of a good copy, and what it had is in another one: so no book is ever in fewer places than
+A store gets no file but that of a good copy, and what it had is in another one. So no book is ever in fewer places than
 before."""
 import os
 import subprocess
@@ -10,7 +10,9 @@ import replicas
 import services
 from begun import begun_file, ended_by_itself_alone, stop_if_another_began
 from books import stores_with
-from copies import COPY_NAME, Copy, copies_of, copy_of_books, make_copy, removed_books, stores_with_copies, the_copy
+from copies import (
+    COPY_NAME, Copy, books_aside, copies_of, make_copy, named, new_time, removed_books, stores_with_copies, the_copy,
+)
 from files import copy_store, files_of_store, read_note, size_of_store, time_name, write_note
 from locks import alone_with, copies_folder
 from reading import contents_of
@@ -26,15 +28,17 @@ def listed(books):
     return ", ".join(map(str, sorted(books)))
 
 
-def tell_of_copies(*made):
-    for it in made:
-        say(f"{it.folder}: {in_words(it.counts)}")
+def put_copy(name, part):
+    """A copy gets its name, and the store its file."""
+    made = Copy(named(part, new_time(name)))
+    put_in_place(name, made.path)
+    say(f"{made.folder}: {in_words(made.counts)}")
 
 
 def serve(name, part):
     """A new store with this part. An empty store that stood there is replaced."""
     with services.stopped(Store(name)):
-        put_in_place(name, part.path)
+        put_copy(name, part)
     enable(name)
 
 
@@ -51,14 +55,14 @@ class Split:
     """A split of a store, as far as it has come. The steps that others see, in this order, and what is so between two
     of them:
 
-    1. There are copies of the store, and of both parts. `pending/split-STORE.json` says what is being done. Nothing has
-       changed.
+    1. There is a copy of the store, and copies of both parts have no names yet. `pending/split-STORE.json` says what is
+       being done. Nothing has changed.
     2. The map's lines say that the new store has the books. It is not there, so they are answered 503 as soon as nginx
        has taken up the map. Until then the old store has them.
     3. nginx has taken up the map, and no request is under way by the old one. From now on nobody reaches these books
        in the old store, also if it is started by hand.
-    4. The new store gets the file of its copy, by one rename, and is served.
-    5. The old store gets the file without these books, in the same way.
+    4. The new store's copy gets its name. The new store gets its file, by one rename, and is served.
+    5. The same is done with the old store and the file without these books.
     6. The file of step 1 goes.
 
     A command that is run again makes the parts anew, as long as the new store is not there, and goes on from there. So
@@ -96,23 +100,23 @@ class Split:
         name = self.store.name
         with room_to_replace(name, size_of_store(self.store.path)), services.stopped(self.store):
             original = make_copy(name, self.store.path)
-            rest = copy_of_books(name, original, original.books.keys() - self.books)
-            if self.has_new:
-                enable(self.new)
-                proxy.reload_nginx()
-            else:
-                self.turn_to_part(copy_of_books(self.new, original, self.books))
-            put_in_place(name, rest.path)
-        tell_of_copies(original, rest)
+            say(f"{original.folder}: {in_words(original.counts)}")
+            with books_aside(name, original, original.books.keys() - self.books) as rest:
+                if self.has_new:
+                    enable(self.new)
+                    proxy.reload_nginx()
+                else:
+                    with books_aside(self.new, original, self.books) as part:
+                        self.turn_to(part)
+                put_copy(name, rest)
 
-    def turn_to_part(self, part):
+    def turn_to(self, part):
         write_note(self.path, {"command": self.command, "stores": [self.store.name]})
         make_settings(self.new)
         proxy.write_stores()
         proxy.turn(self.books, self.new)
         proxy.reload_nginx()
         serve(self.new, part)
-        tell_of_copies(part)
 
 
 def split(name, new, books):
@@ -189,7 +193,7 @@ def turn_to_part(book, new, copy, command, path):
     if was != new:
         if not is_empty(new) and set(contents_of(Store(new).path).books) != {book}:
             raise Stop(f"the store {new} has other books already: name a new store")
-        tell_of_copies(make_store_of_copy(book, new, copy, command, path))
+        make_store_of_copy(book, new, copy, command, path)
     proxy.write_stores()
     proxy.turn({book}, new)
     proxy.reload_nginx()
@@ -197,18 +201,19 @@ def turn_to_part(book, new, copy, command, path):
 
 
 def make_store_of_copy(book, new, copy, command, path):
-    """The new store with the book. Returns its copy. It may be there from a run that did not end, and is the same then."""
-    with room_to_replace(new, size_of_store(copy.path)):
-        part = copy_of_books(new, copy, {book}) if is_empty(new) else make_copy(new, Store(new).path)
-        stop_unless_same(part.books, {book: copy.books[book]}, f"the store {new} has another state of book {book}")
-        write_note(path, {"command": command, "stores": [new], "copy": copy.folder})
-        make_settings(new)
-        if is_empty(new):
+    """The new store with the book. It may be there from a run that did not end, and is the same then."""
+    begun = {"command": command, "stores": [new], "copy": copy.folder}
+    if is_empty(new):
+        with room_to_replace(new, size_of_store(copy.path)), books_aside(new, copy, {book}) as part:
+            write_note(path, begun)
+            make_settings(new)
             serve(new, part)
-        else:
-            enable(new)
-            services.start(Store(new))
-    return part
+        return
+    found = make_copy(new, Store(new).path)
+    stop_unless_same(found.books, {book: copy.books[book]}, f"the store {new} has another state of book {book}")
+    write_note(path, begun)
+    enable(new)
+    services.start(Store(new))
 
 
 # ---- a book that leaves for good
@@ -256,12 +261,13 @@ def take_out(store, book, path, locked):
     """Returns the book's last state in this store, which is kept among those of removed books."""
     with room_to_replace(store.name, size_of_store(store.path)), services.stopped(store):
         original = make_copy(store.name, store.path)
-        made = f"{book}-{time_name(os.path.join(copies_folder(REMOVED), f'{book}-'))}"
-        kept = copy_of_books(REMOVED, original, {book}, made, lambda part: write_text(part, book))
-        rest = copy_of_books(store.name, original, original.books.keys() - {book})
-        write_note(path, {"command": f"remove-book {book}", "stores": sorted(locked)})
-        put_in_place(store.name, rest.path)
-    tell_of_copies(original, rest)
+        say(f"{original.folder}: {in_words(original.counts)}")
+        with books_aside(store.name, original, original.books.keys() - {book}) as rest:
+            with books_aside(REMOVED, original, {book}, lambda part: write_text(part, book)) as part:
+                beginning = f"{book}-"
+                kept = Copy(named(part, beginning + time_name(os.path.join(copies_folder(REMOVED), beginning))))
+            write_note(path, {"command": f"remove-book {book}", "stores": sorted(locked)})
+            put_copy(store.name, rest)
     return kept
 
 

@@ -13,6 +13,8 @@ import time
 from settings import Stop
 
 LOG = "-wal"
+# How the names begin of copies that are being made.
+PART = ".part-"
 BLOCK = 1 << 20
 # The order to the file system to let two files share their bytes: FICLONE of linux/fs.h.
 SHARE_BYTES = 0x40049409
@@ -184,7 +186,6 @@ def sweep(folder, prefix):
 @contextlib.contextmanager
 def room_in(folder, prefix):
     """A folder of root's for files that are being made, which is gone after the block if it still has its name."""
-    sweep(folder, prefix)
     room = tempfile.mkdtemp(prefix=prefix, dir=folder)
     try:
         yield room

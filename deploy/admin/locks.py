@@ -5,7 +5,7 @@ import os
 import struct
 import time
 
-from files import sweep, work_prefix
+from files import PART, sweep, work_prefix
 from settings import COPIES, PATIENCE, SETTINGS, STORES, Stop, warn
 
 # The bytes of a database that SQLite locks, and the program with it: the first, and how many.
@@ -64,6 +64,7 @@ def alone_with(*names):
         for name in sorted(set(names)):
             stack.enter_context(alone(copies_folder(name), f"the store {name}"))
             sweep(STORES, work_prefix(name))
+            sweep(copies_folder(name), PART)
         yield
 
 

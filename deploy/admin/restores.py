@@ -1,9 +1,10 @@
 """A copy in the place of a store."""
+import contextlib
 import os
 
 import proxy
 import services
-from copies import copy_of_books, is_plain, make_copy, new_time, put_beside_copies, removed_books, the_copy
+from copies import UNSOUND, Copy, books_aside, copy_aside, files_aside, is_plain, named, new_time, removed_books, the_copy
 from files import files_of_store, size_of_store
 from locks import alone_with
 from reading import contents_of
@@ -14,7 +15,7 @@ from tables import NotSound, in_words
 
 def restore(name, said):
     """The verb `restore`. What the store had becomes a copy itself, so that nothing is lost if the wrong copy was
-    named. A copy of what it gets is made first, and is the newer one: `newest` never means what the store had."""
+    named. What it gets is a newer copy: `newest` never means what the store had before."""
     copy = the_copy(store_name(name), said)
     if copy.store != name:
         raise Stop(
@@ -24,33 +25,36 @@ def restore(name, said):
     with alone_with(name), room_to_replace(name, max(map(size_of_store, (copy.path, store_file(name))))):
         if name in store_names():
             the_store(name)
-        begun = new_time(name)
-        new = copy_of_books(name, copy, copy.books.keys(), new_time(name, later_than=begun))
-        store = make_settings(name)
-        with services.stopped(store):
-            put_in_place(name, new.path, keep_what_it_has(store, begun))
+        with books_aside(name, copy, copy.books.keys()) as new:
+            store = make_settings(name)
+            begun = new_time(name)
+            later = new_time(name, later_than=begun)
+            with services.stopped(store), contextlib.ExitStack() as until_replaced:
+                old, mark = what_it_has(store, until_replaced)
+                made = Copy(named(new, later))
+                if old:
+                    say(f"{named(old, mark + begun)}: what the store {name} had. Remove it when nobody misses anything")
+                put_in_place(name, made.path, not mark)
         enable(name)
         proxy.write_stores()
         proxy.reload_nginx()
         tell_what_differs(store, copy)
     say(f"the store {name} holds {in_words(copy.counts)} again, as at {copy.made}, and is served. A copy of it is in "
-        f"{new.folder}")
+        f"{made.folder}")
 
 
-def keep_what_it_has(store, made):
-    """What a stopped store has becomes a copy. If it is not sound, its files are put beside the copies as they are.
-    Returns whether it is sound."""
+def what_it_has(store, stack):
+    """A copy of a stopped store without its name, or its files as they are if it is not sound; and how the name begins.
+    They are there until the stack ends."""
     if not files_of_store(store.path):
-        return True
+        return None, ""
     try:
         if not is_plain(store.path):
             raise NotSound(f"{store.path} is missing, or is no plain file")
-        kept, is_sound = make_copy(store.name, store.path, made).folder, True
+        return stack.enter_context(copy_aside(store.name, store.path)), ""
     except NotSound as why:
         warn(str(why))
-        kept, is_sound = put_beside_copies(store.name, store.path, made), False
-    say(f"{kept}: what the store {store.name} had before. Remove it when nobody misses anything")
-    return is_sound
+        return stack.enter_context(files_aside(store.name, store.path)), UNSOUND
 
 
 def tell_what_differs(store, copy):

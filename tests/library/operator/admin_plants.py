@@ -99,7 +99,7 @@ def no_copy_of_a_part_can_be_made():
     def refuse(*_):
         raise Stop("the disk is full")
 
-    divisions.copy_of_books = copies.copy_of_books = refuse
+    divisions.books_aside = copies.books_aside = refuse
 
 
 def the_new_store_does_not_start():
