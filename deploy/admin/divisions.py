@@ -237,7 +237,8 @@ def remove_book(number):
 def stores_of_removal(book, path):
     """The store that answers for a book, those that have rows of it, and those that a run may have left stopped."""
     begun = read_note(path)["stores"] if os.path.exists(path) else []
-    return {proxy.store_of(book), *stores_with(book), *(set(begun) & set(store_names()))}
+    here = [it for it in begun if it in store_names() and Store(it).is_here]
+    return {proxy.store_of(book), *stores_with(book), *here}
 
 
 def remove_alone(book, path, locked):

@@ -119,7 +119,7 @@ def a_division_that_stops_after_the_map_was_turned():
             said = it.admin_with(*words, PLANT="the_new_store_does_not_start", wanted=1)
             expect(f"what is said: {said}", f"run it again, `pawnd-admin {' '.join(words)}`" in said, True)
             callers[7].repay(), callers[7].look_up()
-            expect("the newest copy", books_in(os.path.join(it.newest("main"), "books.db")), {7, 8})
+            expect("the newest copy", books_in(os.path.join(it.newest("main"), "books.db")), books_in(it.path("main")))
             it.admin(*words)
             it.admin("copy", "main"), it.admin("copy", "west")
         expect_all_is_well(it)
