@@ -77,7 +77,7 @@ def put_in_place(name, new, old_is_sound=True):
         for it in files_of_store(path):
             if it.endswith(LOG) or not old_is_sound:
                 os.unlink(it)
-        sync(folder)
+        sync(STORES, folder)
         put_file(name, new)
 
 
