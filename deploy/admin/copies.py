@@ -7,7 +7,7 @@ import shutil
 import time
 
 from files import (
-    BLOCK, LOG, PART, copy_file, copy_store, files_of_store, open_plain, read_note, room_for, room_in, size_of_store, sync,
+    BLOCK, LOG, PART, copy_file, copy_store, files_of_store, is_plain, open_plain, read_note, room_for, room_in, size_of_store, sync,
     sync_folder, time_name, write_note,
 )
 from locks import alone_with, copies_folder
@@ -287,10 +287,6 @@ def copy(name):
     if made.less_than:
         warn(f"the copy before, {before.name}, held more: {in_words(before.counts)}: a log may have been lost. Both copies "
              "stay, and `pawnd-admin status` says what to do")
-
-
-def is_plain(path):
-    return os.path.isfile(path) and not os.path.islink(path)
 
 
 # ---- removing old ones

@@ -58,10 +58,14 @@ def room_for(folder, wanted, purpose):
 
 
 def size_of_store(path):
-    return sum(os.path.getsize(part) for part in files_of_store(path))
+    return sum(os.lstat(part).st_size for part in files_of_store(path))
 
 
 # ---- copying
+
+
+def is_plain(path):
+    return os.path.isfile(path) and not os.path.islink(path)
 
 
 def open_plain(path):

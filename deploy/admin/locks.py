@@ -5,7 +5,7 @@ import os
 import struct
 import time
 
-from files import PART, sweep, work_prefix
+from files import PART, is_plain, sweep, work_prefix
 from settings import COPIES, PATIENCE, SETTINGS, STORES, Stop, warn
 
 # The bytes of a database that SQLite locks, and the program with it: the first, and how many.
@@ -104,8 +104,8 @@ def is_open(path):
 
 @contextlib.contextmanager
 def held(path):
-    """No program opens the store within the block. There may be no file, where a command was killed."""
-    if not os.path.exists(path):
+    """No program opens the store within the block. Without a plain file there is no store to open."""
+    if not is_plain(path):
         yield
         return
     with open(path, "r+b") as file:

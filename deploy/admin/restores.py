@@ -4,8 +4,8 @@ import os
 
 import proxy
 import services
-from copies import UNSOUND, Copy, books_aside, copy_aside, files_aside, is_plain, named, new_time, removed_books, the_copy
-from files import files_of_store, size_of_store
+from copies import UNSOUND, Copy, books_aside, copy_aside, files_aside, named, new_time, removed_books, the_copy
+from files import files_of_store, is_plain, size_of_store
 from locks import alone_with
 from reading import contents_of
 from settings import Stop, Store, say, store_file, store_name, store_names, the_store, warn

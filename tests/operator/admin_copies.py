@@ -6,6 +6,7 @@ import json
 import os
 import shutil
 import sqlite3
+import stat
 import subprocess
 
 from tests.library.checks import Failed, expect
@@ -197,6 +198,20 @@ def a_database_that_is_lost():
                                  for name in copies(it)), True)
 
 
+def a_link_in_the_place_of_a_store():
+    """An intruder in the service of a store put it there. A copy is put back, and what the link leads to stays as it is."""
+    with Machine() as it:
+        caller = it.book(7, pledges=1)
+        it.admin("copy", "main")
+        it.systemctl("stop", "pawnd@main")
+        os.unlink(it.path("main"))
+        os.mkfifo(it.place("other"))
+        os.symlink(it.place("other"), it.path("main"))
+        it.admin("restore", "main", "newest", within=300)
+        caller.look_up()
+        expect("what it led to", stat.S_ISFIFO(os.stat(it.place("other")).st_mode), True)
+
+
 def redate(machine, old, new, name="main"):
     """A copy gets another time, as if it had been made then."""
     folder = os.path.join(machine.copies, name)
@@ -380,6 +395,7 @@ if __name__ == "__main__":
         without_its_log_a_copy_is_refused,
         what_stood_there_becomes_a_copy,
         a_database_that_is_lost,
+        a_link_in_the_place_of_a_store,
         old_copies_are_removed,
         a_clock_that_was_ahead,
         a_receiver_whose_clock_is_ahead,
