@@ -212,7 +212,7 @@ def new_time(name, later_than=""):
 
 
 def named(part, name):
-    """The last step of a copy: it gets its name, by one rename. Until then nobody takes it for a copy."""
+    """The last step of a copy: it gets its name, by one rename. Until then it does not count as a copy."""
     target = os.path.join(os.path.dirname(part), name)
     os.rename(part, target)
     sync(os.path.dirname(target))
