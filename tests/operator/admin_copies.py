@@ -268,23 +268,13 @@ def old_copies_are_removed():
 BORG = """#!/bin/bash
 case $1 in
 create) until [[ $1 == ::* ]]; do shift; done; echo "${1#::} $2" >>"$ARCHIVES" ;;
-prune) [[ "$*" == *--dry-run* ]] || echo "$@" >>"$ARCHIVES.pruned" ;;
 list) cut -d ' ' -f 1 "$ARCHIVES" | sort -t . -k 3 | if [[ "$*" == *'--last 1'* ]]; then tail -n 1; else cat; fi ;;
 export-tar) tar -c -C "$ARCHIVES.room" etc ;;
 esac
 """
 
 
-# In place of date, as prune and take call it: by a clock that is eight days ahead.
-DATE_AHEAD = """#!/bin/sh
-case $2 in
--d) exec /bin/date -u -d "$3 8 days" "$4" ;;
-*) exec /bin/date -u -d '8 days' "$2" ;;
-esac
-"""
-
-
-def by_borg(machine, *words, wanted=0):
+def by_borg(machine, *words):
     """What a command of deploy/offsite prints."""
     machine.write("bin/borg", BORG, 0o755)
     machine.write("bin/runuser", '#!/bin/sh\nshift 3\nexec "$@"\n', 0o755)
@@ -294,7 +284,7 @@ def by_borg(machine, *words, wanted=0):
         stdin=subprocess.DEVNULL, env={**machine.environment, "ARCHIVES": machine.place("archives"),
                                        "FOLDER": machine.place("offsite"), "PASSPHRASE": machine.place("passphrase")},
     )
-    expect(f"the end of {words}: {ran.stderr}", ran.returncode, wanted)
+    expect(f"the end of {words}: {ran.stderr}", ran.returncode, 0)
     return ran.stdout + ran.stderr
 
 
@@ -335,23 +325,6 @@ def a_clock_that_was_ahead():
         os.rename(it.place("backups/main", ahead), it.place("backups/main", days_ago(1)))
         expect("and after the rename that it asks for", it.status()["wrong"], [])
         expect("the newest", it.status()["stores"][0]["copy"]["name"], wanted)
-
-
-def a_receiver_whose_clock_is_ahead():
-    """By such a clock nothing was sent for a week: no archive is removed, and the newest one is still taken."""
-    with Machine() as it:
-        older, newest = (f"main.{days_ago(days)}.{days_ago(days)}" for days in (1, 0))
-        it.write("archives", f"{older} x\n{newest} x\n")
-        os.makedirs(it.place("offsite/copies/data"))
-        os.makedirs(it.place("archives.room/etc"))
-        by_borg(it, "prune")
-        expect("that is when old ones are removed", os.path.exists(it.place("archives.pruned")), True)
-        os.unlink(it.place("archives.pruned"))
-        it.write("bin/date", DATE_AHEAD, 0o755)
-        said = by_borg(it, "prune", wanted=1)
-        expect(f"why: {said}", "nothing was sent in the last seven days" in said and "timedatectl" in said, True)
-        expect("nothing is removed", os.path.exists(it.place("archives.pruned")), False)
-        expect("what is taken", by_borg(it, "take", "main", it.room).split()[0], newest)
 
 
 def onto_an_empty_machine():
@@ -398,7 +371,6 @@ if __name__ == "__main__":
         a_link_in_the_place_of_a_store,
         old_copies_are_removed,
         a_clock_that_was_ahead,
-        a_receiver_whose_clock_is_ahead,
         a_certificate_that_is_elsewhere,
         onto_an_empty_machine,
     )
