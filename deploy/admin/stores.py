@@ -68,7 +68,8 @@ def put_in_place(name, new, old_is_sound=True):
     replaces the database. If the old one is not sound its database goes first, and for a moment there is none."""
     path = store_file(name)
     folder = os.path.dirname(path)
-    os.makedirs(folder, 0o700, exist_ok=True)
+    os.makedirs(folder, exist_ok=True)
+    os.chmod(folder, 0o700)
     if os.geteuid() == 0:
         os.chown(folder, *owner_of(name))
     with contextlib.ExitStack() as until_replaced:
