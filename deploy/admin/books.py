@@ -1,17 +1,17 @@
 """Books: making one, and a new key for one whose key has leaked."""
 import os
+import shlex
 import uuid
 
 import asking
 import proxy
 import services
-from copies import OLD
+from begun import begun_file, begun_folder
 from files import read_note, replace_whole, write_note
 from locks import alone, alone_with, alone_with_settings
 from reading import contents_of
-from settings import MAIN, SETTINGS, Stop, Store, book_number, say, store_name, store_names
+from settings import Stop, Store, book_number, say, store_name, store_names
 
-CAPACITY = 2
 
 
 def key_of_file(path):
@@ -24,55 +24,32 @@ def key_of_file(path):
 
 
 def hand_over(key, what, path):
-    """A key is written to a file that its owner alone can read, or printed once."""
-    if path is None:
-        say(f"{what}: {key}")
-        say("This is the only time that it is shown. Give it to the broker by a way that nobody else can read")
-        return
+    """A key is written to a file that its owner alone can read."""
     replace_whole(os.path.abspath(path), key + "\n", 0o600)
     say(f"{what} is in {path}")
 
 
 def stores_with(book):
-    """The stores of this machine that have rows of a book; and those whose files a command was replacing when it was
-    killed, since they may have some."""
-    found = []
-    for name in store_names():
-        store = Store(name)
-        if store.is_here and os.path.exists(store.path + OLD):
-            found.append(name)
-        elif store.is_here and os.path.exists(store.path) and book in contents_of(store.path).books:
-            found.append(name)
-    return found
+    """The stores of this machine that have rows of a book."""
+    stores = [Store(name) for name in store_names()]
+    return [it.name for it in stores if it.is_here and os.path.exists(it.path) and book in contents_of(it.path).books]
 
 
 # ---- a new book
 
 
-def pending_folder():
-    """Where commands write down what they have begun."""
-    folder = os.path.join(SETTINGS, "pending")
-    os.makedirs(folder, 0o700, exist_ok=True)
-    return folder
-
-
-def pending_file(book):
-    return os.path.join(pending_folder(), f"{book}.json")
-
-
-def claim(book, where, made):
+def claim(path, book, where, made, command):
     """Writes down what a book is being made with, its key too, before it is made. So a command that was killed makes
     the book with the same key when it is run again, and no other command makes the same book elsewhere."""
-    path = pending_file(book)
     if not os.path.exists(path):
         stop_if_taken(book, where)
-        write_note(path, {**made, "key": str(uuid.uuid4()), "store": where})
+        write_note(path, {**made, "key": str(uuid.uuid4()), "stores": [where], "command": command})
     begun = read_note(path)
-    if {**begun, **made, "store": where} != begun:
+    if {**begun, **made, "stores": [where]} != begun:
         raise Stop(
-            f"book {book} was being made in the store {begun['store']} as {begun['name']!r}, with capacity "
-            f"{begun['capacity']}. Run that command again to end it. If no such book is wanted, remove {path} and its "
-            f"line in {proxy.BOOKS_MAP}, as long as the store has no such book"
+            f"another command that makes book {book} did not end: `pawnd-admin {begun['command']}`. Run it again to end "
+            f"it. If no such book is wanted, remove {path} and its line in {proxy.BOOKS_MAP}, as long as the store has no "
+            "such book"
         )
     return {member: begun[member] for member in ("capacity", "key", "name")}
 
@@ -86,35 +63,34 @@ def stop_if_taken(book, where):
 
 
 def is_made(book, where, made, key_to):
-    """Whether the book is there as this command makes it: an earlier run of the command has ended. The key counts if the
-    command names a file for it."""
+    """Whether the book is there as this command makes it, and its key in the file: an earlier run of the command has
+    ended."""
     store = Store(where)
-    if os.path.exists(pending_file(book)) or where not in stores_with(book) or proxy.store_of(book) != where:
+    if where not in stores_with(book) or proxy.store_of(book) != where:
         return False
     found = contents_of(store.path).books.get(book)
     if found is None or (found["name"], found["capacity"]) != (made["name"], made["capacity"]):
         return False
     own = str(uuid.UUID(bytes=found["key"]))
     outside, _ = proxy.exchanges().get(book, (own, own))
-    return key_to is None or os.path.exists(key_to) and key_of_file(key_to) == outside
+    return os.path.exists(key_to) and key_of_file(key_to) == outside
 
 
-def make_book(number, where=MAIN, name=None, capacity=CAPACITY, key_to=None):
+def make_book(number, where, name, capacity, key_to):
     """The verb `book`. The line of the map is written before the book is made: a book that answers always has it."""
     book = book_number(number)
     proxy.stop_if_of_another_machine("book")
     made = {"capacity": capacity, "name": name}
     if store_name(where) not in store_names():
         raise Stop(f"there is no store {where}. Make it first: `pawnd-admin store {where}`")
-    store = Store(where)
+    store, path = Store(where), begun_file(str(book))
+    words = "book", book, "--store", where, "--name", name, "--capacity", capacity, "--key-to", key_to
     with alone_with(where):
-        if is_made(book, where, made, key_to):
-            say(f"book {book} ({name}) is in the store {where} already, and nothing was changed"
-                + ("" if key_to else f". Its key was shown when it was made: `pawnd-admin new-key {book}` if nobody has it"))
-            return
+        if not os.path.exists(path) and is_made(book, where, made, key_to):
+            return say(f"book {book} ({name}) is in the store {where} already, and nothing was changed")
         with alone_with_settings():
-            was_there = os.path.exists(pending_file(book))
-            made = claim(book, where, made)
+            was_there = os.path.exists(path)
+            made = claim(path, book, where, made, shlex.join(map(str, words)))
             turned = proxy.store_of(book) != where
             proxy.turn({book}, where)
         if turned or was_there:
@@ -122,8 +98,8 @@ def make_book(number, where=MAIN, name=None, capacity=CAPACITY, key_to=None):
         services.post(store, f"/books/{book}", services.operators_key(), made, f'{{"book":{book}}}')
         forget_exchange(book)
         hand_over(made["key"], f"the key of book {book}", key_to)
-        os.unlink(pending_file(book))
-    say(f"book {book} ({made['name']}) is in the store {where}")
+        os.unlink(path)
+    say(f"book {book} ({name}) is in the store {where}")
 
 
 def forget_exchange(book):
@@ -168,13 +144,13 @@ def own_key_elsewhere(book, store, inside_file):
     return key
 
 
-def new_key(number, key_to=None, inside_file=None):
+def new_key(number, key_to, inside_file=None):
     """The verb `new-key`. The new key is handed over before it is in force, so that a command that is killed never
     leaves a book with a key that nobody knows."""
     book = book_number(number)
     proxy.stop_if_of_another_machine("new-key")
     inside, outside = own_key(book, inside_file), str(uuid.uuid4())
-    with alone(pending_folder(), proxy.KEYS_MAP):
+    with alone(begun_folder(), proxy.KEYS_MAP):
         hand_over(outside, f"the new key of book {book}", key_to)
         with alone_with_settings():
             proxy.write_exchanges({**proxy.exchanges(), book: (outside, inside)})

@@ -7,20 +7,17 @@ import shutil
 import time
 
 from files import (
-    BLOCK, LOG, copy_file, copy_store, files_of_store, give_to, open_plain, read_note, room_for, room_in,
-    size_of_store, sweep, sync, sync_folder, time_name, work_prefix, write_note,
+    BLOCK, LOG, PART, copy_file, copy_store, files_of_store, is_plain, open_plain, read_note, room_for, room_in, size_of_store, sync,
+    sync_folder, time_name, write_note,
 )
-from locks import alone_if_free, alone_with, copies_folder
+from locks import alone_with, copies_folder
 from reading import head_of_log
-from settings import (
-    COPIES, REMOVED, STORE_NAME, STORES, Stop, Store, copies_to_keep, say, store_file, store_names, the_store, warn,
-)
-from tables import NotSound, check_and_fold, counts_of, in_words, sums_of
+from settings import COPIES, REMOVED, STORE_NAME, Stop, copies_to_keep, say, the_store, warn
+from tables import NotSound, check_and_fold, counts_of, fold, in_words, keep_books, stop_unless_same, sums_of
 
 NOTE = "copy.json"
 TIME = "%Y%m%dT%H%M%SZ"
 COPY_NAME = re.compile(r"\d{8}T\d{6}Z")
-PART = ".part-"
 # How the names begin of what a store had, where the program does not find it sound.
 UNSOUND = "unsound-"
 # How long a command tries to copy a store whose log is begun anew during each attempt, in seconds.
@@ -180,9 +177,9 @@ def copy_served(path, target):
             )
 
 
-def finish_copy(part, target, store, made, before=None):
-    """Checks a copy on a second copy of it, so that the first stays as it was made; writes down what it holds; and
-    gives it its name, by one rename."""
+def describe(part, name, source=None, books=(), before=None):
+    """Checks a copy on a second copy of it, so that the first stays as it was made; compares it with the books of the
+    copy that it was made of; and writes down what it holds."""
     path = os.path.join(part, "books.db")
     scratch = os.path.join(part, "scratch.db")
     copy_store(path, scratch)
@@ -190,10 +187,12 @@ def finish_copy(part, target, store, made, before=None):
     sums = sums_of(scratch)
     os.unlink(scratch)
     if counts != counts_of(sums):
-        raise Stop(f"{part}: `pawnd check` counts {in_words(counts)}, and SQLite {in_words(counts_of(sums))}")
+        raise NotSound(f"{part}: `pawnd check` counts {in_words(counts)}, and SQLite {in_words(counts_of(sums))}")
+    if source:
+        stop_unless_same(sums, {book: source.books[book] for book in books}, f"{source.folder}, or what was made of it")
     note = {
-        "store": store,
-        "made": made,
+        "store": name,
+        "made": utc_now().strftime(TIME),
         "counts": counts,
         "bytes": {os.path.basename(it): os.path.getsize(it) for it in files_of_store(path)},
         "books": sums,
@@ -202,41 +201,80 @@ def finish_copy(part, target, store, made, before=None):
         note["less_than"] = before.name
     write_note(os.path.join(part, NOTE), note)
     sync_folder(part)
+
+
+def new_time(name, later_than=""):
+    """The time of a new copy of a store, or of what was not sound of it. No two of these have the same time."""
+    folder = os.path.join(COPIES, name)
+    while (made := time_name(os.path.join(folder, ""), os.path.join(folder, UNSOUND))) <= later_than:
+        time.sleep(0.1)
+    return made
+
+
+def named(part, name):
+    """The last step of a copy: it gets its name, by one rename. Until then it does not count as a copy."""
+    target = os.path.join(os.path.dirname(part), name)
     os.rename(part, target)
     sync(os.path.dirname(target))
-    return Copy(target)
+    return target
 
 
-def new_time(name):
-    """The time of a new copy of a store, or of what is kept of it. No two of these have the same time, so their order
-    is that of the states that they hold."""
-    folder = os.path.join(COPIES, name)
-    return time_name(os.path.join(folder, ""), os.path.join(folder, UNSOUND), kept_folder(name, ""))
+@contextlib.contextmanager
+def room_for_copy(name, wanted, path):
+    """A folder among the copies of a store, for one that is being made. It is gone after the block if it has no name."""
+    folder = copies_folder(name)
+    with room_for(folder, wanted + BLOCK, f"a copy of {path} and a second one to check it"), room_in(folder, PART) as part:
+        yield part
+
+
+@contextlib.contextmanager
+def copy_aside(name, path, before=None):
+    """A copy of a store without its name, which is expected to hold no less than the copy `before`."""
+    with room_for_copy(name, 2 * size_of_store(path), path) as part:
+        copy_served(path, os.path.join(part, "books.db"))
+        describe(part, name, before=before)
+        yield part
+
+
+@contextlib.contextmanager
+def books_aside(name, source, books, write_more=lambda path: None):
+    """A copy without its name of what a store is to get: one file with these books of another copy, compared book by
+    book. It gets its name when the store gets the file: until then the newest copy is of what the store has."""
+    with room_for_copy(name, 3 * size_of_store(source.path), source.path) as part:
+        path = os.path.join(part, "books.db")
+        copy_store(source.path, path)
+        if books != source.books.keys():
+            keep_books(path, books)
+        fold(path)
+        write_more(path)
+        describe(part, name, source, books)
+        yield part
+
+
+@contextlib.contextmanager
+def files_aside(name, path):
+    """The files of a store that is not sound, as far as they are plain files."""
+    with room_for_copy(name, size_of_store(path), path) as part:
+        for it in filter(is_plain, files_of_store(path)):
+            copy_file(it, os.path.join(part, os.path.basename(it)))
+        sync_folder(part)
+        yield part
 
 
 def make_copy(name, path, before=None):
-    """A new copy of a store, which is expected to hold no less than the copy `before`. The caller holds its lock."""
-    folder = copies_folder(name)
-    with room_for(folder, 2 * size_of_store(path) + BLOCK, f"a copy of {path} and a second one to check it"):
-        with room_in(folder, PART) as part:
-            made = new_time(name)
-            copy_served(path, os.path.join(part, "books.db"))
-            return finish_copy(part, os.path.join(folder, made), name, made, before)
+    """A new copy of a store. The caller holds its lock."""
+    with copy_aside(name, path, before) as part:
+        return Copy(named(part, new_time(name)))
 
 
 def copy(name):
     """The verb `copy`."""
     store, keep = the_store(name), copies_to_keep()
     with alone_with(name):
-        # The unit that runs this at night may not write to the stores.
-        can_settle = os.access(STORES, os.W_OK)
-        if can_settle:
-            mend(name)
         if not os.path.exists(store.path):
             raise Stop(f"there is no store at {store.path}. Is its disk there? `pawnd-admin restore {name} newest`")
         past, future = copies_of(name)
-        taken_out = past and any(it.was_in_force and it.time > past[-1].name for it in kept_of(name))
-        before = past[-1] if past and not taken_out else None
+        before = past[-1] if past else None
         try:
             made = make_copy(name, store.path, before)
         except NotSound as why:
@@ -244,8 +282,6 @@ def copy(name):
                        "OPERATING.md, `A store does not start`, says what to do") from None
         say(f"{made.folder}: {in_words(made.counts)}")
         forget_old(name, keep)
-        if can_settle:
-            settle_all(name)
     if future:
         warn(in_the_future(name, future))
     if made.less_than:
@@ -254,11 +290,6 @@ def copy(name):
 
 
 # ---- removing old ones
-
-
-def all_copies():
-    """The copies of all stores, and what was kept of removed books."""
-    return [copy for name in stores_with_copies() for copy in copies_of(name)[0]] + removed_books()
 
 
 def newest_of_all():
@@ -285,147 +316,3 @@ def forget_old(name, keep):
 def cover(covered, copy):
     for book, it in copy.books.items():
         covered[book] = max(covered.get(book, 0), it["rows"])
-
-
-# ---- what a store had before its files were replaced
-
-# The names beside the kept folder of a store: its note, and the file in a folder that was never in force.
-NOTE_END, UNUSED = ".json", "never-in-force"
-# How the names end of the files of a store that are replaced one by one.
-NEW, OLD = ".new", ".old"
-
-
-def kept_folder(name, when):
-    return os.path.join(STORES, f".{name}-before-{when}")
-
-
-class Kept:
-    """What a store had before a command put other files in its place."""
-
-    def __init__(self, folder):
-        self.folder = folder
-        self.store, _, self.time = os.path.basename(folder)[1:].partition("-before-")
-        self.note = read_note(folder + NOTE_END) if os.path.exists(folder + NOTE_END) else {}
-        # A folder without files is one whose removal was cut off.
-        self.was_in_force = bool(os.path.isdir(folder) and files_of_store(os.path.join(folder, "books.db"))) and (
-            not os.path.exists(os.path.join(folder, UNUSED + os.path.basename(folder)))
-        )
-
-    @property
-    def goes_on(self):
-        """Whether the store is still one of this machine."""
-        return self.store in store_names() and Store(self.store).is_here
-
-    @property
-    def awaits_copy(self):
-        """Whether the store goes on and has no copy made since. Until it has one, its newest copy is of before."""
-        past, _ = copies_of(self.store)
-        return self.goes_on and not (past and past[-1].made > self.time)
-
-    def missing(self):
-        """The books that have no copy yet, made since, with as many rows as they had here."""
-        found = {}
-        for copy in all_copies():
-            if copy.store == REMOVED or copy.made >= self.time:
-                cover(found, copy)
-        return sorted(int(book) for book, rows in self.note.get("books", {}).items() if found.get(int(book), 0) < rows)
-
-    def forget(self):
-        shutil.rmtree(self.folder, ignore_errors=True)
-        os.unlink(self.folder + NOTE_END)
-
-
-def kept_of(name=None):
-    """What is kept of a store, or of all."""
-    names = sorted(os.listdir(STORES)) if os.path.isdir(STORES) else []
-    form = re.compile(rf"\.{name or '[a-z][a-z0-9]*'}-before-\d{{8}}T\d{{6}}Z")
-    found = sorted({it.removesuffix(NOTE_END) for it in names})
-    return [Kept(os.path.join(STORES, it)) for it in found if form.fullmatch(it)]
-
-
-def kept_by(command):
-    """What is kept of stores because of this command."""
-    return [it for it in kept_of() if it.was_in_force and it.note.get("command") == command]
-
-
-def mend(name):
-    """Puts the old files of a store back, if a command was killed while it replaced them one by one. A mark that a
-    command left in the folder of the store after an exchange goes."""
-    path = store_file(name)
-    folder = os.path.dirname(path)
-    if os.path.exists(path + OLD) and not os.path.exists(path):
-        kept = [it for it in kept_of(name) if it.was_in_force][-1]
-        log = os.path.join(kept.folder, "books.db" + LOG)
-        if os.path.exists(log) and not os.path.exists(path + LOG):
-            copy_file(log, path + LOG + NEW)
-            give_to(name, folder)
-            sync(path + LOG + NEW)
-            os.rename(path + LOG + NEW, path + LOG)
-        os.rename(path + OLD, path)
-        sync(folder)
-        kept.forget()
-    names = os.listdir(folder) if os.path.isdir(folder) else []
-    marks = [os.path.join(folder, it) for it in names if it.startswith(UNUSED)]
-    for left in (path + OLD, path + NEW, path + LOG + NEW, *marks):
-        with contextlib.suppress(FileNotFoundError):
-            os.unlink(left)
-
-
-def settle_kept(name):
-    """Ends what commands left that replaced the files of a store, as far as it can be ended now. Nothing is being made
-    for the store, whose lock the caller holds."""
-    mend(name)
-    sweep(STORES, work_prefix(name))
-    for it in kept_of(name):
-        if not it.was_in_force:
-            it.forget()
-        elif it.awaits_copy:
-            continue
-        elif it.note.get("why") == "restore" or not it.note:
-            keep_as_copy(it)
-        elif not it.missing():
-            it.forget()
-            say(f"{it.folder}, which the store {name} had before `{it.note['command']}`, is gone: each of its books has a "
-                "copy")
-    for left in os.listdir(STORES):
-        if left.startswith(f"..{name}-before-"):
-            os.unlink(os.path.join(STORES, left))
-
-
-def settle_all(first):
-    """The same for all stores that no other command works on, since a part of a split can be in any of them."""
-    for name in [first, *sorted({it.store for it in kept_of()} - {first})]:
-        with alone_if_free(name) as free:
-            if free:
-                settle_kept(name)
-
-
-def keep_as_copy(kept):
-    """What a restored copy took the place of becomes a copy itself, or is put among the copies as it is where the
-    program does not find it sound. Its time is that at which it was replaced, so it is never the newest copy: that one
-    is of what the store has now."""
-    folder = copies_folder(kept.store)
-    targets = [os.path.join(folder, before + kept.time) for before in ("", UNSOUND)]
-    # It is there already if a command was killed after this.
-    if not any(map(os.path.exists, targets)):
-        make_copy_of_kept(kept, folder, *targets)
-    target = next(filter(os.path.exists, targets))
-    say(f"{target}: what the store {kept.store} had before. Remove it when nobody misses anything")
-    kept.forget()
-
-
-def make_copy_of_kept(kept, folder, sound, unsound):
-    path = os.path.join(kept.folder, "books.db")
-    with room_for(folder, 2 * size_of_store(path) + BLOCK, f"a copy of {path}"), room_in(folder, PART) as part:
-        copy_store(path, os.path.join(part, "books.db"))
-        try:
-            if not os.path.exists(path):
-                raise Stop(f"{kept.folder} has a log without its database")
-            finish_copy(part, sound, kept.store, kept.time)
-        except Stop as why:
-            for name in set(os.listdir(part)) - {os.path.basename(it) for it in files_of_store(path)}:
-                os.unlink(os.path.join(part, name))
-            sync_folder(part)
-            os.rename(part, unsound)
-            sync(folder)
-            warn(str(why))

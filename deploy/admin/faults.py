@@ -5,9 +5,10 @@ import os
 
 import copies
 import proxy
-from files import free_bytes, is_moveable, read_note, size_of_store, work_prefix
+from begun import begun_file, begun_notes
+from files import free_bytes, size_of_store
 from locks import alone_if_free
-from settings import COPIES, MAIN, SETTINGS, STORES, conf_of, store_file, store_names
+from settings import COPIES, MAIN, STORES, conf_of, store_file, store_names
 
 # A disk is too small with less than this part of it, or with less than what is wanted for a copy.
 SMALL_PART, SMALL_DISK = 0.05, 1 << 30
@@ -44,7 +45,7 @@ def faults_of_books(lines, found):
 
 def missing_book(book, found):
     """What to do about a line without a book."""
-    if copies.kept_by(f"remove-book {book}"):
+    if os.path.exists(begun_file(f"remove-{book}")):
         return f"a command did not end: run it again, `pawnd-admin remove-book {book}`"
     others = [it for it, books in found.items() if books and book in books]
     if others:
@@ -61,7 +62,7 @@ def removed_books_that_are_back(found):
                 yield f"book {book} was taken out at {copy.made}, and is in the store {name} again"
 
 
-# ---- disks and leftovers
+# ---- disks, and what commands left
 
 
 def faults_of_disks():
@@ -72,7 +73,7 @@ def faults_of_disks():
         with contextlib.suppress(OSError):
             size = size_of_store(store_file(name))
             needed[STORES] = needed[COPIES] = max(needed[COPIES], 2 * size)
-            if not is_moveable(name):
+            if os.stat(os.path.join(STORES, name)).st_dev != os.stat(STORES).st_dev:
                 needed[os.path.join(STORES, name)] = size
     for folder, size in needed.items():
         if not os.path.isdir(folder):
@@ -96,37 +97,18 @@ def top_of_disk(folder):
     return folder
 
 
-def leftovers():
-    """What interrupted commands left, and what is kept on purpose."""
-    for name in store_names():
-        with alone_if_free(name) as free:
-            if free:
-                for folder, prefix in ((STORES, work_prefix(name)), (os.path.join(COPIES, name), copies.PART)):
-                    for it in sorted(os.listdir(folder)) if os.path.isdir(folder) else ():
-                        if it.startswith(prefix):
-                            yield (f"{os.path.join(folder, it)} is left from a command that did not end. The next "
-                                   "such command on this store removes it")
+def unsound_states():
+    """What stores had before a copy was put back, where it was not sound."""
     for name in copies.stores_with_copies():
         for it in sorted(os.listdir(os.path.join(COPIES, name))):
             if it.startswith(copies.UNSOUND):
                 yield (f"{os.path.join(COPIES, name, it)} is what the store {name} had before a copy was put back. "
                        "Remove it when nobody misses anything")
-    for it in copies.kept_of():
-        if it.was_in_force:
-            missing = it.missing()
-            yield (f"{it.folder} is what the store {it.store} had before `{it.note.get('command', 'a command')}`. It "
-                   + (f"stays until books {', '.join(map(str, missing[:9]))} have a copy: `pawnd-admin copy` of their "
-                      "stores" if missing else f"goes with the next `pawnd-admin copy {it.store}`"))
 
 
 def pending():
-    """What was begun and did not end, or has not ended yet."""
-    folder = os.path.join(SETTINGS, "pending")
-    for name in sorted(os.listdir(folder)) if os.path.isdir(folder) else ():
-        note = {}
-        with contextlib.suppress(OSError, ValueError):
-            note = read_note(os.path.join(folder, name))
-        with alone_if_free(note.get("store", MAIN)) as free:
-            if free and name.endswith(".json") and os.path.exists(os.path.join(folder, name)):
-                command = note.get("command", f"book {name[:-5]} --store {note.get('store', '?')} ..")
-                yield f"a command did not end: run it again, `pawnd-admin {command}`"
+    """What was begun and did not end."""
+    for name, note in begun_notes():
+        with alone_if_free(note.get("stores", [MAIN])[0]) as free:
+            if free and os.path.exists(begun_file(name)):
+                yield f"a command did not end: run it again, `pawnd-admin {note.get('command', name)}`"

@@ -1,6 +1,5 @@
 """Files: copying, writing a whole file, rooms for what is being made, and full disks."""
 import contextlib
-import ctypes
 import errno
 import fcntl
 import json
@@ -11,15 +10,14 @@ import stat
 import tempfile
 import time
 
-from settings import STORES, Stop
+from settings import Stop
 
 LOG = "-wal"
+# How the names begin of copies that are being made.
+PART = ".part-"
 BLOCK = 1 << 20
 # The order to the file system to let two files share their bytes: FICLONE of linux/fs.h.
 SHARE_BYTES = 0x40049409
-# linux/fs.h: exchange two names in one step.
-RENAME_EXCHANGE = 2
-AT_FDCWD = -100
 
 
 # ---- space
@@ -59,23 +57,15 @@ def room_for(folder, wanted, purpose):
         raise
 
 
-@contextlib.contextmanager
-def room_for_store(name, made, purpose, size):
-    """Room for what is made in STORES, and for the new files of a store of this size. If the store's folder is a disk of
-    its own, they are written there beside the old ones."""
-    with room_for(STORES, made + BLOCK, purpose):
-        if is_moveable(name):
-            yield
-            return
-        with room_for(os.path.join(STORES, name), size + BLOCK, f"a new file for the store {name}"):
-            yield
-
-
 def size_of_store(path):
-    return sum(os.path.getsize(part) for part in files_of_store(path))
+    return sum(os.lstat(part).st_size for part in files_of_store(path))
 
 
 # ---- copying
+
+
+def is_plain(path):
+    return os.path.isfile(path) and not os.path.islink(path)
 
 
 def open_plain(path):
@@ -87,13 +77,17 @@ def open_plain(path):
     return file
 
 
+def copy_bytes(old, new):
+    """An empty file gets the bytes of another one, and shares them where the file system can do so."""
+    try:
+        fcntl.ioctl(new, SHARE_BYTES, old.fileno())
+    except OSError:
+        shutil.copyfileobj(old, new, BLOCK)
+
+
 def copy_file(source, target):
-    """A new file with the same bytes, which shares them where the file system can do so."""
     with open_plain(source) as old, open(target, "xb") as new:
-        try:
-            fcntl.ioctl(new, SHARE_BYTES, old.fileno())
-        except OSError:
-            shutil.copyfileobj(old, new, BLOCK)
+        copy_bytes(old, new)
 
 
 def files_of_store(path):
@@ -123,29 +117,22 @@ def sync_folder(folder):
 # ---- whole files
 
 
-def write_whole(path, text, mode=None):
-    """Writes a file aside and renames it into place. The rename is the only step that others see. A file that has the
-    text already stays, and its time with it."""
-    with contextlib.suppress(FileNotFoundError), open(path) as file:
-        if file.read() == text and mode in (None, os.fstat(file.fileno()).st_mode & 0o777):
-            return
-    if mode is None:
-        mode = os.stat(path).st_mode & 0o777 if os.path.exists(path) else 0o600
-    replace_whole(path, text, mode)
-
-
-def replace_whole(path, text, mode):
-    """The same, whatever is at this path. What a run left beside it that was killed meanwhile is removed."""
+@contextlib.contextmanager
+def replaced(path, mode, owner=None):
+    """A file to be written in the block, which then takes the place of this one. The rename is the only step that others
+    see. What a run left beside it that was killed meanwhile is removed."""
     folder, name = os.path.split(path)
     for left in os.listdir(folder):
         if left.startswith(f".{name}.new-"):
             os.unlink(os.path.join(folder, left))
     handle, new = tempfile.mkstemp(prefix=f".{name}.new-", dir=folder)
     try:
-        with open(handle, "w") as file, room_for(folder, len(text.encode()), path):
-            file.write(text)
+        with open(handle, "w+b") as file:
+            yield file
             file.flush()
             os.fchmod(file.fileno(), mode)
+            if owner and os.geteuid() == 0:
+                os.fchown(file.fileno(), *owner)
             os.fsync(file.fileno())
         os.rename(new, path)
     except BaseException:
@@ -153,6 +140,19 @@ def replace_whole(path, text, mode):
             os.unlink(new)
         raise
     sync(folder)
+
+
+def replace_whole(path, text, mode):
+    with room_for(os.path.dirname(path), len(text.encode()), path), replaced(path, mode) as file:
+        file.write(text.encode())
+
+
+def write_whole(path, text, mode):
+    """The same. A file that has the text already stays, and its time with it."""
+    with contextlib.suppress(FileNotFoundError), open(path) as file:
+        if file.read() == text and os.fstat(file.fileno()).st_mode & 0o777 == mode:
+            return
+    replace_whole(path, text, mode)
 
 
 def write_note(path, note):
@@ -175,30 +175,6 @@ def owner_of(name):
     return os.geteuid(), os.getegid()
 
 
-def give_to(name, folder):
-    """The folder of a store and the store's files in it become its user's."""
-    if os.geteuid() == 0:
-        files = [os.path.join(folder, it) for it in os.listdir(folder) if it.startswith("books.db")]
-        for path in (*files, folder):
-            os.chown(path, *owner_of(name), follow_symlinks=False)
-    os.chmod(folder, 0o700)
-
-
-def take_back(folder):
-    """A folder that was a store's becomes root's."""
-    if os.geteuid() == 0:
-        for path in (folder, *(os.path.join(folder, it) for it in os.listdir(folder))):
-            os.chown(path, 0, 0, follow_symlinks=False)
-
-
-def is_moveable(name):
-    """Whether the folder of a store is an ordinary folder of STORES, and not a disk of its own."""
-    folder = os.path.join(STORES, name)
-    return not os.path.lexists(folder) or (
-        not os.path.islink(folder) and not os.path.ismount(folder) and os.stat(folder).st_dev == os.stat(STORES).st_dev
-    )
-
-
 def work_prefix(name):
     """How the names of folders begin that hold what is being made for a store."""
     return f".{name}-making-"
@@ -214,21 +190,11 @@ def sweep(folder, prefix):
 @contextlib.contextmanager
 def room_in(folder, prefix):
     """A folder of root's for files that are being made, which is gone after the block if it still has its name."""
-    sweep(folder, prefix)
     room = tempfile.mkdtemp(prefix=prefix, dir=folder)
     try:
         yield room
     finally:
         shutil.rmtree(room, ignore_errors=True)
-
-
-def exchange(first, second):
-    """Two folders of one disk exchange their names in one step."""
-    libc = ctypes.CDLL(None, use_errno=True)
-    words = AT_FDCWD, os.fsencode(first), AT_FDCWD, os.fsencode(second), RENAME_EXCHANGE
-    if libc.renameat2(*words):
-        number = ctypes.get_errno()
-        raise OSError(number, os.strerror(number), first)
 
 
 def time_name(*beginnings):

@@ -5,7 +5,8 @@ import os
 import struct
 import time
 
-from settings import COPIES, PATIENCE, SETTINGS, Stop, warn
+from files import PART, is_plain, sweep, work_prefix
+from settings import COPIES, PATIENCE, SETTINGS, STORES, Stop, warn
 
 # The bytes of a database that SQLite locks, and the program with it: the first, and how many.
 LOCK_BYTES = 0x40000000, 512
@@ -58,10 +59,12 @@ def copies_folder(name):
 @contextlib.contextmanager
 def alone_with(*names):
     """No other command works on these stores within the block. Locks are taken in the order of the names, so that two
-    commands never wait for each other."""
+    commands never wait for each other. What a command left that was killed while it made files for them is removed."""
     with contextlib.ExitStack() as stack:
         for name in sorted(set(names)):
             stack.enter_context(alone(copies_folder(name), f"the store {name}"))
+            sweep(STORES, work_prefix(name))
+            sweep(copies_folder(name), PART)
         yield
 
 
@@ -101,8 +104,8 @@ def is_open(path):
 
 @contextlib.contextmanager
 def held(path):
-    """No program opens the store within the block. There may be no file, where a command was killed."""
-    if not os.path.exists(path):
+    """No program opens the store within the block. Without a plain file there is no store to open."""
+    if not is_plain(path):
         yield
         return
     with open(path, "r+b") as file:

@@ -1,70 +1,60 @@
 """A copy in the place of a store."""
+import contextlib
 import os
 
 import proxy
 import services
-from copies import make_copy, removed_books, settle_kept, the_copy
-from files import copy_store, files_of_store, room_for_store, room_in, size_of_store, work_prefix
+from copies import UNSOUND, Copy, books_aside, copy_aside, files_aside, named, new_time, removed_books, the_copy
+from files import files_of_store, is_plain, size_of_store
 from locks import alone_with
 from reading import contents_of
-from settings import STORES, Stop, Store, say, store_name, store_names, the_store, warn
-from stores import enable, make_settings, put_in_place, put_new
-from tables import check_and_fold, in_words, stop_unless_same, sums_of
-
-
-def rebuilt(copy, folder):
-    """The files of a copy as one file in a folder, once they were found to hold what they held when they were made.
-    The content is compared and not the bytes: SQLite, with which the operator may look into a copy, brings its log
-    into the database. A database that lost its log passes the program's check, and is found out here."""
-    os.mkdir(folder)
-    path = os.path.join(folder, "books.db")
-    copy_store(copy.path, path)
-    counts = check_and_fold(path)
-    stop_unless_same(sums_of(path), copy.books, f"{copy.folder} is not the copy that was made")
-    if counts != copy.counts:
-        raise Stop(f"{copy.folder} holds {in_words(counts)}, and {in_words(copy.counts)} when it was made")
-    return path
+from settings import Stop, Store, say, store_file, store_name, store_names, the_store, warn
+from stores import enable, make_settings, put_in_place, room_to_replace
+from tables import NotSound, in_words
 
 
 def restore(name, said):
     """The verb `restore`. What the store had becomes a copy itself, so that nothing is lost if the wrong copy was
-    named."""
+    named. What it gets is a newer copy: `newest` never means what the store had before."""
     copy = the_copy(store_name(name), said)
     if copy.store != name:
         raise Stop(
             f"{copy.folder} is a copy of the store {copy.store}: `pawnd-admin restore {copy.store} {copy.folder}` puts "
             f"it back there, and `pawnd-admin restore-book` takes one book out of it"
         )
-    with alone_with(name):
+    with alone_with(name), room_to_replace(name, max(map(size_of_store, (copy.path, store_file(name))))):
         if name in store_names():
             the_store(name)
-        settle_kept(name)
-        size = size_of_store(copy.path)
-        room_wanted = room_for_store(name, 2 * size, f"a store from {copy.folder}", size)
-        with room_wanted, room_in(STORES, work_prefix(name)) as room:
-            rebuilt(copy, os.path.join(room, "new"))
+        with books_aside(name, copy, copy.books.keys()) as new:
             store = make_settings(name)
-            replace(store, os.path.join(room, "new"), f"restore {name} {copy.name}")
+            begun = new_time(name)
+            later = new_time(name, later_than=begun)
+            with services.stopped(store), contextlib.ExitStack() as until_replaced:
+                old, mark = what_it_has(store, until_replaced)
+                made = Copy(named(new, later))
+                if old:
+                    say(f"{named(old, mark + begun)}: what the store {name} had. Remove it when nobody misses anything")
+                put_in_place(name, made.path, not mark)
+        enable(name)
+        proxy.write_stores()
+        proxy.reload_nginx()
         tell_what_differs(store, copy)
-        # The copy of what is restored comes first: until then `newest` is a copy of before.
-        again = make_copy(name, store.path)
-        settle_kept(name)
     say(f"the store {name} holds {in_words(copy.counts)} again, as at {copy.made}, and is served. A copy of it is in "
-        f"{again.folder}")
+        f"{made.folder}")
 
 
-def replace(store, new, command):
-    """New files take the place of those of a store, or of none, and are served."""
-    if files_of_store(store.path):
-        with services.stopped(store):
-            put_in_place(store.name, new, {"why": "restore", "command": command})
-        enable(store.name)
-    else:
-        put_new(store.name, new)
-        enable(store.name)
-        services.start(store)
-    proxy.write_stores()
-    proxy.reload_nginx()
+def what_it_has(store, stack):
+    """A copy of a stopped store without its name, or its files as they are if it is not sound; and how the name begins.
+    They are there until the stack ends."""
+    if not files_of_store(store.path):
+        return None, ""
+    try:
+        if not is_plain(store.path):
+            raise NotSound(f"{store.path} is missing, or is no plain file")
+        return stack.enter_context(copy_aside(store.name, store.path)), ""
+    except NotSound as why:
+        warn(str(why))
+        return stack.enter_context(files_aside(store.name, store.path)), UNSOUND
 
 
 def tell_what_differs(store, copy):

@@ -7,7 +7,7 @@ import socket
 import subprocess
 import time
 
-from files import LOG
+from files import LOG, is_plain
 from locks import held, is_open
 from proxy import run
 from settings import SETTINGS, Stop, warn
@@ -26,7 +26,7 @@ def stop(store):
     """The service ends, and nothing starts it until `start`. A stop at any moment is safe."""
     run("systemctl", "mask", "--runtime", unit_of(store.name), fails=f"the store {store.name} was not stopped")
     run("systemctl", "stop", unit_of(store.name), fails=f"the store {store.name} was not stopped")
-    if os.path.exists(store.path) and is_open(store.path):
+    if is_plain(store.path) and is_open(store.path):
         raise Stop(
             f"{store.path} is still open in a program that is not {unit_of(store.name)}: `fuser {store.path}` names "
             "it. End it, then run the command again"
@@ -150,6 +150,15 @@ def has_port_rule(store):
 def operators_key():
     with open(os.path.join(SETTINGS, "operator.key")) as file:
         return file.read().strip()
+
+
+def failures(unit):
+    """How often a service has failed in the last ten minutes, by the journal: systemd itself starts it again each time."""
+    ran = subprocess.run(
+        ["journalctl", "-q", "-u", unit, "--since", "-10min", "-o", "cat", "--grep", "Failed with result"],
+        stdin=subprocess.DEVNULL, capture_output=True, text=True, timeout=30,
+    )
+    return len(ran.stdout.splitlines())
 
 
 def log_bytes(path):

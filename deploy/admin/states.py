@@ -11,7 +11,7 @@ import proxy
 import replicas
 import services
 from asking import PATIENCE, answers_through_proxy, state_of_proxy
-from faults import faults_of_books, faults_of_disks, leftovers, pending, removed_books_that_are_back
+from faults import faults_of_books, faults_of_disks, pending, removed_books_that_are_back, unsound_states
 from files import files_of_store, owner_of
 from locks import alone_if_free
 from reading import contents_of
@@ -93,9 +93,6 @@ def state_of_units(store, wrong):
 
 def state_of_file(store, state, wrong):
     """What the store holds, and what is wrong with that."""
-    if os.path.exists(store.path + copies.OLD):
-        wrong.append("a command that replaces its files did not end: run it again")
-        return {}
     if not os.path.exists(store.path):
         wrong.append(f"its file {store.path} is missing. Is its disk there? `pawnd-admin restore {store.name} newest`")
         return {}
@@ -121,12 +118,11 @@ def state_of_file(store, state, wrong):
 
 
 def has_lost(store):
-    """Whether a store that seems to hold less than its newest copy does so while no command works on it, and though no
-    command took anything out of it on purpose since that copy: what it had then is kept until there is a newer one."""
+    """Whether a store that seems to hold less than its newest copy does so while no command works on it. A command that
+    takes anything out of it first makes a copy of what will be left."""
     with alone_if_free(store.name) as free:
         past, _ = copies.copies_of(store.name)
-        kept = [it.time for it in copies.kept_of(store.name) if it.was_in_force]
-        if not free or not past or kept and max(kept) > past[-1].name:
+        if not free or not past:
             return False
         found = contents_of(store.path)
         return any(found.counts[it] < past[-1].counts[it] for it in found.counts)
@@ -166,14 +162,19 @@ def how_it_answers(store, lines, state, wrong, notes):
         return
     state["answers"] = services.answers(store.address, PATIENCE)
     if not state["answers"]:
-        unit = services.unit_of(store.name)
-        wrong.append(
-            f"does not answer on {store.address}: "
-            + ("it is being started, and answers when it has read its file. If it does not answer after some minutes, "
-               f"`journalctl -u {unit}` says why"
-               if services.is_unit("is-active", unit) and not services.listens(store.address)
-               else f"`systemctl status {unit}` and `journalctl -u {unit}` say why")
-        )
+        wrong.append(f"does not answer on {store.address}: {why_it_is_silent(store)}")
+
+
+def why_it_is_silent(store):
+    unit = services.unit_of(store.name)
+    failures = services.failures(unit)
+    if failures > 1:
+        return (f"its service keeps ending, {failures} times in the last ten minutes. `journalctl -u {unit} -n 20` says why, "
+                "and OPERATING.md, `A store does not start`, says what to do")
+    if services.is_unit("is-active", unit) and not services.listens(store.address):
+        return ("it is being started, and answers when it has read its file. If it does not answer after some minutes, "
+                f"`journalctl -u {unit}` says why")
+    return f"`systemctl status {unit}` and `journalctl -u {unit}` say why"
 
 
 def state_of(name, lines):
@@ -225,7 +226,7 @@ def look():
     with told(wrong):
         wrong += pending()
     with told(wrong):
-        notes += [*leftovers(), *removed_books_that_are_back(found)]
+        notes += [*unsound_states(), *removed_books_that_are_back(found)]
     with told(wrong):
         disks, more_wrong = faults_of_disks()
         wrong += more_wrong

@@ -1,22 +1,20 @@
-"""New stores, and a store's files in the place of what it had."""
+"""New stores, and a file in the place of what a store had."""
 import contextlib
-import errno
+import fcntl
 import os
 import socket
 
 import replicas
 import services
-from copies import NEW, NOTE_END, OLD, UNUSED, kept_folder, new_time
 from files import (
-    BLOCK, LOG, copy_file, copy_store, exchange, files_of_store, give_to, is_moveable, room_for, room_in, sync,
-    sync_folder, take_back, work_prefix, write_note, write_whole,
+    BLOCK, LOG, copy_bytes, copy_store, files_of_store, open_plain, owner_of, replaced, room_for, room_in, sync,
+    work_prefix, write_whole,
 )
-from locks import alone_with, alone_with_settings
+from locks import alone_with, alone_with_settings, copies_folder, lock_store
 from proxy import reload_nginx, run, write_stores
 from reading import contents_of
 from settings import FIRST_PORT, STORES, SYSTEM, Store, conf_of, say, store_file, store_name, store_names
-from tables import check_and_fold
-
+from tables import check_and_fold, fold
 
 
 def free_port():
@@ -51,81 +49,55 @@ def make_settings(name):
     return Store(name)
 
 
-def put_new(name, room):
-    """A folder becomes that of a store which has none, or an empty one, by one rename; or its file goes into the empty
-    folder that is a disk of its own."""
-    folder, path = os.path.join(STORES, name), store_file(name)
-    give_to(name, room)
-    sync_folder(room)
-    if is_moveable(name):
-        os.rename(room, folder)
-        sync(STORES)
-        return
-    with contextlib.suppress(FileNotFoundError):
-        os.unlink(path + NEW)
-    copy_file(os.path.join(room, "books.db"), path + NEW)
-    give_to(name, folder)
-    sync(path + NEW)
-    os.rename(path + NEW, path)
-    sync(folder)
+@contextlib.contextmanager
+def room_to_replace(name, size):
+    """Room for copies of what a store has and of what it gets, and for its new files. Its folder may be a disk of its
+    own."""
+    folder = os.path.join(STORES, name)
+    with (
+        room_for(copies_folder(name), 4 * size + BLOCK, f"copying the store {name} and what it gets"),
+        room_for(STORES, 4 * size + BLOCK, f"giving new files to the store {name}"),
+        room_for(folder if os.path.isdir(folder) else STORES, 2 * size + BLOCK, f"a new file for the store {name}"),
+    ):
+        yield
 
 
-def put_in_place(name, room, note):
-    """A folder with one file, books.db, takes the place of a store's folder. What stood there is kept until
-    `settle_kept` ends it, with a note that says why. The store is stopped."""
-    kept = kept_folder(name, new_time(name))
-    write_note(kept + NOTE_END, note)
-    if is_moveable(name):
-        exchange_folders(name, room, kept)
-    else:
-        exchange_files(name, room, kept)
+def put_in_place(name, new, old_is_sound=True):
+    """A database takes the place of what a store had, which is stopped, or has no files. At each moment the store is
+    the old one or the new one: first the old database takes up its log, so that the log can go, and then one rename
+    replaces the database. If the old one is not sound its database goes first, and for a moment there is none."""
+    path = store_file(name)
+    folder = os.path.dirname(path)
+    os.makedirs(folder, exist_ok=True)
+    os.chmod(folder, 0o700)
+    if os.geteuid() == 0:
+        os.chown(folder, *owner_of(name))
+    with contextlib.ExitStack() as until_replaced:
+        if old_is_sound and os.path.lexists(path + LOG):
+            put_folded(name, until_replaced)
+        for it in files_of_store(path):
+            if it.endswith(LOG) or not old_is_sound:
+                os.unlink(it)
+        sync(STORES, folder)
+        put_file(name, new)
 
 
-def exchange_folders(name, room, kept):
-    """One rename does it. The new folder first gets the name under which the old one is kept, with a file in it that
-    tells so. So after a kill just before or just after the exchange there is no doubt which of the two was in force."""
-    folder, marker = os.path.join(STORES, name), UNUSED + os.path.basename(kept)
-    write_whole(os.path.join(room, marker), "", 0o600)
-    give_to(name, room)
-    sync_folder(room)
-    os.rename(room, kept)
-    try:
-        exchange(kept, folder)
-    except OSError as why:
-        if why.errno not in (errno.EINVAL, errno.ENOSYS, errno.EOPNOTSUPP):
-            raise
-        # A file system that exchanges no names.
-        os.rename(kept, room)
-        take_back(room)
-        return exchange_files(name, room, kept)
-    sync(STORES)
-    take_back(kept)
-    os.unlink(os.path.join(folder, marker))
-    sync(folder)
+def put_folded(name, locked):
+    """The database of a store takes up what its log holds. With the log or without, it is the same store then."""
+    with room_in(STORES, work_prefix(name)) as room:
+        folded = os.path.join(room, "books.db")
+        copy_store(store_file(name), folded)
+        fold(folded)
+        put_file(name, folded, locked)
 
 
-def exchange_files(name, room, kept):
-    """The same for a folder that is a disk of its own, as on GlusterFS: its name cannot be exchanged. The old files are
-    copied first. While the log goes there is no books.db, so that no service starts with one file of each state.
-    `copies.mend` puts the old files back if this is killed meanwhile."""
-    folder, path = os.path.join(STORES, name), store_file(name)
-    with room_in(STORES, work_prefix(name) + "kept-") as aside:
-        copy_store(path, os.path.join(aside, "books.db"))
-        sync_folder(aside)
-        os.rename(aside, kept)
-    sync(STORES)
-    with contextlib.suppress(FileNotFoundError):
-        os.unlink(path + NEW)
-    copy_file(os.path.join(room, "books.db"), path + NEW)
-    give_to(name, folder)
-    sync(path + NEW, folder)
-    os.rename(path, path + OLD)
-    with contextlib.suppress(FileNotFoundError):
-        os.unlink(path + LOG)
-    sync(folder)
-    os.rename(path + NEW, path)
-    os.unlink(path + OLD)
-    sync(folder)
+def put_file(name, source, locked=None):
+    """A file takes the place of a store's database, by one rename. No program opens the new one until `locked` ends."""
+    with open_plain(source) as old, replaced(store_file(name), 0o600, owner_of(name)) as new:
+        copy_bytes(old, new)
+        if locked:
+            lock_store(new, fcntl.F_WRLCK)
+            locked.callback(os.close, os.dup(new.fileno()))
 
 
 def enable(name):
@@ -141,7 +113,7 @@ def make_empty(name):
     """The empty store of a new folder: a service makes none."""
     with room_for(STORES, BLOCK, f"the store {name}"), room_in(STORES, work_prefix(name)) as room:
         check_and_fold(os.path.join(room, "books.db"))
-        put_new(name, room)
+        put_in_place(name, os.path.join(room, "books.db"))
 
 
 def new_store(name):

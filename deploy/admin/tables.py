@@ -7,7 +7,7 @@ import re
 import sqlite3
 import subprocess
 
-from files import LOG, copy_store
+from files import LOG
 from settings import PAWND, Stop
 
 # The tables whose rows a store counts, children before what they belong to; and those that it does not count.
@@ -103,15 +103,3 @@ def keep_books(path, wanted):
         tables.execute("COMMIT")
         # Written anew without free pages, so that no key and no receipt of the others is left in the file.
         tables.execute("VACUUM")
-
-
-def make_part(source, target, wanted, sums):
-    """A new store with these books of another one, each of which was compared with what it was."""
-    copy_store(source, target)
-    keep_books(target, wanted)
-    counts = check_and_fold(target)
-    found = sums_of(target)
-    stop_unless_same(found, {book: sums[book] for book in wanted}, target)
-    if counts != counts_of(found):
-        raise Stop(f"{target}: `pawnd check` counts {in_words(counts)}, and SQLite {in_words(counts_of(found))}")
-    return counts

@@ -16,19 +16,20 @@ REFUSED = 404, {"code": 401, "name": "NoSuchBook"}
 
 
 def a_store_and_books():
-    """A book is made with a key that is shown once, or that is written to a file; a number that is taken is refused."""
+    """A book's key is written to a file, and is never shown; a number that is taken is refused."""
     with Machine() as it:
         it.store("west")
-        shown = it.admin("book", 7, "--name", "High Street").split("the key of book 7: ")[1].split("\n")[0]
-        expect("the key that was shown", Caller(it, 7, shown).request("GET", "/pledges/1")[1]["code"], 403)
-        it.admin("book", 8, "--name", "Low Street", "--store", "west", "--key-to", it.place("key-8"))
-        expect("its mode", stat.S_IMODE(os.stat(it.place("key-8")).st_mode), 0o600)
-        with open(it.place("key-8")) as file:
-            said = Caller(it, 8, file.read().strip()).request("GET", "/pledges/1")
-        expect("the key in the file", said[1]["code"], 403)
+        for number, name, store in ((7, "High Street", "main"), (8, "Low Street", "west")):
+            path = it.place(f"key-{number}")
+            said = it.admin("book", number, "--name", name, "--store", store, "--key-to", path)
+            expect("its mode", stat.S_IMODE(os.stat(path).st_mode), 0o600)
+            key = key_in(it, f"key-{number}")
+            expect("the key in the file", Caller(it, number, key).request("GET", "/pledges/1")[1]["code"], 403)
+            expect(f"the key is not shown: {said}", key in said, False)
         for number in (7, 8):
             for store in ("main", "west"):
-                said = it.admin("book", number, "--name", "Other", "--store", store, wanted=1)
+                words = "--name", "Other", "--store", store, "--key-to", it.place("other")
+                said = it.admin("book", number, *words, wanted=1)
                 expect(f"a number that is taken: {said}", "Choose another number" in said, True)
         expect("the books", (books_in(it.path("main")), books_in(it.path("west"))), ({7}, {8}))
         expect("no key is left", os.listdir(it.place("etc/pending")), [])
@@ -48,7 +49,6 @@ def a_book_that_is_made_again():
         of_book = {
             7: ("--name", "High Street", "--key-to", it.place("key-7")),
             8: ("--name", "Low Street", "--capacity", 5, "--store", "west", "--key-to", it.place("key-8")),
-            9: ("--name", "Far Street"),
         }
         for number, words in of_book.items():
             it.admin("book", number, *words)
@@ -56,7 +56,6 @@ def a_book_that_is_made_again():
         for number, words in of_book.items():
             said = it.admin("book", number, *words)
             expect(f"run again: {said}", "already, and nothing was changed" in said, True)
-        expect("where the key is not in a file", "`pawnd-admin new-key 9`" in said, True)
         expect("the key in the file", key_in(it, "key-7"), key_in(it, "first"))
         it.admin("new-key", 7, "--key-to", it.place("key-7"))
         it.admin("book", 7, *of_book[7])
@@ -116,15 +115,17 @@ def a_store_that_refuses():
     with Machine() as it:
         kept = key_in(it, "etc/operator.key")
         it.write("etc/operator.key", str(uuid.uuid4()) + "\n", 0o600)
-        said = it.admin("book", 7, "--name", "High Street", wanted=1)
+        words = "book", 7, "--name", "High Street", "--key-to", it.place("key-7")
+        said = it.admin(*words, wanted=1)
         expect(f"another key: {said}", "`systemctl restart pawnd@main.service`" in said, True)
         it.write("etc/operator.key", kept + "\n", 0o600)
-        it.admin("book", 7, "--name", "High Street")
+        it.admin(*words)
         it.store("west")
         away = b'HTTP/1.1 503 Service Unavailable\r\nContent-Length: 31\r\n\r\n{"proxy":503,"handed_on":false}'
         with a_service_that_says(away) as port:
             it.write("etc/stores/west.conf", f"ADDRESS=127.0.0.1:{port}\n")
-            said = it.admin("book", 8, "--name", "Far Street", "--store", "west", wanted=1)
+            words = "--name", "Far Street", "--store", "west", "--key-to", it.place("key-8")
+            said = it.admin("book", 8, *words, wanted=1)
         expect(f"a store that is being started: {said}", "run the command again" in said, True)
 
 

@@ -6,6 +6,7 @@ import json
 import os
 import shutil
 import sqlite3
+import stat
 import subprocess
 
 from tests.library.checks import Failed, expect
@@ -180,8 +181,7 @@ def what_stood_there_becomes_a_copy():
 
 
 def a_database_that_is_lost():
-    """Its log alone is left. A copy is put back, and the log is kept beside the copies. Also what was kept may be lost:
-    a command was killed while it removed it."""
+    """Its log alone is left. A copy is put back, and the log is kept beside the copies."""
     with Machine() as it:
         caller = it.book(7, pledges=1)
         it.admin("copy", "main")
@@ -190,12 +190,26 @@ def a_database_that_is_lost():
         expect("what is left", os.listdir(it.place("lib/main")), ["books.db-wal"])
         it.admin("restore", "main", "newest")
         caller.look_up()
-        os.mkdir(it.place("lib/.main-before-20260101T000000Z"))
-        it.write("lib/.main-before-20260101T000000Z.json", '{"why": "restore", "command": "restore main newest"}')
-        it.admin("copy", "main")
+        unsound = [name for name in os.listdir(it.place("backups/main")) if name.startswith("unsound-")]
+        kept = [os.listdir(it.place("backups/main", name)) for name in unsound]
+        expect("what is beside the copies", kept, [["books.db-wal"]])
         expect("what commands left", it.leftovers(), [])
         expect("the copies", all(os.path.exists(os.path.join(it.copies, "main", name, "books.db"))
                                  for name in copies(it)), True)
+
+
+def a_link_in_the_place_of_a_store():
+    """An intruder in the service of a store put it there. A copy is put back, and what the link leads to stays as it is."""
+    with Machine() as it:
+        caller = it.book(7, pledges=1)
+        it.admin("copy", "main")
+        it.systemctl("stop", "pawnd@main")
+        os.unlink(it.path("main"))
+        os.mkfifo(it.place("other"))
+        os.symlink(it.place("other"), it.path("main"))
+        it.admin("restore", "main", "newest", within=300)
+        caller.look_up()
+        expect("what it led to", stat.S_ISFIFO(os.stat(it.place("other")).st_mode), True)
 
 
 def redate(machine, old, new, name="main"):
@@ -354,6 +368,7 @@ if __name__ == "__main__":
         without_its_log_a_copy_is_refused,
         what_stood_there_becomes_a_copy,
         a_database_that_is_lost,
+        a_link_in_the_place_of_a_store,
         old_copies_are_removed,
         a_clock_that_was_ahead,
         a_certificate_that_is_elsewhere,

@@ -65,8 +65,8 @@ def a_store_for_the_proxy_of_another_machine():
             expect(f"book {number}, which left", callers[number].request("GET", "/pledges/1")[0], 404)
         expect("the books", [books_in(it.path(name)) for name in ("west", "north", "south")], [set(), {11}, set()])
         callers[11].look_up()
-        for words in (("book", 14, "--name", "New Street", "--store", "west"), ("new-key", 11, "--key-to", it.place("new"))):
-            said = it.admin(*words, wanted=1)
+        for words in (("book", 14, "--name", "New Street", "--store", "west"), ("new-key", 11)):
+            said = it.admin(*words, "--key-to", it.place("new"), wanted=1)
             expect(f"{words}: {said}", "on the machine of the proxy" in said, True)
         expect("no key was made", os.path.exists(it.place("new")), False)
         expect_all_is_well(it)
@@ -92,22 +92,21 @@ def parts_that_are_not_the_whole_are_refused():
         expect_all_is_well(it)
 
 
-def a_part_without_a_copy_keeps_the_original():
-    """The copies of both parts fail on a full disk. Both are served, the original stays, and goes when both have a
-    copy."""
+def a_part_without_a_copy_changes_nothing():
+    """The copies of the parts fail on a full disk. The store goes on as it was. When both parts are served, both have a
+    copy, and there is one of the store as it was before."""
     with Machine() as it:
         callers = {number: it.book(number, pledges=1) for number in (7, 8)}
-        said = it.admin_with("split", "main", "west", 8, PLANT="no_copy_can_be_made", wanted=1)
-        expect(f"what is said: {said}", "`pawnd-admin copy west`" in said, True)
+        said = it.admin_with("split", "main", "west", 8, PLANT="no_copy_of_a_part_can_be_made", wanted=1)
+        expect(f"what is said: {said}", "the disk is full" in said and "did not end" not in said, True)
         for caller in callers.values():
             caller.repay(), caller.look_up()
-        kept = [name for name in os.listdir(it.stores) if "-before-" in name and "." not in name[1:]]
-        expect("what is kept", [books_in(os.path.join(it.stores, name, "books.db")) for name in kept], [{7, 8}])
-        it.admin("copy", "west")
-        expect("one part has no copy", "stays until books 7" in str(it.status()["notes"]), True)
-        expect("what is kept", os.path.isdir(os.path.join(it.stores, kept[0])), True)
-        said = it.admin("copy", "main")
-        expect(f"it is gone: {said}", (os.path.exists(os.path.join(it.stores, kept[0])), "is gone" in said), (False, True))
+        expect("the books", (books_in(it.path("main")), it.lines()), ({7, 8}, {}))
+        expect_all_is_well(it)
+        it.admin("split", "main", "west", 8)
+        copies = {name: [books_in(os.path.join(it.copies, name, made, "books.db")) for made in
+                         sorted(os.listdir(os.path.join(it.copies, name)))] for name in ("main", "west")}
+        expect("the copies", copies, {"main": [{7, 8}, {7, 8}, {7}], "west": [{8}]})
         expect_all_is_well(it)
 
 
@@ -120,6 +119,7 @@ def a_division_that_stops_after_the_map_was_turned():
             said = it.admin_with(*words, PLANT="the_new_store_does_not_start", wanted=1)
             expect(f"what is said: {said}", f"run it again, `pawnd-admin {' '.join(words)}`" in said, True)
             callers[7].repay(), callers[7].look_up()
+            expect("the newest copy", books_in(os.path.join(it.newest("main"), "books.db")), books_in(it.path("main")))
             it.admin(*words)
             it.admin("copy", "main"), it.admin("copy", "west")
         expect_all_is_well(it)
@@ -145,7 +145,8 @@ def a_full_disk():
         it.admin("copy", "main")
         both = ("split", "main", "west", 7), ("remove-book", 7)
         others = ("restore", "main", "newest"), ("restore-book", 7, "newest", "west"), ("store", "west")
-        for folder, commands in ((it.copies, (("copy", "main"), *both)), (it.stores, (*both, *others))):
+        of_copies = ("copy", "main"), *both, *others[:2]
+        for folder, commands in ((it.copies, of_copies), (it.stores, (*both, *others))):
             with it.filled(folder):
                 for words in commands:
                     said = it.admin(*words, wanted=1)
@@ -156,8 +157,8 @@ def a_full_disk():
 
 
 def a_store_on_a_disk_of_its_own():
-    """Its folder cannot be exchanged, so its files are, one by one. A command that is killed meanwhile leaves the old
-    state, the new one, or no store, and the command that is run again ends it."""
+    """A command that is killed while it gives new files to the store leaves the old state or the new one, and the command
+    that is run again ends it."""
     if os.geteuid():
         not_tried("a store on a disk of its own", "this is not root")
         return
@@ -174,10 +175,9 @@ def a_store_on_a_disk_of_its_own():
             callers[7].repay()
             it.admin_with("restore", "main", copy, KILL_AT=str(step), wanted=-9)
             it.systemctl("unmask", "pawnd@main")
-            if os.path.exists(it.path("main")):
-                it.systemctl("start", "pawnd@main")
-                it.await_store("main")
-                expect(f"one of two states after step {step}", callers[7].entries() in (0, 1), True)
+            it.systemctl("start", "pawnd@main")
+            it.await_store("main")
+            expect(f"one of two states after step {step}", callers[7].entries() in (0, 1), True)
             it.admin("restore", "main", copy)
             expect(f"the restored state after step {step}", callers[7].entries(), 0)
             expect(f"what commands left after step {step}", it.leftovers(), [])
@@ -214,7 +214,7 @@ if __name__ == "__main__":
         a_store_is_divided_under_load,
         a_store_for_the_proxy_of_another_machine,
         parts_that_are_not_the_whole_are_refused,
-        a_part_without_a_copy_keeps_the_original,
+        a_part_without_a_copy_changes_nothing,
         a_division_that_stops_after_the_map_was_turned,
         nobody_opens_a_store_that_is_divided,
         a_full_disk,

@@ -39,17 +39,18 @@ def interrupted(it, at, *words):
 
 
 def a_restore():
-    """Whatever the store had becomes a copy, also if the verb is interrupted while it makes that copy."""
+    """Whatever the store had becomes a copy. If the verb is interrupted before, the newest copy is the same as before."""
     with Machine() as it:
         caller = it.book(7, pledges=1)
         it.admin("copy", "main")
         copy = os.path.basename(it.newest("main"))
-        for at in (1, 2, 3):
+        for at in (1, 2):
             caller.acknowledged[1] = caller.sent[1] = caller.entries()
             caller.repay()
-            rows = caller.entries()
+            rows, copies = caller.entries(), sorted(os.listdir(os.path.join(it.copies, "main")))
             interrupted(it, at, "restore", "main", copy)
-            expect(f"it is served, as before or as in the copy, after check {at}", caller.entries() in (rows, 0), True)
+            expect(f"the copies after check {at}", sorted(os.listdir(os.path.join(it.copies, "main"))), copies)
+            expect(f"it is served as before after check {at}", caller.entries(), rows)
             it.admin("restore", "main", copy)
             expect(f"the restored state after check {at}", caller.entries(), 0)
             names = os.listdir(os.path.join(it.copies, "main"))
@@ -61,6 +62,7 @@ def a_removal():
     with Machine() as it:
         callers = {number: it.book(number, pledges=1) for number in (7, 9)}
         interrupted(it, 3, "remove-book", 9)
+        expect("the books of the newest copy", books_in(os.path.join(it.newest("main"), "books.db")), {7, 9})
         for caller in callers.values():
             caller.repay(), caller.look_up()
         it.admin("remove-book", 9)
@@ -69,18 +71,22 @@ def a_removal():
         expect("what commands left", it.leftovers(), [])
 
 
-def a_split_in_its_copies():
-    """Both stores are served by then. What is said does not have the store stopped once more."""
+def a_split():
     with Machine() as it:
         callers = {number: it.book(number, pledges=1) for number in (7, 8)}
-        said = interrupted(it, 4, "split", "main", "west", 8)
-        expect(f"what is to be done: {said}", "`pawnd-admin copy west` and `pawnd-admin copy main`" in said, True)
+        it.admin("copy", "main")
+        for at in (1, 2, 3):
+            interrupted(it, at, "split", "main", "west", 8)
+            for caller in callers.values():
+                caller.repay(), caller.look_up()
+            expect(f"the books after check {at}", (books_in(it.path("main")), it.lines()), ({7, 8}, {}))
+            expect("those of the newest copy", books_in(os.path.join(it.newest("main"), "books.db")), {7, 8})
+        it.admin("split", "main", "west", 8)
         for caller in callers.values():
-            caller.repay(), caller.look_up()
-        it.admin("copy", "west"), it.admin("copy", "main")
+            caller.look_up()
         expect("the books", (books_in(it.path("main")), books_in(it.path("west"))), ({7}, {8}))
         expect("what commands left", it.leftovers(), [])
 
 
 if __name__ == "__main__":
-    main_with(PACKAGES, a_restore, a_removal, a_split_in_its_copies)
+    main_with(PACKAGES, a_restore, a_removal, a_split)

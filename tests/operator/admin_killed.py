@@ -16,7 +16,7 @@ def killed_book():
     def after(story):
         expect_well(story, ALL[0], {10, 11})
 
-    killed(["book", "11", "--name", "New Street", "--store", "west"], after)
+    killed(["book", "11", "--name", "New Street", "--store", "west", "--key-to", "NEW"], after)
 
 
 def killed_copy():

@@ -90,7 +90,8 @@ def stores_that_are_away_or_damaged():
 
 
 def a_store_that_is_being_started():
-    """It reads its file before it listens: the status says so, and that nothing has to be done as long as it does."""
+    """It reads its file before it listens: the status says so, and that nothing has to be done as long as it does. If it
+    has failed again and again, the status says that."""
     with Machine() as it:
         it.book(7)
         it.admin("copy", "main")
@@ -99,6 +100,9 @@ def a_store_that_is_being_started():
         it.environment["PAWND"] = it.place("reads-for-long")
         it.systemctl("start", "pawnd@main")
         expect_wrong(it, "it is being started, and answers when", "store main: does not answer through the proxy")
+        it.write("journal", "pawnd@main.service: Failed with result 'exit-code'.\n" * 3)
+        expect_wrong(it, "its service keeps ending, 3 times in the last ten minutes. `journalctl -u pawnd@main.service",
+                     "store main: does not answer through the proxy")
 
 
 def timed(do):
@@ -137,7 +141,7 @@ def books_and_lines():
                      "book 9 has a line for the store south, and there is no such store")
         it.write("etc/books.map", "8 west;\n")
         it.admin("reload")
-        it.admin_with("split", "main", "north", 7, KILL_AT="60", wanted=-9)
+        it.admin_with("split", "main", "north", 7, PLANT="the_new_store_does_not_start", wanted=1)
         expect("a command that was killed", any("did not end" in line for line in it.status()["wrong"]), True)
         it.admin("split", "main", "north", 7)
         expect_wrong(it)
@@ -272,16 +276,14 @@ def a_copy_of_a_store_that_lost_its_log():
 
 
 def less_than_the_copy_by_a_command():
-    """What a split took out of a store is not missed, neither before the store has its copy nor while it is made."""
+    """What a split takes out of a store is not missed, neither while the status looks nor afterwards."""
     with Machine() as it:
         it.book(7, pledges=1), it.book(8, pledges=1)
         it.admin("copy", "main")
-        it.admin_with("split", "main", "west", 8, PLANT="no_copy_can_be_made", wanted=1)
-        wrong = it.status()["wrong"]
-        expect(f"what is wrong: {wrong}", [line for line in wrong if "holds less" in line], [])
-        said = it.admin_with("status", "--json", PLANT="a_split_ends_meanwhile", wanted=1)
-        expect("what is wrong meanwhile", json.loads(said)["wrong"],
-               ["store west: has no copy: `pawnd-admin copy west`"])
+        said = it.admin_with("status", "--json", PLANT="the_store_is_divided_meanwhile")
+        expect("what is wrong meanwhile", json.loads(said)["wrong"], [])
+        expect_wrong(it)
+        it.admin("copy", "main")
         expect_wrong(it)
         expect("what commands left", it.leftovers(), [])
 

@@ -36,7 +36,7 @@ def killed_restore_of_the_newest():
             expect(f"book {number}", story.callers[number].entries(), 1)
 
     killed(["restore", "main", "newest"], after, goes_back=ALL[0], named=(
-        "never-in-force", "'reload', 'nginx'", "backups/main', 448", "os.rmdir ",
+        "/backups/main/2", "/lib/main/books.db-wal'", "/lib/main/books.db', -1", "'reload', 'nginx'",
     ))
 
 
@@ -92,7 +92,7 @@ def killed_removal_of_a_last_book():
         expect("the newest copy of its store", books_in(os.path.join(story.machine.newest("west"), "books.db")), set())
 
     killed(["remove-book", "10"], after, goes_back={10}, named=(
-        "never-in-force", "'reload', 'nginx'", "backups/west/.part-", "lib/west/books.db.old",
+        "/backups/west/2", "/lib/west/books.db-wal'", "/lib/west/books.db', -1", "'reload', 'nginx'",
     ), meanwhile=meanwhile)
 
 

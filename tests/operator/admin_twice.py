@@ -49,7 +49,7 @@ def the_same_verb_twice():
         ends, said = both(it, ("remove-book", 8), ("remove-book", 8))
         expect(f"two removals: {said}", ends, [0, 0])
         expect("book 8", callers[8].request("GET", "/pledges/1")[0], 404)
-        ends, said = both(it, ("book", 11, "--name", "A"), ("book", 11, "--name", "B"))
+        ends, said = both(it, *(("book", 11, "--name", name, "--key-to", it.place(name)) for name in "AB"))
         expect(f"two books of one number: {said}", sorted(ends), [0, 1])
         ends, said = both(it, ("store", "north"), ("store", "south"))
         expect(f"two stores: {said}", ends, [0, 0])

@@ -52,6 +52,10 @@ def a_store_that_does_not_start(one):
     look, restore = commands(OPERATING, "A store does not start")
     one.until(f"{look.strip()} | grep -q 'fault 50'")
     expect("what it said", "fault 50" in one.run(look), True)
+    one.until("[ $(journalctl -u pawnd@main -o cat --grep 'Failed with result' | wc -l) -gt 1 ]", within=300)
+    for _ in range(5):
+        told = one.run("pawnd-admin status; sleep 0.3", wanted=None)
+        expect(f"what is wrong: {told}", ("its service keeps ending" in told, "being started" in told), (True, False))
     one.run(restore)
     answers_again(one)
     expect("what was in the copy", ask(one, "/books/7/pledges/2")[0], 200)

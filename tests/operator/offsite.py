@@ -76,6 +76,7 @@ def a_copy_is_sent(one, standby):
     standby.run("systemctl start pawnd-received")
     expect("the drill", standby.run(drill).splitlines()[-1], "books 1 pledges 0 rows 1")
     expect("what the state says", "newest off this machine" in one.run("pawnd-admin status"), True)
+    one.run("pawnd-admin book 9 --name 'Old Street' --key-to /root/9.key; pawnd-admin remove-book 9")
 
 
 def send(one):
@@ -193,6 +194,7 @@ def sending_begins_anew(one, standby, anew, package):
     anew.run(f"umask 077; cat >/root/7.key <<<'{key}'")
     answers_again(anew)
     expect("what was sent before", [ask(anew, f"/books/7/pledges/{number}")[0] for number in (1, 2)], [200, 200])
+    expect("a book that left before", anew.run("ls /var/backups/pawnd/removed/9-*Z | grep csv").strip(), "book.csv")
     keys, receiver, begin, *_ = commands(DEPLOYING, "Off the machine")
     public = anew.run(keys).strip().splitlines()[-1]
     standby.run(receiver.strip().splitlines()[-1].replace("PUBLIC-KEY", public))
@@ -201,6 +203,10 @@ def sending_begins_anew(one, standby, anew, package):
     standby.run(go_on)
     standby.start("pawnd-received")
     expect("the new repository", len(archives(standby)), 1)
+    send(anew)
+    standby.start("pawnd-received")
+    told = anew.run("pawnd-admin status || true")
+    expect("what is wrong", [line for line in told.splitlines() if line.startswith("WRONG")], [])
     anew.run(command(OPERATING, "A leaked key", "new-key") + "mv /root/7.key.new /root/7.key")
     expect("by the new key", ask(anew, "/books/7/pledges/1")[0], 200)
     expect("the old repository", len(old) > 1 and "back" in standby.run("ls /root"), True)

@@ -1,5 +1,5 @@
 """A machine for `pawnd-admin` in a folder: its settings, stores, copies and nginx, with programs in the place of
-systemctl, nft and systemd-sysusers. And callers, who keep account of what was acknowledged to them."""
+systemctl, journalctl, nft and systemd-sysusers. And callers, who keep account of what was acknowledged to them."""
 import contextlib
 import http.client
 import json
@@ -89,7 +89,7 @@ class Machine:
         for folder in (self.stores, self.copies) if self.small else ():
             subprocess.run(["mount", "-t", "tmpfs", "-o", f"size={self.small}", "none", folder], check=True)
             self.stack.callback(subprocess.run, ["umount", "-l", folder], check=True)
-        for name in ("nft", "systemctl", "systemd-sysusers"):
+        for name in ("journalctl", "nft", "systemctl", "systemd-sysusers"):
             os.symlink(os.path.join(TOP, "tests/library/operator/admin_systemctl.py"), self.place("bin", name))
         self.write("bin/nginx", f'#!/bin/sh\nexec /usr/sbin/nginx -c {self.room}/nginx.conf -e {self.room}/error.log '
                    '"$@"\n', 0o755)
@@ -253,7 +253,7 @@ class Machine:
             found += [os.path.join(folder, it) for it in os.listdir(folder) if it.startswith(".")]
         for store in os.scandir(self.stores):
             if store.is_dir():
-                found += [it.path for it in os.scandir(store) if it.name.startswith("never-in-force")]
+                found += [it.path for it in os.scandir(store) if it.name not in ("books.db", "books.db-wal")]
         return found
 
 

@@ -1,4 +1,4 @@
-"""Where the books of a machine are on its disk: in stores, in what is kept of them, and in finished copies."""
+"""Where the books of a machine are on its disk: in stores, and in finished copies."""
 import os
 import shutil
 import sqlite3
@@ -31,11 +31,11 @@ def books_in(path):
 
 
 def databases(machine):
-    """Each database that is a store's, is kept of one, or is in a finished copy."""
+    """Each database that is a store's, or is in a finished copy."""
     for top in (machine.stores, machine.copies):
         for folder, folders, names in os.walk(top):
             folders[:] = [name for name in folders if not name.startswith(".part-") and "-making-" not in name]
-            if "books.db" in names and not any(name.startswith("never-in-force") for name in names):
+            if "books.db" in names:
                 yield os.path.join(folder, "books.db")
 
 

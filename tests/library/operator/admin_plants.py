@@ -90,16 +90,16 @@ def nobody_looks_at_the_log():
     copies.head_of_log = lambda path: b""
 
 
-def no_copy_can_be_made():
-    """The disk of the copies is full when a command comes to its last step."""
+def no_copy_of_a_part_can_be_made():
+    """The disk of the copies fills up when a command has copied a store, and comes to the copies of its parts."""
     import copies
     import divisions
     from settings import Stop
 
-    def refuse(name, path):
+    def refuse(*_):
         raise Stop("the disk is full")
 
-    divisions.make_copy = copies.make_copy = refuse
+    divisions.books_aside = copies.books_aside = refuse
 
 
 def the_new_store_does_not_start():
@@ -117,9 +117,8 @@ def the_new_store_does_not_start():
     divisions.services.start = refuse
 
 
-def a_split_ends_meanwhile():
-    """While the status looks at a store, after it has read which copies there are, the copies that end a split of it
-    are made."""
+def the_store_is_divided_meanwhile():
+    """While the status looks at a store, after it has read which copies there are, the store is divided."""
     import subprocess
     import sys
 
@@ -128,8 +127,7 @@ def a_split_ends_meanwhile():
     newest_offsite = states.newest_offsite
 
     def slow(name, wrong, notes):
-        for store in ("west", "main") if name == "main" else ():
-            subprocess.run([sys.argv[0], "copy", store], check=True, capture_output=True)
+        subprocess.run([sys.argv[0], "split", "main", "west", "8"], check=True, capture_output=True)
         return newest_offsite(name, wrong, notes)
 
     states.newest_offsite = slow
@@ -142,11 +140,11 @@ def another_program_opens_the_store():
     import divisions
     from settings import PAWND
 
-    taken_from = divisions.taken_from
+    make_copy = divisions.make_copy
 
-    def opened(store, room):
-        ran = subprocess.run([PAWND, "check", store.path], capture_output=True, text=True)
+    def opened(name, path):
+        ran = subprocess.run([PAWND, "check", path], capture_output=True, text=True)
         print(f"another program: {ran.stdout.strip()} {ran.stderr.strip()}")
-        return taken_from(store, room)
+        return make_copy(name, path)
 
-    divisions.taken_from = opened
+    divisions.make_copy = opened

@@ -1,6 +1,7 @@
 #!/usr/bin/python3 -IS
 """In systemctl's place on a machine of admin_machine.py: it starts, reloads and stops services of stores, and reloads
-nginx. It stands for nft too, which shows the rule of a store's port, and for systemd-sysusers, which does nothing."""
+nginx. It stands for nft too, which shows the rule of a store's port, for journalctl, which shows the file `journal`, and
+for systemd-sysusers, which does nothing."""
 import contextlib
 import os
 import signal
@@ -106,4 +107,7 @@ if __name__ == "__main__":
     called = os.path.basename(sys.argv[0])
     if called == "nft":
         show_rule(sys.argv[-1])
+    if called == "journalctl" and os.path.exists(os.path.join(ROOM, "journal")):
+        with open(os.path.join(ROOM, "journal")) as file:
+            print(file.read(), end="")
     sys.exit(main(sys.argv[1:]) if called == "systemctl" else 0)

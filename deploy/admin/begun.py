@@ -1,0 +1,51 @@
+"""What commands have begun and not ended: files in /etc/pawnd/pending. A command that was killed goes on by its file
+when it is run again, and the status says that this has to be done."""
+import contextlib
+import os
+
+from files import read_note
+from settings import SETTINGS, Interrupted, Stop
+
+FOLDER = os.path.join(SETTINGS, "pending")
+
+
+def begun_folder():
+    os.makedirs(FOLDER, 0o700, exist_ok=True)
+    return FOLDER
+
+
+def begun_file(name):
+    """Where a command writes down that it has begun, until it has ended."""
+    return os.path.join(begun_folder(), name + ".json")
+
+
+def begun_notes():
+    """Of each command that has begun: the name of its file, and what it wrote down."""
+    for it in sorted(os.listdir(FOLDER)) if os.path.isdir(FOLDER) else ():
+        with contextlib.suppress(OSError, ValueError):
+            if it.endswith(".json"):
+                yield it.removesuffix(".json"), read_note(os.path.join(FOLDER, it))
+
+
+def stop_if_another_began(path, command):
+    if os.path.exists(path) and read_note(path)["command"] != command:
+        raise Stop(
+            f"an earlier command did not end. First run it again: `pawnd-admin {read_note(path)['command']}`"
+        )
+
+
+@contextlib.contextmanager
+def ended_by_itself_alone(path, command):
+    """Where a command stops within the block after it has begun, its message says that it has to be run again. At the
+    end of the block it has ended."""
+    try:
+        yield
+    except (Stop, OSError, Interrupted) as why:
+        if not os.path.exists(path):
+            raise
+        raise Stop(
+            f"{why}. The command has begun, and nothing else ends it: when this is mended, run it again, `pawnd-admin "
+            f"{command}`"
+        ) from why
+    with contextlib.suppress(FileNotFoundError):
+        os.unlink(path)
