@@ -137,10 +137,11 @@ def each_part_has_its_form():
             for it in value:
                 walk(it)
     walk(DESCRIPTION)
-    expect("numbers without a format", [it for it in numbers if it.get("format") not in ("int32", "int64")], [])
+    counted = [it for it in numbers if "const" not in it]
+    expect("numbers without a format", [it for it in counted if it.get("format") not in ("int32", "int64")], [])
     expect(
         "numbers that 32 bits don't hold",
-        [it for it in numbers if it["format"] == "int32" and it.get("maximum", 0) >= 2**31], [],
+        [it for it in counted if it["format"] == "int32" and it.get("maximum", 0) >= 2**31], [],
     )
     tags, schemes = {it["name"] for it in DESCRIPTION["tags"]}, set(DESCRIPTION["components"]["securitySchemes"])
     for operation in OPERATIONS.values():

@@ -86,9 +86,11 @@ export class Card {
     this.isShown = true;
     this.neverOpened = this.saysDead = false;
     const { statement, known } = this;
+    const hasFocus = this.summary.contains(document.activeElement);
     this.summary.replaceChildren(
       ...summaryOf({ statement, known, place: this.place(), reader: "pawnor" }), ...this.told()
     );
+    if (hasFocus) this.focus();
     redrawFolds(this.actions, () => this.actions.replaceChildren(...actionsOf(this)), done);
   }
 
