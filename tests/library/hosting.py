@@ -224,6 +224,13 @@ def open_text(path):
         return it.read()
 
 
+def begun_at(pid):
+    """When a process began, in the system's ticks; never if it has ended."""
+    with contextlib.suppress(OSError), open(f"/proc/{pid}/stat") as it:
+        return int(it.read().rpartition(")")[2].split()[19])
+    return float("inf")
+
+
 class Hosted:
     """nginx in front of some stores. The files are those of deploy/nginx, but for paths, addresses and the settings;
     `changes` are pairs of texts: of limits in pawnd-http.conf, or else in pawnd-server.conf."""
@@ -349,10 +356,15 @@ class Hosted:
         self.reload()
 
     def reload(self):
-        """nginx reads its files anew. Its workers of before take no connection any more."""
-        before = self.workers()
+        """nginx reads its files anew. Its workers of before take no connection any more. They are told by the time at which
+        they began: soon after its start, not all of them are there yet."""
+        time.sleep(0.02)
+        with open("/proc/uptime") as it:
+            sent = float(it.read().split()[0]) * os.sysconf("SC_CLK_TCK")
         os.kill(self.nginx.pid, signal.SIGHUP)
-        wait_for(lambda: (now := self.workers()) and not now & before, "nginx has read its files anew", 30)
+        wait_for(
+            lambda: (now := self.workers()) and all(begun_at(pid) >= sent for pid in now), "nginx has read its files anew", 30,
+        )
 
     def workers(self):
         """The workers that take connections."""
