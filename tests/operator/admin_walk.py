@@ -73,7 +73,7 @@ class Operator:
         while self.draw.random() < 0.5:
             running = subprocess.Popen(
                 [ADMIN, *map(str, words)], env=self.machine.environment, stdin=subprocess.DEVNULL,
-                stdout=subprocess.DEVNULL, stderr=subprocess.PIPE,
+                stdout=subprocess.DEVNULL, stderr=subprocess.PIPE, start_new_session=True,
             )
             try:
                 said = running.communicate(timeout=self.draw.uniform(0.1, 4))[1]
@@ -85,6 +85,9 @@ class Operator:
                 self.kills += 1
                 self.story[-1][1] += 1
             if self.draw.random() < 0.5:
+                # A boot also ends what the command itself had started, such as a systemctl.
+                with contextlib.suppress(ProcessLookupError):
+                    os.killpg(running.pid, signal.SIGKILL)
                 self.boot()
         self.machine.admin(*words)
 
