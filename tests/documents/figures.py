@@ -56,8 +56,9 @@ SAID = {
          SCHEMAS["Sale"]["properties"]["net"]["x-limit"]["most"]],
     ),
     ("pawn_debt", "MOST_ENTRIES"): (
-        [(RULES, rf"206 EntriesFull \(there are {NUMBER}\)"), ("web/shared/refusals.js", f"pledge has {NUMBER} entries"),
-         ("docs/CLIENTS.md", f"pledge has {NUMBER} entries"), ("docs/DEPLOYING.md", f"a pledge with {NUMBER} entries \\d+ times"),
+        [(RULES, rf"206 EntriesFull \(there are {NUMBER}\)"), (RULES, f"secrets, {NUMBER} entries or"),
+         ("web/shared/refusals.js", f"pledge has {NUMBER} entries"), ("docs/CLIENTS.md", f"pledge has {NUMBER} entries"),
+         ("docs/DEPLOYING.md", f"a pledge with {NUMBER} entries \\d+ times"),
          (PROVED, f"show a pledge with {NUMBER} entries")],
         [],
     ),
@@ -87,9 +88,10 @@ SAID = {
          ("web/broker/replacing.js", f"for credit up to £{NUMBER}\""), ("web/shared/period.js", f"SMALL = {NUMBER};")],
         [],
     ),
+    ("pawn_pledge", "MOST_SECRETS"): ([(RULES, f"a pledge with more than {NUMBER} secrets,")], []),
     ("pawn_pledge", "MOST_EXTENSIONS"): (
-        [(RULES, rf"316 ExtensionsFull \(there are {NUMBER}\)"), ("web/shared/refusals.js", f"was extended {NUMBER} times"),
-         ("docs/CLIENTS.md", f"was extended {NUMBER} times")],
+        [(RULES, rf"316 ExtensionsFull \(there are {NUMBER}\)"), (RULES, f"entries or {NUMBER} extensions"),
+         ("web/shared/refusals.js", f"was extended {NUMBER} times"), ("docs/CLIENTS.md", f"was extended {NUMBER} times")],
         [],
     ),
     ("pawn_pledge", "LAST_WINDOW"): (
@@ -424,7 +426,7 @@ def no_example_is_at_the_border_of_small_credits():
 UNMISTAKABLE = {"MOST_KEEP", "MOST_PENCE", "MOST_ENTRIES", "MOST_NUMBER", "SMALL_CREDIT", "MOST_HEAD", "MOST_BODY", "MOST_NUMERAL"}
 MISTAKABLE = {
     "MOST_RATE", "MOST_REFERENCE_BYTES", "MOST_ARTICLE_BYTES", "MOST_EXTENSIONS", "LAST_WINDOW", "MOST_BOOKINGS", "MOST_NAME_BYTES",
-    "MOST_RECEIPTS", "MOST_TERMS", "MOST_PLEDGES", "MOST_REQUESTS", "MOST_READS", "MOST_FIELDS", "MOST_DIGITS",
+    "MOST_RECEIPTS", "MOST_SECRETS", "MOST_TERMS", "MOST_PLEDGES", "MOST_REQUESTS", "MOST_READS", "MOST_FIELDS", "MOST_DIGITS",
 }
 PAGES = ("web/*/*.js", "web/*/*.html", "web/*.html")
 
@@ -442,9 +444,25 @@ def each_mention_of_an_unmistakable_limit_on_a_page_is_compared():
                 expect(f"that {path} says {name} of {crate} where this script compares it: {around!r}", inside, True)
 
 
+# Limits for which no page has a check or a label of its own: the pages show the service's refusal, or send no such request.
+WITHOUT_A_CHECK_ON_A_PAGE = {
+    "MOST_ENTRIES", "MOST_SECRETS", "MOST_EXTENSIONS", "MOST_BOOKINGS", "MOST_NAME_BYTES", "MOST_RECEIPTS", "MOST_TERMS",
+    "MOST_PLEDGES", "MOST_REQUESTS", "MOST_READS", "MOST_HEAD", "MOST_FIELDS", "MOST_DIGITS", "MOST_NUMERAL",
+}
+
+
+def each_limit_is_checked_on_a_page_or_not_on_purpose():
+    """A new limit is either said by a page outside of the sentences of refusals, so that its number is compared, or is listed."""
+    told = {name: [path for path, *_ in it[0]] for (_, name), it in SAID.items()}
+    for (_, name), it in IN_LETTERS.items():
+        told[name] = [*told.get(name, ()), *(path for path, *_ in it)]
+    without = {name for name, paths in told.items() if not any(re.match(r"web/(?!shared/refusals)", it) for it in paths)}
+    expect("limits without a check on a page", without, WITHOUT_A_CHECK_ON_A_PAGE)
+
+
 def each_limit_has_its_row():
     """No limit of these crates is left out, but for those that no request meets."""
-    unmet = {"FIRST_DAY", "LAST_STAMP_DAY", "FINAL_DAY", "PENNY", "MOST_MILLIONTHS", "MOST_SECRETS", "GRACE_DAYS", "MOST_ROWS"}
+    unmet = {"FIRST_DAY", "LAST_STAMP_DAY", "FINAL_DAY", "PENNY", "MOST_MILLIONTHS", "GRACE_DAYS", "MOST_ROWS"}
     for crate in sorted({crate for crate, _ in SAID}):
         names = set(re.findall(r"const ([A-Z_]+):", read(f"crates/{crate}/src/limits.rt")))
         expect(f"limits of {crate} without a row", names - unmet - {name for it, name in SAID if it == crate}, set())
@@ -516,7 +534,8 @@ def numbers_are_read_as_people_write_them():
 main(
     each_limit_is_one_number, each_comment_of_the_crates_has_the_same, each_limit_in_letters_is_the_same,
     each_number_above_a_limit_is_one_above_it, each_mention_of_small_credits_is_compared, each_mention_of_a_limit_is_compared,
-    no_example_is_at_the_border_of_small_credits, each_mention_of_an_unmistakable_limit_on_a_page_is_compared, each_limit_has_its_row,
+    no_example_is_at_the_border_of_small_credits, each_mention_of_an_unmistakable_limit_on_a_page_is_compared,
+    each_limit_is_checked_on_a_page_or_not_on_purpose, each_limit_has_its_row,
     each_limit_has_a_definition_and_a_worked_fact, each_limit_is_in_the_book_of_changes, each_limit_that_is_new_has_an_edit,
     each_changed_limit_is_in_the_changelog, declarations_and_days_are_those_of_the_crates,
     numbers_are_read_as_people_write_them,
