@@ -17,7 +17,7 @@ async function askForTomorrow(book) {
     const said = await book.post("/held/ask", { day: day(1), window: 3 });
     console.log(`window ${said.window} of ${said.day} ${said.booking}`);
   } catch (why) {
-    if (![304, 305, 312].includes(why.code)) throw why;
+    if (!(why instanceof Refused)) throw why;
     console.log(`no booking: ${why.message}`);
   }
 }

@@ -22,8 +22,6 @@ def ask_for_tomorrow(book):
         said = book.post("/held/ask", {"day": str(tomorrow), "window": 3})
         print("window", said["window"], "of", said["day"], said["booking"])
     except Refused as why:
-        if why.code not in (304, 305, 312):
-            raise
         print("no booking:", why)
 
 

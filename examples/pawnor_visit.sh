@@ -23,8 +23,10 @@ echo "$SAID"
 # A window of tomorrow. Asked again for the same one nothing changes, so it may be repeated.
 if ask POST /held/ask '{"day":"'"$tomorrow"'","window":3}'; then
     echo "window $(said window) of $(said day) $(said booking)"
+elif (($? == 1)); then
+    echo "no booking: $CODE $(said name)"
 else
-    case $CODE in 304 | 305 | 312) echo "no booking: $CODE $(said name)" ;; *) stop ;; esac
+    stop
 fi
 
 # Pays once: the number of the entry is taken from the statement before the first sending, and is the same in a repeat.

@@ -9,13 +9,16 @@ import subprocess
 import sys
 import threading
 
+from tests.library.book_texts import COLUMNS, row
 from tests.library.checks import expect, main
 from tests.library.dates import six_months_after, today
 from tests.library.keys import BROKER, OPERATOR
 from tests.library.packages import provide
 from tests.library.paths import TOP
 from tests.library.program import Server
+from tests.library.requests import request
 from tests.library.sessions import WAIT, read_all
+from tests.library.sums import SMALL
 
 RECEIPT = re.compile(r"\d+-[0-9a-f]{8}(?:-[0-9a-f]{4}){3}-[0-9a-f]{12}")
 STARTS = {"py": [sys.executable], "sh": ["bash"], "mjs": ["node"]}
@@ -223,6 +226,34 @@ def a_pawnors_visit():
             expect(f"{language}: the receipt later", later, (1, "", "this receipt is not live\n"))
 
 
+def a_visit_that_is_not_booked():
+    """Whatever the refusal is, there is no booking, and the visit goes on. The first pledge's last change is on a day
+    that the clock has not reached, and the second pledge has passed."""
+    secret = "da41597c-5157-488d-7724-e03fb8d84a37"
+    rows = [COLUMNS, row("B", 2, 1, 2), row("T", 1, 2667, 0, 0)]
+    for number, day in ((1, "2199-01-31"), (2, "2024-01-31")):
+        rows += [
+            row("P", number, f"A{number}", "Gold ring", "fixed", SMALL, day, "", "no", 1, "no", day, "open"),
+            row("S", number, 1, day, "opening", secret),
+        ]
+    fields = (f"Pledge-Key: {BROKER}", f"Import-Key: {BROKER}", "Connection: close")
+    with Server() as server:
+        session, url = server.session(), f"http://127.0.0.1:{server.port}"
+        made = {"capacity": 1, "key": BROKER, "name": "High Street"}
+        expect("the book", session.ask("POST", "/books/7", made, Pledge_Key=OPERATOR), (200, {"book": 7}))
+        session.close()
+        with server.connect() as connection:
+            connection.sendall(request("POST", "/books/7/import", *fields, body="\n".join(rows)))
+            expect("the import", read_all(connection).split(b"\r\n\r\n")[1], b'{"imported":2}')
+        for language in LANGUAGES:
+            for number, why in ((1, "205 EarlierDay"), (2, "304 Passed")):
+                status, said, complained = runs(f"pawnor_visit.{language}", url, "7", f"{number}-{secret}")
+                expect(
+                    f"{language}: {why}", (status, said.splitlines()[-1], complained),
+                    (1, f"no booking: {why}", f"stopped: {why}\n"),
+                )
+
+
 def a_day_goes_on_after_a_visit():
     """The broker's day, the visit of the pawnor who got its receipt, and the day again."""
     with Server() as server:
@@ -395,7 +426,7 @@ def no_process_listens():
 
 
 main(
-    a_brokers_day, a_pawnors_visit, a_day_goes_on_after_a_visit, lost_replies, replies_that_end_in_their_head,
+    a_brokers_day, a_pawnors_visit, a_visit_that_is_not_booked, a_day_goes_on_after_a_visit, lost_replies, replies_that_end_in_their_head,
     replies_of_a_store_that_failed,
     articles_that_are_meant_to_mislead, what_the_proxy_kept_back, what_the_proxy_refuses_for_good,
     another_sum_is_paid_only_when_a_person_says_so, a_declaration_that_was_never_sent, no_process_listens,
