@@ -426,8 +426,8 @@ def no_process_listens():
 
 
 main(
-    a_brokers_day, a_pawnors_visit, a_visit_that_is_not_booked, a_day_goes_on_after_a_visit, lost_replies, replies_that_end_in_their_head,
-    replies_of_a_store_that_failed,
+    a_brokers_day, a_pawnors_visit, a_visit_that_is_not_booked, a_day_goes_on_after_a_visit, lost_replies,
+    replies_that_end_in_their_head, replies_of_a_store_that_failed,
     articles_that_are_meant_to_mislead, what_the_proxy_kept_back, what_the_proxy_refuses_for_good,
     another_sum_is_paid_only_when_a_person_says_so, a_declaration_that_was_never_sent, no_process_listens,
 )

@@ -426,7 +426,8 @@ def no_example_is_at_the_border_of_small_credits():
 UNMISTAKABLE = {"MOST_KEEP", "MOST_PENCE", "MOST_ENTRIES", "MOST_NUMBER", "SMALL_CREDIT", "MOST_HEAD", "MOST_BODY", "MOST_NUMERAL"}
 MISTAKABLE = {
     "MOST_RATE", "MOST_REFERENCE_BYTES", "MOST_ARTICLE_BYTES", "MOST_EXTENSIONS", "LAST_WINDOW", "MOST_BOOKINGS", "MOST_NAME_BYTES",
-    "MOST_RECEIPTS", "MOST_SECRETS", "MOST_TERMS", "MOST_PLEDGES", "MOST_REQUESTS", "MOST_READS", "MOST_FIELDS", "MOST_DIGITS",
+    "MOST_RECEIPTS", "MOST_SECRETS", "MOST_TERMS", "MOST_PLEDGES", "MOST_REQUESTS", "MOST_READS",
+    "MOST_FIELDS", "MOST_DIGITS",
 }
 PAGES = ("web/*/*.js", "web/*/*.html", "web/*.html")
 
@@ -444,7 +445,8 @@ def each_mention_of_an_unmistakable_limit_on_a_page_is_compared():
                 expect(f"that {path} says {name} of {crate} where this script compares it: {around!r}", inside, True)
 
 
-# Limits for which no page has a check or a label of its own: the pages show the service's refusal, or send no such request.
+# Limits for which no page has a check or a label of its own: the pages show the service's refusal, or send no such
+# request.
 WITHOUT_A_CHECK_ON_A_PAGE = {
     "MOST_ENTRIES", "MOST_SECRETS", "MOST_EXTENSIONS", "MOST_BOOKINGS", "MOST_NAME_BYTES", "MOST_RECEIPTS", "MOST_TERMS",
     "MOST_PLEDGES", "MOST_REQUESTS", "MOST_READS", "MOST_HEAD", "MOST_FIELDS", "MOST_DIGITS", "MOST_NUMERAL",
@@ -452,11 +454,12 @@ WITHOUT_A_CHECK_ON_A_PAGE = {
 
 
 def each_limit_is_checked_on_a_page_or_not_on_purpose():
-    """A new limit is either said by a page outside of the sentences of refusals, so that its number is compared, or is listed."""
+    """A limit is said by a page, outside of the sentences of refusals, so that its number is compared; or it is listed."""
     told = {name: [path for path, *_ in it[0]] for (_, name), it in SAID.items()}
     for (_, name), it in IN_LETTERS.items():
         told[name] = [*told.get(name, ()), *(path for path, *_ in it)]
-    without = {name for name, paths in told.items() if not any(re.match(r"web/(?!shared/refusals)", it) for it in paths)}
+    own = re.compile(r"web/(?!shared/refusals)")
+    without = {name for name, paths in told.items() if not any(map(own.match, paths))}
     expect("limits without a check on a page", without, WITHOUT_A_CHECK_ON_A_PAGE)
 
 
