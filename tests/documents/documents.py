@@ -49,6 +49,13 @@ NOT_HERE = re.compile(
 )
 FOLDERS = ("crates", "tests", "tools", "deploy", "deploy/nginx", "deploy/systemd", "docs", "web", *sorted(glob.glob("tests/*/", root_dir=TOP)))
 
+# The documents on the code, where the names in their backticks are, and the names that are of the kit or of an example.
+ON_THE_CODE = ("CONTRIBUTING.md", *(f"docs/{it}.md" for it in (
+    "ARCHITECTURE", "CHANGING", "DECISIONS", "GLOSSARY", "PROMISES", "PROVED", "THEOREM",
+)))
+SOURCES = ("crates", "tests", "tools", "web", "bench", "deploy", "examples")
+NO_SOURCE = {"max_depth", "TooLong", "too_far", "TooFar", "NAME_OF_TEST"}
+
 
 def read(path):
     with open(os.path.join(TOP, path), encoding="utf-8") as it:
@@ -99,6 +106,25 @@ def each_path_is_there():
             heading = section.splitlines()[0] if section else ""
             expect(f"what {document} names below {heading!r} and is not there", missing, [])
     print(f"        {count} paths in {len(DOCUMENTS)} documents", flush=True)
+
+
+def names_in(text):
+    """The names of code in a document's backticks: words with an underscore, or with a capital after a small letter."""
+    spans = {span for section in sections(text) for span in re.findall(r"`([^`\n]+)`", section)}
+    words = {it for span in spans for it in re.findall(r"\w{4,}", span)}
+    return {it for it in words if re.search(r"[a-z]_?[A-Z]|[A-Za-z0-9]_[A-Za-z0-9]", it) and not it.endswith("_")}
+
+
+def each_name_of_code_is_there():
+    """In the documents on the code: a name that was changed there and not here sends a reader to nothing."""
+    written = set()
+    for folder in SOURCES:
+        for path in glob.glob(f"{folder}/**/*", root_dir=TOP, recursive=True):
+            if os.path.isfile(os.path.join(TOP, path)) and "/out/" not in path and not path.endswith(".pyc"):
+                with open(os.path.join(TOP, path), encoding="utf-8", errors="replace") as it:
+                    written.update(re.findall(r"\w+", f"{path}\n{it.read()}"))
+    for document in ON_THE_CODE:
+        expect(f"names in {document} that no source has", sorted(names_in(read(document)) - written - NO_SOURCE), [])
 
 
 def anchors(text):
@@ -374,6 +400,8 @@ def these_checks_can_fail():
         ("use std::alloc::Global;", set()),
     ):
         expect(f"the crates of {line}", imported_crates(line), crates)
+    names = "# A\n\n`some_name` and `Some.OtherName`, not `word`, `A`, `NAME` or some_more.\n"
+    expect("names of code", names_in(names), {"some_name", "OtherName"})
     source = "//! One.\n/// Two is told.\nlet a = 1; // three\n"
     expect("the comments of a source", comments("a.rt", source), [" One.", " Two is told.", "three"])
     expect("those of definitions", comments("A.antt", "-- one\na = b -- two\nc = d\n"), ["one", "two"])
@@ -383,7 +411,7 @@ def these_checks_can_fail():
 
 
 main(
-    each_path_is_there, each_script_is_on_the_map, each_link_leads_somewhere, each_word_is_defined_where_the_glossary_says,
+    each_path_is_there, each_name_of_code_is_there, each_script_is_on_the_map, each_link_leads_somewhere, each_word_is_defined_where_the_glossary_says,
     each_installed_path_is_in_the_package, each_clause_stands_in_its_contract, each_definition_has_one_name,
     no_line_of_the_crates_is_long, each_source_says_what_is_in_it, each_edit_is_of_a_text_that_is_there, each_import_names_one_crate,
     each_quotation_is_true, these_checks_can_fail, no_sentence_is_too_long, building_and_testing_take_the_same_time_everywhere, each_figure_stands_in_one_document,
