@@ -530,6 +530,10 @@ def two_ways_to_try():
     stream = a_pledge_of_long_ago() + request("GET", "/books/7/pledges/1", KEY)
     said = [answered(stream) for _ in range(2)]
     expect("the same replies", (said[0], b"Taken 2024-01-31\n" in said[0]), (said[1], True))
+    late = answered(request("GET", "/x") + stream)
+    receipts = [re.findall(rb'"receipt":"(1-[0-9a-f-]{36})"', it) for it in (said[0], late)]
+    expect("how many receipts", [len(it) for it in receipts], [1, 1])
+    expect("that a refused request before it changes a receipt", receipts[0] != receipts[1], True)
 
 
 def old_days_by_an_import():
