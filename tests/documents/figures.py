@@ -460,7 +460,9 @@ def each_limit_is_checked_on_a_page_or_not_on_purpose():
         told[name] = [*told.get(name, ()), *(path for path, *_ in it)]
     own = re.compile(r"web/(?!shared/refusals)")
     without = {name for name, paths in told.items() if not any(map(own.match, paths))}
-    expect("limits without a check on a page", without, WITHOUT_A_CHECK_ON_A_PAGE)
+    unlisted, checked = without - WITHOUT_A_CHECK_ON_A_PAGE, WITHOUT_A_CHECK_ON_A_PAGE - without
+    expect("limits that no page checks and that are not listed so", unlisted, set())
+    expect("limits that a page checks and that are listed as if none did", checked, set())
 
 
 def each_limit_has_its_row():
