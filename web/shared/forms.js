@@ -47,6 +47,12 @@ export const explainWaiting = (explain) => { explained = explain; };
 /** By its notice: the act that began last. Only that one says in it what came of it. */
 const newest = new WeakMap();
 
+/** The elements within which an act is under way that no other may overtake. */
+const underWay = new Set();
+
+/** Whether an act waits for its reply. A form that only looks for something has the class `inline`. */
+export const isReplyAwaited = () => [...underWay].some((within) => !within.classList.contains("inline"));
+
 /** Where acts belong, and how the result of one is reported whose form is out of sight by then. */
 let sight = { mark: () => null, report: () => false };
 
@@ -87,6 +93,7 @@ export async function run({ notice, within, reader, act, about = null, mayBeOver
   const buttons = mayBeOvertaken ? [] : [...within.querySelectorAll("button")].filter((button) => !button.disabled);
   buttons.forEach((button) => { button.disabled = true; });
   clearMarks(within);
+  if (!mayBeOvertaken) underWay.add(within);
   const mine = {};
   newest.set(notice, mine);
   const mark = sight.mark();
@@ -99,6 +106,7 @@ export async function run({ notice, within, reader, act, about = null, mayBeOver
     fault = found;
   } finally {
     endWaiting();
+    underWay.delete(within);
     buttons.forEach((button) => { button.disabled = false; });
   }
   const isLook = mayBeOvertaken || isFailedLook(fault);
