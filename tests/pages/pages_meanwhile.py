@@ -428,10 +428,10 @@ window.fetch = async (path, how) => {
 };"""
 
 
-def close_and_open_another():
+def close_and_open_another(close=close_the_book):
     """Closes book 7 while a reply is awaited, opens book 8, and lets the reply come."""
     browser.until("return window.held", "a reply that is late")
-    close_the_book()
+    close()
     browser.fill("#open", book="8", key=BROKER)
     browser.press("#open .buttons button")
     browser.says("Coming", "#sheet")
@@ -582,7 +582,7 @@ def what_was_looked_for_in_a_book_is_not_said_of_another():
         make_book(pages, book=8)
         browser.run(SLOW_REPLY, "GET", "/held")
         find(f"1-{secret_of(1)}")
-        close_and_open_another()
+        close_and_open_another(lambda: browser.press("#close-book"))
         part("pledge")
         browser.rests()
         browser.run("window.letGo()")

@@ -306,6 +306,7 @@ def closing_the_book_asks_while_a_reply_is_awaited():
         browser.until("return window.held", "a reply that is late")
         browser.press("#close-book")
         browser.says("The service has not answered yet what you sent.", "dialog")
+        expect("it was sent", "was not sent" in browser.text("dialog"), False)
         browser.press("dialog button", "Keep it open")
         browser.run("window.letGo()")
         browser.says("Repaid: £10.00", "#commands")

@@ -1,5 +1,5 @@
 /** The question before the book is closed. It is asked only if something would be lost. */
-import { isReplyAwaited } from "../shared/forms.js";
+import { underWay } from "../shared/forms.js";
 import { confirmed } from "../shared/questions.js";
 
 /** Fields of these kinds keep no text that was typed. */
@@ -8,9 +8,12 @@ const UNTYPED = ["radio", "checkbox", "file", "submit", "button"];
 const isTyped = ({ type, value, defaultValue }) =>
   defaultValue !== undefined && !UNTYPED.includes(type) && value !== defaultValue;
 
-/** Whether a form is one that sends something, and can be seen if its part is shown. */
-const isOfAct = (form) =>
-  !form.classList.contains("inline") && !form.closest("#owed-on") && form.closest("details")?.open !== false;
+/** Whether a form, or what is around several, sends something. One that only looks for something is `inline`. */
+const isOfAct = (one) =>
+  one.closest("section.place") && !one.classList.contains("inline") && !one.closest("#owed-on");
+
+/** Whether a form can be seen if its part is shown. */
+const isUnfolded = (form) => form.closest("details")?.open !== false;
 
 /** What a form is called on the page: its fold, or the tab of its part. */
 const nameOf = (form) => (form.closest("details")?.firstChild
@@ -18,13 +21,16 @@ const nameOf = (form) => (form.closest("details")?.firstChild
 
 /** What would be lost, as lines of the question. */
 function linesOfLoss() {
-  const forms = [...document.querySelectorAll("section.place form")].filter(isOfAct);
-  const typed = forms.filter((form) => [...form.elements].some(isTyped)).map(nameOf);
-  return [
-    ...typed.map((name) => `What you typed under “${name}” was not sent, and is lost then.`),
-    isReplyAwaited() && "The service has not answered yet what you sent. Its answer will be shown above the form that "
-      + "opens a book.",
-  ].filter(Boolean);
+  const awaited = [...underWay].filter(isOfAct);
+  const isUnsent = (form) => isOfAct(form) && isUnfolded(form) && !awaited.some((one) => one.contains(form))
+    && [...form.elements].some(isTyped);
+  const lines = [...document.forms].filter(isUnsent).map(
+    (form) => `What you typed under “${nameOf(form)}” was not sent, and is lost then.`
+  );
+  if (awaited.length > 0) lines.push(
+    "The service has not answered yet what you sent. The result will be shown above the form that opens a book."
+  );
+  return lines;
 }
 
 /** Whether the book is to be closed. */

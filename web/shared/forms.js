@@ -48,10 +48,7 @@ export const explainWaiting = (explain) => { explained = explain; };
 const newest = new WeakMap();
 
 /** The elements within which an act is under way that no other may overtake. */
-const underWay = new Set();
-
-/** Whether an act waits for its reply. A form that only looks for something has the class `inline`. */
-export const isReplyAwaited = () => [...underWay].some((within) => !within.classList.contains("inline"));
+export const underWay = new Set();
 
 /** Where acts belong, and how the result of one is reported whose form is out of sight by then. */
 let sight = { mark: () => null, report: () => false };
