@@ -100,6 +100,14 @@ def a_link_out_of_a_mail_is_read_as_it_was_meant():
             open_book(pages)
             find(typed)
             browser.says("This receipt is live.", "#commands")
+        whole = pages.address + "/pawn/" + fragment
+        wrapped = whole.replace(receipt, receipt[:16] + "\n" + receipt[16:])
+        for typed in (f"Your pledge: {wrapped}\nYours, the shop", f"{receipt[:20]}\n{receipt[20:]}"):
+            browser.forget()
+            browser.go(f"{pages.address}/pawn/")
+            browser.fill("#find", receipts=typed, book="7")
+            browser.press("#find button")
+            browser.says("Gold ring", "#cards")
         no_faults()
 
 

@@ -7,7 +7,7 @@ from tests.library.dates import six_months_after, today
 from tests.library.pages.browser import Pages
 from tests.library.pages.steps import (
     LOST, WRONG_SECRET, a_pledge_at_the_counter, a_pledge_by_its_receipt, ago, an_open_book, book_text, browser,
-    command, fill_book, find, in_words, main, make_book, no_faults, open_book, part, secret_of, show_receipt,
+    command, entries, fill_book, find, in_words, main, make_book, no_faults, open_book, part, secret_of, show_receipt,
     the_book_is_read, unfold,
 )
 
@@ -317,6 +317,102 @@ def closing_the_book_asks_while_a_reply_is_awaited():
         no_faults()
 
 
+def a_hold_does_not_hide_what_the_end_brings():
+    """To the pawnor or to the clerk: the time of a pledge runs on while it is on hold."""
+    with Pages() as pages:
+        make_book(pages, terms=False)
+        fill_book(pages, book_text([
+            ("Ring", "A1", 5000, ago(30), "", "yes"), ("Watch", "A2", 9000, ago(30), "", "no"),
+            ("Clock", "A3", 9000, ago(220), "", "no"), ("Spoon", "A4", 5000, ago(186), "", "yes"),
+        ]))
+        ends = six_months_after(ago(30))
+        grace = six_months_after(ago(186))
+        days = datetime.timedelta(days=5)
+        hold = "On hold: it can’t be redeemed until"
+        for number, for_clerk, for_pawnor in (
+            (1, f"The period ends on {in_words(ends)}, and five days of grace follow; after that the article "
+             "belongs to the pawnbroker, on hold or not",
+             f"The period ends on {in_words(ends)}, and five days of grace follow if your paper says so; after that "
+             "the article belongs to the pawnbroker, on hold or not"),
+            (2, f"The period ends on {in_words(ends)}; after that the article may be sold, on hold or not", None),
+            (3, f"The period ended on {in_words(six_months_after(ago(220)))}; the article may be sold any "
+             "day, on hold or not", ...),
+            (4, f"The period ended on {in_words(grace)}, and days of grace run until {in_words(grace + days)}; "
+             "after that the article belongs to the pawnbroker, on hold or not", ...),
+        ):
+            held = pages.session.broker("POST", f"/books/7/pledges/{number}/hold")
+            expect("the hold", held, (200, {"held": True}))
+            open_book(pages)
+            the_book_is_read()
+            find(str(number))
+            browser.says(f"{hold} you release it", "#statement")
+            browser.says(for_clerk, "#statement")
+            show_receipt(pages, f"{number}-{secret_of(number)}")
+            browser.says(f"{hold} the pawnbroker releases it", "#cards")
+            if for_pawnor is not None:
+                browser.says(for_clerk if for_pawnor is ... else for_pawnor, "#cards")
+        no_faults()
+
+
+def at_the_hour(hour):
+    """It is this hour and ten minutes by the clock of the device."""
+    browser.run(f"Date.prototype.getHours = () => {hour}; Date.prototype.getMinutes = () => 10;")
+
+
+def a_visit_whose_time_is_over_is_told_the_clerk():
+    """On the day's sheet, on its pledge, and before it is confirmed."""
+    with a_pledge_at_the_counter() as (pages, receipt):
+        the_book_is_read()
+        pages.session.bearer(receipt, "POST", "/books/7/held/ask", {"day": str(today()), "window": 3})
+        at_the_hour(8)
+        part("today")
+        browser.says("today, 10:30 to 11:00", "#sheet")
+        expect("it is to come", "is over" in browser.text("#sheet"), False)
+        at_the_hour(12)
+        part("today")
+        browser.says("today, 10:30 to 11:00, which is over", "#sheet")
+        find("1")
+        over = f"{in_words(today())}, 10:30 to 11:00: asked for, not confirmed yet, at a time that is over"
+        browser.says(over, "#statement")
+        command("Visit", "Confirm")
+        browser.says("It is 12:10 by the clock of this device.", "dialog")
+        browser.says(over, "dialog")
+        browser.press("dialog button", "Not now")
+        browser.says("Nothing was done.", "#commands")
+        command("Visit", "Confirm")
+        browser.press("dialog button", "Confirm it all the same")
+        browser.says(f"The visit on {in_words(today())}, 10:30 to 11:00 is confirmed.", "#commands")
+        part("today")
+        browser.says("10:30 to 11:00, which is over", "#sheet")
+        browser.says("1 of 2 places", "#sheet")
+        no_faults()
+
+
+def what_came_in_between_is_named():
+    """Where it is no entry, it is not called one."""
+    day = six_months_after(today()) + datetime.timedelta(days=40)
+    with a_pledge_at_the_counter() as (pages, _):
+        unfold("Repayment")
+        browser.fill(".action[open] form", amount="5")
+        pages.session.broker("POST", "/books/7/pledges/1/extend", {"until": str(day)})
+        pages.session.broker("POST", "/books/7/pledges/1/hold")
+        browser.press(".action[open] button")
+        browser.says(f"The period ends on {in_words(day)} now.", "dialog")
+        browser.says("The pledge was put on hold.", "dialog")
+        browser.says("Do you still want to record £5.00?", "dialog")
+        browser.press("dialog button", "No, record nothing")
+        browser.rests()
+        browser.fill(".action[open] form", amount="6")
+        pages.session.broker("POST", "/books/7/pledges/1/release")
+        pages.session.broker("POST", "/books/7/pledges/1/repay", {"pence": 600, "seq": 1})
+        browser.press(".action[open] button")
+        browser.says("The hold was released.", "dialog")
+        browser.says("Is your £6.00 another one, beside these?", "dialog")
+        browser.press("dialog button", "No, record nothing")
+        expect("one entry", len(entries(pages, 1)), 1)
+        no_faults()
+
+
 # The service's reply to a repayment does not come before it is let go.
 SLOW_REPAYMENT = """
 const real = window.fetch;
@@ -501,5 +597,7 @@ main(
         what_an_act_reports_stays_where_one_came_back_during_its_question, the_pledge_of_a_link_is_the_one_that_is_seen,
         a_visit_after_the_time_is_over_says_what_becomes_of_the_article,
         closing_the_book_asks_about_what_was_typed, closing_the_book_asks_while_a_reply_is_awaited,
+        a_hold_does_not_hide_what_the_end_brings, a_visit_whose_time_is_over_is_told_the_clerk,
+        what_came_in_between_is_named,
     ),
 )

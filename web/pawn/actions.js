@@ -11,7 +11,7 @@ import { confirmed, NOTHING_DONE } from "../shared/questions.js";
 import { reckoningForm } from "../shared/reckoning.js";
 import { isOpen, isToCome } from "../shared/statuses.js";
 import { Unreadable } from "../shared/unreadable.js";
-import { clock, endOf, WINDOWS, windowInWords } from "../shared/windows.js";
+import { clock, isOverToday, minuteNow, WINDOWS, windowInWords } from "../shared/windows.js";
 
 /** A form in a fold, which acts on the card when it is sent. */
 const foldOf = (card, title, parts, act) =>
@@ -53,12 +53,12 @@ function agreedToLate(statement, { fiveDays }, day) {
 
 /** A time of today that is over by the clock of this device is asked about: the shop's clock may be another. */
 function agreedToOver(day, window) {
-  const now = new Date();
-  const minutes = now.getHours() * 60 + now.getMinutes();
-  if (day !== today() || endOf(window) > minutes) return true;
+  if (!isOverToday({ day, window })) return true;
   return confirmed({
     title: "That time is over",
-    lines: [`It is ${clock(minutes)} by the clock of this device, and you ask for today, ${windowInWords(window)}.`],
+    lines: [
+      `It is ${clock(minuteNow())} by the clock of this device, and you ask for today, ${windowInWords(window)}.`,
+    ],
     yes: "Ask for this time all the same", no: "Choose another time",
   });
 }

@@ -1,7 +1,7 @@
 /**
  * The receipts that this tab holds: typed, pasted, or carried by a link's fragment, which reaches no server and no log.
  */
-import { isBook, linesTyped, ofFragment, partsOf, receiptsTyped, whyNotWhole } from "../shared/receipts.js";
+import { fragmentIn, isBook, linesTyped, ofFragment, partsOf, receiptsTyped, whyNotWhole } from "../shared/receipts.js";
 import { Unreadable } from "../shared/unreadable.js";
 
 const KEPT = "receipts";
@@ -19,11 +19,14 @@ const whyNot = (line) => whyNotWhole(line, { orReference: false });
 function refuseOthers(text, found) {
   if (found.length === 0) throw new Unreadable(
     LINK.test(text)
-      ? cutInWords(partsOf(text.slice(text.indexOf("#"))).wrong)
+      ? cutInWords(partsOf(fragmentIn(text)).wrong)
       : `That is no receipt. ${whyNot(text) || FORM}`,
     "receipts",
   );
-  const other = linesTyped(text).find((line) => receiptsTyped(line).length === 0 && (LINK.test(line) || whyNot(line)));
+  const lines = linesTyped(text);
+  const others = lines.filter((line) => receiptsTyped(line).length === 0);
+  // Where no line has a receipt by itself, one is on several lines.
+  const other = others.length < lines.length && others.find((line) => LINK.test(line) || whyNot(line));
   if (other) throw new Unreadable(
     `This is no receipt: ${other.trim()}. ${whyNot(other) || "The link is not whole."} `
       + "Nothing was shown: correct it, or leave it out.",

@@ -125,19 +125,34 @@ export function ofFragment(fragment) {
 
 const LINK = /^\S*#\S*receipt=\S+$/i;
 
+/** The part of a link that begins with its #. */
+export const fragmentIn = (text) => text.slice(text.indexOf("#"));
+
 /** Whether a text is a link or a receipt, and not the name of anything else. */
 export const isReceiptLike = (text) => LINK.test(text.trim()) || receiptsIn(text).length > 0;
 
 /** The parts of a typed text that can have a receipt each. */
 export const linesTyped = (text) => unescaped(text).split(/[\n,;]+/);
 
-/** The receipts of a typed text: those of links in it, with their books, or those of its lines, without a book. */
+const untold = (book, receipts) => receipts.map((receipt) => ({ book, receipt, ...UNTOLD }));
+
+/** The receipts of a line: those of links in it, with their books, or those without a book. */
+function receiptsOfLine(line) {
+  const links = line.split(/\s+/).filter((word) => LINK.test(word));
+  return links.length > 0 ? links.flatMap((link) => ofFragment(fragmentIn(link))) : untold(null, receiptsIn(line));
+}
+
+/** The receipts of a text whose lines have none by themselves: a mail program may have put one on two lines. */
+function receiptsAcross(text) {
+  if (!text.includes("#")) return untold(null, receiptsIn(text));
+  const { book, receipts } = partsOf(fragmentIn(text));
+  return book === "" ? [] : untold(book, receipts);
+}
+
+/** The receipts of a typed text. */
 export function receiptsTyped(text) {
-  return linesTyped(text).flatMap((line) => {
-    const links = line.split(/\s+/).filter((word) => LINK.test(word));
-    if (links.length > 0) return links.flatMap((link) => ofFragment(link.slice(link.indexOf("#"))));
-    return receiptsIn(line).map((receipt) => ({ book: null, receipt, ...UNTOLD }));
-  });
+  const found = linesTyped(text).flatMap(receiptsOfLine);
+  return found.length > 0 ? found : receiptsAcross(text);
 }
 
 /**
