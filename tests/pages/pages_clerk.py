@@ -396,6 +396,7 @@ def a_visit_at_a_time_that_is_over_is_asked_about():
         browser.run(AFTERNOON)
         command("Ask for a time to come", "Ask for this time", day=str(today()))
         browser.says("That time is over", "dialog h2")
+        browser.says("Pledge 1: Gold ring", "dialog")
         browser.says("It is 15:10 by the clock of this device", "dialog")
         browser.press("dialog button", "Choose another time")
         browser.says("Nothing was done.", "#cards")

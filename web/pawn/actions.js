@@ -52,10 +52,10 @@ function agreedToLate(statement, { fiveDays }, day) {
 }
 
 /** A time of today that is over by the clock of this device is asked about: the shop's clock may be another. */
-function agreedToOver(day, window) {
+function agreedToOver(statement, day, window) {
   if (!isOverToday({ day, window })) return true;
   return confirmed({
-    title: "That time is over",
+    title: "That time is over", about: statement,
     lines: [
       `It is ${clock(minuteNow())} by the clock of this device, and you ask for today, ${windowInWords(window)}.`,
     ],
@@ -79,7 +79,7 @@ async function agreedToGiveUp(now, { title, line, yes }) {
 async function askForVisit(card, { day, window }) {
   if (!day) throw new Unreadable("Choose a day.", "day");
   if (day < today()) throw new Unreadable("That day is over. Choose a later one.", "day");
-  if (!await agreedToOver(day, Number(window))) return NOT_NOW;
+  if (!await agreedToOver(card.statement, day, Number(window))) return NOT_NOW;
   if (!await agreedToLate(await lookFirst(card.read()), card.known, day)) return NOT_NOW;
   const now = await lookFirst(card.read());
   const isSame = now.booking?.day === day && now.booking.window === Number(window);
