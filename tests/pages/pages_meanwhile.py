@@ -592,6 +592,47 @@ def what_was_looked_for_in_a_book_is_not_said_of_another():
         no_faults()
 
 
+def what_came_of_terms_is_said_where_their_part_is_shown_again():
+    with an_open_book():
+        the_book_is_read()
+        part("terms")
+        browser.says("Version 2", "#next-version")
+        browser.rests()
+        browser.run(SLOW_REPLY, "POST", "/terms")
+        browser.fill("#new-terms", rate="0.3", before="0", after="0")
+        browser.press("#new-terms button")
+        browser.press("dialog button.grave")
+        browser.until("return window.held", "a reply that is late")
+        part("today")
+        browser.says("Coming", "#sheet")
+        part("terms")
+        browser.run("window.letGo()")
+        browser.says("Version 2 is in the book.", "#new-terms .notice")
+        no_faults()
+
+
+# No reply with the whole book comes.
+NO_BOOK = """
+const real = window.fetch;
+window.fetch = (path, how) => (path.endsWith("/export") ? new Promise(() => {}) : real(path, how));"""
+
+
+def a_look_at_the_terms_is_not_asked_about_where_the_book_is_closed():
+    with Pages() as pages:
+        make_book(pages)
+        browser.forget()
+        browser.go(pages.address + "/broker/")
+        browser.fill("#open", book="7", key=BROKER)
+        browser.run(NO_BOOK)
+        browser.press("#open .buttons button")
+        browser.says("Coming", "#sheet")
+        part("terms")
+        browser.says("One moment…", "#new-terms")
+        browser.press("#close-book")
+        browser.element("#open")
+        expect("no question", browser.run("return document.querySelector('dialog')"), None)
+
+
 def what_came_of_a_take_is_said_in_another_part():
     with an_open_book() as pages:
         the_book_is_read()
@@ -757,6 +798,8 @@ main(
         a_file_has_the_name_of_its_own_book,
         what_is_typed_for_one_book_is_not_left_for_another, what_was_looked_for_in_a_book_is_not_said_of_another,
         what_came_of_a_take_is_said_in_another_part,
+        what_came_of_terms_is_said_where_their_part_is_shown_again,
+        a_look_at_the_terms_is_not_asked_about_where_the_book_is_closed,
         a_question_about_a_pledge_that_is_open_over_midnight_is_asked_again,
         a_renewal_that_is_asked_about_over_midnight_takes_the_charges_of_the_new_day,
         what_was_said_of_a_pledge_is_not_left_over_midnight,

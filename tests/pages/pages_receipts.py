@@ -91,23 +91,19 @@ def a_link_out_of_a_mail_is_read_as_it_was_meant():
                 shown = browser.text("#cards")
                 expect("the terms", "£8.00 in 30 days on £100" in shown, True)
                 expect("the days of grace", re.findall(r"Days of grace\s*(None|Five)", shown), ["None"])
-            typed = f"(see {pages.address}/pawn/{meant.replace('%20', ' ')}"
+        typed = f"(see {pages.address}/pawn/{escaped})."
+        wrapped = fragment.replace(receipt, receipt[:16] + "\n" + receipt[16:])
+        for text in (
+            typed, f"Your pledge: {pages.address}/pawn/{wrapped}\nYours, the shop", f"{receipt[:20]}\n{receipt[20:]}",
+        ):
             browser.forget()
             browser.go(f"{pages.address}/pawn/")
-            browser.fill("#find", receipts=typed)
+            browser.fill("#find", receipts=text, book="7")
             browser.press("#find button")
             browser.says("Gold ring", "#cards")
-            open_book(pages)
-            find(typed)
-            browser.says("This receipt is live.", "#commands")
-        whole = pages.address + "/pawn/" + fragment
-        wrapped = whole.replace(receipt, receipt[:16] + "\n" + receipt[16:])
-        for typed in (f"Your pledge: {wrapped}\nYours, the shop", f"{receipt[:20]}\n{receipt[20:]}"):
-            browser.forget()
-            browser.go(f"{pages.address}/pawn/")
-            browser.fill("#find", receipts=typed, book="7")
-            browser.press("#find button")
-            browser.says("Gold ring", "#cards")
+        open_book(pages)
+        find(typed)
+        browser.says("This receipt is live.", "#commands")
         no_faults()
 
 
