@@ -320,6 +320,25 @@ def a_line_is_seen_whole_on_a_telephone():
         no_faults()
 
 
+def a_hold_is_seen_where_bags_are_pulled():
+    """Or the article would be sold before the question about the sale says that the pledge is on hold."""
+    with Pages() as pages:
+        make_book(pages, terms=False)
+        fill_book(pages, book_text([
+            ("Clock", "J1", 9000, ago(220), "", "no"), ("Watch", "J2", 9000, ago(220), "", "no"),
+        ]))
+        held = pages.session.broker("POST", "/books/7/pledges/2/hold")
+        expect("the hold", held, (200, {"held": True}))
+        open_book(pages)
+        the_book_is_read()
+        part("due")
+        browser.says("Can be sold now", "#due")
+        rows = browser.run("return [...document.querySelectorAll('#due-lists tbody tr')].map((one) => one.innerText)")
+        expect("on hold", [("on hold" in row, "Watch" in row) for row in rows], [(False, False), (True, True)])
+        browser.shoot("broker-due-held")
+        no_faults()
+
+
 def a_shortfall_is_no_debt_of_the_pawnor():
     with Pages() as pages:
         make_book(pages, terms=False)
@@ -339,6 +358,6 @@ main(
         a_reply_that_hangs_is_not_waited_for, what_is_typed_stays_while_a_pledge_is_drawn_anew,
         what_is_typed_stays_while_the_book_is_read, the_parts_take_one_row,
         the_pledge_that_was_found_has_the_focus, a_dead_receipt_is_told_alike_where_it_is_found_and_redeemed,
-        a_line_is_seen_whole_on_a_telephone, a_shortfall_is_no_debt_of_the_pawnor,
+        a_line_is_seen_whole_on_a_telephone, a_hold_is_seen_where_bags_are_pulled, a_shortfall_is_no_debt_of_the_pawnor,
     ),
 )
