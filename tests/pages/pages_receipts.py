@@ -71,6 +71,18 @@ def a_cut_link_is_told():
         expect("an empty form has no such word", "not whole" in browser.text("#find"), False)
 
 
+def a_link_that_is_cut_in_its_terms_says_no_other_terms():
+    """The grace follows the terms in each link, so terms without it may lack their last digits."""
+    with Pages() as pages:
+        make_book(pages)
+        receipt = pages.session.open_pledge(1)
+        browser.forget()
+        browser.go(f"{pages.address}/pawn/#book=7&receipt={receipt}&terms=2667.1000000.50")
+        browser.says("Gold ring", "#cards")
+        expect("no terms", "as the receipt’s link says" in browser.text("#cards"), False)
+        no_faults()
+
+
 def a_link_out_of_a_mail_is_read_as_it_was_meant():
     """A mail program has escaped it, or has made a part of the sentence around it a part of the link."""
     with an_open_book() as pages:
@@ -245,7 +257,8 @@ main(
     (
         a_receipt_that_opens_nothing_is_not_called_used,
         a_receipt_that_the_pledge_never_had_may_be_of_another_book, a_cut_link_is_told,
-        a_link_out_of_a_mail_is_read_as_it_was_meant, blanks_and_capitals_are_read_everywhere,
+        a_link_that_is_cut_in_its_terms_says_no_other_terms, a_link_out_of_a_mail_is_read_as_it_was_meant,
+        blanks_and_capitals_are_read_everywhere,
         several_pledges_have_a_sum_and_are_looked_at_again, what_will_be_owed_is_told_by_the_link,
         a_visit_that_is_over_is_not_offered_to_be_cancelled, a_visit_in_the_days_of_grace_is_in_time,
         what_comes_after_the_end_is_told, a_late_visit_of_a_receipt_without_its_link_may_be_in_time,

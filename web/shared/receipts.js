@@ -72,13 +72,13 @@ const GRACE = { 5: true, 0: false };
 /** What a link says of a pledge in addition to its receipt; here nothing. */
 const UNTOLD = { shop: "", rate: "", ref: "", terms: null, fiveDays: null };
 
-/** What a link says of the shop, the reference and the terms. */
+/** What a link says of the shop, the reference and the terms. No grace follows the terms of a link that was cut there. */
 function toldIn(said) {
   const texts = Object.entries(LONGEST).map(
     ([name, longest]) => [name, (said.get(name) ?? "").trim().slice(0, longest)]
   );
   return {
-    ...UNTOLD, ...Object.fromEntries(texts), terms: termsOf(numbersIn(said, "terms")),
+    ...UNTOLD, ...Object.fromEntries(texts), terms: said.has("grace") ? termsOf(numbersIn(said, "terms")) : null,
     fiveDays: GRACE[numbersIn(said, "grace")] ?? null,
   };
 }
