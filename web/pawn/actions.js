@@ -128,8 +128,8 @@ function visitFold(card) {
 function cancelFold(card) {
   const { booking } = card.statement;
   if (!stands(card.statement)) return null;
-  const when = `Your visit ${seenFrom(today(), booking.day)}, ${inWords(booking.day)}, is taken back. `
-    + "You can ask for another.";
+  const when = `Your visit is ${seenFrom(today(), booking.day)}, on ${inWords(booking.day)}. `
+    + "If you cancel it, you can ask for another.";
   const parts = [make("p", { className: "lead" }, when), buttons(make("button", {}, "Cancel the visit"))];
   return foldOf(card, "Cancel the visit", parts, async () => {
     if (!await agreedToGiveUp(await lookFirst(card.read()), {

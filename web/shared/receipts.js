@@ -72,7 +72,7 @@ const GRACE = { 5: true, 0: false };
 /** What a link says of a pledge in addition to its receipt; here nothing. */
 const UNTOLD = { shop: "", rate: "", ref: "", terms: null, fiveDays: null };
 
-/** What a link says of the shop, the reference and the terms. No grace follows the terms of a link that was cut there. */
+/** What a link says of the shop, the reference and the terms. A link that was cut in its terms has no grace. */
 function toldIn(said) {
   const texts = Object.entries(LONGEST).map(
     ([name, longest]) => [name, (said.get(name) ?? "").trim().slice(0, longest)]
