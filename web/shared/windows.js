@@ -23,8 +23,8 @@ export function minuteNow() {
   return now.getHours() * 60 + now.getMinutes();
 }
 
-/** Whether a window is over that is one of today's. */
-export const isOverToday = ({ day, window }) => day === today() && endOf(window) <= minuteNow();
+/** Whether there is a visit, of today, whose time is over. */
+export const isOverToday = (visit) => visit?.day === today() && endOf(visit.window) <= minuteNow();
 
 /** All windows in order. */
 export const WINDOWS = Array.from({ length: 16 }, (_, window) => window);
