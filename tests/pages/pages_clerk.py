@@ -9,8 +9,9 @@ from tests.library.dates import six_months_after, today
 from tests.library.keys import BROKER
 from tests.library.pages.browser import Pages
 from tests.library.pages.steps import (
-    a_pledge_at_the_counter, a_pledge_by_its_receipt, ago, an_open_book, book_text, browser, command, fill_book, find,
-    in_short, in_words, main, make_book, no_faults, open_book, part, secret_of, the_book_is_read, unfold,
+    a_pledge_at_the_counter, a_pledge_by_its_receipt, ago, an_open_book, book_text, browser, close_the_book, command,
+    fill_book, find, in_short, in_words, main, make_book, no_faults, open_book, part, secret_of, the_book_is_read,
+    unfold,
 )
 from tests.library.waiting import wait_for
 
@@ -395,6 +396,7 @@ def a_visit_at_a_time_that_is_over_is_asked_about():
         browser.run(AFTERNOON)
         command("Ask for a time to come", "Ask for this time", day=str(today()))
         browser.says("That time is over", "dialog h2")
+        browser.says("Pledge 1: Gold ring", "dialog")
         browser.says("It is 15:10 by the clock of this device", "dialog")
         browser.press("dialog button", "Choose another time")
         browser.says("Nothing was done.", "#cards")
@@ -721,7 +723,7 @@ def a_receipt_that_is_scanned_into_a_field_of_the_shop_is_not_kept():
             browser.press("#shop-form button")
             browser.says("That is a receipt, which would be printed on other papers. Clear the field.", "#shop-form")
             expect("the field", browser.run("return document.activeElement.name"), name)
-        browser.press("#close-book")
+        close_the_book()
         browser.fill("#open", book="7", key=BROKER, shop=receipt)
         browser.press("#open .buttons button")
         browser.says("That is a receipt, which would be printed on other papers. Clear the field.", "#open")

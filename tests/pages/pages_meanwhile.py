@@ -7,8 +7,9 @@ from tests.library.dates import six_months_after
 from tests.library.keys import BROKER
 from tests.library.pages.browser import Pages
 from tests.library.pages.steps import (
-    a_pledge_at_the_counter, a_pledge_by_its_receipt, ago, agree, an_open_book, book_text, browser, command, entries, fill_book, find, in_words,
-    main, make_book, no_faults, open_book, part, secret_of, send_taking, the_book_is_read, the_clock_goes_on,
+    a_pledge_at_the_counter, a_pledge_by_its_receipt, ago, agree, an_open_book, book_text, browser, close_the_book,
+    command, entries, fill_book, find, in_words, main, make_book, no_faults, open_book, part, secret_of, send_taking,
+    the_book_is_read, the_clock_goes_on,
 )
 
 # The first look at pledge 1 comes only once it is let go.
@@ -89,7 +90,7 @@ def a_book_that_was_opened_meanwhile_gets_no_act():
         })
         browser.run(SLOW_LOOK)
         command("Repayment", "Record the repayment", amount="10")
-        browser.press("#close-book")
+        close_the_book()
         browser.fill("#open", book="8", key=BROKER)
         browser.press("#open .buttons button")
         browser.says("Coming", "#sheet")
@@ -117,7 +118,7 @@ def a_book_that_was_opened_meanwhile_gets_no_pledge():
         browser.press("#taking button", "Take the pledge")
         browser.press("dialog button", "Take it for £100.00")
         browser.until("return !document.querySelector('dialog')", "the look")
-        browser.press("#close-book")
+        close_the_book()
         browser.fill("#open", book="8", key=BROKER)
         browser.press("#open .buttons button")
         browser.says("Coming", "#sheet")
@@ -156,7 +157,7 @@ def a_form_that_is_half_filled_outlives_a_reload():
         browser.says("Article", "#take")
         expect("after it was taken", browser.run(TAKING), empty)
         browser.fill("#taking", article="Silver watch")
-        browser.press("#close-book")
+        close_the_book()
         open_again = {"book": "7", "key": BROKER}
         browser.fill("#open", **open_again)
         browser.press("#open button")
@@ -427,10 +428,10 @@ window.fetch = async (path, how) => {
 };"""
 
 
-def close_and_open_another():
+def close_and_open_another(close=close_the_book):
     """Closes book 7 while a reply is awaited, opens book 8, and lets the reply come."""
     browser.until("return window.held", "a reply that is late")
-    browser.press("#close-book")
+    close()
     browser.fill("#open", book="8", key=BROKER)
     browser.press("#open .buttons button")
     browser.says("Coming", "#sheet")
@@ -443,7 +444,7 @@ def an_act_of_a_book_that_was_closed_is_reported_with_its_book():
         browser.run(SLOW_REPLY, "POST", "/repay")
         command("Repayment", "Record the repayment", amount="10")
         browser.until("return window.held", "a reply that is late")
-        browser.press("#close-book")
+        close_the_book()
         browser.element("#open")
         browser.run("window.letGo()")
         browser.says("Book 7, pledge 1: Repaid: £10.00", "#elsewhere")
@@ -465,7 +466,7 @@ def a_renewal_of_a_book_that_was_closed_says_how_far_it_came():
         command("Renew", "Renew the pledge")
         browser.press("dialog button.grave")
         browser.until("return window.held", "a reply that is late")
-        browser.press("#close-book")
+        close_the_book()
         browser.run("window.letGo()")
         browser.says("Book 7, pledge 1: £8.30 of charges was received. The period was not extended: the book was closed "
                      "meanwhile.", "#elsewhere")
@@ -490,7 +491,7 @@ def no_question_is_asked_about_a_book_that_was_closed():
             browser.run(SLOW_REPLY, method, end)
             command(title, button, **typed)
             browser.until("return window.held", "a look that is late")
-            browser.press("#close-book")
+            close_the_book()
             browser.element("#open")
             browser.run("window.letGo()")
             browser.until(
@@ -514,7 +515,7 @@ def no_pledge_is_asked_about_for_a_book_that_was_closed():
         browser.fill("#taking", article="Gold ring", ref="A1", amount="100")
         browser.press("#taking button", "Take the pledge")
         browser.until("return window.held", "a look that is late")
-        browser.press("#close-book")
+        close_the_book()
         browser.element("#open")
         browser.run("window.letGo()")
         browser.until(
@@ -581,7 +582,7 @@ def what_was_looked_for_in_a_book_is_not_said_of_another():
         make_book(pages, book=8)
         browser.run(SLOW_REPLY, "GET", "/held")
         find(f"1-{secret_of(1)}")
-        close_and_open_another()
+        close_and_open_another(lambda: browser.press("#close-book"))
         part("pledge")
         browser.rests()
         browser.run("window.letGo()")
@@ -589,6 +590,47 @@ def what_was_looked_for_in_a_book_is_not_said_of_another():
         browser.rests()
         expect("what is said", (browser.text("#finding .notice"), browser.text("#elsewhere")), ("", ""))
         no_faults()
+
+
+def what_came_of_terms_is_said_where_their_part_is_shown_again():
+    with an_open_book():
+        the_book_is_read()
+        part("terms")
+        browser.says("Version 2", "#next-version")
+        browser.rests()
+        browser.run(SLOW_REPLY, "POST", "/terms")
+        browser.fill("#new-terms", rate="0.3", before="0", after="0")
+        browser.press("#new-terms button")
+        browser.press("dialog button.grave")
+        browser.until("return window.held", "a reply that is late")
+        part("today")
+        browser.says("Coming", "#sheet")
+        part("terms")
+        browser.run("window.letGo()")
+        browser.says("Version 2 is in the book.", "#new-terms .notice")
+        no_faults()
+
+
+# No reply with the whole book comes.
+NO_BOOK = """
+const real = window.fetch;
+window.fetch = (path, how) => (path.endsWith("/export") ? new Promise(() => {}) : real(path, how));"""
+
+
+def a_look_at_the_terms_is_not_asked_about_where_the_book_is_closed():
+    with Pages() as pages:
+        make_book(pages)
+        browser.forget()
+        browser.go(pages.address + "/broker/")
+        browser.fill("#open", book="7", key=BROKER)
+        browser.run(NO_BOOK)
+        browser.press("#open .buttons button")
+        browser.says("Coming", "#sheet")
+        part("terms")
+        browser.says("One moment…", "#new-terms")
+        browser.press("#close-book")
+        browser.element("#open")
+        expect("no question", browser.run("return document.querySelector('dialog')"), None)
 
 
 def what_came_of_a_take_is_said_in_another_part():
@@ -756,6 +798,8 @@ main(
         a_file_has_the_name_of_its_own_book,
         what_is_typed_for_one_book_is_not_left_for_another, what_was_looked_for_in_a_book_is_not_said_of_another,
         what_came_of_a_take_is_said_in_another_part,
+        what_came_of_terms_is_said_where_their_part_is_shown_again,
+        a_look_at_the_terms_is_not_asked_about_where_the_book_is_closed,
         a_question_about_a_pledge_that_is_open_over_midnight_is_asked_again,
         a_renewal_that_is_asked_about_over_midnight_takes_the_charges_of_the_new_day,
         what_was_said_of_a_pledge_is_not_left_over_midnight,

@@ -328,6 +328,19 @@ def the_link_names_the_shop():
         no_faults()
 
 
+def a_visit_is_not_said_to_be_cancelled_before_it_is():
+    """Whoever only opens the fold still has the visit."""
+    day = ago(-3)
+    with a_pledge_by_its_receipt() as (pages, receipt):
+        pages.session.bearer(receipt, "POST", "/books/7/held/ask", {"day": str(day), "window": 3})
+        browser.press("#look-again")
+        browser.says("10:30 to 11:00: asked for", "#cards")
+        browser.press(".action > summary", "Cancel the visit")
+        browser.says(f"Your visit is in 3 days, on {in_words(day)}. If you cancel it, you can ask for another.", "#cards")
+        expect("it is not taken back", "taken back" in browser.text("#cards"), False)
+        no_faults()
+
+
 def a_confirmed_visit_is_given_up_after_a_question():
     """The shop confirmed it since the page showed it."""
     with a_pledge_by_its_receipt() as (pages, receipt):
@@ -381,7 +394,8 @@ main(
         two_equal_payments_are_two, an_amount_that_is_refused_is_not_asked_about,
         a_receipt_that_died_says_one_thing, what_was_redeemed_on_this_page_stays_redeemed, a_redemption_that_is_refused_is_not_asked_about, what_the_page_says_of_links, without_a_line,
         a_payment_on_a_line_that_drops, a_receipt_that_is_typed_again_takes_the_place_of_the_mistyped_one,
-        a_payment_whose_reply_is_lost_for_good, a_visit_after_the_end, receipts_as_people_write_them,
+        a_visit_is_not_said_to_be_cancelled_before_it_is, a_payment_whose_reply_is_lost_for_good,
+        a_visit_after_the_end, receipts_as_people_write_them,
         a_cut_receipt_among_others_is_told, forty_receipts_at_once, the_link_names_the_shop,
         a_confirmed_visit_is_given_up_after_a_question, a_pledge_that_was_shown_has_the_focus,
     ),

@@ -1,13 +1,14 @@
 """What the pawnor's page says of receipts that open nothing, of cut links and of several pledges, and what will be
 owed; in a real browser, in front of the program."""
 import datetime
+import re
 
 from tests.library.checks import expect
 from tests.library.dates import six_months_after, today
 from tests.library.pages.browser import Pages
 from tests.library.pages.steps import (
     WRONG_SECRET, a_pledge_at_the_counter, a_pledge_by_its_receipt, ago, an_open_book, book_text, browser, command,
-    fill_book, find, in_short, in_words, main, make_book, no_faults, secret_of, show_receipt, take_a_ring,
+    fill_book, find, in_short, in_words, main, make_book, no_faults, open_book, secret_of, show_receipt, take_a_ring,
     the_book_is_read, unfold,
 )
 
@@ -44,17 +45,78 @@ def a_receipt_that_the_pledge_never_had_may_be_of_another_book():
 
 
 def a_cut_link_is_told():
+    """With the part that is missing; the form has the other part."""
+    typed = "return [...document.querySelectorAll('#find-book, #find-receipts')].map(({ value }) => value)"
     with Pages() as pages:
         make_book(pages)
         receipt = pages.session.open_pledge(1)
-        for link, book in ((f"book=7&receipt={receipt[:20]}", "7"), ("book=7", "7"), (f"receipt={receipt}", "")):
+        digits = len(receipt[2:20].replace("-", ""))
+        for link, says, has in (
+            (f"book=7&receipt={receipt[:20]}", f"the receipt is not whole. There are {digits} digits", ["", "7"]),
+            ("book=7", "the receipt is missing.", ["", "7"]),
+            (f"receipt={receipt}", "the number of the shop’s book is missing.", [receipt, ""]),
+            ("shop=High", "the number of the shop’s book is missing, and the receipt is missing.", ["", ""]),
+        ):
             browser.forget()
             browser.go(f"{pages.address}/pawn/#{link}")
-            browser.says("That link is not whole, so it opens nothing", "#find")
-            expect("its book", browser.run("return document.querySelector('#find-book').value"), book)
+            browser.says(f"That link is not whole, so it opens nothing: {says}", "#find")
+            expect("what the form has", browser.run(typed), has)
+            browser.go(f"{pages.address}/pawn/")
+            browser.fill("#find", receipts=f"{pages.address}/pawn/#{link}")
+            browser.press("#find button")
+            if link != "shop=High":
+                browser.says(f"That link is not whole, so it opens nothing: {says}", "#find")
         browser.shoot("pawn-cut")
         browser.go(f"{pages.address}/pawn/")
         expect("an empty form has no such word", "not whole" in browser.text("#find"), False)
+
+
+def a_link_that_is_cut_in_its_terms_says_no_other_terms():
+    """The grace follows the terms in each link, so terms without it may lack their last digits."""
+    with Pages() as pages:
+        make_book(pages)
+        receipt = pages.session.open_pledge(1)
+        browser.forget()
+        browser.go(f"{pages.address}/pawn/#book=7&receipt={receipt}&terms=2667.1000000.50")
+        browser.says("Gold ring", "#cards")
+        expect("no terms", "as the receipt’s link says" in browser.text("#cards"), False)
+        no_faults()
+
+
+def a_link_out_of_a_mail_is_read_as_it_was_meant():
+    """A mail program has escaped it, or has made a part of the sentence around it a part of the link."""
+    with an_open_book() as pages:
+        receipt, link = take_a_ring()
+        fragment = link[link.index("#"):]
+        escaped = fragment.replace("&", "&amp;")
+        short = f"#receipt={receipt}&book=7"
+        graced = f"#book=7&receipt={receipt}&terms=2667.0.0&grace=0"
+        for meant in (
+            escaped, escaped.replace("&amp;", "&amp;amp;"), fragment + ")", fragment + "%20",
+            short + ".", short + ").", short + "]",
+            graced + ".", graced + ")", graced + "%20", escaped + ").",
+        ):
+            browser.forget()
+            browser.go(f"{pages.address}/pawn/{meant}")
+            browser.says("Gold ring", "#cards")
+            if "terms" in meant:
+                shown = browser.text("#cards")
+                expect("the terms", "£8.00 in 30 days on £100" in shown, True)
+                expect("the days of grace", re.findall(r"Days of grace\s*(None|Five)", shown), ["None"])
+        typed = f"(see {pages.address}/pawn/{escaped})."
+        wrapped = fragment.replace(receipt, receipt[:16] + "\n" + receipt[16:])
+        for text in (
+            typed, f"Your pledge: {pages.address}/pawn/{wrapped}\nYours, the shop", f"{receipt[:20]}\n{receipt[20:]}",
+        ):
+            browser.forget()
+            browser.go(f"{pages.address}/pawn/")
+            browser.fill("#find", receipts=text, book="7")
+            browser.press("#find button")
+            browser.says("Gold ring", "#cards")
+        open_book(pages)
+        find(typed)
+        browser.says("This receipt is live.", "#commands")
+        no_faults()
 
 
 def blanks_and_capitals_are_read_everywhere():
@@ -194,7 +256,9 @@ main(
     (),
     (
         a_receipt_that_opens_nothing_is_not_called_used,
-        a_receipt_that_the_pledge_never_had_may_be_of_another_book, a_cut_link_is_told, blanks_and_capitals_are_read_everywhere,
+        a_receipt_that_the_pledge_never_had_may_be_of_another_book, a_cut_link_is_told,
+        a_link_that_is_cut_in_its_terms_says_no_other_terms, a_link_out_of_a_mail_is_read_as_it_was_meant,
+        blanks_and_capitals_are_read_everywhere,
         several_pledges_have_a_sum_and_are_looked_at_again, what_will_be_owed_is_told_by_the_link,
         a_visit_that_is_over_is_not_offered_to_be_cancelled, a_visit_in_the_days_of_grace_is_in_time,
         what_comes_after_the_end_is_told, a_late_visit_of_a_receipt_without_its_link_may_be_in_time,

@@ -8,7 +8,7 @@ from tests.library.dates import six_months_after, today
 from tests.library.keys import BROKER
 from tests.library.pages.browser import Pages
 from tests.library.pages.steps import (
-    a_pledge_at_the_counter, ago, agree, an_open_book, book_text, browser, command, entries, fill_book, find,
+    LOST, a_pledge_at_the_counter, ago, agree, an_open_book, book_text, browser, command, entries, fill_book, find,
     in_short, in_words, main, make_book, no_faults, open_book, part, secret_of, send_taking, take_a_ring,
     the_book_is_read, unfold,
 )
@@ -160,8 +160,9 @@ def a_sale_whose_reply_is_lost_is_told():
         with pages.relay.loses("/sell"):
             command("Sale", "Record the sale", amount="120.25")
             browser.press("dialog button.grave")
-            browser.says("The reply was lost, but the pledge, read again, is sold.", "#commands", patience=30)
-        browser.says("Sold for £120.25: £30.25 more than was owed, which is the pawnor’s.", "#commands")
+            browser.says(
+                LOST + "Sold for £120.25: £30.25 more than was owed, which is the pawnor’s.", "#commands", patience=30,
+            )
         browser.says("Sold on", "#statement")
         no_faults()
 
@@ -370,7 +371,7 @@ def an_extension_whose_reply_is_lost_is_told():
     """By the end of the pledge, which is read again; and a renewal shows its paper."""
     with a_pledge_at_the_counter() as (pages, _):
         end = six_months_after(today())
-        done = "The reply was lost, but the pledge, read again, has the new end. The period ends on "
+        done = f"{LOST}The period ends on "
         with pages.relay.loses("/extend", times=20):
             command("Extend the period", "Extend", until=str(end + datetime.timedelta(days=30)))
             browser.press("dialog button.grave")

@@ -3,12 +3,12 @@ what this machine keeps; in a real browser, in front of the program."""
 import os
 
 from tests.library.checks import expect
-from tests.library.dates import today
+from tests.library.dates import six_months_after, today
 from tests.library.pages.browser import Pages
 from tests.library.pages.steps import (
     a_pledge_at_the_counter, ago, an_open_book, book_text, browser, command, fill_book, find, in_short,
-    in_words, main, make_book, no_faults, open_book, part, secret_of, take_a_ring, the_book_is_read, the_clock_goes_on,
-    unfold,
+    in_words, main, make_book, no_faults, open_book, part, secret_of, show_receipt, take_a_ring, the_book_is_read,
+    the_clock_goes_on, unfold,
 )
 
 def what_a_pledge_has_beside_its_statement():
@@ -289,6 +289,66 @@ def a_dead_receipt_is_told_alike_where_it_is_found_and_redeemed():
         no_faults()
 
 
+# The lines of the list of all pledges: the words of each, and which of its parts are cut off.
+LINES = """return [...document.querySelectorAll('#all-rows .row-link')].map((one) => [
+  one.innerText.split(/\\s*\\n\\s*/).join(' / '),
+  [...one.querySelectorAll('.row-state, .row-state *, .row-sum')]
+    .filter((part) => part.scrollWidth > part.clientWidth + 1).map(({ textContent }) => textContent),
+])"""
+
+
+def a_line_is_seen_whole_on_a_telephone():
+    """Its end with the year, and its sum; and an end that is over is not said to come."""
+    with Pages() as pages:
+        make_book(pages, terms=False)
+        fill_book(pages, book_text([
+            ("Ring", "J1", 9000, ago(300), "", "no"),
+            ("Gold watch with a long name", "J2", 10_000_000, ago(20), "2199-09-30", "no"),
+        ]))
+        open_book(pages)
+        the_book_is_read()
+        part("all")
+        browser.says("2 of 2 pledges", "#all")
+        for width in (390, 1280):
+            browser.resize(width)
+            (later, cut), (over, also) = browser.run(LINES)
+            expect(f"what is cut off at {width}", cut + also, [])
+            expect("the sum", ("£100,000.00" in later, "£90.00" in over), (True, True))
+            expect("the end to come", "ends 30 September 2199" in later, True)
+            expect("the end that is over", f"ended {in_short(six_months_after(ago(300)))}" in over, True)
+        browser.resize(390)
+        no_faults()
+
+
+def a_hold_is_seen_where_bags_are_pulled():
+    """Or the article would be sold before the question about the sale says that the pledge is on hold."""
+    with Pages() as pages:
+        make_book(pages, terms=False)
+        fill_book(pages, book_text([
+            ("Clock", "J1", 9000, ago(220), "", "no"), ("Watch", "J2", 9000, ago(220), "", "no"),
+        ]))
+        held = pages.session.broker("POST", "/books/7/pledges/2/hold")
+        expect("the hold", held, (200, {"held": True}))
+        open_book(pages)
+        the_book_is_read()
+        part("due")
+        browser.says("Can be sold now", "#due")
+        rows = browser.run("return [...document.querySelectorAll('#due-lists tbody tr')].map((one) => one.innerText)")
+        expect("on hold", [("on hold" in row, "Watch" in row) for row in rows], [(False, False), (True, True)])
+        browser.shoot("broker-due-held")
+        no_faults()
+
+
+def a_shortfall_is_no_debt_of_the_pawnor():
+    with Pages() as pages:
+        make_book(pages, terms=False)
+        fill_book(pages, book_text([("Clock", "J1", 9000, ago(300), "", "no")]))
+        expect("a sale", pages.session.broker("POST", "/books/7/pledges/1/sell", {"net": 1000})[0], 200)
+        show_receipt(pages, f"1-{secret_of(1)}")
+        browser.says("less than was owed. The shop’s book notes that, and keeps no debt of it", "#cards")
+        no_faults()
+
+
 main(
     (),
     (
@@ -298,5 +358,6 @@ main(
         a_reply_that_hangs_is_not_waited_for, what_is_typed_stays_while_a_pledge_is_drawn_anew,
         what_is_typed_stays_while_the_book_is_read, the_parts_take_one_row,
         the_pledge_that_was_found_has_the_focus, a_dead_receipt_is_told_alike_where_it_is_found_and_redeemed,
+        a_line_is_seen_whole_on_a_telephone, a_hold_is_seen_where_bags_are_pulled, a_shortfall_is_no_debt_of_the_pawnor,
     ),
 )

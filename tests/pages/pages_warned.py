@@ -6,9 +6,9 @@ from tests.library.checks import expect
 from tests.library.dates import six_months_after, today
 from tests.library.pages.browser import Pages
 from tests.library.pages.steps import (
-    WRONG_SECRET, a_pledge_at_the_counter, a_pledge_by_its_receipt, ago, an_open_book, book_text, browser, command,
-    fill_book, find, in_words, main, make_book, no_faults, open_book, part, secret_of, show_receipt, the_book_is_read,
-    unfold,
+    LOST, WRONG_SECRET, a_pledge_at_the_counter, a_pledge_by_its_receipt, ago, an_open_book, book_text, browser,
+    command, entries, fill_book, find, in_words, main, make_book, no_faults, open_book, part, secret_of, show_receipt,
+    the_book_is_read, unfold,
 )
 
 PAID_OUT = "Nothing is paid out yet: record each amount that you pay out as a drawing"
@@ -226,9 +226,6 @@ def a_warning_of_a_dead_receipt_stays_where_its_pledge_is_read_again():
         no_faults()
 
 
-LOST = "The reply was lost, but the pledge, read again, shows that it was done. "
-
-
 def what_a_look_shows_after_a_lost_reply_is_said():
     """Of a hold and of a decision on a visit: the clerk is not sent to look at what is on the page."""
     day = today() + datetime.timedelta(days=3)
@@ -259,6 +256,174 @@ def what_a_look_shows_the_pawnor_after_a_lost_reply_is_said():
         with pages.relay.loses("/ask", times=10):
             command("Ask for a time to come", "Ask for this time", day=str(day), window="4")
             browser.says(LOST + f"Asked for {in_words(day)}, 11:00 to 11:30.", "#cards", patience=30)
+
+
+def closing_the_book_asks_about_what_was_typed():
+    """Under any part, in a fold that is open; and about nothing else."""
+    question = "return document.querySelector('dialog')"
+    with a_pledge_at_the_counter() as (pages, _):
+        the_book_is_read()
+        unfold("Renew")
+        unfold("Repayment")
+        browser.press("#close-book")
+        browser.element("#open")
+        expect("no question", browser.run(question), None)
+        open_book(pages)
+        the_book_is_read()
+        value = "return document.querySelector(arguments[0]).value"
+        for place, title, form, name, text in (
+            ("take", "Take a pledge", "#taking", "article", "Brooch"), ("terms", "Terms", "#new-terms", "rate", "0.2"),
+            ("shop", "Shop", "#shop-form", "till", "Till 2"),
+        ):
+            part(place)
+            browser.fill(form, **{name: text})
+            part("today")
+            browser.press("#close-book")
+            browser.says("Close the book?", "dialog")
+            browser.says(f"What you typed under “{title}” was not sent, and is lost then.", "dialog")
+            browser.press("dialog button", "Keep it open")
+            part(place)
+            expect("it is there", browser.run(value, f"{form} [name={name}]"), text)
+            browser.run("document.querySelector(arguments[0]).reset()", form)
+        find("1")
+        browser.says("Pledge 1", "#statement")
+        unfold("Repayment")
+        browser.fill(".action[open] form", amount="10")
+        browser.press("#close-book")
+        browser.says("What you typed under “Repayment” was not sent, and is lost then.", "dialog")
+        browser.shoot("broker-close")
+        browser.press("dialog button", "Close the book")
+        browser.element("#open")
+        no_faults()
+
+
+def closing_the_book_asks_while_a_reply_is_awaited():
+    with a_pledge_at_the_counter() as (pages, _):
+        the_book_is_read()
+        browser.rests()
+        browser.run(SLOW_REPAYMENT)
+        command("Repayment", "Record the repayment", amount="10")
+        browser.until("return window.held", "a reply that is late")
+        browser.press("#close-book")
+        browser.says("The service has not answered yet what you sent.", "dialog")
+        expect("it was sent", "was not sent" in browser.text("dialog"), False)
+        browser.press("dialog button", "Keep it open")
+        browser.run("window.letGo()")
+        browser.says("Repaid: £10.00", "#commands")
+        browser.rests()
+        browser.press("#close-book")
+        browser.element("#open")
+        expect("one entry", pages.session.broker("GET", "/books/7/pledges/1")[1].count("Entry "), 1)
+        no_faults()
+
+
+def a_hold_does_not_hide_what_the_end_brings():
+    """To the pawnor or to the clerk: the time of a pledge runs on while it is on hold."""
+    with Pages() as pages:
+        make_book(pages, terms=False)
+        fill_book(pages, book_text([
+            ("Ring", "A1", 5000, ago(30), "", "yes"), ("Watch", "A2", 9000, ago(30), "", "no"),
+            ("Clock", "A3", 9000, ago(220), "", "no"), ("Spoon", "A4", 5000, ago(186), "", "yes"),
+        ]))
+        ends = six_months_after(ago(30))
+        grace = six_months_after(ago(186))
+        days = datetime.timedelta(days=5)
+        hold = "On hold: it can’t be redeemed until"
+        for number, for_clerk, for_pawnor in (
+            (1, f"The period ends on {in_words(ends)}, and five days of grace follow; after that the article "
+             "belongs to the pawnbroker, on hold or not",
+             f"The period ends on {in_words(ends)}, and five days of grace follow if your paper says so; after that "
+             "the article belongs to the pawnbroker, on hold or not"),
+            (2, f"The period ends on {in_words(ends)}; after that the article may be sold, on hold or not", None),
+            (3, f"The period ended on {in_words(six_months_after(ago(220)))}; the article may be sold any "
+             "day, on hold or not", ...),
+            (4, f"The period ended on {in_words(grace)}, and days of grace run until {in_words(grace + days)}; "
+             "after that the article belongs to the pawnbroker, on hold or not", ...),
+        ):
+            held = pages.session.broker("POST", f"/books/7/pledges/{number}/hold")
+            expect("the hold", held, (200, {"held": True}))
+            open_book(pages)
+            the_book_is_read()
+            find(str(number))
+            browser.says(f"{hold} you release it", "#statement")
+            browser.says(for_clerk, "#statement")
+            show_receipt(pages, f"{number}-{secret_of(number)}")
+            browser.says(f"{hold} the pawnbroker releases it", "#cards")
+            if for_pawnor is not None:
+                browser.says(for_clerk if for_pawnor is ... else for_pawnor, "#cards")
+        no_faults()
+
+
+def at_the_hour(hour):
+    """It is this hour and ten minutes by the clock of the device."""
+    browser.run(f"Date.prototype.getHours = () => {hour}; Date.prototype.getMinutes = () => 10;")
+
+
+def a_visit_whose_time_is_over_is_told_the_clerk():
+    """On the day's sheet, on its pledge, and before it is confirmed."""
+    with a_pledge_at_the_counter() as (pages, receipt):
+        the_book_is_read()
+        pages.session.bearer(receipt, "POST", "/books/7/held/ask", {"day": str(today()), "window": 3})
+        at_the_hour(8)
+        part("today")
+        browser.says("today, 10:30 to 11:00", "#sheet")
+        expect("it is to come", "is over" in browser.text("#sheet"), False)
+        at_the_hour(12)
+        part("today")
+        browser.says("today, 10:30 to 11:00, which is over", "#sheet")
+        find("1")
+        over = f"{in_words(today())}, 10:30 to 11:00: asked for, not confirmed yet, at a time that is over"
+        browser.says(over, "#statement")
+        command("Visit", "Confirm")
+        browser.says("It is 12:10 by the clock of this device.", "dialog")
+        browser.says(over, "dialog")
+        browser.press("dialog button", "Not now")
+        browser.says("Nothing was done.", "#commands")
+        command("Visit", "Confirm")
+        browser.press("dialog button", "Confirm it all the same")
+        browser.says(f"The visit on {in_words(today())}, 10:30 to 11:00 is confirmed.", "#commands")
+        part("today")
+        browser.says("10:30 to 11:00, which is over", "#sheet")
+        browser.says("1 of 2 places", "#sheet")
+        no_faults()
+
+
+def what_came_in_between_is_named():
+    """Where it is no entry, it is not called one."""
+    day = six_months_after(today()) + datetime.timedelta(days=40)
+    with a_pledge_at_the_counter() as (pages, _):
+        unfold("Repayment")
+        browser.fill(".action[open] form", amount="5")
+        pages.session.broker("POST", "/books/7/pledges/1/extend", {"until": str(day)})
+        pages.session.broker("POST", "/books/7/pledges/1/hold")
+        browser.press(".action[open] button")
+        browser.says(f"The period ends on {in_words(day)} now.", "dialog")
+        browser.says("The pledge was put on hold.", "dialog")
+        browser.says("Do you still want to record £5.00?", "dialog")
+        browser.press("dialog button", "No, record nothing")
+        browser.rests()
+        browser.fill(".action[open] form", amount="6")
+        pages.session.broker("POST", "/books/7/pledges/1/release")
+        pages.session.broker("POST", "/books/7/pledges/1/repay", {"pence": 600, "seq": 1})
+        browser.press(".action[open] button")
+        browser.says("The hold was released.", "dialog")
+        browser.says("Is your £6.00 another one, beside these?", "dialog")
+        browser.press("dialog button", "No, record nothing")
+        expect("one entry", len(entries(pages, 1)), 1)
+        no_faults()
+
+
+# The service's reply to a repayment does not come before it is let go.
+SLOW_REPAYMENT = """
+const real = window.fetch;
+const gate = new Promise((go) => { window.letGo = go; });
+window.fetch = async (...request) => {
+  const reply = await real(...request);
+  if (!request[0].endsWith("/repay")) return reply;
+  window.held = true;
+  await gate;
+  return reply;
+};"""
 
 
 def a_receipt_that_is_cut_is_counted_where_it_is_redeemed():
@@ -431,5 +596,8 @@ main(
         a_link_that_comes_after_its_receipt_says_what_it_says, a_pawnor_who_comes_back_sees_what_the_shop_decided,
         what_an_act_reports_stays_where_one_came_back_during_its_question, the_pledge_of_a_link_is_the_one_that_is_seen,
         a_visit_after_the_time_is_over_says_what_becomes_of_the_article,
+        closing_the_book_asks_about_what_was_typed, closing_the_book_asks_while_a_reply_is_awaited,
+        a_hold_does_not_hide_what_the_end_brings, a_visit_whose_time_is_over_is_told_the_clerk,
+        what_came_in_between_is_named,
     ),
 )

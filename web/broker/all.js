@@ -20,7 +20,8 @@ let rows;
 
 function drawRow(pledge) {
   const { number, article, reference, kind, pence, ends, state, closed, held } = pledge;
-  const when = state === "open" ? `ends ${inShort(ends)}` : inShort(closed);
+  const end = `${ends < today() ? "ended" : "ends"} ${inShort(ends)}`;
+  const when = state === "open" ? end : inShort(closed);
   return make("a", { href: `#pledge=${number}`, className: "row-link" },
     make("span", { className: "row-number" }, String(number)),
     make(

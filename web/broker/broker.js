@@ -9,6 +9,7 @@ import { explainWaiting, onSend, tell } from "../shared/forms.js";
 import { startPage } from "../shared/start.js";
 import { dateOf, minutesSince, setUpAge, showAge, waitingInWords } from "./age.js";
 import { setUpAll, showAll } from "./all.js";
+import { mayClose } from "./closing.js";
 import { setUpDue, showDue } from "./due.js";
 import { clearElsewhere, setUpElsewhere } from "./elsewhere.js";
 import { setUpFiles } from "./files.js";
@@ -207,7 +208,7 @@ startPage(() => {
   ledger.listen(drawFromBook);
   onSend(byId("open"), "broker", openBook);
   setUpKey();
-  byId("close-book").addEventListener("click", closeBook);
+  byId("close-book").addEventListener("click", async () => { if (await mayClose()) closeBook(); });
   byId("places").addEventListener("click", goByTab);
   addEventListener("hashchange", () => showPart({ focus: true }));
   addEventListener("beforeprint", () => { if (current() !== null) showWhose(); });

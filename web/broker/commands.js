@@ -11,7 +11,7 @@ import { recordEntry } from "../shared/payments.js";
 import { confirmed, NOTHING_DONE } from "../shared/questions.js";
 import { isOpen, isToCome } from "../shared/statuses.js";
 import { bookingInWords } from "../shared/summary.js";
-import { windowInWords } from "../shared/windows.js";
+import { clock, isOverToday, minuteNow, windowInWords } from "../shared/windows.js";
 import { extension } from "./extending.js";
 import { redemption } from "./redeem.js";
 import { renewal } from "./renewing.js";
@@ -84,6 +84,19 @@ const agreedToRefuse = (now) => confirmed({
   yes: "Refuse the visit", no: "Not now",
 });
 
+/** A visit of today at a time that is over is asked about: nobody may come to it any more. */
+const agreedToOver = (now) => confirmed({
+  title: "Confirm a visit whose time is over?", about: now,
+  lines: [`${bookingInWords(now.booking)}.`, `It is ${clock(minuteNow())} by the clock of this device.`],
+  yes: "Confirm it all the same", no: "Not now",
+});
+
+/** The question about a decision, or null if it needs none. */
+function questionOf(yes, { booking }) {
+  if (!yes) return agreedToRefuse;
+  return isOverToday(booking) ? agreedToOver : null;
+}
+
 /** Reads the pledge. Throws if its visit is not the one that is shown. */
 async function readVisit(shown, desk) {
   const now = await lookFirst(desk.read());
@@ -96,8 +109,9 @@ async function readVisit(shown, desk) {
 /** Decides on the visit that is shown, if it is still the pledge's visit; and reports the one that was decided on. */
 async function decide(shown, yes, desk) {
   const now = await readVisit(shown, desk);
-  if (!yes) {
-    if (!await agreedToRefuse(now)) return NOTHING_DONE;
+  const question = questionOf(yes, now);
+  if (question) {
+    if (!await question(now)) return NOTHING_DONE;
     await readVisit(shown, desk);
   }
   const { booking } = now;

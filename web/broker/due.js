@@ -56,10 +56,11 @@ function tickBox({ number }, isDone) {
 const sumOf = (pledge) => ledger.owed(pledge)?.owing ?? pledge.pence;
 
 function rowOf(pledge, { day, more, isTicked }, now) {
+  const hold = pledge.held ? make("strong", {}, "on hold, ") : null;
   const under = more ? make("span", { className: "reference" }, more(pledge)) : null;
   return make("tr", {}, numberCell(pledge), articleCell(pledge),
     make("td", { className: "number" }, inPounds(sumOf(pledge))),
-    make("td", { className: "when" }, day(pledge, now), under, isTicked ? tickBox(pledge, false) : null));
+    make("td", { className: "when" }, hold, day(pledge, now), under, isTicked ? tickBox(pledge, false) : null));
 }
 
 function sectionOf(told, pledges, now) {

@@ -1,7 +1,7 @@
 /** A later end of the period. It can't be taken back, so both ends and the days between are asked about. */
 import { countDays, daysBetween, inShort, inWords, plusDays } from "../shared/days.js";
 import { make } from "../shared/dom.js";
-import { Lost, lookFirst, Outdated } from "../shared/faults.js";
+import { lookFirst, orSeen, Outdated } from "../shared/faults.js";
 import { buttons, field } from "../shared/forms.js";
 import { willPass } from "../shared/period.js";
 import { confirmed, NOTHING_DONE } from "../shared/questions.js";
@@ -45,18 +45,13 @@ export function endLines({ ends, taken, credit }, until) {
   ];
 }
 
-/** Moves the end, and returns a sentence. After a lost reply the pledge, read again, shows whether it was moved. */
-export async function sendEnd(until, desk) {
-  try {
-    const { said } = await desk.command("extend", { until }, true);
-    return `The period ends on ${inWords(said.ends)}.`;
-  } catch (fault) {
-    if (!(fault instanceof Lost)) throw fault;
-    const { ends } = await desk.read().catch(() => { throw fault; });
-    if (ends !== until) throw fault;
-    return `The reply was lost, but the pledge, read again, has the new end. The period ends on ${inWords(ends)}.`;
-  }
-}
+const endInWords = (ends) => `The period ends on ${inWords(ends)}.`;
+
+/** Moves the end, and returns a sentence. */
+export const sendEnd = (until, desk) => orSeen(
+  desk.command("extend", { until }, true).then(({ said }) => endInWords(said.ends)),
+  () => desk.read(), ({ ends }) => (ends === until ? endInWords(ends) : null),
+);
 
 async function extend({ until }, shown, desk) {
   if (until <= shown.ends) checkEnd(until, shown, shown);

@@ -125,7 +125,7 @@ async function redeem(fields, statement, desk) {
 
 export function redemption(statement, desk) {
   const receipt = make(
-    "input", { name: "receipt", value: desk.scanned, autocapitalize: "none", spellcheck: false, required: true },
+    "input", { name: "receipt", defaultValue: desk.scanned, autocapitalize: "none", spellcheck: false, required: true },
   );
   const amount = make("input", { name: "amount", inputMode: "decimal", required: true });
   const nothing = statement.owed.owing === 0;

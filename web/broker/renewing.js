@@ -110,8 +110,8 @@ async function renew({ until }, shown, desk) {
 export function renewal(statement, desk) {
   const { owed, ends } = statement;
   const until = make("input", {
-    type: "date", name: "until", min: ends, max: "2199-12-31", value: sixMonthsAfter(ends > today() ? ends : today()),
-    required: true,
+    type: "date", name: "until", min: ends, max: "2199-12-31", required: true,
+    defaultValue: sixMonthsAfter(ends > today() ? ends : today()),
   });
   const lead = owed.charges > 0
     ? `Receive the charges of today, ${inPounds(owed.charges)}, and agree on a later end than ${inWords(ends)}.`

@@ -2,7 +2,7 @@
 import { CODES, isRefusal, refusalOf } from "../shared/codes.js";
 import { inWords } from "../shared/days.js";
 import { make } from "../shared/dom.js";
-import { Lost, lookFirst } from "../shared/faults.js";
+import { lookFirst, orSeen } from "../shared/faults.js";
 import { buttons, field } from "../shared/forms.js";
 import { inPounds, MOST, readPounds } from "../shared/money.js";
 import { firstDayAfter, willPass } from "../shared/period.js";
@@ -35,20 +35,16 @@ function done({ net, surplus, shortfall }) {
   return `Sold for ${inPounds(net)}, exactly what was owed.`;
 }
 
-/** After a lost reply the statement shows whether it was done. */
-async function settleLost(desk, fault) {
-  const after = await desk.read().catch(() => { throw fault; });
-  if (after.status === "sold") return `The reply was lost, but the pledge, read again, is sold. ${done(after.closing)}`;
-  throw fault;
-}
+const isSale = ({ status, closing }, net) => status === "sold" && closing.net === net;
 
 /**
  * The pledge could be sold just before, and is closed now: by another till, or by this press, which a browser sends twice
  * by itself if it uses a connection again and no byte of the reply comes.
  */
 async function settleClosed(desk, fault, net) {
+  if (!isRefusal(fault, CODES.Closed)) throw fault;
   const after = await desk.read().catch(() => { throw fault; });
-  if (after.status !== "sold" || after.closing.net !== net) throw fault;
+  if (!isSale(after, net)) throw fault;
   return `${done(after.closing)} Most likely the browser sent this press twice; the sale is recorded once.`;
 }
 
@@ -72,13 +68,10 @@ async function sell({ amount }, desk) {
     yes: `Sold for ${inPounds(net)}`, no: "Not now",
   });
   if (!yes) return NOTHING_DONE;
-  try {
-    return done((await desk.command("sell", { net }, false)).said);
-  } catch (fault) {
-    if (fault instanceof Lost) return settleLost(desk, fault);
-    if (isRefusal(fault, CODES.Closed)) return settleClosed(desk, fault, net);
-    throw fault;
-  }
+  return orSeen(
+    desk.command("sell", { net }, false).then(({ said }) => done(said), (fault) => settleClosed(desk, fault, net)),
+    () => desk.read(), (after) => (isSale(after, net) ? done(after.closing) : null),
+  );
 }
 
 export const sale = (statement, desk) => ({

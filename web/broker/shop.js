@@ -34,12 +34,19 @@ export function setUpShop(changed) {
     if (ask.trim()) readPounds(ask, "ask");
     refuseReceipts({ name, address, till });
     keepShop({ name, address, till, ask });
+    showShop();
+    byId("shop-form").reset();
     changed();
     return "Kept in this browser. Receipts that are printed from now on have it.";
   });
 }
 
+/** Shows what is kept; what was typed and not sent stays. */
 export function showShop() {
   const { elements } = byId("shop-form");
-  for (const [name, text] of Object.entries(shop())) if (elements[name]) elements[name].value = text;
+  for (const [name, text] of Object.entries(shop())) {
+    const field = elements[name];
+    if (field && field.value === field.defaultValue) field.value = text;
+    if (field) field.defaultValue = text;
+  }
 }

@@ -9,8 +9,8 @@ const TITLE = "If something was entered by mistake";
 function waysOf({ kind, taken, owed, status }) {
   const anew = "redeem it by its own receipt for what is owed, and take the pledge anew under another reference";
   const running = status === "inside"
-    ? "A drawing of too much is recorded as repaid, and a repayment of too much is drawn again: what is owed is then "
-      + "as it was."
+    ? "A drawing of too much is recorded as repaid, and a repayment of too much is drawn again. If that is done on the "
+      + "same day, what is owed is then as it was."
     : "A drawing of too much is recorded as repaid.";
   return [
     taken === today()

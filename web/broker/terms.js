@@ -2,7 +2,7 @@
 import { refusalOf } from "../shared/codes.js";
 import { byId, make } from "../shared/dom.js";
 import { Lost, lookFirst, Refused } from "../shared/faults.js";
-import { onSend, run } from "../shared/forms.js";
+import { onSend, run, tell, underWay } from "../shared/forms.js";
 import { inPounds } from "../shared/money.js";
 import { confirmed, NOTHING_DONE } from "../shared/questions.js";
 import { Unreadable } from "../shared/unreadable.js";
@@ -190,12 +190,15 @@ export function clearTerms() {
 
 /** Shows the terms. They come first in the book, so nothing waits for the rest of it. */
 export function showTerms() {
-  const act = async () => {
-    if (ledger.head === null) await readAnew();
-    else draw();
-    return "";
-  };
-  return run({ notice, within: byId("new-terms"), reader: "broker", act });
+  const within = byId("new-terms");
+  if (ledger.head === null) {
+    const act = async () => { await readAnew(); return ""; };
+    return run({ notice, within, reader: "broker", act, mayBeOvertaken: true });
+  }
+  // What terms that are on their way come to is reported.
+  if (!underWay.has(within)) tell(notice, "");
+  draw();
+  return null;
 }
 
 /** The same once the book was read again: another till may have added a version. */

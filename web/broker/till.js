@@ -116,7 +116,7 @@ const floatField = () => byId("till-lists").querySelector(".float [name=amount]"
 function floatForm(day) {
   const pence = floatOf(day);
   const amount = make("input", {
-    name: "amount", inputMode: "decimal", value: pence === null ? "" : inPounds(pence).slice(1), required: true,
+    name: "amount", inputMode: "decimal", defaultValue: pence === null ? "" : inPounds(pence).slice(1), required: true,
   });
   const form = make("form", { className: "screen float", autocomplete: "off" },
     field(drawers().label, amount, "Kept in this browser, for this day."),

@@ -6,7 +6,7 @@ import { run, tell } from "../shared/forms.js";
 import { inPounds } from "../shared/money.js";
 import { readSheet } from "../shared/sheet.js";
 import { termsInWords } from "../shared/terms.js";
-import { windowInWords } from "../shared/windows.js";
+import { isOverToday, windowInWords } from "../shared/windows.js";
 import { putDay, setUpDayForm, showDayOf } from "./dayform.js";
 import { waiting } from "./groups.js";
 import { ledger } from "./ledger.js";
@@ -57,9 +57,13 @@ function named(number) {
   return make("span", { className: "links" }, pledgeLink(number), ...more);
 }
 
+/** The time of a visit, and whether it is over already. */
+const timeOf = (visit) => `${windowInWords(visit.window)}${isOverToday(visit) ? ", which is over" : ""}`;
+
 function windowLine({ window, capacity, pledges }) {
-  const count = make("span", { className: "count" }, `${pledges.length} of ${capacity}`);
-  return make("li", {}, make("span", { className: "time" }, windowInWords(window)), count, ...pledges.map(named));
+  const count = make("span", { className: "count" }, `${pledges.length} of ${capacity} places`);
+  const time = make("span", { className: "time" }, timeOf({ day: sheet.day, window }));
+  return make("li", {}, time, count, ...pledges.map(named));
 }
 
 const keyOf = ({ day, window }) => `${day} ${String(window).padStart(2, "0")}`;
@@ -80,7 +84,7 @@ function asked() {
 function askedLine({ number, window, day }) {
   const now = today();
   const when = day < now ? `${inShort(day)}, which is over` : `${inShort(day)}, ${seenFrom(now, day)}`;
-  return make("li", {}, make("span", { className: "time" }, `${when}, ${windowInWords(window)}`), named(number));
+  return make("li", {}, make("span", { className: "time" }, `${when}, ${timeOf({ day, window })}`), named(number));
 }
 
 /** Before the book was read, only the days whose sheets were read are known. */

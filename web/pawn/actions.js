@@ -11,7 +11,7 @@ import { confirmed, NOTHING_DONE } from "../shared/questions.js";
 import { reckoningForm } from "../shared/reckoning.js";
 import { isOpen, isToCome } from "../shared/statuses.js";
 import { Unreadable } from "../shared/unreadable.js";
-import { clock, endOf, WINDOWS, windowInWords } from "../shared/windows.js";
+import { clock, isOverToday, minuteNow, WINDOWS, windowInWords } from "../shared/windows.js";
 
 /** A form in a fold, which acts on the card when it is sent. */
 const foldOf = (card, title, parts, act) =>
@@ -52,13 +52,13 @@ function agreedToLate(statement, { fiveDays }, day) {
 }
 
 /** A time of today that is over by the clock of this device is asked about: the shop's clock may be another. */
-function agreedToOver(day, window) {
-  const now = new Date();
-  const minutes = now.getHours() * 60 + now.getMinutes();
-  if (day !== today() || endOf(window) > minutes) return true;
+function agreedToOver(statement, day, window) {
+  if (!isOverToday({ day, window })) return true;
   return confirmed({
-    title: "That time is over",
-    lines: [`It is ${clock(minutes)} by the clock of this device, and you ask for today, ${windowInWords(window)}.`],
+    title: "That time is over", about: statement,
+    lines: [
+      `It is ${clock(minuteNow())} by the clock of this device, and you ask for today, ${windowInWords(window)}.`,
+    ],
     yes: "Ask for this time all the same", no: "Choose another time",
   });
 }
@@ -79,7 +79,7 @@ async function agreedToGiveUp(now, { title, line, yes }) {
 async function askForVisit(card, { day, window }) {
   if (!day) throw new Unreadable("Choose a day.", "day");
   if (day < today()) throw new Unreadable("That day is over. Choose a later one.", "day");
-  if (!await agreedToOver(day, Number(window))) return NOT_NOW;
+  if (!await agreedToOver(card.statement, day, Number(window))) return NOT_NOW;
   if (!await agreedToLate(await lookFirst(card.read()), card.known, day)) return NOT_NOW;
   const now = await lookFirst(card.read());
   const isSame = now.booking?.day === day && now.booking.window === Number(window);
@@ -128,8 +128,8 @@ function visitFold(card) {
 function cancelFold(card) {
   const { booking } = card.statement;
   if (!stands(card.statement)) return null;
-  const when = `Your visit ${seenFrom(today(), booking.day)}, ${inWords(booking.day)}, is taken back. `
-    + "You can ask for another.";
+  const when = `Your visit is ${seenFrom(today(), booking.day)}, on ${inWords(booking.day)}. `
+    + "If you cancel it, you can ask for another.";
   const parts = [make("p", { className: "lead" }, when), buttons(make("button", {}, "Cancel the visit"))];
   return foldOf(card, "Cancel the visit", parts, async () => {
     if (!await agreedToGiveUp(await lookFirst(card.read()), {

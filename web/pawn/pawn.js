@@ -6,7 +6,7 @@ import { onSend, tell } from "../shared/forms.js";
 import { inPounds } from "../shared/money.js";
 import { startPage } from "../shared/start.js";
 import { Card } from "./card.js";
-import { CUT, keep, kept, ofTyped, takeFragment } from "./receipts.js";
+import { cutInWords, keep, kept, ofTyped, takeFragment } from "./receipts.js";
 import { inTurn } from "./turns.js";
 
 const TICK = 20_000;
@@ -73,11 +73,13 @@ function look(some) {
 }
 
 async function showFragment(notice) {
-  const { receipts, book, isCut } = takeFragment();
-  if (isCut) {
+  const { receipts, parts, wrong } = takeFragment();
+  if (wrong) {
+    const { elements } = byId("find");
     byId("finder").open = true;
-    byId("find").elements.book.value ||= book;
-    tell(notice, CUT, "bad");
+    elements.book.value ||= parts.book;
+    elements.receipts.value ||= parts.receipts.join("\n");
+    tell(notice, cutInWords(wrong), "bad");
   }
   if (receipts.length === 0) return;
   const some = receipts.map(cardOf);

@@ -1,15 +1,16 @@
 /**
  * The receipts that this tab holds: typed, pasted, or carried by a link's fragment, which reaches no server and no log.
  */
-import { bookOf, isBook, linesTyped, ofFragment, receiptsTyped, whyNotWhole } from "../shared/receipts.js";
+import { fragmentIn, isBook, linesTyped, ofFragment, partsOf, receiptsTyped, whyNotWhole } from "../shared/receipts.js";
 import { Unreadable } from "../shared/unreadable.js";
 
 const KEPT = "receipts";
 
-export const CUT = "That link is not whole, so it opens nothing: it should have the number of the shop’s book and the "
-  + "receipt. Scan the square code again, or type the receipt from the paper.";
+/** What is said of a link that is not whole; `wrong` says which part is missing. */
+export const cutInWords = (wrong) => `That link is not whole, so it opens nothing: ${wrong} `
+  + "Scan the square code again, or type what is missing from the paper.";
 const FORM = "It is the pledge’s number, a hyphen, and 32 digits from 0 to 9 and a to f: copy it from the paper.";
-const LINK = /#\S*book=/i;
+const LINK = /#\S*(?:book|receipt)=/i;
 
 /** Why a line is no whole receipt, or an empty text. A pawnor types receipts and no references. */
 const whyNot = (line) => whyNotWhole(line, { orReference: false });
@@ -17,9 +18,15 @@ const whyNot = (line) => whyNotWhole(line, { orReference: false });
 /** Says what is wrong where a text has no receipt at all, or a line that was meant as one is not whole. */
 function refuseOthers(text, found) {
   if (found.length === 0) throw new Unreadable(
-    LINK.test(text) ? CUT : `That is no receipt. ${whyNot(text) || FORM}`, "receipts",
+    LINK.test(text)
+      ? cutInWords(partsOf(fragmentIn(text)).wrong)
+      : `That is no receipt. ${whyNot(text) || FORM}`,
+    "receipts",
   );
-  const other = linesTyped(text).find((line) => receiptsTyped(line).length === 0 && (LINK.test(line) || whyNot(line)));
+  const lines = linesTyped(text);
+  const others = lines.filter((line) => receiptsTyped(line).length === 0);
+  // Where no line has a receipt by itself, one is on several lines.
+  const other = others.length < lines.length && others.find((line) => LINK.test(line) || whyNot(line));
   if (other) throw new Unreadable(
     `This is no receipt: ${other.trim()}. ${whyNot(other) || "The link is not whole."} `
       + "Nothing was shown: correct it, or leave it out.",
@@ -29,13 +36,13 @@ function refuseOthers(text, found) {
 
 /**
  * Takes the receipts out of the address, so that no bookmark and no shared link has them. The browser's history may
- * keep the link. Returns, too, whether the link was cut, and the book that it names.
+ * keep the link. Returns, too, the parts of the link, and what is wrong with it.
  */
 export function takeFragment() {
   const { hash } = location;
   if (hash) history.replaceState(null, "", location.pathname);
-  const receipts = ofFragment(hash);
-  return { receipts, book: bookOf(hash), isCut: hash.length > 1 && receipts.length === 0 };
+  const { wrong, ...parts } = partsOf(hash);
+  return { receipts: ofFragment(hash), parts, wrong: hash.length > 1 ? wrong : "" };
 }
 
 /**

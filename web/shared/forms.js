@@ -47,6 +47,9 @@ export const explainWaiting = (explain) => { explained = explain; };
 /** By its notice: the act that began last. Only that one says in it what came of it. */
 const newest = new WeakMap();
 
+/** The elements within which an act is under way that no other may overtake. */
+export const underWay = new Set();
+
 /** Where acts belong, and how the result of one is reported whose form is out of sight by then. */
 let sight = { mark: () => null, report: () => false };
 
@@ -87,6 +90,7 @@ export async function run({ notice, within, reader, act, about = null, mayBeOver
   const buttons = mayBeOvertaken ? [] : [...within.querySelectorAll("button")].filter((button) => !button.disabled);
   buttons.forEach((button) => { button.disabled = true; });
   clearMarks(within);
+  if (!mayBeOvertaken) underWay.add(within);
   const mine = {};
   newest.set(notice, mine);
   const mark = sight.mark();
@@ -99,6 +103,7 @@ export async function run({ notice, within, reader, act, about = null, mayBeOver
     fault = found;
   } finally {
     endWaiting();
+    underWay.delete(within);
     buttons.forEach((button) => { button.disabled = false; });
   }
   const isLook = mayBeOvertaken || isFailedLook(fault);

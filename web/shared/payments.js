@@ -21,14 +21,21 @@ const TOLD = 5;
 
 const isSame = (one, other) => one.seq === other.seq && one.sort === other.sort && one.pence === other.pence;
 
-/** What the pledge has now and did not have when it was shown, as sentences. */
-function cameBetween(shown, now) {
+/** The entries that the pledge has now and did not have when it was shown, as sentences. */
+function newEntries(shown, now) {
   const entries = now.entries.slice(shown.entries.length);
   const lines = entries.slice(-TOLD).map(entryInWords);
-  if (entries.length > TOLD) lines.unshift(`${entries.length - TOLD} other entries.`);
-  if (now.status !== shown.status || now.held !== shown.held || now.ends !== shown.ends) {
-    lines.push("The state of the pledge has changed.");
+  return entries.length > TOLD ? [`${entries.length - TOLD} other entries.`, ...lines] : lines;
+}
+
+/** What else has changed since the pledge was shown, as sentences. */
+function otherChanges(shown, now) {
+  const lines = [];
+  if (now.ends !== shown.ends) lines.push(`The period ends on ${inWords(now.ends)} now.`);
+  else if (now.status !== shown.status) {
+    lines.push(shown.status === "grace" ? "The days of grace are over." : "The period is over.");
   }
+  if (now.held !== shown.held) lines.push(now.held ? "The pledge was put on hold." : "The hold was released.");
   return lines;
 }
 
@@ -73,15 +80,15 @@ function mending({ kind, owed }, sort, pence) {
  * else null.
  */
 function questionOf({ shown, now, sort, pence, askFrom }) {
-  const between = cameBetween(shown, now);
+  const [entries, changes] = [newEntries(shown, now), otherChanges(shown, now)];
   const amount = inPounds(pence);
-  if (between.length > 0) return {
+  if (entries.length + changes.length > 0) return {
     title: "Something came in between", about: now,
     lines: [
-      "Since this pledge was shown here, somebody else did this:", ...between, owedLine(now),
-      `Is your ${amount} another one, beside these?`,
+      "Since this pledge was shown here, this happened:", ...entries, ...changes, owedLine(now),
+      entries.length > 0 ? `Is your ${amount} another one, beside these?` : `Do you still want to record ${amount}?`,
     ],
-    yes: `Yes, record ${amount} as well`, no: "No, record nothing",
+    yes: entries.length > 0 ? `Yes, record ${amount} as well` : `Yes, record ${amount}`, no: "No, record nothing",
   };
   if (pence < askFrom && !(Number.isFinite(askFrom) && isUnlike(now, sort, pence))) return null;
   return {

@@ -53,6 +53,14 @@ export const numberOf = (receipt) => Number(receipt.split("-")[0]);
 
 export const isBook = (text) => BOOK.test(text);
 
+/** A text with each `&` as it was meant: a mail program may have escaped it, even more than once. */
+const unescaped = (text) => text.replace(/&(?:amp;)+/gi, "&");
+
+/** Marks of a sentence that follow a link, and that a link of the pages has only in another spelling. */
+const AFTER_LINK = /[)\]}>»”’"'!?,;:\s]+\.?$/;
+/** The same after a number, where a full stop is no part of it, either. */
+const AFTER_NUMBER = /[^0-9a-z]+$/i;
+
 function termsOf(text) {
   const [, rate, keepBefore, keepAfter] = (TERMS.exec(text) ?? []).map(Number);
   return rate === undefined ? null : { rate, keepBefore, keepAfter };
@@ -64,52 +72,87 @@ const GRACE = { 5: true, 0: false };
 /** What a link says of a pledge in addition to its receipt; here nothing. */
 const UNTOLD = { shop: "", rate: "", ref: "", terms: null, fiveDays: null };
 
-/** What a link says of the shop, the reference and the terms. */
+/** What a link says of the shop, the reference and the terms. A link that was cut in its terms has no grace. */
 function toldIn(said) {
   const texts = Object.entries(LONGEST).map(
     ([name, longest]) => [name, (said.get(name) ?? "").trim().slice(0, longest)]
   );
   return {
-    ...UNTOLD, ...Object.fromEntries(texts), terms: termsOf(said.get("terms") ?? ""),
-    fiveDays: GRACE[said.get("grace")] ?? null,
+    ...UNTOLD, ...Object.fromEntries(texts), terms: said.has("grace") ? termsOf(numbersIn(said, "terms")) : null,
+    fiveDays: GRACE[numbersIn(said, "grace")] ?? null,
   };
 }
 
 /** What a link's fragment says, by its names in small letters. */
 function saidIn(fragment) {
-  const typed = new URLSearchParams(fragment.replace(/^#/, ""));
+  const typed = new URLSearchParams(unescaped(fragment).replace(/^#/, "").replace(AFTER_LINK, ""));
   return new URLSearchParams([...typed].map(([name, value]) => [name.toLowerCase(), value]));
 }
 
-/** The book that a link's fragment names, or an empty text. */
-export function bookOf(fragment) {
-  const book = (saidIn(fragment).get("book") ?? "").trim();
+/** What a link says in numbers under this name, or an empty text. */
+const numbersIn = (said, name) => (said.get(name) ?? "").trim().replace(AFTER_NUMBER, "");
+
+/** The book that a link names, or an empty text. */
+function bookIn(said) {
+  const book = numbersIn(said, "book");
   return isBook(book) ? book : "";
+}
+
+/**
+ * What a link's fragment has of its two parts: the number of the book and the receipts, each empty if it is missing;
+ * and what is wrong with the link, as a sentence, or an empty text.
+ */
+export function partsOf(fragment) {
+  const said = saidIn(fragment);
+  const book = bookIn(said);
+  const receipts = said.getAll("receipt").flatMap(receiptsIn);
+  const typed = numbersIn(said, "receipt");
+  const wrong = [
+    book === "" && "the number of the shop’s book is missing",
+    receipts.length === 0 && (typed === "" ? "the receipt is missing" : "the receipt is not whole"),
+  ].filter(Boolean);
+  const why = receipts.length === 0 ? whyNotWhole(typed, { orReference: false }) : "";
+  return { book, receipts, wrong: wrong.length === 0 ? "" : `${wrong.join(", and ")}. ${why}`.trim() };
 }
 
 /** The receipts of a link's fragment with their book, and the other texts of the link. */
 export function ofFragment(fragment) {
-  const said = saidIn(fragment);
-  const book = bookOf(fragment);
-  if (book === "") return [];
-  return said.getAll("receipt").flatMap(receiptsIn).map((receipt) => ({ book, receipt, ...toldIn(said) }));
+  const { book, receipts, wrong } = partsOf(fragment);
+  if (wrong) return [];
+  const told = toldIn(saidIn(fragment));
+  return receipts.map((receipt) => ({ book, receipt, ...told }));
 }
 
 const LINK = /^\S*#\S*receipt=\S+$/i;
+
+/** The part of a link that begins with its #. */
+export const fragmentIn = (text) => text.slice(text.indexOf("#"));
 
 /** Whether a text is a link or a receipt, and not the name of anything else. */
 export const isReceiptLike = (text) => LINK.test(text.trim()) || receiptsIn(text).length > 0;
 
 /** The parts of a typed text that can have a receipt each. */
-export const linesTyped = (text) => text.split(/[\n,;]+/);
+export const linesTyped = (text) => unescaped(text).split(/[\n,;]+/);
 
-/** The receipts of a typed text: those of links in it, with their books, or those of its lines, without a book. */
+const untold = (book, receipts) => receipts.map((receipt) => ({ book, receipt, ...UNTOLD }));
+
+/** The receipts of a line: those of links in it, with their books, or those without a book. */
+function receiptsOfLine(line) {
+  const links = line.split(/\s+/).filter((word) => LINK.test(word));
+  return links.length > 0 ? links.flatMap((link) => ofFragment(fragmentIn(link))) : untold(null, receiptsIn(line));
+}
+
+/** The receipts of a text whose lines have none by themselves: a mail program may have put one on two lines. */
+function receiptsAcross(text) {
+  if (!text.includes("#")) return untold(null, receiptsIn(text));
+  const { book, receipts } = partsOf(fragmentIn(text));
+  return book === "" ? [] : untold(book, receipts);
+}
+
+/** The receipts of a typed text. */
 export function receiptsTyped(text) {
-  return linesTyped(text).flatMap((line) => {
-    const links = line.split(/\s+/).filter((word) => LINK.test(word));
-    if (links.length > 0) return links.flatMap((link) => ofFragment(link.slice(link.indexOf("#"))));
-    return receiptsIn(line).map((receipt) => ({ book: null, receipt, ...UNTOLD }));
-  });
+  const found = linesTyped(text).flatMap(receiptsOfLine);
+  return found.length > 0 ? found : receiptsAcross(text);
 }
 
 /**

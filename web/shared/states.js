@@ -111,9 +111,12 @@ const FOR_PAWNOR = {
       more: `${over(ends)}. It may be sold any day`,
     }
   ),
-  sold: ({ closing }) => (closing.surplus > 0
-    ? { more: `${saleInWords(closing)}. That surplus is yours: ask the shop for it` }
-    : {}),
+  sold: ({ closing }) => {
+    if (closing.surplus > 0) return { more: `${saleInWords(closing)}. That surplus is yours: ask the shop for it` };
+    return closing.shortfall > 0
+      ? { more: `${saleInWords(closing)}. The shop’s book notes that, and keeps no debt of it` }
+      : {};
+  },
   passed: ({ ends }) => (
     {
       badge: "No longer yours", line: "It was not redeemed in time",
@@ -122,18 +125,39 @@ const FOR_PAWNOR = {
   ),
 };
 
-/** The state of a pledge as it is shown. A hold comes before all else, since it bars what the period allows. */
+/** Until when the time of a pledge runs, for one that is on hold. */
+const TIME_OF_HELD = {
+  inside: ({ ends }, grace) => `The period ends on ${inWords(ends)}${grace}; after that`,
+  grace: ({ ends }) =>
+    `The period ended on ${inWords(ends)}, and days of grace run until ${inWords(graceEnd(ends))}; after that`,
+  realisable: ({ ends }) => `The period ended on ${inWords(ends)};`,
+};
+
+/** A pledge on hold. A hold bars what the period allows, but the time runs on. */
+function heldState(statement, { fiveDays }, reader) {
+  const { status, taken, ends, credit } = statement;
+  const follow = ", and five days of grace follow";
+  const unknown = reader === "pawnor"
+    ? `${follow} if your paper says so`
+    : ", and days of grace are shown once the book is read";
+  const grace = { true: follow, false: "", null: unknown }[fiveDays];
+  const becomes = willPass({ taken, ends, pence: credit }) ? "belongs to the pawnbroker" : "may be sold";
+  const day = status === "realisable" ? " any day" : "";
+  const released = reader === "pawnor" ? "the pawnbroker releases it" : "you release it";
+  return {
+    badge: "On hold", tone: "warn", line: `On hold: it can’t be redeemed until ${released}`,
+    more: `${TIME_OF_HELD[status](statement, grace)} the article ${becomes}${day}, on hold or not`,
+  };
+}
+
+/** The state of a pledge as it is shown. A hold comes before all else. */
 export function stateOf(statement, now, known, reader) {
-  const { status, ends, held, closing, owed } = statement;
+  const { status, held, closing, owed } = statement;
   const state = {
     ...STATES[status](statement, now, known),
     ...(reader === "pawnor" && FOR_PAWNOR[status]?.(statement, now, known)),
   };
-  if (!held || closing || !owed) return state;
-  const end = `${status === "inside" ? "The period ends" : "The period ended"} on ${inWords(ends)}`;
-  return {
-    badge: "On hold", tone: "warn", line: "On hold: it can’t be redeemed until the pawnbroker releases it", more: end,
-  };
+  return held && !closing && owed ? heldState(statement, known, reader) : state;
 }
 
 /** The status of a pledge, in a sentence without its end. */

@@ -6,7 +6,7 @@ import { inPounds } from "./money.js";
 import { stateOf } from "./states.js";
 import { isToCome } from "./statuses.js";
 import { interestInWords, keepingInWords } from "./terms.js";
-import { windowInWords } from "./windows.js";
+import { isOverToday, windowInWords } from "./windows.js";
 
 const BOOKINGS = {
   asked: "asked for, not confirmed yet", confirmed: "confirmed", refused: "refused by the shop", cancelled: "cancelled",
@@ -14,8 +14,10 @@ const BOOKINGS = {
 
 /** A booking in words. */
 export function bookingInWords(booking) {
-  const isOver = isToCome(booking) && booking.day < today() ? ", on a day that is over" : "";
-  return `${inWords(booking.day)}, ${windowInWords(booking.window)}: ${BOOKINGS[booking.state]}${isOver}`;
+  const said = `${inWords(booking.day)}, ${windowInWords(booking.window)}: ${BOOKINGS[booking.state]}`;
+  if (!isToCome(booking)) return said;
+  if (booking.day < today()) return `${said}, on a day that is over`;
+  return isOverToday(booking) ? `${said}, at a time that is over` : said;
 }
 
 /** How much of the period is over, as a bar. */

@@ -16,6 +16,8 @@ from tests.library.paths import TOP
 WEB = os.path.join(TOP, "web")
 WRONG_SECRET = "00000000-0000-4000-8000-000000000000"
 SHOP = "High Street Pawnbrokers"
+# What is said of an act whose reply was lost, where the pledge, read again, shows it.
+LOST = "The reply was lost, but the pledge, read again, shows that it was done. "
 # A test takes some seconds on a machine that is idle, and fails after so many.
 EACH = 300
 browser = Browser()
@@ -62,6 +64,12 @@ def open_book(pages, book=7, key=BROKER):
 def show_receipt(pages, receipt, book=7):
     browser.forget()
     browser.go(f"{pages.address}/pawn/#book={book}&receipt={receipt}")
+
+
+def close_the_book():
+    """Closes the book where the page asks first, because something was typed or a reply is awaited."""
+    browser.press("#close-book")
+    browser.press("dialog button", "Close the book")
 
 
 def part(name):
