@@ -15,7 +15,7 @@ from faults import faults_of_books, faults_of_disks, pending, removed_books_that
 from files import files_of_store, owner_of
 from locks import alone_if_free
 from reading import contents_of
-from settings import MAIN, OFFSITE, SETTINGS, Stop, Store, say, store_names
+from settings import MAIN, OFFSITE, SETTINGS, Stop, Store, store_names
 
 # What is WRONG: a copy so many hours old, on this machine and off it; so much of the limit of rows.
 OLD_COPY, OLD_OFFSITE, MANY_ROWS = 26, 50, 0.8
@@ -268,5 +268,5 @@ def in_text(told):
 def status(as_json=False):
     """The verb `status`: it ends with 1 if something keeps a broker from working."""
     told = look()
-    say(json.dumps(told, indent=1) if as_json else "\n".join(in_text(told)))
+    print(json.dumps(told, indent=1) if as_json else "\n".join(in_text(told)), flush=True)
     return 1 if told["wrong"] else 0
