@@ -138,7 +138,8 @@ def books_and_lines():
         it.write("etc/books.map", "8 west;\n7 west;\n9 south;\n")
         it.admin("reload")
         expect_wrong(it, "book 7 has a line for the store west, and is not there: main has rows of it",
-                     "book 9 has a line for the store south, and there is no such store")
+                     "book 9 has a line for the store south, and there is no such store: if the store is on another machine, "
+                     "`echo ADDRESS=")
         it.write("etc/books.map", "8 west;\n")
         it.admin("reload")
         it.admin_with("split", "main", "north", 7, PLANT="the_new_store_does_not_start", wanted=1)
