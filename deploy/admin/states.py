@@ -206,6 +206,9 @@ def state_of(name, lines):
 
 def look():
     wrong, notes, lines, proxy_state = [], [], {}, {"runs": None, "certificate_days": None}
+    # To run such a command again mends much of what else is wrong, so this is what the operator reads first.
+    with told(wrong):
+        wrong += pending()
     with told(wrong):
         lines = proxy.book_lines()
     with concurrent.futures.ThreadPoolExecutor(16) as pool:
@@ -223,8 +226,6 @@ def look():
         more_wrong, more_notes = faults_of_books(lines, found)
         wrong += more_wrong
         notes += more_notes
-    with told(wrong):
-        wrong += pending()
     with told(wrong):
         notes += [*unsound_states(), *removed_books_that_are_back(found)]
     with told(wrong):
