@@ -23,8 +23,10 @@ def faults_of_books(lines, found):
                      f"{conf_of(MAIN)} back, then `pawnd-admin reload`")
     for book, name in sorted(lines.items()):
         if name not in known:
-            wrong.append(f"book {book} has a line for the store {name}, and there is no such store: mend "
-                         f"{proxy.BOOKS_MAP}, or `pawnd-admin store {name}`")
+            wrong.append(f"book {book} has a line for the store {name}, and there is no such store: if the store is on "
+                         f"another machine, `echo ADDRESS=10.0.0.3:8103 >{conf_of(name)}` with its address, then "
+                         f"`pawnd-admin reload`. If it was here, `pawnd-admin restore {name} newest` puts it back. Else mend "
+                         f"{proxy.BOOKS_MAP}")
         elif found.get(name) is not None and book not in found[name]:
             wrong.append(f"book {book} has a line for the store {name}, and is not there: {missing_book(book, found)}")
     for name, books in sorted(found.items()):

@@ -25,10 +25,9 @@ SHARE_BYTES = 0x40049409
 
 def disk_full(folder, wanted, purpose):
     free = free_bytes(folder)
-    missing = f"{wanted - free:,} bytes are missing" if wanted > free else "something else fills it at the same time"
     return Stop(
-        f"the disk of {folder} is full: {purpose} takes {wanted:,} bytes, {free:,} are free, and {missing}. Make room "
-        "there, then run the command again"
+        f"the disk of {folder} is full: {purpose} takes {wanted:,} bytes, {free:,} are free, and "
+        f"{max(wanted - free, 0):,} bytes are missing. Make room there, then run the command again"
     )
 
 
@@ -47,7 +46,8 @@ def room_for(folder, wanted, purpose):
     try:
         yield
     except OSError as why:
-        if why.errno not in (errno.ENOSPC, errno.EDQUOT):
+        # Within the block files of other disks are written, too: such a disk is named by a block of its own.
+        if why.errno not in (errno.ENOSPC, errno.EDQUOT) or free_bytes(folder) >= wanted:
             raise
         raise disk_full(folder, wanted, purpose) from why
     except Exception as why:

@@ -28,12 +28,19 @@ class Interrupted(BaseException):
     """A command was told to end by a signal. No step that goes on after a Stop goes on after this."""
 
 
-def say(text):
-    print(text, flush=True)
+def say(text, stream=None):
+    """A message of a command. If it can't be written, for example because the operator's terminal is gone, the command
+    goes on all the same: it may have to start a store that it has stopped."""
+    stream = stream or sys.stdout
+    try:
+        print(text, file=stream, flush=True)
+    except OSError:
+        # What the stream still holds, and all that follows, goes nowhere.
+        os.dup2(os.open(os.devnull, os.O_WRONLY), stream.fileno())
 
 
 def warn(text):
-    print(f"pawnd-admin: {text}", file=sys.stderr, flush=True)
+    say(f"pawnd-admin: {text}", sys.stderr)
 
 
 def book_number(word):

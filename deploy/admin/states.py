@@ -15,7 +15,7 @@ from faults import faults_of_books, faults_of_disks, pending, removed_books_that
 from files import files_of_store, owner_of
 from locks import alone_if_free
 from reading import contents_of
-from settings import MAIN, OFFSITE, SETTINGS, Stop, Store, say, store_names
+from settings import MAIN, OFFSITE, SETTINGS, Stop, Store, store_names
 
 # What is WRONG: a copy so many hours old, on this machine and off it; so much of the limit of rows.
 OLD_COPY, OLD_OFFSITE, MANY_ROWS = 26, 50, 0.8
@@ -206,6 +206,9 @@ def state_of(name, lines):
 
 def look():
     wrong, notes, lines, proxy_state = [], [], {}, {"runs": None, "certificate_days": None}
+    # To run such a command again mends much of what else is wrong, so this is what the operator reads first.
+    with told(wrong):
+        wrong += pending()
     with told(wrong):
         lines = proxy.book_lines()
     with concurrent.futures.ThreadPoolExecutor(16) as pool:
@@ -223,8 +226,6 @@ def look():
         more_wrong, more_notes = faults_of_books(lines, found)
         wrong += more_wrong
         notes += more_notes
-    with told(wrong):
-        wrong += pending()
     with told(wrong):
         notes += [*unsound_states(), *removed_books_that_are_back(found)]
     with told(wrong):
@@ -268,5 +269,5 @@ def in_text(told):
 def status(as_json=False):
     """The verb `status`: it ends with 1 if something keeps a broker from working."""
     told = look()
-    say(json.dumps(told, indent=1) if as_json else "\n".join(in_text(told)))
+    print(json.dumps(told, indent=1) if as_json else "\n".join(in_text(told)), flush=True)
     return 1 if told["wrong"] else 0

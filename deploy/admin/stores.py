@@ -11,7 +11,7 @@ from files import (
     work_prefix, write_whole,
 )
 from locks import alone_with, alone_with_settings, copies_folder, lock_store
-from proxy import reload_nginx, run, write_stores
+from proxy import is_of_another_machine, reload_nginx, run, write_stores
 from reading import contents_of
 from settings import FIRST_PORT, STORES, SYSTEM, Store, conf_of, say, store_file, store_name, store_names
 from tables import check_and_fold, fold
@@ -127,5 +127,6 @@ def new_store(name):
         services.start(store)
         write_stores()
         reload_nginx()
-    say(f"the store {name} serves {len(contents_of(store.path).books)} books on {store.address}. Make a book there: "
-        f"`pawnd-admin book BOOK --store {name} --name NAME`")
+    say(f"the store {name} serves {len(contents_of(store.path).books)} books on {store.address}. Make a book there"
+        + (", on the machine of the proxy" if is_of_another_machine() else "")
+        + f": `pawnd-admin book BOOK --store {name} --name NAME --key-to FILE`")

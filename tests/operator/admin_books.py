@@ -1,6 +1,8 @@
 """`pawnd-admin` and single books: one is made, one comes back out of a copy, a key has leaked, a broker leaves."""
 import contextlib
 import os
+import re
+import shlex
 import shutil
 import socket
 import stat
@@ -39,6 +41,15 @@ def a_store_and_books():
         it.admin("copy", "main"), it.admin("copy", "west")
         expect("what is wrong", it.status()["wrong"], [])
         expect("what commands left", it.leftovers(), [])
+
+
+def the_first_book_of_a_store():
+    """`store` prints the command that makes one."""
+    with Machine() as it:
+        command = re.search("`pawnd-admin (.*)`", it.admin("store", "west"))[1]
+        words = {"BOOK": 8, "NAME": "Low Street", "FILE": it.place("key-8")}
+        it.admin(*(words.get(word, word) for word in shlex.split(command)))
+        expect("the books", (books_in(it.path("west")), it.lines()), ({8}, {8: "west"}))
 
 
 def a_book_that_is_made_again():
@@ -296,7 +307,7 @@ def a_leaked_key_of_a_store_elsewhere():
 
 if __name__ == "__main__":
     main_with(
-        PACKAGES, a_store_and_books, a_book_that_is_made_again, a_reply_that_is_cut_off, a_store_that_refuses,
-        one_book_out_of_a_copy, a_broker_who_leaves, a_leaked_key,
+        PACKAGES, a_store_and_books, the_first_book_of_a_store, a_book_that_is_made_again, a_reply_that_is_cut_off,
+        a_store_that_refuses, one_book_out_of_a_copy, a_broker_who_leaves, a_leaked_key,
         a_leaked_key_of_a_store_elsewhere, a_leaked_key_of_a_book_that_comes_back,
     )

@@ -156,6 +156,25 @@ def a_full_disk():
         it.admin("split", "main", "west", 7), caller.look_up()
 
 
+def a_disk_that_fills_meanwhile():
+    """The disk that is full is named, and no other. When there is room again, the command does the rest."""
+    if os.geteuid():
+        not_tried("a disk that fills meanwhile", "this is not root")
+        return
+    with Machine(small="40m") as it:
+        callers = [it.book(number, pledges=1) for number in (7, 8)]
+        it.admin("copy", "main")
+        said = it.admin_with("split", "main", "west", 8, PLANT="another_program_fills_the_disk", wanted=1)
+        expect(f"the disk that is named: {said}", f"the disk of {it.stores}" in said and "are missing" in said, True)
+        callers[0].repay(), callers[0].look_up()
+        os.unlink(os.path.join(it.stores, "filler"))
+        it.admin("split", "main", "west", 8)
+        for caller in callers:
+            caller.repay(), caller.look_up()
+        expect("the books", (books_in(it.path("main")), books_in(it.path("west"))), ({7}, {8}))
+        expect_all_is_well(it)
+
+
 def a_store_on_a_disk_of_its_own():
     """A command that is killed while it gives new files to the store leaves the old state or the new one, and the command
     that is run again ends it."""
@@ -218,6 +237,7 @@ if __name__ == "__main__":
         a_division_that_stops_after_the_map_was_turned,
         nobody_opens_a_store_that_is_divided,
         a_full_disk,
+        a_disk_that_fills_meanwhile,
         a_store_on_a_disk_of_its_own,
         a_full_disk_of_a_store,
     )

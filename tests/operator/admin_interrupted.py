@@ -1,5 +1,5 @@
 """Verbs of `pawnd-admin` that are ended by Ctrl-C in their middle, and run again. Ctrl-C reaches the verb and the program
-that it runs at that moment."""
+that it runs at that moment. And verbs whose terminal is lost."""
 import os
 import shlex
 import signal
@@ -11,28 +11,33 @@ from tests.library.operator.admin_places import books_in
 from tests.library.packages import main_with
 from tests.library.paths import PROGRAM
 
-# In the place of the program: at its check of this number the keys are pressed.
+# In the place of the program: at its check of this number the keys are pressed, or the terminal is lost.
 PRESSED = """#!/bin/sh
 if [ "$1" = check ]; then
     echo >>{count}
-    [ $(wc -l <{count}) != {at} ] || {{ kill -INT 0; sleep 20; }}
+    [ $(wc -l <{count}) != {at} ] || {{ kill -{signal} 0; sleep 20; }}
 fi
 exec {program} "$@"
 """
 
 
-def interrupted(it, at, *words):
-    """What a verb says that is interrupted at a check of the program."""
+def run_until(it, at, name, output, *words):
+    """Runs a verb. At a check of the program, it and the program get the signal of this name."""
     count = it.place("checks")
     if os.path.exists(count):
         os.unlink(count)
     paths = {"count": shlex.quote(count), "program": shlex.quote(PROGRAM)}
-    it.write("pressed", PRESSED.format(at=at, **paths), 0o755)
-    ran = subprocess.run(
-        [ADMIN, *map(str, words)], env={**it.environment, "PAWND": it.place("pressed")}, capture_output=True, text=True,
-        timeout=300, stdin=subprocess.DEVNULL, start_new_session=True,
+    it.write("pressed", PRESSED.format(at=at, signal=name, **paths), 0o755)
+    return subprocess.run(
+        [ADMIN, *map(str, words)], env={**it.environment, "PAWND": it.place("pressed")}, stdout=output, stderr=output,
+        text=True, timeout=300, stdin=subprocess.DEVNULL, start_new_session=True,
         preexec_fn=lambda: signal.signal(signal.SIGINT, signal.SIG_DFL),
     )
+
+
+def interrupted(it, at, *words):
+    """What a verb says that is interrupted at a check of the program."""
+    ran = run_until(it, at, "INT", subprocess.PIPE, *words)
     said = ran.stdout + ran.stderr
     expect(f"how {words} ends that is interrupted at check {at}: {said}", (ran.returncode, "told to end" in said), (1, True))
     return said
@@ -88,5 +93,23 @@ def a_split():
         expect("what commands left", it.leftovers(), [])
 
 
+def a_lost_terminal():
+    """Nothing that the verb says can be written any more, as when the operator's line to the machine is cut. With the
+    signal of a terminal that is lost, the verb ends, and the store is served as before. Without it, the verb does all."""
+    with Machine() as it:
+        callers = {number: it.book(number, pledges=1) for number in (7, 8)}
+        for at in (1, 2, 0):
+            reader, writer = os.pipe()
+            os.close(reader)
+            ran = run_until(it, at, "HUP", writer, "split", "main", "west", 8)
+            os.close(writer)
+            expect(f"how it ends if the terminal is lost at check {at}", ran.returncode, 1 if at else 0)
+            for caller in callers.values():
+                caller.repay(), caller.look_up()
+            expect(f"the books after check {at}", books_in(it.path("main")), {7, 8} if at else {7})
+        expect("the books of the new store", books_in(it.path("west")), {8})
+        expect("what commands left", it.leftovers(), [])
+
+
 if __name__ == "__main__":
-    main_with(PACKAGES, a_restore, a_removal, a_split)
+    main_with(PACKAGES, a_restore, a_removal, a_split, a_lost_terminal)

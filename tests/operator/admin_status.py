@@ -138,11 +138,13 @@ def books_and_lines():
         it.write("etc/books.map", "8 west;\n7 west;\n9 south;\n")
         it.admin("reload")
         expect_wrong(it, "book 7 has a line for the store west, and is not there: main has rows of it",
-                     "book 9 has a line for the store south, and there is no such store")
+                     "book 9 has a line for the store south, and there is no such store: if the store is on another machine, "
+                     "`echo ADDRESS=")
         it.write("etc/books.map", "8 west;\n")
         it.admin("reload")
         it.admin_with("split", "main", "north", 7, PLANT="the_new_store_does_not_start", wanted=1)
-        expect("a command that was killed", any("did not end" in line for line in it.status()["wrong"]), True)
+        wrong = it.status()["wrong"]
+        expect(f"the first thing to do after a command was killed: {wrong}", "a command did not end" in wrong[0], True)
         it.admin("split", "main", "north", 7)
         expect_wrong(it)
         it.admin("restore-book", 7, "newest", "south")

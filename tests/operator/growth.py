@@ -158,12 +158,14 @@ def a_lost_second_machine(one, second):
         expect("the other stores go on", ask(one, "/books/7/pledges/1")[0], 200)
         one.line_to(third, "10.0.0.1", "10.0.0.3")
         reach(one, standby, third)
+        third.run(commands(DEPLOYING, "A second machine")[0])
+        take, fetch, restore, remove = commands(OPERATING, "A lost second machine")
         for name in ("east", "back"):
-            take, fetch = (block.replace("east", name) for block in commands(OPERATING, "A lost second machine"))
-            standby.run(take)
-            if name == "east":
-                third.run(commands(DEPLOYING, "A second machine")[0])
-            third.run(fetch)
+            standby.run(take.replace("east", name))
+            third.run(fetch.replace("east", name))
+        for name in ("east", "back"):
+            third.run(restore.replace("east", name))
+        standby.run(remove)
         answers_again(one, target="/books/10/pledges/4", key="/root/10.key")
         expect("it goes on there", enter(one, 5, 10, "/root/10.key")[0], 200)
         third.run("pawnd-admin status")

@@ -75,6 +75,7 @@ def a_copy_is_sent(one, standby):
     standby.run(command(DEPLOYING, "Messages about problems", "on-failure"))
     standby.run("systemctl start pawnd-received")
     expect("the drill", standby.run(drill).splitlines()[-1], "books 1 pledges 0 rows 1")
+    expect("nothing that is not encrypted is left", "drill" in standby.run("ls /root").split(), False)
     expect("what the state says", "newest off this machine" in one.run("pawnd-admin status"), True)
     one.run("pawnd-admin book 9 --name 'Old Street' --key-to /root/9.key; pawnd-admin remove-book 9")
 
@@ -179,7 +180,7 @@ def an_intruder_with_the_key(one, standby):
 def sending_begins_anew(one, standby, anew, package):
     """The first machine is installed anew, after an intruder: the last good copy comes back from the old repository, and
     what is copied from then on goes to a new one, with a new key and a new passphrase."""
-    *_, aside, fetch, go_on, remove = commands(OPERATING, "Sending again after an intruder")
+    *_, aside, fetch, elsewhere, go_on, remove = commands(OPERATING, "Sending again after an intruder")
     key, old = key_of(one), archives(standby)
     one.cut()
     standby.run(aside)
@@ -191,6 +192,7 @@ def sending_begins_anew(one, standby, anew, package):
         anew.run(block)
     reach(anew, standby)
     anew.run(fetch)
+    anew.run(elsewhere.replace("east", "far") + "rm /etc/pawnd/stores/far.conf; pawnd-admin reload")
     anew.run(f"umask 077; cat >/root/7.key <<<'{key}'")
     answers_again(anew)
     expect("what was sent before", [ask(anew, f"/books/7/pledges/{number}")[0] for number in (1, 2)], [200, 200])
@@ -201,15 +203,21 @@ def sending_begins_anew(one, standby, anew, package):
     carry_passphrase(anew, standby)
     anew.run(begin)
     standby.run(go_on)
+    expect("nothing that is not encrypted is left", "back" in standby.run("ls /root").split(), False)
     standby.start("pawnd-received")
     expect("the new repository", len(archives(standby)), 1)
     send(anew)
     standby.start("pawnd-received")
     told = anew.run("pawnd-admin status || true")
     expect("what is wrong", [line for line in told.splitlines() if line.startswith("WRONG")], [])
-    anew.run(command(OPERATING, "A leaked key", "new-key") + "mv /root/7.key.new /root/7.key")
+    anew.run("sleep 1")
+    for block in commands(OPERATING, "A leaked key"):
+        anew.run(block)
+    exchanged = anew.run("mv /root/7.key.new /root/7.key; cat /etc/pawnd/keys.map")
+    standby.run("mkdir /root/it; /usr/share/pawnd/offsite/take main /root/it")
+    expect("the exchange was sent", standby.run("cat /root/it/etc/pawnd/keys.map; rm -r /root/it"), exchanged)
     expect("by the new key", ask(anew, "/books/7/pledges/1")[0], 200)
-    expect("the old repository", len(old) > 1 and "back" in standby.run("ls /root"), True)
+    expect("the old repository", len(old) > 1, True)
     standby.run(remove)
 
 
@@ -222,9 +230,12 @@ def the_machine_is_lost(one, standby):
     send(one)
     expect("acknowledged, and lost", enter(one, 4)[0], 200)
     one.cut()
-    take, others = commands(OPERATING, "A lost machine")
-    standby.run(take)
-    standby.run(others)
+    take, restore, let_in = commands(OPERATING, "A lost machine")
+    for name in ("east", "main"):
+        standby.run(take.replace("main", name))
+    for name in ("main", "east"):
+        standby.run(restore.replace("main", name))
+    standby.run(let_in)
     certificate = commands(DEPLOYING, "The first day")[2]
     with slow_requests(standby):
         standby.run(certificate)

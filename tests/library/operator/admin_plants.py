@@ -148,3 +148,27 @@ def another_program_opens_the_store():
         return make_copy(name, path)
 
     divisions.make_copy = opened
+
+
+def another_program_fills_the_disk():
+    """The disk of the stores is full when the first file is put there, although there was room for it before. Of that
+    file, one and a half mebibytes were written, which are free again when the command removes it."""
+    import os
+
+    import settings
+    import stores
+
+    copy_bytes = stores.copy_bytes
+
+    def fill_and_copy(old, new):
+        new.write(bytes(3 << 19))
+        new.flush()
+        with open(os.path.join(settings.STORES, "filler"), "wb", buffering=0) as file:
+            try:
+                while file.write(bytes(4096)):
+                    pass
+            except OSError:
+                pass
+        copy_bytes(old, new)
+
+    stores.copy_bytes = fill_and_copy
