@@ -196,17 +196,19 @@ class Recorder:
             )
             while len(body) < length:
                 body += peer.recv(65536)
+            # A test that waits for a request to be seen may then change the way: this request keeps the one before.
+            way = self.way
             self.seen.append((head.decode("latin-1"), body))
-            if self.way == "answer":
+            if way == "answer":
                 peer.sendall(b"HTTP/1.1 200 OK\r\nContent-Length: 2\r\nContent-Type: application/json\r\n\r\n{}")
-            elif self.way == "at length":
+            elif way == "at length":
                 peer.sendall(
                     b"HTTP/1.1 200 OK\r\nContent-Length: %d\r\nContent-Type: text/csv\r\n\r\n" % LENGTH + b"x" * LENGTH
                 )
                 self.rid = True
-            elif self.way == "reset":
+            elif way == "reset":
                 peer.setsockopt(socket.SOL_SOCKET, socket.SO_LINGER, b"\1\0\0\0\0\0\0\0")
-            elif self.way == "silence":
+            elif way == "silence":
                 peer.recv(1)
 
 

@@ -175,26 +175,37 @@ def a_store_that_is_being_restarted():
             expect(f"it took the request, and then: {way}", (proxys(reply), len(store.seen) - before), ((502, True), 1))
 
 
+def declared_while_a_worker_is_killed(*fields):
+    """A GET by curl, then a declaration, after which the worker of nginx that passed it on is killed. Returns which posts
+    the store got, what curl showed, and whether it reported no error."""
+    with Hosted(kind=Recorder) as it:
+        store, url = it.stores[1], f"https://localhost:{it.port}/books"
+        store.way = "silence"
+        how = ["-sk", "--http1.1", "-m", "30", *fields]
+        words = ["curl", *how, f"{url}/7/pledges/1", "--next", *how, "-d", "{}", f"{url}/8/pledges/1/declare"]
+        begun = subprocess.Popen(words, stdin=subprocess.DEVNULL, stdout=subprocess.PIPE, stderr=subprocess.DEVNULL)
+        wait_for(lambda: store.seen, "the declaration")
+        store.way = "answer"
+        # All are stopped first: curl must not send again to one that is about to be killed.
+        workers = [int(worker) for worker in it.workers()]
+        for sent in (signal.SIGSTOP, signal.SIGKILL):
+            for worker in workers:
+                os.kill(worker, sent)
+        shown, _ = begun.communicate(timeout=60)
+        return [head.split()[0] for head, _ in store.seen], shown, begun.returncode == 0
+
+
 def libcurl_sends_a_post_again_by_itself():
-    """A worker of nginx is killed after it passed a declaration on. On a connection that curl uses again it sends the
-    declaration a second time, and reports nothing; on a connection of its own it reports the error."""
-    for kept, wanted in ((True, ["POST", "POST"]), (False, ["POST"])):
-        with Hosted(kind=Recorder) as it:
-            store, url = it.stores[1], f"https://localhost:{it.port}/books"
-            store.way = "silence"
-            how = ["-sk", "--http1.1", "-m", "30", *([] if kept else ["-H", "Connection: close"])]
-            words = ["curl", *how, f"{url}/7/pledges/1", "--next", *how, "-d", "{}", f"{url}/8/pledges/1/declare"]
-            begun = subprocess.Popen(words, stdin=subprocess.DEVNULL, stdout=subprocess.PIPE, stderr=subprocess.DEVNULL)
-            wait_for(lambda: store.seen, "the declaration")
-            store.way = "answer"
-            for worker in it.workers():
-                os.kill(int(worker), signal.SIGKILL)
-            shown, _ = begun.communicate(timeout=60)
-            expect(
-                f"what curl sent and showed, with its connection {'kept' if kept else 'closed'}",
-                ([head.split()[0] for head, _ in store.seen], shown, begun.returncode == 0),
-                (wanted, b"{}{}" if kept else b"{}", kept),
-            )
+    """On a connection that curl uses again it may send a declaration a second time, and report nothing: of five times it
+    does so once at least. On a connection of its own it always reports the error."""
+    once, twice = (["POST"], b"{}", False), (["POST", "POST"], b"{}{}", True)
+    for _ in range(5):
+        if (found := declared_while_a_worker_is_killed()) == twice:
+            break
+        expect("what curl sent and showed, with its connection kept", found, once)
+    expect("what curl sent and showed at last, with its connection kept", found, twice)
+    found = declared_while_a_worker_is_killed("-H", "Connection: close")
+    expect("what curl sent and showed, with its connection closed", found, once)
 
 
 # ---- a key that leaked
