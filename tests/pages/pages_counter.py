@@ -475,6 +475,7 @@ def a_visit_that_the_shop_confirmed_is_named_where_the_article_is_sold():
         browser.says("Old clock", "#due-lists")
         rows = "return [...document.querySelectorAll('#due-lists tbody tr')].map((one) => one.innerText)"
         first, second = browser.run(rows)
+        browser.shoot("broker-due-visits")
         expect("the confirmed one", f"visit confirmed for {in_short(ago(-1))}" in first, True)
         expect("the one that is asked for", f"visit asked for {in_short(ago(-1))}" in second, True)
         for number, state in ((1, "confirmed"), (2, "asked for, not confirmed yet")):

@@ -260,6 +260,22 @@ def what_comes_after_the_end_is_told():
         no_faults()
 
 
+def a_visit_that_is_confirmed_after_the_end_keeps_no_article():
+    """A pawnor who reads "confirmed" would wait for that day. Where the days of grace are not known, they count."""
+    with Pages() as pages:
+        make_book(pages)
+        receipt = pages.session.open_pledge(1)
+        may_be_sold = "confirmed, but the article may be sold before then"
+        for days, link, is_late in ((0, "", False), (5, "", False), (5, "&terms=2667.0.0&grace=0", True), (6, "", True)):
+            day = six_months_after(today()) + datetime.timedelta(days=days)
+            pages.session.bearer(receipt, "POST", "/books/7/held/ask", {"day": str(day), "window": 3})
+            expect("confirmed", pages.session.broker("POST", "/books/7/pledges/1/decide", {"yes": True})[0], 200)
+            show_receipt(pages, receipt + link)
+            browser.says(f"{in_words(day)}, 10:30 to 11:00: confirmed", "#cards")
+            expect(f"{days} days after the end{link}", may_be_sold in browser.text("#cards"), is_late)
+        no_faults()
+
+
 def a_late_visit_of_a_receipt_without_its_link_may_be_in_time():
     """The page does not know its days of grace, and says so."""
     with a_pledge_by_its_receipt() as (_, receipt):
@@ -281,6 +297,7 @@ main(
         several_pledges_have_a_sum_and_are_looked_at_again, pledges_of_several_shops_have_a_sum_for_each,
         what_will_be_owed_is_told_by_the_link,
         a_visit_that_is_over_is_not_offered_to_be_cancelled, a_visit_in_the_days_of_grace_is_in_time,
-        what_comes_after_the_end_is_told, a_late_visit_of_a_receipt_without_its_link_may_be_in_time,
+        what_comes_after_the_end_is_told, a_visit_that_is_confirmed_after_the_end_keeps_no_article,
+        a_late_visit_of_a_receipt_without_its_link_may_be_in_time,
     ),
 )

@@ -8,10 +8,9 @@ import { lookFirst, orSeen, Outdated } from "../shared/faults.js";
 import { buttons, field, fold } from "../shared/forms.js";
 import { inPounds, readPounds } from "../shared/money.js";
 import { recordEntry } from "../shared/payments.js";
-import { lastSafeDay } from "../shared/period.js";
 import { confirmed, NOTHING_DONE } from "../shared/questions.js";
 import { isOpen, isToCome } from "../shared/statuses.js";
-import { bookingInWords } from "../shared/summary.js";
+import { bookingInWords, isLateVisit } from "../shared/summary.js";
 import { clock, isOverToday, minuteNow, windowInWords } from "../shared/windows.js";
 import { extension } from "./extending.js";
 import { redemption } from "./redeem.js";
@@ -137,12 +136,13 @@ async function sendDecision(booking, yes, desk) {
   };
 }
 
-/** Why the article may not be fetched on a visit that is to come. Where the days of grace are not known, they count. */
-function doubtsAbout({ booking, ends, held }, { fiveDays }) {
+/** Why the article may not be fetched on a visit that is to come. */
+function doubtsAbout(statement, known) {
+  const { booking, ends, held } = statement;
   if (!isToCome(booking) || booking.day < today()) return [];
-  const isLate = booking.day > lastSafeDay({ ends, fiveDays: fiveDays ?? true });
   return [
-    isLate ? `That is after the period’s end, ${inWords(ends)}: the article may have been sold by then.` : null,
+    isLateVisit(statement, known)
+      ? `That is after the period’s end, ${inWords(ends)}: the article may have been sold by then.` : null,
     held ? "The pledge is on hold: nothing can be fetched until you release it." : null,
   ].filter(Boolean);
 }
