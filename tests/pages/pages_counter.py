@@ -1,12 +1,14 @@
 """What the broker's page once said at the counter that was not so, each as it was found; in a real browser, in front of
 the program."""
+import datetime
+
 from tests.library.checks import expect
-from tests.library.dates import today
+from tests.library.dates import six_months_after, today
 from tests.library.pages.browser import Cut, Pages
 from tests.library.pages.steps import (
     a_pledge_at_the_counter, ago, agree, an_open_book, book_text, browser, command, entries, fill_book, find,
     in_short, in_words, is_told_quietly, main, make_book, no_faults, open_book, part, receipts_made,
-    send_taking, take_a_ring, the_book_is_read, the_clock_goes_on, unfold,
+    secret_of, send_taking, take_a_ring, the_book_is_read, the_clock_goes_on, unfold,
 )
 
 
@@ -456,6 +458,63 @@ def a_visit_that_is_changed_during_the_question_is_not_refused_unseen():
         no_faults()
 
 
+def a_visit_that_the_shop_confirmed_is_named_where_the_article_is_sold():
+    """Else an article is sold the day before its pawnor comes for it. The rules allow the sale, so the page says it."""
+    with Pages() as pages:
+        make_book(pages, terms=False)
+        long_ago = ago(220)
+        pledges = [("Gold ring", "G1", 9000, long_ago, "", "no"), ("Old clock", "G2", 9000, long_ago, "", "no")]
+        fill_book(pages, book_text(pledges))
+        coming = {"day": str(ago(-1)), "window": 3}
+        for number in (1, 2):
+            pages.session.bearer(f"{number}-{secret_of(number)}", "POST", "/books/7/held/ask", coming)
+        expect("confirmed", pages.session.broker("POST", "/books/7/pledges/1/decide", {"yes": True})[0], 200)
+        open_book(pages)
+        the_book_is_read()
+        part("due")
+        browser.says("Old clock", "#due-lists")
+        rows = "return [...document.querySelectorAll('#due-lists tbody tr')].map((one) => one.innerText)"
+        first, second = browser.run(rows)
+        browser.shoot("broker-due-visits")
+        expect("the confirmed one", f"visit confirmed for {in_short(ago(-1))}" in first, True)
+        expect("the one that is asked for", f"visit asked for {in_short(ago(-1))}" in second, True)
+        for number, state in ((1, "confirmed"), (2, "asked for, not confirmed yet")):
+            find(str(number))
+            browser.says(f"Pledge {number}", "#statement")
+            command("Sale", "Record the sale", amount="90")
+            browser.says(f"The pawnor is to come for it: {in_words(ago(-1))}, 10:30 to 11:00: {state}.", "dialog")
+            browser.press("dialog button", "Not now")
+            browser.says("Nothing was done.", "#commands")
+        no_faults()
+
+
+def a_visit_is_not_confirmed_unseen_where_nothing_can_be_fetched():
+    """The article may have been sold on its day, or it is on hold."""
+    with Pages() as pages:
+        make_book(pages)
+        receipt = pages.session.open_pledge(1)
+        end = six_months_after(today())
+        late = end + datetime.timedelta(days=3)
+        may_be_sold = f"That is after the period’s end, {in_words(end)}: the article may have been sold by then."
+        held = "The pledge is on hold: nothing can be fetched until you release it."
+        pages.session.bearer(receipt, "POST", "/books/7/held/ask", {"day": str(end), "window": 3})
+        open_book(pages)
+        the_book_is_read()
+        find("1")
+        browser.says("Pledge 1", "#statement")
+        said = browser.run("return document.querySelector('#commands').textContent")
+        expect("not said of the last day", may_be_sold in said or held in said, False)
+        pages.session.bearer(receipt, "POST", "/books/7/held/ask", {"day": str(late), "window": 3})
+        pages.session.broker("POST", "/books/7/pledges/1/hold")
+        find("1")
+        browser.says(f"{in_words(late)}, 10:30 to 11:00: asked for", "#statement")
+        browser.rests()
+        unfold("Visit")
+        browser.says(may_be_sold, ".action[open]")
+        browser.says(held, ".action[open]")
+        no_faults()
+
+
 EXPORTS = "return performance.getEntriesByType('resource').filter(({ name }) => name.endsWith('/export')).length"
 
 def the_book_is_read_anew():
@@ -501,5 +560,7 @@ main(
         a_receipt_of_a_pledge_that_is_over_is_printed_as_such,
         a_receipt_is_printed_again, who_waits_for_another_day, what_is_due, the_book_is_read_anew,
         a_visit_that_was_changed_is_not_confirmed_unseen,
+        a_visit_that_the_shop_confirmed_is_named_where_the_article_is_sold,
+        a_visit_is_not_confirmed_unseen_where_nothing_can_be_fetched,
     ),
 )

@@ -2,6 +2,7 @@
 owed; in a real browser, in front of the program."""
 import datetime
 import re
+from urllib.parse import quote
 
 from tests.library.checks import expect
 from tests.library.dates import six_months_after, today
@@ -95,6 +96,7 @@ def a_link_out_of_a_mail_is_read_as_it_was_meant():
             escaped, escaped.replace("&amp;", "&amp;amp;"), fragment + ")", fragment + "%20",
             short + ".", short + ").", short + "]",
             graced + ".", graced + ")", graced + "%20", escaped + ").",
+            "#" + quote(fragment[1:], safe=""), fragment.replace("=", "%3D"), fragment.replace("&", "%26"),
         ):
             browser.forget()
             browser.go(f"{pages.address}/pawn/{meant}")
@@ -106,7 +108,8 @@ def a_link_out_of_a_mail_is_read_as_it_was_meant():
         typed = f"(see {pages.address}/pawn/{escaped})."
         wrapped = fragment.replace(receipt, receipt[:16] + "\n" + receipt[16:])
         for text in (
-            typed, f"Your pledge: {pages.address}/pawn/{wrapped}\nYours, the shop", f"{receipt[:20]}\n{receipt[20:]}",
+            typed, f"{pages.address}/pawn/{quote(fragment, safe='')}",
+            f"Your pledge: {pages.address}/pawn/{wrapped}\nYours, the shop", f"{receipt[:20]}\n{receipt[20:]}",
         ):
             browser.forget()
             browser.go(f"{pages.address}/pawn/")
@@ -157,6 +160,22 @@ def several_pledges_have_a_sum_and_are_looked_at_again():
         browser.shoot("pawn-sum")
         browser.press("button", "Put this receipt away")
         browser.says("on 2 pledges together.", "#sum-line")
+        no_faults()
+
+
+def pledges_of_several_shops_have_a_sum_for_each():
+    """No shop is owed the sum of all."""
+    with Pages() as pages:
+        links = []
+        for book, pence in ((7, 6000), (8, 4500)):
+            make_book(pages, book)
+            receipts = [pages.session.open_pledge(number, book, pence=pence, ref=f"A{number}") for number in (1, 2)]
+            links += [f"{pages.address}/pawn/#book={book}&receipt={one}" for one in receipts[:9 - book]]
+        browser.forget()
+        browser.go(f"{pages.address}/pawn/")
+        browser.fill("#find", receipts="\n".join(links))
+        browser.press("#find button")
+        browser.says("£165.00 is owed today on 3 pledges together: £120.00 in book 7 and £45.00 in book 8.", "#sum-line")
         no_faults()
 
 
@@ -241,6 +260,22 @@ def what_comes_after_the_end_is_told():
         no_faults()
 
 
+def a_visit_that_is_confirmed_after_the_end_keeps_no_article():
+    """A pawnor who reads "confirmed" would wait for that day. Where the days of grace are not known, they count."""
+    with Pages() as pages:
+        make_book(pages)
+        receipt = pages.session.open_pledge(1)
+        may_be_sold = "confirmed, but the article may be sold before then"
+        for days, link, is_late in ((0, "", False), (5, "", False), (5, "&terms=2667.0.0&grace=0", True), (6, "", True)):
+            day = six_months_after(today()) + datetime.timedelta(days=days)
+            pages.session.bearer(receipt, "POST", "/books/7/held/ask", {"day": str(day), "window": 3})
+            expect("confirmed", pages.session.broker("POST", "/books/7/pledges/1/decide", {"yes": True})[0], 200)
+            show_receipt(pages, receipt + link)
+            browser.says(f"{in_words(day)}, 10:30 to 11:00: confirmed", "#cards")
+            expect(f"{days} days after the end{link}", may_be_sold in browser.text("#cards"), is_late)
+        no_faults()
+
+
 def a_late_visit_of_a_receipt_without_its_link_may_be_in_time():
     """The page does not know its days of grace, and says so."""
     with a_pledge_by_its_receipt() as (_, receipt):
@@ -259,8 +294,10 @@ main(
         a_receipt_that_the_pledge_never_had_may_be_of_another_book, a_cut_link_is_told,
         a_link_that_is_cut_in_its_terms_says_no_other_terms, a_link_out_of_a_mail_is_read_as_it_was_meant,
         blanks_and_capitals_are_read_everywhere,
-        several_pledges_have_a_sum_and_are_looked_at_again, what_will_be_owed_is_told_by_the_link,
+        several_pledges_have_a_sum_and_are_looked_at_again, pledges_of_several_shops_have_a_sum_for_each,
+        what_will_be_owed_is_told_by_the_link,
         a_visit_that_is_over_is_not_offered_to_be_cancelled, a_visit_in_the_days_of_grace_is_in_time,
-        what_comes_after_the_end_is_told, a_late_visit_of_a_receipt_without_its_link_may_be_in_time,
+        what_comes_after_the_end_is_told, a_visit_that_is_confirmed_after_the_end_keeps_no_article,
+        a_late_visit_of_a_receipt_without_its_link_may_be_in_time,
     ),
 )

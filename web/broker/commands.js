@@ -2,7 +2,7 @@
  * The commands on a pledge, each with its form. A command that would be refused now is shown apart, with the reason;
  * the service decides.
  */
-import { inWords } from "../shared/days.js";
+import { inWords, today } from "../shared/days.js";
 import { make } from "../shared/dom.js";
 import { lookFirst, orSeen, Outdated } from "../shared/faults.js";
 import { buttons, field, fold } from "../shared/forms.js";
@@ -10,7 +10,7 @@ import { inPounds, readPounds } from "../shared/money.js";
 import { recordEntry } from "../shared/payments.js";
 import { confirmed, NOTHING_DONE } from "../shared/questions.js";
 import { isOpen, isToCome } from "../shared/statuses.js";
-import { bookingInWords } from "../shared/summary.js";
+import { bookingInWords, isLateVisit } from "../shared/summary.js";
 import { clock, isOverToday, minuteNow, windowInWords } from "../shared/windows.js";
 import { extension } from "./extending.js";
 import { redemption } from "./redeem.js";
@@ -136,12 +136,25 @@ async function sendDecision(booking, yes, desk) {
   };
 }
 
-function visit({ booking }, desk) {
+/** Why the article may not be fetched on a visit that is to come. */
+function doubtsAbout(statement, known) {
+  const { booking, ends, held } = statement;
+  if (!isToCome(booking) || booking.day < today()) return [];
+  return [
+    isLateVisit(statement, known)
+      ? `That is after the period’s end, ${inWords(ends)}: the article may have been sold by then.` : null,
+    held ? "The pledge is on hold: nothing can be fetched until you release it." : null,
+  ].filter(Boolean);
+}
+
+function visit(statement, desk) {
+  const { booking } = statement;
   return {
     title: "Visit",
     barred: isToCome(booking) ? null : "No visit of this pledge waits for an answer.",
     parts: [
       lead(booking ? `${bookingInWords(booking)}.` : "The pawnor asks for a day and a time."),
+      ...doubtsAbout(statement, desk.known).map(lead),
       buttons(button("Confirm", "yes"), button("Refuse", "no", "plain")),
     ],
     act: ({ button: value }) => decide(booking, value === "yes", desk),

@@ -3,6 +3,7 @@ import { inShort, seenFrom, today } from "../shared/days.js";
 import { byId, foreign, make } from "../shared/dom.js";
 import { inPounds } from "../shared/money.js";
 import { firstDayAfter, willPass } from "../shared/period.js";
+import { isToCome } from "../shared/statuses.js";
 import { missingInWords } from "./age.js";
 import { dueOf, placeOf } from "./groups.js";
 import { keep, kept } from "./kept.js";
@@ -55,12 +56,19 @@ function tickBox({ number }, isDone) {
 /** What is owed today; of a passed pledge, on which nothing is owed, the sum that was lent. */
 const sumOf = (pledge) => ledger.owed(pledge)?.owing ?? pledge.pence;
 
+const VISITS = { asked: "asked for", confirmed: "confirmed for" };
+
+/** The visit for which the article has to be kept, if one is to come. */
+const visitOf = ({ booking }, now) => (isToCome(booking) && booking.day >= now
+  ? make("strong", { className: "reference" }, `visit ${VISITS[booking.state]} ${inShort(booking.day)}`) : null);
+
 function rowOf(pledge, { day, more, isTicked }, now) {
   const hold = pledge.held ? make("strong", {}, "on hold, ") : null;
   const under = more ? make("span", { className: "reference" }, more(pledge)) : null;
   return make("tr", {}, numberCell(pledge), articleCell(pledge),
     make("td", { className: "number" }, inPounds(sumOf(pledge))),
-    make("td", { className: "when" }, hold, day(pledge, now), under, isTicked ? tickBox(pledge, false) : null));
+    make("td", { className: "when" }, hold, day(pledge, now), under, visitOf(pledge, now),
+      isTicked ? tickBox(pledge, false) : null));
 }
 
 function sectionOf(told, pledges, now) {

@@ -1,12 +1,14 @@
 /** The sale of an article whose period is over. */
 import { CODES, isRefusal, refusalOf } from "../shared/codes.js";
-import { inWords } from "../shared/days.js";
+import { inWords, today } from "../shared/days.js";
 import { make } from "../shared/dom.js";
 import { lookFirst, orSeen } from "../shared/faults.js";
 import { buttons, field } from "../shared/forms.js";
 import { inPounds, MOST, readPounds } from "../shared/money.js";
 import { firstDayAfter, willPass } from "../shared/period.js";
 import { confirmed, NOTHING_DONE } from "../shared/questions.js";
+import { isToCome } from "../shared/statuses.js";
+import { bookingInWords } from "../shared/summary.js";
 
 /** Why the article can't be sold now: the first day on which it can, or that it never will be. */
 function barredOf({ status, taken, ends, credit }, { fiveDays }) {
@@ -55,7 +57,7 @@ async function sell({ amount }, desk) {
   const net = readPounds(amount);
   if (net > MOST) throw refusalOf("BadAmount");
   const now = await lookFirst(desk.read());
-  const { status, owed, held } = now;
+  const { status, owed, held, booking } = now;
   if (status !== "realisable") throw refusalOf(REFUSED[status] ?? "NotRealisable");
   const yes = await confirmed({
     title: "Record the sale?", about: now,
@@ -63,6 +65,7 @@ async function sell({ amount }, desk) {
       `The article was sold, and ${inPounds(net)} is left after the costs of the sale.`,
       owed ? `${inPounds(owed.owing)} is owed today. ${outcome(net, owed.owing)}` : null,
       held ? "The pledge is on hold: find out why before the article is sold." : null,
+      isToCome(booking) && booking.day >= today() ? `The pawnor is to come for it: ${bookingInWords(booking)}.` : null,
       "The pledge is closed by it. It can’t be taken back.",
     ],
     yes: `Sold for ${inPounds(net)}`, no: "Not now",

@@ -33,13 +33,24 @@ function store() {
   showSum();
 }
 
+const totalOf = (shown) => shown.reduce((total, { owing }) => total + owing, 0);
+
+/** What is owed to each shop, if the pledges are of several. */
+function sharesOf(shown) {
+  const books = [...new Set(shown.map(({ book }) => book))];
+  if (books.length < 2) return "";
+  const shareOf = (book) => `${inPounds(totalOf(shown.filter((card) => card.book === book)))} in book ${book}`;
+  const shares = books.map(shareOf);
+  return `: ${shares.slice(0, -1).join(", ")} and ${shares.at(-1)}`;
+}
+
 /** What is owed on several pledges together. */
 function showSum() {
   const shown = cards.filter(({ owing }) => owing > 0);
   byId("sum-line").hidden = shown.length < 2;
-  const sum = shown.reduce((total, { owing }) => total + owing, 0);
   const missing = cards.some(({ isShown, isRedeemed }) => !isShown && !isRedeemed) ? " What can’t be shown is not in it." : "";
-  byId("sum-line").textContent = `${inPounds(sum)} is owed today on ${shown.length} pledges together.${missing}`;
+  byId("sum-line").textContent =
+    `${inPounds(totalOf(shown))} is owed today on ${shown.length} pledges together${sharesOf(shown)}.${missing}`;
 }
 
 function drop(card) {

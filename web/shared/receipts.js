@@ -53,8 +53,20 @@ export const numberOf = (receipt) => Number(receipt.split("-")[0]);
 
 export const isBook = (text) => BOOK.test(text);
 
+/** A link of which a program has escaped the marks between its parts. */
+const ESCAPED = /receipt%3D|%26receipt/i;
+
+/** A text as it was before a program escaped all of it with per cent signs, if one did. */
+function decoded(text) {
+  try {
+    return ESCAPED.test(text) ? decodeURIComponent(text) : text;
+  } catch {
+    return text;
+  }
+}
+
 /** A text with each `&` as it was meant: a mail program may have escaped it, even more than once. */
-const unescaped = (text) => text.replace(/&(?:amp;)+/gi, "&");
+const unescaped = (text) => decoded(text).replace(/&(?:amp;)+/gi, "&");
 
 /** Marks of a sentence that follow a link, and that a link of the pages has only in another spelling. */
 const AFTER_LINK = /[)\]}>»”’"'!?,;:\s]+\.?$/;

@@ -3,6 +3,7 @@ import { daysBetween, inShort, inWords, sixMonthsAfter, today } from "./days.js"
 import { facts, foreign, make } from "./dom.js";
 import { entriesTable } from "./entries.js";
 import { inPounds } from "./money.js";
+import { lastSafeDay } from "./period.js";
 import { stateOf } from "./states.js";
 import { isToCome } from "./statuses.js";
 import { interestInWords, keepingInWords } from "./terms.js";
@@ -18,6 +19,18 @@ export function bookingInWords(booking) {
   if (!isToCome(booking)) return said;
   if (booking.day < today()) return `${said}, on a day that is over`;
   return isOverToday(booking) ? `${said}, at a time that is over` : said;
+}
+
+/**
+ * Whether a visit is to come, on a day on which the article may have been sold. Where the days of grace are not known,
+ * they count.
+ */
+export const isLateVisit = ({ booking, ends }, { fiveDays }) => isToCome(booking) && booking.day >= today()
+  && !isOverToday(booking) && booking.day > lastSafeDay({ ends, fiveDays: fiveDays ?? true });
+
+function visitInWords(statement, known) {
+  const said = bookingInWords(statement.booking);
+  return isLateVisit(statement, known) ? `${said}, but the article may be sold before then` : said;
 }
 
 /** How much of the period is over, as a bar. */
@@ -83,7 +96,7 @@ function factsOf(statement, known) {
   statement.extensions.forEach(
     ([agreed, end]) => pairs.push(["Extended", `on ${inShort(agreed)}, to ${inWords(end)}`])
   );
-  if (statement.booking) pairs.push(["Visit", bookingInWords(statement.booking)]);
+  if (statement.booking) pairs.push(["Visit", visitInWords(statement, known)]);
   return facts(pairs);
 }
 
