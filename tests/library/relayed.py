@@ -31,8 +31,15 @@ class Relay:
                 threading.Thread(target=self.carry, args=(self.listener.accept()[0],), daemon=True).start()
 
     def carry(self, client):
+        with client:
+            self.carry_to_service(client)
+            # The other thread still reads from the client: closing alone would not tell the client that this is the end.
+            with contextlib.suppress(OSError):
+                client.shutdown(socket.SHUT_RDWR)
+
+    def carry_to_service(self, client):
         asked = []
-        with client, contextlib.suppress(OSError), socket.create_connection(("127.0.0.1", self.to)) as service:
+        with contextlib.suppress(OSError), socket.create_connection(("127.0.0.1", self.to)) as service:
             threading.Thread(target=self.pass_on, args=(client, service, asked), daemon=True).start()
             while piece := service.recv(65536):
                 if asked:
