@@ -197,9 +197,9 @@ def opens(folder):
         size = os.path.getsize(path) // 1024 if books else 0
         name = "a file" if books else "in memory, empty"
         print(f"{name:46}{books * EACH:>12}{best * 1e3:>14.1f}{size:>13}{peak:>10}", flush=True)
-    judged = time.perf_counter()
+    checked = time.perf_counter()
     subprocess.run([PROGRAM, "check", os.path.join(folder, "100.db")], stdout=subprocess.DEVNULL, check=True)
-    line(f"`check` of {100 * EACH} pledges, milliseconds", (time.perf_counter() - judged) * 1e3)
+    line(f"`check` of {100 * EACH} pledges, milliseconds", (time.perf_counter() - checked) * 1e3)
 
 
 def moves(folder):

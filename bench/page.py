@@ -17,7 +17,7 @@ PAGE = os.path.join(TOP, "docs/BENCH.md")
 COLUMNS = ["date", "commit", "machine", "load", "what", "figure", "unit"]
 
 
-def rows_of(name):
+def results_of(name):
     with open(os.path.join(TOP, f"bench/results/{name}.csv"), encoding="utf-8", newline="") as it:
         found = csv.DictReader(it)
         if found.fieldnames != COLUMNS:
@@ -67,7 +67,7 @@ def table(key, rows):
 
 
 def part_of_the_page(name):
-    return "\n\n".join(table(key, rows) for key, rows in newest(rows_of(name)).items())
+    return "\n\n".join(table(key, rows) for key, rows in newest(results_of(name)).items())
 
 
 def page():

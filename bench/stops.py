@@ -14,20 +14,11 @@ import tempfile
 import threading
 import time
 
-WORDS = sys.argv[1:]
-PEER = None
-if "--peer" in WORDS:
-    at = WORDS.index("--peer")
-    PEER = os.path.abspath(WORDS[at + 1])
-    del WORDS[at:at + 2]
-if WORDS:
-    os.environ["PAWND"] = WORDS[0]
-
-from bench.beside import DAY  # noqa: E402
-from bench.growth import fill, numbers, post  # noqa: E402
-from tests.library.keys import OPERATOR, SEED  # noqa: E402
-from tests.library.paths import PROGRAM  # noqa: E402
-from tests.library.program import free_port  # noqa: E402
+# The first of these imports reads the words of the command line, which are the same there.
+from bench.growth import DAY, PEER, fill, numbers, post
+from tests.library.keys import OPERATOR, SEED
+from tests.library.paths import PROGRAM
+from tests.library.program import free_port
 
 PLEDGES, CHANGES, RUNS = 10_000, 900, 7
 SYNCS = "fsync,fdatasync,msync,sync_file_range"

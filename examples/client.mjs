@@ -138,7 +138,7 @@ export function settings(usage, ...names) {
 
 export const money = (pence) => `${Math.floor(pence / 100)}.${String(pence % 100).padStart(2, "0")}`;
 
-/** The lines of a text of the service. They end with LF alone, whatever else stands in an article. */
+/** The lines of a text of the service. They end with LF alone: an article may contain other line ends. */
 export const lines = (text) => text.split("\n").slice(0, -1);
 
 /** The rest of the statement's line that begins with this word. */

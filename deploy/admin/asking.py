@@ -101,7 +101,8 @@ def state_of_certificate(wrong, notes):
         )
         return None
     if days < SHORT_CERTIFICATE:
-        wrong.append(f"the certificate is good for {days} days: `certbot renew`, then `pawnd-admin reload`")
+        how_long = f"is good for {days} days" if days >= 0 else f"ended {-days} days ago"
+        wrong.append(f"the certificate {how_long}: `certbot renew`, then `pawnd-admin reload`")
     if refused:
         notes.append(f"browsers refuse the certificate: {refused}")
     return days
@@ -120,7 +121,7 @@ def state_of_proxy():
     else:
         state["certificate_days"] = state_of_certificate(wrong, notes)
     begun = max(map(start_of, proxy.workers(master)), default=0)
-    for path in (proxy.BOOKS_MAP, proxy.KEYS_MAP, proxy.STORES_CONF):
-        if os.path.exists(path) and os.path.getmtime(path) > begun:
+    for path in proxy.TAKEN_UP:
+        if proxy.changed_at(path) > begun:
             wrong.append(f"nginx has not taken up {path}, which was changed since: `pawnd-admin reload`")
     return state, wrong, notes

@@ -27,6 +27,11 @@ def begun_notes():
                 yield it.removesuffix(".json"), read_note(os.path.join(FOLDER, it))
 
 
+def begun_with(store):
+    """The command that works on this store, or makes it, and has not ended."""
+    return next((it["command"] for _, it in begun_notes() if store in it.get("stores", ())), None)
+
+
 def stop_if_another_began(path, command):
     if os.path.exists(path) and read_note(path)["command"] != command:
         raise Stop(

@@ -5,8 +5,10 @@ import uuid
 
 import asking
 import proxy
+import replicas
 import services
 from begun import begun_file, begun_folder
+from copies import removed_books
 from files import read_note, replace_whole, write_note
 from locks import alone, alone_with, alone_with_settings
 from reading import contents_of
@@ -60,6 +62,10 @@ def stop_if_taken(book, where):
         raise Stop(f"book {book} is in the store {there[0]} already. Choose another number")
     if line not in (None, where):
         raise Stop(f"book {book} has a line in {proxy.BOOKS_MAP} for the store {line}. Choose another number")
+    removed = [it.folder for it in removed_books() if book in it.books]
+    if removed or book in proxy.exchanges():
+        raise Stop(f"there was a book {book}, which may come back: {removed[-1] if removed else proxy.KEYS_MAP} is of it. "
+                   "Choose another number")
 
 
 def is_made(book, where, made, key_to):
@@ -84,6 +90,7 @@ def make_book(number, where, name, capacity, key_to):
     if store_name(where) not in store_names():
         raise Stop(f"there is no store {where}. Make it first: `pawnd-admin store {where}`")
     store, path = Store(where), begun_file(str(book))
+    replicas.stop_if_elsewhere(store, "book")
     words = "book", book, "--store", where, "--name", name, "--capacity", capacity, "--key-to", key_to
     with alone_with(where):
         if not os.path.exists(path) and is_made(book, where, made, key_to):
@@ -96,20 +103,9 @@ def make_book(number, where, name, capacity, key_to):
         if turned or was_there:
             proxy.reload_nginx()
         services.post(store, f"/books/{book}", services.operators_key(), made, f'{{"book":{book}}}')
-        forget_exchange(book)
         hand_over(made["key"], f"the key of book {book}", key_to)
         os.unlink(path)
     say(f"book {book} ({name}) is in the store {where}")
-
-
-def forget_exchange(book):
-    """An earlier book of this number had another key, which may have leaked. The new book has its own key alone."""
-    with alone_with_settings():
-        wanted = proxy.exchanges()
-        if not wanted.pop(book, None):
-            return
-        proxy.write_exchanges(wanted)
-    proxy.reload_nginx()
 
 
 # ---- a key that has leaked

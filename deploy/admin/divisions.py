@@ -72,6 +72,7 @@ class Split:
         self.store, self.new, self.books = the_store(name), store_name(new), set(map(book_number, books))
         self.command = f"split {name} {new} {' '.join(map(str, sorted(self.books)))}"
         self.path = begun_file(f"split-{name}")
+        replicas.stop_if_elsewhere(self.store, "split")
         if new == name:
             raise Stop("the new store has to have another name than the old one")
 
@@ -111,7 +112,7 @@ class Split:
                 put_copy(name, rest)
 
     def turn_to(self, part):
-        write_note(self.path, {"command": self.command, "stores": [self.store.name]})
+        write_note(self.path, {"command": self.command, "stores": [self.store.name, self.new]})
         make_settings(self.new)
         proxy.write_stores()
         proxy.turn(self.books, self.new)
@@ -156,6 +157,9 @@ def restore_book(number, said, new):
 def copy_with(book, said, new):
     """The copy that the operator names. A time may be that of a copy of a store which had the book before."""
     name = proxy.store_of(book, new)
+    if said == "newest" and name in store_names() and not Store(name).is_here:
+        raise Stop(f"the store {name} is on another machine, at {Store(name).address}, which has its newest copies: run this "
+                   "command there. Or name a copy that is here by its time. Nothing was changed")
     if COPY_NAME.fullmatch(said) and not os.path.isdir(os.path.join(COPIES, name, said)):
         others = [os.path.join(COPIES, it, said) for it in stores_with_copies()]
         found = [it for it in others if os.path.isdir(it) and book in Copy(it).books]
@@ -224,7 +228,7 @@ def remove_book(number):
     the one that answers last; then its line goes. If the line went first, older rows in `main` would answer."""
     book = book_number(number)
     path = begun_file(f"remove-{book}")
-    the_store(proxy.store_of(book))
+    replicas.stop_if_elsewhere(the_store(proxy.store_of(book)), "remove-book")
     locked = stores_of_removal(book, path)
     with alone_with(*locked, REMOVED):
         if stores_of_removal(book, path) <= locked:

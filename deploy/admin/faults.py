@@ -5,7 +5,7 @@ import os
 
 import copies
 import proxy
-from begun import begun_file, begun_notes
+from begun import begun_file, begun_notes, begun_with
 from files import free_bytes, size_of_store
 from locks import alone_if_free
 from settings import COPIES, MAIN, STORES, conf_of, store_file, store_names
@@ -28,7 +28,7 @@ def faults_of_books(lines, found):
                          f"`pawnd-admin reload`. If it was here, `pawnd-admin restore {name} newest` puts it back. Else mend "
                          f"{proxy.BOOKS_MAP}")
         elif found.get(name) is not None and book not in found[name]:
-            wrong.append(f"book {book} has a line for the store {name}, and is not there: {missing_book(book, found)}")
+            wrong.append(f"book {book} has a line for the store {name}, and is not there: {missing_book(book, name, found)}")
     for name, books in sorted(found.items()):
         for book in sorted(books or ()):
             place = lines.get(book, proxy.store_without_line(name))
@@ -45,14 +45,13 @@ def faults_of_books(lines, found):
     return wrong, notes
 
 
-def missing_book(book, found):
+def missing_book(book, name, found):
     """What to do about a line without a book."""
-    if os.path.exists(begun_file(f"remove-{book}")):
-        return f"a command did not end: run it again, `pawnd-admin remove-book {book}`"
+    if command := begun_with(name):
+        return f"a command did not end: run it again, `pawnd-admin {command}`"
     others = [it for it, books in found.items() if books and book in books]
     if others:
-        return (f"{' and '.join(others)} has rows of it. If a command was interrupted, run it again. Else "
-                f"`pawnd-admin restore-book {book} COPY NEW`. If the line were removed, rows in main would answer, "
+        return (f"{' and '.join(others)} has rows of it. `pawnd-admin restore-book {book} COPY NEW`. If the line were removed, rows in main would answer, "
                 "however old they are")
     return "`pawnd-admin restore-book` if a copy has it. If it was never made, remove its line"
 

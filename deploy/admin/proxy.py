@@ -15,6 +15,7 @@ from settings import MAIN, SETTINGS, SYSTEM, Stop, Store, store_names, warn
 BOOKS_MAP = os.path.join(SETTINGS, "books.map")
 KEYS_MAP = os.path.join(SETTINGS, "keys.map")
 STORES_CONF = os.path.join(SETTINGS, "stores.conf")
+TAKEN_UP = BOOKS_MAP, KEYS_MAP, STORES_CONF
 NGINX_PID = os.environ.get("NGINX_PID", "/run/nginx.pid")
 # worker_shutdown_timeout of the proxy is 60 s: no worker of before a reload lives longer.
 RELOAD_PATIENCE = 70
@@ -139,6 +140,15 @@ def nginx_master():
         return None
 
 
+def changed_at(path):
+    """When a file got what it holds now. One that came from another machine may have kept its older time."""
+    try:
+        found = os.stat(path)
+    except FileNotFoundError:
+        return 0
+    return max(found.st_mtime, found.st_ctime)
+
+
 def workers(master):
     with contextlib.suppress(OSError), open(f"/proc/{master}/task/{master}/children") as file:
         return set(map(int, file.read().split()))
@@ -160,6 +170,10 @@ def reload_nginx():
         warn("nginx does not run here. It reads its files when it is started: `systemctl start nginx`")
         return
     before = workers(master)
+    for path in TAKEN_UP:
+        # A clock that was ahead has dated it in the future: until then it would count as changed since.
+        if changed_at(path) > time.time():
+            os.utime(path)
     run("systemctl", "reload", "nginx", fails="nginx was not reloaded, so it goes on by the old files. Run "
         "`pawnd-admin reload` when this is mended")
     await_new_workers(master, before)

@@ -3,7 +3,7 @@ import os
 import subprocess
 
 import services
-from locks import is_open
+from settings import Stop
 
 COPIES = 3
 
@@ -25,9 +25,22 @@ def unit_of(store):
     return f"pawnd-replicated@{store.name}.service"
 
 
+def is_away(store):
+    """Whether the store's folder is not mounted, so that nothing is known of the store here."""
+    return bool(store.volume) and not os.path.exists(store.path) and not os.path.ismount(os.path.dirname(store.path))
+
+
 def is_elsewhere(store):
-    """Whether another machine serves the store, so that it is not to be served here."""
-    return bool(store.volume) and not services.is_unit("is-active", services.unit_of(store.name)) and is_open(store.path)
+    """Whether another machine serves the store, so that it is not to be served here. None serves one without a file."""
+    return os.path.exists(store.path) and services.is_served_elsewhere(store)
+
+
+def stop_if_elsewhere(store, verb):
+    if is_away(store):
+        raise Stop(f"the folder of the store {store.name} is not mounted here: `journalctl -u {unit_of(store)}` says why. "
+                   "Nothing was changed")
+    if is_elsewhere(store):
+        raise Stop(f"another machine serves the store {store.name}: run `pawnd-admin {verb}` there. Nothing was changed")
 
 
 def faults(store):

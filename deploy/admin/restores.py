@@ -3,6 +3,7 @@ import contextlib
 import os
 
 import proxy
+import replicas
 import services
 from copies import UNSOUND, Copy, books_aside, copy_aside, files_aside, named, new_time, removed_books, the_copy
 from files import files_of_store, is_plain, size_of_store
@@ -16,31 +17,45 @@ from tables import NotSound, in_words
 def restore(name, said):
     """The verb `restore`. What the store had becomes a copy itself, so that nothing is lost if the wrong copy was
     named. What it gets is a newer copy: `newest` never means what the store had before."""
-    copy = the_copy(store_name(name), said)
+    copy_of_store(store_name(name), said)
+    with alone_with(name):
+        # A copy may have been made while this command waited.
+        copy = copy_of_store(name, said)
+        with room_to_replace(name, max(map(size_of_store, (copy.path, store_file(name))))):
+            made = put_back(name, copy)
+    say(f"the store {name} holds {in_words(copy.counts)} again, as at {copy.made}, and is served. A copy of it is in "
+        f"{made.folder}")
+
+
+def copy_of_store(name, said):
+    copy = the_copy(name, said)
     if copy.store != name:
         raise Stop(
             f"{copy.folder} is a copy of the store {copy.store}: `pawnd-admin restore {copy.store} {copy.folder}` puts "
             f"it back there, and `pawnd-admin restore-book` takes one book out of it"
         )
-    with alone_with(name), room_to_replace(name, max(map(size_of_store, (copy.path, store_file(name))))):
-        if name in store_names():
-            the_store(name)
-        with books_aside(name, copy, copy.books.keys()) as new:
-            store = make_settings(name)
-            begun = new_time(name)
-            later = new_time(name, later_than=begun)
-            with services.stopped(store), contextlib.ExitStack() as until_replaced:
-                old, mark = what_it_has(store, until_replaced)
-                made = Copy(named(new, later))
-                if old:
-                    say(f"{named(old, mark + begun)}: what the store {name} had. Remove it when nobody misses anything")
-                put_in_place(name, made.path, not mark)
-        enable(name)
-        proxy.write_stores()
-        proxy.reload_nginx()
-        tell_what_differs(store, copy)
-    say(f"the store {name} holds {in_words(copy.counts)} again, as at {copy.made}, and is served. A copy of it is in "
-        f"{made.folder}")
+    if name in store_names():
+        replicas.stop_if_elsewhere(the_store(name), "restore")
+    return copy
+
+
+def put_back(name, copy):
+    """The newer copy that the store gets."""
+    with books_aside(name, copy, copy.books.keys()) as new:
+        store = make_settings(name)
+        begun = new_time(name)
+        later = new_time(name, later_than=begun)
+        with services.stopped(store), contextlib.ExitStack() as until_replaced:
+            old, mark = what_it_has(store, until_replaced)
+            made = Copy(named(new, later))
+            if old:
+                say(f"{named(old, mark + begun)}: what the store {name} had. Remove it when nobody misses anything")
+            put_in_place(name, made.path, not mark)
+    enable(name)
+    proxy.write_stores()
+    proxy.reload_nginx()
+    tell_what_differs(store, copy)
+    return made
 
 
 def what_it_has(store, stack):
@@ -65,7 +80,8 @@ def tell_what_differs(store, copy):
         if place != store.name:
             warn(f"the copy has rows of book {book}, which is in the store {place}: nobody reaches them here")
     for it in removed_books():
-        for book in sorted(it.books.keys() & copy.books.keys()):
+        # In a copy that was made later, the book had come back already.
+        for book in sorted(it.books.keys() & copy.books.keys()) if it.made >= copy.made else ():
             warn(f"book {book} was taken out at {it.made}, and is here again: `pawnd-admin remove-book {book}`")
     for book, place in sorted(lines.items()):
         if place == store.name and book not in copy.books:

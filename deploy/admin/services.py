@@ -38,13 +38,18 @@ def start(store):
     run("systemctl", "start", unit_of(store.name), fails=f"the store {store.name} was not started. Look at "
         f"`journalctl -u {unit_of(store.name)}`, then `systemctl start {unit_of(store.name)}`")
     end = time.monotonic() + START_PATIENCE
-    while not answers(store.address) and not (store.volume and is_open(store.path)):
+    while not answers(store.address) and not is_served_elsewhere(store):
         if time.monotonic() > end:
             raise Stop(
                 f"the store {store.name} does not answer on {store.address} after {START_PATIENCE} seconds: look at "
                 f"`journalctl -u {unit_of(store.name)}`"
             )
         time.sleep(0.05)
+
+
+def is_served_elsewhere(store):
+    """Whether another machine has taken a store in a replicated folder."""
+    return bool(store.volume) and not is_unit("is-active", unit_of(store.name)) and is_open(store.path)
 
 
 @contextlib.contextmanager
@@ -55,8 +60,9 @@ def stopped(store):
         stop(store)
         with held(store.path):
             yield
-    except BaseException:
-        warn(f"the store {store.name} is started again")
+    except BaseException as why:
+        # The start may take minutes.
+        warn(f"{why}. The store {store.name} is started again")
         with contextlib.suppress(Stop):
             start(store)
         raise

@@ -11,6 +11,7 @@ import proxy
 import replicas
 import services
 from asking import PATIENCE, answers_through_proxy, state_of_proxy
+from begun import begun_with
 from faults import faults_of_books, faults_of_disks, pending, removed_books_that_are_back, unsound_states
 from files import files_of_store, owner_of
 from locks import alone_if_free
@@ -93,8 +94,13 @@ def state_of_units(store, wrong):
 
 def state_of_file(store, state, wrong):
     """What the store holds, and what is wrong with that."""
+    if replicas.is_away(store):
+        wrong.append(f"its folder is not mounted here: `journalctl -u {replicas.unit_of(store)}` says why")
+        return {}
     if not os.path.exists(store.path):
-        wrong.append(f"its file {store.path} is missing. Is its disk there? `pawnd-admin restore {store.name} newest`")
+        wrong.append(f"its file {store.path} is missing. Is its disk there? `pawnd-admin restore {store.name} newest`"
+                     if state.get("copy") else f"its file {store.path} is missing, and there is no copy of it. Is its disk "
+                     f"there? If it never was, run the command again that makes it: `pawnd-admin store {store.name}`")
         return {}
     folder, (user, _) = os.path.dirname(store.path), owner_of(store.name)
     if not store.volume and any(os.stat(it).st_uid != user for it in (folder, *files_of_store(store.path))):
@@ -183,6 +189,8 @@ def state_of(name, lines):
     with told(wrong):
         store = Store(name)
         state["address"], state["here"] = store.address, store.is_here
+        if not os.path.exists(store.path) and (command := begun_with(name)):
+            return state, [f"store {name}: is not made yet, since a command did not end: run it again, `pawnd-admin {command}`"], [], {}
         with told(wrong):
             how_it_answers(store, lines, state, wrong, notes)
         if not store.is_here:

@@ -70,7 +70,7 @@ def row(*columns):
     return ",".join([*map(str, columns), *[""] * (15 - len(columns))]) + "\n"
 
 
-def rows_of(it):
+def lines_of_pledge(it):
     """The rows of a pledge."""
     n = it["number"]
     closed_on = day(it["closed_on"]) if it["closed_on"] else ""
@@ -94,7 +94,7 @@ def text(pledges, terms=TERMS):
         COLUMNS + "\n", row("B", 2, len(terms), len(pledges)),
         *(row("T", version, *it) for version, it in enumerate(terms, 1)),
     ]
-    return "".join([*lines, *(line for it in pledges.values() for line in rows_of(it))])
+    return "".join([*lines, *(line for it in pledges.values() for line in lines_of_pledge(it))])
 
 
 def bent(number, *bends):
@@ -236,7 +236,7 @@ def importing(number, rows):
     return request("POST", f"/books/{number}/import", f"Pledge-Key: {BROKER}", f"Import-Key: {IMPORT}", body=rows)
 
 
-def told(database, stream, wanted):
+def expect_replies(database, stream, wanted):
     ran = subprocess.run(
         [PROGRAM, "answer", database, "2024-12-31", SEED, OPERATOR], input=b"".join(stream), capture_output=True,
         timeout=120,
@@ -263,7 +263,7 @@ def each_border(database):
     for step, rows, (code, name, line) in others():
         stream.append(importing(1, rows))
         wanted.append((step, refusal(code, name, rows[:rows.index(line) + 1].count("\n") + 1)))
-    told(database, stream, wanted)
+    expect_replies(database, stream, wanted)
 
 
 def in_memory():
@@ -282,11 +282,11 @@ def over_a_file():
 
 
 def more_bookings_than_a_window_confirms():
-    """An import may bring them, and then no more are confirmed."""
+    """An import may bring more than the capacity allows, and the day's sheet shows them."""
     two = bent(3, still_open("8-2"), booking("8-10", 3, "confirmed"))
     sheet = request("GET", "/books/7/days/2024-08-10", f"Pledge-Key: {BROKER}")
     shown = "Day sheet 2024-08-10\nWindow 3 confirmed 2 of 1\nPledge 1\nPledge 3\nAsked 0\nEnds 0\n"
-    told(
+    expect_replies(
         ":memory:", [making(7), importing(7, two), sheet],
         [("a book", '{"book":7}'), ("its rows", '{"imported":3}'), ("a sheet", shown)],
     )

@@ -37,7 +37,7 @@ def first_secret(number):
     return row("S", number, 1, TAKEN, "opening", secret(number))
 
 
-def told(store, asked):
+def replies_to(store, asked):
     """The replies' bodies of a run over a store, and all its bytes."""
     ran = subprocess.run(
         [PROGRAM, "answer", store, ASKED, SEED, OPERATOR], input=b"".join(asked), stdout=subprocess.PIPE, timeout=120,
@@ -56,8 +56,8 @@ def told(store, asked):
 def in_both(asked):
     """The replies' bodies, which are the same in memory and in a file."""
     with tempfile.TemporaryDirectory() as room:
-        bodies, whole = told(":memory:", asked)
-        expect("a file answers the same", told(os.path.join(room, "books.db"), asked)[1], whole)
+        bodies, whole = replies_to(":memory:", asked)
+        expect("a file answers the same", replies_to(os.path.join(room, "books.db"), asked)[1], whole)
     return bodies
 
 

@@ -89,7 +89,7 @@ def places(document, section, path):
         yield os.path.join("crates", crate, "src", path)
 
 
-def stands(document, section, path):
+def is_there(document, section, path):
     return any(
         glob.glob(os.path.join(TOP, place) + end)
         for place in places(document, section, path) for end in ("", ".antt", ".rt")
@@ -102,7 +102,7 @@ def each_path_is_there():
         for section in sections(read(document)):
             paths = named(section)
             count += len(paths)
-            missing = sorted(path for path in paths if not stands(document, section, path))
+            missing = sorted(path for path in paths if not is_there(document, section, path))
             heading = section.splitlines()[0] if section else ""
             expect(f"what {document} names below {heading!r} and is not there", missing, [])
     print(f"        {count} paths in {len(DOCUMENTS)} documents", flush=True)

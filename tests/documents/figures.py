@@ -371,7 +371,7 @@ def each_mention_of_small_credits_is_compared():
             expect(f"that {path} says the figure of small credits where this script compares it: {around!r}", inside, True)
 
 
-# Where each mention of a limit is compared, or is known to be another number; and what stands around both.
+# The files in which each mention of a limit is compared, or is known to be another number.
 READ_WHOLE = (RULES, "docs/CLIENTS.md", "docs/GLOSSARY.md", "docs/PROMISES.md", PROVED, API, "web/shared/refusals.js")
 
 
@@ -467,7 +467,7 @@ def each_limit_is_checked_on_a_page_or_not_on_purpose():
 
 def each_limit_has_its_row():
     """No limit of these crates is left out, but for those that no request meets."""
-    unmet = {"FIRST_DAY", "LAST_STAMP_DAY", "FINAL_DAY", "PENNY", "MOST_MILLIONTHS", "GRACE_DAYS", "MOST_ROWS"}
+    unmet = {"FIRST_DAY", "LAST_REQUEST_DAY", "FINAL_DAY", "PENNY", "MOST_MILLIONTHS", "GRACE_DAYS", "MOST_ROWS"}
     for crate in sorted({crate for crate, _ in SAID}):
         names = set(re.findall(r"const ([A-Z_]+):", read(f"crates/{crate}/src/limits.rt")))
         expect(f"limits of {crate} without a row", names - unmet - {name for it, name in SAID if it == crate}, set())
@@ -505,7 +505,7 @@ def each_limit_that_is_new_has_an_edit():
         crate = path.split("/")[1]
         edits = "".join(read(it) for it in glob.glob(f"crates/{crate}/must-fail/*.edit", root_dir=TOP))
         for name in re.findall(r"const ([A-Z_]+): ", read(path)):
-            is_older = name in OF_RELEASE or name in ("FIRST_DAY", "LAST_STAMP_DAY", "FINAL_DAY", "PENNY", "MOST_MILLIONTHS", "MOST_ROWS")
+            is_older = name in OF_RELEASE or name in ("FIRST_DAY", "LAST_REQUEST_DAY", "FINAL_DAY", "PENNY", "MOST_MILLIONTHS", "MOST_ROWS")
             expect(f"that an edit of crates/{crate}/must-fail changes {name}", is_older or name in edits, True)
 
 

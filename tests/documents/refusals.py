@@ -179,6 +179,15 @@ def each_list_of_the_definitions_is_in_the_order_of_the_rules():
     expect("how many lists there are", len(listed) > 15, True)
 
 
+def each_refusal_is_in_a_definition():
+    """A definition of the rules says when it is answered, beside those that have its number, its name or an example."""
+    told = r"(?m)^(?:pub )?use .*$|^\w+_(?:code|name) .*$|^ *--.*$"
+    paths = [it for it in glob.glob("crates/pawn_*/specs/*.antt", root_dir=TOP) if "/Worked" not in it]
+    definitions = "".join(re.sub(told, "", read(path)) for path in paths)
+    missing = [(code, name) for code, (name,) in of_the_crates().items() if not re.search(rf"\b{name}\b", definitions)]
+    expect("refusals that the crates answer and that no definition of the rules answers", missing, [])
+
+
 def each_refusal_of_a_pledge_has_a_worked_example():
     """A refusal of terms, of a debt or of a pledge, in an example of a crate that can answer it."""
     crates = {code: name for code, (name,) in of_the_crates().items() if code < 400}
@@ -357,7 +366,7 @@ def these_checks_can_fail():
 
 main(
     each_refusal_is_in_every_list, each_operation_has_the_refusals_of_the_rules_in_order,
-    each_list_of_the_definitions_is_in_the_order_of_the_rules,
+    each_list_of_the_definitions_is_in_the_order_of_the_rules, each_refusal_is_in_a_definition,
     each_refusal_of_a_pledge_has_a_worked_example, each_refusal_that_is_new_has_an_edit, each_status_is_that_of_the_rules,
     each_refusal_has_the_members_of_the_rules, the_forms_of_a_key_are_those_of_the_rules, each_new_refusal_is_in_the_changelog,
     each_refusal_has_a_field_of_a_form_or_none_on_purpose,

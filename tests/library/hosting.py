@@ -19,6 +19,7 @@ from tests.library.book_texts import COLUMNS
 from tests.library.checks import Failed, expect
 from tests.library.dates import today
 from tests.library.keys import BROKER, OPERATOR
+from tests.library.listening import Listener, read_request
 from tests.library.packages import PATHS
 from tests.library.paths import PROGRAM, TOP
 from tests.library.requests import request
@@ -158,44 +159,24 @@ class Store:
         return text
 
 
-class Recorder:
+class Recorder(Listener):
     """In a store's place: it keeps what it was sent, and answers as `way` says: shortly, at length, not at all, or by
     closing the connection."""
 
     def __init__(self, *_):
+        super().__init__(steady_port())
         self.seen, self.way, self.rid = [], "answer", False
 
     def start(self, wait=True):
-        self.port = steady_port()
-        return self.start_again()
-
-    def start_again(self):
-        self.listener = socket.create_server(("127.0.0.1", self.port))
-        threading.Thread(target=self.accept, daemon=True).start()
-        return self
+        return self.listen()
 
     def kill(self):
-        with contextlib.suppress(OSError):
-            self.listener.shutdown(socket.SHUT_RDWR)
-        self.listener.close()
-
-    def accept(self):
-        with contextlib.suppress(OSError):
-            while True:
-                threading.Thread(target=self.carry, args=(self.listener.accept()[0],), daemon=True).start()
+        self.stop_listening()
 
     def carry(self, peer):
         with peer, contextlib.suppress(OSError, ValueError):
             peer.settimeout(WAIT)
-            sent = b""
-            while b"\r\n\r\n" not in sent:
-                sent += peer.recv(65536)
-            head, body = sent.split(b"\r\n\r\n", 1)
-            length = next(
-                (int(line[15:]) for line in head.split(b"\r\n") if line.lower().startswith(b"content-length:")), 0
-            )
-            while len(body) < length:
-                body += peer.recv(65536)
+            head, body = read_request(peer)
             # A test that waits for a request to be seen may then change the way: this request keeps the one before.
             way = self.way
             self.seen.append((head.decode("latin-1"), body))

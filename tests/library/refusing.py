@@ -138,10 +138,11 @@ def texts_of(path, books=(1, 8)):
     return texts.said
 
 
-def judge(story, ran, path):
-    """Why a run with something refused is not as the rules have it, if it is not: a front of the replies for some
-    marks, and over a file the content for those marks, where that of the last request that was refused may be
-    either."""
+def breach(story, ran, path):
+    """How a run in which a call was refused breaks the rules; None if it does not. Its replies are the first ones of a run
+    in which no call is refused and the marked requests are left out, apart from the marked replies themselves. Over a
+    file, the content is that of such a run, or of one in which a single request that was marked or not answered is done.
+    """
     replies, rest = ran.replies()
     marks = tuple(place for place, reply in enumerate(replies) if is_marked(reply))
     unanswered = tuple(range(len(replies), len(story.requests)))
@@ -183,7 +184,7 @@ def each_refused(story, kind, calls, ends, step=1, first=1, **how):
         if (ran.status, ran.complained) not in ((0, ""), *ends):
             why = f"it ended with {ran.status}, {ran.complained!r}"
         else:
-            why = judge(story, ran, path)
+            why = breach(story, ran, path)
         if path != ":memory:":
             shutil.rmtree(os.path.dirname(path))
         return why and f"{story.name}, {kind}, call {at} of {whole} ({calls}, {how}): {why}"

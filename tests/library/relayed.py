@@ -6,29 +6,16 @@ import threading
 import time
 
 from tests.library.checks import expect
+from tests.library.listening import Listener
 from tests.library.sessions import PATIENCE
 
 
-class Relay:
+class Relay(Listener):
     """A port that leads to another. `waits` has the seconds that each request waited."""
 
     def __init__(self, port):
+        super().__init__()
         self.to, self.waits = port, []
-
-    def __enter__(self):
-        self.listener = socket.create_server(("127.0.0.1", 0))
-        self.port = self.listener.getsockname()[1]
-        threading.Thread(target=self.accept, daemon=True).start()
-        return self
-
-    def __exit__(self, *_):
-        self.listener.shutdown(socket.SHUT_RDWR)
-        self.listener.close()
-
-    def accept(self):
-        with contextlib.suppress(OSError):
-            while True:
-                threading.Thread(target=self.carry, args=(self.listener.accept()[0],), daemon=True).start()
 
     def carry(self, client):
         with client:

@@ -6,13 +6,16 @@ import shlex
 import shutil
 import socket
 import stat
+import subprocess
 import threading
 import uuid
 
-from tests.library.checks import expect
+from tests.library.checks import expect, not_tried
 from tests.library.operator.admin_machine import PACKAGES, Caller, Machine, await_load, load
 from tests.library.operator.admin_places import books_in
 from tests.library.packages import main_with
+from tests.library.program import Server
+from tests.library.waiting import wait_for
 
 REFUSED = 404, {"code": 401, "name": "NoSuchBook"}
 
@@ -210,13 +213,17 @@ def a_broker_who_leaves():
         expect("the book when it is back", callers[7].export(), before)
         it.admin("remove-book", 7), it.admin("restore-book", 7, folder, "west")
         expect("the book when it is back in a store without books", callers[7].export(), before)
+        it.admin("copy", "west")
+        said = it.admin("restore", "west", "newest")
+        expect(f"the broker is back, and is not to be removed: {said}", "remove-book" in said, False)
+        said = it.admin("restore", "main", min(os.listdir(os.path.join(it.copies, "main"))))
+        expect(f"the broker is back in an older copy: {said}", "remove-book 7" in said, True)
         it.admin("remove-book", 9, wanted=1)
         expect("what commands left", it.leftovers(), [])
 
 
 def a_leaked_key_of_a_book_that_comes_back():
-    """The key that leaked before the book left is refused when the book is back. A new book of this number has its own
-    key alone."""
+    """The key that leaked before the book left is refused when the book is back, since no other book gets its number."""
     with Machine() as it:
         caller = it.book(7, pledges=1)
         leaked = caller.key
@@ -229,11 +236,14 @@ def a_leaked_key_of_a_book_that_comes_back():
         expect("the leaked key", caller.request("GET", "/pledges/1", key=leaked), REFUSED)
         expect("the broker's key", caller.request("GET", "/pledges/1")[0], 200)
         it.admin("remove-book", 7)
-        again = it.book(7, pledges=1)
-        expect("the new book", again.request("GET", "/pledges/1")[0], 200)
-        for key in (leaked, caller.key):
-            expect("the keys of the old one", again.request("GET", "/pledges/1", key=key), REFUSED)
-        expect("exchanged keys", it.status()["exchanged_keys"], 0)
+        for kept in ("its last state", "its exchange alone"):
+            said = it.admin("book", 7, "--name", "Another", "--key-to", it.place("another"), wanted=1)
+            expect(f"another book 7 as long as there is {kept}: {said}", "Choose another number" in said, True)
+            shutil.move(os.path.join(it.copies, "removed"), it.place("aside")) if kept == "its last state" else None
+        it.admin("restore-book", 7, os.path.join(it.place("aside"), os.path.basename(folder)), "north")
+        expect("the leaked key", caller.request("GET", "/pledges/1", key=leaked), REFUSED)
+        expect("the broker's key", caller.request("GET", "/pledges/1")[0], 200)
+        expect("exchanged keys", it.status()["exchanged_keys"], 1)
 
 
 def spellings(key):
@@ -273,6 +283,52 @@ def a_leaked_key():
         expect("exchanged keys", it.status()["exchanged_keys"], 1)
 
 
+def a_replicated_store_that_another_machine_serves():
+    """The verbs that need the store are refused before they begin anything."""
+    with Machine() as it:
+        it.book(7, pledges=1)
+        it.admin("copy", "main")
+        it.systemctl("stop", "pawnd@main")
+        with open(it.place("etc/stores/main.conf"), "a") as file:
+            file.write("VOLUME=books\n")
+        with Server(it.path("main")):
+            for words in (("book", 9, "--name", "New Street", "--key-to", it.place("key")), ("split", "main", "west", 7),
+                          ("restore", "main", "newest"), ("remove-book", 7)):
+                said = it.admin(*words, wanted=1)
+                expect(f"{words}: {said}", f"run `pawnd-admin {words[0]}` there. Nothing was changed" in said, True)
+                expect(f"only that: {said}", said.count("pawnd-admin"), 2)
+            expect("what was begun", os.listdir(it.place("etc/pending")), [])
+
+
+def a_replicated_store_without_its_file():
+    """Where its folder is not mounted no copy is put into it, and the status advises none. Where it is, the copy is put
+    back."""
+    if os.geteuid():
+        not_tried("a folder that is mounted", "this is not root")
+        return
+    with Machine() as it:
+        caller = it.book(7, pledges=1)
+        it.admin("copy", "main")
+        with open(it.place("etc/stores/main.conf"), "a") as file:
+            file.write("VOLUME=books\n")
+        it.systemctl("stop", "pawnd@main")
+        for name in os.listdir(os.path.join(it.stores, "main")):
+            os.unlink(os.path.join(it.stores, "main", name))
+        said = it.admin("restore", "main", "newest", wanted=1)
+        expect(f"what it says: {said}", "is not mounted here" in said and "Nothing was changed" in said, True)
+        wrong = "\n".join(it.status()["wrong"])
+        expect(f"what is wrong: {wrong}", ("is not mounted here" in wrong, "pawnd-admin restore" in wrong), (True, False))
+        folder = os.path.join(it.stores, "main")
+        subprocess.run(["mount", "-t", "tmpfs", "-o", "size=32m", "none", folder], check=True)
+        try:
+            it.admin("restore", "main", "newest")
+            wait_for(lambda: caller.request("GET", "/pledges/1")[0] == 200, "the store", 100)
+            caller.look_up()
+        finally:
+            it.systemctl("stop", "pawnd@main")
+            subprocess.run(["umount", "-l", folder], check=True)
+
+
 def a_leaked_key_of_a_store_elsewhere():
     """The file of --inside-file is compared with what the store says, before anything changes; after one exchange it is
     not needed any more."""
@@ -309,5 +365,6 @@ if __name__ == "__main__":
     main_with(
         PACKAGES, a_store_and_books, the_first_book_of_a_store, a_book_that_is_made_again, a_reply_that_is_cut_off,
         a_store_that_refuses, one_book_out_of_a_copy, a_broker_who_leaves, a_leaked_key,
+        a_replicated_store_that_another_machine_serves, a_replicated_store_without_its_file,
         a_leaked_key_of_a_store_elsewhere, a_leaked_key_of_a_book_that_comes_back,
     )

@@ -13,7 +13,7 @@ from tests.library.checks import Failed, expect
 from tests.library.filled_stores import fill_store
 from tests.library.keys import BROKER
 from tests.library.operator.admin_machine import PACKAGES, Caller, Machine, await_load, load
-from tests.library.operator.admin_places import rows_of
+from tests.library.operator.admin_places import row_counts
 from tests.library.packages import main_with
 from tests.library.paths import PROGRAM, TOP
 
@@ -40,7 +40,7 @@ def copies_under_load():
                 before = {caller.book: sum(caller.acknowledged.values()) for caller in callers}
                 it.admin("copy", "main")
                 after = {caller.book: sum(caller.sent.values()) for caller in callers}
-                found = {book: rows - 2 for book, rows in rows_of(os.path.join(it.newest("main"), "books.db")).items()}
+                found = {book: rows - 2 for book, rows in row_counts(os.path.join(it.newest("main"), "books.db")).items()}
                 expect(f"{before} {found} {after}",
                        all(before[book] <= found[book] <= after[book] for book in found), True)
         for caller in callers:
@@ -67,7 +67,7 @@ def a_large_store_that_is_written_without_a_pause():
                 await_load(caller, more=20)
                 before = caller.acknowledged[1]
                 it.admin("copy", "main")
-                found = rows_of(os.path.join(it.newest("main"), "books.db"))[1] - 150 * 4
+                found = row_counts(os.path.join(it.newest("main"), "books.db"))[1] - 150 * 4
                 expect(f"{before} {found + 3} {caller.sent[1]}", before <= found + 3 <= caller.sent[1], True)
 
 
@@ -83,7 +83,7 @@ def a_log_that_is_begun_anew():
                 said, is_right = "", False
                 with contextlib.suppress(Failed):
                     said = it.admin_with("copy", "main", PLANT=plant)
-                    found = rows_of(os.path.join(it.newest("main"), "books.db"))
+                    found = row_counts(os.path.join(it.newest("main"), "books.db"))
                     after = {caller.book: sum(caller.sent.values()) for caller in callers}
                     is_right = all(before[book] <= found.get(book, 0) - 2 <= after[book] for book in before)
                 expect(f"a right copy, {plant}: {said}", is_right, plant == "the_log_is_begun_anew")
@@ -164,7 +164,7 @@ def what_stood_there_becomes_a_copy():
         before = caller.export()
         it.admin("restore", "main", "newest")
         expect("an older state", caller.entries(), 0)
-        replaced = [name for name in copies(it) if rows_of(it.place("backups/main", name, "books.db")) == {7: 5}]
+        replaced = [name for name in copies(it) if row_counts(it.place("backups/main", name, "books.db")) == {7: 5}]
         it.admin("restore", "main", replaced[0])
         expect("what it was before", caller.export(), before)
         it.systemctl("stop", "pawnd@main")
@@ -246,7 +246,7 @@ def old_copies_are_removed():
         expect("the last copies, and the last that has book 8", copies(it),
                sorted([*(name for name in copies(it) if name >= days_ago(4.5)), copies(it)[0]]))
         expect("how many", len(copies(it)), 4)
-        expect("the last that has book 8", set(rows_of(it.place("backups/main", copies(it)[0], "books.db"))), {7, 8})
+        expect("the last that has book 8", set(row_counts(it.place("backups/main", copies(it)[0], "books.db"))), {7, 8})
         ahead = days_ago(-3000)
         it.admin("copy", "main")
         redate(it, copies(it)[-1], ahead)

@@ -72,6 +72,26 @@ def a_store_for_the_proxy_of_another_machine():
         expect_all_is_well(it)
 
 
+def a_book_of_a_store_that_was_moved_away():
+    """The copies that are left here are older than the move. None of them is put back as the newest one; a copy that is
+    named by its time or by its folder is."""
+    with Machine() as it:
+        it.store("west")
+        caller = it.book(7, "west", pledges=2)
+        it.admin("copy", "west")
+        caller.repay()
+        with open(it.place("etc/stores/west.conf")) as file:
+            port = file.read().partition("PORT=")[2].strip()
+        it.write("etc/stores/west.conf", f"ADDRESS=127.0.0.1:{port}\n")
+        it.admin("reload")
+        said = it.admin("restore-book", 7, "newest", "back", wanted=1)
+        expect(f"what it says: {said}", "is on another machine" in said and "Nothing was changed" in said, True)
+        expect("the map", it.lines(), {7: "west"})
+        caller.look_up()
+        it.admin("restore-book", 7, os.path.basename(it.newest("west")), "back")
+        expect("the copy that was named", (it.lines(), caller.entries()), ({7: "back"}, 0))
+
+
 def parts_that_are_not_the_whole_are_refused():
     """Faults that are planted in the division of a store: the old store is served again as it was."""
     with Machine() as it:
@@ -232,6 +252,7 @@ if __name__ == "__main__":
         PACKAGES,
         a_store_is_divided_under_load,
         a_store_for_the_proxy_of_another_machine,
+        a_book_of_a_store_that_was_moved_away,
         parts_that_are_not_the_whole_are_refused,
         a_part_without_a_copy_changes_nothing,
         a_division_that_stops_after_the_map_was_turned,

@@ -119,6 +119,12 @@ def the_proxy_and_its_files():
         expect_wrong(it, "nginx has not taken up " + it.place("etc/books.map"))
         it.admin("reload")
         expect_wrong(it)
+        for hours, how in (-1, "came from another machine with its time"), (240, "was written while the clock was ahead"):
+            it.write("etc/books.map", f"# {how}\n")
+            os.utime(it.place("etc/books.map"), (time.time() + 3600 * hours,) * 2)
+            expect_wrong(it, "nginx has not taken up " + it.place("etc/books.map"))
+            it.admin("reload")
+            expect_wrong(it)
         it.make_certificate(days=5)
         it.admin("reload")
         expect_wrong(it, "the certificate is good for 4 days")

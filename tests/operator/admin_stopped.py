@@ -16,7 +16,7 @@ def killed_split():
         for caller in story.callers.values():
             caller.look_up()
 
-    killed(["split", "main", "north", "8", "9"], after)
+    killed(["split", "main", "north", "8", "9"], after, named=("/lib/north'",))
 
 
 def killed_restore():

@@ -1,7 +1,9 @@
 """Verbs of `pawnd-admin` that run at the same time: the same one twice, two on one store, and one store beside another
 that is held up; all while brokers work. Every change that was acknowledged is looked up."""
+import contextlib
 import fcntl
 import os
+import shutil
 import subprocess
 import time
 
@@ -60,6 +62,33 @@ def the_same_verb_twice():
         expect("what commands left", it.leftovers(), [])
 
 
+def a_restore_that_waits_for_a_copy():
+    """The newest copy is the one that is the newest when the wait ends."""
+    with Machine() as it:
+        it.book(7, pledges=1)
+        it.admin("copy", "main")
+        older = it.newest("main")
+        with open_folder(os.path.join(it.copies, "main")) as folder:
+            fcntl.flock(folder, fcntl.LOCK_EX)
+            running = begun(it, "restore", "main", "newest")
+            expect("it waits", "waiting for it" in running.stderr.readline(), True)
+            newer = older
+            while os.path.exists(newer):
+                newer = os.path.join(os.path.dirname(older), time.strftime("%Y%m%dT%H%M%SZ", time.gmtime()))
+            shutil.copytree(older, newer)
+        said = " ".join(running.communicate(timeout=900))
+        expect(f"the copy that was restored: {said}", (running.returncode, f"as at {os.path.basename(newer)}" in said), (0, True))
+
+
+@contextlib.contextmanager
+def open_folder(path):
+    handle = os.open(path, os.O_RDONLY | os.O_DIRECTORY)
+    try:
+        yield handle
+    finally:
+        os.close(handle)
+
+
 def two_verbs_on_one_store():
     """A copy, a split, a restore and a removal at the same time: one after the other, in an order of their own."""
     with Machine() as it:
@@ -110,4 +139,6 @@ def a_store_that_is_held_up():
 
 
 if __name__ == "__main__":
-    main_with(PACKAGES, the_same_verb_twice, two_verbs_on_one_store, a_store_that_is_held_up)
+    main_with(
+        PACKAGES, the_same_verb_twice, a_restore_that_waits_for_a_copy, two_verbs_on_one_store, a_store_that_is_held_up,
+    )

@@ -27,6 +27,7 @@ def the_first_day_and_what_may_happen():
                 a_port_of_its_own,
                 a_store_that_is_not_there,
                 a_file_that_is_no_store,
+                a_store_that_is_open_elsewhere,
                 who_is_told,
                 copies_by_their_unit,
                 another_operators_key,
@@ -139,6 +140,27 @@ def a_file_that_is_no_store(one):
     one.until("journalctl -u pawnd@main -n 20 -o cat --no-pager | grep -q 'fault 50'")
     one.run("systemctl stop pawnd@main; seq 2000 | cmp - /var/lib/pawnd/main/books.db")
     one.run("rm /var/lib/pawnd/main/books.db*; mv /root/good/* /var/lib/pawnd/main/; systemctl start pawnd@main")
+    answers_again(one)
+
+
+def a_store_that_is_open_elsewhere(one):
+    """Another process has it open. The page's commands find out that the store is sound, and the process."""
+    from tests.library.operator.documented import OPERATING, command
+
+    one.run("systemctl stop pawnd@main; install -o pawnd-main -m 400 /etc/pawnd/operator.key /run/key; "
+            "systemd-run -q --unit=other -p User=pawnd-main pawnd serve /var/lib/pawnd/main/books.db 8199 /run/key")
+    one.until("ss -Hltn 'sport = :8199' | grep -q .")
+    one.run("systemctl start pawnd@main || true")
+    one.until("journalctl -u pawnd@main -n 20 -o cat --no-pager | grep -q 'fault 503'")
+    one.run("systemctl stop pawnd@main; sleep 1; pawnd-admin copy main")
+    found = one.run(command(OPERATING, "A store does not start", "ls -l"))
+    expect(f"the process: {found}", f"/proc/{one.state('other', 'MainPID')[0]}/" in found, True)
+    one.run("pawnd-admin restore main newest >/root/said 2>&1 & "
+            "for it in $(seq 100); do if [ $(wc -l </root/said) -ge 1 ]; then break; fi; sleep 0.1; done; "
+            "cp /root/said /root/at-first; systemctl stop other; wait")
+    told = one.run("cat /root/at-first")
+    expect(f"what `restore` says at once: {told}", "is still open in a program" in told, True)
+    one.run("systemctl start pawnd@main")
     answers_again(one)
 
 

@@ -31,7 +31,8 @@ def bad_days():
 def copies_every_ten_minutes(one):
     one.run(command(DEPLOYING, "Copies", "often.conf"))
     due = one.run("systemctl show -P TimersCalendar pawnd-copy@main.timer")
-    expect("when the next one is due", "*:00/10:00" in due and "03:00" not in due, True)
+    # What is next due may be 03:00, which the package's timer has.
+    expect("when copies are due", re.findall(r"OnCalendar=(.*?) ;", due), ["*-*-* *:00/10:00"])
     expect("how many are kept", one.run("grep ^KEEP= /etc/pawnd/pawnd.conf").strip(), "KEEP=150")
 
 
@@ -49,7 +50,7 @@ def a_store_that_does_not_start(one):
     one.run("sleep 1; systemctl start pawnd-copy@main; systemctl stop pawnd@main")
     one.run("seq 3000 | dd of=/var/lib/pawnd/main/books.db conv=notrunc 2>&1; rm -f /var/lib/pawnd/main/books.db-wal")
     one.run("systemctl start pawnd@main || true")
-    look, restore = commands(OPERATING, "A store does not start")
+    look, _, restore = commands(OPERATING, "A store does not start")
     one.until(f"{look.strip()} | grep -q 'fault 50'")
     expect("what it said", "fault 50" in one.run(look), True)
     one.until("[ $(journalctl -u pawnd@main -o cat --grep 'Failed with result' | wc -l) -gt 1 ]", within=300)

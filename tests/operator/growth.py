@@ -5,7 +5,7 @@ import tempfile
 
 from tests.library.checks import expect
 from tests.library.operator.booted import Booted, main_booted, steps
-from tests.library.operator.documented import DEPLOYING, OPERATING, commands
+from tests.library.operator.documented import DEPLOYING, OPERATING, command, commands
 from tests.library.operator.first_day import (
     answers_again, ask, carry_passphrase, enter, first_day, put_certbot, reach, with_terms,
 )
@@ -20,7 +20,8 @@ def growth():
             first_day(one, f"{folder}/pawnd_0.0.1_amd64.deb")
             with_terms(one)
             steps((one, second), a_second_store, a_full_store_is_divided, a_second_machine, a_boot_there,
-                  a_division_there, an_upgrade_there, a_lost_second_machine)
+                  a_division_there, an_upgrade_there,
+                  a_store_that_comes_back, a_lost_second_machine)
 
 
 def a_second_store(one, second):
@@ -83,7 +84,7 @@ def a_division_there(one, second):
     one.run("pawnd-admin book 11 --store east --name 'Far Street' --key-to /root/11.key.again")
     with_terms(one, 11, "/root/11.key.again")
     before = one.run("cat /etc/pawnd/books.map /etc/pawnd/stores.conf")
-    divide, timer = commands(DEPLOYING, "A second machine")[-2:]
+    divide, timer = commands(DEPLOYING, "A second machine")[4:6]
     second.run(divide)
     answers_again(one, target="/books/11/pledges/1", key="/root/11.key.again")
     expect("both go on", (enter(one, 3, 10, "/root/10.key")[0], enter(one, 2, 11, "/root/11.key.again")[0]), (200, 200))
@@ -117,6 +118,28 @@ def an_upgrade_there(one, second):
     expect("what systemd complains of", second.complaints(), [])
 
 
+def a_store_that_comes_back(one, second):
+    """To the first machine, while a book that was in it stays in a store of the second one; and it goes there again."""
+    _, away, there, tell, _, _, stop, stays, back = commands(DEPLOYING, "A second machine")
+    # The book 11 was taken out on the second machine.
+    before = one.run("sed -i '/^11 /d' /etc/pawnd/books.map; cat /etc/pawnd/books.map")
+    second.run(stop)
+    one.run(stays.replace("west", "back").replace("11 ", "10 "))
+    one.run(back)
+    one.run("pawnd-admin book 12 --store east --name 'Near Street' --key-to /root/12.key")
+    with_terms(one, 12, "/root/12.key")
+    answers_again(one, target="/books/12/pledges/1", key="/root/12.key")
+    answers_again(one, target="/books/10/pledges/4", key="/root/10.key")
+    told = one.run("pawnd-admin status || true")
+    expect("what is wrong", [it for it in told.splitlines() if re.match("WRONG(?!.*certificate|.* sent off this machine)", it)], [])
+    one.run("pawnd-admin remove-book 12")
+    one.run("sleep 1\n" + away)
+    second.run(there)
+    one.run(tell)
+    one.run(f"rm /etc/pawnd/stores/back.conf; echo '{before.strip()}' >/etc/pawnd/books.map; pawnd-admin reload")
+    answers_again(one, target="/books/10/pledges/4", key="/root/10.key")
+
+
 def both_send(one, second, standby, keys, begin):
     """The first machine sends to the same repository, with a key of its own, and the daily run there sees nothing amiss."""
     one.line_to(standby, "10.9.3.1", "10.9.3.2")
@@ -125,14 +148,27 @@ def both_send(one, second, standby, keys, begin):
     line = standby.run("cat /var/lib/pawnd-received/.ssh/authorized_keys").rpartition(" ssh-ed25519 ")[0]
     public = one.run("cat /etc/pawnd/offsite.key.pub").strip()
     standby.run(f"echo '{line} {public}' >>/var/lib/pawnd-received/.ssh/authorized_keys")
+    names = [it.split()[-1] for it in standby.run("cat /var/lib/pawnd-received/.ssh/authorized_keys").splitlines()]
+    expect("whose key each line has", names, ["pawnd@second", "pawnd@one"])
     carry_passphrase(second, one)
     one.run("".join(it + "\n" for it in begin.splitlines() if "borg init" not in it))
     standby.start("pawnd-received")
-    second.run("sleep 1; systemctl start pawnd-copy@east")
-    second.start("pawnd-offsite@east")
-    one.run("sleep 1; systemctl start pawnd-copy@main")
-    one.start("pawnd-offsite@main")
+    good = standby.run("tail -n 1 /var/lib/pawnd-received/copies/transactions").split()[1].rstrip(",")
+    for it, store in ((second, "east"), (one, "main")):
+        it.run(f"sleep 1; systemctl start pawnd-copy@{store}")
+        it.start(f"pawnd-offsite@{store}")
+    a_sending_is_undone(one, second, standby, good)
     standby.start("pawnd-received")
+
+
+def a_sending_is_undone(one, second, standby, number):
+    """By the page's commands. Afterwards each of the two machines sends again."""
+    standby.run(command(OPERATING, "An intruder on the sending machine", "undo").replace("NUMBER", number))
+    allow, begin = commands(OPERATING, "Sending again after an intruder")[:2]
+    standby.run(allow)
+    one.run(begin)
+    second.run("sleep 1; systemctl start pawnd-copy@east")
+    second.run(begin.replace("@main", "@east"))
 
 
 def a_lost_second_machine(one, second):

@@ -30,6 +30,7 @@ def two_machines_and_a_lost_one():
                 a_copy_is_sent,
                 a_folder_that_was_emptied,
                 a_receiver_that_is_silent,
+                a_receiver_without_room,
                 an_archive_that_is_removed_before_it_was_seen,
                 an_intruder_with_the_key,
             ):
@@ -73,6 +74,7 @@ def a_copy_is_sent(one, standby):
     standby.run("printf '#!/bin/sh\\ncat >>/root/mails; echo \"$@\" >>/root/mails\\n' >/usr/local/bin/mail; "
                 "chmod +x /usr/local/bin/mail")
     standby.run(command(DEPLOYING, "Messages about problems", "on-failure"))
+    standby.run("[ -s /var/lib/pawnd-received.known ]")
     standby.run("systemctl start pawnd-received")
     expect("the drill", standby.run(drill).splitlines()[-1], "books 1 pledges 0 rows 1")
     expect("nothing that is not encrypted is left", "drill" in standby.run("ls /root").split(), False)
@@ -93,6 +95,8 @@ def a_folder_that_was_emptied(one, standby):
     one.run("systemctl start pawnd-offsite@main", wanted=1)
     expect("what was sent", archives(standby), before)
     expect("why", "has no copy, so nothing is sent" in one.journal("pawnd-offsite@main"), True)
+    fetched = one.run(command(OPERATING, "One book put back", "ARCHIVE").replace("ARCHIVE", before[0])).splitlines()[-1]
+    one.run(f"pawnd check {fetched}/books.db; rm -r /root/older")
     one.run("rmdir /var/backups/pawnd/main; mv /root/away /var/backups/pawnd/main; systemctl reset-failed")
 
 
@@ -112,6 +116,20 @@ def a_receiver_that_is_silent(one, standby):
     one.run("systemctl reset-failed")
     send(one)
     expect("the next one comes through", len(archives(standby)), 2)
+
+
+def a_receiver_without_room(one, standby):
+    """Its daily run fails, and does not say that archives are gone."""
+    before = archives(standby)
+    standby.run(f"mv {REPOSITORY} /root/whole; mkdir {REPOSITORY}; size=$(du -sk /root/whole | cut -f 1); "
+                f"mount -t tmpfs -o size=$((size + 8))k none {REPOSITORY}; cp -a /root/whole/. {REPOSITORY}; "
+                f"chown pawnd-received: {REPOSITORY}; cat /dev/zero >{REPOSITORY}/filler || true")
+    standby.run("systemctl start pawnd-received", wanted=1)
+    told = standby.journal("pawnd-received")
+    expect(f"why: {told}", ("No space left" in told, "archives are gone" in told), (True, False))
+    standby.run(f"umount {REPOSITORY}; rmdir {REPOSITORY}; mv /root/whole {REPOSITORY}; systemctl reset-failed")
+    standby.start("pawnd-received")
+    expect("what is there", archives(standby), before)
 
 
 def last_transaction(standby):
@@ -204,7 +222,7 @@ def sending_begins_anew(one, standby, anew, package):
     anew.run(begin)
     standby.run(go_on)
     expect("nothing that is not encrypted is left", "back" in standby.run("ls /root").split(), False)
-    standby.start("pawnd-received")
+    standby.run("[ -s /var/lib/pawnd-received.known ]")
     expect("the new repository", len(archives(standby)), 1)
     send(anew)
     standby.start("pawnd-received")

@@ -1,7 +1,10 @@
-"""A store on three machines, as docs/REPLICATED.md sets it up: power cuts, lines that are cut under load and
-while no client asks, and one machine after the other started anew. Every acknowledged change is looked up afterwards.
+"""A store on three machines, as docs/REPLICATED.md sets it up: the commands that stop the store, power cuts, lines that
+are cut under load and while no client asks, and one machine after the other started anew. Every acknowledged change is
+looked up afterwards.
 
-A number on the command line says how many rounds there are, and a second one the seed."""
+A number on the command line says how many rounds there are, and a second one the seed. Then two machines are cut off at
+once, too, and a machine hangs."""
+import contextlib
 import os
 import random
 import sys
@@ -11,10 +14,11 @@ import time
 from tests.library.checks import expect, main, not_tried
 from tests.library.filled_stores import fill_store
 from tests.library.keys import BROKER
-from tests.library.operator.documented import commands
+from tests.library.operator.documented import DEPLOYING, commands
+from tests.library.operator.first_day import ask, put_certbot, reach
 from tests.library.operator.packages import make_folder
 from tests.library.operator.replicated import (
-    REPLICATED, Load, at_once, await_healed, expect_well, put_store, serving, settle, three_machines, why_not,
+    REPLICATED, Load, Machine, at_once, await_healed, coming_back, expect_well, put_store, serving, three_machines, why_not,
 )
 
 NUMBERS = [int(word) for word in sys.argv[1:] if word.isdigit()]
@@ -38,7 +42,9 @@ def a_machine_may_be_lost():
             expect("the user of the store", it.run(f"stat -c %U /proc/{pid}").strip(), "pawnd-main")
             with load:
                 load.await_more()
-                for step in (three_power_cuts, two_lines_under_load, a_line_while_nobody_asks, each_started_anew) * ROUNDS:
+                losses = three_power_cuts, two_lines_under_load, a_line_while_nobody_asks, each_started_anew
+                rare = (two_lines_at_once, a_machine_that_hangs) if NUMBERS else ()
+                for step in (what_stops_the_store, *losses * ROUNDS, *rare):
                     begun, before = time.monotonic(), load.acknowledged()
                     step(machines, load)
                     expect_well(machines)
@@ -70,9 +76,8 @@ def a_large_store():
                     log, at = it.run("stat -c %s /var/lib/pawnd/main/books.db-wal").strip(), time.monotonic()
                     it.lose_power()
                     await_takeover(load, f"{LARGE:,} pledges, a log {what} of {int(log):,} bytes", at)
-                    before = serving(machines)
-                    it.get_power()
-                    settle(machines, load, before)
+                    with coming_back(machines, load):
+                        it.get_power()
             load.look_up()
 
 
@@ -86,6 +91,51 @@ def await_takeover(load, what, at):
     print(f"          {what}: no change for {load.longest_pause(at):.1f} s", flush=True)
 
 
+def what_stops_the_store(machines, load):
+    """On the machine that serves it: a copy is put back, a book leaves, and a book goes to a store of its own, which moves
+    to a fourth machine that all three reach. On another machine the commands are refused."""
+    it, _ = serving(machines)
+    others = [other for other in machines if other is not it]
+    it.run("for n in 8 9; do pawnd-admin book $n --name Street --key-to /root/$n.key; done")
+    for words in ("restore main newest", "split main east 8", "remove-book 9", "book 10 --name Street --key-to /root/10.key"):
+        told = others[0].run(f"pawnd-admin {words} 2>&1", wanted=1)
+        expect(f"{words} on another machine: {told}", "another machine serves the store main" in told, True)
+    it.run("pawnd-admin remove-book 9")
+    load.await_more(3)
+    with load.quiet():
+        told = it.run("sleep 1; pawnd-admin copy main; pawnd-admin restore main newest; ss -Hltn 'sport = :8101'")
+        expect(f"it is served when the command says so: {told}", "LISTEN" in told, True)
+    load.await_more(3)
+    with contextlib.ExitStack() as stack:
+        fourth = stack.enter_context(Machine(4, it.packages, stack))
+        put_certbot(fourth)
+        reach(it, fourth)
+        fourth.run("cp /root/packages/*.deb /root/")
+        prepare, away, there, tell, *_ = (
+            block.replace("10.0.0.3", "10.0.0.4") for block in commands(DEPLOYING, "A second machine"))
+        _, _, admit, bring = commands(REPLICATED, "Each day")
+        first, link, last = prepare.replace("10.0.0.1", it.address).partition("ln -s")
+        fourth.run(first + admit + link + last)
+        seen = fourth.run("timeout 60 mount -t glusterfs 10.0.0.1:/books /mnt >/dev/null 2>&1 || true; ls -A /mnt")
+        expect("what a machine that is none of the three sees of the volume", seen, "")
+        it.run("pawnd-admin split main east 8")
+        it.run(away)
+        fourth.run(there)
+        it.run(tell)
+        for other in others:
+            other.run(bring.replace("10.0.0.1", it.address))
+        for other in machines:
+            other.run(f"cat >/root/8.key <<<'{it.run('cat /root/8.key').strip()}'")
+            expect(f"book 8 by way of {other.name}", ask(other, "/books/8/pledges/1", key="/root/8.key", trusted=False)[1],
+                   '{"code":403,"name":"NoSuchPledge"}')
+            told = other.run("pawnd-admin status || true")
+            expect("what is wrong", [line for line in told.splitlines() if line.startswith("WRONG")], [])
+        load.await_more(3)
+    it.run("rm /etc/pawnd/stores/east.conf; : >/etc/pawnd/books.map; pawnd-admin reload")
+    for other in others:
+        other.run("rm /etc/pawnd/stores/east.conf; " + bring.replace("10.0.0.1", it.address))
+
+
 def three_power_cuts(machines, load):
     """Of the machine that serves, at a random moment."""
     for _ in range(3):
@@ -93,9 +143,8 @@ def three_power_cuts(machines, load):
         (it, _), at = serving(machines), time.monotonic()
         it.lose_power()
         await_takeover(load, f"{it.name} lost its power", at)
-        before = serving(machines)
-        it.get_power()
-        settle(machines, load, before)
+        with coming_back(machines, load):
+            it.get_power()
 
 
 def two_lines_under_load(machines, load):
@@ -118,11 +167,41 @@ def a_line_while_nobody_asks(machines, load):
     whole_again(machines, load, it)
 
 
+def two_lines_at_once(machines, load):
+    """The machine that serves is left alone: nothing is acknowledged, and the store is stopped until two machines reach
+    each other again."""
+    it, _ = serving(machines)
+    first, second = [other for other in machines if other is not it]
+    first.line(False), second.line(False)
+    it.until("! ss -Hltn 'sport = :8101' | grep -q LISTEN")
+    before = load.acknowledged()
+    time.sleep(5)
+    expect("what one machine acknowledges", load.acknowledged(), before)
+    expect("who serves", serving(machines), (None, None))
+    at = time.monotonic()
+    first.line(True)
+    await_takeover(load, "two machines reached each other again", at)
+    with coming_back(machines, load):
+        second.line(True)
+
+
+def a_machine_that_hangs(machines, load):
+    """Its kernel keeps its lines and its locks, so no other machine serves until it is switched off."""
+    it, _ = serving(machines)
+    it.run("kill -STOP -1")
+    time.sleep(20)
+    expect("who else serves", [other.serves() for other in machines if other is not it], [None, None])
+    at = time.monotonic()
+    it.lose_power()
+    await_takeover(load, f"{it.name} hung, and was switched off", at)
+    with coming_back(machines, load):
+        it.get_power()
+
+
 def whole_again(machines, load, it):
     expect("the machine that was cut off serves", it.serves(), None)
-    before = serving(machines)
-    it.line(True)
-    settle(machines, load, before)
+    with coming_back(machines, load):
+        it.line(True)
 
 
 def each_started_anew(machines, load):
@@ -133,16 +212,15 @@ def each_started_anew(machines, load):
         it.run("systemctl poweroff")
         it.nspawn.communicate(timeout=60)
         load.await_more(5)
-        before = serving(machines)
-        it.boot()
-        settle(machines, load, before)
+        with coming_back(machines, load):
+            it.boot()
         print(f"          {it.name} was started anew: no change for {load.longest_pause(at):.1f} s", flush=True)
 
 
 def the_copies_are_alike(machines):
     """The page's commands for each day, the last of which stops the store: the three copies come to be byte for byte the
     same."""
-    look, stop, bring = commands(REPLICATED, "Each day")
+    look, stop, _, bring = commands(REPLICATED, "Each day")
     machines[0].run(look)
     for it in machines[1:]:
         it.run(bring)

@@ -126,42 +126,95 @@ def a_copy_makes_no_call_that_its_unit_bars():
         expect("it was seen at work", {"flock", "fsync"} <= made, True)
 
 
-def nothing_is_removed_by_a_clock_that_is_ahead():
-    """By the clock of the receiving machine all archives are old ones. None is removed until there is a new one."""
-    if os.geteuid() or provide({"borg": "borgbackup"}):
-        not_tried("the removal of old archives", "it needs root and borg")
-        return
-    with tempfile.TemporaryDirectory() as room:
-        repository, passphrase = os.path.join(room, "received/copies"), os.path.join(room, "passphrase")
-        os.mkdir(os.path.dirname(repository))
-        with open(passphrase, "w") as it:
+class Receiver:
+    """A repository in a folder, and the daily run of the machine that receives copies."""
+
+    def __init__(self, room):
+        self.repository, self.passphrase = os.path.join(room, "received/copies"), os.path.join(room, "passphrase")
+        self.now = datetime.datetime.now(datetime.timezone.utc)
+        os.mkdir(os.path.dirname(self.repository))
+        with open(self.passphrase, "w") as it:
             it.write("of-the-test\n")
-        environment = {**os.environ, "FOLDER": os.path.dirname(repository), "PASSPHRASE": passphrase, "TZ": "UTC",
-                       "BORG_PASSPHRASE": "of-the-test", "BORG_BASE_DIR": os.path.join(room, "of-the-test")}
+        self.environment = {
+            **os.environ, "FOLDER": os.path.dirname(self.repository), "PASSPHRASE": self.passphrase, "TZ": "UTC",
+            "BORG_PASSPHRASE": "of-the-test", "BORG_BASE_DIR": os.path.join(room, "of-the-test"),
+        }
+        self.run("borg", "init", "--encryption", "repokey-blake2", self.repository)
 
-        def run(*words, wanted=0):
-            ran = subprocess.run(
-                words, capture_output=True, text=True, stdin=subprocess.DEVNULL, env=environment, timeout=300
-            )
-            expect(f"{words}: {ran.stdout}{ran.stderr}", ran.returncode, wanted)
-            return ran.stdout + ran.stderr
+    def run(self, *words, wanted=0):
+        ran = subprocess.run(
+            words, capture_output=True, text=True, stdin=subprocess.DEVNULL, env=self.environment, timeout=300
+        )
+        expect(f"{words}: {ran.stdout}{ran.stderr}", ran.returncode, wanted)
+        return ran.stdout + ran.stderr
 
-        def send(when):
-            name = f"main.{when:%Y%m%dT%H%M%SZ}.{when:%Y%m%dT%H%M%SZ}"
-            run("borg", "create", "--timestamp", f"{when:%Y-%m-%dT%H:%M:%S}", f"{repository}::{name}", passphrase)
-            return name
+    def send(self, when, store="main"):
+        name = f"{store}.{when:%Y%m%dT%H%M%SZ}.{when:%Y%m%dT%H%M%SZ}"
+        self.run("borg", "create", "--timestamp", f"{when:%Y-%m-%dT%H:%M:%S}", f"{self.repository}::{name}", self.passphrase)
+        return name
 
-        prune = os.path.join(TOP, "deploy/offsite/prune")
-        now = datetime.datetime.now(datetime.timezone.utc)
-        month = (now - datetime.timedelta(days=90)).replace(hour=4, minute=0, second=0)
-        run("borg", "init", "--encryption", "repokey-blake2", repository)
-        names = [send(month.replace(day=day)) for day in (10, 11, 12)]
-        told = run(prune, wanted=1)
-        expect(f"why: {told}", "nothing is removed" in told and "clock" in told, True)
-        expect("what is there", run("borg", "list", "--short", repository).split(), names)
-        newest = send(now)
-        run(prune)
-        expect("what is there then", run("borg", "list", "--short", repository).split(), [names[0], names[2], newest])
+    def days_ago(self, days):
+        return self.now - datetime.timedelta(days=days)
+
+    def prune(self, wanted=0):
+        return self.run(os.path.join(TOP, "deploy/offsite/prune"), wanted=wanted)
+
+    def archives(self):
+        return sorted(self.run("borg", "list", "--short", self.repository).split())
+
+
+def with_receiver(test):
+    """The same test, on a receiver of its own."""
+
+    def tried():
+        if os.geteuid() or provide({"borg": "borgbackup"}):
+            not_tried(test.__name__.replace("_", " "), "it needs root and borg")
+            return
+        with tempfile.TemporaryDirectory() as room:
+            test(Receiver(room))
+
+    tried.__name__ = test.__name__
+    return tried
+
+
+@with_receiver
+def nothing_is_removed_by_a_clock_that_is_ahead(it):
+    """By the clock of the receiving machine all archives are old ones. None is removed until there is a new one."""
+    month = it.days_ago(90).replace(hour=4, minute=0, second=0)
+    names = [it.send(month.replace(day=day)) for day in (10, 11, 12)]
+    told = it.prune(wanted=1)
+    expect(f"why: {told}", "nothing is removed" in told and "clock" in told, True)
+    expect("what is there", it.archives(), names)
+    newest = it.send(it.now)
+    it.prune()
+    expect("what is there then", it.archives(), [names[0], names[2], newest])
+
+
+@with_receiver
+def a_store_that_is_not_sent_any_more(it):
+    """It is noticed here, even if its machine is silent about it and other stores are still sent; until the operator
+    says that it is to be so. Then its archives stay as they are, and an archive of it that is gone is noticed."""
+    month = it.days_ago(90).replace(hour=4, minute=0, second=0)
+    of_east = [it.send(month.replace(day=day), "east") for day in (10, 11, 12)]
+    old = [it.send(month.replace(day=day)) for day in (10, 11, 12)]
+    new = it.send(it.days_ago(6)), it.send(it.days_ago(6), "east")
+    it.prune()
+    expect("both are sent", it.archives(), sorted([of_east[0], of_east[2], old[0], old[2], *new]))
+    it.run("borg", "delete", f"{it.repository}::{new[1]}")
+    os.unlink(it.environment["FOLDER"] + ".known")
+    before = it.archives()
+    told = it.prune(wanted=1)
+    expect(f"why: {told}", "of the store east nothing was sent for seven days" in told and "nothing is removed" in told, True)
+    expect("of main it says nothing", "main" in told, False)
+    expect("what is there", it.archives(), before)
+    it.run("sh", "-c", re.search("echo .*", told)[0])
+    it.prune()
+    expect("what stays", it.archives(), before)
+    it.run("borg", "delete", f"{it.repository}::{of_east[0]}")
+    expect("one that is gone", of_east[0] in it.prune(wanted=1), True)
+    os.unlink(it.environment["FOLDER"] + ".known")
+    it.send(it.days_ago(8), "east")
+    expect("a later one, after which nothing came", "of the store east nothing" in it.prune(wanted=1), True)
 
 
 main(
@@ -169,4 +222,5 @@ main(
     the_program_makes_no_call_that_its_unit_bars,
     a_copy_makes_no_call_that_its_unit_bars,
     nothing_is_removed_by_a_clock_that_is_ahead,
+    a_store_that_is_not_sent_any_more,
 )

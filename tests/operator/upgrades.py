@@ -41,7 +41,7 @@ def from_version_to_version():
             first_day(one, first)
             with_terms(one)
             for step in (units_that_are_never_upgraded, an_upgrade, the_way_back, a_changed_file_is_kept, what_was_stopped_stays_so,
-                         removed_and_installed_again, purged_and_installed_again):
+                         a_changed_file_is_replaced, removed_and_installed_again, purged_and_installed_again):
                 begun = time.monotonic()
                 step(one, first, second)
                 print(f"        {step.__name__.replace('_', ' ')}: {time.monotonic() - begun:.1f} s", flush=True)
@@ -110,6 +110,22 @@ def what_was_stopped_stays_so(one, first, second):
     told = one.run("systemctl is-active pawnd@main || true; systemctl is-enabled pawnd-status.timer || true")
     expect("after the upgrade", told.split(), ["inactive", "disabled"])
     one.run("systemctl start pawnd@main; systemctl enable --now pawnd-status.timer 2>&1")
+    answers_again(one)
+
+
+def a_changed_file_is_replaced(one, first, second):
+    """At a terminal the upgrade asks which file to keep. The operator takes the new one, and the old one stays next to
+    it."""
+    answers = "(for it in $(seq 60); do sleep 1; echo Y || exit; done) 2>/dev/null"
+    path = f"/root/packages/{os.path.basename(second)}"
+    told = one.run(f"{answers} | script -qefc 'apt-get -y install {path}' /dev/null")
+    expect("it asks", "pawnd.conf (Y/I/N/O/D/Z)" in told, True)
+    expect("what is in force", in_force(one), (True, True, True))
+    answers_again(one)
+    kept = one.run("grep -h KEEP= /etc/pawnd/pawnd.conf /etc/pawnd/pawnd.conf.dpkg-old").split()
+    expect("the new file and the old one", kept, ["KEEP=30", "KEEP=40"])
+    install(one, first, "--allow-downgrades")
+    expect("after the way back", in_force(one), (False, False, False))
     answers_again(one)
 
 

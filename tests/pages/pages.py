@@ -190,7 +190,8 @@ def a_pledge_is_right(scheme):
     browser.says("asked for, not confirmed yet", "#statement")
     command("Repayment", "Record the repayment", amount="x")
     browser.says("Write the amount in pounds", "#commands")
-    wanted = ["amount", "true", "Write the amount in pounds, as 100 or 99.50.", True]
+    form = "Write the amount in pounds, as 100, 99.50 or 1,000: pence are two digits after a full stop, or none."
+    wanted = ["amount", "true", form, True]
     expect("the refusal is tied to its field, and is near it", browser.run(TIED), wanted)
     is_right(f"{scheme} pledge")
     browser.shoot(f"{scheme}-pledge")

@@ -306,7 +306,7 @@ def what_can_still_be_drawn_is_told():
         no_faults()
 
 
-def a_live_receipt_of_a_pledge_that_is_over_says_who_has_the_article():
+def a_receipt_of_a_pledge_that_is_over_says_who_has_the_article():
     with Pages() as pages:
         make_book(pages, terms=False)
         fill_book(pages, book_text([
@@ -315,12 +315,11 @@ def a_live_receipt_of_a_pledge_that_is_over_says_who_has_the_article():
         expect("sold", pages.session.broker("POST", "/books/7/pledges/2/sell", {"net": 9000})[0], 200)
         open_book(pages)
         find(f"1-{secret_of(1)}")
-        browser.says(
-            "This receipt is live, but the period is over and the article belongs to the pawnbroker. "
-            "Don’t hand out the article.", "#commands",
-        )
+        shows = "The receipt only shows what became of the pledge: don’t hand out the article for it."
+        browser.says(f"The period is over, and the article is yours. {shows}", "#commands")
         find(f"2-{secret_of(2)}")
-        browser.says(f"This receipt is live, but the article was sold on {in_short(today())}.", "#commands")
+        browser.says(f"The article was sold on {in_short(today())}. {shows}", "#commands")
+        expect("it is not called live", "is live" in browser.text("#commands"), False)
         no_faults()
 
 
@@ -425,18 +424,19 @@ def a_pledge_that_changed_is_shown_anew_before_it_is_renewed_or_extended():
         pages.session.broker("POST", "/books/7/pledges/1/extend", {"until": str(moved)})
         browser.rests()
         browser.press(".action[open] button", "Renew the pledge")
-        browser.says(f"Somebody else moved the end to {in_words(moved)}", "#commands .action[open]")
+        browser.says(f"its end was moved to {in_words(moved)}", "#commands .action[open]")
         browser.says(in_short(moved), "#statement")
         expect("the end that was typed", browser.run(UNTIL), later)
         browser.rests()
         browser.press(".action[open] button", "Renew the pledge")
         browser.says("Renew this pledge?", "dialog")
         browser.press("dialog button", "Not now")
+        browser.says("Nothing was done.", "#commands .action[open]")
         browser.rests()
         moved = end + datetime.timedelta(days=31)
         pages.session.broker("POST", "/books/7/pledges/1/extend", {"until": str(moved)})
         command("Extend the period", "Extend", until=later)
-        browser.says(f"Somebody else moved the end to {in_words(moved)}", "#commands .action[open]")
+        browser.says(f"its end was moved to {in_words(moved)}", "#commands .action[open]")
         browser.says(in_short(moved), "#statement")
         no_faults()
 
@@ -571,6 +571,9 @@ def terms_are_asked_about_and_added_once():
         browser.rests()
         browser.press("#new-terms button")
         expect("no question about them again", browser.run("return document.querySelector('dialog')"), None)
+        browser.fill("#new-terms", rate="1.667", before="0.50", after="0.25")
+        browser.press("#new-terms button")
+        browser.says("Version 2 has these terms already, so nothing was added.", "#new-terms")
         expect("they are added once", len(versions_of(pages)), 2)
         no_faults()
 
@@ -600,7 +603,10 @@ def terms_and_a_file_whose_replies_are_lost_say_what_to_do():
         with pages.relay.loses("/terms", 10):
             browser.press("#new-terms button")
             browser.press("dialog button", "Add version 2")
-            browser.says("The reply was lost, but the terms were added. Version 2 is in the book.", "#new-terms")
+            lost = "The reply was lost, so the terms may have been added. Add them again: they are not added twice."
+            browser.says(lost, "#new-terms", patience=30)
+        browser.press("#new-terms button")
+        browser.says("Version 2 has these terms already, so nothing was added.", "#new-terms")
         browser.says("0.3%", "#terms-list")
         expect("they are added once", len(versions_of(pages)), 2)
         no_faults()
@@ -706,7 +712,7 @@ def what_is_on_hold_is_marked_where_it_is_pulled_or_sold():
         find("2")
         browser.says("On hold", "#statement")
         command("Sale", "Record the sale", amount="90")
-        browser.says("The pledge is on hold: find out why before the article is sold.", "dialog")
+        browser.says("Find out why it is on hold before the article is sold.", "dialog")
         browser.press("dialog button", "Not now")
         browser.says("Nothing was done.", "#commands")
         no_faults()
@@ -746,10 +752,14 @@ def an_extension_says_that_the_article_does_not_pass_any_more():
             ):
                 command(title, button, **typed)
                 browser.says("The period ends on", "dialog")
-                loses = "The article will not pass to the shop then: if it is not redeemed, it is to be sold."
+                loses = "The article will not pass to you then: if it is not redeemed, it is to be sold."
                 expect(f"{title} of pledge {number}", loses in browser.text("dialog"), says)
                 browser.press("dialog button", "Not now")
                 browser.says("Nothing was done.", "#commands")
+        command("Extend the period", "Extend", until=str(ago(-300)))
+        browser.press("dialog button.grave")
+        browser.says(f"The period ends on {in_words(ago(-300))}. The pawnor’s paper has the old end", "#commands")
+        browser.says("If there is a tag on the bag, it has the old end: print it anew.", "#commands")
         no_faults()
 
 
@@ -778,7 +788,7 @@ main(
         a_redemption_that_never_arrived_is_done_by_the_next_press,
         a_redemption_after_which_nothing_can_be_looked_at_says_what_to_do, the_pledge_that_was_asked_for_last_is_shown,
         what_is_searched_for_during_a_search_is_found, what_came_of_an_act_is_not_said_of_another_pledge,
-        what_can_still_be_drawn_is_told, a_live_receipt_of_a_pledge_that_is_over_says_who_has_the_article,
+        what_can_still_be_drawn_is_told, a_receipt_of_a_pledge_that_is_over_says_who_has_the_article,
         a_written_statement_is_not_asked_for_above_the_small_credit, a_receipt_that_is_not_whole_is_counted,
         the_field_of_the_search_names_no_other_pledge, a_visit_at_a_time_that_is_over_is_asked_about,
         a_pledge_that_changed_is_shown_anew_before_it_is_renewed_or_extended,

@@ -101,6 +101,66 @@ def a_new_receipt_that_another_replaced_is_not_printed():
         expect("three receipts were made", len(receipts_made(pages, 1)), 3)
 
 
+def a_receipt_that_was_redeemed_is_not_left_to_be_printed():
+    """A pledge that was taken twice by mistake is redeemed by its receipt, and the clerk goes back for the paper."""
+    with an_open_book() as pages:
+        the_book_is_read()
+        take_a_ring()
+        receipt, _ = take_a_ring(reference="A2")
+        find("2")
+        command("Redeem by the paper", "Redeem", receipt=receipt, amount="100")
+        agree()
+        browser.says("£100.00 was paid", "#commands")
+        part("take")
+        browser.says("This receipt is not live: pledge 2 was redeemed with it on", "#taking")
+        there_is_no_paper()
+        no_faults()
+
+
+def a_receipt_with_the_old_end_is_not_left_to_be_printed():
+    with an_open_book():
+        the_book_is_read()
+        take_a_ring()
+        find("1")
+        command("Extend the period", "Extend", until=str(ago(-400)))
+        agree()
+        browser.says(f"The period ends on {in_words(ago(-400))}.", "#commands")
+        part("take")
+        browser.says("The period’s end was moved since pledge 1 was taken", "#taking")
+        there_is_no_paper()
+        no_faults()
+
+
+def a_receipt_that_another_till_replaced_is_not_left_to_be_printed():
+    with a_pledge_at_the_counter() as (pages, receipt):
+        the_book_is_read()
+        command("Print the receipt again", "Print the receipt again")
+        agree()
+        browser.says("It was looked at just now: it is live.", "#commands")
+        pages.session.broker("POST", "/books/7/pledges/1/declare", {"paper": "sworn"})
+        browser.press("#read-book")
+        browser.says("This receipt is not live: a newer one took its place on", "#commands")
+        there_is_no_paper()
+        no_faults()
+
+
+def a_receipt_that_another_till_replaced_is_not_called_live_any_more():
+    with a_pledge_at_the_counter() as (pages, receipt):
+        the_book_is_read()
+        find(receipt)
+        browser.says("This receipt is live.", "#commands")
+        pages.session.broker("POST", "/books/7/pledges/1/declare", {"paper": "sworn"})
+        browser.press("#read-book")
+        browser.says("This receipt is not live: a newer one took its place on", "#commands")
+        newest = f"1-{receipts_made(pages, 1)[-1].split(',')[5]}"
+        find(newest)
+        browser.says("This receipt is live.", "#commands")
+        browser.press("#read-book")
+        browser.rests()
+        browser.says("This receipt is live.", "#commands")
+        no_faults()
+
+
 # Another till declares the same receipt lost once this page's declaration was answered.
 DECLARED_TWICE = """
 const real = window.fetch;
@@ -356,6 +416,7 @@ def a_receipt_of_a_pledge_that_is_over_is_printed_as_such():
             expect("nobody can redeem it", "can redeem it" in browser.text("dialog"), False)
             browser.press("dialog button", "Print it again")
             browser.says("The pledge can’t be redeemed any more. The link above shows what became of it.", ".paper")
+            expect("it is not called live", "is live" in browser.text("#commands"), False)
         no_faults()
 
 
@@ -384,6 +445,7 @@ def what_is_due():
         ("Ring", "G3", 9000, long_ago, ago(-7), "no"), ("Brooch", "G4", 9000, long_ago, ago(-8), "yes"),
         ("Lamp", "G5", 9000, long_ago, ago(-30), "no"), ("Violin", "G6", 9000, long_ago, ago(-31), "no"),
         ("Vase", "G7", 9000, long_ago, "", "no"), ("Watch", "G8", 5000, long_ago, "", "no"),
+        ("Coat", "G9", 5000, ago(10), "", "no"),
     ]
     with Pages() as pages:
         make_book(pages, terms=False)
@@ -404,13 +466,19 @@ def what_is_due():
                 ("Ends in 15 to 30 days", 1), ("Can be sold now", 1), ("Passed to you", 1),
             ],
         )
-        expect("in grace", lists[0][1], f"1 Clock G1 £190.00 can be sold on {in_short(ago(-4))}")
-        expect("with the day of the other", f"can be sold on {in_short(ago(-5))}" in lists[0][2], True)
+        expect("in grace", lists[0][1], f"1 Clock G1 £190.00 can be sold from {in_short(ago(-4))}")
+        expect("with the day of the other", f"can be sold from {in_short(ago(-5))}" in lists[0][2], True)
         find("G4")
         unfold("Sale")
         browser.says(
-            f"It can be sold on {in_words(ago(-14))} first, if it is not redeemed or extended before.", "#commands",
+            f"It can be sold from {in_words(ago(-14))} on, if it is not redeemed or extended before.", "#commands",
         )
+        find("G1")
+        unfold("Sale")
+        browser.says(f"It can be sold from {in_words(ago(-4))} on, if it is not redeemed before.", "#commands")
+        find("G9")
+        unfold("Sale")
+        browser.says("if it is not redeemed or extended before, the article passes to you on", "#commands")
         no_faults()
 
 
@@ -455,6 +523,15 @@ def a_visit_that_is_changed_during_the_question_is_not_refused_unseen():
         browser.press(".action[open] button", "Refuse")
         browser.press("dialog button", "Refuse the visit")
         browser.says(f"The visit on {in_words(ago(-4))}, 11:00 to 11:30 is refused.", "#commands")
+        pages.session.bearer(receipt, "POST", "/books/7/held/ask", {"day": str(ago(-3)), "window": 3})
+        find("1")
+        browser.says(f"{in_words(ago(-3))}, 10:30 to 11:00: asked for", "#statement")
+        command("Visit", "Refuse")
+        browser.says("Refuse this visit?", "dialog")
+        pages.session.bearer(receipt, "POST", "/books/7/held/cancel")
+        browser.press("dialog button", "Refuse the visit")
+        browser.says(f"Now it is: {in_words(ago(-3))}, 10:30 to 11:00: cancelled.", "#commands")
+        expect("nothing is left to decide", "Decide on this one" in browser.text("#commands"), False)
         no_faults()
 
 
@@ -552,6 +629,9 @@ main(
         a_dead_receipt_is_not_printed_as_new, a_receipt_that_dies_while_it_is_taken_is_not_printed,
         what_was_done_is_told_where_it_can_no_longer_be_looked_at, a_receipt_has_the_terms_of_its_pledge,
         a_new_receipt_that_another_replaced_is_not_printed, two_equal_payments_are_two,
+        a_receipt_that_was_redeemed_is_not_left_to_be_printed, a_receipt_with_the_old_end_is_not_left_to_be_printed,
+        a_receipt_that_another_till_replaced_is_not_left_to_be_printed,
+        a_receipt_that_another_till_replaced_is_not_called_live_any_more,
         an_equal_payment_that_comes_during_the_question_is_another, redemption_by_the_paper,
         a_redemption_that_the_browser_sends_twice_is_told, a_sale_that_the_browser_sends_twice_is_told,
         a_visit_that_is_changed_during_the_question_is_not_refused_unseen,

@@ -30,8 +30,13 @@ def references_are_found():
         )
         browser.press("#choices a", "Pledge 3")
         browser.says("Ring 3", "#statement")
-        find("3")
-        browser.says("Ring 3", "#statement")
+        for typed, article in (("3", "Ring 3"), ("#1", "Ring 1"), ("Pledge 4", "Ring 4")):
+            find(typed)
+            browser.says(article, "#statement")
+            part("all")
+            browser.fill("#searching", text=typed)
+            browser.says(article, "#all-rows")
+            browser.fill("#searching", text="")
         take_a_ring(article="  Silver   spoon ", reference=" B1 ")
         expect(
             "trimmed when it is taken", ",B1,Silver spoon," in pages.session.broker("GET", "/books/7/export")[1], True,
@@ -47,6 +52,26 @@ def references_are_found():
 
 
 OPEN_FOLDS = "return [...document.querySelectorAll('.action[open] > summary')].map((one) => one.textContent)"
+
+
+def a_reference_that_another_till_took_is_not_offered_again():
+    with Pages() as pages:
+        make_book(pages)
+        for number in (1, 2):
+            pages.session.open_pledge(number)
+        open_book(pages)
+        the_book_is_read()
+        the_clock_goes_on(5)
+        pages.session.open_pledge(3)
+        part("take")
+        browser.press("#next-reference", "Use A3")
+        browser.fill("#taking", article="Ring", amount="100")
+        browser.press("#taking button", "Take the pledge")
+        agree()
+        browser.says("Another pledge has that reference.", "#taking")
+        browser.element("#next-reference", "Use A4")
+        expect("nothing was taken", "P,4," in pages.session.broker("GET", "/books/7/export")[1], False)
+        no_faults()
 
 
 def what_was_typed_for_one_pledge_is_not_carried_to_another():
@@ -238,11 +263,29 @@ def the_till_tells_it():
     no_faults()
 
 
+def the_till_has_a_pawnors_payment_once_the_book_is_read_again():
+    """It must not say that the payment is among its sums before."""
+    with Pages() as pages:
+        make_book(pages)
+        receipt = pages.session.open_pledge(1)
+        open_book(pages)
+        the_book_is_read()
+        pages.session.bearer(receipt, "POST", "/books/7/held/repay", {"pence": 3000, "seq": 1})
+        part("till")
+        browser.says("Repaid0: £0.00", "#till-lists")
+        browser.says("are in the sums as far as they were made before the book was read", "#till")
+        browser.press("#read-book")
+        browser.says("Repaid1: £30.00", "#till-lists")
+        no_faults()
+
+
 main(
     (),
     (
-        references_are_found, what_was_typed_for_one_pledge_is_not_carried_to_another, all_entries_can_be_seen,
+        references_are_found, a_reference_that_another_till_took_is_not_offered_again,
+        what_was_typed_for_one_pledge_is_not_carried_to_another, all_entries_can_be_seen,
         back_reload_and_today, what_is_typed_is_looked_at,
         the_same_file_is_one_import, a_shops_day,
+        the_till_has_a_pawnors_payment_once_the_book_is_read_again,
     ),
 )

@@ -18,6 +18,7 @@ import time
 from tests.library.checks import Failed, expect
 from tests.library.hosting import NAME, Hosted, Store, steady_port
 from tests.library.keys import BROKER
+from tests.library.listening import Listener
 from tests.library.pages.large_book import filled
 from tests.library.pages.stand_in import Service
 from tests.library.pages.steps import EACH, browser, main, part
@@ -41,36 +42,27 @@ STAND_IN = os.environ.get("STAND_IN") == "1"
 TURNS = int(os.environ.get("TURNS", "1"))
 
 
-class Line:
+class Line(Listener):
     """A slow line to a port: each piece comes half the way's time later, all pieces of a direction share its width, a
     connection takes one round trip to be made, and sends no more than the other side has acknowledged, as TCP
     does at its beginning."""
 
     def __init__(self, port, way=THERE_AND_BACK, width=BYTES):
+        super().__init__(steady_port())
         self.to, self.way, self.width = port, way, width
-        self.free_at, self.lock = {"up": 0.0, "down": 0.0}, threading.Lock()
-
-    def __enter__(self):
-        self.port = steady_port()
-        self.listener, self.open = socket.create_server(("127.0.0.1", self.port)), True
-        threading.Thread(target=self.accept, daemon=True).start()
-        return self
+        self.free_at, self.lock, self.open = {"up": 0.0, "down": 0.0}, threading.Lock(), True
 
     def __exit__(self, *_):
         self.open = False
-        with contextlib.suppress(OSError):
-            self.listener.shutdown(socket.SHUT_RDWR)
-        self.listener.close()
+        self.stop_listening()
 
-    def accept(self):
+    def carry(self, near):
         with contextlib.suppress(OSError):
-            while True:
-                near = self.listener.accept()[0]
-                far = self.connect()
-                near.setsockopt(socket.IPPROTO_TCP, socket.TCP_NODELAY, 1)
-                begun = time.monotonic()
-                for one, other, name in ((near, far, "up"), (far, near, "down")):
-                    threading.Thread(target=self.carry, args=(one, other, name, begun), daemon=True).start()
+            far = self.connect()
+            near.setsockopt(socket.IPPROTO_TCP, socket.TCP_NODELAY, 1)
+            begun = time.monotonic()
+            for one, other, name in ((near, far, "up"), (far, near, "down")):
+                threading.Thread(target=self.pass_pieces, args=(one, other, name, begun), daemon=True).start()
 
     def connect(self):
         """With segments as on a network, since by their length the system measures what it keeps of a connection."""
@@ -87,7 +79,7 @@ class Line:
             self.free_at[direction] = max(self.free_at[direction], time.monotonic()) + length / self.width
             return self.free_at[direction]
 
-    def carry(self, one, other, direction, begun):
+    def pass_pieces(self, one, other, direction, begun):
         """Takes pieces as the window lets it, and passes each on when it arrives."""
         arriving, flying, window = collections.deque(), collections.deque(), FIRST_WINDOW
         stands, ended = begun + (self.way if direction == "up" else 0), False

@@ -577,18 +577,70 @@ def what_is_typed_for_one_book_is_not_left_for_another():
 
 
 def what_was_looked_for_in_a_book_is_not_said_of_another():
+    """By a receipt that is dead, by one that is live, and by a number."""
+    for end, sought in (("/held", lambda _: f"1-{secret_of(1)}"), ("/held", str), ("/pledges/3", lambda _: "3")):
+        with Pages() as pages:
+            two_pledges(pages)
+            receipt = pages.session.open_pledge(3, article="Brooch")
+            make_book(pages, book=8)
+            browser.run(SLOW_REPLY, "GET", end)
+            find(sought(receipt))
+            close_and_open_another(lambda: browser.press("#close-book"))
+            part("pledge")
+            browser.rests()
+            browser.run("window.letGo()")
+            browser.until("return document.querySelector('#finding .notice').textContent === ''", "no word of it")
+            browser.rests()
+            said = (browser.text("#finding .notice"), browser.text("#elsewhere"), browser.text("#found").strip())
+            expect("what is said and shown", said, ("", "", ""))
+            no_faults()
+
+
+def a_search_that_ends_after_the_clerk_has_gone_on_takes_nobody_back():
+    """By a number, by a receipt, and by a receipt that was typed where pledges are listed or taken."""
     with Pages() as pages:
         two_pledges(pages)
-        make_book(pages, book=8)
-        browser.run(SLOW_REPLY, "GET", "/held")
-        find(f"1-{secret_of(1)}")
-        close_and_open_another(lambda: browser.press("#close-book"))
-        part("pledge")
-        browser.rests()
+        receipt = pages.session.open_pledge(3, article="Brooch")
+        for name, end, how in (
+            ("pledge", "/pledges/3", lambda: find("3")),
+            ("pledge", "/held", lambda: find(receipt)),
+            ("all", "/held", lambda: browser.keys(receipt + "\ue007")),
+            ("take", "/held", lambda: browser.press("#taking button", "Take the pledge")),
+        ):
+            part(name)
+            browser.rests()
+            browser.run("document.querySelector('#elsewhere').textContent = ''")
+            browser.run(SLOW_REPLY, "GET", end)
+            browser.run("document.querySelector('#search-text').focus()")
+            if name == "take":
+                browser.fill("#taking", article="Ring", ref=receipt, amount="5")
+            how()
+            browser.until("return window.held", "a reply that is late")
+            part("till")
+            browser.run("window.letGo()")
+            browser.says("Pledge 3: It was found after you had gone on, so it was not opened.", "#elsewhere")
+            browser.rests()
+            expect(f"where the clerk is, after {name}", browser.run("return location.hash"), "#till")
+        browser.press("#elsewhere a", "Pledge 3")
+        browser.says("Brooch", "#statement")
+        expect("it is not said any more", browser.text("#elsewhere"), "")
+        expect("it is not called live, as it was before", "is live" in browser.text("#commands"), False)
+        no_faults()
+
+
+def a_search_that_fails_hides_no_pledge_that_was_opened_meanwhile():
+    with Pages() as pages:
+        two_pledges(pages)
+        browser.run(SLOW_REPLY, "GET", "/pledges/99")
+        find("99")
+        browser.until("return window.held", "a reply that is late")
+        browser.run("location.hash = '#pledge=2'")
+        browser.says("Silver watch", "#statement")
         browser.run("window.letGo()")
-        browser.until("return document.querySelector('#finding .notice').textContent === ''", "no word of it")
         browser.rests()
-        expect("what is said", (browser.text("#finding .notice"), browser.text("#elsewhere")), ("", ""))
+        the_book_is_read()
+        browser.rests()
+        browser.says("Silver watch", "#pledge")
         no_faults()
 
 
@@ -797,6 +849,8 @@ main(
         no_question_is_asked_about_a_book_that_was_closed, no_pledge_is_asked_about_for_a_book_that_was_closed,
         a_file_has_the_name_of_its_own_book,
         what_is_typed_for_one_book_is_not_left_for_another, what_was_looked_for_in_a_book_is_not_said_of_another,
+        a_search_that_ends_after_the_clerk_has_gone_on_takes_nobody_back,
+        a_search_that_fails_hides_no_pledge_that_was_opened_meanwhile,
         what_came_of_a_take_is_said_in_another_part,
         what_came_of_terms_is_said_where_their_part_is_shown_again,
         a_look_at_the_terms_is_not_asked_about_where_the_book_is_closed,

@@ -51,7 +51,7 @@ def days_and_amounts_as_people_write_them(_):
         [str(day) for day in days],
     )
     expect("days", told, [[in_words(day), str(six_months_after(day)), (day - first).days] for day in days])
-    amounts = {"100": 10000, "£99.50": 9950, "1,000": 100000, "£1,234,567.89": 123456789, " 0.01 ": 1, "0": 0}
+    amounts = {"100": 10000, "£99.50": 9950, "1,000": 100000, "£1,234,567.89": 123456789, " 0.01 ": 1, "0": 0, "£ 150.50": 15050}
     expect(
         "amounts",
         in_page(
@@ -60,7 +60,7 @@ def days_and_amounts_as_people_write_them(_):
         ),
         list(amounts.values()),
     )
-    none = ["", "1.5", "1,00", "-1", "1e3", "10.000", "ten", "1,0000", "１００", "1 000"]
+    none = ["", "1.5", "1,00", "-1", "1e3", "10.000", "ten", "1,0000", "１００", "1 000", "£ 150.5", "20.-", "150,50"]
     told = in_page(
         "const money = await import('/shared/money.js'); "
         "return given[0].filter((text) => { try { money.readPounds(text); return true; } catch { return false; } })",
@@ -255,7 +255,7 @@ def receipts_references_and_terms(_):
     found = in_page("const { ofFragment } = await import('/shared/receipts.js'); return ofFragment(given[0])", fragment)
     expect(
         "a link", [(one["book"], one["receipt"], len(one["shop"]), one["rate"]) for one in found],
-        [("7", receipt, 60, "a"), ("7", f"4-{receipt[2:]}", 60, "a")],
+        [("7", receipt, 60, ""), ("7", f"4-{receipt[2:]}", 60, "")],
     )
     lists = {
         ("A1", "A2"): "A3", ("T099", "T100"): "T101", ("A1", "B2"): None, ("A1",): None, ("A3", "A1", "A2"): "A4",

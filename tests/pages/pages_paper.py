@@ -206,6 +206,7 @@ def all_else_goes_on_a4():
             never=(*never, "Show 31 more"),
         )
         part("till")
+        browser.says("Sums of today", "#till")
         is_printed("paper-till", A4, "Sums of today", "Repaid", "£34.65", AS_READ, never=never[1:])
         part("all")
         browser.says("121 of 121 pledges", "#all")

@@ -92,6 +92,8 @@ def a_receipt_that_died_says_one_thing():
         browser.rests()
         browser.until("return document.activeElement.matches('#cards h2')", "the focus on what is said")
         expect("and nothing else", "a character may be wrong" in browser.text("#cards"), False)
+        browser.ask("POST", "/refresh", {})
+        browser.says("This receipt was replaced or used", "#cards")
     with a_pledge_by_its_receipt() as (pages, _):
         browser.says("£100.00 owed today", "#cards")
         with pages.relay.loses("/redeem"):
@@ -101,6 +103,8 @@ def a_receipt_that_died_says_one_thing():
         browser.rests()
         browser.says("The reply was lost, so this may have been done.", "#cards")
         expect("and nothing else", "Look at the pledge" in browser.text("#cards"), False)
+        browser.ask("POST", "/refresh", {})
+        browser.says("Redeemed, most likely", "#cards")
         no_faults()
 
 
@@ -115,7 +119,7 @@ def a_redemption_that_is_refused_is_not_asked_about():
         browser.says("£90.00 owed today", "#cards")
         pages.session.broker("POST", "/books/7/pledges/1/hold")
         command("Redeem", "Redeem for £90.00")
-        browser.says("The pawnbroker holds this pledge, so it can’t be redeemed just now.", "#cards")
+        browser.says("The pledge is on hold, so it can’t be redeemed just now.", "#cards")
         expect("no question", browser.run("return document.querySelector('dialog')"), None)
         pages.session.broker("POST", "/books/7/pledges/1/release")
         browser.press("#look-again")

@@ -1,16 +1,18 @@
 """What the pawnor's page says of receipts that open nothing, of cut links and of several pledges, and what will be
 owed; in a real browser, in front of the program."""
 import datetime
+import os
 import re
 from urllib.parse import quote
 
 from tests.library.checks import expect
 from tests.library.dates import six_months_after, today
+from tests.library.keys import BROKER
 from tests.library.pages.browser import Pages
 from tests.library.pages.steps import (
     WRONG_SECRET, a_pledge_at_the_counter, a_pledge_by_its_receipt, ago, an_open_book, book_text, browser, command,
-    fill_book, find, in_short, in_words, main, make_book, no_faults, open_book, secret_of, show_receipt, take_a_ring,
-    the_book_is_read, unfold,
+    fill_book, find, in_short, in_words, main, make_book, no_faults, open_book, part, secret_of, show_receipt,
+    take_a_ring, the_book_is_read, unfold,
 )
 
 
@@ -106,10 +108,11 @@ def a_link_out_of_a_mail_is_read_as_it_was_meant():
                 expect("the terms", "£8.00 in 30 days on £100" in shown, True)
                 expect("the days of grace", re.findall(r"Days of grace\s*(None|Five)", shown), ["None"])
         typed = f"(see {pages.address}/pawn/{escaped})."
+        checked = f"https://eur01.safelinks.example/?url={quote(link, safe='')}&data=05%7C02&sdata=a%2Bb&reserved=0"
         wrapped = fragment.replace(receipt, receipt[:16] + "\n" + receipt[16:])
         for text in (
             typed, f"{pages.address}/pawn/{quote(fragment, safe='')}",
-            f"Your pledge: {pages.address}/pawn/{wrapped}\nYours, the shop", f"{receipt[:20]}\n{receipt[20:]}",
+            f"Your pledge: {pages.address}/pawn/{wrapped}\nYours, the shop", f"{receipt[:20]}\n{receipt[20:]}", checked,
         ):
             browser.forget()
             browser.go(f"{pages.address}/pawn/")
@@ -117,8 +120,118 @@ def a_link_out_of_a_mail_is_read_as_it_was_meant():
             browser.press("#find button")
             browser.says("Gold ring", "#cards")
         open_book(pages)
-        find(typed)
-        browser.says("This receipt is live.", "#commands")
+        for wanted in (typed, checked):
+            find(wanted)
+            browser.says("This receipt is live.", "#commands")
+        no_faults()
+
+
+def a_link_whose_hash_sign_was_changed_shows_its_pledge():
+    """A program put ? or %23 in its place, so the receipt was sent to the proxy: the address loses it at once, and the
+    logs never have it."""
+    with an_open_book() as pages:
+        receipt, link = take_a_ring()
+        fragment = link[link.index("#") + 1:]
+        escaped = quote(fragment, safe="")
+        links = [
+            f"{pages.address}/pawn/{changed}"
+            for changed in (
+                f"?{fragment}", f"%23{fragment}", f"?{escaped}", f"%23{escaped}", f"?mail=1&{fragment}",
+                f"?{fragment.replace('&', '&amp;')}", f"index.html?{fragment}",
+            )
+        ]
+        for changed in links:
+            browser.forget()
+            browser.ask("POST", "/url", {"url": changed})
+            browser.says("Gold ring", "#cards")
+            browser.says("£8.00 in 30 days on £100", "#cards")
+            expect("the address", browser.run("return location.href"), f"{pages.address}/pawn/")
+        browser.forget()
+        browser.ask("POST", "/url", {"url": f"{pages.address}/pawn/?book=7&receipt={receipt[:20]}"})
+        browser.says("That link is not whole, so it opens nothing: the receipt is not whole.", "#find")
+        expect("the address", browser.run("return location.href"), f"{pages.address}/pawn/")
+        for changed in links:
+            browser.forget()
+            browser.go(f"{pages.address}/pawn/")
+            browser.fill("#find", receipts=changed)
+            browser.press("#find button")
+            browser.says("Gold ring", "#cards")
+            browser.says("£8.00 in 30 days on £100", "#cards")
+        logs = "".join(read_room(pages, name) for name in ("access.log", "error.log"))
+        expect("the log has the page", '"target":"/pawn/"' in logs, True)
+        expect("the logs have the receipt", receipt[2:10] in logs, False)
+        no_faults()
+
+
+def read_room(pages, name):
+    """What nginx wrote in its folder."""
+    with open(os.path.join(pages.room, "room", name)) as it:
+        return it.read()
+
+
+def is_found(how):
+    """The pledge is shown anew, and its receipt is called live."""
+    browser.run("document.querySelector('#commands').replaceChildren()")
+    how()
+    browser.says("This receipt is live.", "#commands")
+
+
+def a_link_in_any_spelling_is_found_at_the_counter():
+    """By one function with the pawnor's page: where pledges are found, listed, taken and redeemed, and by the scanner."""
+    with an_open_book() as pages:
+        receipt, link = take_a_ring()
+        the_book_is_read()
+        front, fragment = link.split("#")
+        for typed in (
+            front + quote("#" + fragment, safe=""), quote(link, safe=""), f"{front}?{fragment}", f"{front}%23{fragment}",
+            link.replace("&", "&amp;"), link.replace("=", "%3D"),
+        ):
+            is_found(lambda: find(typed))
+            part("all")
+            browser.fill("#searching", text=typed)
+            browser.says("1 of 1 pledges", "#search-count")
+            browser.fill("#searching", text="")
+            part("take")
+            browser.fill("#taking", article="Ring", ref=typed, amount="5")
+            is_found(lambda: browser.press("#taking button", "Take the pledge"))
+            browser.rests()
+            browser.fill(".action[open] form", receipt=typed, amount="99")
+            browser.press(".action[open] button", "Redeem")
+            browser.says("redeeming requires all of it", "#commands")
+            browser.rests()
+            part("today")
+            browser.rests()
+            browser.run("document.activeElement.blur()")
+            is_found(lambda: browser.keys(typed + "\ue007"))
+            part("take")
+            browser.run("document.querySelector('#taking').reset()")
+        no_faults()
+
+
+def the_number_of_a_book_is_read_as_it_is_printed():
+    """The paper says "book 7", so that is what is typed."""
+    with Pages() as pages:
+        make_book(pages)
+        receipt = pages.session.open_pledge(1)
+        for typed in ("book 7", "Book no. 7", "book number 7", " 7. ", "(7)"):
+            browser.forget()
+            browser.go(f"{pages.address}/pawn/")
+            browser.fill("#find", receipts=receipt, book=typed)
+            browser.press("#find button")
+            browser.says("Gold ring", "#cards")
+            browser.forget()
+            browser.go(pages.address + "/broker/")
+            browser.fill("#open", book=typed, key=BROKER)
+            browser.press("#open button")
+            browser.says("Book 7", "#whose-book")
+        for typed in ("l7", "7a", "7 8", "book", "0"):
+            browser.forget()
+            browser.go(f"{pages.address}/pawn/")
+            browser.fill("#find", receipts=receipt, book=typed)
+            browser.press("#find button")
+            browser.says("The book is a number", "#find")
+        longest = "return [document.querySelector('[name=book]').maxLength > 'book number 999999999'.length]"
+        expect("there is room for it", browser.run(longest), [True])
         no_faults()
 
 
@@ -163,19 +276,72 @@ def several_pledges_have_a_sum_and_are_looked_at_again():
         no_faults()
 
 
+def a_link_with_several_receipts_says_of_none_what_is_of_one():
+    """Its reference, its terms and its days of grace are of one pledge, and nobody knows of which."""
+    with Pages() as pages:
+        make_book(pages)
+        receipts = [pages.session.open_pledge(number, article=f"Ring {number}", ref=f"A{number}") for number in (1, 2)]
+        link = "&".join(f"receipt={one}" for one in receipts)
+        browser.forget()
+        browser.go(f"{pages.address}/pawn/#book=7&{link}&terms=2667.0.0&grace=0&shop=High+Street&ref=A1")
+        browser.says("£200.00 is owed today on 2 pledges together.", "#sum-line")
+        browser.says("Pledge 2 at High Street", "#cards")
+        shown = browser.text("#cards")
+        for never in ("Reference", "Days of grace", "£8.00 in 30 days", "as the receipt’s link says"):
+            expect(f"it says {never}", never in shown, False)
+        expect("each may have days of grace", shown.count("five days more, if your paper says"), 2)
+        no_faults()
+
+
+def a_sum_says_what_is_on_hold():
+    """A pawnor who brings the sum can't redeem all of it."""
+    with Pages() as pages:
+        make_book(pages)
+        receipts = [pages.session.open_pledge(number, article=f"Ring {number}", ref=f"A{number}") for number in (1, 2, 3)]
+        browser.forget()
+        browser.go(f"{pages.address}/pawn/#book=7&" + "&".join(f"receipt={one}" for one in receipts))
+        browser.says("£300.00 is owed today on 3 pledges together.", "#sum-line")
+        expect("no hold", "on hold" in browser.text("#sum-line"), False)
+        for number, says in ((2, "1 of them is on hold"), (3, "2 of them are on hold")):
+            pages.session.broker("POST", f"/books/7/pledges/{number}/hold")
+            browser.press("#look-again")
+            browser.says(f"{says}, and can’t be redeemed just now.", "#sum-line")
+        no_faults()
+
+
+def a_large_sum_has_room_at_any_size_of_letters():
+    """A telephone of 360 pixels at 200 % shows 180."""
+    with Pages() as pages:
+        make_book(pages)
+        receipt = pages.session.open_pledge(1, pence=99_999_999)
+        show_receipt(pages, receipt)
+        browser.says("£999,999.99 owed today", "#cards")
+        try:
+            for width in (320, 180, 160):
+                browser.resize(width)
+                reach = "return [...document.querySelectorAll('.amount, .amount strong')].map((one) => " \
+                    "one.getBoundingClientRect().right <= document.querySelector('.pledge').getBoundingClientRect().right)"
+                expect(f"the sum is within its card at {width}", browser.run(reach), [True, True])
+        finally:
+            browser.resize(390)
+        no_faults()
+
+
 def pledges_of_several_shops_have_a_sum_for_each():
-    """No shop is owed the sum of all."""
+    """No shop is owed the sum of all. Each is called as on its pledges."""
     with Pages() as pages:
         links = []
         for book, pence in ((7, 6000), (8, 4500)):
             make_book(pages, book)
             receipts = [pages.session.open_pledge(number, book, pence=pence, ref=f"A{number}") for number in (1, 2)]
             links += [f"{pages.address}/pawn/#book={book}&receipt={one}" for one in receipts[:9 - book]]
+        links[-1] += "&terms=2667.0.0&grace=0&shop=Corner+Pawn"
         browser.forget()
         browser.go(f"{pages.address}/pawn/")
         browser.fill("#find", receipts="\n".join(links))
         browser.press("#find button")
-        browser.says("£165.00 is owed today on 3 pledges together: £120.00 in book 7 and £45.00 in book 8.", "#sum-line")
+        browser.says("£165.00 is owed today on 3 pledges together: £120.00 in book 7 and £45.00 at "
+                     "Corner Pawn (book 8).", "#sum-line")
         no_faults()
 
 
@@ -293,8 +459,11 @@ main(
         a_receipt_that_opens_nothing_is_not_called_used,
         a_receipt_that_the_pledge_never_had_may_be_of_another_book, a_cut_link_is_told,
         a_link_that_is_cut_in_its_terms_says_no_other_terms, a_link_out_of_a_mail_is_read_as_it_was_meant,
-        blanks_and_capitals_are_read_everywhere,
-        several_pledges_have_a_sum_and_are_looked_at_again, pledges_of_several_shops_have_a_sum_for_each,
+        a_link_whose_hash_sign_was_changed_shows_its_pledge, a_link_in_any_spelling_is_found_at_the_counter,
+        the_number_of_a_book_is_read_as_it_is_printed, blanks_and_capitals_are_read_everywhere,
+        several_pledges_have_a_sum_and_are_looked_at_again, a_sum_says_what_is_on_hold,
+        a_link_with_several_receipts_says_of_none_what_is_of_one, a_large_sum_has_room_at_any_size_of_letters,
+        pledges_of_several_shops_have_a_sum_for_each,
         what_will_be_owed_is_told_by_the_link,
         a_visit_that_is_over_is_not_offered_to_be_cancelled, a_visit_in_the_days_of_grace_is_in_time,
         what_comes_after_the_end_is_told, a_visit_that_is_confirmed_after_the_end_keeps_no_article,

@@ -140,7 +140,7 @@ for (const [number, day, pence, status, ends] of told) {
   if (stands !== status || pledge.ends !== ends) wrong.push([number, day, stands, status]);
   if (pence === null) continue;
   owed += 1;
-  const found = owedOn({ ...pledge, credit: pledge.pence }, terms, day);
+  const found = owedOn(pledge, terms, day);
   if ([found.principal, found.charges, found.owing].join() !== pence.join()) wrong.push([number, day, found, pence]);
 }
 return [owed, wrong.slice(0, 5)];

@@ -24,9 +24,9 @@ def what_a_pledge_has_beside_its_statement():
         the_book_is_read()
         find("1")
         for says in (
-            f"Can be redeemed until {in_words(ago(-405))}", "five days of grace follow", "405 days left", "Reference",
+            f"To be kept until {in_words(ago(-405))}", "five days of grace follow", "405 days left", "Reference",
             "HS/1", "Agreed end", in_short(agreed), "Days of grace", "Five", "£8.00 in 30 days on £100",
-            "30p in 30 days, after the end 15p in 30 days", f"from {in_short(ago(-406))} on it may be sold",
+            "30p in 30 days, after the end 15p in 30 days", f"from {in_short(ago(-406))} on the article may be sold",
         ):
             browser.says(says, "#statement")
         browser.shoot("broker-known")
@@ -91,6 +91,7 @@ def dues_are_what_is_owed_and_can_be_ticked_off():
         by_reference = browser.run(order)
         expect("by reference", by_reference.index("B2\n") < by_reference.index("B10"), True)
         browser.says("2: £110.00", "#due-lists")
+        browser.says("What you tick off as dealt with is kept in this browser: other tills still list it.", "#due-lists")
         browser.press("#due-lists .tick", "Dealt with")
         browser.says("1: £60.00", "#due-lists")
         browser.says("Passed and dealt with: 1", "#due-lists")
@@ -119,8 +120,8 @@ def the_till_parts_what_was_repaid_and_has_a_float():
         open_book(pages)
         the_book_is_read()
         part("till")
-        browser.says("£3.00 charges, £20.00 lent", "#till-lists")
-        browser.says("£1.50 charges, £50.00 lent", "#till-lists")
+        browser.says("£3.00 charges, £20.00 loan", "#till-lists")
+        browser.says("£1.50 charges, £50.00 loan", "#till-lists")
         browser.fill("#till-lists .float", amount="50")
         browser.press("#till-lists .float button")
         browser.says("With its float of £50.00 it should have £124.50.", "#till-lists")
@@ -334,7 +335,7 @@ def a_hold_is_seen_where_bags_are_pulled():
         part("due")
         browser.says("Can be sold now", "#due")
         rows = browser.run("return [...document.querySelectorAll('#due-lists tbody tr')].map((one) => one.innerText)")
-        expect("on hold", [("on hold" in row, "Watch" in row) for row in rows], [(False, False), (True, True)])
+        expect("on hold", [("On hold" in row, "Watch" in row) for row in rows], [(False, False), (True, True)])
         browser.shoot("broker-due-held")
         no_faults()
 

@@ -149,6 +149,21 @@ def a_payment_of_all_that_is_owed_does_not_redeem_the_pledge():
         no_faults()
 
 
+def nothing_more_is_repaid_where_nothing_is_owed():
+    """Neither page offers it: money that is taken then is in no book."""
+    with a_pledge_at_the_counter() as (pages, receipt):
+        pages.session.bearer(receipt, "POST", "/books/7/held/repay", {"pence": 10000, "seq": 1})
+        find("1")
+        browser.says("£0.00 owed today", "#statement")
+        browser.rests()
+        unfold("Repayment")
+        browser.says("Nothing is owed today.", ".action[open] .barred")
+        show_receipt(pages, receipt)
+        browser.says("£0.00 owed today", "#cards")
+        expect("no part can be paid", "Record a part payment" in browser.text("#cards"), False)
+        no_faults()
+
+
 def the_till_says_what_of_a_sale_is_the_pawnors():
     """A surplus that is paid out of the drawer is in no book, so the drawer would seem to lack it."""
     with Pages() as pages:
@@ -170,6 +185,7 @@ def the_till_says_what_of_a_sale_is_the_pawnors():
             "them: what you have paid of it is no longer in the drawer.", "#till-lists .sums",
         )
         browser.says("£50.00 surplus", "#till-lists")
+        browser.says("£10.00 shortfall", "#till-lists")
         no_faults()
 
 
@@ -297,6 +313,31 @@ def closing_the_book_asks_about_what_was_typed():
         no_faults()
 
 
+def a_float_does_not_keep_the_book_open():
+    """A float that is kept is not lost with the book; one that is only typed is asked about."""
+    question = "return document.querySelector('dialog')"
+    with an_open_book() as pages:
+        the_book_is_read()
+        part("till")
+        browser.fill("#till-lists .float", amount="50")
+        browser.press("#close-book")
+        browser.says("What you typed under “Till” was not sent, and is lost then.", "dialog")
+        browser.press("dialog button", "Keep it open")
+        browser.press("#till-lists .float button")
+        browser.says("With its float of £50.00 it should have £50.00.", "#till-lists")
+        browser.press("#close-book")
+        browser.element("#open")
+        expect("no question", browser.run(question), None)
+        open_book(pages)
+        the_book_is_read()
+        part("till")
+        expect("the float", browser.run("return document.querySelector('.float [name=amount]').value"), "50.00")
+        browser.fill("#till-lists .float", amount="")
+        browser.press("#till-lists .float button")
+        browser.until("return !document.querySelector('#till-lists').textContent.includes('With its float')", "no float")
+        no_faults()
+
+
 def closing_the_book_asks_while_a_reply_is_awaited():
     with a_pledge_at_the_counter() as (pages, _):
         the_book_is_read()
@@ -317,6 +358,32 @@ def closing_the_book_asks_while_a_reply_is_awaited():
         no_faults()
 
 
+def a_pledge_that_is_paid_is_still_to_be_fetched():
+    """It passes to the shop, or may be sold, as if something were owed."""
+    with Pages() as pages:
+        make_book(pages, terms=False)
+        taken = {1: ago(186), 2: ago(30)}
+        fill_book(pages, book_text([
+            ("Chain", "A1", 6000, taken[1], "", "yes"), ("Ring", "A2", 6000, taken[2], "", "no"),
+        ], rates=(0, 0, 0)))
+        last = {1: six_months_after(taken[1]) + datetime.timedelta(days=5), 2: six_months_after(taken[2])}
+        lines = {1: ": pay what is owed to have it back", 2: ""}
+        for number, day in last.items():
+            receipt = f"{number}-{secret_of(number)}"
+            show_receipt(pages, receipt)
+            browser.says("£60.00 owed today", "#cards")
+            expect("the headline", browser.text("#cards .line"), f"Still yours until {in_words(day)}{lines[number]}")
+            paid = pages.session.bearer(receipt, "POST", "/books/7/held/repay", {"pence": 6000, "seq": 1})
+            expect("all is paid", paid[0], 200)
+            browser.press("button", "Look again")
+            browser.says("£0.00 owed today", "#cards")
+            expect(
+                "the headline of what is paid", browser.text("#cards .line"),
+                f"Still yours until {in_words(day)}: nothing is owed, but it has to be fetched by then",
+            )
+        no_faults()
+
+
 def a_hold_does_not_hide_what_the_end_brings():
     """To the pawnor or to the clerk: the time of a pledge runs on while it is on hold."""
     with Pages() as pages:
@@ -330,15 +397,17 @@ def a_hold_does_not_hide_what_the_end_brings():
         days = datetime.timedelta(days=5)
         hold = "On hold: it can’t be redeemed until"
         for number, for_clerk, for_pawnor in (
-            (1, f"The period ends on {in_words(ends)}, and five days of grace follow; after that the article "
-             "belongs to the pawnbroker, on hold or not",
+            (1, f"The period ends on {in_words(ends)}, and five days of grace follow; after that the article is yours, "
+             "on hold or not",
              f"The period ends on {in_words(ends)}, and five days of grace follow if your paper says so; after that "
              "the article belongs to the pawnbroker, on hold or not"),
             (2, f"The period ends on {in_words(ends)}; after that the article may be sold, on hold or not", None),
             (3, f"The period ended on {in_words(six_months_after(ago(220)))}; the article may be sold any "
              "day, on hold or not", ...),
             (4, f"The period ended on {in_words(grace)}, and days of grace run until {in_words(grace + days)}; "
-             "after that the article belongs to the pawnbroker, on hold or not", ...),
+             "after that the article is yours, on hold or not",
+             f"The period ended on {in_words(grace)}, and days of grace run until {in_words(grace + days)}; "
+             "after that the article belongs to the pawnbroker, on hold or not"),
         ):
             held = pages.session.broker("POST", f"/books/7/pledges/{number}/hold")
             expect("the hold", held, (200, {"held": True}))
@@ -351,6 +420,28 @@ def a_hold_does_not_hide_what_the_end_brings():
             browser.says(f"{hold} the pawnbroker releases it", "#cards")
             if for_pawnor is not None:
                 browser.says(for_clerk if for_pawnor is ... else for_pawnor, "#cards")
+        no_faults()
+
+
+def money_that_is_paid_out_on_a_hold_is_asked_about():
+    """Whatever the amount: the article may not be the pawnor's."""
+    with an_open_book() as pages:
+        pages.session.open_pledge(1, kind="running", pence=50000)
+        find("1")
+        browser.says("Pledge 1", "#statement")
+        command("Drawing", "Record the drawing", amount="1")
+        browser.says("Drawn: £1.00", "#commands")
+        pages.session.broker("POST", "/books/7/pledges/1/hold")
+        find("1")
+        browser.says("On hold", "#statement")
+        command("Drawing", "Record the drawing", amount="2")
+        browser.says("Record £2.00 as paid out?", "dialog")
+        browser.says("Pledge 1: Gold ring. It is on hold.", "dialog")
+        browser.press("dialog button", "Not now")
+        browser.says("Nothing was recorded.", "#commands")
+        command("Repayment", "Record the repayment", amount="0.50")
+        browser.says("Repaid: £0.50", "#commands")
+        expect("the entries", len(entries(pages, 1)), 2)
         no_faults()
 
 
@@ -466,6 +557,23 @@ def what_is_scanned_while_a_day_or_a_box_has_the_focus_is_found():
             if field in wanted:
                 day = browser.run("return document.querySelector(arguments[0]).value", field)
                 expect(f"the day of {field}", day, wanted[field])
+        no_faults()
+
+
+def what_is_scanned_into_the_form_of_a_new_pledge_is_found():
+    """The form is not complete, so the browser would ask for its other fields, and the receipt would stay in it."""
+    with a_pledge_at_the_counter() as (_, receipt):
+        for field in ("article", "ref", "amount"):
+            part("take")
+            browser.fill("#taking", **{"article": "Silver watch", "ref": "A2", "amount": "5", field: ""})
+            browser.rests()
+            browser.run("document.querySelector(arguments[0]).focus()", f"#taking [name={field}]")
+            browser.keys(receipt + "\ue007")
+            browser.says("This receipt is live. £100.00 is owed today.", "#commands")
+            left = "const { article, ref, amount } = document.querySelector('#taking').elements; " \
+                "return [article, ref, amount].map((one) => one.value)"
+            typed = {"article": "Silver watch", "ref": "A2", "amount": "5", field: ""}
+            expect(f"what is left in the form, after {field}", browser.run(left), list(typed.values()))
         no_faults()
 
 
@@ -585,19 +693,23 @@ def a_pawnor_who_comes_back_sees_what_the_shop_decided():
 main(
     (),
     (
-        a_running_account_says_that_nothing_is_paid_out_yet, a_long_question_is_seen_from_its_beginning,
+        nothing_more_is_repaid_where_nothing_is_owed, a_running_account_says_that_nothing_is_paid_out_yet,
+        a_long_question_is_seen_from_its_beginning,
         terms_that_were_added_in_the_morning_are_asked_about, a_pawnor_redeems_at_the_shop,
         a_payment_of_all_that_is_owed_does_not_redeem_the_pledge, the_till_says_what_of_a_sale_is_the_pawnors,
         a_pledge_that_is_left_open_is_read_again, a_warning_of_a_dead_receipt_stays_where_its_pledge_is_read_again,
         what_a_look_shows_after_a_lost_reply_is_said,
         what_a_look_shows_the_pawnor_after_a_lost_reply_is_said, a_receipt_that_is_cut_is_counted_where_it_is_redeemed,
         what_is_scanned_after_a_search_that_failed_takes_its_place,
+        what_is_scanned_into_the_form_of_a_new_pledge_is_found,
         what_is_scanned_while_a_day_or_a_box_has_the_focus_is_found,
         a_link_that_comes_after_its_receipt_says_what_it_says, a_pawnor_who_comes_back_sees_what_the_shop_decided,
         what_an_act_reports_stays_where_one_came_back_during_its_question, the_pledge_of_a_link_is_the_one_that_is_seen,
         a_visit_after_the_time_is_over_says_what_becomes_of_the_article,
-        closing_the_book_asks_about_what_was_typed, closing_the_book_asks_while_a_reply_is_awaited,
-        a_hold_does_not_hide_what_the_end_brings, a_visit_whose_time_is_over_is_told_the_clerk,
-        what_came_in_between_is_named,
+        closing_the_book_asks_about_what_was_typed, a_float_does_not_keep_the_book_open,
+        closing_the_book_asks_while_a_reply_is_awaited,
+        a_pledge_that_is_paid_is_still_to_be_fetched, a_hold_does_not_hide_what_the_end_brings,
+        a_visit_whose_time_is_over_is_told_the_clerk,
+        what_came_in_between_is_named, money_that_is_paid_out_on_a_hold_is_asked_about,
     ),
 )

@@ -35,8 +35,8 @@ def many_requests_on_one_connection():
 def a_thousand_requests_and_no_more():
     with Server() as server:
         with server.connect() as peer:
-            peer.sendall(ASKED * 1000)
-            expect("1,000 replies", read_all(peer), NONE * 1000)
+            peer.sendall(ASKED * 1001)
+            expect("1,000 replies to 1,001 requests", read_all(peer), NONE * 1000)
         next_is_answered("a thousand", server)
 
 

@@ -27,31 +27,31 @@ def one_in(step):
     return {} if EVERY else {"step": step, "first": CHANCE.randrange(1, step + 1)}
 
 
-def told(count):
+def print_count(count):
     print(f"        {count} allocations", flush=True)
 
 
 def each_allocation_over_memory():
     for story in (a_first_pledge(), a_lost_receipt(), two_for_a_window(), a_book_that_moves()):
-        told(each_refused(story, "memory", "m", ENDS))
+        print_count(each_refused(story, "memory", "m", ENDS))
 
 
 def each_allocation_over_a_file():
     for story in (a_first_pledge(), a_lost_receipt(), two_for_a_window(), a_book_that_moves()):
-        told(each_refused(story, "file", "m", ENDS, **one_in(41)))
+        print_count(each_refused(story, "file", "m", ENDS, **one_in(41)))
 
 
 def all_memory_from_some_allocation_on():
     for story in (a_first_pledge(), a_book_that_moves()):
-        told(each_refused(story, "memory", "m", ENDS, mode="on", **one_in(29)))
-        told(each_refused(story, "file", "m", ENDS, mode="on", **one_in(97)))
+        print_count(each_refused(story, "memory", "m", ENDS, mode="on", **one_in(29)))
+        print_count(each_refused(story, "file", "m", ENDS, mode="on", **one_in(97)))
 
 
 def each_allocation_of_a_migration():
     """An allocation that is refused while a store of an older schema is moved leaves the store for another try,
     which moves it to the same books."""
     for count in each_refused_in_a_migration("m", NOT_MOVED, books=1):
-        told(count)
+        print_count(count)
 
 
 def while_it_serves():

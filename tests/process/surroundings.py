@@ -310,7 +310,7 @@ def a_clock_that_jumps():
         with Server(os.path.join(room, "books"), env={**refusing.refusing(""), "REFUSE_CLOCK": clock}) as server:
             receipts = make_books(server)
             session = server.session()
-            told(clock, time.time() + 40 * 86_400)
+            set_clock(clock, time.time() + 40 * 86_400)
             expect(
                 "a repayment on the day ahead",
                 session.bearer(receipts[0], "POST", "/books/7/held/repay", {"pence": 1, "seq": 1})[0], 200,
@@ -328,7 +328,7 @@ def a_clock_that_jumps():
             )
             session.close()
             for seconds in (-1, 0, 946_684_799, 7_258_118_400, 2 ** 40):
-                told(clock, seconds)
+                set_clock(clock, seconds)
                 with server.connect() as peer:
                     peer.sendall(LAST)
                     expect(f"what is answered at {seconds}", read_all(peer), b"")
@@ -336,7 +336,7 @@ def a_clock_that_jumps():
             is_answered(server, "once the clock is right")
 
 
-def told(clock, seconds):
+def set_clock(clock, seconds):
     with open(clock + "-new", "w") as it:
         it.write(str(int(seconds)))
     os.rename(clock + "-new", clock)

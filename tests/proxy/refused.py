@@ -167,7 +167,7 @@ def a_store_that_is_being_restarted():
                 "meanwhile",
                 (status(reply), proxys(reply), reply.fields.get("retry-after")), (503, (503, False), "2"),
             )
-        store.start_again()
+        store.listen()
         expect("afterwards", (status(it.caller().send(sent)), len(store.seen) - before), (200, 1))
         for way in ("close", "reset"):
             store.way, before = way, len(store.seen)

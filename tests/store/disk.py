@@ -18,32 +18,32 @@ ENDS = ((1, "fault 503 Store\n"),)
 NOT_MOVED = ((1, "", "fault 514 Store\n"),)
 
 
-def told(count):
+def print_count(count):
     print(f"        {count} calls")
 
 
 def each_call_is_refused_once():
     for story in (a_first_pledge(), a_lost_receipt(), a_book_that_moves()):
-        told(each_refused(story, "file", "rwst", ENDS))
+        print_count(each_refused(story, "file", "rwst", ENDS))
 
 
 def each_write_is_short_or_torn():
     story = a_book_that_moves()
-    told(each_refused(story, "file", "w", ENDS, mode="short"))
-    told(each_refused(story, "file", "w", ENDS, mode="torn"))
-    told(each_refused(story, "file", "r", ENDS, mode="short"))
+    print_count(each_refused(story, "file", "w", ENDS, mode="short"))
+    print_count(each_refused(story, "file", "w", ENDS, mode="torn"))
+    print_count(each_refused(story, "file", "r", ENDS, mode="short"))
 
 
 def each_error():
     story = a_first_pledge()
     for error in (errno.ENOSPC, errno.EDQUOT, errno.EFBIG, errno.EINTR, errno.EROFS, errno.EBADF):
-        told(each_refused(story, "file", "rwst", ENDS, step=3, error=error))
+        print_count(each_refused(story, "file", "rwst", ENDS, step=3, error=error))
 
 
 def every_call_from_one_on():
     story = a_book_that_moves()
-    told(each_refused(story, "file", "rwst", ENDS, step=3, mode="on"))
-    told(each_refused(story, "file", "ws", ENDS, step=3, mode="on", error=errno.ENOSPC))
+    print_count(each_refused(story, "file", "rwst", ENDS, step=3, mode="on"))
+    print_count(each_refused(story, "file", "ws", ENDS, step=3, mode="on", error=errno.ENOSPC))
 
 
 def calls_of_a_migration():
@@ -51,7 +51,7 @@ def calls_of_a_migration():
     another try, which moves it to the same books."""
     for mode, first in (("once", 1), ("on", 2)):
         for count in each_refused_in_a_migration("rwst", NOT_MOVED, 3, lambda: first, mode=mode):
-            told(count)
+            print_count(count)
 
 
 def a_disk_that_is_full_for_a_while():

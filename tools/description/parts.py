@@ -51,7 +51,7 @@ def taken(words, **members):
     }
 
 
-def told(words, **members):
+def reply_body(words, **members):
     """What a reply says. A later release may add members, so a client passes over those that it does not know."""
     return {
         "type": "object", "description": words, "properties": dict(sorted(members.items())),
@@ -79,7 +79,7 @@ def lines(words, *forms):
 
 def booking(words, *states):
     """A booking in one of these states."""
-    return told(
+    return reply_body(
         words, booking={"enum": list(states), "description": "Its state."}, day=ref("schemas", "Day"),
         window=ref("schemas", "Window"),
     )
@@ -280,22 +280,22 @@ SCHEMAS = {
         "What is paid for the article.",
         paid=one_of_form("Pence", "All that is owing today, in pence, to the penny; 0 if nothing is."),
     ),
-    "BookMade": told("The book exists.", book=whole("The number of the book.", 1, 999_999_999)),
-    "TermsMade": told("The version exists.", version=whole("Its number.", 1, 99)),
-    "PledgeTaken": told(
+    "BookMade": reply_body("The book exists.", book=whole("The number of the book.", 1, 999_999_999)),
+    "TermsMade": reply_body("The version exists.", version=whole("Its number.", 1, 99)),
+    "PledgeTaken": reply_body(
         "The pledge was taken.", number=whole("The number of the pledge in its book.", 1, 1_000_000),
         receipt=ref("schemas", "Receipt"),
     ),
-    "Entry": told(
+    "Entry": reply_body(
         "The entry, also if it was entered before.",
         day=one_of_form("Day", "The day on which it was entered."), pence=ref("schemas", "Pence"),
         seq=ref("schemas", "Seq"), sort={"enum": ["draw", "repay"], "description": "The kind of entry."},
     ),
-    "HeldBack": told(
+    "HeldBack": reply_body(
         "The pledge is on hold and cannot be redeemed.", held={"const": True, "description": "It is on hold."},
     ),
-    "Released": told("The pledge is not on hold.", held={"const": False, "description": "It is not on hold."}),
-    "NewReceipt": told(
+    "Released": reply_body("The pledge is not on hold.", held={"const": False, "description": "It is not on hold."}),
+    "NewReceipt": reply_body(
         "The receipt that is live from now on; every earlier one is worth nothing.", receipt=ref("schemas", "Receipt"),
     ),
     "BookingAsked": booking(
@@ -304,17 +304,17 @@ SCHEMAS = {
     ),
     "BookingCancelled": booking("The booking is cancelled.", "cancelled"),
     "BookingDecided": booking("The booking as the broker decided.", "confirmed", "refused"),
-    "SaleMade": told(
+    "SaleMade": reply_body(
         "The pledge is sold.", net=one_of_form("Pence", "What the sale brought."),
         shortfall=one_of_form("Pence", "What is still owing."),
         surplus=one_of_form("Pence", "What is due to the pawnor."),
     ),
-    "NewEnd": told("The period ends then.", ends=one_of_form("Day", "Its last day.")),
-    "Redeemed": told(
+    "NewEnd": reply_body("The period ends then.", ends=one_of_form("Day", "Its last day.")),
+    "Redeemed": reply_body(
         "The article goes back. The receipt is worth nothing from now on.", paid=one_of_form("Pence", "What was paid."),
         redeemed=one_of_form("Day", "The day on which it was redeemed."),
     ),
-    "Imported": told(
+    "Imported": reply_body(
         "The book was filled.",
         imported=whole("How many pledges came by the first import under this key.", 0, 1_000_000),
     ),
@@ -326,7 +326,7 @@ SCHEMAS = {
         "A day of the book in words. Lines end with LF; pledges are in the order of their numbers.", *SHEET,
     ),
     "Rows": rows(), "RowsHandedIn": rows_handed_in(),
-    "ProxyRefusal": told(
+    "ProxyRefusal": reply_body(
         "What the proxy in front says by itself. It is no refusal of the service, and has no `code`.",
         proxy=whole("The status of this reply, once more.", 400, 599),
         handed_on={

@@ -1,11 +1,13 @@
 /** All pledges: found by number, reference, a part of the article or a receipt; narrowed to a group; in an order. */
+import { endInShort } from "../shared/after.js";
 import { inShort, today } from "../shared/days.js";
 import { byId, foreign, make } from "../shared/dom.js";
 import { makeNotice, run } from "../shared/forms.js";
 import { inPounds } from "../shared/money.js";
-import { statusOn } from "../shared/period.js";
+import { isHeldOn, statusOn } from "../shared/period.js";
 import { isReceiptLike } from "../shared/receipts.js";
-import { STATUSES } from "../shared/statuses.js";
+import { isOpen, STATUSES } from "../shared/statuses.js";
+import { bookingInShort } from "../shared/visits.js";
 import { missingInWords } from "./age.js";
 import { found, GROUPS, ORDERS } from "./groups.js";
 import { ledger } from "./ledger.js";
@@ -19,23 +21,26 @@ const form = () => byId("searching");
 let rows;
 
 function drawRow(pledge) {
-  const { number, article, reference, kind, pence, ends, state, closed, held } = pledge;
-  const end = `${ends < today() ? "ended" : "ends"} ${inShort(ends)}`;
-  const when = state === "open" ? end : inShort(closed);
-  return make("a", { href: `#pledge=${number}`, className: "row-link" },
+  const { number, article, reference, kind, credit, state, closed, booking } = pledge;
+  const now = today();
+  const status = statusOn(pledge, now);
+  const visit = isOpen(status) ? bookingInShort(booking, now) : null;
+  const when = state === "open" ? endInShort(pledge) : inShort(closed);
+  return make("a", { href: `#pledge=${number}`, className: visit ? "row-link has-visit" : "row-link" },
     make("span", { className: "row-number" }, String(number)),
     make(
       "span", { className: "row-article" }, foreign(article),
       make("span", { className: "reference" }, foreign(reference)),
     ),
     make(
-      "span", { className: "row-sum" }, inPounds(pence),
+      "span", { className: "row-sum" }, inPounds(credit),
       kind === "running" ? make("span", { className: "reference" }, "limit") : null,
     ),
     make(
-      "span", { className: "row-state" }, held && state === "open" ? make("strong", {}, "on hold, ") : null,
-      STATUSES[statusOn(pledge, today())].name,
-      make("span", { className: "reference" }, when)));
+      "span", { className: "row-state" }, isHeldOn(pledge, now) ? make("strong", {}, "on hold, ") : null,
+      STATUSES[status].name,
+      make("span", { className: "reference" }, when)),
+    visit && make("span", { className: "row-visit" }, visit));
 }
 
 const inThousands = (count) => count.toLocaleString("en-GB");

@@ -17,7 +17,7 @@ const isUnfolded = (form) => form.closest("details")?.open !== false;
 
 /** What a form is called on the page: its fold, or the tab of its part. */
 const nameOf = (form) => (form.closest("details")?.firstChild
-  ?? document.querySelector(`#places a[href="#${form.closest("section").id}"]`)).textContent;
+  ?? document.querySelector(`#places a[href="#${form.closest("section.place").id}"]`)).textContent;
 
 /** What would be lost, as lines of the question. */
 function linesOfLoss() {

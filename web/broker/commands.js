@@ -2,15 +2,15 @@
  * The commands on a pledge, each with its form. A command that would be refused now is shown apart, with the reason;
  * the service decides.
  */
-import { inWords, today } from "../shared/days.js";
+import { inWords } from "../shared/days.js";
 import { make } from "../shared/dom.js";
 import { lookFirst, orSeen, Outdated } from "../shared/faults.js";
 import { buttons, field, fold } from "../shared/forms.js";
 import { inPounds, readPounds } from "../shared/money.js";
 import { recordEntry } from "../shared/payments.js";
 import { confirmed, NOTHING_DONE } from "../shared/questions.js";
-import { isOpen, isToCome } from "../shared/statuses.js";
-import { bookingInWords, isLateVisit } from "../shared/summary.js";
+import { isOpen } from "../shared/statuses.js";
+import { bookingInWords, isLateVisit, isPast, isPending, isToCome } from "../shared/visits.js";
 import { clock, isOverToday, minuteNow, windowInWords } from "../shared/windows.js";
 import { extension } from "./extending.js";
 import { redemption } from "./redeem.js";
@@ -38,7 +38,7 @@ const entry = (shown, desk, sort, amount) => recordEntry({
 
 const repayment = (statement, desk) => ({
   title: "Repayment",
-  barred: null,
+  barred: statement.owed.owing === 0 ? "Nothing is owed today." : null,
   parts: [
     lead("Money that you have received. It goes to charges first, then to what was lent."),
     amountField("Received, in pounds"), buttons(button("Record the repayment")),
@@ -84,7 +84,7 @@ const agreedToRefuse = (now) => confirmed({
   yes: "Refuse the visit", no: "Not now",
 });
 
-/** A visit of today at a time that is over is asked about: nobody may come to it any more. */
+/** A visit at a time that is over is asked about: nobody may come to it any more. */
 const agreedToOver = (now) => confirmed({
   title: "Confirm a visit whose time is over?", about: now,
   lines: [`${bookingInWords(now.booking)}.`, `It is ${clock(minuteNow())} by the clock of this device.`],
@@ -102,8 +102,9 @@ async function readVisit(shown, desk) {
   const now = await lookFirst(desk.read());
   const { booking } = now;
   if (isSameVisit(shown, booking)) return now;
-  const present = booking ? ` Now it is: ${bookingInWords(booking)}. Decide on this one.` : "";
-  throw new Outdated(`The visit was changed since it was shown, so nothing was decided.${present}`);
+  const present = booking ? ` Now it is: ${bookingInWords(booking)}.` : "";
+  throw new Outdated(`The visit was changed since it was shown, so nothing was decided.${present}`
+    + (isPending(booking) ? " Decide on this one." : ""));
 }
 
 /** Decides on the visit that is shown, if it is still the pledge's visit; and reports the one that was decided on. */
@@ -139,7 +140,7 @@ async function sendDecision(booking, yes, desk) {
 /** Why the article may not be fetched on a visit that is to come. */
 function doubtsAbout(statement, known) {
   const { booking, ends, held } = statement;
-  if (!isToCome(booking) || booking.day < today()) return [];
+  if (!isToCome(booking)) return [];
   return [
     isLateVisit(statement, known)
       ? `That is after the period’s end, ${inWords(ends)}: the article may have been sold by then.` : null,
@@ -151,11 +152,15 @@ function visit(statement, desk) {
   const { booking } = statement;
   return {
     title: "Visit",
-    barred: isToCome(booking) ? null : "No visit of this pledge waits for an answer.",
+    barred: isPending(booking) ? null : "No visit of this pledge waits for an answer.",
     parts: [
       lead(booking ? `${bookingInWords(booking)}.` : "The pawnor asks for a day and a time."),
       ...doubtsAbout(statement, desk.known).map(lead),
-      buttons(button("Confirm", "yes"), button("Refuse", "no", "plain")),
+      // What is confirmed already, or was asked for a day that is over, can only be refused.
+      buttons(
+        isPast(booking) || booking?.state === "confirmed" ? null : button("Confirm", "yes"),
+        button("Refuse", "no", "plain"),
+      ),
     ],
     act: ({ button: value }) => decide(booking, value === "yes", desk),
   };

@@ -1,17 +1,15 @@
 /** What is due: in grace, ending soon, to be sold, and passed, from the book in the page; by day, or to be pulled. */
+import { turnInShort } from "../shared/after.js";
 import { inShort, seenFrom, today } from "../shared/days.js";
 import { byId, foreign, make } from "../shared/dom.js";
 import { inPounds } from "../shared/money.js";
-import { firstDayAfter, willPass } from "../shared/period.js";
-import { isToCome } from "../shared/statuses.js";
+import { firstDayAfter } from "../shared/period.js";
+import { bookingInShort } from "../shared/visits.js";
 import { missingInWords } from "./age.js";
 import { dueOf, placeOf } from "./groups.js";
 import { keep, kept } from "./kept.js";
 import { ledger } from "./ledger.js";
 import { articleCell, numberCell, section } from "./tables.js";
-
-/** What happens on the first day after: the broker's, or to be sold. */
-const turn = (pledge) => `${willPass(pledge) ? "passes" : "can be sold"} on ${inShort(firstDayAfter(pledge))}`;
 
 const ended = ({ ends }, now) => `${inShort(ends)}, ${seenFrom(now, ends)}`;
 const since = (pledge) => inShort(firstDayAfter(pledge));
@@ -19,18 +17,19 @@ const since = (pledge) => inShort(firstDayAfter(pledge));
 /** Each group: its title, what is said where it is empty, and the day that counts for it. */
 const SECTIONS = {
   grace: {
-    title: "In their days of grace", empty: "No pledge is in its days of grace.", head: "What comes", day: turn,
+    title: "In their days of grace", empty: "No pledge is in its days of grace.", head: "What comes", day: turnInShort,
   },
   week: {
-    title: "Ends within 7 days", empty: "No period ends within 7 days.", head: "Period’s end", day: ended, more: turn,
+    title: "Ends within 7 days", empty: "No period ends within 7 days.", head: "Period’s end", day: ended,
+    more: turnInShort,
   },
   fortnight: {
     title: "Ends in 8 to 14 days", empty: "No period ends on those days.", head: "Period’s end",
-    day: ended, more: turn,
+    day: ended, more: turnInShort,
   },
   month: {
     title: "Ends in 15 to 30 days", empty: "No period ends on those days.", head: "Period’s end",
-    day: ended, more: turn,
+    day: ended, more: turnInShort,
   },
   sale: { title: "Can be sold now", empty: "Nothing can be sold today.", head: "Since", day: since },
   passed: { title: "Passed to you", empty: "No article has passed to you.", head: "Since", day: since, isTicked: true },
@@ -46,6 +45,8 @@ function tick(number, isDone) {
   keep("dealt", [...numbers]);
 }
 
+const TICKS = "What you tick off as dealt with is kept in this browser: other tills still list it.";
+
 /** A box that ticks off a passed pledge. */
 function tickBox({ number }, isDone) {
   const box = make("input", { type: "checkbox", checked: isDone });
@@ -54,20 +55,20 @@ function tickBox({ number }, isDone) {
 }
 
 /** What is owed today; of a passed pledge, on which nothing is owed, the sum that was lent. */
-const sumOf = (pledge) => ledger.owed(pledge)?.owing ?? pledge.pence;
+const sumOf = (pledge) => ledger.owed(pledge)?.owing ?? pledge.credit;
 
-const VISITS = { asked: "asked for", confirmed: "confirmed for" };
+/** The visit for which the article has to be kept, or whose day is over. Of a passed article nothing is fetched. */
+function visitOf({ booking }, { isTicked }, now) {
+  const said = isTicked ? null : bookingInShort(booking, now);
+  return said && make("strong", { className: "reference" }, said);
+}
 
-/** The visit for which the article has to be kept, if one is to come. */
-const visitOf = ({ booking }, now) => (isToCome(booking) && booking.day >= now
-  ? make("strong", { className: "reference" }, `visit ${VISITS[booking.state]} ${inShort(booking.day)}`) : null);
-
-function rowOf(pledge, { day, more, isTicked }, now) {
-  const hold = pledge.held ? make("strong", {}, "on hold, ") : null;
+function rowOf(pledge, told, now) {
+  const { day, more, isTicked } = told;
   const under = more ? make("span", { className: "reference" }, more(pledge)) : null;
   return make("tr", {}, numberCell(pledge), articleCell(pledge),
     make("td", { className: "number" }, inPounds(sumOf(pledge))),
-    make("td", { className: "when" }, hold, day(pledge, now), under, visitOf(pledge, now),
+    make("td", { className: "when" }, day(pledge, now), under, visitOf(pledge, told, now),
       isTicked ? tickBox(pledge, false) : null));
 }
 
@@ -78,6 +79,7 @@ function sectionOf(told, pledges, now) {
     count: pledges.length === 0 ? "0" : `${pledges.length}: ${inPounds(total)}`,
     heads: [["No."], ["Article and reference"], [told.isTicked ? "Credit" : "Owed", "number"], [told.head]],
     row: (pledge) => rowOf(pledge, told, now),
+    under: told.isTicked && pledges.length > 0 ? [make("p", { className: "lead screen" }, TICKS)] : [],
   });
 }
 

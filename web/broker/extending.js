@@ -16,8 +16,8 @@ export const loudLine = (text) => make("strong", { className: "loud" }, text);
 /** Throws if a new end is not after the present end, or if the present end is not the one that was shown. */
 export function checkEnd(until, shown, now) {
   if (now.ends !== shown.ends) throw new Outdated(
-    `Somebody else moved the end to ${inWords(now.ends)} since this pledge was shown here. `
-      + "Look at it before you move the end again.",
+    `Since this pledge was shown here, its end was moved to ${inWords(now.ends)}: by somebody else, or by a press `
+      + "whose reply was lost. Look at it before you move the end again.",
     "until",
   );
   if (until <= now.ends) throw new Unreadable(`The new end is to be after ${inShort(now.ends)}.`, "until");
@@ -37,8 +37,8 @@ export function endLines({ ends, taken, credit }, until) {
     isLong(ends, until)
       ? loudLine(`That is more than a year later, on ${inWords(until)}: look at the year again.`)
       : null,
-    willPass({ taken, ends, pence: credit })
-      ? "The article will not pass to the shop then: if it is not redeemed, it is to be sold."
+    willPass({ taken, ends, credit })
+      ? "The article will not pass to you then: if it is not redeemed, it is to be sold."
       : null,
     "The end can’t be made earlier again. A mistake is set right only if the pledge is redeemed by its paper and taken "
       + "anew.",
@@ -53,6 +53,11 @@ export const sendEnd = (until, desk) => orSeen(
   () => desk.read(), ({ ends }) => (ends === until ? endInWords(ends) : null),
 );
 
+/** What is said of the pawnor's paper once the end is another. */
+const OLD_PAPER = "The pawnor’s paper has the old end: “Print the receipt again” shows one with the new end.";
+/** The bags are pulled by what their tags say. */
+export const OLD_TAG = "If there is a tag on the bag, it has the old end: print it anew.";
+
 async function extend({ until }, shown, desk) {
   if (until <= shown.ends) checkEnd(until, shown, shown);
   const now = await lookFirst(desk.read());
@@ -63,15 +68,19 @@ async function extend({ until }, shown, desk) {
     no: "Not now",
   });
   if (!yes) return NOTHING_DONE;
-  return sendEnd(until, desk);
+  return `${await sendEnd(until, desk)} ${OLD_PAPER} ${OLD_TAG}`;
 }
+
+const leadOf = ({ ends }) => make(
+  "p", { className: "lead" }, `You and the pawnor agree on a later end than ${inWords(ends)}. `
+    + "It can’t be made earlier again, so you are asked once more.",
+);
 
 export const extension = (statement, desk) => ({
   title: "Extend the period",
   barred: barredOf(statement),
   parts: [
-    make("p", { className: "lead" }, `You and the pawnor agree on a later end than ${inWords(statement.ends)}. `
-      + "It can’t be made earlier again, so you are asked once more."),
+    barredOf(statement) ? null : leadOf(statement),
     field("New end", make("input", {
       type: "date", name: "until", min: plusDays(statement.ends, 1), max: "2199-12-31", required: true,
     })),

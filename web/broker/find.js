@@ -4,13 +4,12 @@
  */
 import { byId, foreign, make } from "../shared/dom.js";
 import { onSearch } from "../shared/forms.js";
-import { isReceiptLike, whyNotWhole } from "../shared/receipts.js";
+import { isReceiptLike, pledgeTyped, whyNotWhole } from "../shared/receipts.js";
 import { Unreadable } from "../shared/unreadable.js";
 import { ledger } from "./ledger.js";
-import { goTo, hidePledge, openReceipt } from "./pledge.js";
+import { goTo, hasGoneOn, hidePledge, openReceipt, startOfSearch } from "./pledge.js";
 import { statementOf } from "./reading.js";
 
-const NUMBER = /^[1-9]\d{0,8}$/;
 /** At most so many pledges are offered. */
 const MOST = 20;
 
@@ -40,18 +39,16 @@ async function named(wanted) {
 }
 
 /** The pledge of a number, where no other has that number as its reference. */
-async function findNumber(wanted) {
-  const number = Number(wanted);
-  const statement = await statementOf(number);
+async function findNumber(wanted, number, begun) {
+  const statement = await statementOf(number, begun.session);
   const others = ledger.withReference(wanted).filter((pledge) => pledge.number !== number);
-  if (statement === null) return others.length > 0 ? offer(others, null) : findReference(wanted);
-  if (others.length > 0) return offer(others, number);
+  if (statement === null) return others.length > 0 ? offer(others, null, begun) : findReference(wanted, begun);
+  if (others.length > 0) return offer(others, number, begun);
   opened = ledger.book === null ? { wanted, number } : null;
-  await goTo(number, statement);
-  return "";
+  return goTo(number, begun, { statement });
 }
 
-async function findReference(wanted) {
+async function findReference(wanted, begun) {
   const found = await named(wanted);
   if (found.length === 0) {
     const why = whyNotWhole(wanted);
@@ -61,17 +58,15 @@ async function findReference(wanted) {
       "wanted",
     );
   }
-  return offer(found, null);
+  return offer(found, null, begun);
 }
 
 /** Goes to the one pledge that is meant, or offers those that can be: by their reference first. */
-async function offer(found, number) {
+async function offer(found, number, begun) {
   const meant = found.map((pledge) => ({ number: pledge.number, as: "reference" }));
   if (number !== null) meant.push({ number, as: "number" });
-  if (meant.length === 1) {
-    await goTo(meant[0].number);
-    return "";
-  }
+  if (meant.length === 1) return goTo(meant[0].number, begun);
+  if (hasGoneOn(begun)) return { sentence: "More than one pledge can be meant. Press Find to choose.", tone: "quiet" };
   byId("found").hidden = true;
   showChoices(meant);
   byId("choices").querySelector("a").focus();
@@ -81,12 +76,14 @@ async function offer(found, number) {
 /** Finds what was typed. Where that fails no other pledge, found before, stays in its place. */
 async function find({ wanted: typed }) {
   const wanted = typed.trim();
+  const begun = startOfSearch();
   clearChoices();
   try {
-    if (isReceiptLike(wanted)) return await openReceipt(wanted);
-    return await (NUMBER.test(wanted) ? findNumber(wanted) : findReference(wanted));
+    if (isReceiptLike(wanted)) return await openReceipt(wanted, begun);
+    const number = pledgeTyped(wanted);
+    return await (number ? findNumber(wanted, number, begun) : findReference(wanted, begun));
   } catch (fault) {
-    hidePledge();
+    if (!hasGoneOn(begun)) hidePledge();
     throw fault;
   }
 }

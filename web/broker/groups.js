@@ -1,8 +1,9 @@
 /** The groups of pledges by their status on a day, and the search for them. */
 import { plusDays } from "../shared/days.js";
-import { statusOn } from "../shared/period.js";
-import { numberOf, receiptsIn } from "../shared/receipts.js";
-import { isOpen, isToCome } from "../shared/statuses.js";
+import { isHeldOn, statusOn } from "../shared/period.js";
+import { numberOf, pledgeTyped, receiptsTyped } from "../shared/receipts.js";
+import { isOpen } from "../shared/statuses.js";
+import { isPast, isToCome } from "../shared/visits.js";
 
 const stands = (...wanted) => (now) => (pledge) => wanted.includes(statusOn(pledge, now));
 
@@ -16,9 +17,10 @@ function endsSoon(now) {
 
 const stillOpen = (now) => (pledge) => isOpen(statusOn(pledge, now));
 
-const isHeld = (now) => (pledge) => pledge.held && stillOpen(now)(pledge);
+const isHeld = (now) => (pledge) => isHeldOn(pledge, now);
 
-const somebodyComes = (now) => ({ state, booking }) => state === "open" && isToCome(booking) && booking.day >= now;
+const somebodyComes = (now) => (pledge) => isToCome(pledge.booking, now) && stillOpen(now)(pledge);
+const wasToCome = (now) => (pledge) => isPast(pledge.booking, now) && stillOpen(now)(pledge);
 
 /** The groups that a list can be narrowed to: for a day, whether a pledge is in it. */
 export const GROUPS = {
@@ -32,6 +34,7 @@ export const GROUPS = {
   sold: { name: "Sold", of: stands("sold") },
   held: { name: "On hold", of: isHeld },
   comes: { name: "Visit to come", of: somebodyComes },
+  past: { name: "Past visit", of: wasToCome },
 };
 
 const byEnd = (one, other) => (one.ends < other.ends ? -1 : one.ends > other.ends ? 1 : one.number - other.number);
@@ -48,13 +51,24 @@ export function dueOf(book, now) {
   return lists;
 }
 
-/** The visits that were asked for and wait for an answer, by day and time. */
-export function waiting(book) {
-  const asked = book.pledges.filter(({ state, booking }) => state === "open" && booking?.state === "asked");
-  const key = ({ booking }) => `${booking.day} ${String(booking.window).padStart(2, "0")}`;
-  return asked.sort(
-    (one, other) => (key(one) < key(other) ? -1 : key(one) > key(other) ? 1 : one.number - other.number)
-  );
+function by(key) {
+  return (one, other) => {
+    const [first, second] = [key(one), key(other)];
+    return first < second ? -1 : first > second ? 1 : one.number - other.number;
+  };
+}
+
+/** By the day and the time of their visits. */
+const byVisit = by(({ booking }) => `${booking.day} ${String(booking.window).padStart(2, "0")}`);
+
+/** The visits that were asked for and wait for an answer, by day and time: of a passed article none is decided on. */
+export const waiting = (book, now) =>
+  book.pledges.filter((pledge) => pledge.booking?.state === "asked" && stillOpen(now)(pledge)).sort(byVisit);
+
+/** The past visits that were confirmed, of pledges that are open: the last day first. */
+export function pastVisits(book, now) {
+  const wasConfirmed = (pledge) => pledge.booking?.state === "confirmed" && wasToCome(now)(pledge);
+  return book.pledges.filter(wasConfirmed).sort(byVisit).reverse();
 }
 
 /** What a typed text is looked for in. It is made once for each pledge. */
@@ -69,13 +83,6 @@ export function placeOf(pledge) {
   return pledge.place;
 }
 
-function by(key) {
-  return (one, other) => {
-    const [first, second] = [key(one), key(other)];
-    return first < second ? -1 : first > second ? 1 : one.number - other.number;
-  };
-}
-
 /** The orders in which a list can be shown. */
 export const ORDERS = {
   newest: { name: "Newest first", compare: (one, other) => other.number - one.number },
@@ -83,16 +90,18 @@ export const ORDERS = {
   ends: { name: "By the period’s end", compare: by(({ ends }) => ends) },
   reference: { name: "By reference", compare: by(placeOf) },
   article: { name: "By article", compare: by(({ article }) => article.toLowerCase()) },
-  sum: { name: "Largest sum first", compare: by(({ pence }) => -pence) },
+  sum: { name: "Largest sum first", compare: by(({ credit }) => -credit) },
 };
 
 /** The pledges of a book in a group that a text finds, in an order. A receipt finds its own pledge. */
 export function found(book, { text, group, order }, now) {
-  const [receipt] = receiptsIn(text);
+  const receipt = receiptsTyped(text)[0]?.receipt;
   const wanted = text.trim().toLowerCase();
+  const number = pledgeTyped(wanted);
+  const matches = (pledge) => wanted === "" || textOf(pledge).includes(wanted) || pledge.number === number;
   const holds = GROUPS[group].of(now);
   const hits = receipt ? [book.pledges[numberOf(receipt) - 1]].filter(Boolean)
-    : book.pledges.filter((pledge) => (wanted === "" || textOf(pledge).includes(wanted)) && holds(pledge));
+    : book.pledges.filter((pledge) => matches(pledge) && holds(pledge));
   const { compare } = ORDERS[order];
   return compare ? hits.sort(compare) : hits;
 }

@@ -198,7 +198,7 @@ class Ledger {
       return before.owed;
     }
     const terms = isOpen(statusOn(pledge, now)) ? this.termsOf(pledge) : null;
-    const owed = terms && owedOn({ ...pledge, credit: pledge.pence }, terms, firstDayFrom(now, pledge));
+    const owed = terms && owedOn(pledge, terms, firstDayFrom(now, pledge));
     this.reckoned.set(pledge, { now, entries, ends, state, owed });
     return owed;
   }
@@ -239,7 +239,7 @@ class Ledger {
     this.change(() => {
       if (number !== this.book.pledges.length + 1) return;
       this.book.pledges.push({
-        number, article, kind, pence: credit, taken, ends, held, booking, entries, extensions,
+        number, article, kind, credit, taken, ends, held, booking, entries, extensions,
         reference: opening.ref, agreed: opening.agreed, fiveDays: opening.five_days, version, changed: taken,
         state: "open", closed: null, amount: null,
         secrets: [{ day: taken, paper: "opening", secret: receipt.slice(receipt.indexOf("-") + 1) }],

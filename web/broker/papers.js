@@ -12,6 +12,9 @@ const PAPERS = {
   opening: "when the pledge was taken", sworn: "on a sworn declaration", written: "on a written statement",
 };
 
+/** What the receipt of a pledge that is sold or has passed is still for. */
+export const SHOWS = "The receipt only shows what became of the pledge: don’t hand out the article for it.";
+
 /** Whether a receipt opens the pledge of this number; `begun` is the session of the act that asks. */
 export const isLive = async (receipt, number, begun) => (await heldBy(receipt, begun))?.number === number;
 
@@ -50,6 +53,20 @@ function whyByBook(receipt) {
   const next = secrets[place + 1];
   if (next) return `${DEAD}a newer one took its place on ${inShort(next.day)}. ${KEEP}`;
   return `${DEAD}pledge ${number} was redeemed with it on ${inShort(pledge.closed)}.`;
+}
+
+/** Why a receipt that was live no longer is, by the book in the page; or null where the book does not show that. */
+export function whyDeadByBook(receipt) {
+  const pledge = receipt ? ledger.pledge(numberOf(receipt)) : null;
+  const isKnown = pledge?.secrets.some(({ secret }) => receipt.endsWith(secret));
+  return isKnown && liveReceipt(pledge) !== receipt ? whyByBook(receipt) : null;
+}
+
+/** Takes away a paper whose receipt is not live any more by the book in the page. Returns why it is not, or null. */
+export function dropDeadPaper(place) {
+  const why = whyDeadByBook(place.querySelector(".secret")?.textContent);
+  if (why !== null) place.replaceChildren();
+  return why;
 }
 
 /** The same at once, by the statement, and by the book in the page as far as it was read before. */

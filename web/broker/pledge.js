@@ -17,7 +17,9 @@ import { commandsOf } from "./commands.js";
 import { sayElsewhere } from "./elsewhere.js";
 import { ledger } from "./ledger.js";
 import { heldBy, statementOf } from "./reading.js";
-import { isLive, newestReceipt, readReceipt, toldOfReceipts, whyDead } from "./papers.js";
+import {
+  dropDeadPaper, isLive, newestReceipt, readReceipt, SHOWS, toldOfReceipts, whyDead, whyDeadByBook,
+} from "./papers.js";
 import { receiptSheet } from "./receipt.js";
 import { REDEEM } from "./redeem.js";
 import { askBook, askHeld, current, refuseOther } from "./session.js";
@@ -266,6 +268,14 @@ class Desk {
     this.saidOn = today();
   }
 
+  /** Takes away the paper, and the word that a receipt is live, where the book shows that it is not live any more. */
+  dropDead() {
+    const ofScanned = whyDeadByBook(this.scanned);
+    const why = dropDeadPaper(byId("new-receipt")) ?? (this.notice.textContent === this.ofReceipt ? ofScanned : null);
+    if (ofScanned !== null) this.paper = null;
+    if (why !== null) tell(this.notice, why, "bad");
+  }
+
   /** Takes away what was said on another day, or of a receipt: it names what was owed then. */
   clearOld() {
     if (this.saidOn !== today() || this.notice.textContent === this.ofReceipt) tell(this.notice, "");
@@ -280,7 +290,11 @@ class Desk {
     }
     this.message = null;
     const details = said.fold && foldOf(byId("commands"), said.fold);
-    if (details) details.open = true;
+    if (details) {
+      details.open = true;
+      // A form that was open already has kept its empty field.
+      details.querySelector("[name=receipt]").value ||= this.scanned;
+    }
     [this.saidOn, this.ofReceipt] = [today(), said.message];
     tell(this.notice, said.message, said.tone);
     this.notice.focus();
@@ -300,25 +314,36 @@ export function clearPledge() {
   byId("finding").reset();
 }
 
+/** Where the clerk is when a search begins: what it finds is opened only if the clerk is still there. */
+export const startOfSearch = () => ({ session: current(), hash: location.hash });
+
+/** Whether the clerk has gone to another part, pledge or book since a search began. */
+export const hasGoneOn = ({ session, hash }) => session !== current() || hash !== location.hash;
+
+const NOT_OPENED = "It was found after you had gone on, so it was not opened.";
+
 /**
- * Goes to a pledge, by the address; or shows it as it is now, if the page is there already. Its statement may have been
- * read just now. The empty form is no place to go back to.
+ * Goes to a pledge that a search found, by the address; or shows it as it is now, if the page is there already. Its
+ * statement may have been read just now; `paper` and `message` are those of the desk, if it was found by its receipt.
+ * If the clerk has gone on meanwhile, it says so and goes nowhere. The empty form is no place to go back to.
  */
-export function goTo(number, statement = null) {
-  desk.fresh = statement;
-  desk.sought = number;
+export async function goTo(number, begun, { statement = null, ...more } = {}) {
   const hash = `#pledge=${number}`;
-  if (location.hash === hash) return showPledge(String(number));
-  if (location.hash === "#pledge") location.replace(hash);
+  if (hasGoneOn(begun) && !(begun.session === current() && location.hash === hash)) {
+    if (begun.session === current()) sayElsewhere({ hash, name: `Pledge ${number}`, text: NOT_OPENED, tone: "quiet" });
+    return "";
+  }
+  Object.assign(desk, { fresh: statement, sought: number, ...more });
+  if (location.hash === hash) await showPledge(String(number));
+  else if (location.hash === "#pledge") location.replace(hash);
   else location.hash = hash;
-  return null;
+  return "";
 }
 
-/** Why the article is not given back for a receipt that is still live, although its pledge is over. */
+/** What is said of a receipt that still shows its pledge, although the pledge is over. */
 const overMessage = (closing) => (closing
-  ? `This receipt is live, but the article was sold on ${inShort(closing.day)}.`
-  : "This receipt is live, but the period is over and the article belongs to the pawnbroker. "
-    + "Don’t hand out the article.");
+  ? `The article was sold on ${inShort(closing.day)}. ${SHOWS}`
+  : `The period is over, and the article is yours. ${SHOWS}`);
 
 /** What is said of a live receipt. On a hold, or once the pledge is over, the article is not given back for it. */
 function liveMessage({ status, owed, held, closing }) {
@@ -330,22 +355,17 @@ function liveMessage({ status, owed, held, closing }) {
 }
 
 /** Opens the pledge of a receipt, or of the link of its code, and says whether the receipt is live. */
-export async function openReceipt(typed) {
+export async function openReceipt(typed, begun = startOfSearch()) {
   const receipt = readReceipt(typed, "wanted", ONE);
   const number = numberOf(receipt);
-  const held = await heldBy(receipt);
+  const held = await heldBy(receipt, begun.session);
   if (held !== null) {
-    desk.paper = receipt;
-    desk.message = { number, ...liveMessage(held) };
-    await goTo(number, held);
-    return "";
+    return goTo(number, begun, { statement: held, paper: receipt, message: { number, ...liveMessage(held) } });
   }
-  desk.paper = null;
-  const { sentence, statement, later } = await whyDead(receipt);
+  const { sentence, statement, later } = await whyDead(receipt, begun.session);
   if (statement === null) throw new Unreadable(sentence, "wanted", later);
-  desk.message = { number, message: sentence, tone: "bad", fold: null, later };
-  await goTo(number, statement);
-  return "";
+  const message = { number, message: sentence, tone: "bad", fold: null, later };
+  return goTo(number, begun, { statement, paper: null, message });
 }
 
 /** Shows no pledge any more. */
@@ -393,8 +413,12 @@ export async function showPledge(detail) {
   } else if (desk.statement?.number === number) desk.sayMessage();
 }
 
-/** Once the book was read it names the reference, the terms and the days of grace of a pledge that is shown. */
+/**
+ * Once the book was read it names the reference, the terms and the days of grace of a pledge that is shown, and shows
+ * which receipts died.
+ */
 export function redrawPledge() {
-  if (!desk.statement || desk.isDrawnByBook || desk.actingOn === desk.number) return;
-  if (ledger.pledge(desk.number)) desk.draw();
+  if (!desk.statement || desk.actingOn === desk.number) return;
+  desk.dropDead();
+  if (!desk.isDrawnByBook && ledger.pledge(desk.number)) desk.draw();
 }

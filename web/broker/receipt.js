@@ -1,4 +1,5 @@
 /** A receipt on paper: one page of A5, with the square code of the pawnor's link. */
+import { becomesInWords } from "../shared/after.js";
 import { inShort, inWords, today } from "../shared/days.js";
 import { facts, foreign, make } from "../shared/dom.js";
 import { inPounds } from "../shared/money.js";
@@ -29,16 +30,17 @@ function creditFacts({ kind, credit, entries, owed, closing }) {
 }
 
 function factsOf(statement, { fiveDays, agreed, terms }) {
-  const { taken } = statement;
+  const { taken, ends } = statement;
   return facts([
     ...creditFacts(statement),
     ["Taken on", inWords(taken)],
-    ["Period ends on", endInWords(statement, { agreed })],
+    [ends < today() ? "Period ended on" : "Period ends on", endInWords(statement, { agreed })],
     ["Days of grace after it", fiveDays ? "Five" : "None"],
+    isOpen(statement.status) && ["After that", `The article ${becomesInWords(statement, "pawnor")}`],
     agreedFact(statement, agreed),
     ["Interest", interestInWords(terms)],
     ["Safe keeping", keepingInWords(terms)],
-  ]);
+  ].filter(Boolean));
 }
 
 function headOf(number, reference) {

@@ -134,7 +134,9 @@ export function redemption(statement, desk) {
     : `${inPounds(statement.owed.owing)} is owed today. All of it is to be received${nothing ? ": type 0" : ""}.`;
   return {
     title: REDEEM,
-    barred: statement.held ? "The pledge is on hold, so it can’t be redeemed. Release the hold first." : null,
+    barred: statement.held
+      ? "The pledge is on hold, so it can’t be redeemed. Find out why before you release the hold."
+      : null,
     parts: [make("p", { className: "lead" }, lead),
       field("Receipt", receipt, "Scan its code, or type it from the paper."),
       field("Received, in pounds", amount), buttons(make("button", { className: "grave" }, "Redeem"))],

@@ -10,7 +10,7 @@ import { buttons, field } from "../shared/forms.js";
 import { inPounds } from "../shared/money.js";
 import { recordEntry } from "../shared/payments.js";
 import { confirmed, NEW_DAY, NOTHING_DONE } from "../shared/questions.js";
-import { barredOf, checkEnd, endLines, sendEnd } from "./extending.js";
+import { barredOf, checkEnd, endLines, OLD_TAG, sendEnd } from "./extending.js";
 
 /** The refusals of a pledge that is over; any other is out of its period. */
 const REFUSED = { passed: "Passed", redeemed: "Closed", sold: "Closed" };
@@ -32,11 +32,18 @@ const question = (now, until, isNewDay) => confirmed({
   no: "Not now",
 });
 
-/** Receives the charges. Returns a message if the renewal has to stop here, or null. */
+const outdated = ({ owed }) => new Outdated(
+  `${CHANGED} ${inPounds(owed.owing)} is owed now. Look at the pledge, and renew it again.`,
+);
+
+/**
+ * Receives the charges. Returns a message if the renewal has to stop here, or null. A change during the question is not
+ * asked about: a yes would go to the loan where the charges are paid, and move an end again that was moved.
+ */
 async function receive(now, desk) {
   if (now.owed.charges === 0) return null;
   const said = await recordEntry({
-    shown: now, sort: "repay", pence: now.owed.charges, askFrom: Infinity, read: () => desk.read(),
+    shown: now, sort: "repay", pence: now.owed.charges, askFrom: Infinity, outdated, read: () => desk.read(),
     send: (body) => desk.command("repay", body, true),
   });
   return said.tone === "good" ? null : said;
@@ -65,9 +72,7 @@ function compare(until, before, now, isNewDay) {
   if (now.status !== "inside") throw refusalOf(REFUSED[now.status] ?? "PeriodOver");
   checkEnd(until, before, now);
   const isSame = isNewDay ? now.entries.length === before.entries.length : now.owed.owing === before.owed.owing;
-  if (!isSame) throw new Outdated(
-    `${CHANGED} ${inPounds(now.owed.owing)} is owed now. Look at the pledge, and renew it again.`,
-  );
+  if (!isSame) throw outdated(now);
 }
 
 /**
@@ -95,13 +100,13 @@ async function renew({ until }, shown, desk) {
   const received = now.owed.charges > 0 ? `${inPounds(now.owed.charges)} of charges was received. ` : "";
   try {
     const ended = await sendEnd(until, desk);
-    return `${received}${ended}${await showPaper(desk)}`;
+    return `${received}${ended}${await showPaper(desk)} ${OLD_TAG}`;
   } catch (fault) {
     const isSure = !(fault instanceof Lost);
     const why = whyNotExtended(fault);
     return {
       sentence: `${received}The period was ${isSure ? "not" : "perhaps not"} extended: ${why}. `
-        + "Look at the end above, and extend it by itself.",
+        + "Find the pledge again, look at its end, and extend it by itself if it still has the old one.",
       tone: "bad",
     };
   }
@@ -109,6 +114,7 @@ async function renew({ until }, shown, desk) {
 
 export function renewal(statement, desk) {
   const { owed, ends } = statement;
+  const barred = barredOf(statement);
   const until = make("input", {
     type: "date", name: "until", min: ends, max: "2199-12-31", required: true,
     defaultValue: sixMonthsAfter(ends > today() ? ends : today()),
@@ -118,9 +124,10 @@ export function renewal(statement, desk) {
     : `No charges are owed today. Agree on a later end than ${inWords(ends)}.`;
   return {
     title: "Renew",
-    barred: barredOf(statement),
+    barred,
     parts: [
-      make("p", { className: "lead" }, `${lead} Then the paper is printed with its new end.`), field("New end", until),
+      barred ? null : make("p", { className: "lead" }, `${lead} Then the paper is printed with its new end.`),
+      field("New end", until),
       buttons(make("button", {}, "Renew the pledge")),
     ],
     act: (fields) => renew(fields, statement, desk),

@@ -7,6 +7,7 @@ import { SMALL } from "../shared/period.js";
 import { confirmed, NOTHING_DONE } from "../shared/questions.js";
 import { isOpen } from "../shared/statuses.js";
 import { ledger } from "./ledger.js";
+import { SHOWS } from "./papers.js";
 import { current } from "./session.js";
 
 const lead = (text) => make("p", { className: "lead" }, text);
@@ -29,7 +30,8 @@ async function printAgain(statement, desk) {
   const receipt = await desk.newestReceipt();
   if (receipt === null) return { sentence: "No receipt of this pledge is live, so none is printed.", tone: "bad" };
   await desk.showReceipt(receipt);
-  return `The receipt is below, ready to print. It was looked at just now: it is live. ${desk.toldOfReceipts()}`;
+  const now = isOpen(statement.status) ? "It was looked at just now: it is live." : SHOWS;
+  return `The receipt is below, ready to print. ${now} ${desk.toldOfReceipts()}`;
 }
 
 export const printing = (statement, desk) => ({

@@ -1,25 +1,28 @@
 /** The sale of an article whose period is over. */
 import { CODES, isRefusal, refusalOf } from "../shared/codes.js";
-import { inWords, today } from "../shared/days.js";
+import { inWords } from "../shared/days.js";
 import { make } from "../shared/dom.js";
 import { lookFirst, orSeen } from "../shared/faults.js";
 import { buttons, field } from "../shared/forms.js";
 import { inPounds, MOST, readPounds } from "../shared/money.js";
 import { firstDayAfter, willPass } from "../shared/period.js";
 import { confirmed, NOTHING_DONE } from "../shared/questions.js";
-import { isToCome } from "../shared/statuses.js";
-import { bookingInWords } from "../shared/summary.js";
+import { saleInWords } from "../shared/states.js";
+import { bookingInWords, isToCome } from "../shared/visits.js";
 
 /** Why the article can't be sold now: the first day on which it can, or that it never will be. */
-function barredOf({ status, taken, ends, credit }, { fiveDays }) {
+function barredOf(statement, { fiveDays }) {
+  const { status, ends } = statement;
   if (status === "realisable") return null;
   if (fiveDays === null && status === "inside") {
     return `The period ends on ${inWords(ends)}. The first day of a sale is shown once the book is read.`;
   }
-  const standing = { taken, ends, pence: credit, fiveDays: fiveDays ?? status === "grace" };
-  const first = inWords(firstDayAfter(standing));
-  if (willPass(standing)) return `It is not sold: if it is not redeemed before, the article passes to you on ${first}.`;
-  return `It can be sold on ${first} first, if it is not redeemed or extended before.`;
+  const first = inWords(firstDayAfter({ ends, fiveDays: fiveDays ?? status === "grace" }));
+  // In the days of grace the end can't be moved any more.
+  const unless = `if it is not redeemed${status === "inside" ? " or extended" : ""} before`;
+  return willPass(statement)
+    ? `It is not sold: ${unless}, the article passes to you on ${first}.`
+    : `It can be sold from ${first} on, ${unless}.`;
 }
 
 /** What the proceeds leave, and whose that is. */
@@ -31,11 +34,7 @@ function outcome(net, owing) {
   return "That is exactly what is owed.";
 }
 
-function done({ net, surplus, shortfall }) {
-  if (surplus > 0) return `Sold for ${inPounds(net)}: ${inPounds(surplus)} more than was owed, which is the pawnor’s.`;
-  if (shortfall > 0) return `Sold for ${inPounds(net)}: ${inPounds(shortfall)} less than was owed.`;
-  return `Sold for ${inPounds(net)}, exactly what was owed.`;
-}
+const done = (closing) => `Sold for ${inPounds(closing.net)}: ${saleInWords(closing, "broker")}.`;
 
 const isSale = ({ status, closing }, net) => status === "sold" && closing.net === net;
 
@@ -64,8 +63,8 @@ async function sell({ amount }, desk) {
     lines: [
       `The article was sold, and ${inPounds(net)} is left after the costs of the sale.`,
       owed ? `${inPounds(owed.owing)} is owed today. ${outcome(net, owed.owing)}` : null,
-      held ? "The pledge is on hold: find out why before the article is sold." : null,
-      isToCome(booking) && booking.day >= today() ? `The pawnor is to come for it: ${bookingInWords(booking)}.` : null,
+      held ? "Find out why it is on hold before the article is sold." : null,
+      isToCome(booking) ? `The pawnor is to come for it: ${bookingInWords(booking)}.` : null,
       "The pledge is closed by it. It can’t be taken back.",
     ],
     yes: `Sold for ${inPounds(net)}`, no: "Not now",

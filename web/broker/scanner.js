@@ -1,6 +1,6 @@
 /**
  * A scanner types as a keyboard does. What it types while no field for a text has the focus is found, if it looks like
- * a receipt.
+ * a receipt; and so is what it types into the form of a new pledge, where no receipt belongs.
  */
 import { byId } from "../shared/dom.js";
 import { isReceiptLike } from "../shared/receipts.js";
@@ -17,8 +17,7 @@ let last = 0;
 /** The field that had the focus when the text began, and its value then: a scan changes a day. */
 let before = null;
 
-function putBack({ field, value }) {
-  if (!field.matches("input[type=date]")) return;
+function put(field, value) {
   field.value = value;
   field.dispatchEvent(new Event("input", { bubbles: true }));
 }
@@ -30,8 +29,22 @@ function find(text) {
   byId("finding").querySelector("button").click();
 }
 
+/** A receipt in the form of a new pledge is found once it is entered, and does not stay in the form. */
+function onTakingKey(event) {
+  const field = event.target;
+  if (event.key !== "Enter" || !field.matches("#taking input") || !isReceiptLike(field.value)) return;
+  event.preventDefault();
+  const scanned = field.value;
+  put(field, "");
+  find(scanned);
+}
+
 function onKey(event) {
-  if (current() === null || event.target.matches(TEXTS) || document.querySelector("dialog")) return;
+  if (current() === null || document.querySelector("dialog")) return;
+  if (event.target.matches(TEXTS)) {
+    onTakingKey(event);
+    return;
+  }
   if (event.timeStamp - last > APART) typed = "";
   if (typed === "") before = { field: event.target, value: event.target.value };
   last = event.timeStamp;
@@ -39,7 +52,7 @@ function onKey(event) {
   if (event.key !== "Enter") return;
   if (isReceiptLike(typed)) {
     event.preventDefault();
-    putBack(before);
+    if (before.field.matches("input[type=date]")) put(before.field, before.value);
     find(typed);
   }
   typed = "";

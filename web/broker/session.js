@@ -1,7 +1,7 @@
 /** The open book: its number and its key, kept for this tab alone. */
 import { ask } from "../shared/api.js";
 import { Outdated } from "../shared/faults.js";
-import { isBook, plain } from "../shared/receipts.js";
+import { bookTyped, plain } from "../shared/receipts.js";
 import { Unreadable } from "../shared/unreadable.js";
 
 const KEPT = "broker";
@@ -25,8 +25,9 @@ function readKey(typed) {
 }
 
 export function begin({ book, key }) {
-  if (!isBook(book.trim())) throw new Unreadable("The book is a number from 1 to 999,999,999.", "book");
-  session = { book: book.trim(), key: readKey(key) };
+  const number = bookTyped(book);
+  if (number === "") throw new Unreadable("The book is a number from 1 to 999,999,999.", "book");
+  session = { book: number, key: readKey(key) };
 }
 
 /** Keeps the session for the tab, once its key was found to be right. */

@@ -10,11 +10,13 @@ function waysOf({ kind, taken, owed, status }) {
   const anew = "redeem it by its own receipt for what is owed, and take the pledge anew under another reference";
   const running = status === "inside"
     ? "A drawing of too much is recorded as repaid, and a repayment of too much is drawn again. If that is done on the "
-      + "same day, what is owed is then as it was."
+      + "same day, as much is owed then as before, but charges that were owed are part of the loan after it, and bear "
+      + "interest."
     : "A drawing of too much is recorded as repaid.";
   return [
     taken === today()
-      ? `A pledge that was taken by mistake today: ${anew}. ${inPounds(owed.owing)} is owed today.`
+      ? `A pledge that was taken by mistake today: ${anew}, unless it was taken twice. ${inPounds(owed.owing)} is owed `
+        + "today."
       : null,
     kind === "running"
       ? running

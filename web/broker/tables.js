@@ -1,5 +1,7 @@
 /** Tables of pledges in sections: the first rows, the others when they are asked for, and all of them on paper. */
+import { today } from "../shared/days.js";
 import { foreign, make } from "../shared/dom.js";
+import { isHeldOn } from "../shared/period.js";
 import { printWhole } from "../shared/printing.js";
 
 /** How many rows a section shows first, so that six sections are not above some two hundred rows. */
@@ -10,9 +12,10 @@ export const pledgeLink = (number) =>
   make("a", { href: `#pledge=${number}`, className: "pledge-link" }, `Pledge ${number}`);
 
 /** A pledge's article with its reference under it, and whether the pledge is on hold, as a cell. */
-export const articleCell = ({ article, reference, held, state }) => make(
-  "td", { className: "article" }, foreign(article), make("span", { className: "reference" }, foreign(reference)),
-  held && state === "open" ? make("strong", { className: "reference" }, "On hold") : null,
+export const articleCell = (pledge) => make(
+  "td", { className: "article" }, foreign(pledge.article),
+  make("span", { className: "reference" }, foreign(pledge.reference)),
+  isHeldOn(pledge, today()) ? make("strong", { className: "reference" }, "On hold") : null,
 );
 
 export const numberCell = ({ number }) =>

@@ -1,4 +1,5 @@
 /** A tag for the bag: the pledge's number, reference, article and end, on a small paper of its own. */
+import { becomes } from "../shared/after.js";
 import { inShort } from "../shared/days.js";
 import { byId, foreign, make } from "../shared/dom.js";
 import { buttons } from "../shared/forms.js";
@@ -10,15 +11,17 @@ import { current } from "./session.js";
 export function tagOf(statement, { reference, fiveDays }) {
   const print = make("button", { type: "button" }, "Print the tag");
   print.addEventListener("click", () => window.print());
-  const { number, article, ends, credit, taken } = statement;
+  const { number, article, kind, ends, credit, taken } = statement;
   const until = lastSafeDay({ ends, fiveDays });
+  const sum = `${kind === "running" ? "Up to " : ""}${inPounds(credit)}`;
   return make("div", { className: "receipt" }, make("div", { className: "buttons screen" }, print),
     make("article", { className: "paper tag" },
       make("p", { className: "tag-number" }, String(number)),
       make("p", { className: "tag-reference" }, foreign(reference)),
       make("p", { className: "tag-article" }, foreign(article)),
-      make("p", {}, `Book ${current().book}. ${inPounds(credit)}, taken ${inShort(taken)}.`),
-      make("p", { className: "tag-end" }, `Until ${inShort(until)}${fiveDays ? ", with grace" : ""}`)));
+      make("p", {}, `Book ${current().book}. ${sum}, taken ${inShort(taken)}.`),
+      make("p", { className: "tag-end" }, `Until ${inShort(until)}${fiveDays ? ", with grace" : ""}`),
+      make("p", {}, `After that it ${becomes(statement, "broker")}.`)));
 }
 
 export const tagging = (statement, desk) => ({

@@ -2,6 +2,7 @@
  * Taking a pledge, and printing its receipt. What is printed was looked at just before: a live receipt of a pledge that
  * was taken now, with the terms that it keeps. None of it waits for the whole book.
  */
+import { becomesInWords } from "../shared/after.js";
 import { CODES, isRefusal, refusalOf } from "../shared/codes.js";
 import { inShort, inWords, sixMonthsAfter, today } from "../shared/days.js";
 import { byId, foreign, make } from "../shared/dom.js";
@@ -9,12 +10,13 @@ import { Lost, lookFirst } from "../shared/faults.js";
 import { fieldsOf, fillAgain, onSend, tell } from "../shared/forms.js";
 import { inPounds, MOST, readPounds } from "../shared/money.js";
 import { confirmed, NEW_DAY, NOTHING_DONE } from "../shared/questions.js";
-import { isReceiptLike } from "../shared/receipts.js";
+import { isReceiptLike, numberOf } from "../shared/receipts.js";
 import { termsInWords } from "../shared/terms.js";
 import { folded, readText } from "../shared/texts.js";
 import { Unreadable } from "../shared/unreadable.js";
 import { isLong, loudLine } from "./extending.js";
 import { ledger } from "./ledger.js";
+import { dropDeadPaper } from "./papers.js";
 import { openReceipt } from "./pledge.js";
 import { statementOf } from "./reading.js";
 import { nextReference } from "./references.js";
@@ -100,6 +102,7 @@ function askOf({ article, ref, kind, pence, agreed, five_days: fiveDays }, terms
       [foreign(article), ", reference ", foreign(ref), "."],
       `The period ends on ${inWords(end)}, with ${fiveDays ? "five" : "no"} days of grace.`,
       isLong(six, end) ? loudLine("That is more than a year after the six months: look at the year again.") : null,
+      `After that the article ${becomesInWords({ taken: today(), ends: end, credit: pence }, "broker")}.`,
       isFixed ? `${inPounds(pence)} is lent.` : `A running account up to ${inPounds(pence)}. ${PAID_OUT}`,
       pence >= VERY_LARGE ? "That is a large sum: look at it again." : null,
       terms ? `Interest by version ${terms.version} of the terms: ${termsInWords(terms)}.` : null,
@@ -182,7 +185,7 @@ async function send(opening, { again, asked, begun }) {
     return { opening, said, known, before, asked, begun };
   } catch (fault) {
     if (fault instanceof Lost && begun === current()) lost = { opening, known, before, asked };
-    if (isRefusal(fault, CODES.RefTaken)) ledger.anotherChanged();
+    if (isRefusal(fault, CODES.RefTaken)) ledger.anotherChanged({ isMissing: true });
     throw fault;
   }
 }
@@ -273,12 +276,25 @@ export function openTaking() {
   if (ledger.head && performance.now() - ledger.head.began > OLD_TERMS) ledger.readHead().then(showTaking, () => {});
 }
 
+/** Takes away a paper that would be wrong if it were printed now, by the book in the page, and says why. */
+function dropOldPaper() {
+  let why = dropDeadPaper(place());
+  const number = numberOf(place().querySelector(".secret")?.textContent ?? "");
+  if (ledger.pledge(number)?.extensions.length > 0) {
+    place().replaceChildren();
+    why = `The period’s end was moved since pledge ${number} was taken: “Print the receipt again”, on its page, shows `
+      + "the new end.";
+  }
+  if (why !== null) tell(notice, why);
+}
+
 export function showTaking() {
   form().elements.agreed.min = today();
   if (wantsTerms && ledger.head?.terms.length > 0) {
     wantsTerms = false;
     tell(notice, "");
   }
+  dropOldPaper();
   warnOfTerms();
   offerReference();
   warnStanding();

@@ -1,7 +1,7 @@
 /** The book's terms: the versions that it has, and the next. */
 import { refusalOf } from "../shared/codes.js";
 import { byId, make } from "../shared/dom.js";
-import { Lost, lookFirst, Refused } from "../shared/faults.js";
+import { Lost, lookFirst } from "../shared/faults.js";
 import { onSend, run, tell, underWay } from "../shared/forms.js";
 import { inPounds } from "../shared/money.js";
 import { confirmed, NOTHING_DONE } from "../shared/questions.js";
@@ -97,16 +97,6 @@ const agreedTo = (terms, version) => confirmed({
   yes: `Add version ${version}`, no: "Not now",
 });
 
-/** Puts the next version. After a refusal the versions of the book are read again. */
-async function put(body, begun) {
-  try {
-    await askBook("POST", "/terms", { body, harmless: true, begun });
-  } catch (fault) {
-    if (fault instanceof Refused) versions = null;
-    throw fault;
-  }
-}
-
 function showExample() {
   const said = byId("terms-example");
   try {
@@ -118,38 +108,10 @@ function showExample() {
 
 let notice;
 
-const isSame = (one, { version, rate, keep_before: keepBefore, keep_after: keepAfter }) =>
-  one.version === version && one.rate === rate && one.keepBefore === keepBefore && one.keepAfter === keepAfter;
+const isSame = (one, { rate, keep_before: keepBefore, keep_after: keepAfter }) =>
+  one?.rate === rate && one.keepBefore === keepBefore && one.keepAfter === keepAfter;
 
-/** After a lost reply the book shows whether the terms were added. */
-async function settleLost(body, begun, done) {
-  try {
-    await readAnew();
-    refuseOther(begun);
-  } catch {
-    if (begun === current()) versions = null;
-    return {
-      sentence: "The reply was lost, so the terms may have been added. Look at the list of terms before you add them "
-        + "again.",
-      tone: "bad",
-    };
-  }
-  if (versions.some((one) => isSame(one, body))) {
-    emptyForm();
-    return `The reply was lost, but the terms were added. ${done}`;
-  }
-  return {
-    sentence: "The reply was lost, and the terms are not in the book so far. Look at the list again in a minute before "
-      + "you add them again.",
-    tone: "bad",
-  };
-}
-
-/** Once more by mistake, the same terms would be another version. */
-function emptyForm() {
-  byId("new-terms").reset();
-  showExample();
-}
+const LOST = "The reply was lost, so the terms may have been added. Add them again: they are not added twice.";
 
 async function add(fields) {
   const begun = current();
@@ -157,17 +119,23 @@ async function add(fields) {
   refuseTerms(terms);
   if (versions === null) await lookFirst(readAnew());
   refuseOther(begun);
+  if (isSame(versions.at(-1), terms)) {
+    return { sentence: `Version ${versions.length} has these terms already, so nothing was added.`, tone: "quiet" };
+  }
   const body = { version: versions.length + 1, ...terms };
   if (!await agreedTo(terms, body.version)) return NOTHING_DONE;
   const done = `Version ${body.version} is in the book. It applies to pledges that are taken from now on.`;
   try {
-    await put(body, begun);
+    await askBook("POST", "/terms", { body, harmless: true, begun });
   } catch (fault) {
-    if (!(fault instanceof Lost)) throw fault;
-    return settleLost(body, begun, done);
+    // The versions of the book are read again before the next press.
+    versions = null;
+    if (fault instanceof Lost) return { sentence: LOST, tone: "bad" };
+    throw fault;
   }
   if (begun !== current()) return done;
-  emptyForm();
+  byId("new-terms").reset();
+  showExample();
   try {
     await readAnew();
     return done;

@@ -19,15 +19,14 @@ let drawn = null;
 
 const sum = (lines, name = "pence") => lines.reduce((total, line) => total + (line[name] ?? 0), 0);
 
-/** The charges in each entry of a pledge, and in what was paid when it was redeemed; and the surplus of its sale. */
+/** The charges in each entry of a pledge, and in what was paid when it was redeemed; and what its sale left. */
 function chargesOf(pledge) {
   const terms = ledger.termsOf(pledge);
-  const told = { ...pledge, credit: pledge.pence };
-  const last = terms && pledge.closed ? owedOn(told, terms, pledge.closed) : null;
+  const last = terms && pledge.closed ? owedOn(pledge, terms, pledge.closed) : null;
   return {
-    inEntries: terms ? chargesPaid(told, terms) : [],
+    inEntries: terms ? chargesPaid(pledge, terms) : [],
     atLast: last && pledge.state === "redeemed" ? last.charges : 0,
-    surplus: last && pledge.state === "sold" ? Math.max(0, pledge.amount - last.owing) : 0,
+    left: last && pledge.state === "sold" ? pledge.amount - last.owing : 0,
   };
 }
 
@@ -43,11 +42,11 @@ function addEntries(lists, pledge, day) {
 function tillOf(book, day) {
   const lists = { taken: [], drawn: [], repaid: [], redeemed: [], sold: [] };
   for (const pledge of book.pledges) {
-    if (pledge.taken === day) lists.taken.push({ pledge, pence: pledge.kind === "fixed" ? pledge.pence : 0 });
+    if (pledge.taken === day) lists.taken.push({ pledge, pence: pledge.kind === "fixed" ? pledge.credit : 0 });
     addEntries(lists, pledge, day);
     if (pledge.closed === day) {
-      const { atLast, surplus } = chargesOf(pledge);
-      lists[pledge.state].push({ pledge, pence: pledge.amount, charges: atLast, surplus });
+      const { atLast, left } = chargesOf(pledge);
+      lists[pledge.state].push({ pledge, pence: pledge.amount, charges: atLast, left, surplus: Math.max(0, left) });
     }
   }
   const sums = Object.fromEntries(Object.entries(lists).map(([name, lines]) => [name, sum(lines)]));
@@ -67,9 +66,9 @@ const SECTIONS = {
   sold: { title: "Sold", way: "Net proceeds", empty: "Nothing was sold." },
 };
 
-function rowOf({ pledge, pence, charges, surplus }, isParted) {
-  const told = isParted ? `${inPounds(charges)} charges, ${inPounds(pence - charges)} lent`
-    : surplus > 0 ? `${inPounds(surplus)} surplus` : null;
+function rowOf({ pledge, pence, charges, left }, isParted) {
+  const told = isParted ? `${inPounds(charges)} charges, ${inPounds(pence - charges)} loan`
+    : left ? `${inPounds(Math.abs(left))} ${left > 0 ? "surplus" : "shortfall"}` : null;
   const parts = told && make("span", { className: "reference" }, told);
   return make(
     "tr", {}, numberCell(pledge), articleCell(pledge), make("td", { className: "number" }, inPounds(pence), parts),
@@ -91,6 +90,7 @@ const partsOf = (name, { sums, charges }) => [
 /** The float: what the drawer had when the day began, or all drawers. This machine keeps it, for this day alone. */
 const floatOf = (day) => kept("float", {})[day] ?? null;
 
+/** Keeps it, or no longer keeps it, for null. */
 function keepFloat(day, pence) {
   const days = Object.entries({ ...kept("float", {}), [day]: pence }).sort().slice(-31);
   keep("float", Object.fromEntries(days));
@@ -113,16 +113,19 @@ const drawers = () => FLOATS[shop().till ? "several" : "one"];
 
 const floatField = () => byId("till-lists").querySelector(".float [name=amount]");
 
+const shownFloat = (pence) => (pence === null ? "" : inPounds(pence).slice(1));
+
 function floatForm(day) {
-  const pence = floatOf(day);
   const amount = make("input", {
-    name: "amount", inputMode: "decimal", defaultValue: pence === null ? "" : inPounds(pence).slice(1), required: true,
+    name: "amount", inputMode: "decimal", defaultValue: shownFloat(floatOf(day)),
   });
   const form = make("form", { className: "screen float", autocomplete: "off" },
-    field(drawers().label, amount, "Kept in this browser, for this day."),
+    field(drawers().label, amount, "Kept in this browser, for this day. It may be left empty."),
     buttons(make("button", { className: "plain" }, drawers().keep)));
   onSend(form, "broker", async (fields) => {
-    keepFloat(day, readPounds(fields.amount));
+    const pence = fields.amount.trim() === "" ? null : readPounds(fields.amount);
+    keepFloat(day, pence);
+    amount.value = shownFloat(pence);
     show(day);
     return "";
   });

@@ -1,14 +1,21 @@
-/** The sheet of a day: who comes, who asked to come and waits for an answer, and which periods end. */
+/**
+ * The sheet of a day: who comes, who asked to come and waits for an answer, whose confirmed visit is past, and which
+ * periods end.
+ */
+import { endInShort, madeInWords, turnInShort } from "../shared/after.js";
 import { clockOf } from "../shared/clock.js";
 import { inShort, plusDays, seenFrom, today } from "../shared/days.js";
 import { byId, foreign, make } from "../shared/dom.js";
 import { run, tell } from "../shared/forms.js";
 import { inPounds } from "../shared/money.js";
+import { isHeldOn } from "../shared/period.js";
 import { readSheet } from "../shared/sheet.js";
+import { STATUSES } from "../shared/statuses.js";
 import { termsInWords } from "../shared/terms.js";
+import { bookingInShort } from "../shared/visits.js";
 import { isOverToday, windowInWords } from "../shared/windows.js";
 import { putDay, setUpDayForm, showDayOf } from "./dayform.js";
-import { waiting } from "./groups.js";
+import { pastVisits, waiting } from "./groups.js";
 import { ledger } from "./ledger.js";
 import { askBook, current } from "./session.js";
 import { pledgeLink } from "./tables.js";
@@ -34,16 +41,22 @@ function card(title, lines, empty) {
   return make("section", { className: "card" }, make("h2", {}, title), body);
 }
 
-/** What the book has of a pledge: its reference, what is owed, its end with the days of grace, and its terms. */
-function detailOf(pledge) {
-  const { reference, ends, agreed, fiveDays, held, state } = pledge;
+/**
+ * What the book has of a pledge: its reference, what is owed, its end with the days of grace and what comes after it,
+ * its visit where the line is about something else, and its terms.
+ */
+function detailOf(pledge, withVisit) {
+  const { reference, fiveDays, state, booking, closed } = pledge;
+  // On paper, “today” would be the day of the sheet.
+  const now = sheet.day === today() ? "today" : `on ${inShort(today())}`;
   const owed = ledger.owed(pledge);
   const terms = ledger.termsOf(pledge);
-  const end = `ends ${inShort(ends)}${agreed === ends ? ", as agreed" : ""}`;
+  const end = `${endInShort(pledge)}${madeInWords(pledge)}, with ${fiveDays ? "five" : "no"} days of grace`;
+  const isOpen = state === "open";
   const told = [
-    held && state === "open" && "on hold", owed && `${inPounds(owed.owing)} owed today`,
-    `${end}, with ${fiveDays ? "five" : "no"} days of grace`,
-    terms && termsInWords(terms),
+    isOpen ? isHeldOn(pledge, today()) && "on hold" : `${STATUSES[state].name} ${inShort(closed)}`,
+    owed && `${inPounds(owed.owing)} owed ${now}`, end, isOpen && turnInShort(pledge),
+    withVisit && isOpen && bookingInShort(booking), terms && termsInWords(terms),
   ];
   return make(
     "span", { className: "reference" }, "reference ", foreign(reference), `; ${told.filter(Boolean).join("; ")}`,
@@ -51,9 +64,9 @@ function detailOf(pledge) {
 }
 
 /** A pledge's link with its article and what the book has of it. */
-function named(number) {
+function named(number, { withVisit = false } = {}) {
   const pledge = ledger.pledge(number);
-  const more = pledge ? [foreign(pledge.article), detailOf(pledge)] : [];
+  const more = pledge ? [foreign(pledge.article), detailOf(pledge, withVisit)] : [];
   return make("span", { className: "links" }, pledgeLink(number), ...more);
 }
 
@@ -63,7 +76,7 @@ const timeOf = (visit) => `${windowInWords(visit.window)}${isOverToday(visit) ? 
 function windowLine({ window, capacity, pledges }) {
   const count = make("span", { className: "count" }, `${pledges.length} of ${capacity} places`);
   const time = make("span", { className: "time" }, timeOf({ day: sheet.day, window }));
-  return make("li", {}, time, count, ...pledges.map(named));
+  return make("li", {}, time, count, ...pledges.map((number) => named(number)));
 }
 
 const keyOf = ({ day, window }) => `${day} ${String(window).padStart(2, "0")}`;
@@ -73,7 +86,7 @@ const keyOf = ({ day, window }) => `${day} ${String(window).padStart(2, "0")}`;
  */
 function asked() {
   const others = ledger.book
-    ? waiting(ledger.book).map(({ number, booking }) => ({ number, ...booking })).filter(({ day }) => !sheets.has(day))
+    ? waiting(ledger.book, today()).map(({ number, booking }) => ({ number, ...booking })).filter(({ day }) => !sheets.has(day))
     : [];
   const read = [...sheets.values()].flatMap(
     ({ day, asked: all }) => all.map(({ number, window }) => ({ number, window, day }))
@@ -98,13 +111,31 @@ function waitingCard() {
   return whole;
 }
 
+/** The past visits that were confirmed: they are on no sheet of a day to come. Nothing where there is none. */
+function pastCard() {
+  const past = ledger.book ? pastVisits(ledger.book, today()) : [];
+  if (past.length === 0) return null;
+  const line = ({ number, booking: { day, window } }) => make(
+    "li", {}, make("span", { className: "time" }, `${inShort(day)}, ${windowInWords(window)}`), named(number),
+  );
+  const made = card("Past visits that were confirmed", past.map(line), "");
+  made.append(make(
+    "p", { className: "empty" },
+    "The book does not record whether the pawnor came. A visit that is refused on its pledge’s page leaves this list.",
+  ));
+  return made;
+}
+
+const endsLine = (number) => make("li", {}, named(number, { withVisit: true }));
+
 function draw() {
   showDayOf("today", sheet.day, { isToday: "Today" });
   const cards = [
     card("Coming", sheet.windows.map(windowLine), "No visit is confirmed for this day."),
     waitingCard(),
-    card("Period ends", sheet.ends.map((number) => make("li", {}, named(number))), "No period ends on this day."),
-  ];
+    pastCard(),
+    card("Period ends", sheet.ends.map(endsLine), "No period ends on this day."),
+  ].filter(Boolean);
   // Where nothing is new, whatever has the focus or is being pressed stays.
   const isNew = cards.map(({ textContent }) => textContent).join("") !== byId("sheet").textContent;
   if (isNew) byId("sheet").replaceChildren(...cards);

@@ -9,8 +9,9 @@ import { readUnrefused, recordEntry } from "../shared/payments.js";
 import { graceEnd, lastSafeDay, willPass } from "../shared/period.js";
 import { confirmed, NOTHING_DONE } from "../shared/questions.js";
 import { reckoningForm } from "../shared/reckoning.js";
-import { isOpen, isToCome } from "../shared/statuses.js";
+import { isBarred, isOpen } from "../shared/statuses.js";
 import { Unreadable } from "../shared/unreadable.js";
+import { isToCome } from "../shared/visits.js";
 import { clock, isOverToday, minuteNow, WINDOWS, windowInWords } from "../shared/windows.js";
 
 /** A form in a fold, which acts on the card when it is sent. */
@@ -27,11 +28,11 @@ const NOT_NOW = { ...NOTHING_DONE, look: false };
  * is the pawnbroker's by then.
  */
 function agreedToLate(statement, { fiveDays }, day) {
-  const { ends, status, credit } = statement;
+  const { ends, status } = statement;
   const last = lastSafeDay({ ends, fiveDays: fiveDays ?? status === "grace" });
   if (day <= last) return true;
   const isGraceKnown = fiveDays !== null || status !== "inside";
-  const passes = willPass({ ...statement, pence: credit });
+  const passes = willPass(statement);
   const safe = isGraceKnown ? last : graceEnd(ends);
   if (passes && day > safe) throw new Unreadable(
     `From ${inWords(plusDays(safe, 1))} on the article belongs to the pawnbroker. `
@@ -63,13 +64,10 @@ function agreedToOver(statement, day, window) {
   });
 }
 
-/** Whether the pledge has a visit whose day is not over. */
-const stands = ({ booking }) => isToCome(booking) && booking.day >= today();
-
 /** A visit that the shop has confirmed, perhaps since the pledge was shown, is given up only after a question. */
 async function agreedToGiveUp(now, { title, line, yes }) {
   const { booking } = now;
-  if (!stands(now) || booking.state !== "confirmed") return true;
+  if (!isToCome(now.booking) || booking.state !== "confirmed") return true;
   return confirmed({
     title, about: now, yes, no: "Keep the visit",
     lines: [`The shop has confirmed your visit on ${inWords(booking.day)}, ${windowInWords(booking.window)}.`, line],
@@ -102,19 +100,23 @@ const askedInWords = (visit) => (visit.state === "confirmed"
   ? `The shop has confirmed this time already: ${visitInWords(visit)}.`
   : `Asked for ${visitInWords(visit)}. The shop says yes or no; look here again.`);
 
-function leadOf(statement) {
-  if (!stands(statement)) return "Say when you would like to fetch it. The shop confirms it or not.";
+const ON_HOLD = "The pledge is on hold: nothing can be fetched until the pawnbroker releases it. Ask the shop first. ";
+
+function timeInWords(statement) {
+  if (!isToCome(statement.booking)) return "Say when you would like to fetch it. The shop confirms it or not.";
   return statement.booking.state === "confirmed"
     ? "A new time replaces your confirmed visit at once. The shop confirms the new time or not."
     : "A new time replaces the one that you asked for.";
 }
+
+const leadOf = (statement) => (isBarred(statement) ? ON_HOLD : "") + timeInWords(statement);
 
 function visitFold(card) {
   const day = make("input", { type: "date", name: "day", min: today(), required: true });
   const times = make(
     "select", { name: "window" }, ...WINDOWS.map((window) => make("option", { value: window }, windowInWords(window)))
   );
-  const standing = stands(card.statement);
+  const standing = isToCome(card.statement.booking);
   const lead = leadOf(card.statement);
   const parts = [
     make("p", { className: "lead" }, lead), field("Day", day), field("Time", times),
@@ -127,7 +129,7 @@ function visitFold(card) {
 
 function cancelFold(card) {
   const { booking } = card.statement;
-  if (!stands(card.statement)) return null;
+  if (!isToCome(booking)) return null;
   const when = `Your visit is ${seenFrom(today(), booking.day)}, on ${inWords(booking.day)}. `
     + "If you cancel it, you can ask for another.";
   const parts = [make("p", { className: "lead" }, when), buttons(make("button", {}, "Cancel the visit"))];
@@ -167,6 +169,7 @@ async function repay(card, { amount }) {
 }
 
 function repayFold(card) {
+  if (card.statement.owed.owing === 0) return null;
   const amount = make("input", { name: "amount", inputMode: "decimal", required: true });
   const lead = "A part that the pawnbroker has received already. It goes to interest and safe keeping first, "
     + "then to what was lent.";
@@ -211,7 +214,7 @@ async function redeem(card) {
     const { said } = await card.ask("/redeem", { paid: owing }, false);
     card.showRedeemed(`Redeemed on ${inWords(said.redeemed)}. ${inPounds(said.paid)} was paid.`);
   } catch (fault) {
-    card.lostRedemption ||= fault instanceof Lost;
+    card.one.lostRedemption ||= fault instanceof Lost;
     throw fault;
   }
   return { sentence: "", look: false };
@@ -222,7 +225,7 @@ function redeemFold(card) {
   const amount = owed.owing === 0
     ? NOTHING_OWED
     : `Redeeming requires all that is owed today, ${inPounds(owed.owing)}, received by the pawnbroker.`;
-  const lead = held ? "The pawnbroker holds this pledge, so it can’t be redeemed just now. Ask at the shop why."
+  const lead = held ? "The pledge is on hold, so it can’t be redeemed just now. Ask at the shop why."
     : `${amount} ${AT_THE_SHOP} You are asked once more before it is done.`;
   const button = make("button", { className: "grave", disabled: held }, `Redeem for ${inPounds(owed.owing)}`);
   return foldOf(card, "Redeem", [make("p", { className: "lead" }, lead), buttons(button)], () => redeem(card));

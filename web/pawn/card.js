@@ -36,7 +36,7 @@ const DEAD = {
 export class Card {
   constructor(one, forget, changed) {
     const { book, receipt } = one;
-    Object.assign(this, { one, book, receipt, changed, statement: null, lostRedemption: false, readAt: 0 });
+    Object.assign(this, { one, book, receipt, changed, statement: null, readAt: 0 });
     this.learn(one);
     // The act that is under way, until its result is reported.
     this.acting = Promise.resolve();
@@ -83,7 +83,7 @@ export class Card {
   async look(done = null) {
     this.statement = await this.read();
     this.readAt = Date.now();
-    this.isShown = true;
+    this.isShown = this.one.wasSeen = true;
     this.neverOpened = this.saysDead = false;
     const { statement, known } = this;
     const hasFocus = this.summary.contains(document.activeElement);
@@ -172,8 +172,9 @@ export class Card {
     this.saysDead = opensNothing;
     const again = make("button", { type: "button", className: "plain" }, "Try again");
     again.addEventListener("click", () => this.show());
-    this.neverOpened = opensNothing && this.statement === null;
-    const seen = this.lostRedemption ? "redeemed" : this.statement ? "seen" : "unseen";
+    const { wasSeen, lostRedemption } = this.one;
+    this.neverOpened = opensNothing && !wasSeen;
+    const seen = lostRedemption ? "redeemed" : wasSeen ? "seen" : "unseen";
     const [title, text] = opensNothing
       ? DEAD[seen]
       : ["The pledge can’t be shown just now", tellFault(fault, "pawnor")];
@@ -229,7 +230,7 @@ export class Card {
     );
     if (fault instanceof Unreadable || said?.look === false) return;
     await this.showNow(title);
-    if (this.saysDead && (this.lostRedemption || isRefusal(fault, ...OPENS_NOTHING))) {
+    if (this.saysDead && (this.one.lostRedemption || isRefusal(fault, ...OPENS_NOTHING))) {
       this.focus();
       return;
     }

@@ -1,10 +1,11 @@
 /** The pawnor's page: the cards of the receipts that this tab holds, and the form that shows another. */
 import { onClock } from "../shared/clock.js";
 import { today } from "../shared/days.js";
-import { byId } from "../shared/dom.js";
+import { byId, foreign } from "../shared/dom.js";
 import { onSend, tell } from "../shared/forms.js";
 import { inPounds } from "../shared/money.js";
 import { startPage } from "../shared/start.js";
+import { isBarred } from "../shared/statuses.js";
 import { Card } from "./card.js";
 import { cutInWords, keep, kept, ofTyped, takeFragment } from "./receipts.js";
 import { inTurn } from "./turns.js";
@@ -35,13 +36,29 @@ function store() {
 
 const totalOf = (shown) => shown.reduce((total, { owing }) => total + owing, 0);
 
-/** What is owed to each shop, if the pledges are of several. */
+/** A shop as its pledges name it. */
+function shopOf(those) {
+  const [{ book }] = those;
+  const shop = those.map((card) => card.shop).find(Boolean);
+  return shop ? [" at ", foreign(shop), ` (book ${book})`] : [` in book ${book}`];
+}
+
+/** What is owed to each shop, if the pledges are of several, as texts and nodes. */
 function sharesOf(shown) {
   const books = [...new Set(shown.map(({ book }) => book))];
-  if (books.length < 2) return "";
-  const shareOf = (book) => `${inPounds(totalOf(shown.filter((card) => card.book === book)))} in book ${book}`;
-  const shares = books.map(shareOf);
-  return `: ${shares.slice(0, -1).join(", ")} and ${shares.at(-1)}`;
+  if (books.length < 2) return [];
+  return books.flatMap((book, place) => {
+    const those = shown.filter((card) => card.book === book);
+    const front = place === 0 ? ": " : place === books.length - 1 ? " and " : ", ";
+    return [front, inPounds(totalOf(those)), ...shopOf(those)];
+  });
+}
+
+/** How many of the pledges can't be redeemed just now, although the page shows what is owed on them. */
+function holdsOf(shown) {
+  const count = shown.filter(({ statement }) => isBarred(statement)).length;
+  if (count === 0) return "";
+  return ` ${count} of them ${count === 1 ? "is" : "are"} on hold, and can’t be redeemed just now.`;
 }
 
 /** What is owed on several pledges together. */
@@ -49,8 +66,10 @@ function showSum() {
   const shown = cards.filter(({ owing }) => owing > 0);
   byId("sum-line").hidden = shown.length < 2;
   const missing = cards.some(({ isShown, isRedeemed }) => !isShown && !isRedeemed) ? " What can’t be shown is not in it." : "";
-  byId("sum-line").textContent =
-    `${inPounds(totalOf(shown))} is owed today on ${shown.length} pledges together${sharesOf(shown)}.${missing}`;
+  byId("sum-line").replaceChildren(
+    `${inPounds(totalOf(shown))} is owed today on ${shown.length} pledges together`, ...sharesOf(shown),
+    `.${holdsOf(shown)}${missing}`,
+  );
 }
 
 function drop(card) {

@@ -1,10 +1,11 @@
-/**
- * The receipts that this tab holds: typed, pasted, or carried by a link's fragment, which reaches no server and no log.
- */
-import { fragmentIn, isBook, linesTyped, ofFragment, partsOf, receiptsTyped, whyNotWhole } from "../shared/receipts.js";
+/** The receipts that this tab holds: typed, pasted, or carried by a link's fragment, which reaches no server. */
+import {
+  asWritten, bookTyped, fragmentIn, linesTyped, ofFragment, partsOf, receiptsTyped, whyNotWhole,
+} from "../shared/receipts.js";
 import { Unreadable } from "../shared/unreadable.js";
 
 const KEPT = "receipts";
+const PAGE = "/pawn/";
 
 /** What is said of a link that is not whole; `wrong` says which part is missing. */
 export const cutInWords = (wrong) => `That link is not whole, so it opens nothing: ${wrong} `
@@ -35,14 +36,15 @@ function refuseOthers(text, found) {
 }
 
 /**
- * Takes the receipts out of the address, so that no bookmark and no shared link has them. The browser's history may
- * keep the link. Returns, too, the parts of the link, and what is wrong with it.
+ * Takes the receipts out of the address, so that no bookmark and no shared link has them: also where a program has
+ * changed the link's `#`, so that they are in its query or in its path. The browser's history may keep the link.
+ * Returns, too, the parts of the link, and what is wrong with it.
  */
 export function takeFragment() {
-  const { hash } = location;
-  if (hash) history.replaceState(null, "", location.pathname);
-  const { wrong, ...parts } = partsOf(hash);
-  return { receipts: ofFragment(hash), parts, wrong: hash.length > 1 ? wrong : "" };
+  const fragment = fragmentIn(asWritten(location.href));
+  if (fragment) history.replaceState(null, "", PAGE);
+  const { wrong, ...parts } = partsOf(fragment);
+  return { receipts: ofFragment(fragment), parts, wrong: fragment.length > 1 ? wrong : "" };
 }
 
 /**
@@ -50,13 +52,13 @@ export function takeFragment() {
  * number of the book.
  */
 export function ofTyped({ book, receipts }) {
-  const found = receiptsTyped(receipts).map((one) => ({ ...one, book: one.book ?? book.trim() }));
-  refuseOthers(receipts, found);
+  const found = receiptsTyped(receipts).map((one) => ({ ...one, book: one.book ?? bookTyped(book) }));
+  refuseOthers(asWritten(receipts), found);
   if (found.some((one) => one.book === "")) throw new Unreadable(
-    "Type the number of the shop’s book too: it is printed on the paper after “book”.", "book",
-  );
-  if (found.some((one) => !isBook(one.book))) throw new Unreadable(
-    "The book is a number, which is printed on the paper after “book”.", "book",
+    book.trim() === ""
+      ? "Type the number of the shop’s book too: it is printed on the paper after “book”."
+      : "The book is a number, which is printed on the paper after “book”.",
+    "book",
   );
   return found;
 }

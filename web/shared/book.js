@@ -29,10 +29,10 @@ function termsOf([version, rate, keepBefore, keepAfter]) {
 }
 
 function pledgeOf(
-  [number, reference, article, kind, pence, taken, agreed, fiveDays, version, held, changed, state, closed, amount]
+  [number, reference, article, kind, credit, taken, agreed, fiveDays, version, held, changed, state, closed, amount]
 ) {
   return {
-    number: Number(number), reference, article, kind, pence: Number(pence), taken, agreed: agreed || null,
+    number: Number(number), reference, article, kind, credit: Number(credit), taken, agreed: agreed || null,
     fiveDays: fiveDays === "yes", version: Number(version), held: held === "yes", changed, state,
     closed: closed || null, amount: amount === "" ? null : Number(amount), secrets: [], entries: [], extensions: [],
     booking: null, ends: null,

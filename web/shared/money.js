@@ -7,10 +7,12 @@ export function inPounds(pence) {
   return `£${pounds}.${String(pence % 100).padStart(2, "0")}`;
 }
 
+const FORM = "Write the amount in pounds, as 100, 99.50 or 1,000: pence are two digits after a full stop, or none.";
+
 /** The pence of an amount that a person typed: 100, 99.50, £1,000 or £1,000.00. */
 export function readPounds(text, field = "amount") {
   const found = /^£?\s*(\d{1,3}(?:,\d{3})+|\d{1,9})(?:\.(\d\d))?$/.exec(text.trim());
-  if (!found) throw new Unreadable("Write the amount in pounds, as 100 or 99.50.", field);
+  if (!found) throw new Unreadable(FORM, field);
   return Number(found[1].replaceAll(",", "")) * 100 + Number(found[2] ?? 0);
 }
 

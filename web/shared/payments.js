@@ -11,7 +11,7 @@ import { entryInWords } from "./entries.js";
 import { Lost, lookFirst } from "./faults.js";
 import { inPounds, LARGE, MOST } from "./money.js";
 import { confirmed } from "./questions.js";
-import { isOpen } from "./statuses.js";
+import { isBarred, isOpen } from "./statuses.js";
 
 const NOTHING = { sentence: "Nothing was recorded.", tone: "quiet" };
 const WORDS = { draw: { done: "Drawn", as: "paid out" }, repay: { done: "Repaid", as: "received" } };
@@ -58,9 +58,14 @@ export async function readUnrefused(read, sort, pence) {
   return now;
 }
 
-/** Whether an amount is unlike the pledge: above its charges and half of the loan, or above half of its limit. */
-function isUnlike({ owed, credit }, sort, pence) {
+/**
+ * Whether an entry is unlike the pledge: an amount above its charges and half of the loan, or above half of its limit;
+ * or money that is paid out while the pledge is on hold.
+ */
+function isUnlike(now, sort, pence) {
+  const { owed, credit } = now;
   if (!owed) return false;
+  if (sort === "draw" && isBarred(now)) return true;
   return sort === "repay" ? pence > owed.charges + owed.principal / 2 : pence > credit / 2;
 }
 
@@ -99,14 +104,16 @@ function questionOf({ shown, now, sort, pence, askFrom }) {
 
 /**
  * Reads the pledge and asks, until nothing has come in between while a question was open: an equal entry would not be
- * recorded. Returns the pledge as it is then, or null if an answer was no.
+ * recorded. Returns the pledge as it is then, or null if an answer was no. If there is an `outdated`, the fault that it
+ * makes of the pledge is thrown in place of a question.
  */
-async function agreedTo({ shown, read, sort, pence, askFrom }) {
+async function agreedTo({ shown, read, sort, pence, askFrom, outdated }) {
   let [known, from] = [shown, askFrom];
   for (;;) {
     const now = await readUnrefused(read, sort, pence);
     const question = questionOf({ shown: known, now, sort, pence, askFrom: from });
     if (question === null) return now;
+    if (outdated) throw outdated(now);
     if (!await confirmed(question)) return null;
     [known, from] = [now, Infinity];
   }
@@ -165,10 +172,10 @@ function tellLost({ now, after, entry }) {
  * Records an entry on a pledge: `read` returns its present statement, `send` sends the body, `sort` is draw or
  * repay. An amount from `askFrom` on, or one that is unlike the pledge, is asked about; where it was asked about
  * already, `askFrom` is Infinity. Returns the message, with its tone. Throws the service's refusal, or Lost or
- * NotReached.
+ * NotReached, or what `outdated` returns.
  */
-export async function recordEntry({ shown, read, send, sort, pence, askFrom = LARGE }) {
-  const now = await agreedTo({ shown, read, sort, pence, askFrom });
+export async function recordEntry({ shown, read, send, sort, pence, askFrom = LARGE, outdated = null }) {
+  const now = await agreedTo({ shown, read, sort, pence, askFrom, outdated });
   if (now === null) return NOTHING;
   const entry = { seq: now.nextSeq, sort, pence };
   const day = today();

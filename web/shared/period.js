@@ -2,6 +2,7 @@
  * When a pledge's period ends, and the pledge's status on a day, by the rules, for pledges of the book in the page.
  */
 import { plusDays, sixMonthsAfter } from "./days.js";
+import { isBarred } from "./statuses.js";
 
 /** Up to this credit in pence, an article whose period of six months is over is the broker's. */
 export const SMALL = 7500;
@@ -22,7 +23,7 @@ export const lastSafeDay = ({ ends, fiveDays }) => (fiveDays ? graceEnd(ends) : 
 export const firstDayAfter = (pledge) => plusDays(lastSafeDay(pledge), 1);
 
 /** Whether the article is the broker's once the period is over, and is not to be sold. */
-export const willPass = ({ taken, ends, pence }) => pence <= SMALL && ends === sixMonthsAfter(taken);
+export const willPass = ({ taken, ends, credit }) => credit <= SMALL && ends === sixMonthsAfter(taken);
 
 /** inside, grace, passed, realisable, redeemed or sold. */
 export function statusOn(pledge, day) {
@@ -31,3 +32,6 @@ export function statusOn(pledge, day) {
   if (day <= lastSafeDay(pledge)) return "grace";
   return willPass(pledge) ? "passed" : "realisable";
 }
+
+/** Whether a hold bars something on a day. */
+export const isHeldOn = (pledge, day) => isBarred({ held: pledge.held, status: statusOn(pledge, day) });

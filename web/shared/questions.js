@@ -1,6 +1,7 @@
 /** A question before what can't be taken back. */
 import { inWords, today } from "./days.js";
 import { foreign, make } from "./dom.js";
+import { isBarred } from "./statuses.js";
 
 /** How often an open question looks at the day, in milliseconds. */
 const LOOK = 1000;
@@ -10,8 +11,12 @@ let asked = 0;
 /** A line of a question: a text, or several nodes. */
 const lineOf = (line) => make("p", {}, ...(Array.isArray(line) ? line : [line]));
 
-/** Which pledge a question is about: another one may be shown by the time that it is asked. */
-const aboutOf = ({ number, article }) => [`Pledge ${number}: `, foreign(article)];
+/**
+ * Which pledge a question is about: another one may be shown by the time that it is asked. A hold is named in each
+ * question, whatever it is about.
+ */
+const aboutOf = (statement) =>
+  [`Pledge ${statement.number}: `, foreign(statement.article), isBarred(statement) ? ". It is on hold." : ""];
 
 /** A line that is empty until a new day begins: a question that is open then names days and sums of the day before. */
 function dayLine() {

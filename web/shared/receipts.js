@@ -7,6 +7,8 @@ const UNSEEN = /[\u200b-\u200f\u202a-\u202e\u2060\u2066-\u2069\ufeff{}]|urn:uuid
 /** A number and 32 digits, with blanks or hyphens between them and anywhere among the digits. */
 const RECEIPT = /(?:^|[^0-9a-z])([1-9]\d{0,8})[\s-]+((?:[0-9a-f][\s-]*){31}[0-9a-f])(?![0-9a-z])/gi;
 const BOOK = /^[1-9]\d{0,8}$/;
+const BOOK_TYPED = /^\W*(?:book)?\W*(?:no|number)?\W*([1-9]\d{0,8})\W*$/i;
+const PLEDGE_TYPED = /^(?:#|pledge\b)?\s*([1-9]\d{0,8})$/i;
 const TERMS = /^(\d{1,5})\.(\d{1,8})\.(\d{1,8})$/;
 /** The texts that a link may have in addition to the receipt, and the most letters of each. */
 const LONGEST = { shop: 60, rate: 120, ref: 40 };
@@ -51,10 +53,19 @@ export function whyNotWhole(text, { orReference = true } = {}) {
 /** The number of a receipt's pledge. */
 export const numberOf = (receipt) => Number(receipt.split("-")[0]);
 
-export const isBook = (text) => BOOK.test(text);
+/** The number of a book as people type it: alone, or as the paper has it, such as “book 7”; or an empty text. */
+export const bookTyped = (text) => BOOK_TYPED.exec(plain(text))?.[1] ?? "";
+
+/** The number of a pledge as people type it: alone, as “#12”, or as “Pledge 12”; or null. */
+export const pledgeTyped = (text) => Number(PLEDGE_TYPED.exec(text)?.[1] ?? 0) || null;
 
 /** A link of which a program has escaped the marks between its parts. */
 const ESCAPED = /receipt%3D|%26receipt/i;
+/**
+ * What a program may have put in the place of the `#` before the parts of a link: the last mark before them, since the
+ * link may be a part of another program's address.
+ */
+const OTHER_HASH = /(?:%23|\?)(?=(?:(?:(?!%23)[^\s#])*(?:&|%26))?(?:book|receipt)(?:=|%3D))/i;
 
 /** A text as it was before a program escaped all of it with per cent signs, if one did. */
 function decoded(text) {
@@ -65,8 +76,12 @@ function decoded(text) {
   }
 }
 
-/** A text with each `&` as it was meant: a mail program may have escaped it, even more than once. */
-const unescaped = (text) => decoded(text).replace(/&(?:amp;)+/gi, "&");
+/**
+ * A text with its links as the shop wrote them: a program may have escaped them with per cent signs, or each `&` even
+ * more than once, or have put another mark in the place of the `#`.
+ */
+export const asWritten = (text) =>
+  decoded(text.replace(OTHER_HASH, "#")).replace(/&(?:amp;)+/gi, "&").replace(OTHER_HASH, "#");
 
 /** Marks of a sentence that follow a link, and that a link of the pages has only in another spelling. */
 const AFTER_LINK = /[)\]}>»”’"'!?,;:\s]+\.?$/;
@@ -97,7 +112,7 @@ function toldIn(said) {
 
 /** What a link's fragment says, by its names in small letters. */
 function saidIn(fragment) {
-  const typed = new URLSearchParams(unescaped(fragment).replace(/^#/, "").replace(AFTER_LINK, ""));
+  const typed = new URLSearchParams(asWritten(fragment).replace(/^#/, "").replace(AFTER_LINK, ""));
   return new URLSearchParams([...typed].map(([name, value]) => [name.toLowerCase(), value]));
 }
 
@@ -107,7 +122,7 @@ const numbersIn = (said, name) => (said.get(name) ?? "").trim().replace(AFTER_NU
 /** The book that a link names, or an empty text. */
 function bookIn(said) {
   const book = numbersIn(said, "book");
-  return isBook(book) ? book : "";
+  return BOOK.test(book) ? book : "";
 }
 
 /**
@@ -127,24 +142,28 @@ export function partsOf(fragment) {
   return { book, receipts, wrong: wrong.length === 0 ? "" : `${wrong.join(", and ")}. ${why}`.trim() };
 }
 
-/** The receipts of a link's fragment with their book, and the other texts of the link. */
+/**
+ * The receipts of a link's fragment with their book, and the other texts of the link. Of several receipts only the shop
+ * is said: the others are of one pledge.
+ */
 export function ofFragment(fragment) {
   const { book, receipts, wrong } = partsOf(fragment);
   if (wrong) return [];
-  const told = toldIn(saidIn(fragment));
+  const all = toldIn(saidIn(fragment));
+  const told = receipts.length === 1 ? all : { ...UNTOLD, shop: all.shop };
   return receipts.map((receipt) => ({ book, receipt, ...told }));
 }
 
 const LINK = /^\S*#\S*receipt=\S+$/i;
 
-/** The part of a link that begins with its #. */
-export const fragmentIn = (text) => text.slice(text.indexOf("#"));
+/** The part of a text that begins with the # of its link, or an empty text. */
+export const fragmentIn = (text) => text.slice(text.indexOf("#") < 0 ? text.length : text.indexOf("#"));
 
 /** Whether a text is a link or a receipt, and not the name of anything else. */
-export const isReceiptLike = (text) => LINK.test(text.trim()) || receiptsIn(text).length > 0;
+export const isReceiptLike = (text) => LINK.test(asWritten(text).trim()) || receiptsIn(text).length > 0;
 
 /** The parts of a typed text that can have a receipt each. */
-export const linesTyped = (text) => unescaped(text).split(/[\n,;]+/);
+export const linesTyped = (text) => asWritten(text).split(/[\n,;]+/);
 
 const untold = (book, receipts) => receipts.map((receipt) => ({ book, receipt, ...UNTOLD }));
 
@@ -164,7 +183,7 @@ function receiptsAcross(text) {
 /** The receipts of a typed text. */
 export function receiptsTyped(text) {
   const found = linesTyped(text).flatMap(receiptsOfLine);
-  return found.length > 0 ? found : receiptsAcross(text);
+  return found.length > 0 ? found : receiptsAcross(asWritten(text));
 }
 
 /**

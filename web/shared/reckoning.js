@@ -1,4 +1,5 @@
 /** What will be owed on another day, computed by the rules from the statement and the terms that the pledge keeps. */
+import { becomesInWords } from "./after.js";
 import { make } from "./dom.js";
 import { inShort, inWords, today } from "./days.js";
 import { buttons, field, makeNotice, run } from "./forms.js";
@@ -9,15 +10,17 @@ import { Unreadable } from "./unreadable.js";
 
 const LAST = "2199-12-31";
 
-/** What else is so on that day: the article may be gone by then. */
-function beside({ taken, ends, credit }, { fiveDays }, reader, day) {
-  const pledge = { taken, ends, fiveDays, pence: credit };
-  if (day <= lastSafeDay(pledge)) return "";
-  const since = inShort(firstDayAfter(pledge));
-  if (!willPass(pledge)) return ` From ${since} on it may have been sold.`;
-  return reader === "broker"
-    ? ` But from ${since} on the article is yours, and nothing is owed any more.`
-    : ` But from ${since} on the article belongs to the pawnbroker, and can’t be redeemed any more.`;
+/** The sum of a day in a sentence; or, once the article has passed to the shop, that nothing is owed. */
+function owedInWords({ statement, known, reader }, day, { owing, principal, charges }) {
+  const time = { ends: statement.ends, fiveDays: known.fiveDays };
+  const isAfter = day > lastSafeDay(time);
+  const since = inShort(firstDayAfter(time));
+  if (isAfter && willPass(statement)) {
+    return `On ${inWords(day)} nothing will be owed: from ${since} on the article ${becomesInWords(statement, reader)}.`;
+  }
+  return `On ${inWords(day)} ${inPounds(owing)} will be owed, if nothing is paid or drawn before: `
+    + `${inPounds(principal)} lent and ${inPounds(charges)} of interest and safe keeping.`
+    + (isAfter ? ` From ${since} on it may have been sold.` : "");
 }
 
 /** Computes the sum for a day. First it computes today's, and compares that with the statement. */
@@ -31,13 +34,8 @@ function reckon({ statement, known, reader }, day) {
     const from = first === today() ? "today" : inShort(first);
     throw new Unreadable(`Choose a day from ${from} on.`, "day");
   }
-  const { owing, principal, charges } = owedOn(statement, known.terms, day);
-  const made = `${inPounds(principal)} lent and ${inPounds(charges)} of interest and safe keeping`;
-  return {
-    sentence: `On ${inWords(day)} ${inPounds(owing)} will be owed, if nothing is paid or drawn before: ${made}.`
-      + beside(statement, known, reader, day),
-    tone: "quiet",
-  };
+  const owed = owedOn(statement, known.terms, day);
+  return { sentence: owedInWords({ statement, known, reader }, day, owed), tone: "quiet" };
 }
 
 /** The form that computes the sum for a day; null where nothing is owed any more, or the pledge's terms are not known. */

@@ -56,12 +56,12 @@ export const REFUSALS = {
   303: {
     name: "Held",
     why: "The pledge is on hold, so it can’t be redeemed.",
-    next: "Release the hold first.",
-    pawnor: "The pawnbroker holds this pledge, so it can’t be redeemed just now. Ask at the shop why.",
+    next: "Find out why before you release the hold.",
+    pawnor: "The pledge is on hold, so it can’t be redeemed just now. Ask at the shop why.",
   },
   304: {
     name: "Passed",
-    why: "The period is over and the article is the broker’s.",
+    why: "The period is over and the article is the shop’s.",
     next: "Nothing more is done on this pledge.",
     pawnor: "The period is over, and the article now belongs to the pawnbroker.",
   },
@@ -88,8 +88,8 @@ export const REFUSALS = {
   },
   310: {
     name: "WrongAmount",
-    why: "That is not all that is owed today.",
-    next: "Redeeming requires the whole amount.",
+    why: "That is not what is owed today.",
+    next: "Redeeming requires exactly the sum that is owed.",
   },
   311: {
     name: "NoBooking",

@@ -1,7 +1,9 @@
 /** The status of a pledge, in words: for the broker, and for the pawnor. */
+import { becomes, becomesInWords } from "./after.js";
 import { countDays, daysBetween, inShort, inWords, today } from "./days.js";
 import { inPounds } from "./money.js";
 import { firstDayAfter, graceEnd, lastSafeDay, willPass } from "./period.js";
+import { isBarred } from "./statuses.js";
 
 /*
  * What is known of a pledge and its statement lacks: its reference, whether it has days of grace, its terms, and the end
@@ -13,21 +15,26 @@ function lastsFor(now, last) {
   return left === 0 ? "today is the last day" : `${countDays(left)} left`;
 }
 
-function saleInWords({ surplus, shortfall }) {
-  if (surplus > 0) return `${inPounds(surplus)} more than was owed`;
-  return shortfall > 0 ? `${inPounds(shortfall)} less than was owed` : "exactly what was owed";
+/** What the proceeds of a sale left, for its reader. */
+export function saleInWords({ surplus, shortfall }, reader) {
+  const whose = { broker: "which is the pawnor’s", pawnor: "which is yours: ask the shop for it" }[reader];
+  if (surplus > 0) return `${inPounds(surplus)} more than was owed, ${whose}`;
+  if (shortfall === 0) return "exactly what was owed";
+  const less = `${inPounds(shortfall)} less than was owed`;
+  return reader === "pawnor" ? `${less}. The shop’s book notes that, and keeps no debt of it` : less;
 }
 
 /** What becomes of a pledge once its time is over, for the broker. */
-function turnOf({ taken, ends, credit }, fiveDays) {
-  const pledge = { taken, ends, fiveDays, pence: credit };
-  const first = inShort(firstDayAfter(pledge));
-  return willPass(pledge)
-    ? `from ${first} on the article is the pawnbroker’s`
-    : `from ${first} on it may be sold any day, and until it is sold it can still be redeemed`;
-}
+const turnOf = (statement, fiveDays) => {
+  const first = inShort(firstDayAfter({ ends: statement.ends, fiveDays }));
+  return `from ${first} on the article ${becomesInWords(statement, "broker")}`;
+};
 
-/** A pledge in its period: until when it can be redeemed, with its days of grace. */
+/** Until when the article is not to be sold; or, where it passes to the shop, until when the pledge can be redeemed. */
+const until = (statement, last) =>
+  `${willPass(statement) ? "Can be redeemed" : "To be kept"} until ${inWords(last)}`;
+
+/** A pledge in its period: until when the article is kept, with the days of grace. */
 function insideOf(statement, now, { fiveDays }) {
   const { ends } = statement;
   const state = { badge: "In its period", tone: "good" };
@@ -38,7 +45,7 @@ function insideOf(statement, now, { fiveDays }) {
   const last = lastSafeDay({ ends, fiveDays });
   const grace = fiveDays ? `the period ends on ${inShort(ends)}, and five days of grace follow; ` : "";
   return {
-    ...state, line: `Can be redeemed until ${inWords(last)}`,
+    ...state, line: until(statement, last),
     more: `${grace}${lastsFor(now, last)}; ${turnOf(statement, fiveDays)}`,
   };
 }
@@ -47,7 +54,7 @@ function insideOf(statement, now, { fiveDays }) {
 const STATES = {
   inside: insideOf,
   grace: (statement, now) => ({
-    badge: "Days of grace", tone: "warn", line: `Can be redeemed until ${inWords(graceEnd(statement.ends))}`,
+    badge: "Days of grace", tone: "warn", line: until(statement, graceEnd(statement.ends)),
     more: `the period ended on ${inWords(statement.ends)}, and days of grace run: `
       + `${lastsFor(now, graceEnd(statement.ends))}; ${turnOf(statement, true)}`,
   }),
@@ -58,7 +65,7 @@ const STATES = {
   passed: ({ ends }) => (
     {
       badge: "Passed", tone: "ended", line: `The period ended on ${inWords(ends)}`,
-      more: "The article belongs to the pawnbroker now",
+      more: "The article is yours now",
     }
   ),
   redeemed: ({ closing }) => (
@@ -70,7 +77,7 @@ const STATES = {
   sold: ({ closing }) => (
     {
       badge: "Sold", tone: "ended", line: `Sold on ${inWords(closing.day)} for ${inPounds(closing.net)}`,
-      more: saleInWords(closing),
+      more: saleInWords(closing, "broker"),
     }
   ),
 };
@@ -78,9 +85,11 @@ const STATES = {
 const over = (ends) => `Its time was over on ${inWords(ends)}`;
 
 /** What becomes of an article once its time is over, for the pawnor. */
-const afterIt = ({ taken, ends, credit }) => (willPass({ taken, ends, pence: credit })
-  ? "after that it belongs to the pawnbroker, and can’t be redeemed any more"
-  : "after that it may be sold, and can be redeemed until it is sold");
+const afterIt = (statement) => `after that it ${becomesInWords(statement, "pawnor")}`;
+
+/** Until when a pledge is the pawnor's, and what is to be done by then: the end comes even if all is paid. */
+const yoursUntil = (last, { owed }, toDo) =>
+  `Still yours until ${inWords(last)}${owed.owing === 0 ? ": nothing is owed, but it has to be fetched by then" : toDo}`;
 
 /** A pledge in its period, for the pawnor: the days of grace are those that the receipt's link says. */
 function stillYours(statement, now, { fiveDays }) {
@@ -91,7 +100,7 @@ function stillYours(statement, now, { fiveDays }) {
     null: "; five days more, if your paper says that it has days of grace",
   };
   return {
-    badge: "Still yours", line: `Still yours until ${inWords(last)}`,
+    badge: "Still yours", line: yoursUntil(last, statement, ""),
     more: `${lastsFor(now, last)}${grace[fiveDays]}; ${afterIt(statement)}`,
   };
 }
@@ -101,7 +110,7 @@ const FOR_PAWNOR = {
   inside: stillYours,
   grace: (statement, now) => ({
     badge: "Last days",
-    line: `Still yours until ${inWords(graceEnd(statement.ends))}: pay what is owed to have it back`,
+    line: yoursUntil(graceEnd(statement.ends), statement, ": pay what is owed to have it back"),
     more: `${over(statement.ends)}, and days of grace run: ${lastsFor(now, graceEnd(statement.ends))}; `
       + afterIt(statement),
   }),
@@ -111,12 +120,7 @@ const FOR_PAWNOR = {
       more: `${over(ends)}. It may be sold any day`,
     }
   ),
-  sold: ({ closing }) => {
-    if (closing.surplus > 0) return { more: `${saleInWords(closing)}. That surplus is yours: ask the shop for it` };
-    return closing.shortfall > 0
-      ? { more: `${saleInWords(closing)}. The shop’s book notes that, and keeps no debt of it` }
-      : {};
-  },
+  sold: ({ closing }) => ({ more: saleInWords(closing, "pawnor") }),
   passed: ({ ends }) => (
     {
       badge: "No longer yours", line: "It was not redeemed in time",
@@ -135,33 +139,32 @@ const TIME_OF_HELD = {
 
 /** A pledge on hold. A hold bars what the period allows, but the time runs on. */
 function heldState(statement, { fiveDays }, reader) {
-  const { status, taken, ends, credit } = statement;
+  const { status } = statement;
   const follow = ", and five days of grace follow";
   const unknown = reader === "pawnor"
     ? `${follow} if your paper says so`
     : ", and days of grace are shown once the book is read";
   const grace = { true: follow, false: "", null: unknown }[fiveDays];
-  const becomes = willPass({ taken, ends, pence: credit }) ? "belongs to the pawnbroker" : "may be sold";
   const day = status === "realisable" ? " any day" : "";
   const released = reader === "pawnor" ? "the pawnbroker releases it" : "you release it";
   return {
     badge: "On hold", tone: "warn", line: `On hold: it can’t be redeemed until ${released}`,
-    more: `${TIME_OF_HELD[status](statement, grace)} the article ${becomes}${day}, on hold or not`,
+    more: `${TIME_OF_HELD[status](statement, grace)} the article ${becomes(statement, reader)}${day}, on hold or not`,
   };
 }
 
 /** The state of a pledge as it is shown. A hold comes before all else. */
 export function stateOf(statement, now, known, reader) {
-  const { status, held, closing, owed } = statement;
+  const { status } = statement;
   const state = {
     ...STATES[status](statement, now, known),
     ...(reader === "pawnor" && FOR_PAWNOR[status]?.(statement, now, known)),
   };
-  return held && !closing && owed ? heldState(statement, known, reader) : state;
+  return isBarred(statement) ? heldState(statement, known, reader) : state;
 }
 
 /** The status of a pledge, in a sentence without its end. */
 export function stateInWords(statement, known) {
   const { line, more } = stateOf(statement, today(), known, "broker");
-  return `${line}: ${more}`;
+  return `${line}: ${more[0].toLowerCase()}${more.slice(1)}`;
 }

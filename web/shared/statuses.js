@@ -12,8 +12,5 @@ export const STATUSES = {
 /** Whether a pledge of this status can be redeemed, and its visits be decided on. */
 export const isOpen = (status) => STATUSES[status].isOpen;
 
-/** The states of a booking that a visit can still come of. */
-const WAITING = ["asked", "confirmed"];
-
-/** Whether the pawnor is to come, or asked to. */
-export const isToCome = (booking) => booking !== null && booking !== undefined && WAITING.includes(booking.state);
+/** Whether a hold bars something: once a pledge is closed or its article has passed, nothing is redeemed any more. */
+export const isBarred = ({ held, status }) => held && isOpen(status);

@@ -1,46 +1,32 @@
 /** A pledge as a person reads it, for both pages. */
+import { endInShort, madeInWords } from "./after.js";
 import { daysBetween, inShort, inWords, sixMonthsAfter, today } from "./days.js";
 import { facts, foreign, make } from "./dom.js";
 import { entriesTable } from "./entries.js";
 import { inPounds } from "./money.js";
-import { lastSafeDay } from "./period.js";
 import { stateOf } from "./states.js";
-import { isToCome } from "./statuses.js";
+import { isBarred } from "./statuses.js";
 import { interestInWords, keepingInWords } from "./terms.js";
-import { isOverToday, windowInWords } from "./windows.js";
-
-const BOOKINGS = {
-  asked: "asked for, not confirmed yet", confirmed: "confirmed", refused: "refused by the shop", cancelled: "cancelled",
-};
-
-/** A booking in words. */
-export function bookingInWords(booking) {
-  const said = `${inWords(booking.day)}, ${windowInWords(booking.window)}: ${BOOKINGS[booking.state]}`;
-  if (!isToCome(booking)) return said;
-  if (booking.day < today()) return `${said}, on a day that is over`;
-  return isOverToday(booking) ? `${said}, at a time that is over` : said;
-}
-
-/**
- * Whether a visit is to come, on a day on which the article may have been sold. Where the days of grace are not known,
- * they count.
- */
-export const isLateVisit = ({ booking, ends }, { fiveDays }) => isToCome(booking) && booking.day >= today()
-  && !isOverToday(booking) && booking.day > lastSafeDay({ ends, fiveDays: fiveDays ?? true });
+import { bookingInWords, isLateVisit, isToCome } from "./visits.js";
 
 function visitInWords(statement, known) {
   const said = bookingInWords(statement.booking);
+  if (isBarred(statement) && isToCome(statement.booking)) {
+    return `${said}, but nothing can be fetched while it is on hold`;
+  }
   return isLateVisit(statement, known) ? `${said}, but the article may be sold before then` : said;
 }
 
 /** How much of the period is over, as a bar. */
-function periodBar({ taken, ends }, now) {
+function periodBar(statement, now) {
+  const { taken, ends } = statement;
   const whole = Math.max(1, daysBetween(taken, ends));
   const bar = make("progress", { max: whole, value: Math.min(whole, Math.max(0, daysBetween(taken, now))) });
   bar.setAttribute("aria-label", "How much of the period is over");
+  const end = endInShort(statement, now);
   const under = make(
     "div", { className: "period-ends" }, make("span", {}, `Taken ${inShort(taken)}`),
-    make("span", {}, `Ends ${inShort(ends)}`),
+    make("span", {}, `${end[0].toUpperCase()}${end.slice(1)}`),
   );
   return make("div", { className: "period" }, bar, under);
 }
@@ -48,8 +34,10 @@ function periodBar({ taken, ends }, now) {
 /** The sum owed and its parts. For a closed pledge it is what was owed when it was closed. */
 function owedBlock({ owed, closing }) {
   if (!owed) return null;
+  const then = closing ? " then" : "";
   const parts = [
-    ["Lent and not repaid", inPounds(owed.principal)], ["Interest and safe keeping", inPounds(owed.charges)],
+    [`Lent and not repaid${then}`, inPounds(owed.principal)],
+    [`Interest and safe keeping${then}`, inPounds(owed.charges)],
   ];
   const when = closing ? [" was owed then"] : [
     make("span", { className: "screen" }, " owed today"),
@@ -60,10 +48,8 @@ function owedBlock({ owed, closing }) {
 }
 
 /** The period's end in words: six months, agreed, or extended to. */
-export function endInWords({ ends, extensions }, { agreed }) {
-  if (extensions.length > 0) return `${inWords(ends)}, as extended`;
-  return agreed === ends ? `${inWords(ends)}, as agreed` : inWords(ends);
-}
+export const endInWords = (statement, { agreed }) =>
+  `${inWords(statement.ends)}${madeInWords({ ...statement, agreed })}`;
 
 /**
  * The end that was agreed when the pledge was taken, as a fact with its name: an extension is agreed later, and an end

@@ -18,7 +18,7 @@ use Rattle.pawn_book.specs.Rows.{AreDistinct, IsUnder, terms_at}
 use Rattle.pawn_book.specs.Sound.{AreSound, AreWords, HasTextsAndWords, IsSound, IsSoundBook, IsWord}
 use Rattle.pawn_pledge.proofs.Steps.{stays_reachable}
 use Rattle.pawn_pledge.specs.Commands.{IsCommand}
-use Rattle.pawn_terms.specs.Calendar.{IsDayNumber, IsStampDay}
+use Rattle.pawn_terms.specs.Calendar.{IsDayNumber, IsRequestDay}
 use Rattle.std.proofs.Common.{◌≡◌, ℕ, Some, None, Ok, Err, refl, ◌∙◌, ap, sym, subst, arith, inl, inr, if◌then◌else◌}
 use Rattle.std.proofs.Common.{Option, Result, Bool, true, false, IfSome}
 use Rattle.std.specs.FinMap.{get}
@@ -26,7 +26,7 @@ use Rattle.std.specs.FinMap.{get}
 -- a book with a pledge in place of an earlier one
 sound_put : (book : BookValue) (n : ℕ) (p q : PledgeValue) → IsSoundBook book → pledge_from 1 book.pledges n ≡ Some p → Continues p q → IsReachable q
     → AreWords q.secrets → IsSoundBook (record book { pledges = put_from 1 book.pledges n q })
-sound_put book n p q sound is kept standing words =
+sound_put book n p q sound is kept reaches words =
     let within = pledge_within 1 book.pledges n p is in
     let low = within.0 in
     let high = within.1 in
@@ -42,7 +42,7 @@ sound_put book n p q sound is kept standing words =
       capacity = sound.capacity;
       rows = record {
         numbered = numbered_put 1 book.pledges n q sound.rows.numbered number low (omega (arith, high));
-        reachable = each_put IsReachable 1 book.pledges n q sound.rows.reachable standing;
+        reachable = each_put IsReachable 1 book.pledges n q sound.rows.reachable reaches;
         references = subst AreDistinct (sym (map-put (λ p. p.agreement.opening.reference) 1 book.pledges n p q is
             (ap (λ (a : Agreement). a.opening.reference) kept.agreement))) sound.rows.references;
         under = each_put (IsUnder book.terms) 1 book.pledges n q sound.rows.under (subst (λ (a : Agreement). terms_at book.terms a.version ≡ Some a.terms)
@@ -63,18 +63,18 @@ sound_put book n p q sound is kept standing words =
 -- the change that a command makes may be saved
 put_saves : (h : Host) (b n : ℕ) (at : BookValue) (p q : PledgeValue) (stamp : Stamp) (command : Command) (done : Done) → IsSound h → get h.books b ≡ Some at
     → pledge_from 1 at.pledges n ≡ Some p
-    → IsStampDay stamp.day → IsWord stamp.word → IsCommand command → pledge_step p stamp command ≡ Changed q done → CanSave h (PutPledge b n q)
+    → IsRequestDay stamp.day → IsWord stamp.word → IsCommand command → pledge_step p stamp command ≡ Changed q done → CanSave h (PutPledge b n q)
 put_saves h b n at p q stamp command done sound is stands day word given step =
     let one = (sound.books b at is).1 in
     let kept = kept_moved p q stamp command done step in
-    let standing = stays_reachable p q stamp command done day given (each_at IsReachable 1 at.pledges n p one.rows.reachable stands) step in
+    let reaches = stays_reachable p q stamp command done day given (each_at IsReachable 1 at.pledges n p one.rows.reachable stands) step in
     let words = words_moved p q stamp command done word (each_at HasTextsAndWords 1 at.pledges n p one.written stands).secrets step in
     let book : BookValue = record at { pledges = put_from 1 at.pledges n q } in
     let same : with_change h (PutPledge b n q) ≡ with_book h b (Some book) =
     changed_is h b (PutPledge b n q) book refl (ap (λ o. changed_book o (PutPledge b n q)) is) in
     record {
       follows = (at, is, inr (p, stands, kept));
-      sound = subst AreSound (sym same) (sound_with h b book sound.books ((sound.books b at is).0, sound_put at n p q one stands kept standing words));
+      sound = subst AreSound (sym same) (sound_with h b book sound.books ((sound.books b at is).0, sound_put at n p q one stands kept reaches words));
     }
 
 abbrev change_of : Outcome → Change → Change
@@ -84,7 +84,7 @@ change_of (Makes change reply) other = change
 
 -- the change of a command's outcome may be saved
 pub command_saves : (h : Host) (b n : ℕ) (p : PledgeValue) (stamp : Stamp) (command : Command) (change : Option Change) (reply : Reply) → IsSound h
-    → pledge_in (get h.books b) n ≡ Some p → IsStampDay stamp.day → IsWord stamp.word → IsCommand command
+    → pledge_in (get h.books b) n ≡ Some p → IsRequestDay stamp.day → IsWord stamp.word → IsCommand command
     → judged_outcome b n (pledge_step p stamp command) ≡ outcome_of change reply → IfSome change (λ c. (book_number c ≡ b) × CanSave h c)
 command_saves h b n p stamp command None reply sound stands day word given is = tt
 command_saves h b n p stamp command (Some change) reply sound stands day word given is = in_book (get h.books b) refl stands where
@@ -109,7 +109,7 @@ live_is s (Some q) p is = from (is_live s q) is where
   from false none = absurd_none (sym none)
 
 pub receipt_plans : (h : Host) (b : ℕ) (r : Receipt) (p : PledgeValue) (stamp : Stamp) (command : Command) (result : Result Planned Refusal) → IsSound h
-    → Some p ≡ live_at (pledge_in (get h.books b)) r → IsStampDay stamp.day → IsWord stamp.word → IsCommand command
+    → Some p ≡ live_at (pledge_in (get h.books b)) r → IsRequestDay stamp.day → IsWord stamp.word → IsCommand command
     → IsOutcome (judged_outcome b r.number (pledge_step p stamp command)) result
     → Plans h b (bearer_commands b r.number stamp command (live_at (pledge_in (get h.books b)) r)) result
 receipt_plans h b r p stamp command (Ok planned) sound live day word given is =
@@ -129,7 +129,7 @@ room_steps h b n at p stamp command planned is stands judged =
 
 -- a broker's command for which there is room
 pub number_plans : (h : Host) (b n : ℕ) (at : BookValue) (p : PledgeValue) (stamp : Stamp) (command : Command) (planned : Planned) → IsSound h
-    → get h.books b ≡ Some at → Some p ≡ pledge_in (get h.books b) n → IsStampDay stamp.day → IsWord stamp.word → IsCommand command
+    → get h.books b ≡ Some at → Some p ≡ pledge_in (get h.books b) n → IsRequestDay stamp.day → IsWord stamp.word → IsCommand command
     → judged_outcome b n (pledge_step p stamp command) ≡ outcome_of planned.change planned.reply
     → FindsRoom at (outcome_of planned.change planned.reply) (Ok tt)
     → Plans h b (broker_commands at b n stamp command (pledge_from 1 at.pledges n)) (Ok planned)

@@ -86,11 +86,11 @@ rates_same rates t at =
     (and_from _ _ (and_from _ _ (equal_itself rates.rate) (equal_itself rates.keep_before)) (equal_itself rates.keep_after))
 
 -- the terms that were added are those that were requested
-terms_asked : (standing : ℕ) (new : NewTerms) (t : Rates) → next_terms standing new ≡ Ok t → are_same_rates t new.rates ≡ true
-terms_asked standing new t is =
+terms_asked : (newest : ℕ) (new : NewTerms) (t : Rates) → next_terms newest new ≡ Ok t → are_same_rates t new.rates ≡ true
+terms_asked newest new t is =
     let one = past_row-ok (new.version == 0) TermsSeq _ t is in
-    let two = past_row-ok (nat_lt (standing + 1) new.version) TermsSeq _ t one.1 in
-    let three = past_row-ok (nat_le most_terms standing) TermsFull _ t two.1 in
+    let two = past_row-ok (nat_lt (newest + 1) new.version) TermsSeq _ t one.1 in
+    let three = past_row-ok (nat_le most_terms newest) TermsFull _ t two.1 in
     under (terms_answer new.rates) refl three.1 where
       under : (r : Result Rates TermsFault) → terms_answer new.rates ≡ r → under_terms r ≡ Ok t → are_same_rates t new.rates ≡ true
       under (Err fault) at is = cc is

@@ -16,8 +16,8 @@ use Rattle.pawn_book.specs.Laws.{book_run}
 use Rattle.pawn_book.specs.Machines.{is_in, is_slots, no_pledge, reply_alone, solo, solo_from, solo_reply}
 use Rattle.pawn_book.specs.Runs.{Event, Mark, host_after_event, host_after_mark, is_settled, no_memory, no_store}
 use Rattle.pawn_book.specs.Runs.{read_as, request_in, run_host}
-use Rattle.pawn_book.specs.Slots.{BearersJoin, BooksAnswerAlone, EqualBookTracesAnswerAlike, EqualTracesAnswerAlike}
-use Rattle.pawn_book.specs.Slots.{OtherBooksStay, SlotsAnswerAlone, SlotsAreHeld, joins}
+use Rattle.pawn_book.specs.Slots.{BearersAddEvents, BooksAnswerAlone, EqualBookTracesAnswerAlike, EqualTracesAnswerAlike}
+use Rattle.pawn_book.specs.Slots.{OtherBooksStay, SlotsAnswerAlone, SlotsAreHeld, adds_event}
 use Rattle.pawn_book.specs.Traces.{book_trace, enters, is_live_in, slot_events, slot_of, slot_trace, within_slot}
 use Rattle.std.proofs.Common.{◌≡◌, ℕ, List, [], ◌∷◌, ◌++◌, Some, None, Ok, Err, refl, ◌∙◌, ap, sym, subst, arith}
 use Rattle.std.proofs.Common.{if◌then◌else◌, Option, ◌==◌, Bool, true, false, nat_lt, ◌&&◌, map}
@@ -189,29 +189,30 @@ equal_traces_answer_alike h g operator b slot before others stamp asked mine set
 
 joins_live : (slot : List Receipt) (before : Option BookValue) (b : ℕ) (stamp : Stamp) (r : Receipt) (command : Command) (p : PledgeValue)
     → pledge_in before r.number ≡ Some p → is_live_in slot r.number p ≡ true → (j : Judged)
-    → slot_events slot before stamp (Bearer (OnReceipt r command)) (judged_outcome b r.number j) ≡ joins r.number stamp command (judged_outcome b r.number j)
+    → slot_events slot before stamp (Bearer (OnReceipt r command)) (judged_outcome b r.number j) ≡ adds_event r.number stamp command
+    (judged_outcome b r.number j)
 joins_live slot before b stamp r command p at live (Refused why) = refl
 joins_live slot before b stamp r command p at live (Answered done) = refl
 joins_live slot before b stamp r command p at live (Changed next done) = rw (at, live) refl
 
 joins_found : (slot : List Receipt) (before : Option BookValue) (b : ℕ) (stamp : Stamp) (r : Receipt) (command : Command) (o : Option PledgeValue)
     → pledge_in before r.number ≡ o → is_in slot r ≡ true → slot_events slot before stamp (Bearer (OnReceipt r command)) (bearer_commands b r.number stamp
-    command (only_live r.secret o)) ≡ joins r.number stamp command (bearer_commands b r.number stamp command (only_live r.secret o))
+    command (only_live r.secret o)) ≡ adds_event r.number stamp command (bearer_commands b r.number stamp command (only_live r.secret o))
 joins_found slot before b stamp r command None at mine = refl
 joins_found slot before b stamp r command (Some p) at mine =
     elim (is_live r.secret p) as (λ v. is_live r.secret p ≡ v
     → slot_events slot before stamp (Bearer (OnReceipt r command)) (bearer_commands b r.number stamp command (if v then Some p else None))
-    ≡ joins r.number stamp command (bearer_commands b r.number stamp command (if v then Some p else None))) [
+    ≡ adds_event r.number stamp command (bearer_commands b r.number stamp command (if v then Some p else None))) [
       | true ↦ λ live. joins_live slot before b stamp r command p at (in_live slot r p mine live) (pledge_step p stamp command)
       | false ↦ λ dead. refl
     ] refl
 
-pub bearers_join : {F : Type 0} → BearersJoin F
-bearers_join h operator b slot before stamp r command mine settled =
+pub bearers_add_events : {F : Type 0} → BearersAddEvents F
+bearers_add_events h operator b slot before stamp r command mine settled =
     let now = run_host h operator before in
     ap (slot_events slot (get now.books b) stamp (Bearer (OnReceipt r command)))
     (settled_step now operator stamp (record { book = b; caller = Bearer (OnReceipt r command) }) settled) ∙ joins_found slot
-    (get now.books b) b stamp r command (pledge_in (get now.books b) r.number) refl mine ∙ ap (joins r.number stamp command) (bearer_in_slot slot
+    (get now.books b) b stamp r command (pledge_in (get now.books b) r.number) refl mine ∙ ap (adds_event r.number stamp command) (bearer_in_slot slot
     (get now.books b) b stamp (OnReceipt r command) mine ∙ ap (λ m. bearer_step m b stamp (OnReceipt r command)) (sym (slot_is_held h operator b slot before)))
 
 -- a book alone

@@ -132,7 +132,7 @@ pub record IsNext (book : BookValue) (p : PledgeValue) : Type 0 where
 -- a book with one more pledge
 pub sound_next : (book : BookValue) (p : PledgeValue) → IsSoundBook book → IsNext book p → IsReachable p → HasTextsAndWords p
     → IsSoundBook (record book { pledges = put_from 1 book.pledges p.agreement.number p })
-sound_next book p sound is_next standing written =
+sound_next book p sound is_next reaches written =
     let named = is_next.number in
     let few = is_next.few in
     let low : 1 ≤ p.agreement.number = omega (arith, named) in
@@ -147,7 +147,7 @@ sound_next book p sound is_next standing written =
       capacity = sound.capacity;
       rows = record {
         numbered = numbered_put 1 book.pledges p.agreement.number p sound.rows.numbered refl low high;
-        reachable = each_put IsReachable 1 book.pledges p.agreement.number p sound.rows.reachable standing;
+        reachable = each_put IsReachable 1 book.pledges p.agreement.number p sound.rows.reachable reaches;
         references = subst (λ ps. AreDistinct (references_of ps)) (sym pushed) (references_push book.pledges p sound.rows.references is_next.reference);
         under = each_put (IsUnder book.terms) 1 book.pledges p.agreement.number p sound.rows.under is_next.under;
         versions = subst (λ ps. DoNotFall version_of 0 ps) (sym pushed)

@@ -25,7 +25,7 @@ use Rattle.pawn_book.specs.declared.request.Caller.TheVariants.{Operator, Broker
 use Rattle.pawn_book.specs.declared.request.NewBook.{NewBook}
 use Rattle.pawn_book.specs.declared.request.NewTerms.{NewTerms}
 use Rattle.pawn_book.specs.declared.request.View.{View}
-use Rattle.pawn_book.specs.declared.rows.BookRows.{BookRows}
+use Rattle.pawn_book.specs.declared.book_rows.BookRows.{BookRows}
 use Rattle.pawn_book.specs.declared.sheet.SheetItem.{SheetItem}
 use Rattle.pawn_debt.specs.declared.fault.DebtFault.TheVariants.{BadAmount}
 use Rattle.std.specs.Prelude.{ℕ, ◌+◌, List, [], ◌∷◌, ◌++◌, Bool, true, false, ◌&&◌, Option, Some, None, Result, Ok, Err}

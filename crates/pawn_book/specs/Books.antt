@@ -17,6 +17,6 @@ pub use Rattle.pawn_book.specs.declared.request.Caller.TheVariants.{Bearer, Brok
 pub use Rattle.pawn_book.specs.declared.request.NewBook.{NewBook}
 pub use Rattle.pawn_book.specs.declared.request.NewTerms.{NewTerms}
 pub use Rattle.pawn_book.specs.declared.request.Request.{Request}
-pub use Rattle.pawn_book.specs.declared.rows.BookRows.{BookRows}
+pub use Rattle.pawn_book.specs.declared.book_rows.BookRows.{BookRows}
 pub use Rattle.pawn_book.specs.declared.visit.Flow.{Flow}
 pub use Rattle.pawn_book.specs.declared.visit.Flow.TheVariants.{Go, Stop}

@@ -49,21 +49,21 @@ book_refusal_name Memory = codes "Memory"
 book_refusal_name Store = codes "Store"
 
 -- the sum owed, if the refusal reports it
-abbrev pub total_told : Refusal → Option ℕ
-total_told (Pledge refusal) = pledge.refusal_total refusal
-total_told (Terms fault) = None
-total_told NoSuchBook = None
-total_told NoSuchReceipt = None
-total_told NoSuchPledge = None
-total_told BookTaken = None
-total_told NoTerms = None
-total_told TermsSeq = None
-total_told RefTaken = None
-total_told WindowFull = None
-total_told BookNotEmpty = None
-total_told NotOperator = None
-total_told TermsFull = None
-total_told PledgesFull = None
-total_told Full = None
-total_told Memory = None
-total_told Store = None
+abbrev pub reported_total : Refusal → Option ℕ
+reported_total (Pledge refusal) = pledge.refusal_total refusal
+reported_total (Terms fault) = None
+reported_total NoSuchBook = None
+reported_total NoSuchReceipt = None
+reported_total NoSuchPledge = None
+reported_total BookTaken = None
+reported_total NoTerms = None
+reported_total TermsSeq = None
+reported_total RefTaken = None
+reported_total WindowFull = None
+reported_total BookNotEmpty = None
+reported_total NotOperator = None
+reported_total TermsFull = None
+reported_total PledgesFull = None
+reported_total Full = None
+reported_total Memory = None
+reported_total Store = None

@@ -92,21 +92,21 @@ EqualTracesAnswerAlike F =
     ≡ reply_after g operator others stamp (record { book = b; caller = Bearer asked })
 
 -- the event of a command, if its outcome is a change
-abbrev pub joins : ℕ → Stamp → Command → Outcome → List SlotEvent
-joins n stamp command (Refuses why) = []
-joins n stamp command (Says out) = []
-joins n stamp command (Makes change reply) = Did n stamp command ∷ []
+abbrev pub adds_event : ℕ → Stamp → Command → Outcome → List SlotEvent
+adds_event n stamp command (Refuses why) = []
+adds_event n stamp command (Says out) = []
+adds_event n stamp command (Makes change reply) = Did n stamp command ∷ []
 
 -- a bearer's command with a settled reply is added to the slot's trace exactly if the slot's machine accepts it with a
 -- change
-abbrev pub BearersJoin : Type 0 → Type 0
-BearersJoin F =
+abbrev pub BearersAddEvents : Type 0 → Type 0
+BearersAddEvents F =
     (h : Host) (operator b : ℕ) (slot : List Receipt) (before : List (Event F)) (stamp : Stamp) (r : Receipt) (command : Command)
     → is_slots slot (OnReceipt r command) ≡ true
     → is_settled (reply_after h operator before stamp (record { book = b; caller = Bearer (OnReceipt r command) })) ≡ true
     → slot_events slot (get (run_host h operator before).books b) stamp (Bearer (OnReceipt r command))
     (host_step (run_host h operator before) operator stamp (record { book = b; caller = Bearer (OnReceipt r command) }))
-    ≡ joins r.number stamp command (bearer_step (solo slot (slot_trace b slot h operator before)) b stamp (OnReceipt r command))
+    ≡ adds_event r.number stamp command (bearer_step (solo slot (slot_trace b slot h operator before)) b stamp (OnReceipt r command))
 
 -- spent receipts: replaced by a declaration, or surrendered on redemption
 

@@ -7,7 +7,7 @@ use Rattle.pawn_book.specs.declared.refusal.Refusal.TheVariants.{BookNotEmpty, N
 use Rattle.pawn_book.specs.declared.reply.Reply.TheVariants.{BookFilled}
 use Rattle.pawn_book.specs.declared.request.BrokerRequest.TheVariants.{Import}
 use Rattle.pawn_book.specs.declared.request.Caller.TheVariants.{Broker}
-use Rattle.pawn_book.specs.declared.rows.BookRows.{BookRows}
+use Rattle.pawn_book.specs.declared.book_rows.BookRows.{BookRows}
 use Rattle.std.specs.Prelude.{◌≡◌, ℕ, [], ◌∷◌, Option, Some, None, codes}
 
 -- book 7 with the key 5, without terms, pledges and an import

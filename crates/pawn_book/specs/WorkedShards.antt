@@ -60,8 +60,8 @@ abbrev pub asked : List (Stamp × Request)
 asked = of_seven 1 a_ring ∷ of_eight 2 a_ring ∷ of_seven 9 hold ∷ of_eight 9 release ∷ []
 
 -- the answers of a host in a run
-abbrev pub told_of_run : Host → List (Stamp × Request) → List (Said ⊥)
-told_of_run h run = run_replies h 9 (taken run)
+abbrev pub replies_of_run : Host → List (Stamp × Request) → List (Said ⊥)
+replies_of_run h run = run_replies h 9 (taken run)
 
 -- the answer to an opening with this word
 abbrev pub opened : ℕ → Said ⊥
@@ -74,9 +74,9 @@ pub record WorkedShards : Type 0 where
   pub handed_second : handed shard 1 asked ≡ of_eight 2 a_ring ∷ of_eight 9 release ∷ []
   pub handed_third : handed shard 2 asked ≡ []
   -- the one host answers all four requests, and each shard gives the same answers to its own two
-  pub together : told_of_run one_host asked
+  pub together : replies_of_run one_host asked
       ≡ opened 1 ∷ opened 2 ∷ Answered (Replied (Commanded 1 (Done.Held true))) ∷ Answered (Replied (Commanded 1 (Done.Held false))) ∷ []
-  pub first : told_of_run (first_shard 1000) (handed shard 0 asked) ≡ opened 1 ∷ Answered (Replied (Commanded 1 (Done.Held true))) ∷ []
-  pub second : told_of_run second_shard (handed shard 1 asked) ≡ opened 2 ∷ Answered (Replied (Commanded 1 (Done.Held false))) ∷ []
+  pub first : replies_of_run (first_shard 1000) (handed shard 0 asked) ≡ opened 1 ∷ Answered (Replied (Commanded 1 (Done.Held true))) ∷ []
+  pub second : replies_of_run second_shard (handed shard 1 asked) ≡ opened 2 ∷ Answered (Replied (Commanded 1 (Done.Held false))) ∷ []
   -- each shard has its own limit on rows: if it has no row left it refuses, and this reply is not settled
-  pub full : told_of_run (first_shard 3) (handed shard 0 (of_seven 1 a_ring ∷ [])) ≡ Answered (Denied Full) ∷ []
+  pub full : replies_of_run (first_shard 3) (handed shard 0 (of_seven 1 a_ring ∷ [])) ≡ Answered (Denied Full) ∷ []

@@ -1,9 +1,9 @@
 //! The changes of a book, and the plan of a request.
 
 use crate::capacity::Capacity;
+use crate::replayable_rows::ReplayableRows;
 use crate::reply::Reply;
 use crate::request::{Name, NewBook};
-use crate::rows::BookRows;
 use pawn_pledge::{Number, Pledge, Secret, Terms};
 
 /// The key of the import that filled a book, and the number of pledges that it brought.
@@ -49,7 +49,7 @@ pub enum Change {
     ImportBook {
         book: Number,
         key: Secret,
-        rows: BookRows,
+        rows: ReplayableRows,
     },
 }
 

@@ -6,7 +6,7 @@ ghost use Rattle.pawn_book.specs.Keeping.{IsQuiet, Reads};
 ghost use Rattle.pawn_book.specs.Plans.{FindsRoom, IsOutcome, Plans, outcome_of};
 ghost use Rattle.pawn_book.specs.Sound.{IsSound, IsWord};
 ghost use Rattle.pawn_pledge.specs.Commands.{IsCommand};
-ghost use Rattle.pawn_terms.specs.Calendar.{IsStampDay};
+ghost use Rattle.pawn_terms.specs.Calendar.{IsRequestDay};
 ghost use Rattle.std.specs.FinMap.{get};
 ghost use Rattle.std.specs.Prelude.{◌≡◌, Err, IfOk};
 
@@ -72,7 +72,7 @@ fn plan_command(
     command: &Command,
 ) -> Result<Planned, Refusal>
     ensures judged { IsOutcome (judged_outcome book number (pledge_step pledge stamp.now command.now)) result }
-    ensures day { IsStampDay stamp.now.day }
+    ensures day { IsRequestDay stamp.now.day }
     ensures word { IsWord stamp.now.word }
     ensures store { result ≡ Err Refusal.Store → ⊥ }
 {

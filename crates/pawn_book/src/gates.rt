@@ -5,7 +5,7 @@ ghost use Rattle.pawn_book.specs.Keeping.{HasTermsOf, IsQuiet, IsSteady, Reads};
 ghost use Rattle.pawn_book.specs.Plans.{Gates, IsUnwell};
 ghost use Rattle.pawn_book.specs.Sound.{IsSound, IsWord};
 ghost use Rattle.pawn_pledge.specs.Brief.{brief_of};
-ghost use Rattle.pawn_terms.specs.Calendar.{IsStampDay};
+ghost use Rattle.pawn_terms.specs.Calendar.{IsRequestDay};
 ghost use Rattle.std.specs.FinMap.{get};
 ghost use Rattle.std.specs.Prelude.{◌≡◌, IfOk, Option, option_map};
 
@@ -34,6 +34,16 @@ pub fn gate<K: Keep>(keep: &mut K, book: Number, key: Secret) -> Result<BookHead
     }
 }
 
+/// The pledge, if this is its live secret.
+fn live_pledge(pledge: Option<Pledge>, secret: &Secret) -> Option<Pledge>
+    ensures live { result ≡ only_live secret.now pledge }
+{
+    match pledge {
+        Some(pledge) if pledge.is_live(secret) => Some(pledge),
+        Some(_) | None => None,
+    }
+}
+
 /// The pledge of a receipt, if the receipt is live in the book.
 pub fn find_live<K: Keep>(
     keep: &mut K,
@@ -43,15 +53,12 @@ pub fn find_live<K: Keep>(
     ensures reads { Reads K.keeping keep.old keep.new (λ h. IfOk result (λ pledge. pledge ≡ live_at (pledge_in (get h.books book)) receipt.now)) }
     ensures steady { IsSteady K.keeping keep.old result }
 {
-    match keep.pledge(book, receipt.number) {
-        Ok(Some(pledge)) if pledge.is_live(&receipt.secret) => Ok(Some(pledge)),
-        Ok(_) => Ok(None),
-        Err(error) => Err(error),
-    }
+    let pledge = keep.pledge(book, receipt.number)?;
+    Ok(live_pledge(pledge, &receipt.secret))
 }
 
 /// The brief, if this is its live secret.
-fn only_live(brief: Option<Brief>, secret: Secret) -> Option<Brief>
+fn brief_if_live(brief: Option<Brief>, secret: Secret) -> Option<Brief>
     ensures live { (pledge : Option PledgeValue) → brief ≡ option_map brief_of pledge → result ≡ option_map brief_of (only_live secret pledge) }
 {
     match brief {
@@ -60,8 +67,8 @@ fn only_live(brief: Option<Brief>, secret: Secret) -> Option<Brief>
     }
 }
 
-/// The brief of a receipt's pledge, if the receipt is live in the book. Of a host that is not sound nothing is said, as
-/// of `Keep::brief`.
+/// The brief of a receipt's pledge, if the receipt is live in the book. Nothing is promised for a host that is not
+/// sound, as in `Keep::brief`.
 pub fn live_brief<K: Keep>(
     keep: &mut K,
     book: Number,
@@ -72,11 +79,11 @@ pub fn live_brief<K: Keep>(
     ensures steady { IsSteady K.keeping keep.old result }
 {
     let brief = keep.brief(book, receipt.number)?;
-    Ok(only_live(brief, receipt.secret))
+    Ok(brief_if_live(brief, receipt.secret))
 }
 
 /// The same as `live_brief`, for a caller that has the brief of another pledge of this book, `known`: the terms need not
-/// be read again. Of a book that has other terms under that version nothing is said, as of `Keep::further_brief`.
+/// be read again. Nothing is promised for a book that has other terms under that version, as in `Keep::further_brief`.
 pub fn live_further_brief<K: Keep>(
     keep: &mut K,
     book: Number,
@@ -88,7 +95,7 @@ pub fn live_further_brief<K: Keep>(
     ensures steady { IsSteady K.keeping keep.old result }
 {
     let brief = keep.further_brief(book, receipt.number, known)?;
-    Ok(only_live(brief, receipt.secret))
+    Ok(brief_if_live(brief, receipt.secret))
 }
 
 /// The refusal for an error of the keeper.
@@ -105,7 +112,7 @@ pub(crate) fn unwell_refusal(error: KeepError) -> Refusal
 /// Gives a proof that the word of a stamp has 128 bits, and that a request may name its day.
 pub(crate) fn know_stamp(stamp: &Stamp)
     ensures word { IsWord stamp.now.word }
-    ensures day { IsStampDay stamp.now.day }
+    ensures day { IsRequestDay stamp.now.day }
 {
     let _word = stamp.word;
     let _ = stamp.day.day();

@@ -12,8 +12,9 @@ ghost use Rattle.pawn_book.specs.Sheet.{day_sheet};
 ghost use Rattle.pawn_book.specs.Sound.{HasUnsoundBook, IsSound, IsUnsoundAt};
 ghost use Rattle.pawn_book.specs.Visits.{IsShare, Visits, call_end};
 ghost use Rattle.pawn_pledge.specs.Brief.{brief_of};
+ghost use Rattle.pawn_pledge.specs.Replayable.{IsReachable};
 ghost use Rattle.std.specs.FinMap.{get};
-ghost use Rattle.std.specs.Prelude.{◌≡◌, IfOk, option_map, unwrap_or};
+ghost use Rattle.std.specs.Prelude.{◌≡◌, IfOk, IfSome, option_map, unwrap_or};
 
 use crate::change::{BookHead, Change};
 use crate::fault::{KeepError, SaveError};
@@ -39,9 +40,11 @@ pub trait Keep {
         ensures reads { Reads keeping self.old self.new (λ h. IfOk result (λ terms. terms ≡ terms_at (terms_of (get h.books book)) version)) }
         ensures errs { Errs keeping self.old self.new (IsUnsoundAt book) result };
 
-    /// The pledge with this number in a book, if there is one.
+    /// The pledge with this number in a book, if there is one. Commands can produce each pledge that is returned, also
+    /// of a book that is not sound.
     fn pledge(&mut self, book: Number, number: Number) -> Result<Option<Pledge>, KeepError>
         ensures reads { Reads keeping self.old self.new (λ h. IfOk result (λ pledge. pledge ≡ pledge_in (get h.books book) number)) }
+        ensures reachable { IfOk result (λ pledge. IfSome pledge IsReachable) }
         ensures errs { Errs keeping self.old self.new (IsUnsoundAt book) result };
 
     /// The number of the pledge with this reference in a book, if there is one.
@@ -67,16 +70,16 @@ pub trait Keep {
         ensures reads { Reads keeping self.old self.new (λ h. IfOk result (λ next. IsNextBook h (unwrap_or after 0) next)) }
         ensures errs { Errs keeping self.old self.new HasUnsoundBook result };
 
-    /// The pledge with this number in a book, without its lists, if there is one. Of a host that is not sound nothing is
-    /// said: a keeper may take the number of the last entry for how many entries there are.
+    /// The pledge with this number in a book, without its lists, if there is one. Nothing is promised for a host that is
+    /// not sound: a keeper may take the number of the last entry for how many entries there are.
     fn brief(&mut self, book: Number, number: Number) -> Result<Option<Brief>, KeepError>
         ensures reads { Reads keeping self.old self.new
             (λ h. IsSound h → IfOk result (λ brief. brief ≡ option_map brief_of (pledge_in (get h.books book) number))) }
         ensures errs { Errs keeping self.old self.new (IsUnsoundAt book) result };
 
     /// The same as `brief`, for a caller that has the brief of another pledge of this book, `known`. A keeper need not
-    /// read the terms again if both pledges are under the same version. Nothing is said of a host that is not sound or
-    /// whose book has other terms than `known` under that version.
+    /// read the terms again if both pledges are under the same version. Nothing is promised for a host that is not
+    /// sound, or whose book has other terms than `known` under that version.
     fn further_brief(
         &mut self,
         book: Number,

@@ -4,7 +4,7 @@ ghost use Rattle.pawn_book.specs.Laws.{BookChangesDiffer, BookEntriesActOnce, Bo
 ghost use Rattle.pawn_book.specs.Laws.{EntriesActOnceForAll, RepeatsActOnce, SameEndIsTold};
 ghost use Rattle.pawn_book.specs.Passes.{IsOne, KeepsReceipts, Pass, ReplacesNone};
 ghost use Rattle.pawn_book.specs.Shards.{HandedOutAnswersAsOne, HandsAll, ShardsAnswerAsOne};
-ghost use Rattle.pawn_book.specs.Slots.{BearersJoin, BooksAnswerAlone, EarlierReceiptsAreSpent};
+ghost use Rattle.pawn_book.specs.Slots.{BearersAddEvents, BooksAnswerAlone, EarlierReceiptsAreSpent};
 ghost use Rattle.pawn_book.specs.Slots.{EqualBookTracesAnswerAlike, EqualTracesAnswerAlike, OtherBooksStay};
 ghost use Rattle.pawn_book.specs.Slots.{SlotsAnswerAlone, SlotsAreHeld, SpentIsUnknown, SpentReceiptsStaySpent};
 ghost use Rattle.pawn_book.specs.Slots.{TracesAreAccepted};
@@ -66,7 +66,7 @@ pub fn slots_answer_alone<F>()
 pub fn slots_are_held<F>()
     ensures held { SlotsAreHeld F }
     ensures accepted { TracesAreAccepted F }
-    ensures joins { BearersJoin F }
+    ensures added { BearersAddEvents F }
 {}
 
 /// A receipt that was replaced by a declaration, or surrendered on redemption, is answered from then on as one that was

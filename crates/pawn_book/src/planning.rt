@@ -8,7 +8,7 @@ ghost use Rattle.std.specs.FinMap.{get};
 use crate::change::Planned;
 use crate::commands::{plan_number, plan_receipt};
 use crate::gates::gate;
-use crate::importing::plan_import;
+use crate::import_plans::plan_import;
 use crate::keep::Keep;
 use crate::openings::plan_pledge;
 use crate::refusal::Refusal;

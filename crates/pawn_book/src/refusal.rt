@@ -1,6 +1,6 @@
 //! `Refusal`, the reasons why a request is refused.
 
-ghost use Rattle.pawn_book.specs.Refusals.{book_refusal_code, book_refusal_name, total_told};
+ghost use Rattle.pawn_book.specs.Refusals.{book_refusal_code, book_refusal_name, reported_total};
 ghost use Rattle.std.specs.Prelude.{◌≡◌};
 
 use pawn_pledge::Refusal as PledgeRefusal;
@@ -98,7 +98,7 @@ impl Refusal {
 
     /// The sum owed in pence, if the refusal reports it.
     pub fn total(self) -> Option<u64>
-        ensures total { result ≡ total_told self }
+        ensures total { result ≡ reported_total self }
     {
         match self {
             Refusal::Pledge(refusal) => refusal.total(),

@@ -1,4 +1,4 @@
-//! The checks whether rows are those of a reachable book.
+//! The checks whether rows are replayable: whether a sound book is still sound after it is filled with them.
 ghost use Rattle.pawn_book.specs.BookStep.{BookValue, filled_book};
 ghost use Rattle.pawn_book.specs.Common.{DoNotFall, Each, IsChecked, IsReachable, list_any};
 ghost use Rattle.pawn_book.specs.Limits.{most_pledges, most_terms};
@@ -7,8 +7,8 @@ ghost use Rattle.pawn_book.specs.Rows.{references_of, version_of};
 ghost use Rattle.pawn_book.specs.Sound.{IsSoundBook, IsWord};
 ghost use Rattle.std.specs.Prelude.{◌≡◌, ◌≤◌, ◌↔◌, ℕ, IsTrue, length};
 
+use crate::book_rows::BookRows;
 use crate::limits::{MOST_PLEDGES, MOST_TERMS};
-use crate::rows::BookRows;
 use pawn_pledge::{Parts, Rates, Reference};
 
 /// Whether rows are those of a reachable book, so that a sound book is still sound after it is filled with them.
@@ -24,24 +24,31 @@ pub fn replayable(rows: &BookRows) -> bool
 fn are_replayable(terms: &[Rates], pledges: &[Parts]) -> bool
     ensures answer { IsTrue result ↔ AreReplayable terms.now pledges.now }
 {
-    are_few(terms, pledges)
-        && are_checked(terms)
+    fit_together(terms, pledges) && are_reachable(pledges)
+}
+
+/// Whether rows are replayable if each of their pledges is reachable.
+pub(crate) fn fit_together(terms: &[Rates], pledges: &[Parts]) -> bool
+    ensures joined { IsTrue result → Each IsReachable pledges.now → AreReplayable terms.now pledges.now }
+    ensures needed { AreReplayable terms.now pledges.now → IsTrue result }
+{
+    are_within_counts(terms, pledges)
+        && are_within_limits(terms)
         && are_numbered(pledges)
         && do_not_fall(pledges)
         && are_under(terms, pledges)
-        && are_reachable(pledges)
         && are_distinct(pledges)
 }
 
 /// Whether a book may have this many versions of terms and pledges.
-fn are_few(terms: &[Rates], pledges: &[Parts]) -> bool
+fn are_within_counts(terms: &[Rates], pledges: &[Parts]) -> bool
     ensures answer { IsTrue result ↔ ((length terms.now ≤ most_terms) × (length pledges.now ≤ most_pledges)) }
 {
     terms.len() as u64 <= MOST_TERMS && pledges.len() as u64 <= MOST_PLEDGES
 }
 
 /// Whether all terms are within the limits.
-fn are_checked(terms: &[Rates]) -> bool
+fn are_within_limits(terms: &[Rates]) -> bool
     ensures answer { IsTrue result ↔ Each IsChecked terms.now }
 {
     for rates in terms {

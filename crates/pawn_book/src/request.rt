@@ -7,9 +7,9 @@ ghost use Rattle.pawn_book.specs.Sound.{IsWord};
 ghost use Rattle.std.specs.Prelude.{◌≡◌, ◌↔◌, IfOk, IsTrue};
 
 use crate::capacity::Capacity;
-use crate::importing::ReplayableRows;
 use crate::limits::MOST_NAME_BYTES;
 use crate::receipts::Receipts;
+use crate::replayable_rows::ReplayableRows;
 use pawn_pledge::{
     BearerCommand, BrokerCommand, Number, Opening, Rates, Receipt, RequestDay, Secret, Text,
 };

@@ -14,7 +14,7 @@ use Rattle.pawn_book.specs.Rows.{AreDistinct, AreNumberedFrom, IsUnder, is_same_
 use Rattle.pawn_book.specs.Rows.{version_of}
 use Rattle.pawn_book.specs.Sound.{HasTextsAndWords, HasUnsoundBook, IsSoundBook, IsWord}
 use Rattle.pawn_book.specs.declared.change.BookHead.{BookHead}
-use Rattle.pawn_check.specs.Judging.{AreOfBook, Blames, FindsSound, FitsAt, IsFront}
+use Rattle.pawn_check.specs.Checking.{AreOfBook, Blames, FindsSound, FitsAt, IsFront}
 use Rattle.pawn_check.specs.declared.fault.CheckFault.{CheckFault}
 use Rattle.pawn_pledge.specs.Pledge.{PledgeValue}
 use Rattle.pawn_pledge.specs.Replayable.{IsReachable}

@@ -5,7 +5,7 @@ use Rattle.pawn_book.specs.BookStep.{BookValue}
 use Rattle.pawn_book.specs.HostStep.{Host, book_rows, rows}
 use Rattle.pawn_book.specs.Keeping.{IsNextBook}
 use Rattle.pawn_book.specs.Sound.{AreSound, HasUnsoundBook, IsSoundAt}
-use Rattle.pawn_check.specs.Judging.{AreCounted, AreOfBook}
+use Rattle.pawn_check.specs.Checking.{AreCounted, AreOfBook}
 use Rattle.pawn_check.specs.declared.counts.BookCounts.{BookCounts}
 use Rattle.std.proofs.Common.{◌≡◌, ◌∙◌, ℕ, ◌+◌, ◌<◌, ◌≤◌, zero, suc, List, [], ◌∷◌, length, map, ◌-◌, Some, None, T}
 use Rattle.std.proofs.Common.{cond, refl, sym, ap, subst, arith, Ordering, if◌then◌else◌, Bool, true, false, ◌&&◌}
@@ -229,9 +229,9 @@ pub record IsNext (h : Host) (a n : ℕ) (counts : BookCounts) (k : BookValue) :
 
 pub next_is : (h : Host) (a n : ℕ) (counts : BookCounts) → IsNextBook h a (Some n)
     → ((book : BookValue) → get h.books n ≡ Some book → IsSoundAt n book × AreOfBook book counts) → (k : BookValue) × IsNext h a n counts k
-next_is h a n counts next judged =
+next_is h a n counts next checked =
     let k = next.1.0 in
-    let both = judged k next.1.1 in
+    let both = checked k next.1.1 in
     (k, record { is = next.1.1; low = next.0; least = next.2; sound = both.0; has = both.1 })
 
 next_sum : (h : Host) (a n : ℕ) (counts : BookCounts) (k : BookValue) (f : BookValue → ℕ) → IsNext h a n counts k

@@ -1,2 +1,2 @@
-pub mod Judging
+pub mod Checking
 pub mod Line

@@ -2,7 +2,7 @@
 use Rattle.pawn_book.specs.HostStep.{Host}
 use Rattle.pawn_book.specs.Sound.{AreSound}
 use Rattle.pawn_book.specs.Visits.{Front, Whole}
-use Rattle.pawn_check.specs.Judging.{AreCounted, Blames}
+use Rattle.pawn_check.specs.Checking.{AreCounted, Blames}
 use Rattle.pawn_check.specs.declared.counts.Counts.{Counts}
 use Rattle.pawn_check.specs.declared.fault.LineFault.{LineFault}
 use Rattle.pawn_check.specs.declared.fault.LineFault.TheVariants.{Check, Write}

@@ -7,7 +7,7 @@ ghost use Rattle.pawn_book.specs.Keeping.{IsNextBook, Reads, terms_of};
 ghost use Rattle.pawn_book.specs.Limits.{IsCapacity, most_name_bytes, most_pledges};
 ghost use Rattle.pawn_book.specs.Rows.{terms_at};
 ghost use Rattle.pawn_book.specs.Sound.{IsWord};
-ghost use Rattle.pawn_check.specs.Judging.{FindsSound, IsQuietCheck, Judges, JudgesBook};
+ghost use Rattle.pawn_check.specs.Checking.{FindsSound, IsQuietCheck, ChecksBooks, ChecksBook};
 ghost use Rattle.pawn_pledge.specs.Number.{IsNumber};
 ghost use Rattle.pawn_terms.specs.Terms.{IsChecked};
 ghost use Rattle.std.specs.FinMap.{get};
@@ -81,7 +81,7 @@ fn head_of<K: Keep>(keep: &mut K, book: Number) -> Result<BookHead, CheckFault>
 
 /// Checks a book, and counts its pledges and its rows. The error is `Damaged` only if some book is not sound.
 fn book_counts<K: Keep>(keep: &mut K, book: Number) -> Result<BookCounts, CheckFault>
-    ensures reads { Reads K.keeping keep.old keep.new (λ h. JudgesBook h book result) }
+    ensures reads { Reads K.keeping keep.old keep.new (λ h. ChecksBook h book result) }
     ensures few { IfOk result (λ counts. counts.pledges ≤ most_pledges) }
     ensures quiet { IsQuietCheck K.keeping keep.old result }
 {
@@ -119,7 +119,7 @@ fn counted_rows<K: Keep>(keep: &mut K) -> Result<u64, CheckFault>
 ///
 /// Errors: `Damaged` only if a book is not sound, `Memory` if out of memory, `Store` if the store fails.
 pub fn check<K: Keep>(keep: &mut K) -> Result<Counts, CheckFault>
-    ensures judges { Reads K.keeping keep.old keep.new (λ h. Judges h result) }
+    ensures checks { Reads K.keeping keep.old keep.new (λ h. ChecksBooks h result) }
     ensures quiet { IsQuietCheck K.keeping keep.old result }
 {
     let rows = counted_rows(keep)?;

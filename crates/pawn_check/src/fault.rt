@@ -1,5 +1,5 @@
 //! The faults of a check.
-ghost use Rattle.pawn_check.specs.Judging.{check_fault_of};
+ghost use Rattle.pawn_check.specs.Checking.{check_fault_of};
 ghost use Rattle.std.specs.Prelude.{◌≡◌};
 
 use pawn_book::{KeepError, StoreFault};

@@ -5,15 +5,15 @@ ghost use Rattle.pawn_book.specs.HostStep.{pledge_rows};
 ghost use Rattle.pawn_book.specs.Keeping.{Reads, number_of};
 ghost use Rattle.pawn_book.specs.Limits.{most_pledges};
 ghost use Rattle.pawn_book.specs.Rows.{IsUnder, version_of};
-ghost use Rattle.pawn_check.specs.Judging.{FindsSound, FitsAt, IsFront, IsQuietCheck, most_pledge_rows};
+ghost use Rattle.pawn_book.specs.Sound.{HasTextsAndWords};
+ghost use Rattle.pawn_check.specs.Checking.{FindsSound, FitsAt, IsFront, IsQuietCheck, most_pledge_rows};
 ghost use Rattle.pawn_pledge.specs.Pledge.{PledgeValue};
 ghost use Rattle.pawn_pledge.specs.Replayable.{IsReachable};
 ghost use Rattle.std.specs.FinMap.{get};
 ghost use Rattle.std.specs.Prelude.{◌≡◌, ◌≤◌, ◌+◌, ◌*◌, ◌↔◌, ℕ, Some, IsTrue, IfOk, length, take};
 
 use crate::fault::CheckFault;
-use pawn_book::{Keep, Number, Reference, know_written};
-use pawn_pledge::Parts;
+use pawn_book::{Keep, Number, Pledge, Reference};
 
 /// What is noted of a pledge that was checked: the version of its terms, and how many counted rows it has.
 #[derive(Clone, Copy)]
@@ -23,42 +23,55 @@ pub struct Step {
 }
 
 /// How many counted rows a pledge has.
-fn rows_of_parts(parts: &Parts) -> u64
-    requires reachable { IsReachable parts.now }
-    ensures value { result ≡ pledge_rows parts.now }
+fn row_count(pledge: &Pledge) -> u64
+    requires reachable { IsReachable pledge.now }
+    ensures value { result ≡ pledge_rows pledge.now }
     ensures few { result ≤ most_pledge_rows }
 {
-    let booking = match parts.standing.booking {
+    let booking = match pledge.standing().booking {
         Some(_) => 1,
         None => 0,
     };
-    1 + parts.entries.len() as u64 + parts.secrets.len() as u64 + booking
+    1 + pledge.entries().len() as u64 + pledge.secrets().len() as u64 + booking
 }
 
-/// The parts of the pledge with this number. It is `Damaged` if there is no such pledge.
-fn read_parts<K: Keep>(keep: &mut K, book: Number, number: Number) -> Result<Parts, CheckFault>
+/// The pledge with this number. It is `Damaged` if there is no such pledge.
+fn read_pledge<K: Keep>(keep: &mut K, book: Number, number: Number) -> Result<Pledge, CheckFault>
     ensures reads { Reads K.keeping keep.old keep.new (λ h. (k : BookValue) → get h.books book ≡ Some k → number ≤ length k.pledges
-        → FindsSound h result (λ parts. pledge_from 1 k.pledges number ≡ Some parts)) }
+        → FindsSound h result (λ pledge. pledge_from 1 k.pledges number ≡ Some pledge)) }
+    ensures reachable { IfOk result IsReachable }
     ensures quiet { IsQuietCheck K.keeping keep.old result }
 {
     number.know_limits();
     match keep.pledge(book, number)? {
-        Some(pledge) => match pledge.parts() {
-            Ok(parts) => Ok(parts),
-            Err(_) => Err(CheckFault::Memory),
-        },
+        Some(pledge) => Ok(pledge),
         None => Err(CheckFault::Damaged),
     }
 }
 
+/// Proves that the texts, the secrets and the day of a pledge are within their ranges. The body only reads them, which
+/// makes the invariants of their types known.
+fn know_written(pledge: &Pledge)
+    ensures written { HasTextsAndWords pledge.now }
+{
+    let agreement = pledge.agreement();
+    let _ = agreement.opening.reference.as_str();
+    let _ = agreement.opening.article.as_str();
+    let _ = agreement.taken.count();
+    for issued in pledge.secrets() {
+        let _word = issued.secret.word();
+    }
+}
+
 /// Whether the book's terms under the pledge's version are those that the pledge has.
-fn is_under<K: Keep>(keep: &mut K, book: Number, parts: &Parts) -> Result<bool, CheckFault>
+fn is_under<K: Keep>(keep: &mut K, book: Number, pledge: &Pledge) -> Result<bool, CheckFault>
     ensures reads { Reads K.keeping keep.old keep.new
-        (λ h. (k : BookValue) → get h.books book ≡ Some k → FindsSound h result (λ under. IsTrue under ↔ IsUnder k.terms parts.now)) }
+        (λ h. (k : BookValue) → get h.books book ≡ Some k → FindsSound h result (λ under. IsTrue under ↔ IsUnder k.terms pledge.now)) }
     ensures quiet { IsQuietCheck K.keeping keep.old result }
 {
-    match keep.terms(book, parts.agreement.version)? {
-        Some(terms) => Ok(terms.rates() == parts.agreement.terms),
+    let agreement = pledge.agreement();
+    match keep.terms(book, agreement.version)? {
+        Some(terms) => Ok(terms.rates() == agreement.terms),
         None => Ok(false),
     }
 }
@@ -94,15 +107,16 @@ fn next_step<K: Keep>(
     ensures few { IfOk result (λ step. step.rows ≤ most_pledge_rows) }
     ensures quiet { IsQuietCheck K.keeping keep.old result }
 {
-    let parts = read_parts(keep, book, number)?;
-    know_written(&parts);
-    let next = parts.agreement.version;
-    if parts.agreement.number != number || next < version || !parts.is_reachable() {
+    let pledge = read_pledge(keep, book, number)?;
+    know_written(&pledge);
+    let agreement = pledge.agreement();
+    let next = agreement.version;
+    if agreement.number != number || next < version {
         return Err(CheckFault::Damaged);
     }
-    let rows = rows_of_parts(&parts);
-    let under = is_under(keep, book, &parts)?;
-    let first = is_first(keep, book, number, &parts.agreement.opening.reference)?;
+    let rows = row_count(&pledge);
+    let under = is_under(keep, book, &pledge)?;
+    let first = is_first(keep, book, number, &agreement.opening.reference)?;
     if !under || !first {
         return Err(CheckFault::Damaged);
     }

@@ -13,7 +13,7 @@ use Rattle.pawn_csv.specs.Layout.{raw_rows}
 use Rattle.pawn_csv.specs.Order.{Begun, hand, is_whole, may_end, on_hand, on_second, place, place_booking, place_entry}
 use Rattle.pawn_csv.specs.Order.{place_extension, place_pledge, place_secret, place_terms, pledges_begun, put_hand}
 use Rattle.pawn_csv.specs.Order.{raw_pledge, run, then_run}
-use Rattle.pawn_csv.specs.Reading.{AreTaken, IsHeldBy, IsReadAs, IsTextOf}
+use Rattle.pawn_csv.specs.Reading.{AreTaken, FitsVersion, IsReadAs, IsTextOf}
 use Rattle.pawn_csv.specs.Rows.{FitsColumns, Knows, header, pledge_csv_rows, row_fields, rows_of_csv, terms_rows}
 use Rattle.pawn_csv.specs.Rows.{version_rows}
 use Rattle.pawn_csv.specs.Types.{Cause, PledgeColumns, RawPledge, Row, Version}
@@ -204,7 +204,7 @@ some_same : (s : Option Begun) (b : Begun) → s ≡ None → s ≡ Some b → �
 some_same s b x y = let e = sym x ∙ y in cc
 
 taken_is : (records : List (List (List ℕ))) (rows : List Row) (s : Option Begun) (k : BookRows) → AreTaken records rows s → IsFinishedAs s k
-    → (v : Version) × (records ≡ version_rows v k) × IsHeldBy v k
+    → (v : Version) × (records ≡ version_rows v k) × FitsVersion v k
 taken_is [] rows s k taken (b, is, whole, begun, replayable) = absurd (some_same s b taken.1 is)
 taken_is (h ∷ rs) rows s k taken (b, is, whole, begun, replayable) =
     let grown = run_grows rows None (Some b) (taken.3 ∙ ap (λ (o : Option Begun). Ok o) is) tt in

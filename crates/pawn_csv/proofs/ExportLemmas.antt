@@ -6,7 +6,7 @@ use Rattle.pawn_csv.proofs.Basics.{or_from, share_all, share_more, share_puts, s
 use Rattle.pawn_csv.proofs.SentLemmas.{rows_in_turn}
 use Rattle.pawn_csv.specs.Common.{BookValue, End, Front, KeepError, ViewFault, Whole, book_head, call_end}
 use Rattle.pawn_csv.specs.Common.{default_writer, flat_map, pledges_of, row_text, rows_of_book, terms_of}
-use Rattle.pawn_csv.specs.Exports.{Exports, ending_by, sink_ending}
+use Rattle.pawn_csv.specs.Exports.{Exports, result_of_export, sink_result}
 use Rattle.pawn_csv.specs.Rows.{csv_of, header, pledge_csv_rows, row_fields, terms_rows}
 use Rattle.pawn_csv.specs.Sent.{PutsRow, PutsRowsShare, has_ended, seen, text_of_row}
 use Rattle.pawn_csv.specs.Types.{Row, Sink, Version}
@@ -67,7 +67,7 @@ whole_sent contents a w text fine going share = subst (λ (t : List ℕ). Writte
 
 exports_by : {W : Type 0} (contents : W → Option (List ℕ)) (a w : Sink W) (text : List ℕ) (done : Result (Unit {0}) KeepError) (failed starved : Bool)
     → has_ended a ≡ false → write_failed w.writer ≡ failed → w.is_starved ≡ starved → PutsRowsShare contents a text (call_end done) w
-    → Exports contents a (Some text) (ending_by done failed starved) w
+    → Exports contents a (Some text) (result_of_export done failed starved) w
 exports_by contents a w text done true starved fine now fed share = (text, refl, front_sent contents a w text (call_end done) fine share, now)
 exports_by contents a w text done false true fine now fed share = (front_sent contents a w text (call_end done) fine share, now)
 exports_by contents a w text (Ok u) false false fine now fed share =
@@ -80,7 +80,7 @@ head_of head at e = ap (λ (x : Option BookHead). unwrap_or x head) e
 
 -- after the text of a book was written, the answer states how that ended
 pub book_exported : {W : Type 0} (contents : W → Option (List ℕ)) (a b c w : Sink W) (o : Option BookValue) (head : BookHead) (done : Result
-    (Unit {0}) KeepError) (answer : Result (Unit {0}) ViewFault) → has_ended a ≡ false → answer ≡ sink_ending done w → Some head ≡ option_map book_head o
+    (Unit {0}) KeepError) (answer : Result (Unit {0}) ViewFault) → has_ended a ≡ false → answer ≡ sink_result done w → Some head ≡ option_map book_head o
     → PutsRow contents a (row_text default_writer header) b → PutsRow contents b (count_text head.terms head.pledges) c → ((at : BookValue) → o ≡ Some at → head
     ≡ book_head at → PutsRowsShare contents c (below_text at) (call_end done) w) → Exports contents a (option_map (λ at. csv_of (rows_of_book at)) o) answer w
 book_exported contents a b c w None head done answer fine is at first second share = cc

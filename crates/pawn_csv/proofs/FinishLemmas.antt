@@ -2,7 +2,7 @@
 use Rattle.pawn_csv.proofs.Basics.{◌≡◌, ℕ, List, [], ◌∷◌, ◌++◌, map, Option, None, Some, Result, Ok, Err, true, sym}
 use Rattle.pawn_csv.proofs.Basics.{◌∙◌, subst, refl, ap, IfErr, IfNone, IfOk, IfSome}
 use Rattle.pawn_csv.specs.Common.{AreReplayable, BookRows, Closing, Each, IsUnder, PledgeValue, Rates, terms_at}
-use Rattle.pawn_csv.specs.Finishing.{AreRawOf, Ends, IsBegunOf, IsRawOf, raw_of}
+use Rattle.pawn_csv.specs.Finishing.{AreRawOf, Ends, IsBegunOf, IsRawOf, IsRefusedAs, raw_of}
 use Rattle.pawn_csv.specs.Order.{Begun, is_whole}
 use Rattle.pawn_csv.specs.Rows.{closing_amount, closing_day, closing_word}
 use Rattle.pawn_csv.specs.Types.{Cause, RawPledge}
@@ -73,12 +73,17 @@ one_book b j k x y h =
 -- the result for rows that are complete
 pub ends : (b : Begun) (rows : Option BookRows) (res : Result BookRows Cause) → is_whole (Some b) ≡ true
     → IfSome rows (IsBegunOf b) → IfNone rows ((k : BookRows) → IsBegunOf b k → ⊥) → IfOk res (λ k. (rows ≡ Some k) × AreReplayable k.terms k.pledges)
-    → IfErr res (λ e. (e ≡ Cause.NotReplayable) × IfSome rows (λ k. AreReplayable k.terms k.pledges → ⊥)) → Ends (Some b) res
+    → IfErr res (IsRefusedAs rows) → Ends (Some b) res
 ends b None (Ok k) whole some none found why = let e = found.0 in cc
 ends b (Some j) (Ok k) whole some none found why =
     let same : j ≡ k = let e = found.0 in cc in
     (b, refl, whole, subst (IsBegunOf b) same some, found.1)
-ends b None (Err e) whole some none found why =
-    subst (λ (c : Cause). (let r : Result BookRows Cause = Err c in Ends (Some b) r)) (sym why.0) (b, refl, whole, λ k h r. none k h)
-ends b (Some j) (Err e) whole some none found why =
-    subst (λ (c : Cause). (let r : Result BookRows Cause = Err c in Ends (Some b) r)) (sym why.0) (b, refl, whole, λ k h r. why.1 (one_book b k j h some r))
+ends b rows (Err Cause.Memory) whole some none found why = tt
+ends b None (Err Cause.NotReplayable) whole some none found why = (b, refl, whole, λ k h r. none k h)
+ends b (Some j) (Err Cause.NotReplayable) whole some none found why = (b, refl, whole, λ k h r. why (one_book b k j h some r))
+ends b rows (Err Cause.Csv) whole some none found why = absurd why
+ends b rows (Err Cause.Columns) whole some none found why = absurd why
+ends b rows (Err Cause.BadField) whole some none found why = absurd why
+ends b rows (Err Cause.Order) whole some none found why = absurd why
+ends b rows (Err Cause.TooMany) whole some none found why = absurd why
+ends b rows (Err Cause.Read) whole some none found why = absurd why

@@ -8,7 +8,7 @@ use Rattle.pawn_csv.specs.Common.{AreExtended, AreNumbered, AreOrdered, AreWords
 use Rattle.pawn_csv.specs.Common.{DoNotFall, Draw, Due, Each, Entry, Extension, HasTextsAndWords, IsBooked, IsClosed}
 use Rattle.pawn_csv.specs.Common.{IsReachable, IsUnder, Issued, PledgeValue, Rates, Repay, Sort, debt_of, due, end_with}
 use Rattle.pawn_csv.specs.Common.{flat_map, last_by, last_of, most_pence, total_on}
-use Rattle.pawn_csv.specs.Laws.{BooksAreHeld, TextsAreRead, TextsOfHostsAreRead}
+use Rattle.pawn_csv.specs.Laws.{WritableBooksFit, TextsAreRead, TextsOfHostsAreRead}
 use Rattle.pawn_csv.specs.Rows.{AreColumns, FitsColumns, IsColumnNumber, booking_csv_rows, closing_amount, closing_day}
 use Rattle.pawn_csv.specs.Rows.{entry_rows, extension_rows, pledge_columns, pledge_csv_rows, secret_rows, terms_rows}
 use Rattle.pawn_csv.specs.Types.{Row, Version}
@@ -17,8 +17,8 @@ use Rattle.pawn_debt.proofs.DueLemmas.{after_days-principal}
 use Rattle.pawn_debt.proofs.EntryLemmas.{due-from-last}
 use Rattle.pawn_debt.specs.Answers.{draw_rows, is_bad_amount, repay_rows, with_entry}
 use Rattle.pawn_debt.specs.Replay.{AreEntriesAccepted, sort_answer}
-use Rattle.pawn_terms.specs.Calendar.{IsStampDay, first_day}
-use Rattle.pawn_terms.specs.Limits.{last_stamp_day}
+use Rattle.pawn_terms.specs.Calendar.{IsRequestDay, first_day}
+use Rattle.pawn_terms.specs.Limits.{last_request_day}
 use Rattle.pawn_terms.specs.Terms.{IsChecked}
 
 each_both : (xs ys : List Row) → Each FitsColumns xs → Each FitsColumns ys → Each FitsColumns (xs ++ ys)
@@ -67,7 +67,7 @@ fit_terms v (t ∷ ts) h few =
 -- ---- the rows of a pledge
 
 fit_secrets : (n k low : ℕ) (is : List Issued) → IsColumnNumber n → k + length is ≤ 1000 → first_day ≤ low → DoNotFall (λ i. i.day) low is
-    → last_by (λ i. i.day) low is ≤ last_stamp_day → AreWords is → Each FitsColumns (secret_rows n k is)
+    → last_by (λ i. i.day) low is ≤ last_request_day → AreWords is → Each FitsColumns (secret_rows n k is)
 fit_secrets n k low [] hn few from ordered before words = tt
 fit_secrets n k low (i ∷ is) hn few from ordered before words =
     let late = last_by-le (λ (i : Issued). i.day) i.day is ordered.1 in (
@@ -76,7 +76,7 @@ fit_secrets n k low (i ∷ is) hn few from ordered before words =
     )
 
 fit_entries : (n k low : ℕ) (es : List Entry) → IsColumnNumber n → AreNumbered k es → k + length es ≤ 100000 → first_day ≤ low → AreOrdered low es
-    → last_of low es ≤ last_stamp_day → Each (λ e. IsColumnNumber e.pence) es → Each FitsColumns (entry_rows n es)
+    → last_of low es ≤ last_request_day → Each (λ e. IsColumnNumber e.pence) es → Each FitsColumns (entry_rows n es)
 fit_entries n k low [] hn numbered few from ordered before pence = tt
 fit_entries n k low (e ∷ es) hn numbered few from ordered before pence =
     let late = last_by-le (λ (e : Entry). e.day) e.day es ordered.1 in (
@@ -85,7 +85,7 @@ fit_entries n k low (e ∷ es) hn numbered few from ordered before pence =
     )
 
 fit_extensions : (n k low ends : ℕ) (xs : List Extension) → IsColumnNumber n → k + length xs ≤ 1000 → first_day ≤ low → AreExtended low ends xs
-    → Each (λ e. e.until ≤ last_stamp_day) xs → Each FitsColumns (extension_rows n k xs)
+    → Each (λ e. e.until ≤ last_request_day) xs → Each FitsColumns (extension_rows n k xs)
 fit_extensions n k low ends [] hn few from extended untils = tt
 fit_extensions n k low ends (e ∷ es) hn few from extended untils = (
   (
@@ -98,16 +98,16 @@ fit_extensions n k low ends (e ∷ es) hn few from extended untils = (
 )
 
 fit_booking : (p : PledgeValue) (n : ℕ) (o : Option Booking) → IsColumnNumber n → first_day ≤ p.agreement.taken → IsBooked p o
-    → IfSome o (λ b. b.day ≤ last_stamp_day) → Each FitsColumns (booking_csv_rows n o)
+    → IfSome o (λ b. b.day ≤ last_request_day) → Each FitsColumns (booking_csv_rows n o)
 fit_booking p n None hn from booked before = tt
 fit_booking p n (Some b) hn from booked before = ((hn, (omega (arith, from, booked.0), before), omega (arith, booked.2)), tt)
 
 -- ---- the row of a pledge
 
-fit_closing_day : (p : PledgeValue) (c : Closing) → IsClosed p c → IsStampDay p.standing.last → IfSome (closing_day c) IsStampDay
+fit_closing_day : (p : PledgeValue) (c : Closing) → IsClosed p c → IsRequestDay p.standing.last → IfSome (closing_day c) IsRequestDay
 fit_closing_day p Closing.Open h last = tt
-fit_closing_day p (Closing.Redeemed day paid) h last = subst IsStampDay (sym h.0) last
-fit_closing_day p (Closing.Sold day net) h last = subst IsStampDay (sym h.0) last
+fit_closing_day p (Closing.Redeemed day paid) h last = subst IsRequestDay (sym h.0) last
+fit_closing_day p (Closing.Sold day net) h last = subst IsRequestDay (sym h.0) last
 
 fit_amount : (p : PledgeValue) (c : Closing) → IsClosed p c → IsColumnNumber (total_on p p.standing.last) → IfSome (closing_amount c) IsColumnNumber
 fit_amount p Closing.Open h total = tt
@@ -119,7 +119,7 @@ fit_columns : (terms : List Rates) (p : PledgeValue) → length terms ≤ 1000 �
 fit_columns terms p few under h written =
     let from = written.taken.0 in
     let r = h.replayable in
-    let last : IsStampDay p.standing.last = (omega (arith, from, r.last_in), h.within.last) in
+    let last : IsRequestDay p.standing.last = (omega (arith, from, r.last_in), h.within.last) in
     let version = under_length terms p.agreement.version p.agreement.terms under in
     record {
       number = omega (arith, h.within.number.1);
@@ -162,8 +162,8 @@ fit_pledges terms (p ∷ ps) few under h written =
 
 -- ---- books
 
-pub books_are_held : BooksAreHeld
-books_are_held v k h knows =
+pub writable_books_fit : WritableBooksFit
+writable_books_fit v k h knows =
     let r = h.replayable in (
       r,
       knows,
@@ -175,7 +175,7 @@ books_are_held v k h knows =
     )
 
 pub texts_are_read : TextsAreRead
-texts_are_read k h = held_texts_are_read k (books_are_held Version.Two k h tt)
+texts_are_read k h = held_texts_are_read k (writable_books_fit Version.Two k h tt)
 
 pub texts_of_hosts_are_read : TextsOfHostsAreRead
 texts_of_hosts_are_read h b book sound at =

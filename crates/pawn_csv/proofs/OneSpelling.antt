@@ -8,8 +8,8 @@ use Rattle.pawn_csv.specs.Rows.{AreColumns, FitsColumns, IsColumnNumber, pledge_
 use Rattle.pawn_csv.specs.Types.{ClosingWord, PledgeColumns, Row, Version}
 use Rattle.pawn_pledge.specs.declared.record.BookingState.{BookingState}
 use Rattle.pawn_terms.proofs.CalendarLemmas.{civil_after_is, count_of}
-use Rattle.pawn_terms.proofs.TextLemmas.{civil_of-stamp, civil_text-injective}
-use Rattle.pawn_terms.specs.Calendar.{IsStampDay, day_text, civil_of, first_day}
+use Rattle.pawn_terms.proofs.TextLemmas.{civil_of-request, civil_text-injective}
+use Rattle.pawn_terms.specs.Calendar.{IsRequestDay, day_text, civil_of, first_day}
 use Rattle.std.proofs.lemmas.Fmt.{decimal_injective, decimal_nonempty}
 
 -- columns
@@ -24,16 +24,16 @@ letter place a b e = ap (λ (text : List ℕ). get_or text place 0) e
 number : (n m : ℕ) → IsColumnNumber n → IsColumnNumber m → decimal n ≡ decimal m → n ≡ m
 number n m hn hm e = decimal_injective n m (omega (arith, hn)) (omega (arith, hm)) e
 
-day : (n m : ℕ) → IsStampDay n → IsStampDay m → day_text n ≡ day_text m → n ≡ m
+day : (n m : ℕ) → IsRequestDay n → IsRequestDay m → day_text n ≡ day_text m → n ≡ m
 day n m hn hm e =
-    let same = civil_text-injective (civil_of n) (civil_of m) (civil_of-stamp n hn).1 (civil_of-stamp m hm).1 e in
+    let same = civil_text-injective (civil_of n) (civil_of m) (civil_of-request n hn).1 (civil_of-request m hm).1 e in
     let counts : count_of (civil_of n) ≡ count_of (civil_of m) = ap count_of same in
     omega (arith, hn, hm, counts, (civil_after_is (n - first_day)).1, (civil_after_is (m - first_day)).1)
 
 secret : (n m : ℕ) → n < 2 ^ 128 → m < 2 ^ 128 → secret_text n ≡ secret_text m → n ≡ m
 secret n m hn hm e = let same : Some n ≡ Some m = sym (secret_texts_read_back n hn) ∙ ap secret_of_text e ∙ secret_texts_read_back m hm in cc
 
-day_if_any : (a b : Option ℕ) → IfSome a IsStampDay → IfSome b IsStampDay → text_if_any day_text a ≡ text_if_any day_text b → a ≡ b
+day_if_any : (a b : Option ℕ) → IfSome a IsRequestDay → IfSome b IsRequestDay → text_if_any day_text a ≡ text_if_any day_text b → a ≡ b
 day_if_any None None ha hb e = refl
 day_if_any None (Some m) ha hb e = absurd (omega (arith, ap length e))
 day_if_any (Some n) None ha hb e = absurd (omega (arith, ap length e))

@@ -3,7 +3,7 @@ use Rattle.csv.proofs.RoundTrip.{read-write}
 use Rattle.pawn_csv.proofs.Basics.{◌≡◌, ◌++◌, ◌∷◌, [], List, refl, map, ℕ, None}
 use Rattle.pawn_csv.specs.Common.{BookRows, Reached, default_config, default_writer, escaped, fields_text, flat_map}
 use Rattle.pawn_csv.specs.Common.{is_blank, next_record, read_back, row_text, strip_bom, State}
-use Rattle.pawn_csv.specs.Reading.{IsHeldBy, IsTextOf}
+use Rattle.pawn_csv.specs.Reading.{FitsVersion, IsTextOf}
 use Rattle.pawn_csv.specs.Rows.{csv_of, header, row_fields, rows_of_csv}
 use Rattle.pawn_csv.specs.Types.{Row, Version}
 
@@ -34,7 +34,7 @@ unfolding strip_bom escaped fields_text is_blank
 no_mark rest = refl
 
 -- the text of a book that can be written as a text
-pub held_texts_are_read : (k : BookRows) → IsHeldBy Version.Two k → IsTextOf (strip_bom (csv_of k)) k
+pub held_texts_are_read : (k : BookRows) → FitsVersion Version.Two k → IsTextOf (strip_bom (csv_of k)) k
 unfolding Reached
 held_texts_are_read k held =
     let tail = flat_map (row_text default_writer) (map row_fields (rows_of_csv Version.Two k)) in (

@@ -17,7 +17,7 @@ pub use Rattle.pawn_book.specs.Sound.{IsSound}
 pub use Rattle.pawn_book.specs.Visits.{End, Front, Handed, IsShare, Whole, call_end}
 pub use Rattle.pawn_book.specs.Written.{AreWords, HasTextsAndWords, IsWord}
 pub use Rattle.pawn_book.specs.declared.fault.KeepError.{KeepError}
-pub use Rattle.pawn_book.specs.declared.rows.BookRows.{BookRows}
+pub use Rattle.pawn_book.specs.declared.book_rows.BookRows.{BookRows}
 pub use Rattle.pawn_book.specs.declared.visit.Flow.{Flow}
 pub use Rattle.pawn_book.specs.declared.visit.Flow.TheVariants.{Go, Stop}
 pub use Rattle.pawn_debt.specs.Due.{AreOrdered, DebtValue, Due, credit_of, due, last_of}

@@ -43,15 +43,15 @@ text_of h book = option_map (λ at. csv_of (rows_of_book at)) (get h.books book)
 
 -- how an export ends: it depends on the keeper's last answer, on whether the writer failed, and on whether memory ran
 -- out for a row
-abbrev pub ending_by : Result (Unit {0}) KeepError → Bool → Bool → Result (Unit {0}) ViewFault
-ending_by done true starved = Err ViewFault.Write
-ending_by done false true = Err ViewFault.Memory
-ending_by (Ok u) false false = Ok u
-ending_by (Err error) false false = Err (view_fault error)
+abbrev pub result_of_export : Result (Unit {0}) KeepError → Bool → Bool → Result (Unit {0}) ViewFault
+result_of_export done true starved = Err ViewFault.Write
+result_of_export done false true = Err ViewFault.Memory
+result_of_export (Ok u) false false = Ok u
+result_of_export (Err error) false false = Err (view_fault error)
 
 -- how an export to this sink ends
-abbrev pub sink_ending : {W : Type 0} → Result (Unit {0}) KeepError → Sink W → Result (Unit {0}) ViewFault
-sink_ending done sink = ending_by done (write_failed sink.writer) sink.is_starved
+abbrev pub sink_result : {W : Type 0} → Result (Unit {0}) KeepError → Sink W → Result (Unit {0}) ViewFault
+sink_result done sink = result_of_export done (write_failed sink.writer) sink.is_starved
 
 -- The whole text was written, or there is a reason why not. With `Unknown` nothing was written, and there is no such
 -- book. With any other reason a prefix of the text was written.

@@ -3,7 +3,7 @@ use Rattle.pawn_csv.specs.Common.{AreReplayable, BookRows, Closing, Each, IsNumb
 use Rattle.pawn_csv.specs.Order.{Begun, is_whole, pledges_begun}
 use Rattle.pawn_csv.specs.Rows.{closing_amount, closing_day, closing_word, pledge_columns}
 use Rattle.pawn_csv.specs.Types.{Cause, PledgeColumns, RawPledge}
-use Rattle.std.specs.Prelude.{◌≡◌, true, false, List, map, Option, Some, Result, Ok, Err}
+use Rattle.std.specs.Prelude.{◌≡◌, true, false, List, map, Option, Some, IfSome, Result, Ok, Err}
 
 -- a pledge as its rows describe it
 abbrev pub raw_of : PledgeValue → RawPledge
@@ -34,6 +34,12 @@ IsFinishedAs s k = (b : Begun) × (s ≡ Some b) × (is_whole s ≡ true) × IsB
 -- the rows that were read are complete, but make no replayable book
 abbrev pub IsOfNoBook : Option Begun → Type 0
 IsOfNoBook s = (b : Begun) × (s ≡ Some b) × (is_whole s ≡ true) × ((k : BookRows) → IsBegunOf b k → AreReplayable k.terms k.pledges → ⊥)
+
+-- the rows, if there are any, are refused as a book for this cause
+abbrev pub IsRefusedAs : Option BookRows → Cause → Type 0
+IsRefusedAs rows Cause.Memory = Unit {0}
+IsRefusedAs rows Cause.NotReplayable = IfSome rows (λ k. AreReplayable k.terms k.pledges → ⊥)
+IsRefusedAs rows e = ⊥
 
 -- the result at the end of the rows: a book, or the cause why there is none
 abbrev pub Ends : Option Begun → Result BookRows Cause → Type 0

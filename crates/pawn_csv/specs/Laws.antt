@@ -1,13 +1,13 @@
 -- Laws of books' texts and of their rows.
 use Rattle.pawn_csv.specs.Common.{BookRows, BookValue, Host, IsSound, get, rows_of_book, strip_bom}
-use Rattle.pawn_csv.specs.Reading.{CanBeWritten, IsFirstCause, IsHeldBy, IsReadAs, IsTextOf}
+use Rattle.pawn_csv.specs.Reading.{CanBeWritten, IsFirstCause, FitsVersion, IsReadAs, IsTextOf}
 use Rattle.pawn_csv.specs.Rows.{FitsColumns, Knows, csv_of, row_fields}
 use Rattle.pawn_csv.specs.Types.{Cause, Row, Version}
 use Rattle.std.specs.Prelude.{◌≡◌, ◌≢◌, ℕ, List, Some}
 
 -- a book that can be written is one that a text can hold, in each version whose rows can express all of the book
-abbrev pub BooksAreHeld : Type 0
-BooksAreHeld = (version : Version) (k : BookRows) → CanBeWritten k → Knows version k → IsHeldBy version k
+abbrev pub WritableBooksFit : Type 0
+WritableBooksFit = (version : Version) (k : BookRows) → CanBeWritten k → Knows version k → FitsVersion version k
 
 -- the text that is written for a book holds that book
 abbrev pub TextsAreRead : Type 0

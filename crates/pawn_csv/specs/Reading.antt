@@ -9,8 +9,8 @@ use Rattle.std.specs.Prelude.{◌≡◌, ◌≢◌, ◌⊎◌, ℕ, ◌+◌, nat
 use Rattle.std.specs.Prelude.{None, Some, Result, Ok, Err}
 
 -- a book that a text of this version can hold: it is replayable, and each of its columns can be spelled
-abbrev pub IsHeldBy : Version → BookRows → Type 0
-IsHeldBy version k = AreReplayable k.terms k.pledges × Knows version k × Each FitsColumns (rows_of_csv version k)
+abbrev pub FitsVersion : Version → BookRows → Type 0
+FitsVersion version k = AreReplayable k.terms k.pledges × Knows version k × Each FitsColumns (rows_of_csv version k)
 
 -- a book that can be written: it is replayable, its texts are UTF-8, its secrets have 128 bits, and its days are those
 -- of the calendar
@@ -21,7 +21,7 @@ pub record CanBeWritten (k : BookRows) : Type 0 where
 -- the records of this text are those of the book, in one of the versions
 abbrev pub IsTextOf : List ℕ → BookRows → Type 0
 IsTextOf text k =
-    (version : Version) × AreRecords default_config State.StartRecord text (version_rows version k) × IsHeldBy version k
+    (version : Version) × AreRecords default_config State.StartRecord text (version_rows version k) × FitsVersion version k
 
 -- these columns spell this row
 abbrev pub IsSpelled : List (List ℕ) → Row → Type 0

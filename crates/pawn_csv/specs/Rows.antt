@@ -5,7 +5,7 @@ use Rattle.pawn_csv.specs.Common.{PledgeValue, Rates, Standing, credit_of, defau
 use Rattle.pawn_csv.specs.Common.{secret_text, sort_text, state_text}
 use Rattle.pawn_csv.specs.Types.{COLUMNS, ClosingWord, NUMBERS_END, PledgeColumns, Row, Version}
 use Rattle.pawn_pledge.specs.declared.record.Agreement.{Agreement}
-use Rattle.pawn_terms.specs.Calendar.{IsStampDay, day_text}
+use Rattle.pawn_terms.specs.Calendar.{IsRequestDay, day_text}
 use Rattle.std.specs.Prelude.{◌≡◌, ℕ, ◌+◌, ◌-◌, ◌<◌, List, [], ◌∷◌, ◌++◌, length, map, replicate, Option, Some, None}
 use Rattle.std.specs.Prelude.{IfSome, codes, decimal}
 
@@ -57,10 +57,10 @@ pub record AreColumns (c : PledgeColumns) : Type 0 where
   pub reference : IsUtf8 c.opening.reference
   pub article : IsUtf8 c.opening.article
   pub credit : IsColumnNumber (credit_of c.opening.kind)
-  pub taken : IsStampDay c.taken
+  pub taken : IsRequestDay c.taken
   pub version : IsColumnNumber c.version
-  pub last : IsStampDay c.last
-  pub closing_day : IfSome c.closing_day IsStampDay
+  pub last : IsRequestDay c.last
+  pub closing_day : IfSome c.closing_day IsRequestDay
   pub amount : IfSome c.amount IsColumnNumber
 
 -- the limits of each column of a row, each column taken by itself
@@ -68,10 +68,10 @@ abbrev pub FitsColumns : Row → Type 0
 FitsColumns (Row.Book version terms pledges) = IsColumnNumber terms × IsColumnNumber pledges
 FitsColumns (Row.Terms version rates) = IsColumnNumber version × IsColumnNumber rates.rate × IsColumnNumber rates.keep_before × IsColumnNumber rates.keep_after
 FitsColumns (Row.Pledge columns) = AreColumns columns
-FitsColumns (Row.Secret number place i) = IsColumnNumber number × IsColumnNumber place × IsStampDay i.day × IsWord i.secret
-FitsColumns (Row.Entry number e) = IsColumnNumber number × IsColumnNumber e.seq × IsStampDay e.day × IsColumnNumber e.pence
-FitsColumns (Row.Extension number place e) = IsColumnNumber number × IsColumnNumber place × IsStampDay e.day × IsStampDay e.until
-FitsColumns (Row.Booking number b) = IsColumnNumber number × IsStampDay b.day × IsColumnNumber b.window
+FitsColumns (Row.Secret number place i) = IsColumnNumber number × IsColumnNumber place × IsRequestDay i.day × IsWord i.secret
+FitsColumns (Row.Entry number e) = IsColumnNumber number × IsColumnNumber e.seq × IsRequestDay e.day × IsColumnNumber e.pence
+FitsColumns (Row.Extension number place e) = IsColumnNumber number × IsColumnNumber place × IsRequestDay e.day × IsRequestDay e.until
+FitsColumns (Row.Booking number b) = IsColumnNumber number × IsRequestDay b.day × IsColumnNumber b.window
 
 -- the word that states a closing
 abbrev pub closing_word : Closing → ClosingWord

@@ -3,7 +3,7 @@ use Rattle.pawn_base.specs.Text.{IsText}
 use Rattle.pawn_csv.specs.Columns.{kind_text, text_if_any, yes_text}
 use Rattle.pawn_csv.specs.Common.{IsOpening, IsUtf8, Opening, credit_of}
 use Rattle.pawn_csv.specs.Rows.{IsColumnNumber}
-use Rattle.pawn_terms.specs.Calendar.{IsStampDay, day_text}
+use Rattle.pawn_terms.specs.Calendar.{IsRequestDay, day_text}
 use Rattle.std.specs.Borrow.{Bor}
 use Rattle.std.specs.Prelude.{◌≡◌, ℕ, List, [], map, Option, None, Some, IfSome, decimal, get_or}
 
@@ -28,8 +28,8 @@ IsTextColumn most text = IsText most text × IsUtf8 text
 abbrev pub IsColumnNumberIfAny : Option ℕ → Type 0
 IsColumnNumberIfAny number = IfSome number IsColumnNumber
 
-abbrev pub IsStampDayIfAny : Option ℕ → Type 0
-IsStampDayIfAny day = IfSome day IsStampDay
+abbrev pub IsRequestDayIfAny : Option ℕ → Type 0
+IsRequestDayIfAny day = IfSome day IsRequestDay
 
 -- the columns of an opening in a pledge's own row, each by its rule
 pub record IsOpeningOf (fields : List (List ℕ)) (o : Opening) : Type 0 where

@@ -7,4 +7,4 @@ pub use Rattle.pawn_csv.specs.declared.row.PledgeColumns.{PledgeColumns}
 pub use Rattle.pawn_csv.specs.declared.row.Row.{Row}
 pub use Rattle.pawn_csv.specs.declared.row.TheConstants.{COLUMNS, NUMBERS_END}
 pub use Rattle.pawn_csv.specs.declared.row.Version.{Version}
-pub use Rattle.pawn_csv.specs.declared.writing.Sink.{Sink}
+pub use Rattle.pawn_csv.specs.declared.row_writing.Sink.{Sink}

@@ -2,9 +2,9 @@
 ghost use Rattle.pawn_csv.specs.Columns.{IsAny, closing_text, form_text, issue_text, kind_text, text_if_any, yes_text};
 ghost use Rattle.pawn_csv.specs.Common.{Each, IsWord, credit_of, fields_of, secret_text, sort_text, state_text};
 ghost use Rattle.pawn_csv.specs.Rows.{IsColumnNumber};
-ghost use Rattle.pawn_csv.specs.Spelling.{IsColumnNumberIfAny, IsStampDayIfAny, IsTextColumn, ReadsAs, column_at};
+ghost use Rattle.pawn_csv.specs.Spelling.{IsColumnNumberIfAny, IsRequestDayIfAny, IsTextColumn, ReadsAs, column_at};
 ghost use Rattle.pawn_csv.specs.Spelling.{texts_of};
-ghost use Rattle.pawn_terms.specs.Calendar.{IsStampDay, day_text};
+ghost use Rattle.pawn_terms.specs.Calendar.{IsRequestDay, day_text};
 ghost use Rattle.std.specs.Prelude.{◌≡◌, ◌≢◌, ℕ, ◌↔◌, List, [], All, Contains, IfOk, IfNone, IfSome, IsTrue, decimal, length};
 
 use crate::row::{COLUMNS, ClosingWord, NUMBERS_END, Version};
@@ -60,7 +60,7 @@ pub(crate) fn read_number(field: &[u8]) -> Option<u64>
 
 /// Reads a day, such as `2024-01-31`.
 pub(crate) fn read_day(field: &[u8]) -> Option<Day>
-    ensures value { ReadsAs day_text IsStampDay field.now result }
+    ensures value { ReadsAs day_text IsRequestDay field.now result }
 {
     match Day::of_text(field) {
         Ok(day) => Some(day),
@@ -164,7 +164,7 @@ pub(crate) fn read_number_if_any(field: &[u8]) -> Option<Option<u64>>
 
 /// Reads a day. `Some(None)` if the column is empty; `None` if it is malformed.
 pub(crate) fn read_day_if_any(field: &[u8]) -> Option<Option<Day>>
-    ensures value { ReadsAs (text_if_any day_text) IsStampDayIfAny field.now result }
+    ensures value { ReadsAs (text_if_any day_text) IsRequestDayIfAny field.now result }
 {
     if field.is_empty() {
         return Some(None);
@@ -177,7 +177,7 @@ pub(crate) fn read_day_if_any(field: &[u8]) -> Option<Option<Day>>
 
 /// Reads the agreed end of a period. `Some(None)` if the column is empty; `None` if it is malformed.
 pub(crate) fn read_agreed(field: &[u8]) -> Option<Option<RequestDay>>
-    ensures value { ReadsAs (text_if_any day_text) IsStampDayIfAny field.now result }
+    ensures value { ReadsAs (text_if_any day_text) IsRequestDayIfAny field.now result }
 {
     if field.is_empty() {
         return Some(None);

@@ -1,14 +1,14 @@
 //! The export of a book as comma-separated rows.
 ghost use Rattle.pawn_csv.specs.Common.{BookValue, Go, IsSound, IsSteady, Reads, Stop, book_head, call_end, flat_map};
 ghost use Rattle.pawn_csv.specs.Common.{get, pledges_of, terms_of};
-ghost use Rattle.pawn_csv.specs.Exports.{Exports, PutsRowItem, sink_ending, text_of};
+ghost use Rattle.pawn_csv.specs.Exports.{Exports, PutsRowItem, sink_result, text_of};
 ghost use Rattle.pawn_csv.specs.Rows.{pledge_csv_rows, terms_rows};
 ghost use Rattle.pawn_csv.specs.Sent.{PutsRowsShare, has_ended, text_of_row};
 ghost use Rattle.pawn_writing.specs.Ends.{write_failed, writing_inner};
 ghost use Rattle.pawn_writing.specs.Fault.{IsQuietView};
 ghost use Rattle.std.specs.Prelude.{◌≡◌, ◌++◌, false, true, Some, length, IsErrOf};
 
-use crate::writing::{Sink, put_book, put_header, put_item, put_terms};
+use crate::row_writing::{Sink, put_book, put_header, put_item, put_terms};
 use pawn_book::{BookHead, Flow, Keep, KeepError, Number, RowItem, Visitor};
 use pawn_writing::ViewFault;
 use std::alloc::Global;
@@ -103,8 +103,8 @@ fn put_rows<K: Keep, W: Write>(
 
 /// Returns the result of an export: `Write` if the writer failed, otherwise `Memory` if memory ran out for a row,
 /// otherwise the keeper's error, if any.
-fn ending<W>(done: Result<(), KeepError>, sink: &Sink<W>) -> Result<(), ViewFault>
-    ensures answer { result ≡ sink_ending done sink.now }
+fn result_of_export<W>(done: Result<(), KeepError>, sink: &Sink<W>) -> Result<(), ViewFault>
+    ensures answer { result ≡ sink_result done sink.now }
 {
     if sink.has_failed() {
         return Err(ViewFault::Write);
@@ -136,5 +136,5 @@ pub fn export<K: Keep, W: Write>(
     put_header(&mut rows.sink);
     put_book(&mut rows.sink, head.terms, head.pledges);
     let done = put_rows(keep, book, &head, rows);
-    ending(done, &rows.sink)
+    result_of_export(done, &rows.sink)
 }

@@ -1,9 +1,8 @@
 //! Turns the rows that were read into a book, at the end of a text.
 ghost use Rattle.pawn_csv.specs.Common.{AreReplayable, BookRows, Closing, PledgeValue, terms_at};
-ghost use Rattle.pawn_csv.specs.Finishing.{AreRawOf, Ends, IsBegunOf, IsClosingOf, IsRawOf};
+ghost use Rattle.pawn_csv.specs.Finishing.{AreRawOf, Ends, IsBegunOf, IsClosingOf, IsRawOf, IsRefusedAs};
 ghost use Rattle.pawn_csv.specs.Order.{begun_of, hand, view_begun};
 ghost use Rattle.std.specs.Prelude.{◌≡◌, ◌++◌, IfErr, IfNone, IfOk, IfSome, Some};
-ghost use Rattle.pawn_csv.specs.declared.fault.Cause.TheVariants as Cause;
 
 use crate::fault::Cause;
 use crate::order::{BegunBook, RawBook, RawPledge};
@@ -155,18 +154,18 @@ impl BegunBook {
 }
 
 /// Returns these rows if they are replayable. Fails with `NotReplayable` if they are not, or if `rows` is
-/// `None`.
+/// `None`, and with `Memory` if memory runs out.
 fn as_replayable(rows: Option<BookRows>) -> Result<ReplayableRows, Cause>
     ensures found { IfOk result (λ k. (rows ≡ Some k) × AreReplayable k.terms k.pledges) }
-    ensures refused { IfErr result (λ e. (e ≡ Cause.NotReplayable) × IfSome rows (λ k. AreReplayable k.terms k.pledges → ⊥)) }
+    ensures refused { IfErr result (IsRefusedAs rows) }
 {
     let Some(rows) = rows else {
         return Err(Cause::NotReplayable);
     };
-    match ReplayableRows::of_rows(rows) {
-        Err(_) => Err(Cause::NotReplayable),
-        Ok(replayable) => Ok(replayable),
-    }
+    let Ok(replayable) = ReplayableRows::of_rows(rows) else {
+        return Err(Cause::Memory);
+    };
+    replayable.ok_or(Cause::NotReplayable)
 }
 
 impl BegunBook {

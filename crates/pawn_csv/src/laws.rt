@@ -1,5 +1,5 @@
 //! Laws of books' texts and of their rows.
-ghost use Rattle.pawn_csv.specs.Laws.{BooksAreHeld, FirstFaultsAreOne, FirstFaultsExcludeBooks, RowsHaveOneSpelling};
+ghost use Rattle.pawn_csv.specs.Laws.{WritableBooksFit, FirstFaultsAreOne, FirstFaultsExcludeBooks, RowsHaveOneSpelling};
 ghost use Rattle.pawn_csv.specs.Laws.{TextsAreRead, TextsAreReadAs, TextsHoldOneBook, TextsOfHostsAreRead};
 ghost use Rattle.pawn_csv.specs.Layout.{LayoutsAreTaken, NotReplayableIsOfNoBook, RefusedAreNoFront, TakenAreLaidOut};
 ghost use Rattle.pawn_csv.specs.Layout.{TooManyIsAboveALimit};
@@ -7,7 +7,7 @@ ghost use Rattle.pawn_csv.specs.Layout.{TooManyIsAboveALimit};
 /// The text that is written for a book holds that book; in particular for each book of a sound host. A text that holds
 /// a book is accepted to its end, and read as that book.
 pub fn laws_of_texts()
-    ensures held { BooksAreHeld }
+    ensures fits { WritableBooksFit }
     ensures read { TextsAreRead }
     ensures hosts { TextsOfHostsAreRead }
     ensures taken { TextsAreReadAs }

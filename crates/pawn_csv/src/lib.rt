@@ -1,6 +1,7 @@
 //! A book's text: its rows as records of comma-separated columns.
 #![tactic(auto)]
 
+mod book_reading;
 mod columns;
 mod exporting;
 mod fault;
@@ -8,13 +9,13 @@ mod finishing;
 mod importing;
 mod laws;
 mod order;
-mod reading;
 mod row;
+mod row_writing;
 mod spelling;
 mod words;
 mod worked;
-mod writing;
 
+pub use book_reading::read_book;
 pub use exporting::{RowWriter, export};
 pub use fault::{Cause, CsvFault};
 pub use importing::import;
@@ -26,6 +27,5 @@ pub use pawn_book::{
     ReplayableRows, Reply, Secret, Stamp,
 };
 pub use pawn_writing::ViewFault;
-pub use reading::read_book;
 pub use row::{ClosingWord, PledgeColumns, Row, Version};
 pub use worked::worked_texts;

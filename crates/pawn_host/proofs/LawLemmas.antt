@@ -5,7 +5,7 @@ use Rattle.pawn_host.specs.Common.{EndsInTarget, Event, HasNoRequest, HeadFault,
 use Rattle.pawn_host.specs.Common.{ReadsRequest, RequestHead, Stamp, WireFault, body_length, closes_by, concat}
 use Rattle.pawn_host.specs.Common.{fields_of, most_fields, most_head, no_memory, no_store, print_request, read_as}
 use Rattle.pawn_host.specs.Common.{run_host, run_replies}
-use Rattle.pawn_host.specs.Laws.{AreCutAndFault, IsLeftOpen, IsOpen, MayGoOn, refusal_of_mark, refusals}
+use Rattle.pawn_host.specs.Laws.{AreCutAndFault, IsLeftOpen, IsOpen, MayGoOn, failure_of_mark, failures}
 use Rattle.pawn_host.specs.Run.{IsMarkOf, IsMarked, Item, events, host_after_run, input_of, replies, said_text}
 use Rattle.pawn_host.specs.Split.{Begins, BeginsAndGoesOn, ClosesAfter, Ending, HasFault, HasNoWhole, IsCut, IsRequest}
 use Rattle.pawn_host.specs.Split.{IsWanting, PassesOver, Splits, StopsAt, at_end, at_limit, closed, cut, faulted}
@@ -261,7 +261,7 @@ split_is_front s requests e (inr (x, is)) = (
 
 -- ---- items
 
-marks_same : (bytes : List ℕ) (m n : Mark WireFault) → IsMarkOf ⊥ bytes m → IsMarkOf ⊥ bytes n → refusal_of_mark m ≡ refusal_of_mark n → m ≡ n
+marks_same : (bytes : List ℕ) (m n : Mark WireFault) → IsMarkOf ⊥ bytes m → IsMarkOf ⊥ bytes n → failure_of_mark m ≡ failure_of_mark n → m ≡ n
 marks_same bytes (read_as r) (read_as q) x y e = ap read_as (reads_unique bytes r q x.0 y.0)
 marks_same bytes (read_as r) no_memory x y e = absurd cc
 marks_same bytes (read_as r) no_store x y e = absurd cc
@@ -278,7 +278,7 @@ cons_head x y xs ys e = cc
 pub cons_tail : {A : Type 0} (x y : A) (xs ys : List A) → x ∷ xs ≡ y ∷ ys → xs ≡ ys
 cons_tail x y xs ys e = cc
 
-pub items_unique : (a b : List Item) → All (IsMarked ⊥) a → All (IsMarked ⊥) b → map input_of a ≡ map input_of b → refusals a ≡ refusals b → a ≡ b
+pub items_unique : (a b : List Item) → All (IsMarked ⊥) a → All (IsMarked ⊥) b → map input_of a ≡ map input_of b → failures a ≡ failures b → a ≡ b
 items_unique [] [] p q e f = refl
 items_unique [] (y ∷ b) p q e f = absurd cc
 items_unique (x ∷ a) [] p q e f = absurd cc
@@ -286,9 +286,9 @@ items_unique (x ∷ a) (y ∷ b) p q e f =
     let given : input_of x ≡ input_of y = cons_head (input_of x) (input_of y) (map input_of a) (map input_of b) e in
     let bytes : x.bytes ≡ y.bytes = ap (λ (g : Stamp × List ℕ). g.1) given in
     let mark : x.mark ≡ y.mark = marks_same y.bytes x.mark y.mark (subst (λ (l : List ℕ). IsMarkOf ⊥ l x.mark) bytes (All-head (IsMarked ⊥) x a p))
-    (All-head (IsMarked ⊥) y b q) (cons_head (refusal_of_mark x.mark) (refusal_of_mark y.mark) (refusals a) (refusals b) f) in
+    (All-head (IsMarked ⊥) y b q) (cons_head (failure_of_mark x.mark) (failure_of_mark y.mark) (failures a) (failures b) f) in
     let rest : a ≡ b = items_unique a b (All-tail (IsMarked ⊥) x a p) (All-tail (IsMarked ⊥) y b q) (cons_tail (input_of x) (input_of y) (map input_of a)
-    (map input_of b) e) (cons_tail (refusal_of_mark x.mark) (refusal_of_mark y.mark) (refusals a) (refusals b) f) in
+    (map input_of b) e) (cons_tail (failure_of_mark x.mark) (failure_of_mark y.mark) (failures a) (failures b) f) in
     (λ i. record { stamp = (given i).0; bytes = bytes i; mark = mark i } ∷ rest i)
 
 pub run_events : (h : Host) (operator : ℕ) (a b : List Item) → events a ≡ events b

@@ -44,8 +44,8 @@ CrashLeavesWhole {K} k =
 
 -- the hosts that a crash may leave after two runs, one after the other, are among those that it may leave after both as
 -- one run
-abbrev pub CrashesJoin : {K : Type 0} → Keeping K → Type 0
-CrashesJoin {K} k =
+abbrev pub CrashesCompose : {K : Type 0} → Keeping K → Type 0
+CrashesCompose {K} k =
     (keep : K) (h : Host) (operator : ℕ) (a b : List Item) (left : Host)
     → IsLeftByRun (host_after_run h operator a) operator b (IsLeftByRun h operator a (k.leaves keep)) left
     → IsLeftByRun h operator (a ++ b) (k.leaves keep) left

@@ -55,23 +55,23 @@ SplitIsFront =
     → (length requests ≤ most_requests) × ((rest : List ℕ) × (stream ≡ concat requests ++ rest))
 
 -- whether an item was refused, because memory ran out or because the store failed
-pub data Refusal : Type 0 where
-  unrefused : Refusal
-  for_memory : Refusal
-  by_store : Refusal
+pub data Failure : Type 0 where
+  succeeded : Failure
+  for_memory : Failure
+  by_store : Failure
 
-abbrev pub refusal_of_mark : Mark WireFault → Refusal
-refusal_of_mark (read_as said) = unrefused
-refusal_of_mark no_memory = for_memory
-refusal_of_mark no_store = by_store
+abbrev pub failure_of_mark : Mark WireFault → Failure
+failure_of_mark (read_as said) = succeeded
+failure_of_mark no_memory = for_memory
+failure_of_mark no_store = by_store
 
-abbrev pub refusals : List Item → List Refusal
-refusals items = map (λ i. refusal_of_mark i.mark) items
+abbrev pub failures : List Item → List Failure
+failures items = map (λ i. failure_of_mark i.mark) items
 
 -- the stamps and bytes of the items, and which items were refused, determine the items
 abbrev pub ItemsAreUnique : Type 0
 ItemsAreUnique =
-    (a b : List Item) → All (IsMarked ⊥) a → All (IsMarked ⊥) b → map input_of a ≡ map input_of b → refusals a ≡ refusals b → a ≡ b
+    (a b : List Item) → All (IsMarked ⊥) a → All (IsMarked ⊥) b → map input_of a ≡ map input_of b → failures a ≡ failures b → a ≡ b
 
 -- items with the same stamps and marks lead to the same host and the same replies, whatever their bytes
 abbrev pub RunReadsEvents : Type 0
@@ -80,8 +80,8 @@ RunReadsEvents =
     → (host_after_run h operator a ≡ host_after_run h operator b) × (replies h operator a ≡ replies h operator b)
 
 -- two runs one after the other are one run
-abbrev pub RunsJoin : Type 0
-RunsJoin =
+abbrev pub RunsCompose : Type 0
+RunsCompose =
     (h : Host) (operator : ℕ) (a b : List Item)
     → (host_after_run h operator (a ++ b) ≡ host_after_run (host_after_run h operator a) operator b)
     × (replies h operator (a ++ b) ≡ replies h operator a ++ replies (host_after_run h operator a) operator b)

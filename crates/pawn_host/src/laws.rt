@@ -1,7 +1,7 @@
 //! Laws of sessions, runs, slots, shards and crashes.
-ghost use Rattle.pawn_host.specs.Crashes.{CrashLeavesWhole, CrashesJoin};
+ghost use Rattle.pawn_host.specs.Crashes.{CrashLeavesWhole, CrashesCompose};
 ghost use Rattle.pawn_host.specs.Laws.{EqualBookTracesReplyAlike, EqualTracesReplyAlike, FaultIsExact, ItemsAreUnique};
-ghost use Rattle.pawn_host.specs.Laws.{NothingIsWanted, AmbiguousEnds, RunReadsEvents, RunsAnswerAlone, RunsJoin};
+ghost use Rattle.pawn_host.specs.Laws.{NothingIsWanted, AmbiguousEnds, RunReadsEvents, RunsAnswerAlone, RunsCompose};
 ghost use Rattle.pawn_host.specs.Laws.{SplitBegins, SplitEndsEarly, SplitIsFront, SplitIsUnique};
 ghost use Rattle.pawn_host.specs.Shards.{HandedSplits, RequestsArePlaced, ShardsReplyAsOne};
 
@@ -49,7 +49,7 @@ pub fn run_reads_events()
 
 /// Two runs one after the other are one run, if the second starts from the host after the first.
 pub fn runs_join()
-    ensures law { RunsJoin }
+    ensures law { RunsCompose }
 {}
 
 /// No more bytes are wanted after a request that closes the connection, or after 1,000 requests.
@@ -86,5 +86,5 @@ pub fn shards_answer_as_one()
 /// Two runs one after the other leave what they would leave as one run.
 pub fn crash_leaves_whole<K: Keep>()
     ensures law { CrashLeavesWhole K.keeping }
-    ensures joins { CrashesJoin K.keeping }
+    ensures compose { CrashesCompose K.keeping }
 {}

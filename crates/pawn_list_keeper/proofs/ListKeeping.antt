@@ -1,9 +1,11 @@
 -- What a list of books says of its host.
+use Rattle.pawn_book.proofs.Sounds.{reachable_at}
+use Rattle.pawn_book.specs.Sound.{IsSound}
 use Rattle.pawn_list_keeper.proofs.ListReads.{get-book_at}
 use Rattle.pawn_list_keeper.specs.Books.{Books}
-use Rattle.pawn_list_keeper.specs.Common.{BookValue, Host, IsNextBook, Reads}
+use Rattle.pawn_list_keeper.specs.Common.{BookValue, Host, IsNextBook, IsReachable, PledgeValue, Reads, pledge_in}
 use Rattle.pawn_list_keeper.specs.Listed.{IsLeastAbove, book_at, host_of, list_keeping}
-use Rattle.std.proofs.Common.{◌≡◌, ◌∙◌, ℕ, ap, sym, subst, None, Option, Some}
+use Rattle.std.proofs.Common.{◌≡◌, ◌∙◌, ℕ, ap, sym, subst, None, Option, Some, IfSome}
 use Rattle.std.specs.FinMap.{get}
 
 -- a read returns what is true of the list's host
@@ -19,6 +21,11 @@ list_reads k P told = record {
 -- the book that is read from the fields
 pub book_read : (k v : Books) (b : ℕ) → k ≡ v → book_at k.books b ≡ get (host_of v).books b
 book_read k v b is = sym (get-book_at k.books b) ∙ ap (λ (o : Books). get (host_of o).books b) is
+
+-- a pledge that a sound host has is reachable
+pub read_reachable : (h : Host) (b n : ℕ) (o : Option PledgeValue) → IsSound h → o ≡ pledge_in (get h.books b) n → IfSome o IsReachable
+read_reachable h b n None sound is = tt
+read_reachable h b n (Some p) sound is = (reachable_at h b n p sound (sym is)).0
 
 -- the least number above one, as the host has it
 pub next_read : (k v : Books) (after : ℕ) (next : Option ℕ) → k ≡ v → IsLeastAbove k.books after next → IsNextBook (host_of v) after next

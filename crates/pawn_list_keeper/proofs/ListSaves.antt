@@ -4,7 +4,7 @@ use Rattle.pawn_book.proofs.Places.{pledge_within}
 use Rattle.pawn_book.proofs.RowSums.{part, rows-with_book}
 use Rattle.pawn_book.proofs.Sounds.{absurd_none, get-with_book, some_is}
 use Rattle.pawn_book.specs.Sound.{AreSound, IsSoundBook}
-use Rattle.pawn_book.specs.declared.rows.BookRows.{BookRows}
+use Rattle.pawn_book.specs.declared.book_rows.BookRows.{BookRows}
 use Rattle.pawn_list_keeper.proofs.ListReads.{book_at-set, get-book_at, kept_is, kept_number, pushed}
 use Rattle.pawn_list_keeper.specs.Books.{Books}
 use Rattle.pawn_list_keeper.specs.Common.{AddTerms, BookValue, CanSave, Change, Continues, Follows, Full, Host}
@@ -69,7 +69,7 @@ sum_by-put k (r ∷ ps) n p low high =
 follows_at : (at : BookValue) (n : ℕ) (p : PledgeValue)
     → (n ≡ length at.pledges + 1) ⊎ ((old : PledgeValue) × (pledge_from 1 at.pledges n ≡ Some old) × Continues old p) → (1 ≤ n) × (n ≤ 1 + length at.pledges)
 follows_at at n p (inl next) = (omega (arith, next), omega (arith, next))
-follows_at at n p (inr standing) = let within = pledge_within 1 at.pledges n standing.0 standing.1 in (within.0, omega (arith, within.1))
+follows_at at n p (inr present) = let within = pledge_within 1 at.pledges n present.0 present.1 in (within.0, omega (arith, within.1))
 
 -- the book of a change that follows
 changes_to : (h : Host) (change : Change) → Follows h change → (book : BookValue) × (changed_book (get h.books (book_number change)) change ≡ Some book)

@@ -3,11 +3,11 @@
 //! its books in tables (`pawn_table_keeper`).
 #![tactic(auto)]
 
-mod filling;
 mod kept;
 mod list;
-mod reading;
-mod rows;
+mod list_import;
+mod list_reads;
+mod row_items;
 mod saving;
 mod sheet;
 

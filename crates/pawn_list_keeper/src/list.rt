@@ -5,11 +5,11 @@ ghost use Rattle.pawn_list_keeper.specs.Listed.{SavesListed, host_of};
 ghost use Rattle.std.specs.Prelude.{◌≡◌, ◌≤◌, [], map};
 
 use crate::kept::Kept;
-use crate::reading::{
+use crate::list_reads::{
     bound, brief_in, confirmed_count, entries_in, extensions_in, hand, head_in, next_number,
     number_in, pledge_copy, pledges_in, terms_in,
 };
-use crate::rows::hand_rows;
+use crate::row_items::hand_rows;
 use crate::saving::{make_change, rows_with};
 use crate::sheet::hand_sheet;
 use pawn_book::{

@@ -3,14 +3,14 @@ ghost use Rattle.pawn_list_keeper.specs.Common.{BookValue, pledge_rows, put_from
 ghost use Rattle.pawn_list_keeper.specs.Listed.{Fits, HasChange, added_rows, book_at, listed_book, replaced_rows};
 ghost use Rattle.std.specs.Prelude.{◌≡◌, ◌≤◌, ◌+◌, None, OnErr, OnOk, Some, length, map};
 
-use crate::filling::{count_rows, fill_book};
 use crate::kept::{Kept, kept_pledge, place_of_book};
+use crate::list_import::{count_rows, fill_book};
 use pawn_book::{Change, NewBook, Number, Pledge, Terms};
 use std::alloc::{AllocError, Global};
 
 /// How many rows a pledge counts for: one for itself, one for each entry and secret, and one for its booking if it has
 /// one.
-fn rows_of_pledge(pledge: &Pledge) -> u64
+pub(crate) fn row_count(pledge: &Pledge) -> u64
     ensures value { result ≡ pledge_rows pledge.now }
 {
     let booking = match pledge.standing().booking {
@@ -36,9 +36,9 @@ pub(crate) fn rows_with(books: &[Kept], rows: u64, change: &Change) -> u128
         } => {
             let before = match kept_pledge(books, *book, *number) {
                 None => 0,
-                Some(kept) => rows_of_pledge(kept),
+                Some(kept) => row_count(kept),
             };
-            u128::from(rows) + u128::from(rows_of_pledge(pledge)) - u128::from(before)
+            u128::from(rows) + u128::from(row_count(pledge)) - u128::from(before)
         }
         Change::ImportBook { rows: imported, .. } => {
             u128::from(rows) + u128::from(count_rows(imported))

@@ -3,8 +3,8 @@ pub mod Basics
 pub mod BooksUpTo
 pub mod Filled
 pub mod Indexed
-pub mod Judged
-pub mod JudgedUpto
+pub mod Checked
+pub mod CheckedUpto
 pub mod Made
 pub mod Migrated
 pub mod Migrates

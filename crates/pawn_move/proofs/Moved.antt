@@ -144,23 +144,23 @@ module _ (s0 s1 : State) (l1 : IsLent s0 s1 true) (made : AddsTable {E = KeepErr
   )
 
   -- the debts that were checked once the table was made
-  judged_second : {A : Type 0} (s2 : State) (ok : Bool) (r : Result A KeepError) (P : Host → A → Type 0) → IsCarried s1 s2 ok
+  checked_second : {A : Type 0} (s2 : State) (ok : Bool) (r : Result A KeepError) (P : Host → A → Type 0) → IsCarried s1 s2 ok
       → FindsOf ListFirstDebts HasUnsoundBook s1 s2 r P → HasCleanDisk s2 → IsTrue s0.in_transaction
       → (h : Host) → StandsUnder 2 s0.now h → IsMoving 2 (of_pledges h totals_listed) s1.now h × Finds r (λ x. P h x × Rests s1 s2) (HasUnsoundBook h)
-  judged_second s2 ok r P carried judged clean within h st = let mid = made_second (was_clean s1 s2 ok carried clean) within h st in
-      (mid.0, judged clean mid.1 h (λ now. firsts 2 (of_pledges h totals_listed) s1.now h mid.0))
+  checked_second s2 ok r P carried checked clean within h st = let mid = made_second (was_clean s1 s2 ok carried clean) within h st in
+      (mid.0, checked clean mid.1 h (λ now. firsts 2 (of_pledges h totals_listed) s1.now h mid.0))
 
-  pub second_not_judged : (s2 : State) (e : KeepError) (P : Host → Unit {0} → Type 0) → IsCarried s1 s2 false
+  pub second_not_checked : (s2 : State) (e : KeepError) (P : Host → Unit {0} → Type 0) → IsCarried s1 s2 false
       → FindsOf ListFirstDebts HasUnsoundBook s1 s2 (Err e) P → Moves 2 s0 s2 (Err e)
-  second_not_judged s2 e P carried judged clean within h none st =
-      handed e _ _ _ _ (λ it. it) (judged_second s2 false (Err e) P carried judged clean within h st).1
+  second_not_checked s2 e P carried checked clean within h none st =
+      handed e _ _ _ _ (λ it. it) (checked_second s2 false (Err e) P carried checked clean within h st).1
 
   module _ (s2 s3 : State) (ok : Bool) (r : Result (Unit {0}) KeepError) (carried : IsCarried s1 s2 true) (l3 : IsLent s2 s3 ok)
-      (judged : FindsOf {A = Unit {0}} ListFirstDebts HasUnsoundBook s1 s2 (Ok tt) (λ h done. get h.books 0 ≡ None → AreAllOwed h)) where
+      (checked : FindsOf {A = Unit {0}} ListFirstDebts HasUnsoundBook s1 s2 (Ok tt) (λ h done. get h.books 0 ≡ None → AreAllOwed h)) where
     second_kept : HasCleanDisk s3 → IsTrue s0.in_transaction → (h : Host) → StandsUnder 2 s0.now h
         → IsMoving 2 (of_pledges h totals_listed) s2.now h × IsTrue s2.in_transaction
     second_kept clean within h st =
-        let found = judged_second {A = Unit {0}} s2 true (Ok tt) (λ h done. get h.books 0 ≡ None → AreAllOwed h) carried judged
+        let found = checked_second {A = Unit {0}} s2 true (Ok tt) (λ h done. get h.books 0 ≡ None → AreAllOwed h) carried checked
         (clean_before s2 s3 ok l3 clean) within h st in
         (subst (λ d. IsMoving 2 (of_pledges h totals_listed) d h) (sym found.1.1.now_is) found.0, found.1.1.inside)
 
@@ -175,6 +175,6 @@ module _ (s0 s1 : State) (l1 : IsLent s0 s1 true) (made : AddsTable {E = KeepErr
     pub second_owed : MovesOwed 2 s0 s3 r
     second_owed clean within h none st = go r where
       go : (x : Result (Unit {0}) KeepError) → OnOk x (AreAllOwed h)
-      go (Ok done) = (judged_second {A = Unit {0}} s2 true (Ok tt) (λ h done. get h.books 0 ≡ None → AreAllOwed h) carried judged
+      go (Ok done) = (checked_second {A = Unit {0}} s2 true (Ok tt) (λ h done. get h.books 0 ≡ None → AreAllOwed h) carried checked
           (clean_before s2 s3 ok l3 clean) within h st).1.0 none
       go (Err e) = tt

@@ -9,21 +9,21 @@ use Rattle.pawn_tables.proofs.PledgeReads.{holds_in, number_in, under_in}
 use Rattle.pawn_tables.specs.Common.{get, totals_of, Totals, PledgeValue, debt_of, pledge_in, entries_of, terms_of}
 use Rattle.pawn_tables.specs.Common.{IsUnsoundAt, Rests}
 use Rattle.pawn_tables.specs.Finding.{FindsOf}
-use Rattle.pawn_tables.specs.PledgeRows.{credit_told, totals_in}
+use Rattle.pawn_tables.specs.PledgeRows.{stored_credit, totals_in}
 use Rattle.pawn_tables.specs.Rows.{totals_cells, totals_listed, under}
 use Rattle.pawn_tables.specs.StandsFor.{AreBooksOrdered, ListDebts}
 use Rattle.std.proofs.Common.{◌≡◌, ℕ, [], ◌∷◌, List, Option, Some, None, Ok, IsTrue, refl, sym, ap, ◌∙◌, is_some}
 use Rattle.std.proofs.Common.{option_map, true}
 
 -- the row that was found is that of a pledge
-pub credit_is : (o : Option PledgeValue) (credit : Credit) → Some credit ≡ option_map credit_told o
-    → (p : PledgeValue) × (o ≡ Some p) × (credit ≡ credit_told p)
+pub credit_is : (o : Option PledgeValue) (credit : Credit) → Some credit ≡ option_map stored_credit o
+    → (p : PledgeValue) × (o ≡ Some p) × (credit ≡ stored_credit p)
 credit_is None credit is = absurd (let e = is in cc)
 credit_is (Some p) credit is = (p, refl, (let e = is in cc))
 
 -- the terms that stand under the version
 pub terms_are : (h : Host) (b n v : ℕ) (p : PledgeValue) (credit : Credit) (o : Option Rates) → AreBooksOrdered h → pledge_in (get h.books b) n ≡ Some p
-    → credit ≡ credit_told p → v ≡ credit.version → o ≡ terms_at (terms_of (get h.books b)) v → o ≡ Some p.agreement.terms
+    → credit ≡ stored_credit p → v ≡ credit.version → o ≡ terms_at (terms_of (get h.books b)) v → o ≡ Some p.agreement.terms
 terms_are h b n v p credit o ordered at told version is = let same : v ≡ p.agreement.version = version ∙ ap (λ (c : Credit). c.version) told in
     is ∙ ap (terms_at (terms_of (get h.books b))) same ∙ under_in h b n p ordered at
 
@@ -31,19 +31,19 @@ terms_are h b n v p credit o ordered at told version is = let same : v ≡ p.agr
 pub record IsPledgeRead (h : Host) (b n : ℕ) (credit : Credit) (terms : Rates) (es : List Entry) : Type 0 where
   pub pledge : PledgeValue
   pub stands : pledge_in (get h.books b) n ≡ Some pledge
-  pub told : credit ≡ credit_told pledge
+  pub told : credit ≡ stored_credit pledge
   pub terms_is : terms ≡ pledge.agreement.terms
   pub entries_is : es ≡ pledge.entries
   pub unextended : pledge.extensions ≡ []
 
 -- what the three parts read is of one pledge
 pub pledge_read : (s0 s1 s2 s3 : State) (h : Host) (b n v : ℕ) (oc : Option Credit) (credit : Credit) (ot : Option Rates) (terms : Rates) (all es : List Entry)
-    → IsLent s0 s1 true → IsLent s1 s2 true → IsLent s2 s3 true → FindsOf ListDebts (IsUnsoundAt b) s0 s1 (Ok oc) (λ h x. x ≡ option_map credit_told
+    → IsLent s0 s1 true → IsLent s1 s2 true → IsLent s2 s3 true → FindsOf ListDebts (IsUnsoundAt b) s0 s1 (Ok oc) (λ h x. x ≡ option_map stored_credit
     (pledge_in (get h.books b) n)) → FindsOf ListDebts (IsUnsoundAt b) s1 s2 (Ok ot) (λ h x. x ≡ terms_at (terms_of (get h.books b)) v) → FindsOf ListDebts
     (IsUnsoundAt b) s2 s3 (Ok all) (λ h x. x ≡ entries_of (pledge_in (get h.books b) n)) → oc ≡ Some credit → v ≡ credit.version → ot ≡ Some terms → es ≡ all
     → HasCleanDisk s3 → IsTrue s0.in_transaction → (IsTrue s0.is_open → ListFirstDebts s0.now h) → IsPledgeRead h b n credit terms es × Rests s0 s3
 pledge_read s0 s1 s2 s3 h b n v oc credit ot terms all es l1 l2 l3 f1 f2 f3 some version some' same clean within tell =
-    let P : Host → Option Credit → Type 0 = λ h x. x ≡ option_map credit_told (pledge_in (get h.books b) n) in
+    let P : Host → Option Credit → Type 0 = λ h x. x ≡ option_map stored_credit (pledge_in (get h.books b) n) in
     let Q : Host → Option Rates → Type 0 = λ h x. x ≡ terms_at (terms_of (get h.books b)) v in
     let R : Host → List Entry → Type 0 = λ h x. x ≡ entries_of (pledge_in (get h.books b) n) in
     let t = tell (l1.opened (clean_before s1 s2 true l2 (clean_before s2 s3 true l3 clean)) within refl) in

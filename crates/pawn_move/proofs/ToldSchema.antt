@@ -2,7 +2,7 @@
 use Rattle.one_table.specs.Columns.{no_schema}
 use Rattle.pawn_move.proofs.Basics.{as_lists, as_stands, with_tables, MoveFault, NotOurs, NewerSchema, Damaged, Store}
 use Rattle.pawn_move.proofs.Basics.{Memory}
-use Rattle.pawn_move.specs.Migrating.{IsFailure, IsNumberJudged, IsMoveTold, IsNotOurs, IsUntellable, TellsNumber}
+use Rattle.pawn_move.specs.Migrating.{IsFailure, KnowsSchema, IsMoveTold, IsNotOurs, IsUntellable, TellsNumber}
 use Rattle.pawn_move.specs.StandsUnder.{IsSchema, ListsBy, StandsUnder, ThirdIsOurs, listed_under}
 use Rattle.pawn_opening.specs.Common.{everything, understood, State, Host, rows, Holds, notes, with_indexes}
 use Rattle.pawn_opening.specs.Common.{READ_SCHEMA}
@@ -77,35 +77,35 @@ notes_none db empty n it = subst Refuses (sym (ap (λ s. understood s READ_SCHEM
 -- ---- and returned
 
 module _ (old new : State) where
-  accepted : (r : Result ℕ MoveFault) (o : Option ℕ) → IsNumberJudged o r → IsNoted old.now o → IfSome o (λ n. IsTrue new.is_open)
+  accepted : (r : Result ℕ MoveFault) (o : Option ℕ) → KnowsSchema o r → IsNoted old.now o → IfSome o (λ n. IsTrue new.is_open)
       → IfOk r (λ n. NotesSchema old.now n × IsTrue new.is_open)
   accepted (Err why) o v is serves = tt
   accepted (Ok n) None v is serves = absurd (let e = v.0 in cc)
   accepted (Ok n) (Some m) v is serves = let same : m ≡ n = (let e = v.0 in cc) in (subst (NotesSchema old.now) same is, serves)
 
-  known : (r : Result ℕ MoveFault) (o : Option ℕ) → IsNumberJudged o r → IfOk r IsSchema
+  known : (r : Result ℕ MoveFault) (o : Option ℕ) → KnowsSchema o r → IfOk r IsSchema
   known (Ok n) o v = v.1
   known (Err why) o v = tt
 
-  standing : (n : ℕ) (h : Host) → IsSchema n → StandsUnder n old.now h → (r : Result ℕ MoveFault) (o : Option ℕ) → IsNumberJudged o r → IsNoted old.now o
+  represented : (n : ℕ) (h : Host) → IsSchema n → StandsUnder n old.now h → (r : Result ℕ MoveFault) (o : Option ℕ) → KnowsSchema o r → IsNoted old.now o
       → IsMoveTold n r
-  standing n h schema st (Ok m) None v is = absurd (let e = v.0 in cc)
-  standing n h schema st (Ok m) (Some k) v is = let same : k ≡ m = (let e = v.0 in cc) in sym same ∙ only_number n old.now h st k is
-  standing n h schema st (Err NotOurs) None v is = notes_some n old.now h st is
-  standing n h schema st (Err NotOurs) (Some k) (inl none) is = absurd (let e = none in cc)
-  standing n h schema st (Err NotOurs) (Some k) (inr zero') is = let same : k ≡ 0 = (let e = zero' in cc) in
+  represented n h schema st (Ok m) None v is = absurd (let e = v.0 in cc)
+  represented n h schema st (Ok m) (Some k) v is = let same : k ≡ m = (let e = v.0 in cc) in sym same ∙ only_number n old.now h st k is
+  represented n h schema st (Err NotOurs) None v is = notes_some n old.now h st is
+  represented n h schema st (Err NotOurs) (Some k) (inl none) is = absurd (let e = none in cc)
+  represented n h schema st (Err NotOurs) (Some k) (inr zero') is = let same : k ≡ 0 = (let e = zero' in cc) in
       let only = only_number n old.now h st k is in let least = schema.0 in
       absurd (omega (arith, same, only, least))
-  standing n h schema st (Err NewerSchema) None v is = absurd (let e = v.1 in cc)
-  standing n h schema st (Err NewerSchema) (Some k) v is = let same : k ≡ v.0 = (let e = v.1 in cc) in
+  represented n h schema st (Err NewerSchema) None v is = absurd (let e = v.1 in cc)
+  represented n h schema st (Err NewerSchema) (Some k) v is = let same : k ≡ v.0 = (let e = v.1 in cc) in
       let far = v.2 in let only = only_number n old.now h st k is in
       let most = schema.1 in
       absurd (omega (arith, same, far, only, most))
-  standing n h schema st (Err Damaged) o v is = v
-  standing n h schema st (Err Store) o v is = tt
-  standing n h schema st (Err Memory) o v is = tt
+  represented n h schema st (Err Damaged) o v is = v
+  represented n h schema st (Err Store) o v is = tt
+  represented n h schema st (Err Memory) o v is = tt
 
-  refused : (r : Result ℕ MoveFault) (o : Option ℕ) → IsNumberJudged o r → IsNoted old.now o → IfErr r (IsUntellable old.now)
+  refused : (r : Result ℕ MoveFault) (o : Option ℕ) → KnowsSchema o r → IsNoted old.now o → IfErr r (IsUntellable old.now)
   refused (Ok n) o v is = tt
   refused (Err NotOurs) None v is = inl is
   refused (Err NotOurs) (Some k) (inl none) is = absurd (let e = none in cc)
@@ -116,7 +116,7 @@ module _ (old new : State) where
   refused (Err Store) o v is = tt
   refused (Err Memory) o v is = tt
 
-  bare : IsEmptyStore old.now → (r : Result ℕ MoveFault) (o : Option ℕ) → IsNumberJudged o r → IsNoted old.now o → IsNotOurs r
+  bare : IsEmptyStore old.now → (r : Result ℕ MoveFault) (o : Option ℕ) → KnowsSchema o r → IsNoted old.now o → IsNotOurs r
   bare empty (Ok n) None v is = absurd (let e = v.0 in cc)
   bare empty (Ok n) (Some k) v is = notes_none old.now empty k is
   bare empty (Err NotOurs) o v is = tt
@@ -126,11 +126,11 @@ module _ (old new : State) where
   bare empty (Err Store) o v is = tt
   bare empty (Err Memory) o v is = tt
 
-  pub told : (noted : Option ℕ) (r : Result ℕ MoveFault) → TellsSchema old new (Ok noted) → IsNumberJudged noted r → TellsNumber old new r
+  pub told : (noted : Option ℕ) (r : Result ℕ MoveFault) → TellsSchema old new (Ok noted) → KnowsSchema noted r → TellsNumber old new r
   told noted r it verdict = record {
     known = known r noted verdict;
     ok = λ clean. accepted r noted verdict (it.ok clean) (it.serves clean);
-    stands = λ clean n h schema st. standing n h schema st r noted verdict (it.ok clean);
+    stands = λ clean n h schema st. represented n h schema st r noted verdict (it.ok clean);
     refuses = λ clean. refused r noted verdict (it.ok clean);
     empty = λ clean none. bare none r noted verdict (it.ok clean);
     same = it.same;

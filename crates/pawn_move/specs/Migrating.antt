@@ -71,13 +71,13 @@ IsMoveTold n (Ok m) = m ≡ n
 IsMoveTold n (Err why) = IsFailure why
 
 -- the result of checking the number that a store notes
-abbrev pub IsNumberJudged : Option ℕ → Result ℕ MoveFault → Type 0
-IsNumberJudged noted (Ok n) = (noted ≡ Some n) × IsSchema n
-IsNumberJudged noted (Err NotOurs) = (noted ≡ None) ⊎ (noted ≡ Some 0)
-IsNumberJudged noted (Err NewerSchema) = (n : ℕ) × (noted ≡ Some n) × (3 < n)
-IsNumberJudged noted (Err Damaged) = ⊥
-IsNumberJudged noted (Err Store) = ⊥
-IsNumberJudged noted (Err Memory) = ⊥
+abbrev pub KnowsSchema : Option ℕ → Result ℕ MoveFault → Type 0
+KnowsSchema noted (Ok n) = (noted ≡ Some n) × IsSchema n
+KnowsSchema noted (Err NotOurs) = (noted ≡ None) ⊎ (noted ≡ Some 0)
+KnowsSchema noted (Err NewerSchema) = (n : ℕ) × (noted ≡ Some n) × (3 < n)
+KnowsSchema noted (Err Damaged) = ⊥
+KnowsSchema noted (Err Store) = ⊥
+KnowsSchema noted (Err Memory) = ⊥
 
 -- the answer is the number of the store's schema, and the store is as before
 pub record TellsNumber (old new : State) (result : Result ℕ MoveFault) : Type 0 where

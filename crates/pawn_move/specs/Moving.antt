@@ -65,12 +65,12 @@ abbrev pub AreTotalsAt : Host → ℕ → ℕ → Option Totals → Type 0
 AreTotalsAt h b n totals = (totals ≡ totals_in (pledge_in (get h.books b) n)) × IfSome (pledge_in (get h.books b) n) CanBeOwed
 
 -- the answer states whether there is a pledge n in book b; if there is, its debt is reachable
-abbrev pub IsJudgedAt : Host → ℕ → ℕ → Bool → Type 0
-IsJudgedAt h b n stands = (stands ≡ is_some (pledge_in (get h.books b) n)) × IfSome (pledge_in (get h.books b) n) CanBeOwed
+abbrev pub IsCheckedAt : Host → ℕ → ℕ → Bool → Type 0
+IsCheckedAt h b n stands = (stands ≡ is_some (pledge_in (get h.books b) n)) × IfSome (pledge_in (get h.books b) n) CanBeOwed
 
 -- this is the book with the least number that is greater than `above`, if there is one; its debts are reachable
-abbrev pub IsNextJudged : Host → ℕ → Option ℕ → Type 0
-IsNextJudged h above next = IsNextBook h above next × IfSome next (AreOwedIn h)
+abbrev pub IsNextChecked : Host → ℕ → Option ℕ → Type 0
+IsNextChecked h above next = IsNextBook h above next × IfSome next (AreOwedIn h)
 
 -- ---- totals that are inserted
 

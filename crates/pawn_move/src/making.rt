@@ -11,7 +11,7 @@ ghost use Rattle.pawn_book.specs.declared.fault.KeepError.TheVariants as Keeper;
 use pawn_book::KeepError;
 use pawn_opening::{Lacking, SCHEMA};
 use pawn_tables::texts::SET_SCHEMA;
-use pawn_tables::{refused, write};
+use pawn_tables::{keeper_error, write};
 use sqlite::{Alter, Transaction, params};
 
 /// Adds the table of totals, without rows, to those of the first schema.
@@ -22,7 +22,7 @@ pub(crate) fn make_totals<S: Alter>(tx: &mut Transaction<'_, S>) -> Result<(), K
 {
     match pawn_opening::make_totals(tx) {
         Ok(()) => Ok(()),
-        Err(error) => Err(refused(error)),
+        Err(error) => Err(keeper_error(error)),
     }
 }
 
@@ -34,7 +34,7 @@ pub(crate) fn make_extensions<S: Alter>(tx: &mut Transaction<'_, S>) -> Result<(
 {
     match pawn_opening::make_extensions(tx) {
         Ok(()) => Ok(()),
-        Err(error) => Err(refused(error)),
+        Err(error) => Err(keeper_error(error)),
     }
 }
 
@@ -55,7 +55,7 @@ fn make_indexes<S: Alter>(tx: &mut Transaction<'_, S>, which: Lacking) -> Result
 {
     match pawn_opening::make_indexes(tx, which) {
         Ok(()) => Ok(()),
-        Err(error) => Err(refused(error)),
+        Err(error) => Err(keeper_error(error)),
     }
 }
 

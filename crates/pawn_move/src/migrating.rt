@@ -5,15 +5,15 @@ ghost use Rattle.pawn_move.specs.Moving.{Moves, MovesIndexed, MovesOwed};
 ghost use Rattle.pawn_opening.specs.Common.{state, Lends};
 ghost use Rattle.std.specs.Prelude.{◌≡◌, ◌⊎◌, false, is_ok};
 
+use crate::checking::check_books;
 use crate::fault::{MoveFault, unmoved};
-use crate::filling::put_books;
-use crate::judging::check_books;
 use crate::making::{finish, make_extensions, make_totals};
 use crate::telling::schema_of;
+use crate::totals_inserts::put_books;
 use one_table::know_settled;
 use pawn_book::KeepError;
 use pawn_opening::{Lacking, SCHEMA, add_indexes, indexes_lacking};
-use pawn_tables::refused;
+use pawn_tables::keeper_error;
 use sqlite::{Alter, Connection, Transaction};
 use std::alloc::Global;
 
@@ -28,7 +28,7 @@ fn move_tables<S: Alter>(
 ) -> Result<(), KeepError>
     requires older { (from ≡ 1) ⊎ (from ≡ 2) }
     ensures moves { Moves from (state S.Store tx.old.conn.now) (state S.Store tx.new.conn.now) result }
-    ensures judges { MovesOwed from (state S.Store tx.old.conn.now) (state S.Store tx.new.conn.now) result }
+    ensures checks { MovesOwed from (state S.Store tx.old.conn.now) (state S.Store tx.new.conn.now) result }
     ensures indexed { MovesIndexed from lacking (state S.Store tx.old.conn.now) (state S.Store tx.new.conn.now) result }
     ensures lent { Lends S.Store tx.old.conn tx.new.conn (is_ok result) }
 {
@@ -49,7 +49,7 @@ fn move_store<S: Alter>(conn: &mut Connection<S>, alloc: Global, from: u32) -> R
     requires rests { conn.old.in_transaction ≡ false }
     requires older { (from ≡ 1) ⊎ (from ≡ 2) }
     ensures moves { MovesStore from (state S.Store conn.old) (state S.Store conn.new) result }
-    ensures judges { MovesStoreOwed from (state S.Store conn.old) (state S.Store conn.new) result }
+    ensures checks { MovesStoreOwed from (state S.Store conn.old) (state S.Store conn.new) result }
     ensures indexed { MovesStoreIndexed from (state S.Store conn.old) (state S.Store conn.new) result }
 {
     know_settled(conn);
@@ -61,7 +61,7 @@ fn move_store<S: Alter>(conn: &mut Connection<S>, alloc: Global, from: u32) -> R
     }
     match tx.commit() {
         Ok(()) => Ok(()),
-        Err(error) => Err(refused(error)),
+        Err(error) => Err(keeper_error(error)),
     }
 }
 
@@ -77,7 +77,7 @@ fn move_store<S: Alter>(conn: &mut Connection<S>, alloc: Global, from: u32) -> R
 pub fn migrate<S: Alter>(alloc: Global, conn: &mut Connection<S>) -> Result<(u32, u32), MoveFault>
     requires rests { conn.old.in_transaction ≡ false }
     ensures migrates { Migrates (state S.Store conn.old) (state S.Store conn.new) result }
-    ensures judges { MigratesOwed (state S.Store conn.old) (state S.Store conn.new) result }
+    ensures checks { MigratesOwed (state S.Store conn.old) (state S.Store conn.new) result }
     ensures indexed { MigratesIndexed (state S.Store conn.old) (state S.Store conn.new) result }
 {
     know_settled(conn);

@@ -1,5 +1,5 @@
 //! Reads which schema a store has.
-ghost use Rattle.pawn_move.specs.Migrating.{IsNumberJudged, TellsNumber};
+ghost use Rattle.pawn_move.specs.Migrating.{KnowsSchema, TellsNumber};
 ghost use Rattle.sqlite.specs.Held.{state};
 ghost use Rattle.std.specs.Prelude.{◌≡◌, false};
 
@@ -10,7 +10,7 @@ use sqlite::{Alter, Connection};
 /// The number that a store notes, if it is from 1 to that of the program's schema. The error is `NotOurs` for 0 and for
 /// none, and `NewerSchema` for a greater number.
 fn known_schema(noted: Option<u64>) -> Result<u32, MoveFault>
-    ensures judged { IsNumberJudged noted result }
+    ensures knows { KnowsSchema noted result }
 {
     let Some(number) = noted else {
         return Err(MoveFault::NotOurs);

@@ -2,7 +2,7 @@
 use Rattle.pawn_opening.proofs.Recognition.{answered, asks_alone, left_as_before, unanswered, unchanged}
 use Rattle.pawn_opening.specs.Common.{CompileError, Row, HasCleanDisk, State, Error, SqlInputError, READ_SCHEMA}
 use Rattle.pawn_opening.specs.Opened.{Recognises, TellsSchema}
-use Rattle.pawn_opening.specs.Refusing.{IsEmptyStore, IsJudged, IsNoted, IsNumberRead, IsRefusedFor, IsStoreFault}
+use Rattle.pawn_opening.specs.Refusing.{IsEmptyStore, AcceptsSchema, IsNoted, IsNumberRead, IsRefusedFor, IsStoreFault}
 use Rattle.pawn_opening.specs.Refusing.{IsStrangeNumber, NotesSchema}
 use Rattle.pawn_opening.specs.declared.fault.OpenFault.{OpenFault}
 use Rattle.pawn_opening.specs.declared.fault.OpenFault.TheVariants.{Memory, NotOurs, OldSchema, Store}
@@ -63,13 +63,14 @@ module _ (old new : State) (ended : new.in_transaction ≡ false) (survives : Su
 -- ---- what is made of it
 
 module _ (old new : State) (noted : Option ℕ) (r : Result (Unit {0}) OpenFault) where
-  accepted : (r' : Result (Unit {0}) OpenFault) (o : Option ℕ) → IsJudged o r' → IsNoted old.now o → IfSome o (λ n. IsTrue new.is_open)
+  accepted : (r' : Result (Unit {0}) OpenFault) (o : Option ℕ) → AcceptsSchema o r' → IsNoted old.now o → IfSome o (λ n. IsTrue new.is_open)
       → OnOk r' (IsTrue new.is_open × NotesSchema old.now 3)
   accepted (Err why) o v is serves = tt
   accepted (Ok done) None v is serves = absurd (let e = v in cc)
   accepted (Ok done) (Some n) v is serves = let same : n ≡ 3 = (let e = v in cc) in (serves, subst (NotesSchema old.now) same is)
 
-  refused : (r' : Result (Unit {0}) OpenFault) (o : Option ℕ) → IsJudged o r' → IsNoted old.now o → (IsEmptyStore old.now → ⊥) → IfErr r' (IsRefusedFor old.now)
+  refused : (r' : Result (Unit {0}) OpenFault) (o : Option ℕ) → AcceptsSchema o r' → IsNoted old.now o → (IsEmptyStore old.now → ⊥)
+      → IfErr r' (IsRefusedFor old.now)
   refused (Ok done) o v is other = tt
   refused (Err NotOurs) None v is other = (other, inl is)
   refused (Err NotOurs) (Some n) (inl none) is other = absurd (let e = none in cc)
@@ -80,8 +81,8 @@ module _ (old new : State) (noted : Option ℕ) (r : Result (Unit {0}) OpenFault
   refused (Err Store) o v is other = tt
   refused (Err Memory) o v is other = tt
 
-  pub judged : TellsSchema old new (Ok noted) → IsJudged noted r → Recognises old new r
-  judged it verdict = record {
+  pub accepted_schema : TellsSchema old new (Ok noted) → AcceptsSchema noted r → Recognises old new r
+  accepted_schema it verdict = record {
     same = it.same;
     ok = λ clean. accepted r noted verdict (it.ok clean) (it.serves clean);
     err = λ clean other. refused r noted verdict (it.ok clean) other;
@@ -90,8 +91,8 @@ module _ (old new : State) (noted : Option ℕ) (r : Result (Unit {0}) OpenFault
   }
 
 -- a store that did not answer
-pub unjudged : (old new : State) (why : OpenFault) → TellsSchema old new (Err why) → Recognises old new (Err why)
-unjudged old new why it = record {
+pub unaccepted : (old new : State) (why : OpenFault) → TellsSchema old new (Err why) → Recognises old new (Err why)
+unaccepted old new why it = record {
   same = it.same;
   ok = λ clean. tt;
   err = λ clean other. no_more why it.why;

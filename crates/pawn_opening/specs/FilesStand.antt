@@ -50,8 +50,8 @@ IsRefusedStore {D} {g} image limit why rest = (it : FileStore D g) × (rest ≡ 
 
 -- either the database library cannot open the files, and leaves them as a failed open does; or it opens them, and their
 -- database is refused
-abbrev pub RefusesHeld : {D : Type 0} {g : Ghosts D} → Image → Files D → ℕ → OpenFault → Leftover D g → Type 0
-RefusesHeld image files limit why rest = (IsStoreFault why × LeavesFiles files rest) ⊎ IsRefusedStore image limit why rest
+abbrev pub RefusesContent : {D : Type 0} {g : Ghosts D} → Image → Files D → ℕ → OpenFault → Leftover D g → Type 0
+RefusesContent image files limit why rest = (IsStoreFault why × LeavesFiles files rest) ⊎ IsRefusedStore image limit why rest
 
 abbrev pub RefusesFiles : {D : Type 0} {g : Ghosts D} → Files D → ℕ → OpenFault → Leftover D g → Type 0
-RefusesFiles {D} {g} files limit why rest = RefusesHeld (image_of g files) files limit why rest
+RefusesFiles {D} {g} files limit why rest = RefusesContent (image_of g files) files limit why rest

@@ -69,9 +69,9 @@ IsNumberRead rows (Ok (Some n)) = IsOneNumber rows n
 IsNumberRead rows (Err why) = IsStoreFault why
 
 -- the result of checking the noted number: only 3, the number of the program's schema, is accepted
-abbrev pub IsJudged : Option ℕ → Result (Unit {0}) OpenFault → Type 0
-IsJudged noted (Ok ours) = noted ≡ Some 3
-IsJudged noted (Err NotOurs) = (noted ≡ None) ⊎ ((n : ℕ) × (noted ≡ Some n) × IsStrangeNumber n)
-IsJudged noted (Err (OldSchema n)) = (noted ≡ Some n) × (0 < n) × (n < 3)
-IsJudged noted (Err Store) = ⊥
-IsJudged noted (Err Memory) = ⊥
+abbrev pub AcceptsSchema : Option ℕ → Result (Unit {0}) OpenFault → Type 0
+AcceptsSchema noted (Ok ours) = noted ≡ Some 3
+AcceptsSchema noted (Err NotOurs) = (noted ≡ None) ⊎ ((n : ℕ) × (noted ≡ Some n) × IsStrangeNumber n)
+AcceptsSchema noted (Err (OldSchema n)) = (noted ≡ Some n) × (0 < n) × (n < 3)
+AcceptsSchema noted (Err Store) = ⊥
+AcceptsSchema noted (Err Memory) = ⊥

@@ -4,8 +4,8 @@
 
 mod connecting;
 mod fault;
-mod filling;
 mod finding;
+mod first_content;
 mod folding;
 mod indexing;
 mod laying;

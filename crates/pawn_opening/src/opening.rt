@@ -1,7 +1,7 @@
 //! Opens a store in memory, in two files or at a path, and closes it.
 ghost use Rattle.pawn_opening.specs.Closed.{AreClosedFor, HasCommitted, IsLeftUnclosed};
 ghost use Rattle.pawn_opening.specs.Common.{image_at, state, HasCleanDisk, Host, most_rows};
-ghost use Rattle.pawn_opening.specs.FilesStand.{IsBlank, OpensFound, RefusesFiles, RefusesHeld, StandsIn};
+ghost use Rattle.pawn_opening.specs.FilesStand.{IsBlank, OpensFound, RefusesFiles, RefusesContent, StandsIn};
 ghost use Rattle.pawn_opening.specs.Opened.{OpensAs, empty_host};
 ghost use Rattle.pawn_opening.specs.Refusing.{IsStoreFault};
 ghost use Rattle.sqlite.specs.Files.{IsCleanLeft, file_state, image_of};
@@ -88,7 +88,7 @@ pub fn open_path<S: Start>(
     ensures mode { IfOk result (λ conn. conn.in_transaction ≡ false) }
     ensures unopened { IfErr result (λ e. e.1 ≡ None → IsStoreFault e.0) }
     ensures refuses { IfErr result (λ e. IfSome e.1
-        (λ rest. (files : _) × IsFresh true files.log × IsFresh false files.db × (IsCleanLeft rest → RefusesHeld (image_at S.Start) files limit e.0 rest))) }
+        (λ rest. (files : _) × IsFresh true files.log × IsFresh false files.db × (IsCleanLeft rest → RefusesContent (image_at S.Start) files limit e.0 rest))) }
 {
     let options = match options(rt) {
         Ok(options) => options,

@@ -5,7 +5,7 @@ ghost use Rattle.pawn_opening.specs.Refusing.{IsEmptyStore};
 ghost use Rattle.std.specs.Prelude.{◌≡◌, ◌↔◌, ◌≤◌, false, IsTrue};
 
 use crate::fault::{OpenFault, opening_fault};
-use crate::filling::fill;
+use crate::first_content::fill;
 use crate::indexing::add_indexes;
 use crate::recognising::recognise;
 use one_table::know_settled;

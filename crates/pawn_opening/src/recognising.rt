@@ -1,6 +1,6 @@
 //! Recognises a store by the schema that it notes.
 ghost use Rattle.pawn_opening.specs.Opened.{Recognises, TellsSchema};
-ghost use Rattle.pawn_opening.specs.Refusing.{IsJudged, IsNumberRead};
+ghost use Rattle.pawn_opening.specs.Refusing.{AcceptsSchema, IsNumberRead};
 ghost use Rattle.sqlite.specs.Held.{state};
 ghost use Rattle.std.specs.Prelude.{◌≡◌, false};
 
@@ -43,7 +43,7 @@ pub fn schema_noted<S: Alter>(conn: &mut Connection<S>) -> Result<Option<u64>, O
 /// Accepts the number of the program's schema. The error is `OldSchema` for that of an older schema, and `NotOurs` for
 /// any other number and for none.
 fn expect_ours(noted: Option<u64>) -> Result<(), OpenFault>
-    ensures judged { IsJudged noted result }
+    ensures accepts { AcceptsSchema noted result }
 {
     let Some(number) = noted else {
         return Err(OpenFault::NotOurs);

@@ -5,7 +5,7 @@ use Rattle.pawn_debt.proofs.ReplayLemmas.{sort_answer-ok}
 use Rattle.pawn_pledge.proofs.Settled.{IsGated, IsSettled, hold-settles, ask-settles, mark-settles, close-settles}
 use Rattle.pawn_pledge.specs.Commands.{IsCommand}
 use Rattle.pawn_pledge.specs.Common.{DebtFault, DebtValue, Draw, Entry, NoneApplies, Repay, Sort, draw_answer, first_of}
-use Rattle.pawn_pledge.specs.Common.{last_of, last_stamp_day, most_entries, most_pence, repay_answer, sort_answer}
+use Rattle.pawn_pledge.specs.Common.{last_of, last_request_day, most_entries, most_pence, repay_answer, sort_answer}
 use Rattle.pawn_pledge.specs.Common.{with_entry}
 use Rattle.pawn_pledge.specs.Limits.{last_window, most_extensions}
 use Rattle.pawn_pledge.specs.Pledge.{PledgeValue, debt_of, end_of, is_realisable, open_status, total_on}
@@ -80,7 +80,7 @@ pub data Move (p : PledgeValue) (x w : ℕ) (command : Command) (q : PledgeValue
   Declaring : (paper : Paper) → NoneApplies (declare_refusals p paper w)
       → q ≡ with_secret p (record { day = x; sort = issue_of paper; secret = w }) → Move p x w command q
   Extending : (until : ℕ) → x ≤ end_of p → end_of p < until → length p.extensions < most_extensions
-      → (IsCommand command → until ≤ last_stamp_day) → q ≡ with_extension p (record { day = x; until = until }) → Move p x w command q
+      → (IsCommand command → until ≤ last_request_day) → q ≡ with_extension p (record { day = x; until = until }) → Move p x w command q
   Settling : (s : Standing) → IsSettled p x command s → q ≡ with_standing p s → Move p x w command q
 
 -- drawings and repayments
@@ -160,7 +160,7 @@ ask_once-moves p q c w x day window (Some o) d is settles h =
     true≢false (sym t ∙ a.0)))
     a.1
 
-ask-moves : (p q : PledgeValue) (c : Command) (w x day window : ℕ) (d : Done) → (IsCommand c → day ≤ last_stamp_day) → IsGated p x
+ask-moves : (p q : PledgeValue) (c : Command) (w x day window : ℕ) (d : Done) → (IsCommand c → day ≤ last_request_day) → IsGated p x
     → ask_step p x day window ≡ Changed q d → Move p x w c q
 ask-moves p q c w x day window d named g h =
     let a = unless-changed (ask_refusals p x day window) (ask_once p x day window p.standing.booking) q d h in
@@ -236,7 +236,7 @@ sell-moves p q c w x net d g h =
 above : (m n : ℕ) → n ≤ m → (m ≡ n → ⊥) → n < m
 above m n low apart = grind (arith, low, apart)
 
-extend-moves : (p q : PledgeValue) (c : Command) (w x until : ℕ) (d : Done) → (IsCommand c → until ≤ last_stamp_day) → extend_step p x until ≡ Changed q d
+extend-moves : (p q : PledgeValue) (c : Command) (w x until : ℕ) (d : Done) → (IsCommand c → until ≤ last_request_day) → extend_step p x until ≡ Changed q d
     → Move p x w c q
 extend-moves p q c w x until d named h =
     let next : PledgeValue = with_extension p (record { day = x; until = until }) in

@@ -9,7 +9,7 @@ use Rattle.pawn_pledge.proofs.Pushes.{AreExtended-push}
 use Rattle.pawn_pledge.proofs.Settled.{IsGated, still-open}
 use Rattle.pawn_pledge.specs.Commands.{IsCommand}
 use Rattle.pawn_pledge.specs.Common.{Draw, Entry, IsEntryAccepted, NoneApplies, Repay, Sort, credit_of, last_of}
-use Rattle.pawn_pledge.specs.Common.{last_stamp_day, later_of, period_end, six_months, sort_answer, with_entry}
+use Rattle.pawn_pledge.specs.Common.{last_request_day, later_of, period_end, six_months, sort_answer, with_entry}
 use Rattle.pawn_pledge.specs.Limits.{grace_days, most_secrets, small_credit}
 use Rattle.pawn_pledge.specs.Pledge.{PledgeValue, debt_of, end_of, end_with, is_passed, is_small, last_until}
 use Rattle.pawn_pledge.specs.Replayable.{IsBooked, IsClosed, IsDrawnBy, IsLaterIssue, IsNotPassed, IsOverUnder}
@@ -208,7 +208,7 @@ stays-moved p q c w x h g (Settling s to is) =
 stays-moved p q c w x h g (Extending until inside longer few named is) = subst IsReplayable (sym is) (stays-extended p x until h g inside longer)
 
 -- a move keeps the limits
-pub within-moved : (p q : PledgeValue) (c : Command) (w x : ℕ) → x ≤ last_stamp_day → IsCommand c → IsWithinLimits p → Move p x w c q → IsWithinLimits q
+pub within-moved : (p q : PledgeValue) (c : Command) (w x : ℕ) → x ≤ last_request_day → IsCommand c → IsWithinLimits p → Move p x w c q → IsWithinLimits q
 within-moved p q c w x stamped given h (Entering sort pence ok late few drawn is) =
     subst IsWithinLimits (sym is) (record {
       number = h.number;
@@ -251,7 +251,7 @@ within-moved p q c w x stamped given h (Extending until inside longer few named 
       entries = h.entries;
       secrets = h.secrets;
       extensions = omega (arith, few, length-append p.extensions (e ∷ []));
-      untils = Each-push (λ (k : Extension). k.until ≤ last_stamp_day) p.extensions e h.untils (named given);
+      untils = Each-push (λ (k : Extension). k.until ≤ last_request_day) p.extensions e h.untils (named given);
       booking = h.booking;
       last = stamped;
     })

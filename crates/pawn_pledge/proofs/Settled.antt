@@ -1,6 +1,6 @@
 -- Changes of only the `Standing` of a pledge, and what each of them preserves.
 use Rattle.pawn_pledge.specs.Commands.{IsCommand}
-use Rattle.pawn_pledge.specs.Common.{last_stamp_day}
+use Rattle.pawn_pledge.specs.Common.{last_request_day}
 use Rattle.pawn_pledge.specs.Limits.{last_window}
 use Rattle.pawn_pledge.specs.Pledge.{PledgeValue}
 use Rattle.pawn_pledge.specs.Replayable.{IsBooked, IsBookingOver, IsClosed, IsNotPassed, IsOverUnder}
@@ -23,7 +23,7 @@ pub record IsGated (p : PledgeValue) (x : ℕ) : Type 0 where
 
 -- a booking's day is one that a request can name
 abbrev pub IsNamed : Option Booking → Type 0
-IsNamed o = IfSome o (λ b. b.day ≤ last_stamp_day)
+IsNamed o = IfSome o (λ b. b.day ≤ last_request_day)
 
 -- what a pledge with this `Standing` after a command on the day x preserves, and that its `Standing` was another before
 pub record IsSettled (p : PledgeValue) (x : ℕ) (command : Command) (s : Standing) : Type 0 where
@@ -62,7 +62,7 @@ hold-settles p x c flag g new = record {
 
 -- another booking than the one before
 pub ask-settles : (p : PledgeValue) (x : ℕ) (c : Command) (b : Booking) → IsGated p x → x ≤ b.day → IsNotPassed p b.day → b.window ≤ last_window
-    → (IsCommand c → b.day ≤ last_stamp_day) → (p.standing.booking ≡ Some b → ⊥) → IsSettled p x c (with_booking p.standing b x)
+    → (IsCommand c → b.day ≤ last_request_day) → (p.standing.booking ≡ Some b → ⊥) → IsSettled p x c (with_booking p.standing b x)
 ask-settles p x c b g later live small named new = record {
   last = refl;
   closed = still-open (with_standing p (with_booking p.standing b x)) p.standing.closing g.standing;

@@ -1,12 +1,12 @@
 -- Which commands a request can give, and who may send them.
-use Rattle.pawn_pledge.specs.Common.{IsStampDay}
+use Rattle.pawn_pledge.specs.Common.{IsRequestDay}
 use Rattle.pawn_pledge.specs.declared.command.Command.{Command}
 use Rattle.std.specs.Prelude.{Bool, false, true}
 
 -- a command whose days a request may name
 abbrev pub IsCommand : Command → Type 0
-IsCommand (Command.AskBooking day window) = IsStampDay day
-IsCommand (Command.Extend until) = IsStampDay until
+IsCommand (Command.AskBooking day window) = IsRequestDay day
+IsCommand (Command.Extend until) = IsRequestDay until
 IsCommand other = Unit {0}
 
 -- a broker may send the command

@@ -14,8 +14,8 @@ pub use Rattle.pawn_debt.specs.declared.fault.DebtFault.{DebtFault}
 pub use Rattle.pawn_debt.specs.declared.fault.DebtFault.TheVariants.{BadAmount, EarlierDay, FixedSum, OverLimit}
 pub use Rattle.pawn_debt.specs.declared.fault.DebtFault.TheVariants.{OverOwing}
 pub use Rattle.pawn_debt.specs.declared.owing.Totals.{Totals}
-pub use Rattle.pawn_terms.specs.Calendar.{IsStampDay, later_of, period_end, six_months}
-pub use Rattle.pawn_terms.specs.Limits.{last_stamp_day}
+pub use Rattle.pawn_terms.specs.Calendar.{IsRequestDay, later_of, period_end, six_months}
+pub use Rattle.pawn_terms.specs.Limits.{last_request_day}
 pub use Rattle.pawn_terms.specs.Terms.{IsChecked, rates_of}
 pub use Rattle.pawn_terms.specs.declared.terms.Rates.{Rates}
 unfoldable pub use Rattle.pawn_debt.specs.Due.{due_after}

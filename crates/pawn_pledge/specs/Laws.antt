@@ -1,7 +1,7 @@
 -- Laws of pledges: properties of every pledge, whatever commands are sent.
 use Rattle.pawn_pledge.specs.Brief.{brief_of, brief_status, brief_owing, IsBriefWithin}
 use Rattle.pawn_pledge.specs.Commands.{IsCommand}
-use Rattle.pawn_pledge.specs.Common.{Draw, IsChecked, IsStampDay, NoneApplies, Rates, Repay, Sort, due, last_of}
+use Rattle.pawn_pledge.specs.Common.{Draw, IsChecked, IsRequestDay, NoneApplies, Rates, Repay, Sort, due, last_of}
 use Rattle.pawn_pledge.specs.Common.{owing_of}
 use Rattle.pawn_pledge.specs.Growth.{Grows, StaysOrGrows}
 use Rattle.pawn_pledge.specs.Number.{IsNumber}
@@ -23,7 +23,7 @@ use Rattle.std.specs.Prelude.{◌≡◌, ◌≤◌, ◌<◌, ◌+◌, ◌^◌, �
 abbrev pub StartsReachable : Type 0
 StartsReachable =
     (number : ℕ) (opening : Opening) (version : ℕ) (terms : Rates) (stamp : Stamp) (p : PledgeValue)
-    → IsNumber number → IsOpening opening → IsChecked terms → IsStampDay stamp.day
+    → IsNumber number → IsOpening opening → IsChecked terms → IsRequestDay stamp.day
     → pledge_start number opening version terms stamp ≡ Ok p → IsReachable p
 
 -- a reachable pledge is reachable after a change
@@ -36,13 +36,13 @@ StaysReplayable =
 abbrev pub StaysWithin : Type 0
 StaysWithin =
     (p next : PledgeValue) (stamp : Stamp) (command : Command) (done : Done)
-    → IsStampDay stamp.day → IsCommand command → IsWithinLimits p → pledge_step p stamp command ≡ Changed next done → IsWithinLimits next
+    → IsRequestDay stamp.day → IsCommand command → IsWithinLimits p → pledge_step p stamp command ≡ Changed next done → IsWithinLimits next
 
 -- a reachable pledge within the limits is so after a change
 abbrev pub StaysReachable : Type 0
 StaysReachable =
     (p next : PledgeValue) (stamp : Stamp) (command : Command) (done : Done)
-    → IsStampDay stamp.day → IsCommand command → IsReachable p → pledge_step p stamp command ≡ Changed next done → IsReachable next
+    → IsRequestDay stamp.day → IsCommand command → IsReachable p → pledge_step p stamp command ≡ Changed next done → IsReachable next
 
 -- a change keeps the agreement
 abbrev pub AgreementStays : Type 0

@@ -1,5 +1,5 @@
 -- The checks on a record before a pledge is made of it.
-use Rattle.pawn_pledge.specs.Common.{DoNotFall, Each, credit_of, last_by, last_stamp_day, most_pence}
+use Rattle.pawn_pledge.specs.Common.{DoNotFall, Each, credit_of, last_by, last_request_day, most_pence}
 use Rattle.pawn_pledge.specs.Limits.{most_secrets, most_extensions}
 use Rattle.pawn_pledge.specs.Number.{IsNumber}
 use Rattle.pawn_pledge.specs.Pledge.{PledgeValue}
@@ -15,11 +15,11 @@ pub record IsTyped (p : PledgeValue) : Type 0 where
 pub record IsLimited (p : PledgeValue) : Type 0 where
   pub some : 1 ≤ credit_of p.agreement.opening.kind
   pub credit : credit_of p.agreement.opening.kind ≤ most_pence
-  pub last : p.standing.last ≤ last_stamp_day
+  pub last : p.standing.last ≤ last_request_day
   pub secrets : length p.secrets ≤ most_secrets
   pub extensions : length p.extensions ≤ most_extensions
-  pub untils : Each (λ e. e.until ≤ last_stamp_day) p.extensions
-  pub booking : IfSome p.standing.booking (λ b. b.day ≤ last_stamp_day)
+  pub untils : Each (λ e. e.until ≤ last_request_day) p.extensions
+  pub booking : IfSome p.standing.booking (λ b. b.day ≤ last_request_day)
 
 -- secrets that commands can have issued
 pub record AreIssuedIn (p : PledgeValue) : Type 0 where

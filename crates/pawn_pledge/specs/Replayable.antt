@@ -1,7 +1,7 @@
 -- Reachable records of pledges: those that commands can produce.
 use Rattle.pawn_base.specs.Text.{IsText}
 use Rattle.pawn_pledge.specs.Common.{AreEntriesAccepted, AreOrdered, DoNotFall, Draw, Each, Entry, IsChecked}
-use Rattle.pawn_pledge.specs.Common.{IsStampDay, Repay, Sort, credit_of, last_by, last_of, last_stamp_day, most_entries}
+use Rattle.pawn_pledge.specs.Common.{IsRequestDay, Repay, Sort, credit_of, last_by, last_of, last_request_day, most_entries}
 use Rattle.pawn_pledge.specs.Common.{most_pence}
 use Rattle.pawn_pledge.specs.Limits.{small_credit, most_secrets, most_extensions, last_window, most_article_bytes}
 use Rattle.pawn_pledge.specs.Limits.{most_reference_bytes}
@@ -115,7 +115,7 @@ pub record IsReplayable (p : PledgeValue) : Type 0 where
 pub record IsOpening (o : Opening) : Type 0 where
   pub reference : IsText most_reference_bytes o.reference
   pub article : IsText most_article_bytes o.article
-  pub agreed : IfSome o.agreed IsStampDay
+  pub agreed : IfSome o.agreed IsRequestDay
 
 -- the limits of a record: on its number, its texts, its days and the lengths of its lists
 pub record IsWithinLimits (p : PledgeValue) : Type 0 where
@@ -124,9 +124,9 @@ pub record IsWithinLimits (p : PledgeValue) : Type 0 where
   pub entries : length p.entries ≤ most_entries
   pub secrets : length p.secrets ≤ most_secrets
   pub extensions : length p.extensions ≤ most_extensions
-  pub untils : Each (λ e. e.until ≤ last_stamp_day) p.extensions
-  pub booking : IfSome p.standing.booking (λ b. b.day ≤ last_stamp_day)
-  pub last : p.standing.last ≤ last_stamp_day
+  pub untils : Each (λ e. e.until ≤ last_request_day) p.extensions
+  pub booking : IfSome p.standing.booking (λ b. b.day ≤ last_request_day)
+  pub last : p.standing.last ≤ last_request_day
 
 -- a record that a pledge can have: replayable and within the limits, with checked terms
 pub record IsReachable (p : PledgeValue) : Type 0 where

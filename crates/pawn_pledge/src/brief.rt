@@ -2,7 +2,7 @@
 
 ghost use Rattle.pawn_pledge.specs.Brief.{brief_status, brief_owing, IsBookingWithin, IsClosingWithin, AreTotalsWithin};
 ghost use Rattle.pawn_pledge.specs.Brief.{IsBriefWithin};
-ghost use Rattle.pawn_pledge.specs.Common.{credit_of, last_stamp_day, most_entries, most_millionths, most_pence};
+ghost use Rattle.pawn_pledge.specs.Common.{credit_of, last_request_day, most_entries, most_millionths, most_pence};
 ghost use Rattle.pawn_pledge.specs.Limits.{most_secrets, most_extensions};
 ghost use Rattle.std.specs.Prelude.{◌≡◌, ◌≤◌, ◌↔◌, IsTrue, OnErr, IfOk, IfErr, IfSome, IfNone};
 
@@ -13,7 +13,7 @@ use crate::status::status_under;
 use pawn_debt::{
     Day, Kind, MOST_ENTRIES, MOST_MILLIONTHS, MOST_PENCE, Owing, Terms, Totals, owing_from,
 };
-use pawn_terms::LAST_STAMP_DAY;
+use pawn_terms::LAST_REQUEST_DAY;
 use std::marker::Model;
 
 /// How many entries, secrets and extensions a pledge has.
@@ -49,7 +49,7 @@ pub struct Brief {
 impl Model for Brief {
     ghost use Rattle.pawn_debt.specs.Limits.{most_pence, most_millionths};
     ghost use Rattle.pawn_pledge.specs.declared.brief.BriefFields.{BriefFields};
-    ghost use Rattle.pawn_terms.specs.Limits.{last_stamp_day};
+    ghost use Rattle.pawn_terms.specs.Limits.{last_request_day};
     ghost use Rattle.std.specs.Prelude.{◌≡◌, ◌≤◌};
 
     ghost Value = { BriefFields };
@@ -57,7 +57,7 @@ impl Model for Brief {
     ghost view = { λ b. b.fields };
 
     ghost invariant = { λ b. (b.terms ≡ b.fields.agreement.terms)
-        × (b.fields.agreement.taken ≤ last_stamp_day) × (b.fields.totals.principal ≤ most_pence)
+        × (b.fields.agreement.taken ≤ last_request_day) × (b.fields.totals.principal ≤ most_pence)
         × (b.fields.totals.millionths ≤ most_millionths) };
 }
 
@@ -77,7 +77,7 @@ impl Brief {
     /// The brief with fields that come from a pledge and therefore need no check.
     pub(crate) fn of_pledge(fields: BriefFields, terms: Terms) -> Brief
         requires terms { terms ≡ fields.agreement.terms }
-        requires taken { fields.agreement.taken ≤ last_stamp_day }
+        requires taken { fields.agreement.taken ≤ last_request_day }
         requires principal_in { fields.totals.principal ≤ most_pence }
         requires millionths_in { fields.totals.millionths ≤ most_millionths }
         ensures value { result ≡ fields }
@@ -149,9 +149,9 @@ fn is_credit_within(kind: Kind) -> bool
 
 /// Whether a request may name both days.
 fn are_days_within(taken: Day, last: Day) -> bool
-    ensures answer { IsTrue result ↔ ((taken ≤ last_stamp_day) × (last ≤ last_stamp_day)) }
+    ensures answer { IsTrue result ↔ ((taken ≤ last_request_day) × (last ≤ last_request_day)) }
 {
-    taken.count() <= LAST_STAMP_DAY && last.count() <= LAST_STAMP_DAY
+    taken.count() <= LAST_REQUEST_DAY && last.count() <= LAST_REQUEST_DAY
 }
 
 /// Whether there are no more entries, secrets and extensions than a pledge may have.
@@ -168,7 +168,7 @@ fn is_booking_within(booking: Option<Booking>) -> bool
     ensures answer { IsTrue result ↔ IfSome booking IsBookingWithin }
 {
     match booking {
-        Some(booking) => booking.day.count() <= LAST_STAMP_DAY && booking.window <= LAST_WINDOW,
+        Some(booking) => booking.day.count() <= LAST_REQUEST_DAY && booking.window <= LAST_WINDOW,
         None => true,
     }
 }
@@ -179,8 +179,8 @@ fn is_closing_within(closing: Closing) -> bool
 {
     match closing {
         Closing::Open => true,
-        Closing::Redeemed { day, .. } => day.count() <= LAST_STAMP_DAY,
-        Closing::Sold { day, net } => day.count() <= LAST_STAMP_DAY && net <= MOST_PENCE,
+        Closing::Redeemed { day, .. } => day.count() <= LAST_REQUEST_DAY,
+        Closing::Sold { day, net } => day.count() <= LAST_REQUEST_DAY && net <= MOST_PENCE,
     }
 }
 
@@ -188,7 +188,7 @@ fn is_closing_within(closing: Closing) -> bool
 fn are_totals_within(totals: &Totals) -> bool
     ensures answer { IsTrue result ↔ AreTotalsWithin totals.now }
 {
-    totals.day.count() <= LAST_STAMP_DAY
+    totals.day.count() <= LAST_REQUEST_DAY
         && totals.principal <= MOST_PENCE
         && totals.millionths <= MOST_MILLIONTHS
 }

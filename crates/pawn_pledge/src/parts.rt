@@ -1,6 +1,6 @@
 //! `Parts`, the record of a pledge as plain fields, and the checks on it.
 
-ghost use Rattle.pawn_pledge.specs.Common.{DoNotFall, Each, IsOwed, last_by, last_stamp_day};
+ghost use Rattle.pawn_pledge.specs.Common.{DoNotFall, Each, IsOwed, last_by, last_request_day};
 ghost use Rattle.pawn_pledge.specs.Parts.{AreIssuedIn, IsLimited, IsTyped};
 ghost use Rattle.pawn_pledge.specs.Pledge.{debt_of, end_of, is_passed, last_until, open_status};
 ghost use Rattle.pawn_pledge.specs.Replayable.{AreDistinctSecrets, AreExtended, AreIssued, IsBooked, IsClosed};
@@ -14,7 +14,7 @@ use crate::record::{
 };
 use crate::status::{is_small, status_by};
 use pawn_debt::{Day, Entries, Entry, MOST_PENCE, Sort, Terms, Totals, owing_at, replay_entries};
-use pawn_terms::LAST_STAMP_DAY;
+use pawn_terms::LAST_REQUEST_DAY;
 use std::alloc::AllocError;
 
 /// The record of a pledge as plain fields. It need not be one that a pledge can have; `is_reachable` checks that.
@@ -145,7 +145,7 @@ fn do_not_fall(taken: Day, last: Day, issued: &[Issued]) -> bool
 /// Whether the property has passed on a day, if the pledge is not closed.
 fn is_passed_on(parts: &Parts, ends: Day, day: Day) -> bool
     requires ends { ends ≡ end_of parts.now }
-    requires taken { parts.now.agreement.taken ≤ last_stamp_day }
+    requires taken { parts.now.agreement.taken ≤ last_request_day }
     ensures value { result ≡ is_passed (open_status parts.now day) }
 {
     match status_by(&parts.agreement, ends, day) {
@@ -170,7 +170,7 @@ fn is_over_under(closing: Closing, state: BookingState) -> bool
 /// Whether there is no booking, or commands can produce it.
 fn is_booked(parts: &Parts, ends: Day) -> bool
     requires ends { ends ≡ end_of parts.now }
-    requires taken { parts.now.agreement.taken ≤ last_stamp_day }
+    requires taken { parts.now.agreement.taken ≤ last_request_day }
     ensures answer { IsTrue result ↔ IsBooked parts.now parts.now.standing.booking }
 {
     let Some(b) = parts.standing.booking else {
@@ -192,7 +192,7 @@ fn is_booked(parts: &Parts, ends: Day) -> bool
 fn is_closed(parts: &Parts, terms: Terms, ends: Day, totals: &Totals) -> bool
     requires terms { terms ≡ parts.now.agreement.terms }
     requires ends { ends ≡ end_of parts.now }
-    requires taken { parts.now.agreement.taken ≤ last_stamp_day }
+    requires taken { parts.now.agreement.taken ≤ last_request_day }
     requires kept { IsOwed (debt_of parts.now) totals.now }
     requires later { totals.now.day ≤ parts.now.standing.last }
     ensures answer { IsTrue result ↔ IsClosed parts.now parts.now.standing.closing }
@@ -257,10 +257,10 @@ fn are_drawn_in(parts: &Parts, ends: Day) -> bool
 
 /// Whether each extension is to a day that a request may name.
 fn are_named(extensions: &[Extension]) -> bool
-    ensures answer { IsTrue result ↔ Each (λ e. e.until ≤ last_stamp_day) extensions.now }
+    ensures answer { IsTrue result ↔ Each (λ e. e.until ≤ last_request_day) extensions.now }
 {
     for extension in extensions {
-        if extension.until.count() > LAST_STAMP_DAY {
+        if extension.until.count() > LAST_REQUEST_DAY {
             return false;
         }
     }
@@ -269,10 +269,10 @@ fn are_named(extensions: &[Extension]) -> bool
 
 /// Whether the booking is for a day that a request may name.
 fn is_named(booking: Option<Booking>) -> bool
-    ensures answer { IsTrue result ↔ IfSome booking (λ b. b.day ≤ last_stamp_day) }
+    ensures answer { IsTrue result ↔ IfSome booking (λ b. b.day ≤ last_request_day) }
 {
     match booking {
-        Some(booking) => booking.day.count() <= LAST_STAMP_DAY,
+        Some(booking) => booking.day.count() <= LAST_REQUEST_DAY,
         None => true,
     }
 }
@@ -349,7 +349,7 @@ fn is_limited(parts: &Parts) -> bool
     if credit == 0 || credit > MOST_PENCE {
         return false;
     }
-    if parts.standing.last.count() > LAST_STAMP_DAY {
+    if parts.standing.last.count() > LAST_REQUEST_DAY {
         return false;
     }
     if parts.secrets.len() > MOST_SECRETS {

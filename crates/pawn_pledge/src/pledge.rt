@@ -1,7 +1,7 @@
 //! `Pledge`, one pledge with its record and its debt.
 
 ghost use Rattle.pawn_pledge.specs.Brief.{brief_of};
-ghost use Rattle.pawn_pledge.specs.Common.{IsChecked, IsStampDay, IsOwed, due, last_of, most_millionths, most_pence};
+ghost use Rattle.pawn_pledge.specs.Common.{IsChecked, IsRequestDay, IsOwed, due, last_of, most_millionths, most_pence};
 ghost use Rattle.pawn_pledge.specs.Common.{owing_of, totals_of};
 ghost use Rattle.pawn_pledge.specs.Number.{IsNumber};
 ghost use Rattle.pawn_pledge.specs.Pledge.{status_of, open_status, last_secret, live_of, end_of, debt_of};
@@ -65,7 +65,7 @@ fn know_start(number: Number, opening: &Opening, terms: Terms, stamp: &Stamp)
     ensures number { IsNumber number }
     ensures opening { IsOpening opening.now }
     ensures terms { IsChecked terms }
-    ensures day { IsStampDay stamp.now.day }
+    ensures day { IsRequestDay stamp.now.day }
 {
     let _ = (terms.rates(), stamp.day.day());
     number.know_limits();

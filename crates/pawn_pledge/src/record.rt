@@ -32,7 +32,7 @@ pub struct Opening {
 
 impl Opening {
     ghost use Rattle.pawn_pledge.specs.Replayable.{IsOpening};
-    ghost use Rattle.pawn_terms.specs.Calendar.{IsStampDay};
+    ghost use Rattle.pawn_terms.specs.Calendar.{IsRequestDay};
     ghost use Rattle.std.specs.Prelude.{◌≡◌, IfOk, IfSome};
 
     /// A copy of the opening. Fails only if memory runs out.
@@ -53,7 +53,7 @@ impl Opening {
     /// The agreed end, if there is one, as a `Day`.
     fn agreed_end(&self) -> Option<Day>
         ensures value { result ≡ self.now.agreed }
-        ensures in_range { IfSome self.now.agreed IsStampDay }
+        ensures in_range { IfSome self.now.agreed IsRequestDay }
     {
         match self.agreed {
             Some(day) => Some(day.day()),
@@ -87,7 +87,7 @@ pub struct Agreement {
 
 impl Agreement {
     ghost use Rattle.pawn_pledge.specs.Pledge.{end_with};
-    ghost use Rattle.pawn_terms.specs.Limits.{last_stamp_day};
+    ghost use Rattle.pawn_terms.specs.Limits.{last_request_day};
     ghost use Rattle.std.specs.Prelude.{◌≡◌, ◌≤◌, IfOk};
 
     /// A copy of the agreement. Fails only if memory runs out.
@@ -106,7 +106,7 @@ impl Agreement {
 
     /// The end of the period, given the end of the last extension, if there is one.
     pub(crate) fn end_with(&self, extended: Option<Day>) -> Day
-        requires taken { self.now.taken ≤ last_stamp_day }
+        requires taken { self.now.taken ≤ last_request_day }
         ensures value { result ≡ end_with self.now extended }
     {
         last_day(self.taken, self.opening.agreed_end(), extended)

@@ -1,7 +1,7 @@
 //! The status of a pledge on a day.
 
 ghost use Rattle.pawn_pledge.specs.Pledge.{is_small, status_by, status_under};
-ghost use Rattle.pawn_terms.specs.Limits.{last_stamp_day};
+ghost use Rattle.pawn_terms.specs.Limits.{last_request_day};
 ghost use Rattle.std.specs.Prelude.{◌≡◌, ◌≤◌};
 
 use crate::limits::{GRACE_DAYS, SMALL_CREDIT};
@@ -17,7 +17,7 @@ pub(crate) fn is_small(credit: u64) -> bool
 
 /// The status on a day of a pledge with this agreement, as if it were not closed. `ends` is the end of its period.
 pub(crate) fn status_by(agreement: &Agreement, ends: Day, day: Day) -> Status
-    requires taken { agreement.now.taken ≤ last_stamp_day }
+    requires taken { agreement.now.taken ≤ last_request_day }
     ensures value { result ≡ status_by agreement.now ends day }
 {
     let six = ends == agreement.taken.six_months_after();
@@ -34,7 +34,7 @@ pub(crate) fn status_by(agreement: &Agreement, ends: Day, day: Day) -> Status
 
 /// The status on a day of a pledge with this agreement and this closing.
 pub(crate) fn status_under(agreement: &Agreement, closing: Closing, ends: Day, day: Day) -> Status
-    requires taken { agreement.now.taken ≤ last_stamp_day }
+    requires taken { agreement.now.taken ≤ last_request_day }
     ensures value { result ≡ status_under closing (status_by agreement.now ends day) }
 {
     match closing {

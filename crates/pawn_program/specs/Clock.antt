@@ -2,7 +2,7 @@
 use Rattle.pawn_pledge.specs.declared.command.Stamp.{Stamp}
 use Rattle.pawn_program.specs.Word.{generator, word_of, after_word}
 use Rattle.pawn_program.specs.declared.clock.ClockStamps.{ClockStamps}
-use Rattle.pawn_terms.specs.Calendar.{first_day, last_stamp_day}
+use Rattle.pawn_terms.specs.Calendar.{first_day, last_request_day}
 use Rattle.std.specs.Prelude.{◌≡◌, ℕ, ◌/◌, ◌&&◌, nat_le, if◌then◌else◌, Option, Some, None, MatchOption}
 use Rattle.std.specs.Prelude.{option_and_then}
 
@@ -10,12 +10,12 @@ abbrev pub seconds_a_day : ℕ
 seconds_a_day = 86400
 
 -- the day with this number, if a request may have it
-abbrev pub stamp_day : ℕ → Option ℕ
-stamp_day day = if nat_le first_day day && nat_le day last_stamp_day then Some day else None
+abbrev pub as_request_day : ℕ → Option ℕ
+as_request_day day = if nat_le first_day day && nat_le day last_request_day then Some day else None
 
 -- the day at this many seconds after the beginning of 1970, if a request may have it
 abbrev pub clock_day : ℕ → Option ℕ
-clock_day seconds = stamp_day (seconds / seconds_a_day)
+clock_day seconds = as_request_day (seconds / seconds_a_day)
 
 -- the day of a reading of the clock, if a request may have it
 abbrev pub day_of : Option ℕ → Option ℕ

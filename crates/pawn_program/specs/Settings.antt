@@ -4,7 +4,7 @@ use Rattle.pawn_program.specs.declared.fault.SettingsFault.{SettingsFault}
 use Rattle.pawn_program.specs.declared.fault.SettingsFault.TheVariants.{BadDay, BadSeed, BadPort}
 use Rattle.pawn_program.specs.declared.settings.ServeSettings.{ServeSettings}
 use Rattle.pawn_program.specs.declared.settings.Settings.{Settings}
-use Rattle.pawn_terms.specs.Calendar.{IsStampDay, day_text}
+use Rattle.pawn_terms.specs.Calendar.{IsRequestDay, day_text}
 use Rattle.std.specs.Char.{is_digit, digit_value}
 use Rattle.std.specs.Prelude.{◌≡◌, ℕ, ◌⊎◌, ◌+◌, ◌*◌, ◌≤◌, ◌==◌, List, [], ◌∷◌, length, if◌then◌else◌, Option, Some}
 use Rattle.std.specs.Prelude.{None, option_and_then, option_map, IsSome, Result, Ok, Err, MatchResult, decimal}
@@ -30,7 +30,7 @@ seed_of text = if length text == 64 then hex_bytes text else None
 
 -- the text is the spelling of a day that a request may have
 abbrev pub SaysDay : List ℕ → ℕ → Type 0
-SaysDay text day = IsStampDay day × (text ≡ day_text day)
+SaysDay text day = IsRequestDay day × (text ≡ day_text day)
 
 -- the three words give these settings
 pub record AreSaid (Gives : Result ℕ SettingsFault → Type 0) (day_word seed_word : List ℕ) (settings : Settings) : Type 0 where

@@ -1,6 +1,6 @@
 //! The stamps of `pawnd serve`: the clock is read once for each of them.
 ghost use Rattle.pawn_program.specs.Clock.{GivesDated, clock_day, day_of};
-ghost use Rattle.pawn_terms.specs.Calendar.{IsStampDay};
+ghost use Rattle.pawn_terms.specs.Calendar.{IsRequestDay};
 ghost use Rattle.std.specs.Prelude.{◌≡◌, ◌↔◌, ◌/◌, ℕ, IfSome, IsSome, Option};
 
 use crate::words::Words;
@@ -91,14 +91,14 @@ fn day_of(reading: Option<u64>) -> Option<RequestDay>
 fn clock_day(seconds: u64) -> Option<RequestDay>
     ensures day { result ≡ clock_day seconds }
 {
-    let found = stamp_day(seconds / SECONDS_A_DAY);
+    let found = as_request_day(seconds / SECONDS_A_DAY);
     found
 }
 
 /// Returns the day with this number, if a request may have it.
-fn stamp_day(number: u64) -> Option<RequestDay>
+fn as_request_day(number: u64) -> Option<RequestDay>
     ensures day { IfSome result (λ day. day ≡ number) }
-    ensures succeeds { IsSome result ↔ IsStampDay number }
+    ensures succeeds { IsSome result ↔ IsRequestDay number }
 {
     let number = i32::try_from(number).ok()?;
     let day = Day::of_number(number).ok()?;

@@ -41,7 +41,7 @@ impl Settings {
         let Some(seed) = seed_of(seed.as_bytes()) else {
             return Err(SettingsFault::BadSeed);
         };
-        match key_of(files, key) {
+        match key_argument(files, key) {
             Ok(operator) => Ok(Settings {
                 day,
                 seed,
@@ -74,7 +74,7 @@ impl ServeSettings {
         let Some(port) = port_of(port.as_bytes()) else {
             return Err(SettingsFault::BadPort);
         };
-        match key_of(files, key) {
+        match key_argument(files, key) {
             Ok(operator) => Ok(ServeSettings { port, operator }),
             Err(fault) => Err(fault),
         }
@@ -140,7 +140,7 @@ fn seed_of(text: &[u8]) -> Option<[u8; 32]>
 }
 
 /// Returns the key that a text writes, or otherwise the key in the file at that path.
-fn key_of<F: KeyFiles>(files: &mut F, text: &str) -> Result<Secret, SettingsFault>
+fn key_argument<F: KeyFiles>(files: &mut F, text: &str) -> Result<Secret, SettingsFault>
     ensures key { GivesKey F.reads files.old files.new text.now result }
 {
     match Secret::of_text(text.as_bytes()) {

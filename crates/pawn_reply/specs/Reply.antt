@@ -48,7 +48,7 @@ done_text (Commanded number done) = commanded_text number done
 -- the whole reply
 abbrev pub out_text : Out → List ℕ
 out_text (Out.Done reply) = json_text 200 (done_text reply)
-out_text (Out.Refused why) = refused_text (book.book_refusal_code why) (book.book_refusal_name why) (option_map Total (book.total_told why))
+out_text (Out.Refused why) = refused_text (book.book_refusal_code why) (book.book_refusal_name why) (option_map Total (book.reported_total why))
 out_text (Out.Fault fault) = fault_text fault
 out_text (Out.Plain text) = reply_text 200 (codes "text/plain; charset=utf-8") text.items
 out_text (Out.Csv text) = reply_text 200 (codes "text/csv; charset=utf-8") text.items

@@ -89,7 +89,7 @@ pub are_ordered : (h : Host) → AreSound h → AreBooksOrdered h
 are_ordered h sound b k is = let s = (sound b k is).1 in record {
   pledges = s.rows.numbered;
   entries = each_weaker IsReachable (λ p. RiseFrom 0 p.entries)
-      (λ p standing. numbered_rise 1 0 p.entries (omega arith) standing.replayable.entered.numbered) k.pledges s.rows.reachable;
+      (λ p reaches. numbered_rise 1 0 p.entries (omega arith) reaches.replayable.entered.numbered) k.pledges s.rows.reachable;
   under = s.rows.under;
 }
 

@@ -6,7 +6,7 @@ pub mod Counter
 pub mod Differing
 pub mod Hosting
 pub mod ImportWrites
-pub mod Judging
+pub mod WithinLimit
 pub mod OurTables
 pub mod Places
 pub mod PledgeChanges

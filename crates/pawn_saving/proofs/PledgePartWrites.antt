@@ -4,7 +4,7 @@ use Rattle.pawn_saving.proofs.OurTables.{with_tables}
 use Rattle.pawn_saving.proofs.RowsInOrder.{nothing_put, reordered}
 use Rattle.pawn_saving.specs.Common.{Database, with_rows, ListsOurs}
 use Rattle.pawn_saving.specs.Putting.{beside, booking_under, entries_past, extensions_past, lists_past, row_under}
-use Rattle.pawn_saving.specs.Putting.{secrets_past, sides_of, totals_under, whole_pledge, with_sides}
+use Rattle.pawn_saving.specs.Putting.{secrets_past, related_of, totals_under, whole_pledge, with_related}
 use Rattle.pawn_saving.specs.declared.lengths.Lengths.{Lengths}
 use Rattle.pawn_tables.proofs.Basics.{IsPermutation-sym}
 use Rattle.pawn_tables.specs.Common.{Row, PledgeValue, Listed}
@@ -21,19 +21,19 @@ module _ (db : Database) (listed : Listed) (b n : ℕ) (p : PledgeValue) where
   lists_put l lists = with_tables lists lists.lists.tables
 
   -- the rows of which there is one at most
-  pub sides_put : ListsOurs db (with_rows (with_rows (with_rows listed pledges_tree (row_under b n p ∷ listed pledges_tree)) totals_tree
-      (totals_under b n p ∷ listed totals_tree)) bookings_tree (booking_under b n p ++ listed bookings_tree)) → ListsOurs db (beside (sides_of b n p) listed)
-  sides_put lists = with_tables lists lists.lists.tables
+  pub related_put : ListsOurs db (with_rows (with_rows (with_rows listed pledges_tree (row_under b n p ∷ listed pledges_tree)) totals_tree
+      (totals_under b n p ∷ listed totals_tree)) bookings_tree (booking_under b n p ++ listed bookings_tree)) → ListsOurs db (beside (related_of b n p) listed)
+  related_put lists = with_tables lists lists.lists.tables
 
   -- both
-  pub whole_put : ListsOurs db (beside (lists_past (record { entries = 0; secrets = 0; extensions = 0 }) b n p) (beside (sides_of b n p) listed))
+  pub whole_put : ListsOurs db (beside (lists_past (record { entries = 0; secrets = 0; extensions = 0 }) b n p) (beside (related_of b n p) listed))
       → ListsOurs db (beside (whole_pledge b n p) listed)
   whole_put lists = with_tables lists lists.lists.tables
 
   -- the rows of which there is one at most, where the pledge stood
-  pub sides_set : (others : Listed) → ListsOurs db (with_rows (with_rows (with_rows listed pledges_tree (row_under b n p ∷ others pledges_tree)) totals_tree
-      (totals_under b n p ∷ others totals_tree)) bookings_tree (booking_under b n p ++ others bookings_tree)) → ListsOurs db (with_sides b n p others listed)
-  sides_set others lists = with_tables lists lists.lists.tables
+  pub related_set : (others : Listed) → ListsOurs db (with_rows (with_rows (with_rows listed pledges_tree (row_under b n p ∷ others pledges_tree)) totals_tree
+      (totals_under b n p ∷ others totals_tree)) bookings_tree (booking_under b n p ++ others bookings_tree)) → ListsOurs db (with_related b n p others listed)
+  related_set others lists = with_tables lists lists.lists.tables
 
 -- ---- bookings
 

@@ -10,8 +10,8 @@ use Rattle.pawn_saving.proofs.RowsInOrder.{placed_parts}
 use Rattle.pawn_saving.specs.Common.{Database, Grows, Agreement, Continues, with_change, pledge_rows, AreSound}
 use Rattle.pawn_saving.specs.Common.{PutPledge, with_rows, ListsOurs}
 use Rattle.pawn_saving.specs.Counted.{IsWrittenPart, ListsHost}
-use Rattle.pawn_saving.specs.Putting.{AreSidesPut, beside, booking_under, entries_past, extensions_past, lists_past}
-use Rattle.pawn_saving.specs.Putting.{row_under, secrets_past, totals_under, whole_pledge, with_sides}
+use Rattle.pawn_saving.specs.Putting.{AreRelatedPut, beside, booking_under, entries_past, extensions_past, lists_past}
+use Rattle.pawn_saving.specs.Putting.{row_under, secrets_past, totals_under, whole_pledge, with_related}
 use Rattle.pawn_saving.specs.declared.lengths.Lengths.{Lengths}
 use Rattle.pawn_tables.specs.At.{at_pledge}
 use Rattle.pawn_tables.specs.Common.{get, Row, Entry, PledgeValue, Extension, Issued, BookValue, pledge_from, pledge_in}
@@ -111,8 +111,8 @@ module _ (h : Host) (b n : ℕ) (k : BookValue) (old p : PledgeValue) (is : get 
     old_named : old.agreement.number ≡ n
     old_named = number_in h b n old ordered (ap (λ o. pledge_in o n) is ∙ some)
 
-    pub old_sides : AreSidesPut b n old (listed_as h counted) others
-    old_sides = record {
+    pub old_related : AreRelatedPut b n old (listed_as h counted) others
+    old_related = record {
       row = record {
         split =
             subst (λ m. IsPermutation (of_pledges h pledge_listed) (row_under b m old ∷ rest h b n k p is pledge_listed)) old_named (beside_old pledge_listed);
@@ -138,7 +138,7 @@ module _ (h : Host) (b n : ℕ) (k : BookValue) (old p : PledgeValue) (is : get 
           ap (part (λ (q : PledgeValue). 1)) some in omega (arith, sum, one)
 
       renewed_same : AreSame (listed_as (changed h b n k p is) counted)
-          (beside (lists_past l b p.agreement.number p) (with_sides b p.agreement.number p others (listed_as h counted)))
+          (beside (lists_past l b p.agreement.number p) (with_related b p.agreement.number p others (listed_as h counted)))
       renewed_same = record {
         books = books_stay h b n k p is as_many;
         terms = rows_stay h b k is (next h b n k p is) terms_listed refl;
@@ -152,10 +152,10 @@ module _ (h : Host) (b n : ℕ) (k : BookValue) (old p : PledgeValue) (is : get 
       }
 
       pub renewed_written : (db : Database) (added : ℕ) → counted ≡ rows h → pledge_rows p ≡ pledge_rows old + added → ListsOurs db
-          (beside (lists_past l b n p) (with_sides b n p others (listed_as h counted))) → IsWrittenPart h (with_change h (PutPledge b n p)) db added
+          (beside (lists_past l b n p) (with_related b n p others (listed_as h counted))) → IsWrittenPart h (with_change h (PutPledge b n p)) db added
       renewed_written db added same more lists = let g = changed h b n k p is in
           let named : p.agreement.number ≡ n = as_before ∙ old_named in
-          let own = subst (λ m. ListsOurs db (beside (lists_past l b m p) (with_sides b m p others (listed_as h counted)))) (sym named) lists in
+          let own = subst (λ m. ListsOurs db (beside (lists_past l b m p) (with_related b m p others (listed_as h counted)))) (sym named) lists in
           subst (λ x. IsWrittenPart h x db added) (sym (is_changed h b n k p is)) (record {
             lists = subst (ListsHost db g) same (relisted db _ _ renewed_same own);
             grown = let sums = rows_put h b n k p is in let before : part pledge_rows (stood h b n k p is) ≡ pledge_rows old = ap (part pledge_rows) some in

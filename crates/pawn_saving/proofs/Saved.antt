@@ -3,9 +3,9 @@ use Rattle.one_table.proofs.Parts.{committed_rests, rests_open}
 use Rattle.pawn_book.specs.Keeping.{GoesOn, IsFitting, IsLeftBy, OfHost, Saves}
 use Rattle.pawn_saving.proofs.Basics.{clean_before}
 use Rattle.pawn_saving.proofs.Hosting.{held}
-use Rattle.pawn_saving.proofs.Judging.{limit_after}
+use Rattle.pawn_saving.proofs.WithinLimit.{limit_after}
 use Rattle.pawn_saving.specs.Common.{Database, CanSave, with_change, Change, SaveError}
-use Rattle.pawn_saving.specs.Counted.{CountJudged, WritesChange}
+use Rattle.pawn_saving.specs.Counted.{IsCounted, WritesChange}
 use Rattle.pawn_tables.specs.Common.{HasCleanDisk, State, Trees, Host, rows, IsSound, IsLent}
 use Rattle.pawn_tables.specs.Keeps.{HoldSound, IsWhole, Keeps, Leaves, keeping_by}
 use Rattle.pawn_tables.specs.OneHost.{StandForOne}
@@ -202,7 +202,7 @@ module _ {K : Type 0} (state : K → State) (old new : K) (begun lent : State) (
       ok = tt;
       full = λ full clean h sound k.
           let is : e ≡ Save.Full = (let s = full in cc) in
-          subst (λ x. CountJudged {T = T} (Err x) (StandsFor lent.now (with_change h change) × (rows (with_change h change) ≤ h.limit))
+          subst (λ x. IsCounted {T = T} (Err x) (StandsFor lent.now (with_change h change) × (rows (with_change h change) ≤ h.limit))
           (h.limit < rows (with_change h change))) is (wrote (clean_past after clean) was.within h sound (may (clean_begun clean) h sound k));
       err = λ clean h sound k. same clean h k;
       crash = λ clean h sound k left l. left_as h left e (record { trees = l.trees; left = left_before clean l.trees l.left; stands = l.stands });

@@ -10,7 +10,7 @@ pub use Rattle.pawn_book.specs.declared.change.Change.{Change}
 pub use Rattle.pawn_book.specs.declared.change.Change.TheVariants.{AddTerms, ImportBook, MakeBook, PutPledge}
 pub use Rattle.pawn_book.specs.declared.fault.SaveError.{SaveError}
 pub use Rattle.pawn_book.specs.declared.request.NewBook.{NewBook}
-pub use Rattle.pawn_book.specs.declared.rows.BookRows.{BookRows}
+pub use Rattle.pawn_book.specs.declared.book_rows.BookRows.{BookRows}
 pub use Rattle.pawn_pledge.specs.Growth.{Grows}
 pub use Rattle.pawn_pledge.specs.declared.record.Agreement.{Agreement}
 pub use Rattle.pawn_tables.specs.Ours.{AreLoose, ListsOurs}

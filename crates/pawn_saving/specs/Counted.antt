@@ -35,11 +35,11 @@ Counts old new by result =
     → IfOk result (λ fits. (IsTrue fits ↔ (counted + by ≤ g.limit)) × ListsHost new.now g (counted + by))
 
 -- P if the change is made, Q if the error is Full; other errors say nothing
-abbrev pub CountJudged : {T : Type 0} → Result T SaveError → Type 0 → Type 0 → Type 0
-CountJudged (Ok done) P Q = P
-CountJudged (Err Save.Full) P Q = Q
-CountJudged (Err Save.Memory) P Q = Unit {0}
-CountJudged (Err (Save.Store fault)) P Q = Unit {0}
+abbrev pub IsCounted : {T : Type 0} → Result T SaveError → Type 0 → Type 0 → Type 0
+IsCounted (Ok done) P Q = P
+IsCounted (Err Save.Full) P Q = Q
+IsCounted (Err Save.Memory) P Q = Unit {0}
+IsCounted (Err (Save.Store fault)) P Q = Unit {0}
 
 -- Within a transaction, while the disk returns what was written: for each sound host that an open store stands for, and
 -- in which the change can be saved. Ok: the tables stand for the changed host, which is within its limit. Full: it
@@ -47,4 +47,4 @@ CountJudged (Err (Save.Store fault)) P Q = Unit {0}
 abbrev pub WritesChange : {T : Type 0} → State → State → Change → Result T SaveError → Type 0
 WritesChange old new change result =
     HasCleanDisk new → IsTrue old.in_transaction → (h : Host) → IsSound h → (IsTrue old.is_open → CanSave h change × StandsFor old.now h)
-    → CountJudged result (StandsFor new.now (with_change h change) × (rows (with_change h change) ≤ h.limit)) (h.limit < rows (with_change h change))
+    → IsCounted result (StandsFor new.now (with_change h change) × (rows (with_change h change) ≤ h.limit)) (h.limit < rows (with_change h change))

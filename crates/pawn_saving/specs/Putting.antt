@@ -42,8 +42,8 @@ lists_past l b n p t =
     else []
 
 -- the single rows of the pledge (at most one in a table), by the tree of their table
-abbrev pub sides_of : ℕ → ℕ → PledgeValue → Listed
-sides_of b n p t =
+abbrev pub related_of : ℕ → ℕ → PledgeValue → Listed
+related_of b n p t =
     if t == pledges_tree then row_under b n p ∷ []
     else if t == bookings_tree then booking_under b n p
     else if t == totals_tree then totals_under b n p ∷ []
@@ -61,15 +61,15 @@ whole_pledge b n p t =
     else []
 
 -- the single rows of pledge n of book b are listed, and the other rows of these tables are not the pledge's
-pub record AreSidesPut (b n : ℕ) (p : PledgeValue) (listed others : Listed) : Type 0 where
+pub record AreRelatedPut (b n : ℕ) (p : PledgeValue) (listed others : Listed) : Type 0 where
   pub row : IsOnly (at_pledge b n) (listed pledges_tree) (row_under b n p) (others pledges_tree)
   pub totals : IsOnly (at_pledge b n) (listed totals_tree) (totals_under b n p) (others totals_tree)
   pub bookings : IsPermutation (listed bookings_tree) (booking_under b n p ++ others bookings_tree)
   pub no_booking : filter (at_pledge b n) (others bookings_tree) ≡ []
 
 -- the single rows of a pledge joined to the other rows of their tables; the other tables are unchanged
-abbrev pub with_sides : ℕ → ℕ → PledgeValue → Listed → Listed → Listed
-with_sides b n p others listed t =
+abbrev pub with_related : ℕ → ℕ → PledgeValue → Listed → Listed → Listed
+with_related b n p others listed t =
     if t == pledges_tree then row_under b n p ∷ others pledges_tree
     else if t == bookings_tree then booking_under b n p ++ others bookings_tree
     else if t == totals_tree then totals_under b n p ∷ others totals_tree
@@ -87,16 +87,16 @@ AddRows old new result more =
     HasCleanDisk new → IsTrue old.in_transaction → (listed : Listed) → ListsOurs old.now listed → OnOk result (ListsOurs new.now (beside more listed))
 
 -- the single rows of a pledge are added to their tables, if no booking of it is stored
-abbrev pub AddSides : {T E : Type 0} → State → State → Result T E → ℕ → ℕ → PledgeValue → Type 0
-AddSides old new result b n p =
+abbrev pub AddRelated : {T E : Type 0} → State → State → Result T E → ℕ → ℕ → PledgeValue → Type 0
+AddRelated old new result b n p =
     HasCleanDisk new → IsTrue old.in_transaction → (listed : Listed) → filter (at_pledge b n) (listed bookings_tree) ≡ [] → ListsOurs old.now listed
-    → OnOk result (ListsOurs new.now (beside (sides_of b n p) listed))
+    → OnOk result (ListsOurs new.now (beside (related_of b n p) listed))
 
 -- the single rows of a pledge replace those that it had before
-abbrev pub RenewSides : {T E : Type 0} → State → State → Result T E → ℕ → ℕ → PledgeValue → PledgeValue → Type 0
-RenewSides old new result b n before p =
-    HasCleanDisk new → IsTrue old.in_transaction → (listed others : Listed) → AreSidesPut b n before listed others → ListsOurs old.now listed
-    → OnOk result (ListsOurs new.now (with_sides b n p others listed))
+abbrev pub RenewRelated : {T E : Type 0} → State → State → Result T E → ℕ → ℕ → PledgeValue → PledgeValue → Type 0
+RenewRelated old new result b n before p =
+    HasCleanDisk new → IsTrue old.in_transaction → (listed others : Listed) → AreRelatedPut b n before listed others → ListsOurs old.now listed
+    → OnOk result (ListsOurs new.now (with_related b n p others listed))
 
 -- all rows of the pledge are added to their tables, if no booking of it is stored; the answer is how many of them are
 -- counted

@@ -11,8 +11,8 @@ use Rattle.std.specs.Prelude.{◌≡◌, ℕ, Bool, true, List, [], ◌∷◌, f
 use Rattle.std.specs.Prelude.{◌++◌}
 
 -- the row is added to those of a table
-abbrev pub Joins : {E : Type 0} → State → State → Result (Unit {0}) E → ℕ → Row → Type 0
-Joins old new result tree row =
+abbrev pub AddsRow : {E : Type 0} → State → State → Result (Unit {0}) E → ℕ → Row → Type 0
+AddsRow old new result tree row =
     HasCleanDisk new → IsTrue old.in_transaction → (listed : Listed) → ListsOurs old.now listed
     → OnOk result (ListsOurs new.now (with_rows listed tree (row ∷ listed tree)))
 
@@ -40,8 +40,8 @@ PutsOver old new result tree test before row =
     → OnOk result (ListsOurs new.now (with_rows listed tree (row ∷ others)))
 
 -- the rows are added to those of a table
-abbrev pub AllJoin : {E : Type 0} → State → State → Result (Unit {0}) E → ℕ → List Row → Type 0
-AllJoin old new result tree rows =
+abbrev pub AddsRows : {E : Type 0} → State → State → Result (Unit {0}) E → ℕ → List Row → Type 0
+AddsRows old new result tree rows =
     HasCleanDisk new → IsTrue old.in_transaction → (listed : Listed) → ListsOurs old.now listed
     → OnOk result (ListsOurs new.now (with_rows listed tree (rows ++ listed tree)))
 

@@ -1,6 +1,6 @@
 //! Writes the rows of a book and of its terms.
 ghost use Rattle.pawn_saving.specs.Common.{filled_book, made_book, BookRows};
-ghost use Rattle.pawn_saving.specs.Writing.{Joins, Replaces};
+ghost use Rattle.pawn_saving.specs.Writing.{AddsRow, Replaces};
 ghost use Rattle.pawn_tables.specs.At.{at_book};
 ghost use Rattle.pawn_tables.specs.Common.{state, Rates, PledgeValue, BookValue, Lends};
 ghost use Rattle.pawn_tables.specs.Rows.{book_row, number, terms_cells};
@@ -18,7 +18,7 @@ pub(crate) fn put_book<S: Alter>(
     book: u32,
     new_book: &NewBook,
 ) -> Result<(), KeepError>
-    ensures wrote { Joins (state S.Store tx.old.conn.now) (state S.Store tx.new.conn.now) result books_tree (book_row book (made_book new_book.now)) }
+    ensures wrote { AddsRow (state S.Store tx.old.conn.now) (state S.Store tx.new.conn.now) result books_tree (book_row book (made_book new_book.now)) }
     ensures lent { Lends S.Store tx.old.conn tx.new.conn (is_ok result) }
 {
     let key = new_book.key.word().to_be_bytes();
@@ -80,7 +80,8 @@ pub(crate) fn put_terms<S: Alter>(
     version: u32,
     rates: Rates,
 ) -> Result<(), KeepError>
-    ensures wrote { Joins (state S.Store tx.old.conn.now) (state S.Store tx.new.conn.now) result terms_tree (number book ∷ number version ∷ terms_cells rates) }
+    ensures wrote { AddsRow (state S.Store tx.old.conn.now) (state S.Store tx.new.conn.now) result terms_tree
+        (number book ∷ number version ∷ terms_cells rates) }
     ensures lent { Lends S.Store tx.old.conn tx.new.conn (is_ok result) }
 {
     let rate = in_32_bits(rates.rate)?;

@@ -9,10 +9,10 @@ ghost use Rattle.std.specs.Prelude.{◌≡◌, ◌∷◌, ◌+◌, ◌<◌, ◌^
 use one_table::ask;
 use pawn_book::KeepError;
 use pawn_tables::texts::{ADD_ROWS, READ_LIMIT};
-use pawn_tables::{REFUSED, in_32_bits, refused};
+use pawn_tables::{DATABASE_FAILED, in_32_bits, keeper_error};
 use sqlite::{Alter, Transaction, params};
 
-/// The stored limit on counted rows. `REFUSED` if it is missing or not less than 2^32.
+/// The stored limit on counted rows. `DATABASE_FAILED` if it is missing or not less than 2^32.
 fn limit_in<S: Alter>(tx: &mut Transaction<'_, S>) -> Result<u32, KeepError>
     ensures found { HasCleanDisk (state S.Store tx.new.conn.now) → IsTrue (state S.Store tx.old.conn.now).in_transaction
         → (listed : Listed) (counted limit : ℕ) → listed meta_tree ≡ meta_rows counted limit → ListsOurs (state S.Store tx.old.conn.now).now listed
@@ -22,14 +22,14 @@ fn limit_in<S: Alter>(tx: &mut Transaction<'_, S>) -> Result<u32, KeepError>
 {
     let rows = match ask(tx, READ_LIMIT, &[]) {
         Ok(rows) => rows,
-        Err(error) => return Err(refused(error)),
+        Err(error) => return Err(keeper_error(error)),
     };
     let [row, ..] = rows.as_slice() else {
-        return Err(REFUSED);
+        return Err(DATABASE_FAILED);
     };
     match row.get::<u64>(0) {
         Ok(limit) => in_32_bits(limit),
-        Err(error) => Err(refused(error)),
+        Err(error) => Err(keeper_error(error)),
     }
 }
 
@@ -46,11 +46,11 @@ fn count_up<S: Alter>(tx: &mut Transaction<'_, S>, by: u32) -> Result<u64, KeepE
 {
     let row = match tx.query_row(ADD_ROWS, params![by]) {
         Ok(row) => row,
-        Err(error) => return Err(refused(error)),
+        Err(error) => return Err(keeper_error(error)),
     };
     match row.get::<u64>(0) {
         Ok(now) => Ok(now),
-        Err(error) => Err(refused(error)),
+        Err(error) => Err(keeper_error(error)),
     }
 }
 

@@ -1,5 +1,5 @@
 //! Inserts an entry, a secret or an extension.
-ghost use Rattle.pawn_saving.specs.Writing.{Joins};
+ghost use Rattle.pawn_saving.specs.Writing.{AddsRow};
 ghost use Rattle.pawn_tables.specs.Common.{state, Lends};
 ghost use Rattle.pawn_tables.specs.Rows.{entry_cells, extension_cells, secret_cells, under};
 ghost use Rattle.pawn_tables.specs.Schema.{entries_tree, extensions_tree, secrets_tree};
@@ -17,7 +17,7 @@ pub(crate) fn put_entry<S: Alter>(
     number: u32,
     entry: &Entry,
 ) -> Result<(), KeepError>
-    ensures wrote { Joins (state S.Store tx.old.conn.now) (state S.Store tx.new.conn.now) result entries_tree (under book number (entry_cells entry.now)) }
+    ensures wrote { AddsRow (state S.Store tx.old.conn.now) (state S.Store tx.new.conn.now) result entries_tree (under book number (entry_cells entry.now)) }
     ensures lent { Lends S.Store tx.old.conn tx.new.conn (is_ok result) }
 {
     let seq = in_32_bits(entry.seq)?;
@@ -35,7 +35,7 @@ pub(crate) fn put_secret<S: Alter>(
     place: u32,
     issued: &Issued,
 ) -> Result<(), KeepError>
-    ensures wrote { Joins (state S.Store tx.old.conn.now) (state S.Store tx.new.conn.now) result secrets_tree
+    ensures wrote { AddsRow (state S.Store tx.old.conn.now) (state S.Store tx.new.conn.now) result secrets_tree
         (under book number (secret_cells place issued.now)) }
     ensures lent { Lends S.Store tx.old.conn tx.new.conn (is_ok result) }
 {
@@ -57,7 +57,7 @@ pub(crate) fn put_extension<S: Alter>(
     place: u32,
     extension: &Extension,
 ) -> Result<(), KeepError>
-    ensures wrote { Joins (state S.Store tx.old.conn.now) (state S.Store tx.new.conn.now) result extensions_tree
+    ensures wrote { AddsRow (state S.Store tx.old.conn.now) (state S.Store tx.new.conn.now) result extensions_tree
         (under book number (extension_cells place extension.now)) }
     ensures lent { Lends S.Store tx.old.conn tx.new.conn (is_ok result) }
 {

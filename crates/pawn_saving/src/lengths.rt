@@ -3,7 +3,7 @@ ghost use Rattle.pawn_saving.specs.Stored.{AreLengths};
 ghost use Rattle.std.specs.Prelude.{◌≡◌, Some, IfOk};
 
 use pawn_book::{KeepError, Pledge};
-use pawn_tables::REFUSED;
+use pawn_tables::DATABASE_FAILED;
 
 /// How many entries, secrets and extensions a pledge has.
 #[derive(Clone, Copy)]
@@ -13,13 +13,13 @@ pub(crate) struct Lengths {
     pub(crate) extensions: u32,
 }
 
-/// A length as the 32-bit number that a statement binds. `REFUSED` if it does not fit.
+/// A length as the 32-bit number that a statement binds. `DATABASE_FAILED` if it does not fit.
 pub(crate) fn length_in_32_bits(length: usize) -> Result<u32, KeepError>
     ensures value { IfOk result (λ n. n ≡ length) }
 {
     match u32::try_from(length) {
         Ok(n) => Ok(n),
-        Err(_) => Err(REFUSED),
+        Err(_) => Err(DATABASE_FAILED),
     }
 }
 

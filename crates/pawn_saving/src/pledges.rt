@@ -1,5 +1,5 @@
 //! Writes the single rows of a pledge: its own row, its booking and its totals.
-ghost use Rattle.pawn_saving.specs.Writing.{Joins, KeepsSchema, PutsOver, Replaces};
+ghost use Rattle.pawn_saving.specs.Writing.{AddsRow, KeepsSchema, PutsOver, Replaces};
 ghost use Rattle.pawn_tables.specs.At.{at_pledge};
 ghost use Rattle.pawn_tables.specs.Common.{state, Totals, PledgeValue, Booking, Lends};
 ghost use Rattle.pawn_tables.specs.Rows.{booking_cells, pledge_cells, totals_cells, under};
@@ -10,8 +10,8 @@ use pawn_book::{Booking, KeepError, Pledge};
 use pawn_debt::Totals;
 use pawn_tables::texts::{PUT_BOOKING, PUT_PLEDGE, PUT_TOTALS, SET_PLEDGE, SET_TOTALS};
 use pawn_tables::{
-    REFUSED, agreed_value, closed_amount, closed_day, closed_number, flag_number, in_32_bits,
-    kind_number, state_number, write,
+    DATABASE_FAILED, agreed_value, closed_amount, closed_day, closed_number, flag_number,
+    in_32_bits, kind_number, state_number, write,
 };
 use sqlite::{Alter, Transaction, params};
 
@@ -22,7 +22,7 @@ pub(crate) fn put_row<S: Alter>(
     number: u32,
     pledge: &Pledge,
 ) -> Result<(), KeepError>
-    ensures wrote { Joins (state S.Store tx.old.conn.now) (state S.Store tx.new.conn.now) result pledges_tree (under book number (pledge_cells pledge.now)) }
+    ensures wrote { AddsRow (state S.Store tx.old.conn.now) (state S.Store tx.new.conn.now) result pledges_tree (under book number (pledge_cells pledge.now)) }
     ensures lent { Lends S.Store tx.old.conn tx.new.conn (is_ok result) }
 {
     let agreement = pledge.agreement();
@@ -100,7 +100,7 @@ fn charges_of(millionths: u64) -> Result<i64, KeepError>
 {
     match i64::try_from(millionths) {
         Ok(n) => Ok(n),
-        Err(_) => Err(REFUSED),
+        Err(_) => Err(DATABASE_FAILED),
     }
 }
 
@@ -112,7 +112,7 @@ pub fn put_totals<S: Alter>(
     number: u32,
     totals: &Totals,
 ) -> Result<(), KeepError>
-    ensures wrote { Joins (state S.Store tx.old.conn.now) (state S.Store tx.new.conn.now) result totals_tree (under book number (totals_cells totals.now)) }
+    ensures wrote { AddsRow (state S.Store tx.old.conn.now) (state S.Store tx.new.conn.now) result totals_tree (under book number (totals_cells totals.now)) }
     ensures schema { KeepsSchema (state S.Store tx.old.conn.now) (state S.Store tx.new.conn.now) result }
     ensures lent { Lends S.Store tx.old.conn tx.new.conn (is_ok result) }
 {

@@ -1,6 +1,6 @@
 //! Writes a pledge that is not stored yet, and the parts that it shares with one that is.
 ghost use Rattle.pawn_saving.specs.Common.{pledge_rows};
-ghost use Rattle.pawn_saving.specs.Putting.{AddRows, AddSides, AddsPledge, PutsFor, lists_past};
+ghost use Rattle.pawn_saving.specs.Putting.{AddRows, AddRelated, AddsPledge, PutsFor, lists_past};
 ghost use Rattle.pawn_saving.specs.Writing.{Carries};
 ghost use Rattle.pawn_tables.specs.At.{at_pledge};
 ghost use Rattle.pawn_tables.specs.Common.{state, Booking, Lends};
@@ -9,7 +9,7 @@ ghost use Rattle.pawn_tables.specs.Schema.{bookings_tree};
 ghost use Rattle.std.specs.Prelude.{◌≡◌, ◌+◌, if◌then◌else◌, None, Option, IfOk, drop, is_ok};
 
 use crate::lengths::{Lengths, lengths_of};
-use crate::lists::{next_place, put_entries, put_extensions, put_secrets};
+use crate::list_inserts::{next_place, put_entries, put_extensions, put_secrets};
 use crate::pledges::{put_booking, put_row, put_totals};
 use pawn_book::{Booking, KeepError, Pledge};
 use pawn_tables::in_32_bits;
@@ -35,7 +35,7 @@ pub(crate) fn rows_within(lengths: Lengths, is_booked: bool) -> Result<u32, Keep
 }
 
 /// How many counted rows this pledge has.
-pub(crate) fn rows_of_pledge(pledge: &Pledge) -> Result<u32, KeepError>
+pub(crate) fn row_count(pledge: &Pledge) -> Result<u32, KeepError>
     ensures value { IfOk result (λ n. n ≡ pledge_rows pledge.now) }
 {
     let lengths = lengths_of(pledge)?;
@@ -93,13 +93,13 @@ pub(crate) fn put_any_booking<S: Alter>(
 
 /// Inserts the single rows of a new pledge: its own, its totals and its booking, if it has one.
 #[tactic(auto, using(crate::proofs::Basics::lent_then, crate::proofs::RowsInOrder::lent_carried, crate::proofs::RowsInOrder::both_carried))]
-pub(crate) fn put_sides<S: Alter>(
+pub(crate) fn put_related<S: Alter>(
     tx: &mut Transaction<'_, S>,
     book: u32,
     number: u32,
     pledge: &Pledge,
 ) -> Result<(), KeepError>
-    ensures wrote { AddSides (state S.Store tx.old.conn.now) (state S.Store tx.new.conn.now) result book number pledge.now }
+    ensures wrote { AddRelated (state S.Store tx.old.conn.now) (state S.Store tx.new.conn.now) result book number pledge.now }
     ensures lent { Lends S.Store tx.old.conn tx.new.conn (is_ok result) }
 {
     put_row(tx, book, number, pledge)?;
@@ -118,8 +118,8 @@ pub(crate) fn put_whole<S: Alter>(
     ensures wrote { AddsPledge (state S.Store tx.old.conn.now) (state S.Store tx.new.conn.now) result book number pledge.now }
     ensures lent { Lends S.Store tx.old.conn tx.new.conn (is_ok result) }
 {
-    let added = rows_of_pledge(pledge)?;
-    put_sides(tx, book, number, pledge)?;
+    let added = row_count(pledge)?;
+    put_related(tx, book, number, pledge)?;
     put_lists(
         tx,
         book,

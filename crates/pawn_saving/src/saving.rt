@@ -9,9 +9,9 @@ ghost use Rattle.pawn_book.specs.declared.fault.SaveError.TheVariants as Save;
 
 use crate::changes::{add_terms, make_book, put_pledge};
 use crate::counting::count_within;
-use crate::importing::import_book;
+use crate::import_writes::import_book;
 use pawn_book::{Change, KeepError, SaveError, StoreFault};
-use pawn_tables::refused;
+use pawn_tables::keeper_error;
 use sqlite::{Alter, Connection, Transaction};
 
 /// A keeper's error as the error of a save. It is never `Full`.
@@ -82,7 +82,7 @@ pub fn save<S: Alter>(conn: &mut Connection<S>, change: &Change) -> Result<(), S
     match write_change(&mut tx, change) {
         Ok(()) => match tx.commit() {
             Ok(()) => Ok(()),
-            Err(error) => Err(unsaved(refused(error))),
+            Err(error) => Err(unsaved(keeper_error(error))),
         },
         Err(error) => {
             tx.rollback();

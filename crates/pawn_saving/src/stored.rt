@@ -26,7 +26,7 @@ pub(crate) struct Stored {
 }
 
 /// Whether an element is stored at a place of a pledge's list. The first place is 1.
-fn stands_at<S: Alter>(
+fn is_stored_at<S: Alter>(
     tx: &mut Transaction<'_, S>,
     list: PledgeList,
     book: u32,
@@ -59,7 +59,7 @@ fn length_within<S: Alter>(
 {
     let mut length = most;
     while length > 0 {
-        if stands_at(tx, list, book, number, length)? {
+        if is_stored_at(tx, list, book, number, length)? {
             return Ok(length);
         }
         length -= 1;

@@ -2,7 +2,7 @@
 ghost use Rattle.pawn_book.specs.HostStep.{Host};
 ghost use Rattle.pawn_book.specs.Limits.{most_rows};
 ghost use Rattle.pawn_opening.specs.Closed.{AreClosedFor, IsLeftUnclosed};
-ghost use Rattle.pawn_opening.specs.FilesStand.{IsBlank, OpensFound, RefusesHeld, StandsIn};
+ghost use Rattle.pawn_opening.specs.FilesStand.{IsBlank, OpensFound, RefusesContent, StandsIn};
 ghost use Rattle.pawn_opening.specs.Opened.{OpensAs, empty_host};
 ghost use Rattle.pawn_opening.specs.Refusing.{IsStoreFault};
 ghost use Rattle.pawn_store.specs.Running.{Reopens};
@@ -60,7 +60,7 @@ pub fn keep_at_path<S: Start>(
     ensures reopens { IfOk result (λ keep. HasCleanDisk (file_state keep.conn) → Reopens (image_at S.Start) (file_state keep.conn)) }
     ensures unopened { IfErr result (λ e. e.1 ≡ None → IsStoreFault e.0) }
     ensures refuses { IfErr result (λ e. IfSome e.1
-        (λ rest. (files : _) × IsFresh true files.log × IsFresh false files.db × (IsCleanLeft rest → RefusesHeld (image_at S.Start) files limit e.0 rest))) }
+        (λ rest. (files : _) × IsFresh true files.log × IsFresh false files.db × (IsCleanLeft rest → RefusesContent (image_at S.Start) files limit e.0 rest))) }
 {
     let conn = open_path(rt, path, start, limit)?;
     match TableKeep::over(rt.alloc(), conn) {

@@ -2,7 +2,7 @@
 //! exist or neither does, and every row is there. Each call of either file is such a stop in turn, until an opening
 //! meets none.
 use crate::disks::{Disks, Failing, Visit, crashed, disks, go_on, looked_at, until_whole, visited};
-use crate::move_tests::{BARE, COUNTS, INDEXES, judged};
+use crate::move_tests::{BARE, COUNTS, INDEXES, checked};
 use pawn_check::{CheckFault, Counts};
 use sqlite::{Alter, Connection};
 use std::alloc::Global;
@@ -58,19 +58,19 @@ fn run_on(alloc: Global, disks: Disks) -> Option<Run> {
 
 /// Counts the indexes of a store, and checks the store.
 #[derive(Drop)]
-struct Judging {
+struct Checking {
     alloc: Global,
 }
 
-impl Visit for Judging {
+impl Visit for Checking {
     type Found = (usize, Result<Counts, CheckFault>);
 
     fn visit<S: Alter + Drop>(
         &self,
         conn: Connection<S>,
     ) -> Option<((usize, Result<Counts, CheckFault>), S)> {
-        let (indexes, judged, store) = judged(self.alloc, conn)?;
-        Some(((indexes, judged), store))
+        let (indexes, checked, store) = checked(self.alloc, conn)?;
+        Some(((indexes, checked), store))
     }
 }
 
@@ -80,7 +80,7 @@ fn stops(rt: &impl Abort, alloc: Global, failing: Failing, calls: u64) -> Result
         return Ok(false);
     };
     let (is_opened, is_whole) = (run.is_opened, run.is_whole);
-    let (indexes, judged) = looked_at(alloc, run.left, &Judging { alloc }).ok_or("opened again")?;
+    let (indexes, checked) = looked_at(alloc, run.left, &Checking { alloc }).ok_or("opened again")?;
     if is_opened {
         assert_eq!(rt; indexes, INDEXES, "{calls} calls of {failing:?}");
     } else {
@@ -89,7 +89,7 @@ fn stops(rt: &impl Abort, alloc: Global, failing: Failing, calls: u64) -> Result
             "{calls} calls of {failing:?}"
         );
     }
-    assert!(rt; judged == Ok(COUNTS), "{calls} calls of {failing:?}");
+    assert!(rt; checked == Ok(COUNTS), "{calls} calls of {failing:?}");
     Ok(is_whole)
 }
 

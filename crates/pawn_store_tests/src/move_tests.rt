@@ -109,14 +109,14 @@ fn run_on(alloc: Global, disks: Disks, older: Older) -> Option<Run> {
 pub const INDEXES: usize = 12;
 
 /// Returns the number of indexes in a store, the result of a check, and the store. `None` if the store has no keeper.
-pub fn judged<S: Alter + Drop>(
+pub fn checked<S: Alter + Drop>(
     alloc: Global,
     conn: Connection<S>,
 ) -> Option<(usize, Result<Counts, CheckFault>, S)> {
     let indexes = conn.schema().indexes.as_slice().len();
     let mut keep = TableKeep::over(alloc, conn).ok()?;
-    let judged = check(&mut keep);
-    Some((indexes, judged, keep.into_connection().into_store()))
+    let checked = check(&mut keep);
+    Some((indexes, checked, keep.into_connection().into_store()))
 }
 
 /// What is found on the disks: the number of the schema, the result of another migration, the number of indexes, and
@@ -126,16 +126,16 @@ struct Found {
     number: u32,
     again: Moved,
     indexes: usize,
-    judged: Result<Counts, CheckFault>,
+    checked: Result<Counts, CheckFault>,
 }
 
 /// Migrates a store once more, and checks it.
 #[derive(Drop)]
-struct Judging {
+struct Checking {
     alloc: Global,
 }
 
-impl Visit for Judging {
+impl Visit for Checking {
     type Found = Found;
 
     fn visit<S: Alter + Drop>(&self, mut conn: Connection<S>) -> Option<(Found, S)> {
@@ -144,12 +144,12 @@ impl Visit for Judging {
         }
         let number = schema_of(&mut conn).ok()?;
         let again = migrate(self.alloc, &mut conn);
-        let (indexes, judged, store) = judged(self.alloc, conn)?;
+        let (indexes, checked, store) = checked(self.alloc, conn)?;
         let found = Found {
             number,
             again,
             indexes,
-            judged,
+            checked,
         };
         Some((found, store))
     }
@@ -177,7 +177,7 @@ fn agrees(rt: &impl Abort, older: Older, end: Moved, found: Found, failing: Fail
         "{calls} calls of {failing:?}"
     );
     assert_eq!(rt; found.indexes, INDEXES, "{calls} calls of {failing:?}");
-    assert!(rt; found.judged == Ok(COUNTS), "{calls} calls of {failing:?}");
+    assert!(rt; found.checked == Ok(COUNTS), "{calls} calls of {failing:?}");
 }
 
 /// Makes a file stop at this call, and checks what is found. Returns whether no call failed.
@@ -192,7 +192,7 @@ fn stops(
         return Ok(false);
     };
     let (end, is_whole) = (run.end, run.is_whole);
-    let found = looked_at(alloc, run.left, &Judging { alloc }).ok_or("opened again")?;
+    let found = looked_at(alloc, run.left, &Checking { alloc }).ok_or("opened again")?;
     agrees(rt, older, end, found, failing, calls);
     Ok(is_whole)
 }

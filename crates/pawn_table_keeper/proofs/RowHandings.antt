@@ -13,7 +13,7 @@ use Rattle.pawn_table_keeper.proofs.TooMany.{too_many}
 use Rattle.pawn_table_keeper.specs.Common.{NoRecord}
 use Rattle.pawn_table_keeper.specs.Common.{BookValue, Flow, Go, HandsOver, Host, IsShare, IsUnsoundAt, KeepError}
 use Rattle.pawn_table_keeper.specs.Common.{Keeping, PledgeValue, Reads, Stop, call_end, flat_map, get, pledge_in, pledges_of}
-use Rattle.pawn_table_keeper.specs.Exports.{AddsKind, AreKindPages, number_rows, numbers_from, rows_of_number, told_rows}
+use Rattle.pawn_table_keeper.specs.Exports.{AddsKind, AreKindPages, number_rows, numbers_from, rows_of_number, page_or_book_rows}
 use Rattle.pawn_table_keeper.specs.Handing.{HandsRows, flow_of}
 use Rattle.pawn_pledge.specs.declared.record.Booking.{Booking}
 use Rattle.pawn_tables.proofs.Basics.{filter-append, length-map, map-append, nat_tests}
@@ -85,7 +85,7 @@ module _ {K V T : Type 0} (k : Keeping K) (step : V → T → Flow → V → Typ
 -- ---- the rows that pages tell
 
 module _ (above n : ℕ) (book : Option BookValue) (low : above < n) where
-  page_told : (page : KindPage) → IsKindPage above book page → told_rows n book page ≡ rows_of_kind page.kind (pledge_in book n)
+  page_told : (page : KindPage) → IsKindPage above book page → page_or_book_rows n book page ≡ rows_of_kind page.kind (pledge_in book n)
   page_told page is = go (nat_le n page.whole) refl where
     go : (c : Bool) → nat_le n page.whole ≡ c → cond c (own_items n page.items.items) (rows_of_kind page.kind (pledge_in book n))
         ≡ rows_of_kind page.kind (pledge_in book n)
@@ -93,7 +93,7 @@ module _ (above n : ℕ) (book : Option BookValue) (low : above < n) where
     go false past = refl
 
   pages_told : (pages : List KindPage) → Each (IsKindPage above book) pages
-      → flat_map (told_rows n book) pages ≡ flat_map (λ kind. rows_of_kind kind (pledge_in book n)) (map (λ (p : KindPage). p.kind) pages)
+      → flat_map (page_or_book_rows n book) pages ≡ flat_map (λ kind. rows_of_kind kind (pledge_in book n)) (map (λ (p : KindPage). p.kind) pages)
   pages_told [] all = refl
   pages_told (page ∷ pages) all = λ i. page_told page all.0 i ++ pages_told pages all.1 i
 
@@ -103,7 +103,7 @@ module _ (above n : ℕ) (book : Option BookValue) (low : above < n) where
       l))))
       (append-nil (kind_rows RowKind.Booking p))
 
-  pub pledge_told : (pages : List KindPage) → AreKindPages row_kinds above book pages → flat_map (told_rows n book) pages ≡ number_rows book n
+  pub pledge_told : (pages : List KindPage) → AreKindPages row_kinds above book pages → flat_map (page_or_book_rows n book) pages ≡ number_rows book n
   pledge_told pages are = pages_told pages are.each ∙ ap (flat_map (λ kind. rows_of_kind kind (pledge_in book n))) are.kinds_are ∙ kinds_told (pledge_in book n)
 
 -- ---- the rows of a range of numbers
@@ -232,18 +232,19 @@ module _ {K V : Type 0} (k : Keeping K) (step : V → RowItem → Flow → V →
       ∙ sym (flat_map-append (number_rows (book h)) (numbers_from above n) ((above + (n + 1)) ∷ []))
       ∙ ap (flat_map (number_rows (book h))) (sym (numbers_more above n))
 
-  one : (r : Result Flow KeepError) → HandsRows k IsUnsound step b c u w r (λ h. flat_map (told_rows (above + (n + 1)) (book h)) pages)
+  one : (r : Result Flow KeepError) → HandsRows k IsUnsound step b c u w r (λ h. flat_map (page_or_book_rows (above + (n + 1)) (book h)) pages)
       → HandsRows k IsUnsound step a c v w r (λ h. upto n h ++ number_rows (book h) (above + (n + 1)))
-  one r here = hands_then_by k step a b c v u w r (upto n) (λ h. flat_map (told_rows (above + (n + 1)) (book h)) pages)
+  one r here = hands_then_by k step a b c v u w r (upto n) (λ h. flat_map (page_or_book_rows (above + (n + 1)) (book h)) pages)
       (λ h. number_rows (book h) (above + (n + 1))) read (λ h are. pledge_told above (above + (n + 1)) (book h) (omega arith) pages are) before here
 
-  pub range_go : HandsRows k IsUnsound step b c u w (Ok Go) (λ h. flat_map (told_rows (above + (n + 1)) (book h)) pages)
+  pub range_go : HandsRows k IsUnsound step b c u w (Ok Go) (λ h. flat_map (page_or_book_rows (above + (n + 1)) (book h)) pages)
       → HandsRows k IsUnsound step a c v w (Ok Go) (upto (n + 1))
   range_go here = hands_as k step a c v w (Ok Go) (λ h. upto n h ++ number_rows (book h) (above + (n + 1))) (upto (n + 1)) more (one (Ok Go) here)
 
   -- it stops, or the call fails
   pub range_end : (m : ℕ) (r s : Result Flow KeepError) → n + 1 ≤ m → (r ≡ Ok Go → ⊥) → s ≡ r
-      → HandsRows k IsUnsound step b c u w r (λ h. flat_map (told_rows (above + (n + 1)) (book h)) pages) → HandsRows k IsUnsound step a c v w s (upto m)
+      → HandsRows k IsUnsound step b c u w r (λ h. flat_map (page_or_book_rows (above + (n + 1)) (book h)) pages)
+      → HandsRows k IsUnsound step a c v w s (upto m)
   range_end m r s few ended same here = let left : (n + 1) + (m - (n + 1)) ≡ m = omega (arith, few) in
       let rest : Host → List RowItem = λ h. flat_map (number_rows (book h)) (numbers_from (above + (n + 1)) (m - (n + 1))) in
       hands_as k step a c v w s (λ h. (upto n h ++ number_rows (book h) (above + (n + 1))) ++ rest h) (upto m) (λ h. ap (λ l. l ++ rest h) (more h)
@@ -289,8 +290,8 @@ no_rows None said = refl
 no_rows (Some k) said = absurd (let e = said in cc)
 
 -- past the page's end the rows are those of the book
-pub told_past : (n : ℕ) (book : Option BookValue) (page : KindPage) → nat_le n page.whole ≡ false → rows_of_kind page.kind (pledge_in book n) ≡ told_rows n
-    book page
+pub told_past : (n : ℕ) (book : Option BookValue) (page : KindPage) → nat_le n page.whole ≡ false
+    → rows_of_kind page.kind (pledge_in book n) ≡ page_or_book_rows n book page
 told_past n book page past = sym (ap (λ c. cond c (own_items n page.items.items) (rows_of_kind page.kind (pledge_in book n))) past)
 
 module _ {K V : Type 0} (k : Keeping K) (step : V → RowItem → Flow → V → Type 0) {IsUnsound : Host → Type 0} (book : Host → Option BookValue) (n : ℕ) (a b : K)

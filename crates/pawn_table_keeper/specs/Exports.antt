@@ -9,8 +9,8 @@ use Rattle.pawn_base.specs.Lists.{Each}
 use Rattle.std.specs.Prelude.{ℕ, zero, suc, ◌+◌, ◌≡◌, if◌then◌else◌, nat_le, List, [], ◌∷◌, ◌++◌, map, Option, Some, None}
 
 -- the rows of the page's kind of pledge n: those of the page if it is whole so far, or else those of the book
-abbrev pub told_rows : ℕ → Option BookValue → KindPage → List RowItem
-told_rows n book page = if nat_le n page.whole then own_items n page.items.items else rows_of_kind page.kind (pledge_in book n)
+abbrev pub page_or_book_rows : ℕ → Option BookValue → KindPage → List RowItem
+page_or_book_rows n book page = if nat_le n page.whole then own_items n page.items.items else rows_of_kind page.kind (pledge_in book n)
 
 -- the rows of the pledge of a number, if there is one
 abbrev pub rows_of_number : Option PledgeValue → List RowItem

@@ -6,7 +6,7 @@ ghost use Rattle.std.specs.Prelude.{◌≡◌, IfErr, IfOk, IsTrue, false, unwra
 
 mod exports;
 mod handing;
-mod lists;
+mod list_pages;
 mod sheets;
 
 use one_table::know_settled;

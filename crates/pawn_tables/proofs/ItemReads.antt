@@ -2,9 +2,9 @@
 use Rattle.pawn_book.specs.Items.{item_number}
 use Rattle.pawn_book.specs.declared.items.RowItem.{RowItem}
 use Rattle.pawn_tables.specs.Common.{Booking, Entry, Extension, IsDayNumber, IsWord, Issued, KeepError, PledgeItem, Row}
-use Rattle.pawn_tables.specs.Entries.{IsEntryTold}
+use Rattle.pawn_tables.specs.Entries.{IsEntryDecodable}
 use Rattle.pawn_tables.specs.Finding.{IsRead}
-use Rattle.pawn_tables.specs.Kinds.{AreCellsTold, CanBeRead, IsOwnTold, cells_of, item_cells, row_kind}
+use Rattle.pawn_tables.specs.Kinds.{AreCellsDecodable, CanBeRead, IsOwnDecodable, cells_of, item_cells, row_kind}
 use Rattle.pawn_tables.specs.Kinds.{own_cells}
 use Rattle.pawn_tables.specs.Rows.{booking_cells, entry_cells, extension_cells, number, secret_cells}
 use Rattle.pawn_tables.specs.declared.kinds.RowKind.{RowKind}
@@ -13,10 +13,10 @@ use Rattle.std.proofs.Common.{◌≡◌, ◌++◌, ◌∷◌, ◌∙◌, [], ℕ
 -- what was read of a row of this kind and this pledge
 abbrev pub ReadsKind : RowKind → ℕ → Row → Result RowItem KeepError → Type 0
 ReadsKind kind n row r = (i : RowItem) (more : Row) → row_kind i ≡ kind → item_number i ≡ n → CanBeRead i → row ≡ item_cells i ++ more
-    → IsRead r i (AreCellsTold i)
+    → IsRead r i (AreCellsDecodable i)
 
 module _ (n : ℕ) (row : Row) (r : Result RowItem KeepError) where
-  pub own_read : ((q : PledgeItem) (more : Row) → q.number ≡ n → row ≡ own_cells q ++ more → IsRead r (RowItem.Pledge q) (IsOwnTold q))
+  pub own_read : ((q : PledgeItem) (more : Row) → q.number ≡ n → row ≡ own_cells q ++ more → IsRead r (RowItem.Pledge q) (IsOwnDecodable q))
       → ReadsKind RowKind.Pledge n row r
   own_read read (RowItem.Pledge q) more kind at word is = read q more at is
   own_read read (RowItem.Secret m place i) more kind at word is = absurd (let e = kind in cc)
@@ -33,10 +33,11 @@ module _ (n : ℕ) (row : Row) (r : Result RowItem KeepError) where
   secret_read read (RowItem.Extension m place e) more kind at word is = absurd (let e = kind in cc)
   secret_read read (RowItem.Booking m b) more kind at word is = absurd (let e = kind in cc)
 
-  pub entry_read : ((e : Entry) (more : Row) → row ≡ entry_cells e ++ more → IsRead r (RowItem.Entry n e) (IsEntryTold e)) → ReadsKind RowKind.Entry n row r
+  pub entry_read : ((e : Entry) (more : Row) → row ≡ entry_cells e ++ more → IsRead r (RowItem.Entry n e) (IsEntryDecodable e))
+      → ReadsKind RowKind.Entry n row r
   entry_read read (RowItem.Pledge q) more kind at word is = absurd (let e = kind in cc)
   entry_read read (RowItem.Secret m place i) more kind at word is = absurd (let e = kind in cc)
-  entry_read read (RowItem.Entry m e) more kind at word is = subst (λ k. IsRead r (RowItem.Entry k e) (IsEntryTold e)) (sym at) (read e more is)
+  entry_read read (RowItem.Entry m e) more kind at word is = subst (λ k. IsRead r (RowItem.Entry k e) (IsEntryDecodable e)) (sym at) (read e more is)
   entry_read read (RowItem.Extension m place e) more kind at word is = absurd (let e = kind in cc)
   entry_read read (RowItem.Booking m b) more kind at word is = absurd (let e = kind in cc)
 

@@ -8,10 +8,10 @@ use Rattle.pawn_tables.specs.Common.{get, State, Rates, PledgeValue, BookValue, 
 use Rattle.pawn_tables.specs.Common.{extensions_of, secrets_of, terms_of, terms_at, IsUnsoundAt, KeepError, IsLent}
 use Rattle.pawn_tables.specs.Common.{HasTermsOf, Rests}
 use Rattle.pawn_tables.specs.Finding.{FindsIn, IsRead}
-use Rattle.pawn_tables.specs.PledgeRows.{AreLists, AreSides, AreTold, booking_of, row_of, totals_in}
+use Rattle.pawn_tables.specs.PledgeRows.{AreLists, AreRelated, AreTold, booking_of, row_of, totals_in}
 use Rattle.pawn_tables.specs.StandsFor.{AreBooksOrdered, AreStorable}
 use Rattle.pawn_tables.specs.declared.joining.Lists.{Lists}
-use Rattle.pawn_tables.specs.declared.joining.RowsBeside.{RowsBeside}
+use Rattle.pawn_tables.specs.declared.joining.RelatedRows.{RelatedRows}
 use Rattle.pawn_tables.specs.declared.joining.StoredPledge.{StoredPledge}
 use Rattle.std.proofs.Common.{◌≡◌, ◌≤◌, ◌<◌, ◌^◌, ℕ, zero, suc, List, [], ◌∷◌, length, Option, Some, None, Result, Ok}
 use Rattle.std.proofs.Common.{Err, refl, sym, ap, subst, ◌∙◌, arith, IfSome, is_ok, option_map}
@@ -30,12 +30,12 @@ version_fits h b n p ordered storable is = inside (get h.books b) refl (under_in
   inside (Some k) e at = let low = under_length k.terms p.agreement.version p.agreement.terms at in let few = (storable b k e).versions in
       omega (arith, low, few)
 
-pub sides_told : (h : Host) (b n v : ℕ) (s : RowsBeside) → AreBooksOrdered h → s.terms ≡ terms_at (terms_of (get h.books b)) v
+pub related_told : (h : Host) (b n v : ℕ) (s : RelatedRows) → AreBooksOrdered h → s.terms ≡ terms_at (terms_of (get h.books b)) v
     → s.booking ≡ booking_of (pledge_in (get h.books b) n) → s.totals ≡ totals_in (pledge_in (get h.books b) n)
-    → IfSome (pledge_in (get h.books b) n) (λ p. v ≡ p.agreement.version → AreSides s p)
-sides_told h b n v s ordered terms booking totals = go (pledge_in (get h.books b) n) refl booking totals where
+    → IfSome (pledge_in (get h.books b) n) (λ p. v ≡ p.agreement.version → AreRelated s p)
+related_told h b n v s ordered terms booking totals = go (pledge_in (get h.books b) n) refl booking totals where
   go : (o : Option PledgeValue) → pledge_in (get h.books b) n ≡ o → s.booking ≡ booking_of o → s.totals ≡ totals_in o
-      → IfSome o (λ p. v ≡ p.agreement.version → AreSides s p)
+      → IfSome o (λ p. v ≡ p.agreement.version → AreRelated s p)
   go None is booking totals = tt
   go (Some p) is booking totals = λ version. record {
     terms = terms ∙ ap (terms_at (terms_of (get h.books b))) version ∙ under_in h b n p ordered is;
@@ -67,23 +67,23 @@ none_under s0 s1 (Ok x) b v big lent f clean within h stood = let found = f clea
       inside None e storable = past_terms [] v (omega (arith, big))
       inside (Some k) e storable = let few = (storable b k e).versions in past_terms k.terms v (omega (arith, few, big))
 
--- what the row and the sides tell together
+-- what the row and the related tell together
 pub told_of : (h : Host) (b n v : ℕ) (p : PledgeValue) (t : StoredPledge) → pledge_in (get h.books b) n ≡ Some p → t.row ≡ row_of p → v ≡ t.row.version
-    → IfSome (pledge_in (get h.books b) n) (λ q. v ≡ q.agreement.version → AreSides t.sides q) → AreTold (Some t) (pledge_in (get h.books b) n)
-told_of h b n v p t at of version sides = let beside = subst (λ o. IfSome o (λ q. v ≡ q.agreement.version → AreSides t.sides q)) at sides in
+    → IfSome (pledge_in (get h.books b) n) (λ q. v ≡ q.agreement.version → AreRelated t.related q) → AreTold (Some t) (pledge_in (get h.books b) n)
+told_of h b n v p t at of version related = let beside = subst (λ o. IfSome o (λ q. v ≡ q.agreement.version → AreRelated t.related q)) at related in
     subst (AreTold (Some t)) (sym at) (of, beside (version ∙ ap (λ (r : PledgeRow). r.version) of))
 
 -- the same, with terms that are known of another pledge under the same version
-pub known_told : (h : Host) (b n : ℕ) (row : PledgeRow) (sides : RowsBeside) (terms : Rates) (known : BriefFields) → AreBooksOrdered h
+pub known_told : (h : Host) (b n : ℕ) (row : PledgeRow) (related : RelatedRows) (terms : Rates) (known : BriefFields) → AreBooksOrdered h
     → Some row ≡ option_map row_of (pledge_in (get h.books b) n) → (terms ≡ known.agreement.terms) × (row.version ≡ known.agreement.version)
-    → (sides.terms ≡ Some terms) × (sides.booking ≡ booking_of (pledge_in (get h.books b) n)) × (sides.totals ≡ totals_in (pledge_in (get h.books b) n))
-    → HasTermsOf (get h.books b) known → AreTold (Some (record { row = row; sides = sides })) (pledge_in (get h.books b) n)
-known_told h b n row sides terms known ordered found same beside has = let r = row_is (pledge_in (get h.books b) n) row found in
-    told_of h b n known.agreement.version r.0 (record { row = row; sides = sides }) r.1 r.2 (sym same.1)
-    (sides_told h b n known.agreement.version sides ordered (beside.0 ∙ ap Some same.0 ∙ sym has) beside.1 beside.2)
+    → (related.terms ≡ Some terms) × (related.booking ≡ booking_of (pledge_in (get h.books b) n)) × (related.totals ≡ totals_in (pledge_in (get h.books b) n))
+    → HasTermsOf (get h.books b) known → AreTold (Some (record { row = row; related = related })) (pledge_in (get h.books b) n)
+known_told h b n row related terms known ordered found same beside has = let r = row_is (pledge_in (get h.books b) n) row found in
+    told_of h b n known.agreement.version r.0 (record { row = row; related = related }) r.1 r.2 (sym same.1)
+    (related_told h b n known.agreement.version related ordered (beside.0 ∙ ap Some same.0 ∙ sym has) beside.1 beside.2)
 
 -- .. which is of a pledge that stands
-told_is : (o : Option PledgeValue) (t : StoredPledge) → AreTold (Some t) o → (p : PledgeValue) × (o ≡ Some p) × (t.row ≡ row_of p) × AreSides t.sides p
+told_is : (o : Option PledgeValue) (t : StoredPledge) → AreTold (Some t) o → (p : PledgeValue) × (o ≡ Some p) × (t.row ≡ row_of p) × AreRelated t.related p
 told_is None t told = absurd told
 told_is (Some p) t told = (p, refl, told.0, told.1)
 
@@ -91,7 +91,7 @@ told_is (Some p) t told = (p, refl, told.0, told.1)
 pub joined_told : {A L : Type 0} (h : Host) (b n : ℕ) (found : Option StoredPledge) (t : StoredPledge) (l : L) (Are : L → PledgeValue → Type 0)
     (shows : PledgeValue → A) (Q : PledgeValue → Type 0) (r : Result A KeepError) (number : ℕ) → number ≡ n → AreBooksOrdered h → found ≡ Some t → AreTold found
     (pledge_in (get h.books b) n) → IfSome (pledge_in (get h.books b) n) (Are l) → ((q : PledgeValue) → number ≡ q.agreement.number → t.row ≡ row_of q
-    → AreSides t.sides q → Are l q → IsRead r (shows q) (Q q)) → (p : PledgeValue) × (pledge_in (get h.books b) n ≡ Some p) × IsRead r (shows p) (Q p)
+    → AreRelated t.related q → Are l q → IsRead r (shows q) (Q q)) → (p : PledgeValue) × (pledge_in (get h.books b) n ≡ Some p) × IsRead r (shows p) (Q p)
 joined_told h b n found t l Are shows Q r number named ordered is told lists read =
     let k = told_is (pledge_in (get h.books b) n) t (subst (λ f. AreTold f (pledge_in (get h.books b) n)) is told) in
     (k.0, k.1, read k.0 (named ∙ sym (number_in h b n k.0 ordered k.1)) k.2 k.3 (subst (λ o. IfSome o (Are l)) k.1 lists))

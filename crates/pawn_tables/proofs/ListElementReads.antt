@@ -12,7 +12,7 @@ use Rattle.pawn_tables.proofs.SoundReads.{entries_unsound, secrets_unsound, exte
 use Rattle.pawn_tables.specs.At.{is_at, is_from}
 use Rattle.pawn_tables.specs.Common.{get, Row, column, Shown, State, IsDayNumber, Entry, PledgeValue, Each, pledge_in}
 use Rattle.pawn_tables.specs.Common.{Host, entries_of, extensions_of, secrets_of, IsUnsoundAt}
-use Rattle.pawn_tables.specs.Entries.{IsEntryTold, RiseFrom, entries_from, with_seq}
+use Rattle.pawn_tables.specs.Entries.{IsEntryDecodable, RiseFrom, entries_from, with_seq}
 use Rattle.pawn_tables.specs.Pages.{most_page_rows}
 use Rattle.pawn_tables.specs.Places.{at_place}
 use Rattle.pawn_tables.specs.Rows.{at_most_one, entries_listed, entry_cells, extension_cells, extensions_listed, number}
@@ -89,12 +89,13 @@ module _ (old new : State) (h : Host) (b n s : ℕ) (rows : List Row) (st : Stan
       (extension_cells place e)) (λ at e. refl) extension_cells three (λ at e. refl) s p.extensions) found) ((text.texts st.schema.more).extension_is)
 
 module _ (h : Host) (storable : AreStorable h) (b n s : ℕ) where
-  pub entry_unsound : (IfSome (with_seq (entries_of (pledge_in (get h.books b) n)) s) IsEntryTold → ⊥) → IsUnsoundAt b h
-  entry_unsound bad = entries_unsound h storable b n (λ all. bad (found_each IsEntryTold (λ (e : Entry). e.seq == s) _ all))
+  pub entry_unsound : (IfSome (with_seq (entries_of (pledge_in (get h.books b) n)) s) IsEntryDecodable → ⊥) → IsUnsoundAt b h
+  entry_unsound bad = entries_unsound h storable b n (λ all. bad (found_each IsEntryDecodable (λ (e : Entry). e.seq == s) _ all))
 
-  pub entries_page_unsound : (Each IsEntryTold (take most_page_rows (entries_from s (entries_of (pledge_in (get h.books b) n)))) → ⊥) → IsUnsoundAt b h
+  pub entries_page_unsound : (Each IsEntryDecodable (take most_page_rows (entries_from s (entries_of (pledge_in (get h.books b) n)))) → ⊥) → IsUnsoundAt b h
   entries_page_unsound bad =
-      entries_unsound h storable b n (λ all. bad (take_each IsEntryTold most_page_rows _ (filter_each IsEntryTold (λ (e : Entry). nat_le s e.seq) _ all)))
+      entries_unsound h storable b n (λ all. bad (take_each IsEntryDecodable most_page_rows _
+      (filter_each IsEntryDecodable (λ (e : Entry). nat_le s e.seq) _ all)))
 
   pub secret_unsound : (IfSome (at_place (secrets_of (pledge_in (get h.books b) n)) s) (λ i. IsDayNumber i.day) → ⊥) → IsUnsoundAt b h
   secret_unsound bad = secrets_unsound h storable b n (λ all. bad (at_each (λ i. IsDayNumber i.day) _ s all))

@@ -16,8 +16,8 @@ use Rattle.pawn_tables.specs.Common.{Issued, PledgeValue, Row, Shown, State, ent
 use Rattle.pawn_tables.specs.Common.{secrets_of}
 use Rattle.pawn_tables.specs.Common.{Database, KeepError, NoRecord}
 use Rattle.pawn_tables.specs.Finding.{Finds}
-use Rattle.pawn_tables.specs.Entries.{IsEntryTold, RiseFrom, entries_from}
-use Rattle.pawn_tables.specs.Kinds.{CanBeRead, IsItemTold, IsListPage, IsRowOf, cells_of, item_end, left_of_kind}
+use Rattle.pawn_tables.specs.Entries.{IsEntryDecodable, RiseFrom, entries_from}
+use Rattle.pawn_tables.specs.Kinds.{CanBeRead, IsItemDecodable, IsListPage, IsRowOf, cells_of, item_end, left_of_kind}
 use Rattle.pawn_tables.specs.Kinds.{list_left, rows_of_kind}
 use Rattle.pawn_tables.specs.Pages.{most_page_rows}
 use Rattle.pawn_tables.specs.Places.{page_behind}
@@ -182,27 +182,27 @@ module _ (old new : State) (h : Host) (b n s : ℕ) (rows : List Row) (st : Stan
     step (Some p) rise m x more are = entry_step p.agreement.number m p.entries rise x more are
 
   -- a row of it that cannot be decoded is of a book that is not sound
-  unsound_page : (kind : RowKind) → ((k : BookValue) (p : PledgeValue) → IsIn h st.storable b n k p → Each IsItemTold (list_left kind s p))
-      → (Each IsItemTold (page_of kind) → ⊥) → IsUnsoundAt b h
-  unsound_page kind told bad = unsound_pledge h b n (λ o. Each IsItemTold (take most_page_rows (left_of_kind kind s o))) tt
-      (λ k p is sound at. take_each IsItemTold most_page_rows _ (told k p (is, sound, at))) bad
+  unsound_page : (kind : RowKind) → ((k : BookValue) (p : PledgeValue) → IsIn h st.storable b n k p → Each IsItemDecodable (list_left kind s p))
+      → (Each IsItemDecodable (page_of kind) → ⊥) → IsUnsoundAt b h
+  unsound_page kind told bad = unsound_pledge h b n (λ o. Each IsItemDecodable (take most_page_rows (left_of_kind kind s o))) tt
+      (λ k p is sound at. take_each IsItemDecodable most_page_rows _ (told k p (is, sound, at))) bad
 
-  pub secrets_unsound : (Each IsItemTold (page_of RowKind.Secret) → ⊥) → IsUnsoundAt b h
+  pub secrets_unsound : (Each IsItemDecodable (page_of RowKind.Secret) → ⊥) → IsUnsoundAt b h
   secrets_unsound = unsound_page RowKind.Secret (λ k p is_in. secret_told p.agreement.number (s + 1) (drop s p.secrets)
       (number_told k n p is_in.1 is_in.2) (drop_each (λ i. IsDayNumber i.day) s p.secrets (secrets_told h st.storable b n k p is_in)))
 
-  pub extensions_unsound : (Each IsItemTold (page_of RowKind.Extension) → ⊥) → IsUnsoundAt b h
+  pub extensions_unsound : (Each IsItemDecodable (page_of RowKind.Extension) → ⊥) → IsUnsoundAt b h
   extensions_unsound = unsound_page RowKind.Extension (λ k p is_in. extension_told p.agreement.number (s + 1) (drop s p.extensions)
       (number_told k n p is_in.1 is_in.2)
       (drop_each (λ e. IsDayNumber e.day × IsDayNumber e.until) s p.extensions (extensions_told h st.storable b n k p is_in)))
 
-  pub entries_unsound : (Each IsItemTold (page_of RowKind.Entry) → ⊥) → IsUnsoundAt b h
+  pub entries_unsound : (Each IsItemDecodable (page_of RowKind.Entry) → ⊥) → IsUnsoundAt b h
   entries_unsound = unsound_page RowKind.Entry (λ k p is_in. entry_told p.agreement.number (entries_from s p.entries)
-      (number_told k n p is_in.1 is_in.2) (filter_each IsEntryTold (λ (e : Entry). nat_le s e.seq) p.entries (entries_told h st.storable b n k p is_in)))
+      (number_told k n p is_in.1 is_in.2) (filter_each IsEntryDecodable (λ (e : Entry). nat_le s e.seq) p.entries (entries_told h st.storable b n k p is_in)))
 
 -- rows that were read are the page, and one that cannot be decoded is of a book that is not sound
 pub items_found : {V : Type 0} (items_of : V → List RowItem) (r : Result V KeepError) (P : List RowItem → Type 0) {is : List RowItem} {U : Type 0}
-    → Finds r (λ x. items_of x ≡ is) (Each IsItemTold is → ⊥) → P is → ((Each IsItemTold is → ⊥) → U) → Finds r (λ x. P (items_of x)) U
+    → Finds r (λ x. items_of x ≡ is) (Each IsItemDecodable is → ⊥) → P is → ((Each IsItemDecodable is → ⊥) → U) → Finds r (λ x. P (items_of x)) U
 items_found items_of (Ok x) P read page bad = subst P (sym read) page
 items_found items_of (Err Keeper.Memory) P read page bad = tt
 items_found items_of (Err (Keeper.Store NoRecord)) P read page bad = bad read

@@ -11,11 +11,11 @@ use Rattle.pawn_tables.proofs.SoundReads.{IsIn, booking_told, entries_told, exte
 use Rattle.pawn_tables.specs.Common.{AreWords, BookValue, Booking, Each, Entry, Extension, Host, IsDayNumber}
 use Rattle.pawn_tables.specs.Common.{IsNumber, IsSoundBook, IsUnsoundAt, Issued, PledgeValue, State, get, pledge_from, pledge_in}
 use Rattle.pawn_tables.specs.Common.{pledges_of}
-use Rattle.pawn_tables.specs.Entries.{IsEntryTold}
-use Rattle.pawn_tables.specs.Kinds.{CanBeRead, IsItemTold, IsRowOf, own_items, row_kind, kind_rows, rows_of_kind}
+use Rattle.pawn_tables.specs.Entries.{IsEntryDecodable}
+use Rattle.pawn_tables.specs.Kinds.{CanBeRead, IsItemDecodable, IsRowOf, own_items, row_kind, kind_rows, rows_of_kind}
 use Rattle.pawn_tables.specs.Kinds.{whole_upto}
 use Rattle.pawn_tables.specs.Pages.{most_page_rows}
-use Rattle.pawn_tables.specs.PledgeRows.{IsRowTold}
+use Rattle.pawn_tables.specs.PledgeRows.{IsRowDecodable}
 use Rattle.pawn_tables.specs.StandsFor.{AreStorable, StandsFor}
 use Rattle.pawn_tables.specs.declared.kinds.RowKind.{RowKind}
 use Rattle.sqlite_trees.proofs.ListLemmas.{all-append, all-filter}
@@ -90,20 +90,20 @@ range_rows old new h st b a m kind = take_each (IsRowOf kind None) most_page_row
 
 -- ---- what is decoded of a sound book
 
-pub secret_told : (n place : ℕ) (is : List Issued) → IsNumber n → Each (λ i. IsDayNumber i.day) is → Each IsItemTold (secret_items n place is)
+pub secret_told : (n place : ℕ) (is : List Issued) → IsNumber n → Each (λ i. IsDayNumber i.day) is → Each IsItemDecodable (secret_items n place is)
 secret_told n place [] number days = tt
 secret_told n place (i ∷ is) number days = ((days.0, number), secret_told n (place + 1) is number days.1)
 
-pub entry_told : (n : ℕ) (es : List Entry) → IsNumber n → Each IsEntryTold es → Each IsItemTold (entry_items n es)
+pub entry_told : (n : ℕ) (es : List Entry) → IsNumber n → Each IsEntryDecodable es → Each IsItemDecodable (entry_items n es)
 entry_told n [] number told = tt
 entry_told n (e ∷ es) number told = ((told.0, number), entry_told n es number told.1)
 
 pub extension_told : (n place : ℕ) (es : List Extension) → IsNumber n → Each (λ e. IsDayNumber e.day × IsDayNumber e.until) es
-    → Each IsItemTold (extension_items n place es)
+    → Each IsItemDecodable (extension_items n place es)
 extension_told n place [] number days = tt
 extension_told n place (e ∷ es) number days = ((days.0, number), extension_told n (place + 1) es number days.1)
 
-booking_told_of : (n : ℕ) (o : Option Booking) → IsNumber n → IfSome o (λ k. IsDayNumber k.day) → Each IsItemTold (booking_items n o)
+booking_told_of : (n : ℕ) (o : Option Booking) → IsNumber n → IfSome o (λ k. IsDayNumber k.day) → Each IsItemDecodable (booking_items n o)
 booking_told_of n None number day = tt
 booking_told_of n (Some k) number day = ((day, number), tt)
 
@@ -113,9 +113,9 @@ number_told k n p sound at = let within = pledge_within 1 k.pledges n p at in le
     let is = number_from n 1 k.pledges sound.rows.numbered p at in
     (let low = within.0 in omega (arith, low, is), let high = within.1 in omega (arith, high, few, is))
 
-pub own_told : (h : Host) (storable : AreStorable h) (b n : ℕ) (kind : RowKind) (k : BookValue) (p : PledgeValue) → IsIn h storable b n k p → Each IsItemTold
-    (kind_rows kind p)
-own_told h storable b n RowKind.Pledge k p is_in = let told : IsRowTold p = row_told h storable b n k p is_in.0 is_in.1 is_in.2 in
+pub own_told : (h : Host) (storable : AreStorable h) (b n : ℕ) (kind : RowKind) (k : BookValue) (p : PledgeValue) → IsIn h storable b n k p
+    → Each IsItemDecodable (kind_rows kind p)
+own_told h storable b n RowKind.Pledge k p is_in = let told : IsRowDecodable p = row_told h storable b n k p is_in.0 is_in.1 is_in.2 in
     ((record { opening = told.opening; taken = told.taken; last = told.last; closed = told.closed }, number_told k n p is_in.1 is_in.2), tt)
 own_told h storable b n RowKind.Secret k p is_in =
     secret_told p.agreement.number 1 p.secrets (number_told k n p is_in.1 is_in.2) (secrets_told h storable b n k p is_in)
@@ -127,25 +127,25 @@ own_told h storable b n RowKind.Booking k p is_in =
     booking_told_of p.agreement.number p.standing.booking (number_told k n p is_in.1 is_in.2) (booking_told h storable b n k p is_in)
 
 -- what holds of each pledge of a number holds of all rows
-all_told : (kind : RowKind) (k : ℕ) (ps : List PledgeValue) → ((n : ℕ) (p : PledgeValue) → k ≤ n → pledge_from k ps n ≡ Some p → Each IsItemTold (kind_rows
+all_told : (kind : RowKind) (k : ℕ) (ps : List PledgeValue) → ((n : ℕ) (p : PledgeValue) → k ≤ n → pledge_from k ps n ≡ Some p → Each IsItemDecodable (kind_rows
     kind p))
-    → Each IsItemTold (all_of_kind kind ps)
+    → Each IsItemDecodable (all_of_kind kind ps)
 all_told kind k [] told = tt
 all_told kind k (p ∷ ps) told =
     let here : (k == k) ≡ true = grind (arith, nat_tests) in
-    all-append IsItemTold (kind_rows kind p) (all_of_kind kind ps)
+    all-append IsItemDecodable (kind_rows kind p) (all_of_kind kind ps)
     (told k p (omega arith) (ap (λ c. if c then Some p else pledge_from (k + 1) ps k) here))
     (all_told kind (k + 1) ps (λ n q le at. let other : (n == k) ≡ false = grind (arith, nat_tests, le) in
     told n q (omega (arith, le)) (ap (λ c. if c then Some p else pledge_from (k + 1) ps n) other ∙ at)))
 
 pub range_unsound : (h : Host) → AreStorable h → (b a m : ℕ) (kind : RowKind)
-    → (Each IsItemTold (take most_page_rows (range_items kind a m (get h.books b))) → ⊥) → IsUnsoundAt b h
+    → (Each IsItemDecodable (take most_page_rows (range_items kind a m (get h.books b))) → ⊥) → IsUnsoundAt b h
 range_unsound h storable b a m kind bad = inside (get h.books b) refl bad where
-  inside : (o : Option BookValue) → get h.books b ≡ o → (Each IsItemTold (take most_page_rows (range_items kind a m o)) → ⊥) → IsUnsoundAt b h
+  inside : (o : Option BookValue) → get h.books b ≡ o → (Each IsItemDecodable (take most_page_rows (range_items kind a m o)) → ⊥) → IsUnsoundAt b h
   inside None none bad = absurd (bad tt)
   inside (Some k) at bad = (
     k,
     at,
-    λ sound. bad (take_each IsItemTold most_page_rows _ (all-filter IsItemTold (is_within a m) _
+    λ sound. bad (take_each IsItemDecodable most_page_rows _ (all-filter IsItemDecodable (is_within a m) _
         (all_told kind 1 k.pledges (λ n p le is. own_told h storable b n kind k p (at, sound.1, is))))),
   )

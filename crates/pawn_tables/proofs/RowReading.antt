@@ -6,7 +6,7 @@ pub use Rattle.pawn_tables.proofs.ListsOfRows.{read_part}
 pub use Rattle.pawn_tables.proofs.RowCells.{cell_at}
 pub use Rattle.pawn_tables.specs.Common.{Text, Entry, Extension, IsDayNumber, IsNumber, IsWord, Issued, credit_of}
 pub use Rattle.pawn_tables.specs.Common.{debt_of, end_of, last_secret, live_under}
-pub use Rattle.pawn_tables.specs.Entries.{IsEntryTold}
+pub use Rattle.pawn_tables.specs.Entries.{IsEntryDecodable}
 pub use Rattle.pawn_tables.specs.Heads.{most_counted, number_cells}
 pub use Rattle.pawn_tables.specs.Lines.{IsLineOf, line_cells}
 pub use Rattle.pawn_tables.specs.declared.line.Line.{Line}

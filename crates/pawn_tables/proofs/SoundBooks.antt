@@ -5,7 +5,7 @@ use Rattle.pawn_tables.specs.Common.{get, IsNumber, PledgeValue, BookValue, with
 use Rattle.pawn_tables.specs.Common.{AreNumberedFrom, is_same_text, HasUnsoundBook, IsSoundAt, IsUnsoundAt, KeepError}
 use Rattle.pawn_tables.specs.Common.{Database, NoRecord}
 use Rattle.pawn_tables.specs.Finding.{Finds}
-use Rattle.pawn_tables.specs.Heads.{HasKeys, IsHeadTold}
+use Rattle.pawn_tables.specs.Heads.{HasKeys, IsHeadDecodable}
 use Rattle.pawn_tables.specs.StandsFor.{AreStorable}
 use Rattle.std.proofs.Common.{◌≡◌, ℕ, ◌+◌, ◌≤◌, List, [], ◌∷◌, length, Option, Some, None, Result, Ok, Err, refl, arith}
 use Rattle.std.proofs.Common.{option_map, IfSome}
@@ -19,8 +19,9 @@ module _ (h : Host) (b : ℕ) where
     inside None is bad = absurd (bad none)
     inside (Some k) is bad = (k, is, λ sound. bad (some k sound))
 
-  pub head_unsound : (IfSome (get h.books b) IsHeadTold → ⊥) → IsUnsoundAt b h
-  head_unsound bad = unsound_book (λ o. IfSome o IsHeadTold) tt (λ k sound. record { name = (sound.1.name, sound.1.utf8); capacity = sound.1.capacity }) bad
+  pub head_unsound : (IfSome (get h.books b) IsHeadDecodable → ⊥) → IsUnsoundAt b h
+  head_unsound bad = unsound_book (λ o. IfSome o IsHeadDecodable) tt
+      (λ k sound. record { name = (sound.1.name, sound.1.utf8); capacity = sound.1.capacity }) bad
 
   -- the number of a pledge that stands is such
   numbers_in : (s : List ℕ) (k : ℕ) (ps : List PledgeValue) → AreNumberedFrom k ps → 1 ≤ k → k + length ps ≤ 1000001

@@ -9,22 +9,22 @@ use Rattle.pawn_pledge.proofs.Briefs.{brief_is_within}
 use Rattle.pawn_pledge.specs.declared.brief.BriefFields.{BriefFields}
 use Rattle.pawn_tables.proofs.Basics.{each_at, nat_tests}
 use Rattle.pawn_tables.proofs.PageLemmas.{last_later, last_some}
-use Rattle.pawn_tables.specs.Common.{get, IsDayNumber, IsStampDay, later_of, six_months, IsChecked, Rates, DebtValue}
+use Rattle.pawn_tables.specs.Common.{get, IsDayNumber, IsRequestDay, later_of, six_months, IsChecked, Rates, DebtValue}
 use Rattle.pawn_tables.specs.Common.{Entry, Sort, Draw, Repay, PledgeValue, debt_of, end_of, last_element, last_until}
 use Rattle.pawn_tables.specs.Common.{AreExtended, AreIssued, AreNumbered, Each, IsBooked, IsBriefWithin, IsClosed, IsReachable}
 use Rattle.pawn_tables.specs.Common.{Booking, Closing, IsSound, brief_of}
 use Rattle.pawn_tables.specs.Common.{Open, Redeemed, Sold, Extension, Issued, BookValue, pledge_from, pledge_in, Host}
 use Rattle.pawn_tables.specs.Common.{entries_of, extensions_of, secrets_of, terms_of, terms_at, IsSoundBook}
 use Rattle.pawn_tables.specs.Common.{IsUnsoundAt, AreWords, HasTextsAndWords, KeepError, Database, NoRecord, last_of}
-use Rattle.pawn_tables.specs.Entries.{IsAmount, IsEntryTold}
+use Rattle.pawn_tables.specs.Entries.{IsAmount, IsEntryDecodable}
 use Rattle.pawn_tables.specs.Finding.{Finds, IsRead}
 use Rattle.pawn_tables.specs.ListEnds.{last_seq, stored_brief}
-use Rattle.pawn_tables.specs.PledgeRows.{IsBriefTold, IsCreditTold, IsRowTold, booking_of, totals_in}
+use Rattle.pawn_tables.specs.PledgeRows.{IsBriefDecodable, IsCreditDecodable, IsRowDecodable, booking_of, totals_in}
 use Rattle.pawn_tables.specs.Rows.{closed_day}
 use Rattle.pawn_tables.specs.StandsFor.{AreStorable}
 use Rattle.pawn_terms.proofs.CalendarLemmas.{page_date}
 use Rattle.pawn_terms.proofs.SixMonths.{six_months_is}
-use Rattle.pawn_terms.specs.Limits.{first_day, last_stamp_day}
+use Rattle.pawn_terms.specs.Limits.{first_day, last_request_day}
 use Rattle.std.proofs.Common.{◌≡◌, ℕ, zero, suc, ◌+◌, ◌-◌, ◌≤◌, List, [], ◌∷◌, slice_get, Option, Some, None, Result, Ok}
 use Rattle.std.proofs.Common.{Err, refl, sym, subst, arith, length, option_map, ◌++◌, IsOk, false, IfSome, IsTrue}
 use Rattle.std.proofs.Common.{is_some, ap, ◌∙◌, unwrap_or}
@@ -71,20 +71,21 @@ taken_of : (h : Host) → AreStorable h → (b n : ℕ) (k : BookValue) (p : Ple
 taken_of h storable b n k p is at = each_at (λ q. first_day ≤ q.agreement.taken) 1 k.pledges n p (storable b k is).taken at
 
 -- days from the day taken to the last change
-day_of_pledge : (taken d last : ℕ) → first_day ≤ taken → taken ≤ d → d ≤ last → last ≤ last_stamp_day → IsDayNumber d
+day_of_pledge : (taken d last : ℕ) → first_day ≤ taken → taken ≤ d → d ≤ last → last ≤ last_request_day → IsDayNumber d
 day_of_pledge taken d last first low high end = (omega (arith, first, low), omega (arith, high, end))
 
 pub each_weaker : {A : Type 0} (P Q : A → Type 0) → ((x : A) → P x → Q x) → (xs : List A) → Each P xs → Each Q xs
 each_weaker P Q f [] all = tt
 each_weaker P Q f (x ∷ xs) all = (f x all.0, each_weaker P Q f xs all.1)
 
-days_in : {A : Type 0} (f : A → ℕ) (taken last : ℕ) (xs : List A) → first_day ≤ taken → DoNotFall f taken xs → last_by f taken xs ≤ last → last ≤ last_stamp_day
+days_in : {A : Type 0} (f : A → ℕ) (taken last : ℕ) (xs : List A) → first_day ≤ taken → DoNotFall f taken xs → last_by f taken xs ≤ last
+    → last ≤ last_request_day
     → Each (λ x. IsDayNumber (f x)) xs
 days_in f taken last xs first ordered before end =
     each_weaker (λ x. (taken ≤ f x) × (f x ≤ last)) (λ x. IsDayNumber (f x)) (λ x both. day_of_pledge taken (f x) last first both.0 both.1 end) xs
     (DoNotFall-each f taken taken last xs (omega arith) ordered before)
 
-days_extended : (day ends : ℕ) (es : List Extension) → first_day ≤ day → AreExtended day ends es → Each (λ e. e.until ≤ last_stamp_day) es
+days_extended : (day ends : ℕ) (es : List Extension) → first_day ≤ day → AreExtended day ends es → Each (λ e. e.until ≤ last_request_day) es
     → Each (λ e. IsDayNumber e.day × IsDayNumber e.until) es
 days_extended day ends [] first extended named = tt
 days_extended day ends (e ∷ es) first extended named = let a = extended.0 in
@@ -108,7 +109,7 @@ all_amounts : (d : DebtValue) (prior es : List Entry) → AreEntriesAccepted d p
 all_amounts d prior [] h = tt
 all_amounts d prior (e ∷ es) h = (accepted_amount e.sort (record d { entries = prior }) e.day e.pence h.0.1, all_amounts d (prior ++ e ∷ []) es h.1)
 
-both_told : (es : List Entry) → Each (λ e. IsAmount e.pence) es → Each (λ e. IsDayNumber e.day) es → Each IsEntryTold es
+both_told : (es : List Entry) → Each (λ e. IsAmount e.pence) es → Each (λ e. IsDayNumber e.day) es → Each IsEntryDecodable es
 both_told [] amounts days = tt
 both_told (e ∷ es) amounts days = ((days.0, amounts.0), both_told es amounts.1 days.1)
 
@@ -120,14 +121,14 @@ module _ (h : Host) (storable : AreStorable h) (b n : ℕ) where
   abbrev pub IsIn : BookValue → PledgeValue → Type 0
   IsIn k p = (get h.books b ≡ Some k) × IsSoundBook k × (pledge_from 1 k.pledges n ≡ Some p)
 
-  pub entries_told : (k : BookValue) (p : PledgeValue) → IsIn k p → Each IsEntryTold p.entries
+  pub entries_told : (k : BookValue) (p : PledgeValue) → IsIn k p → Each IsEntryDecodable p.entries
   entries_told k p (is, sound, at) = let s = reachable_of k n p sound at in
       both_told p.entries (all_amounts (debt_of p) [] p.entries s.replayable.entered.accepted) (days_in (λ e. e.day) p.agreement.taken p.standing.last p.entries
       (taken_of h storable b n k p is at) s.replayable.entered.ordered s.replayable.entered.before s.within.last)
 
-  pub entries_unsound : (Each IsEntryTold (entries_of found) → ⊥) → IsUnsoundAt b h
+  pub entries_unsound : (Each IsEntryDecodable (entries_of found) → ⊥) → IsUnsoundAt b h
   entries_unsound bad =
-      unsound_pledge h b n (λ o. Each IsEntryTold (entries_of o)) tt (λ k p is sound at. entries_told k p (is, sound, at)) bad
+      unsound_pledge h b n (λ o. Each IsEntryDecodable (entries_of o)) tt (λ k p is sound at. entries_told k p (is, sound, at)) bad
 
   pub secrets_told : (k : BookValue) (p : PledgeValue) → IsIn k p → Each (λ i. IsDayNumber i.day) p.secrets
   secrets_told k p (is, sound, at) = let s = reachable_of k n p sound at in
@@ -146,7 +147,7 @@ module _ (h : Host) (storable : AreStorable h) (b n : ℕ) where
   extensions_unsound bad = unsound_pledge h b n (λ o. Each (λ e. IsDayNumber e.day × IsDayNumber e.until) (extensions_of o)) tt
       (λ k p is sound at. extensions_told k p (is, sound, at)) bad
 
-  booked_day : (p : PledgeValue) (o : Option Booking) → first_day ≤ p.agreement.taken → IsBooked p o → IfSome o (λ k. k.day ≤ last_stamp_day)
+  booked_day : (p : PledgeValue) (o : Option Booking) → first_day ≤ p.agreement.taken → IsBooked p o → IfSome o (λ k. k.day ≤ last_request_day)
       → IfSome o (λ k. IsDayNumber k.day)
   booked_day p None first booked named = tt
   booked_day p (Some k) first booked named = let a = booked.0 in (omega (arith, first, a), omega (arith, named))
@@ -165,13 +166,13 @@ module _ (h : Host) (storable : AreStorable h) (b n : ℕ) where
       day_of_pledge p.agreement.taken (last_of p.agreement.taken p.entries) p.standing.last
       (taken_of h storable b n k p is at) low s.replayable.entered.before s.within.last) bad
 
-  closed_in : (p : PledgeValue) (c : Closing) → first_day ≤ p.agreement.taken → p.agreement.taken ≤ p.standing.last → p.standing.last ≤ last_stamp_day
+  closed_in : (p : PledgeValue) (c : Closing) → first_day ≤ p.agreement.taken → p.agreement.taken ≤ p.standing.last → p.standing.last ≤ last_request_day
       → IsClosed p c → IfSome (closed_day c) IsDayNumber
   closed_in p Open first low high closed = tt
   closed_in p (Redeemed day paid) first low high closed = let e = closed.0 in (omega (arith, first, low, e), omega (arith, high, e))
   closed_in p (Sold day net) first low high closed = let e = closed.0 in (omega (arith, first, low, e), omega (arith, high, e))
 
-  pub row_told : (k : BookValue) (p : PledgeValue) → get h.books b ≡ Some k → IsSoundBook k → pledge_from 1 k.pledges n ≡ Some p → IsRowTold p
+  pub row_told : (k : BookValue) (p : PledgeValue) → get h.books b ≡ Some k → IsSoundBook k → pledge_from 1 k.pledges n ≡ Some p → IsRowDecodable p
   row_told k p is sound at = let s = reachable_of k n p sound at in
       let w : HasTextsAndWords p = each_at HasTextsAndWords 1 k.pledges n p sound.written at in
       let first = taken_of h storable b n k p is at in let low = s.replayable.last_in in
@@ -187,12 +188,12 @@ module _ (h : Host) (storable : AreStorable h) (b n : ℕ) where
         closed = closed_in p p.standing.closing first low high s.replayable.closed;
       }
 
-  pub row_unsound : (IfSome found IsRowTold → ⊥) → IsUnsoundAt b h
-  row_unsound bad = unsound_pledge h b n (λ o. IfSome o IsRowTold) tt row_told bad
+  pub row_unsound : (IfSome found IsRowDecodable → ⊥) → IsUnsoundAt b h
+  row_unsound bad = unsound_pledge h b n (λ o. IfSome o IsRowDecodable) tt row_told bad
 
 -- what the row of a pledge holds that its debt depends on
-pub credit_unsound : (h : Host) → AreStorable h → (b n : ℕ) → (IfSome (pledge_in (get h.books b) n) IsCreditTold → ⊥) → IsUnsoundAt b h
-credit_unsound h storable b n bad = unsound_pledge h b n (λ o. IfSome o IsCreditTold) tt (λ k p is sound at.
+pub credit_unsound : (h : Host) → AreStorable h → (b n : ℕ) → (IfSome (pledge_in (get h.books b) n) IsCreditDecodable → ⊥) → IsUnsoundAt b h
+credit_unsound h storable b n bad = unsound_pledge h b n (λ o. IfSome o IsCreditDecodable) tt (λ k p is sound at.
     let s = reachable_of k n p sound at in let low = s.replayable.last_in in
     let high = s.within.last in
     record { taken = (taken_of h storable b n k p is at, omega (arith, low, high)); agreed = s.within.opening.agreed }) bad
@@ -231,26 +232,26 @@ terms_unsound h b v bad = inside (get h.books b) refl bad where
 
 -- ---- the end of a period is a day
 
-six_months_day : (taken : ℕ) → first_day ≤ taken → taken ≤ last_stamp_day → IsDayNumber (six_months taken)
+six_months_day : (taken : ℕ) → first_day ≤ taken → taken ≤ last_request_day → IsDayNumber (six_months taken)
 six_months_day taken low high = let page = page_date taken (low, omega (arith, high)) in
     (six_months_is page.0 taken (low, high) page.4).2
 
-later_day : (day : ℕ) (other : Option ℕ) → IsDayNumber day → IfSome other (λ d. d ≤ last_stamp_day) → IsDayNumber (later_of day other)
+later_day : (day : ℕ) (other : Option ℕ) → IsDayNumber day → IfSome other (λ d. d ≤ last_request_day) → IsDayNumber (later_of day other)
 later_day day None is named = is
 later_day day (Some d) is named = grind arith
 
-named_last : (es : List Extension) → Each (λ e. e.until ≤ last_stamp_day) es → IfSome (last_until es) (λ d. d ≤ last_stamp_day)
+named_last : (es : List Extension) → Each (λ e. e.until ≤ last_request_day) es → IfSome (last_until es) (λ d. d ≤ last_request_day)
 named_last es all = go (last_element es) (at es (length es - 1) all) where
-  at : (xs : List Extension) (i : ℕ) → Each (λ e. e.until ≤ last_stamp_day) xs → IfSome (slice_get xs i) (λ e. e.until ≤ last_stamp_day)
+  at : (xs : List Extension) (i : ℕ) → Each (λ e. e.until ≤ last_request_day) xs → IfSome (slice_get xs i) (λ e. e.until ≤ last_request_day)
   at [] i all = tt
   at (x ∷ xs) zero all = all.0
   at (x ∷ xs) (suc i) all = at xs i all.1
 
-  go : (o : Option Extension) → IfSome o (λ e. e.until ≤ last_stamp_day) → IfSome (option_map (λ (e : Extension). e.until) o) (λ d. d ≤ last_stamp_day)
+  go : (o : Option Extension) → IfSome o (λ e. e.until ≤ last_request_day) → IfSome (option_map (λ (e : Extension). e.until) o) (λ d. d ≤ last_request_day)
   go None named = tt
   go (Some e) named = named
 
-named_agreed : (o : Option ℕ) → IfSome o IsStampDay → IfSome o (λ d. d ≤ last_stamp_day)
+named_agreed : (o : Option ℕ) → IfSome o IsRequestDay → IfSome o (λ d. d ≤ last_request_day)
 named_agreed None is = tt
 named_agreed (Some d) is = is.1
 
@@ -291,11 +292,11 @@ sound_briefs h sound b n = go (pledge_in (get h.books b) n) refl where
   go (Some p) is = ap Some (stored_is p (reachable_at h b n p sound is).0)
 
 -- a pledge that has no brief is of a book that is not sound
-pub brief_unsound : (h : Host) → AreStorable h → (b n : ℕ) (p : PledgeValue) → pledge_in (get h.books b) n ≡ Some p → (IsBriefTold p → ⊥) → IsUnsoundAt b h
-brief_unsound h storable b n p at bad = unsound_pledge h b n (λ o. IfSome o IsBriefTold) tt (λ k q is sound here.
+pub brief_unsound : (h : Host) → AreStorable h → (b n : ℕ) (p : PledgeValue) → pledge_in (get h.books b) n ≡ Some p → (IsBriefDecodable p → ⊥) → IsUnsoundAt b h
+brief_unsound h storable b n p at bad = unsound_pledge h b n (λ o. IfSome o IsBriefDecodable) tt (λ k q is sound here.
     let s = reachable_of k n q sound here in
     record {
       secret = has_secret q.agreement.taken _ q.secrets s.replayable.issued.sorts;
       ends = end_day q s (taken_of h storable b n k q is here);
       within = subst IsBriefWithin (sym (stored_is q s)) (brief_is_within q s);
-    }) (λ all. bad (subst (λ o. IfSome o IsBriefTold) at all))
+    }) (λ all. bad (subst (λ o. IfSome o IsBriefDecodable) at all))

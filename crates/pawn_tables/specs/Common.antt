@@ -42,7 +42,7 @@ pub use Rattle.pawn_pledge.specs.declared.record.Closing.TheVariants.{Open, Rede
 pub use Rattle.pawn_pledge.specs.declared.record.Extension.{Extension}
 pub use Rattle.pawn_pledge.specs.declared.record.Issue.{Issue}
 pub use Rattle.pawn_pledge.specs.declared.record.Issued.{Issued}
-pub use Rattle.pawn_terms.specs.Calendar.{IsDayNumber, IsStampDay, later_of, six_months}
+pub use Rattle.pawn_terms.specs.Calendar.{IsDayNumber, IsRequestDay, later_of, six_months}
 pub use Rattle.pawn_terms.specs.Terms.{IsChecked, rates_of}
 pub use Rattle.pawn_terms.specs.declared.terms.Rates.{Rates}
 pub use Rattle.sqlite.specs.Effect.{Database as Tables}

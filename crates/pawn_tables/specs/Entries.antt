@@ -30,5 +30,5 @@ abbrev pub IsAmount : ℕ → Type 0
 IsAmount pence = (1 ≤ pence) × (pence ≤ most_pence)
 
 -- the row of the entry can be decoded: its day is in the calendar, and its sum is one that an entry may have
-abbrev pub IsEntryTold : Entry → Type 0
-IsEntryTold e = IsDayNumber e.day × IsAmount e.pence
+abbrev pub IsEntryDecodable : Entry → Type 0
+IsEntryDecodable e = IsDayNumber e.day × IsAmount e.pence

@@ -10,7 +10,7 @@ pub record HasKeys (k : BookValue) : Type 0 where
   pub imported : IfSome k.imported (λ i. IsWord i.key)
 
 -- the row of the book can be decoded: its name and its capacity are within their limits
-pub record IsHeadTold (k : BookValue) : Type 0 where
+pub record IsHeadDecodable (k : BookValue) : Type 0 where
   pub name : IsText most_name_bytes k.name × IsUtf8 k.name
   pub capacity : IsCapacity k.capacity
 

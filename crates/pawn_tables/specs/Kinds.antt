@@ -3,7 +3,7 @@ use Rattle.pawn_book.specs.Items.{booking_items, entry_items, extension_items, i
 use Rattle.pawn_book.specs.declared.items.RowItem.{RowItem}
 use Rattle.pawn_tables.specs.Common.{BookValue, IsDayNumber, IsNumber, IsWord, PledgeItem, PledgeValue, Row, Text}
 use Rattle.pawn_tables.specs.Common.{credit_of, last_element, pledge_in}
-use Rattle.pawn_tables.specs.Entries.{IsEntryTold, entries_from}
+use Rattle.pawn_tables.specs.Entries.{IsEntryDecodable, entries_from}
 use Rattle.pawn_tables.specs.Pages.{IsPage, most_page_rows}
 use Rattle.pawn_tables.specs.PledgeRows.{IsTold}
 use Rattle.pawn_tables.specs.Rows.{booking_cells, closed_amount, closed_day, closed_number, entry_cells}
@@ -94,23 +94,23 @@ pub record IsRowOf (kind : RowKind) (given : Option ℕ) (i : RowItem) : Type 0 
   pub word : CanBeRead i
 
 -- the texts of a pledge's own row are within their limits, and its days are days of the calendar
-pub record IsOwnTold (q : PledgeItem) : Type 0 where
+pub record IsOwnDecodable (q : PledgeItem) : Type 0 where
   pub opening : IsTold q.opening
   pub taken : IsDayNumber q.taken
   pub last : IsDayNumber q.last
   pub closed : IfSome (closed_day q.closing) IsDayNumber
 
 -- the cells of a row can be decoded
-abbrev pub AreCellsTold : RowItem → Type 0
-AreCellsTold (RowItem.Pledge pledge) = IsOwnTold pledge
-AreCellsTold (RowItem.Secret number place issued) = IsDayNumber issued.day
-AreCellsTold (RowItem.Entry number entry) = IsEntryTold entry
-AreCellsTold (RowItem.Extension number place extension) = IsDayNumber extension.day × IsDayNumber extension.until
-AreCellsTold (RowItem.Booking number booking) = IsDayNumber booking.day
+abbrev pub AreCellsDecodable : RowItem → Type 0
+AreCellsDecodable (RowItem.Pledge pledge) = IsOwnDecodable pledge
+AreCellsDecodable (RowItem.Secret number place issued) = IsDayNumber issued.day
+AreCellsDecodable (RowItem.Entry number entry) = IsEntryDecodable entry
+AreCellsDecodable (RowItem.Extension number place extension) = IsDayNumber extension.day × IsDayNumber extension.until
+AreCellsDecodable (RowItem.Booking number booking) = IsDayNumber booking.day
 
 -- a row can be decoded: its cells can be, and its pledge's number is one that a pledge may have
-abbrev pub IsItemTold : RowItem → Type 0
-IsItemTold i = AreCellsTold i × IsNumber (item_number i)
+abbrev pub IsItemDecodable : RowItem → Type 0
+IsItemDecodable i = AreCellsDecodable i × IsNumber (item_number i)
 
 -- ---- the rows of a range of pledges
 

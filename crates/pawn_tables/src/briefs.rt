@@ -5,7 +5,7 @@ ghost use Rattle.pawn_tables.specs.ListEnds.{stored_brief};
 ghost use Rattle.pawn_tables.specs.PledgeRows.{booking_of, totals_in};
 ghost use Rattle.std.specs.Prelude.{◌≡◌, IfSome, Some, is_ok, option_map};
 
-use crate::joining::RowsBeside;
+use crate::joining::RelatedRows;
 use crate::joining::briefs::join_brief;
 use crate::list_ends::list_ends_in;
 use crate::queries::{booking_in, row_in, totals_in};
@@ -33,7 +33,7 @@ pub fn brief_in<S: Alter>(
         return Ok(None);
     };
     let list_ends = list_ends_in(tx, book, n)?;
-    let brief = join_brief(number, told.row, told.sides, list_ends)?;
+    let brief = join_brief(number, told.row, told.related, list_ends)?;
     Ok(Some(brief))
 }
 
@@ -50,19 +50,19 @@ fn terms_known(known: &Brief, version: u64) -> Option<Terms>
 
 /// The booking and the totals of a pledge, beside terms that are known.
 #[tactic(auto, using(crate::proofs::Basics::lent_then))]
-fn sides_under<S: Alter>(
+fn related_under<S: Alter>(
     tx: &mut Transaction<'_, S>,
     book: u32,
     number: u32,
     terms: Terms,
-) -> Result<RowsBeside, KeepError>
+) -> Result<RelatedRows, KeepError>
     ensures finds { FindsBy S.Store tx.old.conn tx.new.conn (IsUnsoundAt book) result (λ h s. (s.terms ≡ Some terms)
         × (s.booking ≡ booking_of (pledge_in (get h.books book) number)) × (s.totals ≡ totals_in (pledge_in (get h.books book) number))) }
     ensures lent { Lends S.Store tx.old.conn tx.new.conn (is_ok result) }
 {
     let booking = booking_in(tx, book, number)?;
     let totals = totals_in(tx, book, number)?;
-    Ok(RowsBeside {
+    Ok(RelatedRows {
         terms: Some(terms),
         booking,
         totals,
@@ -90,8 +90,8 @@ pub fn further_brief_in<S: Alter>(
     let Some(terms) = terms_known(known, row.version) else {
         return brief_in(tx, alloc, book, number);
     };
-    let sides = sides_under(tx, book, n, terms)?;
+    let related = related_under(tx, book, n, terms)?;
     let list_ends = list_ends_in(tx, book, n)?;
-    let brief = join_brief(number, row, sides, list_ends)?;
+    let brief = join_brief(number, row, related, list_ends)?;
     Ok(Some(brief))
 }

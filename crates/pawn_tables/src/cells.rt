@@ -1,5 +1,5 @@
 //! Reads the value of a column: numbers, flags, days, keys, texts. `encoding` writes them.
-ghost use Rattle.pawn_tables.specs.Common.{to_be_bytes, w128, column, IsDayNumber, IsStampDay, Sort, IsText};
+ghost use Rattle.pawn_tables.specs.Common.{to_be_bytes, w128, column, IsDayNumber, IsRequestDay, Sort, IsText};
 ghost use Rattle.pawn_tables.specs.Common.{BookingState, Issue, IsWord, Database, NoRecord};
 ghost use Rattle.pawn_tables.specs.Entries.{IsAmount};
 ghost use Rattle.pawn_tables.specs.Finding.{IsRead};
@@ -23,7 +23,7 @@ use uuid::Uuid;
 pub(crate) const NO_RECORD: KeepError = KeepError::Store(StoreFault::NoRecord);
 
 /// The error for a statement that failed: `Memory` if it was out of memory, otherwise `Database`.
-pub fn refused(error: Error) -> KeepError
+pub fn keeper_error(error: Error) -> KeepError
     ensures no_row { result ≢ Keeper.Store NoRecord }
     ensures memory { result ≡ Keeper.Memory → error ≡ SqlError.SqliteFailure OutOfMemory }
     ensures told { error ≡ SqlError.SqliteFailure OutOfMemory → result ≡ Keeper.Memory }
@@ -36,11 +36,11 @@ pub fn refused(error: Error) -> KeepError
 
 /// The error for a value of a row that could not be read: `Memory` if out of memory, otherwise `NoRecord`.
 fn unread(error: Error) -> KeepError
-    ensures memory { error ≡ SqlError.SqliteFailure OutOfMemory → result ≡ Keeper.Memory }
-    ensures told { result ≡ Keeper.Memory → error ≡ SqlError.SqliteFailure OutOfMemory }
+    ensures told { error ≡ SqlError.SqliteFailure OutOfMemory → result ≡ Keeper.Memory }
+    ensures memory { result ≡ Keeper.Memory → error ≡ SqlError.SqliteFailure OutOfMemory }
     ensures no_fault { result ≢ Keeper.Store Database }
 {
-    match refused(error) {
+    match keeper_error(error) {
         KeepError::Memory => KeepError::Memory,
         KeepError::Store(_) => NO_RECORD,
     }
@@ -106,7 +106,7 @@ pub(crate) fn day_at(row: &Row, at: usize) -> Result<Day, KeepError>
 
 /// The day with this number, if there is a number. `NoRecord` if it is not a request's day.
 pub(crate) fn request_day(number: Option<u64>) -> Result<Option<RequestDay>, KeepError>
-    ensures read { IsRead result number (IfSome number IsStampDay) }
+    ensures read { IsRead result number (IfSome number IsRequestDay) }
 {
     let Some(number) = number else {
         return Ok(None);
@@ -132,7 +132,7 @@ pub(crate) fn word_at(row: &Row, at: usize) -> Result<Secret, KeepError>
 }
 
 /// The key that sixteen bytes encode, the most significant byte first.
-fn key_of(bytes: &[u8]) -> Result<Secret, KeepError>
+fn key_of_blob(bytes: &[u8]) -> Result<Secret, KeepError>
     ensures read { (w : ℕ) → IsWord w → bytes.now ≡ to_be_bytes w128 w → IsRead result w ⊤ }
 {
     match Uuid::from_slice(bytes) {
@@ -146,7 +146,7 @@ pub(crate) fn optional_word_at(row: &Row, at: usize) -> Result<Option<Secret>, K
     ensures read { (w : Option ℕ) → at < length row.now → IfSome w IsWord → column row.now at ≡ or_null word w → IsRead result w ⊤ }
 {
     match row.get::<Option<Vec<u8>>>(at) {
-        Ok(Some(bytes)) => Ok(Some(key_of(&bytes)?)),
+        Ok(Some(bytes)) => Ok(Some(key_of_blob(&bytes)?)),
         Ok(None) => Ok(None),
         Err(error) => Err(unread(error)),
     }

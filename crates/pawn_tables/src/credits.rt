@@ -1,9 +1,9 @@
 //! Reads the part of a pledge's row that its debt depends on, for the migration of older schemas.
 #![tactic(auto, using(crate::proofs::StatementFinds::unread_debts))]
 
-ghost use Rattle.pawn_tables.specs.Common.{get, state, IsStampDay, PledgeValue, pledge_in, IsUnsoundAt, Lends};
+ghost use Rattle.pawn_tables.specs.Common.{get, state, IsRequestDay, PledgeValue, pledge_in, IsUnsoundAt, Lends};
 ghost use Rattle.pawn_tables.specs.Finding.{FindsOf, IsRead};
-ghost use Rattle.pawn_tables.specs.PledgeRows.{IsCreditTold, credit_told};
+ghost use Rattle.pawn_tables.specs.PledgeRows.{IsCreditDecodable, stored_credit};
 ghost use Rattle.pawn_tables.specs.Rows.{at_most_one, credit_cells};
 ghost use Rattle.pawn_tables.specs.StandsFor.{ListDebts};
 ghost use Rattle.std.specs.Prelude.{◌≡◌, Option, IfSome, is_ok, option_map};
@@ -26,7 +26,7 @@ pub struct Credit {
 
 /// The day with this number. `NoRecord` if it is not a request's day.
 fn named_day(number: u64) -> Result<RequestDay, KeepError>
-    ensures read { IsRead result number (IsStampDay number) }
+    ensures read { IsRead result number (IsRequestDay number) }
 {
     match RequestDay::of_day(day_of(number)?) {
         Ok(day) => Ok(day),
@@ -36,7 +36,7 @@ fn named_day(number: u64) -> Result<RequestDay, KeepError>
 
 /// The credit that a row has.
 fn credit_of(row: &Row) -> Result<Credit, KeepError>
-    ensures read { (p : PledgeValue) → row.now ≡ credit_cells p → IsRead result (credit_told p) (IsCreditTold p) }
+    ensures read { (p : PledgeValue) → row.now ≡ credit_cells p → IsRead result (stored_credit p) (IsCreditDecodable p) }
 {
     let number = number_at(row, 0)?;
     let credit = number_at(row, 1)?;
@@ -55,7 +55,7 @@ fn credit_of(row: &Row) -> Result<Credit, KeepError>
 
 /// The credit that the first row has, if there is a row.
 fn first_credit(rows: &[Row]) -> Result<Option<Credit>, KeepError>
-    ensures read { (p : Option PledgeValue) → rows.now ≡ at_most_one credit_cells p → IsRead result (option_map credit_told p) (IfSome p IsCreditTold) }
+    ensures read { (p : Option PledgeValue) → rows.now ≡ at_most_one credit_cells p → IsRead result (option_map stored_credit p) (IfSome p IsCreditDecodable) }
 {
     let [row, ..] = rows else {
         return Ok(None);
@@ -72,7 +72,7 @@ pub fn credit_in<S: Alter>(
     number: u32,
 ) -> Result<Option<Credit>, KeepError>
     ensures finds { FindsOf ListDebts (IsUnsoundAt book) (state S.Store tx.old.conn.now) (state S.Store tx.new.conn.now) result
-        (λ h x. x ≡ option_map credit_told (pledge_in (get h.books book) number)) }
+        (λ h x. x ≡ option_map stored_credit (pledge_in (get h.books book) number)) }
     ensures lent { Lends S.Store tx.old.conn tx.new.conn (is_ok result) }
 {
     let rows = run_query(tx, READ_CREDIT, params![book, number])?;

@@ -6,16 +6,16 @@ use pawn_book::{BookingState, Closing, Issue, KeepError, Kind, RequestDay, Sort,
 use sqlite_value::value::Value;
 
 /// The error for a value that does not fit in a cell; a database that fails is reported by the same error.
-pub const REFUSED: KeepError = KeepError::Store(StoreFault::Database);
+pub const DATABASE_FAILED: KeepError = KeepError::Store(StoreFault::Database);
 
-/// The number as the 32-bit number that a statement binds. `REFUSED` if it does not fit.
+/// The number as the 32-bit number that a statement binds. `DATABASE_FAILED` if it does not fit.
 pub fn in_32_bits(number: u64) -> Result<u32, KeepError>
     ensures value { IfOk result (λ n. n ≡ number) }
     ensures in_range { IfOk result (λ n. n < 2 ^ 32) }
 {
     match u32::try_from(number) {
         Ok(n) => Ok(n),
-        Err(_) => Err(REFUSED),
+        Err(_) => Err(DATABASE_FAILED),
     }
 }
 
@@ -112,18 +112,18 @@ pub fn closed_day(closing: Closing) -> Value
     }
 }
 
-/// A sum of pence as a cell. A sum that is paid can need more than 32 bits. `REFUSED` if 63 bits cannot hold it.
+/// A sum of pence as a cell. A sum that is paid can need more than 32 bits. `DATABASE_FAILED` if 63 bits cannot hold it.
 fn sum_value(pence: u64) -> Result<Value, KeepError>
     ensures value { IfOk result (λ sum. sum ≡ spec.number pence) }
 {
     match i64::try_from(pence) {
         Ok(sum) => Ok(Value::Int(sum)),
-        Err(_) => Err(REFUSED),
+        Err(_) => Err(DATABASE_FAILED),
     }
 }
 
-/// The cell for the sum that was paid or that a sale brought, in pence, or NULL while the pledge is open. `REFUSED` if
-/// 63 bits cannot hold it.
+/// The cell for the sum that was paid or that a sale brought, in pence, or NULL while the pledge is open.
+/// `DATABASE_FAILED` if 63 bits cannot hold it.
 pub fn closed_amount(closing: Closing) -> Result<Value, KeepError>
     ensures value { IfOk result (λ amount. amount ≡ spec.or_null spec.number (spec.closed_amount closing)) }
 {

@@ -1,7 +1,7 @@
 //! Decodes the row of a book, and rows that consist of one number.
 ghost use Rattle.pawn_tables.specs.Common.{IsNumber, BookValue, book_head, IsCapacity, Imported};
 ghost use Rattle.pawn_tables.specs.Finding.{IsRead};
-ghost use Rattle.pawn_tables.specs.Heads.{HasKeys, IsHeadTold, most_counted, number_cells};
+ghost use Rattle.pawn_tables.specs.Heads.{HasKeys, IsHeadDecodable, most_counted, number_cells};
 ghost use Rattle.pawn_tables.specs.Rows.{at_most_one, head_cells, import_count, import_key};
 ghost use Rattle.std.specs.Prelude.{[], ◌∷◌, ◌≡◌, ℕ, Option, IfSome, min, option_map, ⊤};
 
@@ -33,7 +33,7 @@ fn capacity_of(number: u64) -> Result<Capacity, KeepError>
 
 /// The head that the row of a book has.
 fn head_of(alloc: Global, row: &Row) -> Result<BookHead, KeepError>
-    ensures read { (k : BookValue) → HasKeys k → row.now ≡ head_cells k → IsRead result (book_head k) (IsHeadTold k) }
+    ensures read { (k : BookValue) → HasKeys k → row.now ≡ head_cells k → IsRead result (book_head k) (IsHeadDecodable k) }
 {
     let key = word_at(row, 0)?;
     let capacity = capacity_of(number_at(row, 2)?)?;
@@ -54,7 +54,7 @@ fn head_of(alloc: Global, row: &Row) -> Result<BookHead, KeepError>
 /// The head that the first row has, if there is a row.
 pub(crate) fn first_head(alloc: Global, rows: &[Row]) -> Result<Option<BookHead>, KeepError>
     ensures read { (k : Option BookValue) → IfSome k HasKeys → rows.now ≡ at_most_one head_cells k
-        → IsRead result (option_map book_head k) (IfSome k IsHeadTold) }
+        → IsRead result (option_map book_head k) (IfSome k IsHeadDecodable) }
 {
     let [row, ..] = rows else {
         return Ok(None);

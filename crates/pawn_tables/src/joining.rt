@@ -32,7 +32,7 @@ pub(crate) struct ListEnds {
 
 /// What tables other than `pledges` store of a pledge in at most one row each.
 #[derive(Clone, Copy)]
-pub(crate) struct RowsBeside {
+pub(crate) struct RelatedRows {
     pub terms: Option<Terms>,
     pub booking: Option<Booking>,
     pub totals: Option<Totals>,
@@ -42,5 +42,5 @@ pub(crate) struct RowsBeside {
 #[derive(Drop)]
 pub(crate) struct StoredPledge {
     pub row: PledgeRow,
-    pub sides: RowsBeside,
+    pub related: RelatedRows,
 }

@@ -3,18 +3,18 @@ ghost use Rattle.pawn_book.specs.Items.{item_number};
 ghost use Rattle.pawn_book.specs.declared.items.RowItem.{RowItem};
 ghost use Rattle.pawn_tables.specs.Common.{Booking, Each, Entry, Extension, IsDayNumber, IsWord, Issued, PledgeItem};
 ghost use Rattle.pawn_tables.specs.Common.{Row as Cells};
-ghost use Rattle.pawn_tables.specs.Entries.{IsEntryTold};
+ghost use Rattle.pawn_tables.specs.Entries.{IsEntryDecodable};
 ghost use Rattle.pawn_tables.specs.Finding.{Finds, IsRead};
-ghost use Rattle.pawn_tables.specs.Kinds.{CanBeRead, AreCellsTold, IsItemTold, IsOwnTold, IsRowOf, cells_of, item_cells, row_kind};
+ghost use Rattle.pawn_tables.specs.Kinds.{CanBeRead, AreCellsDecodable, IsItemDecodable, IsOwnDecodable, IsRowOf, cells_of, item_cells, row_kind};
 ghost use Rattle.pawn_tables.specs.Kinds.{number_place, own_cells, range_text};
 ghost use Rattle.pawn_tables.specs.Rows.{booking_cells, entry_cells, extension_cells, secret_cells};
 ghost use Rattle.std.specs.Prelude.{◌≡◌, ◌++◌, ◌∷◌, [], ℕ, List, OnOk, map};
 
 use crate::cells::number_at;
 use crate::heads::number_of;
-use crate::lists::{entry_of, extension_of, issued_of};
+use crate::list_decoding::{entry_of, extension_of, issued_of};
+use crate::pledge_decoding::pledge_row;
 use crate::records::booking_of;
-use crate::rows::pledge_row;
 use crate::texts::{
     READ_BOOKINGS_RANGE, READ_ENTRIES_RANGE, READ_EXTENSIONS_RANGE, READ_PLEDGES_RANGE,
     READ_SECRETS_RANGE,
@@ -61,7 +61,7 @@ impl RowKind {
 
 /// A pledge's own row.
 fn own_item(alloc: Global, number: Number, row: &Row) -> Result<RowItem, KeepError>
-    ensures read { (q : PledgeItem) (more : Cells) → q.number ≡ number → row.now ≡ own_cells q ++ more → IsRead result (RowItem.Pledge q) (IsOwnTold q) }
+    ensures read { (q : PledgeItem) (more : Cells) → q.number ≡ number → row.now ≡ own_cells q ++ more → IsRead result (RowItem.Pledge q) (IsOwnDecodable q) }
 {
     let told = pledge_row(alloc, row)?;
     Ok(RowItem::Pledge(PledgeItem {
@@ -92,7 +92,7 @@ fn secret_item(number: Number, row: &Row) -> Result<RowItem, KeepError>
 
 /// The row of an entry.
 fn entry_item(number: Number, row: &Row) -> Result<RowItem, KeepError>
-    ensures read { (e : Entry) (more : Cells) → row.now ≡ entry_cells e ++ more → IsRead result (RowItem.Entry number e) (IsEntryTold e) }
+    ensures read { (e : Entry) (more : Cells) → row.now ≡ entry_cells e ++ more → IsRead result (RowItem.Entry number e) (IsEntryDecodable e) }
 {
     let entry = entry_of(row)?;
     Ok(RowItem::Entry { number, entry })
@@ -123,7 +123,7 @@ fn booking_item(number: Number, row: &Row) -> Result<RowItem, KeepError>
 /// The row of this kind of pledge `number`.
 fn item_of(alloc: Global, kind: RowKind, number: Number, row: &Row) -> Result<RowItem, KeepError>
     ensures read { (i : RowItem) (more : Cells) → row_kind i ≡ kind → item_number i ≡ number → CanBeRead i → row.now ≡ item_cells i ++ more
-        → IsRead result i (AreCellsTold i) }
+        → IsRead result i (AreCellsDecodable i) }
 {
     match kind {
         RowKind::Pledge => own_item(alloc, number, row),
@@ -136,7 +136,7 @@ fn item_of(alloc: Global, kind: RowKind, number: Number, row: &Row) -> Result<Ro
 
 /// The number of the pledge: the one that is given, or else that of the row.
 fn pledge_number(given: &Option<Number>, kind: RowKind, row: &Row) -> Result<Number, KeepError>
-    ensures read { (i : RowItem) → IsRowOf kind given.now i → row.now ≡ cells_of given.now i → IsRead result (item_number i) (IsItemTold i) }
+    ensures read { (i : RowItem) → IsRowOf kind given.now i → row.now ≡ cells_of given.now i → IsRead result (item_number i) (IsItemDecodable i) }
 {
     match given {
         Some(number) => Ok(*number),
@@ -151,7 +151,7 @@ fn item_at(
     given: &Option<Number>,
     row: &Row,
 ) -> Result<RowItem, KeepError>
-    ensures read { (i : RowItem) → IsRowOf kind given.now i → row.now ≡ cells_of given.now i → IsRead result i (IsItemTold i) }
+    ensures read { (i : RowItem) → IsRowOf kind given.now i → row.now ≡ cells_of given.now i → IsRead result i (IsItemDecodable i) }
 {
     let number = pledge_number(given, kind, row)?;
     item_of(alloc, kind, number, row)
@@ -165,7 +165,7 @@ pub(crate) fn read_items(
     rows: &[Row],
 ) -> Result<Vec<RowItem>, KeepError>
     ensures read { (is : List RowItem) → Each (IsRowOf kind given.now) is → rows.now ≡ map (cells_of given.now) is
-        → Finds result (λ x. x.items ≡ is) (Each IsItemTold is → ⊥) }
+        → Finds result (λ x. x.items ≡ is) (Each IsItemDecodable is → ⊥) }
 {
     let mut items = Vec::new(alloc);
     for row in rows {
@@ -183,7 +183,7 @@ fn add_item(
     items: &mut Vec<RowItem>,
 ) -> Result<(), KeepError>
     ensures read { (i : RowItem) → IsRowOf kind given.now i → row.now ≡ cells_of given.now i
-        → Finds result (λ u. items.new.items ≡ items.old.items ++ i ∷ []) (IsItemTold i → ⊥) }
+        → Finds result (λ u. items.new.items ≡ items.old.items ++ i ∷ []) (IsItemDecodable i → ⊥) }
 {
     let item = item_at(alloc, kind, given, row)?;
     match push_item(items, item) {

@@ -14,27 +14,27 @@ mod kinds;
 mod laws;
 mod line;
 mod lines;
+mod list_decoding;
 mod list_elements;
 mod list_ends;
-mod lists;
 mod pages;
+mod pledge_decoding;
 mod queries;
 mod ranges;
 mod records;
-mod rows;
 mod sheets;
 pub mod texts;
 mod whole;
 mod worked;
-mod writing;
+mod write_statement;
 
 pub use books::{confirmed_in, head_in, next_in, ref_in, rows_in};
 pub use briefs::{brief_in, further_brief_in};
-pub use cells::refused;
+pub use cells::keeper_error;
 pub use credits::{Credit, credit_in};
 pub use encoding::{
-    REFUSED, agreed_value, closed_amount, closed_day, closed_number, flag_number, in_32_bits,
-    issue_number, kind_number, sort_number, state_number,
+    DATABASE_FAILED, agreed_value, closed_amount, closed_day, closed_number, flag_number,
+    in_32_bits, issue_number, kind_number, sort_number, state_number,
 };
 pub use kinds::RowKind;
 pub use laws::tables_stand_for_one;
@@ -46,4 +46,4 @@ pub use ranges::{KindPage, RANGE, kind_page, list_page};
 pub use sheets::{count_in, lines_page, windows_in};
 pub use whole::{pledge_of, terms_under};
 pub use worked::worked_tables;
-pub use writing::write;
+pub use write_statement::write;

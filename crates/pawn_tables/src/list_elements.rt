@@ -7,7 +7,7 @@ ghost use Rattle.pawn_tables.specs.Finding.{FindsBy};
 ghost use Rattle.pawn_tables.specs.Places.{at_place};
 ghost use Rattle.std.specs.Prelude.{◌≡◌, is_ok};
 
-use crate::lists::{first_entry, first_extension, first_issued};
+use crate::list_decoding::{first_entry, first_extension, first_issued};
 use crate::queries::run_query;
 use crate::texts::{READ_ENTRY, READ_EXTENSION, READ_SECRET};
 use pawn_book::{Entry, Extension, Issued, KeepError};

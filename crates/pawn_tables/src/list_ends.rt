@@ -12,7 +12,7 @@ ghost use Rattle.std.specs.Prelude.{◌≡◌, ℕ, IfSome, Option, is_ok, lengt
 
 use crate::cells::number_at;
 use crate::joining::{LastSecret, ListEnds};
-use crate::lists::issued_of;
+use crate::list_decoding::issued_of;
 use crate::queries::run_query;
 use crate::texts::{READ_LAST_PLACE, READ_LAST_SECRET, READ_LAST_SEQ};
 use pawn_book::KeepError;

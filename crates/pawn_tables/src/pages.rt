@@ -7,7 +7,7 @@ ghost use Rattle.pawn_tables.specs.Finding.{FindsBy};
 ghost use Rattle.pawn_tables.specs.Places.{page_behind};
 ghost use Rattle.std.specs.Prelude.{◌≡◌, is_ok};
 
-use crate::lists::{read_entries, read_extensions};
+use crate::list_decoding::{read_entries, read_extensions};
 use crate::queries::run_query;
 use crate::texts::{READ_ENTRIES_PAGE, READ_EXTENSIONS_PAGE};
 use pawn_book::KeepError;

@@ -9,10 +9,10 @@ ghost use Rattle.pawn_tables.specs.StandsFor.{ListDebts};
 ghost use Rattle.std.specs.Prelude.{◌≡◌, Err, IfOk, is_ok, option_map};
 ghost use Rattle.pawn_book.specs.declared.fault.KeepError.TheVariants as Keeper;
 
-use crate::cells::refused;
-use crate::lists::{read_entries, read_extensions, read_secrets};
+use crate::cells::keeper_error;
+use crate::list_decoding::{read_entries, read_extensions, read_secrets};
+use crate::pledge_decoding::first_pledge;
 use crate::records::{PledgeRow, first_booking, first_terms, first_totals};
-use crate::rows::first_pledge;
 use crate::texts::{
     READ_BOOKING, READ_ENTRIES, READ_EXTENSIONS, READ_PLEDGE, READ_SECRETS, READ_TERMS, READ_TOTALS,
 };
@@ -37,7 +37,7 @@ pub(crate) fn run_query<S: Alter>(
 {
     match ask(tx, sql, params) {
         Ok(rows) => Ok(rows),
-        Err(error) => Err(refused(error)),
+        Err(error) => Err(keeper_error(error)),
     }
 }
 

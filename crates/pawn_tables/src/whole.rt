@@ -1,14 +1,14 @@
 //! Reads a whole pledge from all its tables.
 #![tactic(auto, using(crate::proofs::Basics::lent_then))]
 
-ghost use Rattle.pawn_tables.specs.Common.{get, pledge_in, terms_of, terms_at, IsUnsoundAt, Lends};
+ghost use Rattle.pawn_tables.specs.Common.{get, pledge_in, terms_of, terms_at, IsReachable, IsUnsoundAt, Lends};
 ghost use Rattle.pawn_tables.specs.Finding.{FindsBy};
-ghost use Rattle.pawn_tables.specs.PledgeRows.{AreLists, AreSides, AreTold};
-ghost use Rattle.std.specs.Prelude.{◌≡◌, IfSome, is_ok};
+ghost use Rattle.pawn_tables.specs.PledgeRows.{AreLists, AreRelated, AreTold};
+ghost use Rattle.std.specs.Prelude.{◌≡◌, IfOk, IfSome, is_ok};
 
 use crate::cells::NO_RECORD;
 use crate::joining::pledges::join_pledge;
-use crate::joining::{Lists, RowsBeside, StoredPledge};
+use crate::joining::{Lists, RelatedRows, StoredPledge};
 use crate::queries::{
     booking_in, entries_in, extensions_in, row_in, secrets_in, terms_in, totals_in,
 };
@@ -53,20 +53,20 @@ pub(crate) fn lists_in<S: Alter>(
 }
 
 /// The terms, the booking and the totals of a pledge.
-pub(crate) fn sides_in<S: Alter>(
+pub(crate) fn related_in<S: Alter>(
     tx: &mut Transaction<'_, S>,
     book: u32,
     number: u32,
     version: u32,
-) -> Result<RowsBeside, KeepError>
+) -> Result<RelatedRows, KeepError>
     ensures finds { FindsBy S.Store tx.old.conn tx.new.conn (IsUnsoundAt book) result
-        (λ h s. IfSome (pledge_in (get h.books book) number) (λ p. version ≡ p.agreement.version → AreSides s p)) }
+        (λ h s. IfSome (pledge_in (get h.books book) number) (λ p. version ≡ p.agreement.version → AreRelated s p)) }
     ensures lent { Lends S.Store tx.old.conn tx.new.conn (is_ok result) }
 {
     let terms = terms_in(tx, book, version)?;
     let booking = booking_in(tx, book, number)?;
     let totals = totals_in(tx, book, number)?;
-    Ok(RowsBeside {
+    Ok(RelatedRows {
         terms,
         booking,
         totals,
@@ -89,13 +89,13 @@ pub(crate) fn stored_pledge_in<S: Alter>(
     let Ok(version) = u32::try_from(row.version) else {
         return Err(NO_RECORD);
     };
-    let sides = sides_in(tx, book, number, version)?;
-    Ok(Some(StoredPledge { row, sides }))
+    let related = related_in(tx, book, number, version)?;
+    Ok(Some(StoredPledge { row, related }))
 }
 
 /// The pledge with this number in a book, if there is one. The stored totals and the stored end of the period are
 /// compared with those that follow from the record; the error is `NoRecord` if they differ. `NoRecord` is answered only
-/// if the book is not sound.
+/// if the book is not sound. Commands can produce each pledge that is returned.
 pub fn pledge_of<S: Alter>(
     tx: &mut Transaction<'_, S>,
     alloc: Global,
@@ -103,6 +103,7 @@ pub fn pledge_of<S: Alter>(
     number: Number,
 ) -> Result<Option<Pledge>, KeepError>
     ensures finds { FindsBy S.Store tx.old.conn tx.new.conn (IsUnsoundAt book) result (λ h pledge. pledge ≡ pledge_in (get h.books book) number) }
+    ensures reachable { IfOk result (λ pledge. IfSome pledge IsReachable) }
     ensures lent { Lends S.Store tx.old.conn tx.new.conn (is_ok result) }
 {
     let n = number.get();
@@ -110,6 +111,6 @@ pub fn pledge_of<S: Alter>(
         return Ok(None);
     };
     let lists = lists_in(tx, alloc, book, n)?;
-    let pledge = join_pledge(number, told.row, told.sides, lists)?;
+    let pledge = join_pledge(number, told.row, told.related, lists)?;
     Ok(Some(pledge))
 }

@@ -4,8 +4,8 @@ use Rattle.jiff_core.proofs.SignedLemmas.{signed_arith}
 use Rattle.jiff_core.specs.Date.{epoch_day}
 use Rattle.jiff_core.specs.declared.civil.date.Date.{Date}
 use Rattle.pawn_terms.proofs.CalendarLemmas.{civil_after_is, civil_of-date, civil_of-year, same_civil}
-use Rattle.pawn_terms.specs.Calendar.{Civil, civil_of, civil_text, day_text, digit, first_day, IsDayNumber, IsStampDay}
-use Rattle.pawn_terms.specs.Calendar.{IsStampCivil, IsWritable}
+use Rattle.pawn_terms.specs.Calendar.{Civil, civil_of, civil_text, day_text, digit, first_day, IsDayNumber, IsRequestDay}
+use Rattle.pawn_terms.specs.Calendar.{IsRequestCivil, IsWritable}
 use Rattle.pawn_terms.specs.declared.day.BadDay.{BadDay}
 use Rattle.std.proofs.Common.{◌≡◌, ℕ, ◌+◌, ◌-◌, ◌*◌, ◌/◌, ◌<◌, List, [], ◌∷◌, length, get_or, Result, Ok, Err, IsOk}
 use Rattle.std.proofs.Common.{IfOk, refl, sym, ap, subst, ◌∙◌, arith, pos, ◌≤ℤ◌, unsigned_abs}
@@ -75,8 +75,8 @@ civil_text-injective a b ha hb e =
     (same_pair a.day b.day ha.2 hb.2 (at 8 e) (at 9 e))
 
 -- the day of a number that a request may name
-pub civil_of-stamp : (n : ℕ) → IsStampDay n → IsStampCivil (civil_of n) × IsWritable (civil_of n)
-civil_of-stamp n h =
+pub civil_of-request : (n : ℕ) → IsRequestDay n → IsRequestCivil (civil_of n) × IsWritable (civil_of n)
+civil_of-request n h =
     let p = (civil_after_is (n - first_day)).0 in
     let y = civil_of-year n (h.0, omega arith) in
     let high = y.1 h.1 in
@@ -84,14 +84,14 @@ civil_of-stamp n h =
     (((y.0, high), p.month_in, p.day_in), (omega (arith, high), omega (arith, p.month_in), omega (arith, p.day_in, m)))
 
 -- the number of a day that was read
-pub day_text-read : (r : Result ℕ BadDay) (t : List ℕ) (c : Civil) → t ≡ civil_text c → IfOk r (λ d. civil_of d ≡ c) → IfOk r IsStampDay → IsOk r
-    → (n : ℕ) × IsStampDay n × (t ≡ day_text n)
+pub day_text-read : (r : Result ℕ BadDay) (t : List ℕ) (c : Civil) → t ≡ civil_text c → IfOk r (λ d. civil_of d ≡ c) → IfOk r IsRequestDay → IsOk r
+    → (n : ℕ) × IsRequestDay n × (t ≡ day_text n)
 day_text-read (Ok n) t c is same day h = (n, day, is ∙ ap civil_text (sym same))
 day_text-read (Err e) t c is same day h = absurd (false≢true h)
 
 -- the text of a day determines its year, month and day
-pub civil_of-read : (n : ℕ) (t : List ℕ) (c : Civil) → IsStampDay n → t ≡ day_text n → t ≡ civil_text c → IsWritable c → IsStampCivil c
+pub civil_of-read : (n : ℕ) (t : List ℕ) (c : Civil) → IsRequestDay n → t ≡ day_text n → t ≡ civil_text c → IsWritable c → IsRequestCivil c
 civil_of-read n t c day text is small =
-    let p = civil_of-stamp n day in
+    let p = civil_of-request n day in
     let same : civil_of n ≡ c = civil_text-injective (civil_of n) c p.1 small (sym text ∙ is) in
-    subst IsStampCivil same p.0
+    subst IsRequestCivil same p.0

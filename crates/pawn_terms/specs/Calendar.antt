@@ -1,5 +1,5 @@
 -- The calendar: a day is a number, and its year, month and day are found by counting day by day from 2000-01-01.
-pub use Rattle.pawn_terms.specs.Limits.{first_day, last_stamp_day, final_day}
+pub use Rattle.pawn_terms.specs.Limits.{first_day, last_request_day, final_day}
 use Rattle.jiff_core.specs.Calendar.{days_in_month, days_from_civil}
 use Rattle.std.specs.Int.{IsInRange}
 use Rattle.std.specs.Prelude.{◌≡◌, ℕ, zero, suc, ◌+◌, ◌-◌, ◌≤◌, ◌<◌, ◌/◌, ◌%◌, ◌==◌, nat_lt, nat_le, min, max, Bool}
@@ -81,13 +81,13 @@ abbrev pub period_end : ℕ → Option ℕ → Option ℕ → ℕ
 period_end taken agreed extended = later_of (later_of (six_months taken) agreed) extended
 
 -- the calendar has the day, and a request may name it
-abbrev pub IsStampCivil : Civil → Type 0
-IsStampCivil c =
+abbrev pub IsRequestCivil : Civil → Type 0
+IsRequestCivil c =
     IsInRange 2000 2199 c.year × IsInRange 1 12 c.month × IsInRange 1 (month_length c.year c.month) c.day
 
 -- the number of a day that a request may name
-abbrev pub IsStampDay : ℕ → Type 0
-IsStampDay n = (first_day ≤ n) × (n ≤ last_stamp_day)
+abbrev pub IsRequestDay : ℕ → Type 0
+IsRequestDay n = (first_day ≤ n) × (n ≤ last_request_day)
 
 -- the ASCII code of the last decimal digit of a number
 abbrev pub digit : ℕ → ℕ

@@ -6,8 +6,8 @@ abbrev pub first_day : ℕ
 first_day = 10957
 
 -- 2199-12-31, the last day that a request may name
-abbrev pub last_stamp_day : ℕ
-last_stamp_day = 84005
+abbrev pub last_request_day : ℕ
+last_request_day = 84005
 
 -- the last day: 2299-12-31
 abbrev pub final_day : ℕ

@@ -1,5 +1,5 @@
 -- Worked examples of days, ends of periods and terms.
-use Rattle.pawn_terms.specs.Calendar.{day_number, day_text, six_months, period_end, first_day, last_stamp_day}
+use Rattle.pawn_terms.specs.Calendar.{day_number, day_text, six_months, period_end, first_day, last_request_day}
 use Rattle.pawn_terms.specs.Calendar.{final_day}
 use Rattle.pawn_terms.specs.Terms.{rates_of}
 use Rattle.pawn_terms.specs.TermsFault.{terms_answer}
@@ -15,7 +15,7 @@ abbrev pub WorkedNumbers : Type 0
 WorkedNumbers =
     (date 2000 1 1 ≡ first_day)
     × (date 2024 1 31 ≡ 19753)
-    × (date 2199 12 31 ≡ last_stamp_day)
+    × (date 2199 12 31 ≡ last_request_day)
     × (date 2299 12 31 ≡ final_day)
 
 -- February has 28 days, or 29 in a leap year; 2000 is a leap year and 2100 is not

@@ -3,7 +3,7 @@
 ghost use Rattle.jiff_core.specs.Calendar.{IsEpochDay};
 ghost use Rattle.jiff_core.specs.Date.{epoch_day};
 ghost use Rattle.jiff_span.specs.Months.{add_months, IsShiftable};
-ghost use Rattle.pawn_terms.specs.Calendar.{Civil, last_stamp_day, final_day, IsDayNumber, IsStampDay, IsStampCivil};
+ghost use Rattle.pawn_terms.specs.Calendar.{Civil, last_request_day, final_day, IsDayNumber, IsRequestDay, IsRequestCivil};
 ghost use Rattle.pawn_terms.specs.Calendar.{civil_of, day_number, six_months, later_of, period_end, day_text};
 ghost use Rattle.pawn_terms.specs.Calendar.{civil_text, IsWritable, digit};
 ghost use Rattle.std.specs.Int.{IsInRange};
@@ -128,10 +128,10 @@ impl Day {
     /// The day of a year, a month and a day of the month. `BadDay` if the calendar has no such day, or it is not from
     /// 2000-01-01 to 2199-12-31.
     pub fn from_ymd(year: u16, month: u8, day: u8) -> Result<Day, BadDay>
-        ensures succeeds { IsOk result ↔ IsStampCivil (record { year = year; month = month; day = day }) }
+        ensures succeeds { IsOk result ↔ IsRequestCivil (record { year = year; month = month; day = day }) }
         ensures value { IfOk result (λ d. civil_of d ≡ record { year = year; month = month; day = day }) }
         ensures number { IfOk result (λ d. d ≡ day_number (record { year = year; month = month; day = day })) }
-        ensures in_range { IfOk result IsStampDay }
+        ensures in_range { IfOk result IsRequestDay }
     {
         if year < 2000 || year > 2199 || month > 12 || day > 31 {
             return Err(BadDay);
@@ -145,8 +145,8 @@ impl Day {
     /// The day that a text such as `2024-01-31` names, in exactly this form. `BadDay` for any other text, and for a day
     /// that is not from 2000-01-01 to 2199-12-31.
     pub fn of_text(text: &[u8]) -> Result<Day, BadDay>
-        ensures ok { IfOk result (λ d. (text.now ≡ day_text d) × IsStampDay d) }
-        ensures succeeds { IsOk result ↔ ((n : ℕ) × IsStampDay n × (text.now ≡ day_text n)) }
+        ensures ok { IfOk result (λ d. (text.now ≡ day_text d) × IsRequestDay d) }
+        ensures succeeds { IsOk result ↔ ((n : ℕ) × IsRequestDay n × (text.now ≡ day_text n)) }
     {
         match civil_in(text) {
             Some((year, month, day)) => Day::from_ymd(year, month, day),
@@ -164,7 +164,7 @@ impl Day {
     /// The same day six calendar months later, or the last day of that month if it is shorter. This day must not be
     /// after 2199-12-31.
     pub fn six_months_after(self) -> Day
-        requires within { self ≤ last_stamp_day }
+        requires within { self ≤ last_request_day }
         ensures value { result ≡ six_months self }
     {
         Day::of_date(six_months_on(self.date()))
@@ -260,7 +260,7 @@ fn six_months_on(date: civil::Date) -> civil::Date
 /// The last day of a pledge's period: the latest of the day six months after the pledge was taken, the agreed end, and
 /// the end of the last extension. `taken` must not be after 2199-12-31.
 pub fn last_day(taken: Day, agreed: Option<Day>, extended: Option<Day>) -> Day
-    requires within { taken ≤ last_stamp_day }
+    requires within { taken ≤ last_request_day }
     ensures value { result ≡ period_end taken agreed extended }
 {
     taken.six_months_after().later_of(agreed).later_of(extended)

@@ -10,7 +10,7 @@ mod worked;
 
 pub use day::{BadDay, Day, last_day};
 pub use laws::law_of_calendars;
-pub use limits::LAST_STAMP_DAY;
+pub use limits::LAST_REQUEST_DAY;
 pub use request_day::RequestDay;
 pub use terms::{Rates, Terms, TermsFault};
 pub use worked::{worked_days, worked_ends, worked_limits, worked_terms};

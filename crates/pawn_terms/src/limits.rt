@@ -4,7 +4,7 @@
 pub(crate) const FIRST_DAY: u32 = 10_957;
 
 /// The number of 2199-12-31, the last day that a request may name.
-pub const LAST_STAMP_DAY: u32 = 84_005;
+pub const LAST_REQUEST_DAY: u32 = 84_005;
 
 /// The number of 2299-12-31.
 pub(crate) const FINAL_DAY: u32 = 120_529;

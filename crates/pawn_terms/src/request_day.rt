@@ -1,10 +1,10 @@
 //! `RequestDay`, a day that a request may name.
 
-ghost use Rattle.pawn_terms.specs.Calendar.{IsStampDay, day_text};
+ghost use Rattle.pawn_terms.specs.Calendar.{IsRequestDay, day_text};
 ghost use Rattle.std.specs.Prelude.{◌≡◌, ◌↔◌, ℕ, IsOk, IfOk};
 
 use crate::day::{BadDay, Day};
-use crate::limits::LAST_STAMP_DAY;
+use crate::limits::LAST_REQUEST_DAY;
 use std::marker::Model;
 
 /// A day that a request, a stamp or a record may name, from 2000-01-01 to 2199-12-31. In contracts the value is the day
@@ -19,7 +19,7 @@ impl Model for RequestDay {
 
     ghost view = { λ d. d.day };
 
-    ghost invariant = { λ d. IsStampDay d.day };
+    ghost invariant = { λ d. IsRequestDay d.day };
 
     ghost inverse = { λ n. record { day = n } };
 }
@@ -28,9 +28,9 @@ impl RequestDay {
     /// This day as one that a request may name. `BadDay` if it is after 2199-12-31.
     pub fn of_day(day: Day) -> Result<RequestDay, BadDay>
         ensures ok { IfOk result (λ d. d ≡ day) }
-        ensures succeeds { IsOk result ↔ IsStampDay day }
+        ensures succeeds { IsOk result ↔ IsRequestDay day }
     {
-        if day.count() > LAST_STAMP_DAY {
+        if day.count() > LAST_REQUEST_DAY {
             return Err(BadDay);
         }
         Ok(RequestDay { day })
@@ -40,7 +40,7 @@ impl RequestDay {
     /// that is not from 2000-01-01 to 2199-12-31.
     pub fn of_text(text: &[u8]) -> Result<RequestDay, BadDay>
         ensures ok { IfOk result (λ d. text.now ≡ day_text d) }
-        ensures succeeds { IsOk result ↔ ((n : ℕ) × IsStampDay n × (text.now ≡ day_text n)) }
+        ensures succeeds { IsOk result ↔ ((n : ℕ) × IsRequestDay n × (text.now ≡ day_text n)) }
     {
         let day = Day::of_text(text)?;
         Ok(RequestDay { day })
@@ -49,7 +49,7 @@ impl RequestDay {
     /// The same day as a `Day`.
     pub fn day(self) -> Day
         ensures value { result ≡ self }
-        ensures in_range { IsStampDay self }
+        ensures in_range { IsRequestDay self }
     {
         self.day
     }

@@ -16,7 +16,7 @@ use std::alloc::Global;
 use std::process::Abort;
 use std::test::Fail;
 
-mod filling;
+mod imports;
 
 const OPERATOR: u128 = 11;
 

@@ -19,10 +19,10 @@ fn the_text_of_a_book_is_read(rt: HostRuntime) -> Result<(), Fail> {
     let Ok(book) = read_book(rt.alloc(), EXAMPLE.as_bytes()) else {
         return Err(Fail::from("no book"));
     };
-    assert!(rt; book.rows().terms.len() == 1);
-    let pledges = book.rows().pledges.as_slice();
+    assert!(rt; book.terms().len() == 1);
+    let pledges = book.pledges();
     assert!(rt; pledges.len() == 1);
-    assert!(rt; pledges[0].secrets.len() == 2);
-    assert!(rt; pledges[0].standing.booking.is_some());
+    assert!(rt; pledges[0].secrets().len() == 2);
+    assert!(rt; pledges[0].standing().booking.is_some());
     Ok(())
 }

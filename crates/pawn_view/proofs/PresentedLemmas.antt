@@ -4,7 +4,7 @@ use Rattle.pawn_book.proofs.VisitLemmas.{cut_at}
 use Rattle.pawn_view.proofs.StatementLemmas.{some_same, shows_ended}
 use Rattle.pawn_view.specs.Common.{BriefFields, End, Front, HasTermsOf, Host, IsSound, KeepError, PledgeValue, Puts}
 use Rattle.pawn_view.specs.Common.{PutsShare, Receipt, ViewFault, Whole, Writing, are_unknown, brief_of, call_end}
-use Rattle.pawn_view.specs.Common.{ending_of, get, is_live, live_at, only_live, pledge_in, write_failed}
+use Rattle.pawn_view.specs.Common.{result_of_text, get, is_live, live_at, only_live, pledge_in, write_failed}
 use Rattle.pawn_view.specs.Shown.{Shows, shown_of}
 use Rattle.pawn_view.specs.Text.{further_texts, presented_text, shown_text, statement_text}
 use Rattle.pawn_writing.proofs.ShareLemmas.{share_puts, share_more, share_then, writings_in_turn}
@@ -153,7 +153,7 @@ statement_stops contents a w day p others first = share_more {s = statement_text
 -- the text where the first is live
 pub live_first_shows : {W : Type 0} (contents : W → Option (List ℕ)) (a w : Writing W) (day : ℕ) (pledges : ℕ → Option PledgeValue) (r : Receipt)
     (others : List (Option PledgeValue)) (brief : BriefFields) (done : Result (Unit {0}) KeepError) (answer : Result (Unit {0}) ViewFault)
-    → write_failed a ≡ false → answer ≡ ending_of done (write_failed w) → Some brief ≡ option_map brief_of (live_at pledges r) → ((p : PledgeValue)
+    → write_failed a ≡ false → answer ≡ result_of_text done (write_failed w) → Some brief ≡ option_map brief_of (live_at pledges r) → ((p : PledgeValue)
     → pledges r.number ≡ Some p → brief ≡ brief_of p → PutsShare contents a (statement_text day p ++ further_texts day others) (call_end done) w)
     → Shows contents a (shown_of day (live_at pledges r ∷ others)) answer w
 live_first_shows contents a w day pledges r others brief done answer fine is live share =
@@ -170,7 +170,7 @@ live_first_shows contents a w day pledges r others brief done answer fine is liv
 
 -- the text where the first is not live, and another is
 pub dead_first_shows : {W : Type 0} (contents : W → Option (List ℕ)) (a b w : Writing W) (day : ℕ) (others : List (Option PledgeValue)) (unknown : Bool)
-    (done : Result (Unit {0}) KeepError) (answer : Result (Unit {0}) ViewFault) → write_failed a ≡ false → answer ≡ ending_of done (write_failed w)
+    (done : Result (Unit {0}) KeepError) (answer : Result (Unit {0}) ViewFault) → write_failed a ≡ false → answer ≡ result_of_text done (write_failed w)
     → true ≡ not unknown → Puts contents a (codes "Unknown receipt\n") b → PutsShare contents b (further_texts day others) (call_end done) w
     → Shows contents a (if unknown then None else Some (presented_text day (None ∷ others))) answer w
 dead_first_shows contents a b w day others true done answer fine is known line share = cc

@@ -2,7 +2,7 @@
 use Rattle.pawn_book.specs.declared.change.BookHead.{BookHead}
 use Rattle.pawn_view.proofs.StatementLemmas.{shows_ended, some_same}
 use Rattle.pawn_view.specs.Common.{BookValue, End, Flow, Handed, IsShare, KeepError, PledgeValue, Puts, PutsLine}
-use Rattle.pawn_view.specs.Common.{PutsShare, SheetItem, ViewFault, Writing, book_head, call_end, day_sheet, ending_of}
+use Rattle.pawn_view.specs.Common.{PutsShare, SheetItem, ViewFault, Writing, book_head, call_end, day_sheet, result_of_text}
 use Rattle.pawn_view.specs.Common.{pledges_of, write_failed}
 use Rattle.pawn_view.specs.Sheets.{PutsItem, book_sheet, day_lines, sheet_line}
 use Rattle.pawn_view.specs.Shown.{Shows}
@@ -46,7 +46,7 @@ day_put contents v w given flow end day pledges handed share =
 
 -- the heading of a book's sheet, and then its lines, by what held the writer until then
 pub sheet_shows : {W : Type 0} (contents : W → Option (List ℕ)) (a b held w : Writing W) (day : ℕ) (o : Option BookValue) (head : BookHead)
-    (done : Result (Unit {0}) KeepError) (answer : Result (Unit {0}) ViewFault) → write_failed a ≡ false → answer ≡ ending_of done (write_failed w)
+    (done : Result (Unit {0}) KeepError) (answer : Result (Unit {0}) ViewFault) → write_failed a ≡ false → answer ≡ result_of_text done (write_failed w)
     → Some head ≡ option_map book_head o → Puts contents a (day_line (codes "Day sheet ") day) b → PutsShare contents b
     (day_lines head.capacity day (pledges_of o)) (call_end done) held → w ≡ held → Shows contents a (option_map (book_sheet day) o) answer w
 sheet_shows contents a b held w day None head done answer fine is at first share same = cc

@@ -3,7 +3,7 @@ use Rattle.pawn_debt.specs.declared.owing.Owing.{Owing}
 use Rattle.pawn_view.proofs.SoundLemmas.{IsTold}
 use Rattle.pawn_view.specs.Common.{BriefFields, End, Flow, Front, Handed, IsShare, KeepError, PledgeValue, PutFront}
 use Rattle.pawn_view.specs.Common.{Puts, PutsLine, PutsShare, ViewFault, Whole, Writing, Written, brief_of, brief_owing}
-use Rattle.pawn_view.specs.Common.{brief_status, call_end, debt_of, due, end_of, ending_of, flat_map, owing_of}
+use Rattle.pawn_view.specs.Common.{brief_status, call_end, debt_of, due, end_of, result_of_text, flat_map, owing_of}
 use Rattle.pawn_view.specs.Common.{status_of, write_failed}
 use Rattle.pawn_view.specs.Shown.{Shows, open_or_last, PutsElement}
 use Rattle.pawn_view.specs.Text.{entry_line, extended_line, first_lines, shown_day, state_lines, state_on}
@@ -103,7 +103,8 @@ ended_cut contents a w text end fine going share =
     let written = now_by contents a w share.0 false going (share.3.fine fine) in ((share.0, share.1, share.2, written.0), going)
 
 shows_by : {W : Type 0} (contents : W → Option (List ℕ)) (a w : Writing W) (text : List ℕ) (done : Result (Unit {0}) KeepError) (failed : Bool)
-    → write_failed a ≡ false → write_failed w ≡ failed → PutsShare contents a text (call_end done) w → Shows contents a (Some text) (ending_of done failed) w
+    → write_failed a ≡ false → write_failed w ≡ failed → PutsShare contents a text (call_end done) w
+    → Shows contents a (Some text) (result_of_text done failed) w
 shows_by contents a w text done true fine now share = (text, refl, ended_failed contents a w text (call_end done) fine now share)
 shows_by contents a w text (Ok u) false fine now share = (text, refl, ended_whole contents a w text fine now share)
 shows_by contents a w text (Err KeepError.Memory) false fine now share = ended_cut contents a w text Front fine now share
@@ -112,7 +113,8 @@ shows_by contents a w text (Err (KeepError.Store why)) false fine now share = en
 -- after the text was written, the answer states how that ended
 pub shows_ended : {W : Type 0} (contents : W → Option (List ℕ)) (a w : Writing W) (text : List ℕ) (done : Result (Unit {0}) KeepError)
     (answer : Result (Unit {0}) ViewFault)
-    → write_failed a ≡ false → answer ≡ ending_of done (write_failed w) → PutsShare contents a text (call_end done) w → Shows contents a (Some text) answer w
+    → write_failed a ≡ false → answer ≡ result_of_text done (write_failed w) → PutsShare contents a text (call_end done) w
+    → Shows contents a (Some text) answer w
 shows_ended contents a w text done answer fine is share =
     subst (λ (r : Result (Unit {0}) ViewFault). Shows contents a (Some text) r w) (sym is) (shows_by contents a w text done (write_failed w) fine refl share)
 
@@ -121,7 +123,7 @@ some_same {a = a} e = ap (λ (o : Option _). unwrap_or o a) e
 
 -- the same of the pledge that the brief is of
 pub statement_shows : {W : Type 0} (contents : W → Option (List ℕ)) (a w : Writing W) (day : ℕ) (o : Option PledgeValue) (brief : BriefFields)
-    (done : Result (Unit {0}) KeepError) (answer : Result (Unit {0}) ViewFault) → write_failed a ≡ false → answer ≡ ending_of done (write_failed w)
+    (done : Result (Unit {0}) KeepError) (answer : Result (Unit {0}) ViewFault) → write_failed a ≡ false → answer ≡ result_of_text done (write_failed w)
     → Some brief ≡ option_map brief_of o → ((p : PledgeValue) → o ≡ Some p → brief ≡ brief_of p → PutsShare contents a (statement_text day p) (call_end done) w)
     → Shows contents a (option_map (statement_text day) o) answer w
 statement_shows contents a w day None brief done answer fine is at share = cc

@@ -22,7 +22,7 @@ pub use Rattle.pawn_pledge.specs.declared.record.Closing.TheVariants.{Open, Rede
 pub use Rattle.pawn_terms.specs.Calendar.{day_text, digit}
 pub use Rattle.pawn_terms.specs.Worked.{date}
 pub use Rattle.pawn_writing.specs.Ends.{PutFront, Puts, PutsLine, PutsShare, Written, write_failed}
-pub use Rattle.pawn_writing.specs.Fault.{IsQuietView, ending_of}
+pub use Rattle.pawn_writing.specs.Fault.{IsQuietView, result_of_text}
 pub use Rattle.pawn_writing.specs.declared.fault.ViewFault.{ViewFault}
 pub use Rattle.pawn_writing.specs.declared.writing.Writing.{Writing}
 pub use Rattle.std.specs.FinMap.{get}

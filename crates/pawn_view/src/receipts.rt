@@ -5,7 +5,7 @@ ghost use Rattle.pawn_view.specs.Shown.{Shows, live_pledges, pledge_at, presenta
 ghost use Rattle.pawn_view.specs.Text.{further_texts, shown_text, statement_text};
 ghost use Rattle.std.specs.Prelude.{◌≡◌, ◌++◌, ◌∷◌, false, true, not, is_some, Some, None, IfOk, IfSome, IsErrOf};
 
-use crate::statements::{ending, put_statement};
+use crate::statements::{put_statement, result_of_text};
 use pawn_book::{Brief, Day, Keep, KeepError, Number, Receipt, live_brief, live_further_brief};
 use pawn_writing::{ViewFault, Writing, put};
 use std::io::Write;
@@ -116,7 +116,7 @@ fn show_others<K: Keep, W: Write>(
     };
     put(writer, UNKNOWN);
     let done = put_further(keep, book, receipts, &known, day, writer);
-    ending(done, writer)
+    result_of_text(done, writer)
 }
 
 /// Writes what a bearer sees on a day for each of these receipts of a book, in their order: the statement of the
@@ -144,7 +144,7 @@ pub fn show_presented<K: Keep, W: Write>(
     match live_brief(keep, book, first)? {
         Some(brief) => {
             let done = put_from(keep, book, first.number, &brief, rest, day, writer);
-            ending(done, writer)
+            result_of_text(done, writer)
         }
         None => show_others(keep, book, rest, day, writer),
     }

@@ -7,7 +7,7 @@ ghost use Rattle.pawn_view.specs.Text.{number_line};
 ghost use Rattle.std.specs.Prelude.{◌≡◌, false, true, IsErrOf};
 
 use crate::lines::{put_day, put_number};
-use crate::statements::ending;
+use crate::statements::result_of_text;
 use itoa::Buffer;
 use pawn_book::{Capacity, Day, Flow, Keep, KeepError, Number, SheetItem, Visitor};
 use pawn_writing::{ViewFault, Writing, put_all};
@@ -125,5 +125,5 @@ pub fn show_day_sheet<K: Keep, W: Write>(
         capacity: head.capacity,
     };
     let done = lines.put_day(keep, book, day);
-    ending(done, writer)
+    result_of_text(done, writer)
 }

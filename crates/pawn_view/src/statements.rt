@@ -1,6 +1,6 @@
 //! Writes the statement of a pledge.
 ghost use Rattle.pawn_view.specs.Common.{IsQuietView, IsSound, IsSteady, PledgeValue, Puts, PutsShare, Reads, brief_of};
-ghost use Rattle.pawn_view.specs.Common.{brief_owing, brief_status, call_end, ending_of, write_failed};
+ghost use Rattle.pawn_view.specs.Common.{brief_owing, brief_status, call_end, result_of_text, write_failed};
 ghost use Rattle.pawn_view.specs.Shown.{PutsElement, Shows, pledge_at, statement_of, open_or_last};
 ghost use Rattle.pawn_view.specs.Text.{first_lines, state_lines, statement_text, extended_line, entry_line};
 ghost use Rattle.std.specs.Prelude.{◌≡◌, ◌≤◌, false, true, Some, max, IsErrOf};
@@ -118,13 +118,16 @@ pub fn show_statement<K: Keep, W: Write>(
         return Err(ViewFault::Unknown);
     };
     let done = put_statement(keep, book, number, &brief, day, writer);
-    ending(done, writer)
+    result_of_text(done, writer)
 }
 
 /// Returns the result of a text after its lines were written: `Write` if the writer failed, otherwise the keeper's
 /// error, if any.
-pub(crate) fn ending<W>(done: Result<(), KeepError>, writer: &Writing<W>) -> Result<(), ViewFault>
-    ensures answer { result ≡ ending_of done (write_failed writer.now) }
+pub(crate) fn result_of_text<W>(
+    done: Result<(), KeepError>,
+    writer: &Writing<W>,
+) -> Result<(), ViewFault>
+    ensures answer { result ≡ result_of_text done (write_failed writer.now) }
 {
     if writer.has_failed() {
         return Err(ViewFault::Write);

@@ -1,11 +1,11 @@
 -- Numbers and days as texts.
 use Rattle.pawn_reply.proofs.DayLemmas.{both_true}
 use Rattle.pawn_terms.proofs.AgreementLemmas.{day_number-of}
-use Rattle.pawn_terms.proofs.TextLemmas.{civil_of-stamp}
+use Rattle.pawn_terms.proofs.TextLemmas.{civil_of-request}
 use Rattle.pawn_wire.proofs.DigitLemmas.{all_digits}
-use Rattle.pawn_wire.specs.Common.{AllDigits, Civil, IsNumber, IsStampDay, IsWritable, civil_of, civil_text, day_number}
+use Rattle.pawn_wire.specs.Common.{AllDigits, Civil, IsNumber, IsRequestDay, IsWritable, civil_of, civil_text, day_number}
 use Rattle.pawn_wire.specs.Common.{day_text, digit, digit_value, digits_value, first_day, is_ascii_digit}
-use Rattle.pawn_wire.specs.Common.{last_stamp_day, list_all}
+use Rattle.pawn_wire.specs.Common.{last_request_day, list_all}
 use Rattle.pawn_wire.specs.Named.{number_said, day_said, is_numeral, civil_said, is_text_of_day}
 use Rattle.std.proofs.Common.{◌≡◌, ℕ, zero, suc, ◌+◌, ◌*◌, ◌/◌, ◌%◌, ◌^◌, ◌<◌, ◌≤◌, List, [], ◌∷◌, length, take, drop}
 use Rattle.std.proofs.Common.{get_or, lit<, subst, Bool, true, false, Option, Some, None, IfSome, IfNone, refl, sym, ap}
@@ -126,16 +126,16 @@ number_said-of (Some n) text some none = sym (number_said-some n text some.0 som
 -- ---- days
 
 -- the text is that of the day, which a request may name
-pub day_tested : (text : List ℕ) (day : ℕ) → is_text_of_day text day ≡ true → IsStampDay day × (text ≡ day_text day)
+pub day_tested : (text : List ℕ) (day : ℕ) → is_text_of_day text day ≡ true → IsRequestDay day × (text ≡ day_text day)
 day_tested text day h =
-    let first = both_true (nat_le first_day day && nat_le day last_stamp_day) (bytes_eq text (day_text day)) h in
-    let range = both_true (nat_le first_day day) (nat_le day last_stamp_day) first.0 in
+    let first = both_true (nat_le first_day day && nat_le day last_request_day) (bytes_eq text (day_text day)) h in
+    let range = both_true (nat_le first_day day) (nat_le day last_request_day) first.0 in
     ((grind (arith, nat_tests, range.0), grind (arith, nat_tests, range.1)), (bytes_eq-Decides text (day_text day)).0 first.1)
 
-is_text_of_day-of : (text : List ℕ) (day : ℕ) → IsStampDay day → text ≡ day_text day → is_text_of_day text day ≡ true
+is_text_of_day-of : (text : List ℕ) (day : ℕ) → IsRequestDay day → text ≡ day_text day → is_text_of_day text day ≡ true
 is_text_of_day-of text day stamp e =
     let low : nat_le first_day day ≡ true = grind (arith, nat_tests, stamp.0) in
-    let high : nat_le day last_stamp_day ≡ true = grind (arith, nat_tests, stamp.1) in
+    let high : nat_le day last_request_day ≡ true = grind (arith, nat_tests, stamp.1) in
     rw (low, high, (bytes_eq-Decides text (day_text day)).1 e) refl
 
 digit_said : (n : ℕ) → digit_value (digit n) ≡ n % 10
@@ -159,22 +159,22 @@ civil_said-of c w =
     two_said c.day _ _ w.2 (digit_said (c.day / 10)) (digit_said c.day) in
     λ i. record { year = year i; month = month i; day = day i }
 
-pub day_said-some : (day : ℕ) (text : List ℕ) → IsStampDay day → text ≡ day_text day → day_said text ≡ Some day
+pub day_said-some : (day : ℕ) (text : List ℕ) → IsRequestDay day → text ≡ day_text day → day_said text ≡ Some day
 unfolding day_said
 day_said-some day text stamp e = rw number (rw (is_text_of_day-of text day stamp e) refl) where
   number : day_number (civil_said text) ≡ day
   number = ap (λ (t : List ℕ). day_number (civil_said t)) e
-      ∙ ap day_number (civil_said-of (civil_of day) (civil_of-stamp day stamp).1) ∙ day_number-of day (stamp.0, omega (arith, stamp.1))
+      ∙ ap day_number (civil_said-of (civil_of day) (civil_of-request day stamp).1) ∙ day_number-of day (stamp.0, omega (arith, stamp.1))
 
-pub day_said-is : (day : ℕ) (text : List ℕ) → day_said text ≡ Some day → IsStampDay day × (text ≡ day_text day)
+pub day_said-is : (day : ℕ) (text : List ℕ) → day_said text ≡ Some day → IsRequestDay day × (text ≡ day_text day)
 unfolding day_said
 day_said-is day text e = by_test (is_text_of_day text (day_number (civil_said text))) refl e where
   by_test : (b : Bool) → is_text_of_day text (day_number (civil_said text)) ≡ b
-      → (if b then Some (day_number (civil_said text)) else None) ≡ Some day → IsStampDay day × (text ≡ day_text day)
+      → (if b then Some (day_number (civil_said text)) else None) ≡ Some day → IsRequestDay day × (text ≡ day_text day)
   by_test false test same = absurd cc
   by_test true test same =
       let number : day_number (civil_said text) ≡ day = cc in
       day_tested text day (ap (is_text_of_day text) (sym number) ∙ test)
 
-pub day_said-none : (text : List ℕ) → ((m : ℕ) → IsStampDay m → text ≡ day_text m → ⊥) → day_said text ≡ None
+pub day_said-none : (text : List ℕ) → ((m : ℕ) → IsRequestDay m → text ≡ day_text m → ⊥) → day_said text ≡ None
 day_said-none text none = none_said (day_said text) (λ day e. let is = day_said-is day text e in none day is.0 is.1)

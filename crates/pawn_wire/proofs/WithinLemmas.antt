@@ -8,7 +8,7 @@ use Rattle.pawn_wire.specs.Chain.{after, and_then, or_fault}
 use Rattle.pawn_wire.specs.Commands.{asked_booking, asked_entry, bearers_command_said, brokers_command_said}
 use Rattle.pawn_wire.specs.Commands.{decision_of, paper_of}
 use Rattle.pawn_wire.specs.Common.{AreFew, Bearer, BookRows, Broker, Command, Data, IsCapacity, IsNumber, IsOpening}
-use Rattle.pawn_wire.specs.Common.{IsStampDay, IsText, MOST_ARTICLE_BYTES, MOST_BOOKINGS, MOST_NAME_BYTES}
+use Rattle.pawn_wire.specs.Common.{IsRequestDay, IsText, MOST_ARTICLE_BYTES, MOST_BOOKINGS, MOST_NAME_BYTES}
 use Rattle.pawn_wire.specs.Common.{MOST_RECEIPTS, MOST_REFERENCE_BYTES, NewBook, Opening, Operator, Receipt, Request}
 use Rattle.pawn_wire.specs.Common.{Viewer, after_first, before_first, first_of, is_text, secret_of_text}
 use Rattle.pawn_wire.specs.Fields.{Pair}
@@ -81,22 +81,22 @@ texted most s t e = by_test (is_text most s) refl e where
 text_within : (most : ℕ) (name : List ℕ) (d : Data) (t : List ℕ) → text_at most name d ≡ Some t → IsText most t
 text_within most name d t e = let s = given_some (string_at name d) (if_text most) t e in texted most s.0 t s.2
 
-day_within : (text : List ℕ) (day : ℕ) → day_said text ≡ Some day → IsStampDay day
+day_within : (text : List ℕ) (day : ℕ) → day_said text ≡ Some day → IsRequestDay day
 day_within text day e = (day_said-is day text e).0
 
-some_day : (member : Data) (agreed : Option ℕ) → day_or_null member ≡ Some agreed → IfSome agreed IsStampDay
+some_day : (member : Data) (agreed : Option ℕ) → day_or_null member ≡ Some agreed → IfSome agreed IsRequestDay
 some_day member agreed e = by_null (is_some (as_null member)) (and_then (as_str member) day_said) refl e where
   by_null : (null : Bool) (said : Option ℕ) → and_then (as_str member) day_said ≡ said → (if null then Some None else option_map Some said) ≡ Some agreed
-      → IfSome agreed IsStampDay
-  by_null true said is same = (let k : None ≡ agreed = cc in subst (λ (o : Option ℕ). IfSome o IsStampDay) k tt)
+      → IfSome agreed IsRequestDay
+  by_null true said is same = (let k : None ≡ agreed = cc in subst (λ (o : Option ℕ). IfSome o IsRequestDay) k tt)
   by_null false None is same = absurd cc
   by_null false (Some day) is same =
       let k : Some day ≡ agreed = cc in
       let s = given_some (as_str member) day_said day is in
-      subst (λ (o : Option ℕ). IfSome o IsStampDay) k (day_within s.0 day s.2)
+      subst (λ (o : Option ℕ). IfSome o IsRequestDay) k (day_within s.0 day s.2)
 
-agreed_within : (member : Option Data) (agreed : Option ℕ) → day_if_any member ≡ Some agreed → IfSome agreed IsStampDay
-agreed_within None agreed e = (let k : None ≡ agreed = cc in subst (λ (o : Option ℕ). IfSome o IsStampDay) k tt)
+agreed_within : (member : Option Data) (agreed : Option ℕ) → day_if_any member ≡ Some agreed → IfSome agreed IsRequestDay
+agreed_within None agreed e = (let k : None ≡ agreed = cc in subst (λ (o : Option ℕ). IfSome o IsRequestDay) k tt)
 agreed_within (Some member) agreed e = some_day member agreed e
 
 -- ---- bodies
@@ -144,14 +144,14 @@ number_within name d n e = number_chain (option_and_then as_u64 (option_and_then
   number_chain None same = absurd cc
   number_chain (Some m) same = (ranged 0 most_numeral m n same).1
 
-day_at_within : (name : List ℕ) (d : Data) (day : ℕ) → day_at name d ≡ Some day → IsStampDay day
+day_at_within : (name : List ℕ) (d : Data) (day : ℕ) → day_at name d ≡ Some day → IsRequestDay day
 day_at_within name d day e = let text = given_some (string_at name d) day_said day e in day_within text.0 day text.2
 
 abbrev IsEntryWithin : NewEntry → Type 0
 IsEntryWithin n = IsBodyNumber n.seq × IsBodyNumber n.pence
 
 abbrev IsBookingWithin : NewBooking → Type 0
-IsBookingWithin b = IsStampDay b.day × IsBodyNumber b.window
+IsBookingWithin b = IsRequestDay b.day × IsBodyNumber b.window
 
 -- two parts of a body, one read after the other
 two_within : {C : Type 0} (P Q : ℕ → Type 0) (R : C → Type 0) (first second : Option ℕ) (make : ℕ → ℕ → C) (c : C) → ((n : ℕ) → first ≡ Some n → P n)
@@ -166,7 +166,7 @@ entry_within d entry = two_within IsBodyNumber IsBodyNumber IsEntryWithin (numbe
     (λ pence seq. record { seq = seq; pence = pence }) entry (number_within (codes "pence") d) (number_within (codes "seq") d) (λ pence seq p s. (s, p))
 
 booking_within : (d : Data) (booking : NewBooking) → asked_booking d ≡ Some booking → IsBookingWithin booking
-booking_within d booking = two_within IsStampDay IsBodyNumber IsBookingWithin (day_at (codes "day") d) (number_at (codes "window") d)
+booking_within d booking = two_within IsRequestDay IsBodyNumber IsBookingWithin (day_at (codes "day") d) (number_at (codes "window") d)
     (λ day window. record { day = day; window = window }) booking (day_at_within (codes "day") d) (number_within (codes "window") d) (λ day window s n. (s, n))
 
 of_body : {A : Type 0} (P : A → Type 0) (part : Data → Option A) (body : List ℕ) (a : A) → body_said part body ≡ Some a → ((d : Data) → part d ≡ Some a → P a)
@@ -220,7 +220,7 @@ one_within values receipt e =
 abbrev IsTargetWithin : Target → Type 0
 IsTargetWithin (Show number) = IsNumber number
 IsTargetWithin (OnPledge number action) = IsNumber number
-IsTargetWithin (ShowDay day) = IsStampDay day
+IsTargetWithin (ShowDay day) = IsRequestDay day
 IsTargetWithin other = Unit {0}
 
 -- what is asked is within its limits

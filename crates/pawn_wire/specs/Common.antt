@@ -12,7 +12,7 @@ pub use Rattle.pawn_book.specs.declared.request.BrokerRequest.TheVariants.{Impor
 pub use Rattle.pawn_book.specs.declared.request.Caller.TheVariants.{Viewer, Bearer, Broker, Operator}
 pub use Rattle.pawn_book.specs.declared.request.NewBook.{NewBook}
 pub use Rattle.pawn_book.specs.declared.request.Request.{Request}
-pub use Rattle.pawn_book.specs.declared.rows.BookRows.{BookRows}
+pub use Rattle.pawn_book.specs.declared.book_rows.BookRows.{BookRows}
 pub use Rattle.pawn_csv.specs.declared.fault.Cause.{Cause}
 pub use Rattle.pawn_csv.specs.declared.fault.CsvFault.{CsvFault}
 pub use Rattle.pawn_debt.specs.declared.entry.Kind.TheVariants.{Fixed, Running}
@@ -26,8 +26,8 @@ pub use Rattle.pawn_pledge.specs.declared.command.Paper.TheVariants.{Sworn, Writ
 pub use Rattle.pawn_pledge.specs.declared.limits.TheConstants.{MOST_ARTICLE_BYTES, MOST_REFERENCE_BYTES}
 pub use Rattle.pawn_pledge.specs.declared.receipt.Receipt.{Receipt}
 pub use Rattle.pawn_pledge.specs.declared.record.Opening.{Opening}
-pub use Rattle.pawn_terms.specs.Calendar.{Civil, IsStampDay, IsWritable, civil_of, civil_text, day_number, day_text}
-pub use Rattle.pawn_terms.specs.Calendar.{digit, first_day, last_stamp_day}
+pub use Rattle.pawn_terms.specs.Calendar.{Civil, IsRequestDay, IsWritable, civil_of, civil_text, day_number, day_text}
+pub use Rattle.pawn_terms.specs.Calendar.{digit, first_day, last_request_day}
 pub use Rattle.serde_json.specs.Data.{Data}
 pub use Rattle.serde_json.specs.Read.{read}
 pub use Rattle.serde_json.specs.View.{view}

@@ -3,7 +3,7 @@ use Rattle.pawn_base.specs.Lists.{Each}
 use Rattle.pawn_book.specs.Rows.{AreReplayable}
 use Rattle.pawn_book.specs.declared.request.BearerRequest.TheVariants.{Present}
 use Rattle.pawn_book.specs.declared.request.Caller.{Caller}
-use Rattle.pawn_wire.specs.Common.{AreFew, Bearer, Broker, Command, Import, IsCapacity, IsNumber, IsOpening, IsStampDay}
+use Rattle.pawn_wire.specs.Common.{AreFew, Bearer, Broker, Command, Import, IsCapacity, IsNumber, IsOpening, IsRequestDay}
 use Rattle.pawn_wire.specs.Common.{IsText, MOST_NAME_BYTES, Operator, PutTerms, Request, TakePledge, Viewer, day_text}
 use Rattle.pawn_wire.specs.Limits.{most_numeral}
 use Rattle.pawn_wire.specs.Named.{number_said, day_said}
@@ -29,12 +29,12 @@ IsCommandWithin (Command.Repay seq pence) = IsBodyNumber seq × IsBodyNumber pen
 IsCommandWithin Command.Hold = Unit {0}
 IsCommandWithin Command.Release = Unit {0}
 IsCommandWithin (Command.Declare paper) = Unit {0}
-IsCommandWithin (Command.AskBooking day window) = IsStampDay day × IsBodyNumber window
+IsCommandWithin (Command.AskBooking day window) = IsRequestDay day × IsBodyNumber window
 IsCommandWithin Command.CancelBooking = Unit {0}
 IsCommandWithin (Command.DecideBooking decision) = Unit {0}
 IsCommandWithin (Command.Redeem paid) = IsBodyNumber paid
 IsCommandWithin (Command.Sell net) = IsBodyNumber net
-IsCommandWithin (Command.Extend until) = IsStampDay until
+IsCommandWithin (Command.Extend until) = IsRequestDay until
 
 -- each part of the caller and of what is asked is within its limits
 abbrev pub IsCallerWithin : Caller → Type 0
@@ -44,7 +44,7 @@ IsCallerWithin (Broker key (TakePledge opening)) = IsOpening opening
 IsCallerWithin (Broker key (broker.OnPledge n command)) = IsNumber n × IsCommandWithin command
 IsCallerWithin (Broker key (Import importing rows)) = AreReplayable rows.terms rows.pledges
 IsCallerWithin (Viewer key (seen.Pledge n)) = IsNumber n
-IsCallerWithin (Viewer key (seen.Sheet day)) = IsStampDay day
+IsCallerWithin (Viewer key (seen.Sheet day)) = IsRequestDay day
 IsCallerWithin (Viewer key seen.Rows) = Unit {0}
 IsCallerWithin (Bearer (Present receipts)) = AreFew receipts
 IsCallerWithin (Bearer (bearer.OnPledge receipt command)) = IsNumber receipt.number × IsCommandWithin command
@@ -67,8 +67,8 @@ pub record NumbersAreSaid : Type 0 where
 
 -- a day has exactly one spelling
 pub record DaysAreSaid : Type 0 where
-  pub said : (day : ℕ) → IsStampDay day → day_said (day_text day) ≡ Some day
-  pub is : (day : ℕ) (text : List ℕ) → day_said text ≡ Some day → IsStampDay day × (text ≡ day_text day)
+  pub said : (day : ℕ) → IsRequestDay day → day_said (day_text day) ≡ Some day
+  pub is : (day : ℕ) (text : List ℕ) → day_said text ≡ Some day → IsRequestDay day × (text ≡ day_text day)
 
 -- an example for a name in braces: 7 for the book, 12 for a pledge, 2024-03-04 for a day
 abbrev pub filling : ℕ → List ℕ

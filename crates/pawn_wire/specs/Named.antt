@@ -1,5 +1,5 @@
 -- Numbers and days in targets and bodies.
-use Rattle.pawn_wire.specs.Common.{Civil, day_number, day_text, digits_value, first_day, is_ascii_digit, last_stamp_day}
+use Rattle.pawn_wire.specs.Common.{Civil, day_number, day_text, digits_value, first_day, is_ascii_digit, last_request_day}
 use Rattle.pawn_wire.specs.Common.{list_all}
 use Rattle.std.specs.Prelude.{ℕ, ◌==◌, nat_lt, nat_le, List, length, take, drop, slice_index, Bool, not, ◌&&◌, bytes_eq}
 use Rattle.std.specs.Prelude.{if◌then◌else◌, Option, Some, None}
@@ -20,7 +20,7 @@ civil_said text =
 
 -- the text is the spelling of this day, and a request may name the day
 abbrev pub is_text_of_day : List ℕ → ℕ → Bool
-is_text_of_day text day = nat_le first_day day && nat_le day last_stamp_day && bytes_eq text (day_text day)
+is_text_of_day text day = nat_le first_day day && nat_le day last_request_day && bytes_eq text (day_text day)
 
 -- the day that a text such as `2024-01-31` writes, if the text is the spelling of that day
 unfoldable pub day_said : List ℕ → Option ℕ

@@ -10,10 +10,10 @@ view_fault KeepError.Memory = ViewFault.Memory
 view_fault (KeepError.Store why) = ViewFault.Store
 
 -- how a text ends: it depends on the keeper's last answer, and on whether the writer failed
-abbrev pub ending_of : Result (Unit {0}) KeepError → Bool → Result (Unit {0}) ViewFault
-ending_of done true = Err ViewFault.Write
-ending_of (Ok u) false = Ok u
-ending_of (Err error) false = Err (view_fault error)
+abbrev pub result_of_text : Result (Unit {0}) KeepError → Bool → Result (Unit {0}) ViewFault
+result_of_text done true = Err ViewFault.Write
+result_of_text (Ok u) false = Ok u
+result_of_text (Err error) false = Err (view_fault error)
 
 -- over a steady keeper no text fails with `Store`
 abbrev pub IsQuietView : {K U : Type 0} → Keeping K → K → Result U ViewFault → Type 0

@@ -2,9 +2,9 @@
 #![tactic(auto)]
 
 mod fault;
-mod lists;
+mod list_visits;
 mod writing;
 
 pub use fault::ViewFault;
-pub use lists::{visit_entries, visit_extensions};
+pub use list_visits::{visit_entries, visit_extensions};
 pub use writing::{Writing, put, put_all, send};

@@ -30,7 +30,7 @@ use std::env::Args;
 use std::net::TcpListener;
 use std::process::ExitCode;
 use stop::{Stop, report};
-use store::{close, file_keep, folded_keep, is_memory, memory_keep};
+use store::{close, file_keep, first_error, folded_keep, is_memory, memory_keep};
 
 fn main(rt: HostRuntime) -> ExitCode {
     match run(&rt) {
@@ -116,7 +116,8 @@ fn work_on_store(rt: &HostRuntime, database: &str, work: Work) -> Result<(), Sto
         Work::Answer(_) | Work::Check => file_keep(rt, database, Wary)?,
     };
     let worked = work_over(rt, keep, work)?;
-    close(worked.keep, worked.end)
+    let closing = close(worked.keep);
+    first_error(worked.end, closing)
 }
 
 /// Does the work with a keeper. Returns the keeper, and the result of the work.

@@ -89,17 +89,21 @@ pub fn folded_keep(rt: &HostRuntime, path: &str) -> Result<FileKeep, Stop> {
     file_keep(rt, path, Wary)
 }
 
-/// Closes the file of a keeper; everything that was committed is then in the database file. Returns `end` if it is an
-/// error, otherwise the result of closing.
-pub fn close(keep: FileKeep, end: Result<(), Stop>) -> Result<(), Stop>
-    ensures first { IfErr end (λ stop. result ≡ Err stop) }
-{
-    let closed = match close_keep(keep) {
+/// Closes the file of a keeper; everything that was committed is then in the database file.
+pub fn close(keep: FileKeep) -> Result<(), Stop> {
+    match close_keep(keep) {
         Ok(_) => Ok(()),
         Err((why, _)) => Err(Stop::Fault(Fault::Opening(why))),
-    };
-    match end {
-        Ok(()) => closed,
+    }
+}
+
+/// The result of the work with a store if it is an error, otherwise the result of closing the store after it.
+pub fn first_error(work: Result<(), Stop>, closing: Result<(), Stop>) -> Result<(), Stop>
+    ensures first { IfErr work (λ stop. result ≡ Err stop) }
+    ensures last { IfOk work (λ _. result ≡ closing) }
+{
+    match work {
+        Ok(()) => closing,
         Err(stop) => Err(stop),
     }
 }

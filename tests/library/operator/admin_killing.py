@@ -155,7 +155,9 @@ def kill_once(story, words, step, then, goes_back, meanwhile):
     it.admin_with(*words, KILL_AT=str(step), wanted=-9)
     expect_no_fewer_places(before, places_of(it), story.callers)
     wrong = it.status()["wrong"]
-    expect(f"a store that holds less: {wrong}", [line for line in wrong if "holds less" in line], [])
+    useless, again = ["holds less"] + ["pawnd-admin restore"] * (words[0] != "restore"), f"pawnd-admin {' '.join(words)}"
+    expect(f"a copy to be put back: {wrong}",
+           [line for line in wrong for text in useless if text in line.replace(again, "")], [])
     if then != "nothing":
         story.boot()
         if then == "boot":

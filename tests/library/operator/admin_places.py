@@ -7,7 +7,7 @@ import tempfile
 from tests.library.checks import expect
 
 
-def rows_of(path):
+def row_counts(path):
     """How many entries and pledges each book of a database has, by SQLite, on a copy of the file and its log."""
     with tempfile.TemporaryDirectory() as room:
         for end in ("", "-wal"):
@@ -27,7 +27,7 @@ def rows_of(path):
 
 
 def books_in(path):
-    return set(rows_of(path))
+    return set(row_counts(path))
 
 
 def databases(machine):
@@ -43,7 +43,7 @@ def places_of(machine):
     """For each book, how many rows each place has of it."""
     found = {}
     for path in databases(machine):
-        for book, rows in rows_of(path).items():
+        for book, rows in row_counts(path).items():
             found.setdefault(book, []).append(rows)
     return found
 

@@ -31,6 +31,8 @@ def value_of(path, name):
 
 
 def start(unit):
+    # The unit of a replicated folder starts the store.
+    unit = unit.replace("pawnd-replicated@", "pawnd@")
     if os.path.exists(place("masked", unit)):
         sys.exit(f"Failed to start {unit}: Unit {unit} is masked.")
     if unit.endswith(".timer") or pid_of(unit):

@@ -140,6 +140,8 @@ class Booted:
             subprocess.run(words, check=True, capture_output=True, timeout=30)
             if words[0] == "mount":
                 self.stack.callback(subprocess.run, ["umount", "-l", words[-1]], timeout=30)
+        with open(os.path.join(self.root, "etc/hostname"), "w") as it:
+            it.write(self.name + "\n")
 
     def boot(self):
         name = f"pawnd-{self.name}-{os.getpid()}-{next(BOOTS)}"

@@ -55,7 +55,7 @@ def reach(*machines):
                     "/root/.ssh/id_ed25519; systemctl start ssh")
         machine.run("printf 'Host *\\nStrictHostKeyChecking no\\nUserKnownHostsFile /dev/null\\n' >/root/.ssh/config")
     for machine in machines:
-        key = machine.run("cat /root/.ssh/id_ed25519.pub").strip()
+        key = machine.run("ssh-keygen -y -f /root/.ssh/id_ed25519").strip()
         for peer in machines:
             peer.run(f"cat >>/root/.ssh/authorized_keys <<<'{key}'")
 

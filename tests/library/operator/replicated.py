@@ -159,13 +159,17 @@ def at_once(do, *words):
 def set_up(machines, package):
     """The commands of the page, in its order."""
     first, *others = machines
-    others_prepared, disk, programs, volume, kept, moved, brought, served, address, looked = commands(REPLICATED, "Set it up")
+    (others_prepared, *renumbered, disk, programs, volume, kept, moved, brought, served, address,
+     looked) = commands(REPLICATED, "Set it up")
     expect("the disk's commands are the only ones that are not run", "mkfs.xfs" in disk, True)
     put_certbot(first)
     first_day(first, f"/root/packages/{package}")
     first.run(f"cp /root/packages/{package} /root/")
     let_in(first, *others)
+    the_number_is_taken(first, others[0], others_prepared, renumbered)
     at_once(lambda it: it.run(others_prepared), *((it,) for it in others))
+    numbers = {it.run("id -u pawnd-main") for it in machines}
+    expect("the numbers of the store's user", len(numbers), 1)
     at_once(lambda it: it.run(programs), *((it,) for it in machines))
     first.run(volume)
     for it in machines:
@@ -177,6 +181,15 @@ def set_up(machines, package):
         it.run(served)
         it.run(address.replace("me=10.0.0.1", f"me={it.address}"))
     expect_well(machines, looked)
+
+
+def the_number_is_taken(first, other, prepare, renumber):
+    """Another user of a machine has the number of the store's user. The page's commands say so, and what to do."""
+    other.run(f"useradd --system --uid {first.run('id -u pawnd-main').strip()} taken")
+    told = other.run(prepare, wanted=None)
+    expect(f"what the commands say: {told[-300:]}", "is not unique" in told, True)
+    for block in renumber:
+        first.run(block)
 
 
 def let_in(first, *others):
@@ -218,9 +231,12 @@ def serving(machines):
     return found[0] if found else (None, None)
 
 
-def settle(machines, load, before):
-    """Waits until a machine is back in every way: the store was started anew with all copies, and each copy has
-    everything. `before` is what served when it came back."""
+@contextlib.contextmanager
+def coming_back(machines, load):
+    """A machine comes back within the block, in every way: the machine that serves starts the store anew with all copies,
+    and each copy has everything."""
+    before = serving(machines)
+    yield
     end = time.monotonic() + 90
     while serving(machines) in (before, (None, None)):
         if time.monotonic() > end:

@@ -17,6 +17,7 @@ import urllib.error
 import urllib.request
 
 from tests.library.checks import Failed, expect
+from tests.library.listening import Listener, read_request
 from tests.library.paths import PROGRAM, TOP
 from tests.library.program import Server, free_port
 from tests.library.sessions import Once
@@ -40,21 +41,13 @@ window.fetch = async (...request) => {
 """
 
 
-class Relay:
+class Relay(Listener):
     """A relay between nginx and the service: a request goes on, and its reply comes back, unless it is to be
     lost."""
 
     def __init__(self, port):
+        super().__init__()
         self.to, self.losing, self.lost = port, None, 0
-
-    def __enter__(self):
-        self.listener = socket.create_server(("127.0.0.1", 0))
-        self.port = self.listener.getsockname()[1]
-        threading.Thread(target=self.accept, daemon=True).start()
-        return self
-
-    def __exit__(self, *_):
-        self.listener.close()
 
     @contextlib.contextmanager
     def loses(self, target, times=1):
@@ -63,59 +56,32 @@ class Relay:
         yield
         self.losing = None
 
-    def accept(self):
-        with contextlib.suppress(OSError):
-            while True:
-                threading.Thread(target=self.carry, args=(self.listener.accept()[0],), daemon=True).start()
-
     def carry(self, asking):
         to = ("127.0.0.1", self.to)
         with asking, contextlib.suppress(OSError), socket.create_connection(to, timeout=PATIENCE) as service:
             asking.settimeout(PATIENCE)
-            request = self.read_request(asking)
-            service.sendall(request)
+            head, body = read_request(asking)
+            service.sendall(head + b"\r\n\r\n" + body)
             reply = b""
             while piece := service.recv(65536):
                 reply += piece
-            if self.losing and self.lost < self.times and request.split(b" ")[1].endswith(self.losing):
+            if self.losing and self.lost < self.times and head.split(b" ")[1].endswith(self.losing):
                 self.lost += 1
                 return
             asking.sendall(reply)
 
-    @staticmethod
-    def read_request(asking):
-        request = b""
-        while b"\r\n\r\n" not in request:
-            request += asking.recv(65536)
-        head, body = request.split(b"\r\n\r\n", 1)
-        length = next(
-            (int(line[15:]) for line in head.split(b"\r\n") if line.lower().startswith(b"content-length:")), 0,
-        )
-        while len(body) < length:
-            body += asking.recv(65536)
-        return head + b"\r\n\r\n" + body
 
-
-class Cut:
+class Cut(Listener):
     """A line between the browser and nginx. It ends the connection of the first POST to a target that ends so, once nginx
     has replied, and passes nothing of the reply on. `begun` counts such requests."""
 
     def __init__(self, port, target):
+        super().__init__()
         self.to, self.head, self.begun = port, f"{target} HTTP/1.1\r\n".encode(), 0
 
-    def __enter__(self):
-        self.listener = socket.create_server(("127.0.0.1", 0))
-        self.address = f"http://localhost:{self.listener.getsockname()[1]}"
-        threading.Thread(target=self.accept, daemon=True).start()
-        return self
-
-    def __exit__(self, *_):
-        self.listener.close()
-
-    def accept(self):
-        with contextlib.suppress(OSError):
-            while True:
-                threading.Thread(target=self.carry, args=(self.listener.accept()[0],), daemon=True).start()
+    @property
+    def address(self):
+        return f"http://localhost:{self.port}"
 
     def carry(self, asking):
         with asking, contextlib.suppress(OSError), socket.create_connection(("127.0.0.1", self.to)) as nginx:

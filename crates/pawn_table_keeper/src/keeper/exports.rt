@@ -1,6 +1,6 @@
 //! Reads the rows of a book's pledges range by range, and passes them to a visitor.
 ghost use Rattle.pawn_table_keeper.specs.Common.{Database, flat_map, get, pledge_in, pledges_of};
-ghost use Rattle.pawn_table_keeper.specs.Exports.{AddsKind, AreKindPages, number_rows, numbers_from, told_rows};
+ghost use Rattle.pawn_table_keeper.specs.Exports.{AddsKind, AreKindPages, number_rows, numbers_from, page_or_book_rows};
 ghost use Rattle.pawn_table_keeper.specs.Handing.{Hands, ReadsOfBook};
 ghost use Rattle.pawn_book.specs.Items.{rows_of_pledges};
 ghost use Rattle.pawn_tables.specs.Kinds.{IsKindPage, IsListPage, item_end, rows_of_kind};
@@ -128,7 +128,7 @@ impl<S: Alter> TableKeep<S> {
         visitor: &mut V,
     ) -> Result<Flow, KeepError>
         ensures hands { Hands S.Store book V.step self.old self.new visitor.old visitor.new result
-            (λ h. told_rows number (get h.books book) page.now) }
+            (λ h. page_or_book_rows number (get h.books book) page.now) }
     {
         if number <= page.whole {
             return Ok(hand_items(number, &page.items, visitor));
@@ -148,7 +148,7 @@ impl<S: Alter> TableKeep<S> {
         visitor: &mut V,
     ) -> Result<Flow, KeepError>
         ensures hands { Hands S.Store book V.step self.old self.new visitor.old visitor.new result
-            (λ h. flat_map (told_rows number (get h.books book)) pages.now) }
+            (λ h. flat_map (page_or_book_rows number (get h.books book)) pages.now) }
     {
         for page in pages {
             match self.hand_kind(book, number, page, visitor)? {

@@ -2,12 +2,12 @@
 ghost use Rattle.pawn_tables.specs.Common.{IsDayNumber, PledgeValue, end_of, last_secret, Issued};
 ghost use Rattle.pawn_tables.specs.Finding.{IsRead};
 ghost use Rattle.pawn_tables.specs.ListEnds.{AreListEnds, last_issued, stored_brief};
-ghost use Rattle.pawn_tables.specs.PledgeRows.{AreSides, HasSecret, IsBriefTold, row_of};
+ghost use Rattle.pawn_tables.specs.PledgeRows.{AreRelated, HasSecret, IsBriefDecodable, row_of};
 ghost use Rattle.std.specs.Prelude.{◌≡◌, List, length};
 
 use super::pledges::{ends_of, joined_rows, record_of};
 use crate::cells::{NO_RECORD, day_of};
-use crate::joining::{LastSecret, ListEnds, RowsBeside};
+use crate::joining::{LastSecret, ListEnds, RelatedRows};
 use crate::records::PledgeRow;
 use pawn_book::{Brief, BriefFields, KeepError, Number, Secret};
 use pawn_pledge::Counts;
@@ -48,13 +48,13 @@ fn counts_of(list_ends: ListEnds) -> Counts
 fn fields_of(
     number: Number,
     row: PledgeRow,
-    sides: RowsBeside,
+    related: RelatedRows,
     list_ends: ListEnds,
 ) -> Result<BriefFields, KeepError>
     ensures read { (p : PledgeValue) → number ≡ p.agreement.number → row ≡ row_of p
-        → AreSides sides p → AreListEnds list_ends p → IsRead result (stored_brief p) (HasSecret p × IsDayNumber (end_of p)) }
+        → AreRelated related p → AreListEnds list_ends p → IsRead result (stored_brief p) (HasSecret p × IsDayNumber (end_of p)) }
 {
-    let Some((terms, booking, totals)) = joined_rows(sides) else {
+    let Some((terms, booking, totals)) = joined_rows(related) else {
         return Err(NO_RECORD);
     };
     if list_ends.last.is_none() {
@@ -77,13 +77,13 @@ fn fields_of(
 pub(crate) fn join_brief(
     number: Number,
     row: PledgeRow,
-    sides: RowsBeside,
+    related: RelatedRows,
     list_ends: ListEnds,
 ) -> Result<Brief, KeepError>
     ensures read { (p : PledgeValue) → number ≡ p.agreement.number → row ≡ row_of p
-        → AreSides sides p → AreListEnds list_ends p → IsRead result (stored_brief p) (IsBriefTold p) }
+        → AreRelated related p → AreListEnds list_ends p → IsRead result (stored_brief p) (IsBriefDecodable p) }
 {
-    let fields = fields_of(number, row, sides, list_ends)?;
+    let fields = fields_of(number, row, related, list_ends)?;
     match Brief::of_fields(fields) {
         Ok(brief) => Ok(brief),
         Err(_) => Err(NO_RECORD),

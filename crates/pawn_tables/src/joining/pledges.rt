@@ -1,11 +1,11 @@
 //! Joins what was read of a pledge into the pledge, and compares the stored totals and end with those that follow.
 ghost use Rattle.pawn_tables.specs.Common.{totals_of, PledgeValue, debt_of, end_of, IsReachable};
 ghost use Rattle.pawn_tables.specs.Finding.{IsRead};
-ghost use Rattle.pawn_tables.specs.PledgeRows.{AreLists, AreSides, row_of};
+ghost use Rattle.pawn_tables.specs.PledgeRows.{AreLists, AreRelated, row_of};
 ghost use Rattle.std.specs.Prelude.{◌≡◌, ◌↔◌, IfOk, IfSome, IsTrue, Some};
 
 use crate::cells::NO_RECORD;
-use crate::joining::{Lists, RowsBeside};
+use crate::joining::{Lists, RelatedRows};
 use crate::records::PledgeRow;
 use pawn_book::{Agreement, Booking, KeepError, Number, Parts, Pledge, Standing, Terms};
 use pawn_debt::Totals;
@@ -88,12 +88,12 @@ fn joined_parts(
 }
 
 /// The terms, the booking and the totals of a pledge; `None` if terms or totals are missing.
-pub(super) fn joined_rows(sides: RowsBeside) -> Option<(Terms, Option<Booking>, Totals)>
-    ensures value { (p : PledgeValue) → AreSides sides p → result ≡ Some (p.agreement.terms, p.standing.booking, totals_of (debt_of p)) }
-    ensures totals { IfSome result (λ parts. sides.totals ≡ Some parts.2) }
+pub(super) fn joined_rows(related: RelatedRows) -> Option<(Terms, Option<Booking>, Totals)>
+    ensures value { (p : PledgeValue) → AreRelated related p → result ≡ Some (p.agreement.terms, p.standing.booking, totals_of (debt_of p)) }
+    ensures totals { IfSome result (λ parts. related.totals ≡ Some parts.2) }
 {
-    match (sides.terms, sides.totals) {
-        (Some(terms), Some(totals)) => Some((terms, sides.booking, totals)),
+    match (related.terms, related.totals) {
+        (Some(terms), Some(totals)) => Some((terms, related.booking, totals)),
         _ => None,
     }
 }
@@ -115,14 +115,16 @@ fn expect_totals(pledge: Pledge, ends: u64, totals: Totals) -> Result<Pledge, Ke
 pub(crate) fn join_pledge(
     number: Number,
     row: PledgeRow,
-    sides: RowsBeside,
+    related: RelatedRows,
     lists: Lists,
 ) -> Result<Pledge, KeepError>
-    ensures read { (p : PledgeValue) → number ≡ p.agreement.number → row ≡ row_of p → AreSides sides p → AreLists lists p → IsRead result p (IsReachable p) }
+    ensures read { (p : PledgeValue) → number ≡ p.agreement.number → row ≡ row_of p → AreRelated related p → AreLists lists p
+        → IsRead result p (IsReachable p) }
     ensures ends { IfOk result (λ p. row.ends ≡ end_of p) }
-    ensures totals { IfOk result (λ p. sides.totals ≡ Some (totals_of (debt_of p))) }
+    ensures totals { IfOk result (λ p. related.totals ≡ Some (totals_of (debt_of p))) }
+    ensures reachable { IfOk result IsReachable }
 {
-    let Some((terms, booking, totals)) = joined_rows(sides) else {
+    let Some((terms, booking, totals)) = joined_rows(related) else {
         return Err(NO_RECORD);
     };
     let ends = ends_of(&row);

@@ -1,9 +1,7 @@
-use Rattle.std.proofs.Common.{arith, rules}
-use Rattle.std.proofs.lemmas.Grind.{common_steps}
+use Rattle.pawn_book.proofs.Reading.{reads_as}
+use Rattle.pawn_book.specs.BookStep.{only_live}
+use Rattle.std.proofs.Common.{◌∙◌, ap}
 use Rattle.pawn_book.proofs.gates.find_live.Goals as goal
 
-pub returns-in-Ok-Some-clause-reads : goal.returns-in-Ok-Some-clause-reads
-returns-in-Ok-Some-clause-reads g c = grind (arith, common_steps)
-
-pub returns-in-Ok-clause-reads : goal.returns-in-Ok-clause-reads
-returns-in-Ok-clause-reads g c = search rules
+pub returns-clause-reads : goal.returns-clause-reads
+returns-clause-reads g c = reads_as c.in_ok-pledge.ensures.reads (λ h said. c.live_pledge.ensures.live ∙ ap (only_live c.args.receipt.now.secret) said)

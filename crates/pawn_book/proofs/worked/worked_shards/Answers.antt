@@ -6,7 +6,7 @@ use Rattle.pawn_book.specs.HostStep.{Host, book_rows, host_after, host_step, wit
 use Rattle.pawn_book.specs.Runs.{Said, Answered}
 use Rattle.pawn_book.specs.Shards.{handed}
 use Rattle.pawn_book.specs.WorkedShards.{a_ring, asked, book_of, first_shard, of_seven, one_host, second_shard, shard}
-use Rattle.pawn_book.specs.WorkedShards.{told_of_run}
+use Rattle.pawn_book.specs.WorkedShards.{replies_of_run}
 use Rattle.pawn_debt.specs.Due.{due_after}
 use Rattle.pawn_terms.specs.Calendar.{civil_after, days_of_months, days_of_years}
 use Rattle.std.proofs.Common.{◌≡◌, ℕ, List, [], ◌∷◌, map, sum_by, refl, sym, ap, ◌∙◌, if◌then◌else◌, Option, None, Some}
@@ -88,17 +88,17 @@ after_limit h b (Refuses why) = refl
 after_limit h b (Says out) = refl
 after_limit h b (Makes change reply) = with_limit h b (changed_book (get h.books b) change)
 
-told_listed : (h : Host) (es : Books) (asked : List (Stamp × Request)) → entries h.books ≡ es → told_of_run h asked ≡ listed_told es h.limit asked
+told_listed : (h : Host) (es : Books) (asked : List (Stamp × Request)) → entries h.books ≡ es → replies_of_run h asked ≡ listed_told es h.limit asked
 told_listed h es [] is = refl
 told_listed h es (a ∷ asked) is =
     let step = step_listed h es a.0 a.1 is in
     let next = host_after h a.1.book (host_step h 9 a.0 a.1) in
     let stands : entries next.books ≡ listed_after es a.1.book (listed_step es h.limit a.0 a.1) =
     after_listed h es a.1.book (host_step h 9 a.0 a.1) is ∙ ap (listed_after es a.1.book) step in
-    let rest : told_of_run next asked ≡ listed_told (listed_after es a.1.book (listed_step es h.limit a.0 a.1)) h.limit asked =
+    let rest : replies_of_run next asked ≡ listed_told (listed_after es a.1.book (listed_step es h.limit a.0 a.1)) h.limit asked =
     told_listed next _ asked stands
     ∙ ap (λ limit. listed_told (listed_after es a.1.book (listed_step es h.limit a.0 a.1)) limit asked) (after_limit h a.1.book (host_step h 9 a.0 a.1)) in
-    ap (λ o. Answered (out_of o) ∷ told_of_run next asked) step ∙ ap (λ says. Answered (out_of (listed_step es h.limit a.0 a.1)) ∷ says) rest
+    ap (λ o. Answered (out_of o) ∷ replies_of_run next asked) step ∙ ap (λ says. Answered (out_of (listed_step es h.limit a.0 a.1)) ∷ says) rest
 
 -- the hosts' books
 

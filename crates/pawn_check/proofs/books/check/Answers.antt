@@ -2,7 +2,7 @@ use Rattle.pawn_book.proofs.Reading.{reads_as, reads_then, reads_both}
 use Rattle.pawn_book.specs.Keeping.{IsNextBook}
 use Rattle.pawn_book.specs.Sound.{AreSound}
 use Rattle.pawn_check.proofs.Meeting.{AreMet, all_are_met, fits, next_is, none_are_met, one_is_left, one_more}
-use Rattle.pawn_check.specs.Judging.{AreCounted}
+use Rattle.pawn_check.specs.Checking.{AreCounted}
 use Rattle.std.proofs.Common.{◌≡◌, ◌+◌, ◌-◌, inl, inr, ℕ, Some, None, refl, sym, subst, arith}
 use Rattle.pawn_check.proofs.books.check.Goals as goal
 
@@ -15,13 +15,13 @@ loop-book-init g c = record {
   low = omega arith;
 }
 
-pub returns-then-get-above-clause-judges : goal.returns-then-get-above-clause-judges
-returns-then-get-above-clause-judges g c =
-    reads_then (reads_both c.loop-book.invariant.reads c.in_ok-book.ensures.reads) c.in_ok-has.ensures.reads (λ h both judged.
+pub returns-then-get-above-clause-checks : goal.returns-then-get-above-clause-checks
+returns-then-get-above-clause-checks g c =
+    reads_then (reads_both c.loop-book.invariant.reads c.in_ok-book.ensures.reads) c.in_ok-has.ensures.reads (λ h both checked.
     let a : ℕ = c.loop-book.above in
     let next : IsNextBook h a (Some c.in-Some.book) =
     subst (λ (x : ℕ). IsNextBook h x (Some c.in-Some.book)) (sym c.loop-book.invariant.last) (rw c.in-Some.is at both.1) in
-    let it = next_is h a c.in-Some.book c.in_ok-has.has next judged in
+    let it = next_is h a c.in-Some.book c.in_ok-has.has next checked in
     let low = it.1.low in
     let few = fits h a c.in-Some.book c.loop-book.books c.loop-book.pledges c.loop-book.left c.in_ok-has.has it.0 both.0.1 it.1 in
     let is = c.get.ensures.value in
@@ -32,11 +32,11 @@ returns-then-get-above-clause-judges g c =
 
 pub loop-book-preserved : goal.loop-book-preserved
 loop-book-preserved g c = record {
-  reads = reads_then (reads_both c.loop-book.invariant.reads c.in_ok-book.ensures.reads) c.in_ok-has.ensures.reads (λ h both judged.
+  reads = reads_then (reads_both c.loop-book.invariant.reads c.in_ok-book.ensures.reads) c.in_ok-has.ensures.reads (λ h both checked.
       let a : ℕ = c.loop-book.above in
       let next : IsNextBook h a (Some c.in-Some.book) =
       subst (λ (x : ℕ). IsNextBook h x (Some c.in-Some.book)) (sym c.loop-book.invariant.last) (rw c.in-Some.is at both.1) in
-      let it = next_is h a c.in-Some.book c.in_ok-has.has next judged in
+      let it = next_is h a c.in-Some.book c.in_ok-has.has next checked in
       let more = one_more h a c.in-Some.book c.loop-book.books c.loop-book.pledges c.loop-book.left c.in_ok-has.has it.0 both.0.1 it.1 in (
         both.0.0,
         subst (λ (x : ℕ). AreMet h x (c.loop-book.books + 1) (c.loop-book.pledges + c.in_ok-has.has.pledges) (c.loop-book.left - c.in_ok-has.has.rows))
@@ -49,15 +49,15 @@ loop-book-preserved g c = record {
   low = let value = c.get-above.ensures.value in let most = c.get-above.ensures.in_range in omega (arith, value, most);
 }
 
-pub returns-then-left-gt0-clause-judges : goal.returns-then-left-gt0-clause-judges
-returns-then-left-gt0-clause-judges g c =
+pub returns-then-left-gt0-clause-checks : goal.returns-then-left-gt0-clause-checks
+returns-then-left-gt0-clause-checks g c =
     reads_then c.loop-book.invariant.reads c.in_ok-book.ensures.reads (λ h before said.
     let a : ℕ = c.loop-book.above in
     let last : IsNextBook h a None = subst (λ (x : ℕ). IsNextBook h x None) (sym c.loop-book.invariant.last) (rw c.in_default.is at said) in
     one_is_left h a c.loop-book.books c.loop-book.pledges c.loop-book.left before.1 last c.if-left-gt0.true)
 
-pub returns-clause-judges : goal.returns-clause-judges
-returns-clause-judges g c =
+pub returns-clause-checks : goal.returns-clause-checks
+returns-clause-checks g c =
     reads_then c.loop-book.invariant.reads c.in_ok-book.ensures.reads (λ h before said.
     let a : ℕ = c.loop-book.above in
     let last : IsNextBook h a None = subst (λ (x : ℕ). IsNextBook h x None) (sym c.loop-book.invariant.last) (rw c.in_default.is at said) in

@@ -1,6 +1,6 @@
 use Rattle.pawn_book.specs.BookStep.{BookValue}
 use Rattle.pawn_book.specs.Keeping.{Reads}
-use Rattle.pawn_check.specs.Judging.{IsFront, most_pledge_rows}
+use Rattle.pawn_check.specs.Checking.{IsFront, most_pledge_rows}
 use Rattle.std.proofs.Common.{◌≡◌, ◌≤◌, ◌*◌, length, take, Some}
 use Rattle.std.specs.FinMap.{get}
 use Rattle.pawn_check.proofs.pledges.pledges_rows.Given as goal

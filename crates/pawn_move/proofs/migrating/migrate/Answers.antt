@@ -34,15 +34,15 @@ returns-in-Err-move_store-clause-migrates g c =
     rw c.unmoved.ensures.told (failed (state g.S.Store c.args.conn.now) (state g.S.Store c.schema_of.new.conn) (λ now trees left. g.met.S.Store.settled _ trees
     now left) (state g.S.Store c.move_store.new.conn) c.in_ok-from.from c.in-Err-move_store.error c.in_ok-from.ensures.tells c.in-Err-move_store.ensures.moves)
 
-pub returns-then-from-eq-SCHEMA-clause-judges : goal.returns-then-from-eq-SCHEMA-clause-judges
-returns-then-from-eq-SCHEMA-clause-judges g c = let three : c.in_ok-from.from ≡ 3 = search rules in
+pub returns-then-from-eq-SCHEMA-clause-checks : goal.returns-then-from-eq-SCHEMA-clause-checks
+returns-then-from-eq-SCHEMA-clause-checks g c = let three : c.in_ok-from.from ≡ 3 = search rules in
     stays_owed (state g.S.Store c.args.conn.now) (state g.S.Store c.schema_of.new.conn) (λ now trees left. g.met.S.Store.settled _ trees now left)
     (state g.S.Store c.add_indexes.new.conn) c.in_ok-from.from three c.in_ok-from.ensures.tells (Ok tt) c.in_default.ensures.indexed
 
-pub returns-in-Ok-clause-judges : goal.returns-in-Ok-clause-judges
-returns-in-Ok-clause-judges g c =
+pub returns-in-Ok-clause-checks : goal.returns-in-Ok-clause-checks
+returns-in-Ok-clause-checks g c =
     went_owed (state g.S.Store c.args.conn.now) (state g.S.Store c.schema_of.new.conn) (λ now trees left. g.met.S.Store.settled _ trees now left)
-    (state g.S.Store c.move_store.new.conn) c.in_ok-from.from c.in_ok-from.ensures.tells c.in-Ok.ensures.moves c.in-Ok.ensures.judges
+    (state g.S.Store c.move_store.new.conn) c.in_ok-from.from c.in_ok-from.ensures.tells c.in-Ok.ensures.moves c.in-Ok.ensures.checks
 
 pub returns-then-from-eq-SCHEMA-clause-indexed : goal.returns-then-from-eq-SCHEMA-clause-indexed
 returns-then-from-eq-SCHEMA-clause-indexed g c = let three : c.in_ok-from.from ≡ 3 = search rules in

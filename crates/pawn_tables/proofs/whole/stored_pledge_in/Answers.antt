@@ -17,8 +17,8 @@ returns-in_default-try_from-clause-finds g c clean within h stood = let one = c.
 
 pub returns-clause-finds : goal.returns-clause-finds
 returns-clause-finds g c clean within h stood =
-    let f = (both_found _ _ c.in_ok-row.ensures.lent.leaves c.in_ok-row.ensures.finds c.in_ok-sides.ensures.lent.leaves c.in_ok-sides.ensures.finds).is clean
-    within h stood in
+    let f = (both_found _ _ c.in_ok-row.ensures.lent.leaves c.in_ok-row.ensures.finds c.in_ok-related.ensures.lent.leaves c.in_ok-related.ensures.finds).is
+    clean within h stood in
     let r = row_is (pledge_in (get h.books c.args.book) c.args.number) c.in-Some.row (sym c.in-Some.is ∙ f.1.0) in
     let version : c.in-Ok.version ≡ c.in-Some.row.version = search rules in
     (told_of h c.args.book c.args.number c.in-Ok.version r.0 _ r.1 r.2 version f.1.1, f.2)

@@ -8,5 +8,5 @@ pub returns-clause-shows : goal.returns-clause-shows
 returns-clause-shows g c = reads_then c.in_ok-known.ensures.reads c.put_further-done.ensures.shares
     (λ h said share sound. let found = rw c.in-Some.is at (said sound) in dead_first_shows g.W.Write.contents c.args.writer.now c.put.new.writer
     c.put_further-done.new.writer c.args.day (live_pledges h c.args.book c.args.receipts.now) (are_unknown (live_pledges h c.args.book c.args.receipts.now))
-    c.put_further-done.result c.ending.result
-    c.requires.fine c.ending.ensures.answer found.0 c.put.ensures.puts (share sound found.1))
+    c.put_further-done.result c.result_of_text.result
+    c.requires.fine c.result_of_text.ensures.answer found.0 c.put.ensures.puts (share sound found.1))

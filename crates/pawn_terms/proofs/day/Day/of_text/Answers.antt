@@ -1,4 +1,4 @@
-use Rattle.pawn_terms.proofs.TextLemmas.{civil_of-stamp, day_text-read, civil_of-read}
+use Rattle.pawn_terms.proofs.TextLemmas.{civil_of-request, day_text-read, civil_of-read}
 use Rattle.pawn_terms.specs.Calendar.{civil_of}
 use Rattle.pawn_terms.proofs.day.Day.of_text.Goals as goal
 
@@ -10,4 +10,4 @@ returns-in-Some-clause-succeeds c = (
 
 pub returns-in-None-clause-succeeds : goal.returns-in-None-clause-succeeds
 returns-in-None-clause-succeeds c =
-    ((λ h. cc), (λ s. absurd (c.in-None.ensures.none (civil_of s.0) (civil_of-stamp s.0 s.1).1 s.2)))
+    ((λ h. cc), (λ s. absurd (c.in-None.ensures.none (civil_of s.0) (civil_of-request s.0 s.1).1 s.2)))

@@ -1,7 +1,0 @@
-use Rattle.pawn_csv.proofs.writing.put_booking.Goals as goal
-
-pub returns : goal.returns
-returns g c = record {
-  puts = rw (c.as_bytes-2.ensures.value, c.format-2.ensures.text, c.column_word.ensures.value) at
-      (rw (c.as_bytes.ensures.value, c.format.ensures.text, c.text.ensures.value) at c.put_padded.ensures.puts);
-}
