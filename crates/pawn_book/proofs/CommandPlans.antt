@@ -6,11 +6,11 @@ use Rattle.pawn_book.proofs.SoundLists.{map-put, versions_put}
 use Rattle.pawn_book.proofs.Sounds.{absurd_none, each_at, each_put, length-put, numbered_at, numbered_put, sound_with}
 use Rattle.pawn_book.proofs.Words.{words_moved}
 use Rattle.pawn_book.specs.BookStep.{BookValue, Makes, Outcome, Refuses, Says, bearer_commands, broker_commands}
-use Rattle.pawn_book.specs.BookStep.{changed_book, is_live, judged_outcome, live_at, only_live, pledge_from, pledge_in}
+use Rattle.pawn_book.specs.BookStep.{changed_book, is_live, outcome_of_step, live_at, only_live, pledge_from, pledge_in}
 use Rattle.pawn_book.specs.BookStep.{put_from, within_window}
 use Rattle.pawn_book.specs.Books.{Change, Planned, PutPledge, Refusal, Reply}
 use Rattle.pawn_book.specs.Changes.{CanSave, Continues, book_number, with_change}
-use Rattle.pawn_book.specs.Common.{Agreement, Answered, Changed, Command, Done, IsReachable, IsUtf8, Judged}
+use Rattle.pawn_book.specs.Common.{Agreement, Answered, Changed, Command, Done, IsReachable, IsUtf8, StepResult}
 use Rattle.pawn_book.specs.Common.{PledgeValue, Receipt, Refused, Stamp, pledge_step}
 use Rattle.pawn_book.specs.HostStep.{Host, with_book}
 use Rattle.pawn_book.specs.Plans.{FindsRoom, IsOutcome, Plans, outcome_of}
@@ -85,20 +85,20 @@ change_of (Makes change reply) other = change
 -- the change of a command's outcome may be saved
 pub command_saves : (h : Host) (b n : ℕ) (p : PledgeValue) (stamp : Stamp) (command : Command) (change : Option Change) (reply : Reply) → IsSound h
     → pledge_in (get h.books b) n ≡ Some p → IsRequestDay stamp.day → IsWord stamp.word → IsCommand command
-    → judged_outcome b n (pledge_step p stamp command) ≡ outcome_of change reply → IfSome change (λ c. (book_number c ≡ b) × CanSave h c)
+    → outcome_of_step b n (pledge_step p stamp command) ≡ outcome_of change reply → IfSome change (λ c. (book_number c ≡ b) × CanSave h c)
 command_saves h b n p stamp command None reply sound stands day word given is = tt
 command_saves h b n p stamp command (Some change) reply sound stands day word given is = in_book (get h.books b) refl stands where
-  judged : (at : BookValue) (j : Judged) → get h.books b ≡ Some at → pledge_from 1 at.pledges n ≡ Some p → pledge_step p stamp command ≡ j
-      → judged_outcome b n j ≡ Makes change reply → (book_number change ≡ b) × CanSave h change
-  judged at (Refused why) e there step made = cc made
-  judged at (Answered done) e there step made = cc made
-  judged at (Changed q done) e there step made =
+  stepped : (at : BookValue) (j : StepResult) → get h.books b ≡ Some at → pledge_from 1 at.pledges n ≡ Some p → pledge_step p stamp command ≡ j
+      → outcome_of_step b n j ≡ Makes change reply → (book_number change ≡ b) × CanSave h change
+  stepped at (Refused why) e there step made = cc made
+  stepped at (Answered done) e there step made = cc made
+  stepped at (Changed q done) e there step made =
       let same : PutPledge b n q ≡ change = ap (λ o. change_of o change) made in
       subst (λ (c : Change). (book_number c ≡ b) × CanSave h c) same (refl, put_saves h b n at p q stamp command done sound e there day word given step)
 
   in_book : (o : Option BookValue) → get h.books b ≡ o → pledge_in o n ≡ Some p → (book_number change ≡ b) × CanSave h change
   in_book None e there = absurd_none there
-  in_book (Some at) e there = judged at (pledge_step p stamp command) e there refl is
+  in_book (Some at) e there = stepped at (pledge_step p stamp command) e there refl is
 
 -- a bearer's command on the pledge of a live receipt
 pub live_is : (s : ℕ) (o : Option PledgeValue) (p : PledgeValue) → Some p ≡ only_live s o → o ≡ Some p
@@ -110,7 +110,7 @@ live_is s (Some q) p is = from (is_live s q) is where
 
 pub receipt_plans : (h : Host) (b : ℕ) (r : Receipt) (p : PledgeValue) (stamp : Stamp) (command : Command) (result : Result Planned Refusal) → IsSound h
     → Some p ≡ live_at (pledge_in (get h.books b)) r → IsRequestDay stamp.day → IsWord stamp.word → IsCommand command
-    → IsOutcome (judged_outcome b r.number (pledge_step p stamp command)) result
+    → IsOutcome (outcome_of_step b r.number (pledge_step p stamp command)) result
     → Plans h b (bearer_commands b r.number stamp command (live_at (pledge_in (get h.books b)) r)) result
 receipt_plans h b r p stamp command (Ok planned) sound live day word given is =
     let stands = live_is r.secret (pledge_in (get h.books b) r.number) p live in (
@@ -122,27 +122,27 @@ receipt_plans h b r p stamp command (Err why) sound live day word given (inr is)
 
 -- the outcome of a broker's command is that of the plan, unless the window is full
 room_steps : (h : Host) (b n : ℕ) (at : BookValue) (p : PledgeValue) (stamp : Stamp) (command : Command) (planned : Planned) → get h.books b ≡ Some at
-    → Some p ≡ pledge_in (get h.books b) n → judged_outcome b n (pledge_step p stamp command) ≡ outcome_of planned.change planned.reply
+    → Some p ≡ pledge_in (get h.books b) n → outcome_of_step b n (pledge_step p stamp command) ≡ outcome_of planned.change planned.reply
     → broker_commands at b n stamp command (pledge_from 1 at.pledges n) ≡ within_window at (outcome_of planned.change planned.reply)
-room_steps h b n at p stamp command planned is stands judged =
-    ap (broker_commands at b n stamp command) (ap (λ o. pledge_in o n) (sym is) ∙ sym stands) ∙ ap (within_window at) judged
+room_steps h b n at p stamp command planned is stands stepped =
+    ap (broker_commands at b n stamp command) (ap (λ o. pledge_in o n) (sym is) ∙ sym stands) ∙ ap (within_window at) stepped
 
 -- a broker's command for which there is room
 pub number_plans : (h : Host) (b n : ℕ) (at : BookValue) (p : PledgeValue) (stamp : Stamp) (command : Command) (planned : Planned) → IsSound h
     → get h.books b ≡ Some at → Some p ≡ pledge_in (get h.books b) n → IsRequestDay stamp.day → IsWord stamp.word → IsCommand command
-    → judged_outcome b n (pledge_step p stamp command) ≡ outcome_of planned.change planned.reply
+    → outcome_of_step b n (pledge_step p stamp command) ≡ outcome_of planned.change planned.reply
     → FindsRoom at (outcome_of planned.change planned.reply) (Ok tt)
     → Plans h b (broker_commands at b n stamp command (pledge_from 1 at.pledges n)) (Ok planned)
-number_plans h b n at p stamp command planned sound is stands day word given judged roomed = (
-  room_steps h b n at p stamp command planned is stands judged ∙ roomed,
-  command_saves h b n p stamp command planned.change planned.reply sound (sym stands) day word given judged,
+number_plans h b n at p stamp command planned sound is stands day word given stepped roomed = (
+  room_steps h b n at p stamp command planned is stands stepped ∙ roomed,
+  command_saves h b n p stamp command planned.change planned.reply sound (sym stands) day word given stepped,
 )
 
 -- a broker's command for which there is none
 pub number_refused : (h : Host) (b n : ℕ) (at : BookValue) (p : PledgeValue) (stamp : Stamp) (command : Command) (planned : Planned) (why : Refusal)
     → get h.books b ≡ Some at → Some p ≡ pledge_in (get h.books b) n
-    → judged_outcome b n (pledge_step p stamp command) ≡ outcome_of planned.change planned.reply
+    → outcome_of_step b n (pledge_step p stamp command) ≡ outcome_of planned.change planned.reply
     → FindsRoom at (outcome_of planned.change planned.reply) (Err why)
     → Plans h b (broker_commands at b n stamp command (pledge_from 1 at.pledges n)) (Err why)
-number_refused h b n at p stamp command planned why is stands judged (inl unwell) = inl unwell
-number_refused h b n at p stamp command planned why is stands judged (inr told) = inr (room_steps h b n at p stamp command planned is stands judged ∙ told)
+number_refused h b n at p stamp command planned why is stands stepped (inl unwell) = inl unwell
+number_refused h b n at p stamp command planned why is stands stepped (inr told) = inr (room_steps h b n at p stamp command planned is stands stepped ∙ told)

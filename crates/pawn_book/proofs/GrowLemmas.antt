@@ -6,13 +6,13 @@ use Rattle.pawn_book.proofs.Sounds.{absurd_none, put_next}
 use Rattle.pawn_book.specs.BookStep.{BookValue, Makes, Outcome, Refuses, Says, Shown, are_same_rates, are_unknown}
 use Rattle.pawn_book.specs.BookStep.{bearer_commands, book_after, book_head, book_step, broker_commands}
 use Rattle.pawn_book.specs.BookStep.{confirmed_booking, filled_book, first_receipt, import_rows, is_empty, is_same_book}
-use Rattle.pawn_book.specs.BookStep.{is_same_opening, is_window_full, judged_outcome, live_at, make_or_refuse, newest}
+use Rattle.pawn_book.specs.BookStep.{is_same_opening, is_window_full, outcome_of_step, live_at, make_or_refuse, newest}
 use Rattle.pawn_book.specs.BookStep.{next_pledge, next_terms, pledge_from, pledge_in, present_receipts, put_from}
 use Rattle.pawn_book.specs.BookStep.{put_terms, show_pledge, take_pledge, with_reference, within_window}
 use Rattle.pawn_book.specs.Books.{AddTerms, Bearer, BookFilled, BookNotEmpty, BookRows, Broker, Caller, Import}
 use Rattle.pawn_book.specs.Books.{ImportBook, Imported, NewTerms, NoSuchReceipt, OnPledge, OnReceipt, Opened, Operator}
 use Rattle.pawn_book.specs.Books.{Present, PutPledge, PutTerms, Refusal, TakePledge, TermsPut, Viewer, WindowFull}
-use Rattle.pawn_book.specs.Common.{Answered, Changed, Command, Done, Judged, Opening, PledgeValue, Rates, Receipt}
+use Rattle.pawn_book.specs.Common.{Answered, Changed, Command, Done, StepResult, Opening, PledgeValue, Rates, Receipt}
 use Rattle.pawn_book.specs.Common.{Refused, Stamp, pledge_step}
 use Rattle.pawn_book.specs.Laws.{book_run}
 use Rattle.pawn_book.specs.Rows.{terms_at}
@@ -109,10 +109,10 @@ put_grows book n p q stamp command done at step = record {
   imported = λ imported is. is;
 }
 
-judged_grows : (book : BookValue) (b n : ℕ) (p : PledgeValue) (stamp : Stamp) (command : Command) → pledge_from 1 book.pledges n ≡ Some p
-    → GrowsTo book (book_after (Some book) (judged_outcome b n (pledge_step p stamp command)))
-judged_grows book b n p stamp command at = from (pledge_step p stamp command) refl where
-  from : (j : Judged) → pledge_step p stamp command ≡ j → GrowsTo book (book_after (Some book) (judged_outcome b n j))
+step_grows : (book : BookValue) (b n : ℕ) (p : PledgeValue) (stamp : Stamp) (command : Command) → pledge_from 1 book.pledges n ≡ Some p
+    → GrowsTo book (book_after (Some book) (outcome_of_step b n (pledge_step p stamp command)))
+step_grows book b n p stamp command at = from (pledge_step p stamp command) refl where
+  from : (j : StepResult) → pledge_step p stamp command ≡ j → GrowsTo book (book_after (Some book) (outcome_of_step b n j))
   from (Refused why) step = stays book
   from (Answered done) step = stays book
   from (Changed q done) step = (record book { pledges = put_from 1 book.pledges n q }, refl, put_grows book n p q stamp command done at step)
@@ -127,13 +127,13 @@ number_grows : (book : BookValue) (b n : ℕ) (stamp : Stamp) (command : Command
     → GrowsTo book (book_after (Some book) (broker_commands book b n stamp command o))
 number_grows book b n stamp command None at = stays book
 number_grows book b n stamp command (Some p) at =
-    window_grows book (judged_outcome b n (pledge_step p stamp command)) (judged_grows book b n p stamp command at)
+    window_grows book (outcome_of_step b n (pledge_step p stamp command)) (step_grows book b n p stamp command at)
 
 receipt_grows : (book : BookValue) (b : ℕ) (r : Receipt) (stamp : Stamp) (command : Command) (o : Option PledgeValue) → live_at (pledge_in (Some book)) r ≡ o
     → GrowsTo book (book_after (Some book) (bearer_commands b r.number stamp command o))
 receipt_grows book b r stamp command None at = stays book
 receipt_grows book b r stamp command (Some p) at =
-    judged_grows book b r.number p stamp command (live_is r.secret (pledge_from 1 book.pledges r.number) p (sym at))
+    step_grows book b r.number p stamp command (live_is r.secret (pledge_from 1 book.pledges r.number) p (sym at))
 
 shown_stays : (book : BookValue) (stamp : Stamp) (o : Option PledgeValue) → GrowsTo book (book_after (Some book) (show_pledge stamp o))
 shown_stays book stamp None = stays book

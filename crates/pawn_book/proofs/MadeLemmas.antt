@@ -4,7 +4,7 @@ use Rattle.pawn_book.proofs.Plans.{empty_lists}
 use Rattle.pawn_book.specs.BookStep.{BookValue, Makes, Out, Outcome, Refuses, Says, Shown, are_same_rates, are_unknown}
 use Rattle.pawn_book.specs.BookStep.{bearer_commands, book_head, book_step, broker_commands, confirmed_booking}
 use Rattle.pawn_book.specs.BookStep.{first_receipt, import_rows, is_empty, is_same_book, is_same_opening}
-use Rattle.pawn_book.specs.BookStep.{is_window_full, judged_outcome, live_at, make_or_refuse, newest, next_pledge}
+use Rattle.pawn_book.specs.BookStep.{is_window_full, outcome_of_step, live_at, make_or_refuse, newest, next_pledge}
 use Rattle.pawn_book.specs.BookStep.{next_terms, pledge_from, pledge_in, present_receipts, put_terms, show_pledge}
 use Rattle.pawn_book.specs.BookStep.{take_pledge, with_reference, within_window}
 use Rattle.pawn_book.specs.Books.{AddTerms, Bearer, BookFilled, BookMade, BookRows, Broker, Caller, Change, Commanded}
@@ -12,7 +12,7 @@ use Rattle.pawn_book.specs.Books.{Import, ImportBook, Imported, MakeBook, NewBoo
 use Rattle.pawn_book.specs.Books.{OnReceipt, Opened, Operator, Present, PutPledge, PutTerms, Refusal, Reply, TakePledge}
 use Rattle.pawn_book.specs.Books.{TermsPut, Viewer, WindowFull}
 use Rattle.pawn_book.specs.Changes.{IsUnfilled}
-use Rattle.pawn_book.specs.Common.{Answered, Changed, Command, Done, Judged, Opening, PledgeValue, Rates, Receipt}
+use Rattle.pawn_book.specs.Common.{Answered, Changed, Command, Done, StepResult, Opening, PledgeValue, Rates, Receipt}
 use Rattle.pawn_book.specs.Common.{Refused, Stamp, pledge_step}
 use Rattle.pawn_book.specs.Laws.{Asks}
 use Rattle.pawn_book.specs.Rows.{terms_at}
@@ -79,10 +79,10 @@ made_ok (Err why) makes change reply is = cc is
 made_ok (Ok v) makes change reply is = (v, refl, is)
 
 -- a command on the pledge made the change of a command's outcome
-judged_made : (book : BookValue) (b n : ℕ) (p : PledgeValue) (stamp : Stamp) (command : Command) (change : Change) (reply : Reply)
-    → pledge_from 1 book.pledges n ≡ Some p → judged_outcome b n (pledge_step p stamp command) ≡ Makes change reply → DidOn book b n stamp command change reply
-judged_made book b n p stamp command change reply at is = from (pledge_step p stamp command) refl is where
-  from : (j : Judged) → pledge_step p stamp command ≡ j → judged_outcome b n j ≡ Makes change reply → DidOn book b n stamp command change reply
+step_made : (book : BookValue) (b n : ℕ) (p : PledgeValue) (stamp : Stamp) (command : Command) (change : Change) (reply : Reply)
+    → pledge_from 1 book.pledges n ≡ Some p → outcome_of_step b n (pledge_step p stamp command) ≡ Makes change reply → DidOn book b n stamp command change reply
+step_made book b n p stamp command change reply at is = from (pledge_step p stamp command) refl is where
+  from : (j : StepResult) → pledge_step p stamp command ≡ j → outcome_of_step b n j ≡ Makes change reply → DidOn book b n stamp command change reply
   from (Refused why) step made = cc made
   from (Answered done) step made = cc made
   from (Changed q done) step made = record {
@@ -106,13 +106,13 @@ window_made book (Makes c r) change reply is = from (is_window_full book (confir
 pub number_made : (book : BookValue) (b n : ℕ) (stamp : Stamp) (command : Command) (o : Option PledgeValue) (change : Change) (reply : Reply)
     → pledge_from 1 book.pledges n ≡ o → broker_commands book b n stamp command o ≡ Makes change reply → DidOn book b n stamp command change reply
 number_made book b n stamp command None change reply at is = cc is
-number_made book b n stamp command (Some p) change reply at is = judged_made book b n p stamp command change reply at (window_made book _ change reply is)
+number_made book b n stamp command (Some p) change reply at is = step_made book b n p stamp command change reply at (window_made book _ change reply is)
 
 pub receipt_made : (book : BookValue) (b : ℕ) (r : Receipt) (stamp : Stamp) (command : Command) (o : Option PledgeValue) (change : Change) (reply : Reply)
     → live_at (pledge_in (Some book)) r ≡ o → bearer_commands b r.number stamp command o ≡ Makes change reply → DidOn book b r.number stamp command change reply
 receipt_made book b r stamp command None change reply at is = cc is
 receipt_made book b r stamp command (Some p) change reply at is =
-    judged_made book b r.number p stamp command change reply (live_is r.secret (pledge_from 1 book.pledges r.number) p (sym at)) is
+    step_made book b r.number p stamp command change reply (live_is r.secret (pledge_from 1 book.pledges r.number) p (sym at)) is
 
 shown_makes : {P : Type 0} (stamp : Stamp) (o : Option PledgeValue) (change : Change) (reply : Reply) → show_pledge stamp o ≡ Makes change reply → P
 shown_makes stamp None change reply is = cc is

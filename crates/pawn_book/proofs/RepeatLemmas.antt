@@ -3,7 +3,7 @@ use Rattle.pawn_book.proofs.LawLemmas.{live_found, numbered_in, stands_after}
 use Rattle.pawn_book.proofs.MadeLemmas.{DidOn, if_makes, number_made, receipt_made}
 use Rattle.pawn_book.proofs.Sounds.{some_is}
 use Rattle.pawn_book.specs.BookStep.{BookValue, Makes, Refuses, Says, Replied, bearer_commands, book_step}
-use Rattle.pawn_book.specs.BookStep.{broker_commands, changed_book, judged_outcome, live_at, only_live, pledge_from}
+use Rattle.pawn_book.specs.BookStep.{broker_commands, changed_book, outcome_of_step, live_at, only_live, pledge_from}
 use Rattle.pawn_book.specs.BookStep.{pledge_in, within_window}
 use Rattle.pawn_book.specs.Books.{Bearer, Broker, Caller, Change, Commanded, Import, NoSuchBook, OnPledge, OnReceipt}
 use Rattle.pawn_book.specs.Books.{Operator, Present, PutTerms, Reply, Viewer, TakePledge}
@@ -46,13 +46,13 @@ told_to book operator b stamp (Broker key (OnPledge m own)) n command p done ask
     let opens : (book.key == key) ≡ true = grind (arith, nat_tests, holds) in
     ap (λ v. if v then broker_commands book b m stamp own (pledge_from 1 book.pledges m) else Refuses NoSuchBook) opens
     ∙ ap (broker_commands book b m stamp own) (ap (pledge_from 1 book.pledges) asks.0 ∙ at)
-    ∙ ap (λ j. within_window book (judged_outcome b m j)) (ap (pledge_step p stamp) asks.1 ∙ step) ∙ ap (λ (k : ℕ). Says (Replied (Commanded k done))) asks.0
+    ∙ ap (λ j. within_window book (outcome_of_step b m j)) (ap (pledge_step p stamp) asks.1 ∙ step) ∙ ap (λ (k : ℕ). Says (Replied (Commanded k done))) asks.0
 told_to book operator b stamp (Bearer (Present receipts)) n command p done asks passes at step = absurd asks
 told_to book operator b stamp (Bearer (OnReceipt r own)) n command p done asks passes at step =
     let here : pledge_from 1 book.pledges r.number ≡ Some p = ap (pledge_from 1 book.pledges) asks.0 ∙ at in
     let live : is_some (only_live r.secret (Some p)) ≡ true = ap (λ o. is_some (only_live r.secret o)) (sym here) ∙ passes in
     ap (λ o. bearer_commands b r.number stamp own (only_live r.secret o)) here ∙ ap (bearer_commands b r.number stamp own) (live_found r.secret p live)
-    ∙ ap (judged_outcome b r.number) (ap (pledge_step p stamp) asks.1 ∙ step) ∙ ap (λ (k : ℕ). Says (Replied (Commanded k done))) asks.0
+    ∙ ap (outcome_of_step b r.number) (ap (pledge_step p stamp) asks.1 ∙ step) ∙ ap (λ (k : ℕ). Says (Replied (Commanded k done))) asks.0
 
 -- a repeated entry is answered again
 pub entry_told_to_all : EntriesActOnceForAll

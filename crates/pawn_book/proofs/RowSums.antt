@@ -1,7 +1,7 @@
 -- a sum over a map's values, after an insertion
 use Rattle.pawn_base.proofs.TestLemmas.{below, both_told}
 use Rattle.pawn_book.specs.BookStep.{BookValue}
-use Rattle.pawn_book.specs.HostStep.{Host, book_rows, rows, with_book}
+use Rattle.pawn_book.specs.HostStep.{Host, book_row_count, rows, with_book}
 use Rattle.std.proofs.Common.{◌≡◌, ℕ, ◌+◌, ◌<◌, List, [], ◌∷◌, map, Some, None, refl, ◌∙◌, ap, sym, arith, T, Ordering}
 use Rattle.std.proofs.Common.{if◌then◌else◌, Option, false, sum_by}
 use Rattle.std.proofs.lemmas.Cmp.{nat_cmp_total}
@@ -46,8 +46,8 @@ sum_put f k v (e ∷ es) h = from (sum_put f k v es (both_told _ (is_sorted nat_
   from rest Greater is = rw is (omega (arith, rest, sum_by-cons f e.1 (map (λ x. x.1) es), sum_by-cons f e.1 (map (λ x. x.1) (put nat_cmp k v es))))
 
 -- the rows with a book set: those of the others, and its own
-pub rows-with_book : (h : Host) (b : ℕ) (book : BookValue) → rows (with_book h b (Some book)) + part book_rows (get h.books b) ≡ rows h + book_rows book
+pub rows-with_book : (h : Host) (b : ℕ) (book : BookValue) → rows (with_book h b (Some book)) + part book_row_count (get h.books b) ≡ rows h + book_row_count book
 rows-with_book h b book =
-    let put_in = sum_put book_rows b book (entries h.books) (entries_sorted h.books) in
-    ap (λ es. sum_by book_rows (map (λ e. e.1) es) + part book_rows (get h.books b)) (entries-insert nat_cmp_total h.books b book)
-    ∙ ap (λ o. sum_by book_rows (map (λ e. e.1) (put nat_cmp b book (entries h.books))) + part book_rows o) (get-entries h.books b) ∙ put_in
+    let put_in = sum_put book_row_count b book (entries h.books) (entries_sorted h.books) in
+    ap (λ es. sum_by book_row_count (map (λ e. e.1) es) + part book_row_count (get h.books b)) (entries-insert nat_cmp_total h.books b book)
+    ∙ ap (λ o. sum_by book_row_count (map (λ e. e.1) (put nat_cmp b book (entries h.books))) + part book_row_count o) (get-entries h.books b) ∙ put_in

@@ -9,7 +9,7 @@ use Rattle.pawn_book.specs.Books.{Present, PutPledge, PutTerms, Reply, TakePledg
 use Rattle.pawn_book.specs.Changes.{numbered_pledges}
 use Rattle.pawn_book.specs.Common.{Command, PledgeValue, Receipt, Stamp, flat_map}
 use Rattle.pawn_book.specs.Laws.{Asks, command_of}
-use Rattle.pawn_book.specs.Machines.{after_command, after_judgement, no_pledge, solo_from, solo_step, with_pledge}
+use Rattle.pawn_book.specs.Machines.{after_command, after_step, no_pledge, solo_from, solo_step, with_pledge}
 use Rattle.pawn_book.specs.Traces.{Did, Entered, SlotEvent, did, enters, is_live_in, slot_events, slot_of, touches}
 use Rattle.pawn_book.specs.Traces.{within_slot}
 use Rattle.std.proofs.Common.{◌≡◌, ℕ, ◌+◌, ◌<◌, ◌≤◌, List, [], ◌∷◌, ◌++◌, length, Some, None, refl, ◌∙◌, ap, sym, subst}
@@ -123,7 +123,7 @@ made_follows slot before operator b stamp caller change reply (CommandIs book n 
     subst (λ o. Follows slot o stamp caller (Makes change reply)) (sym stands) (subst (λ (c : Change). Follows slot (Some book) stamp caller (Makes c reply))
     (sym did.makes) (put_follows slot book b n did.next stamp caller reply (Some did.old) did.stands within.0 high (λ o same in_slot.
     ap (solo_from slot (slot_of slot (Some book))) (does_asked caller n stamp command asks) ∙ ap (λ x. after_command slot n stamp command x
-    (slot_of slot (Some book))) (in_slot ∙ sym same) ∙ ap (λ j. after_judgement slot n j (slot_of slot (Some book))) did.step)))
+    (slot_of slot (Some book))) (in_slot ∙ sym same) ∙ ap (λ j. after_step slot n j (slot_of slot (Some book))) did.step)))
 
 -- one step of a book
 pub step_follows : (slot : List Receipt) (before : Option BookValue) (operator b : ℕ) (stamp : Stamp) (caller : Caller)

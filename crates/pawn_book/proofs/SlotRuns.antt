@@ -3,12 +3,12 @@ use Rattle.pawn_book.proofs.SlotMachine.{Follows, enter_book, solo_from-append, 
 use Rattle.pawn_book.proofs.SlotMoments.{book_trace_step, request_on, run_slot, slot_on, slot_step}
 use Rattle.pawn_book.proofs.Sounds.{get-with_book}
 use Rattle.pawn_book.specs.BookStep.{BookValue, Makes, Outcome, Refuses, Says, bearer_commands, bearer_step, book_after}
-use Rattle.pawn_book.specs.BookStep.{book_step, changed_book, is_live, judged_outcome, live_at, only_live, out_of}
+use Rattle.pawn_book.specs.BookStep.{book_step, changed_book, is_live, outcome_of_step, live_at, only_live, out_of}
 use Rattle.pawn_book.specs.BookStep.{pledge_in, present_receipts}
 use Rattle.pawn_book.specs.Books.{AddTerms, Bearer, BearerRequest, Caller, Change, Full, ImportBook, MakeBook}
 use Rattle.pawn_book.specs.Books.{OnReceipt, Present, PutPledge, Request}
 use Rattle.pawn_book.specs.Changes.{numbered_pledges}
-use Rattle.pawn_book.specs.Common.{Answered, Changed, Command, Judged, PledgeValue, Receipt, Refused, Stamp, flat_map}
+use Rattle.pawn_book.specs.Common.{Answered, Changed, Command, StepResult, PledgeValue, Receipt, Refused, Stamp, flat_map}
 use Rattle.pawn_book.specs.Common.{list_all, pledge_step}
 use Rattle.pawn_book.specs.HostStep.{Host, host_after, host_step, rows, with_book, within_limit}
 use Rattle.pawn_book.specs.Keeping.{pledges_of}
@@ -188,9 +188,9 @@ equal_traces_answer_alike h g operator b slot before others stamp asked mine set
 -- a bearer's command is added to the trace if the slot's machine accepts it
 
 joins_live : (slot : List Receipt) (before : Option BookValue) (b : ℕ) (stamp : Stamp) (r : Receipt) (command : Command) (p : PledgeValue)
-    → pledge_in before r.number ≡ Some p → is_live_in slot r.number p ≡ true → (j : Judged)
-    → slot_events slot before stamp (Bearer (OnReceipt r command)) (judged_outcome b r.number j) ≡ adds_event r.number stamp command
-    (judged_outcome b r.number j)
+    → pledge_in before r.number ≡ Some p → is_live_in slot r.number p ≡ true → (j : StepResult)
+    → slot_events slot before stamp (Bearer (OnReceipt r command)) (outcome_of_step b r.number j) ≡ adds_event r.number stamp command
+    (outcome_of_step b r.number j)
 joins_live slot before b stamp r command p at live (Refused why) = refl
 joins_live slot before b stamp r command p at live (Answered done) = refl
 joins_live slot before b stamp r command p at live (Changed next done) = rw (at, live) refl

@@ -1,6 +1,6 @@
 -- One step of a book: the outcome of a request.
 use Rattle.pawn_book.specs.Bookings.{confirmed_count, is_confirmed}
-use Rattle.pawn_book.specs.Common.{Answered, Booking, Changed, Command, Done, Fixed, Issued, Judged, Kind, Opening}
+use Rattle.pawn_book.specs.Common.{Answered, Booking, Changed, Command, Done, Fixed, Issued, StepResult, Kind, Opening}
 use Rattle.pawn_book.specs.Common.{PledgeRefusal, PledgeValue, Rates, Receipt, Refused, Running, Stamp, TermsFault}
 use Rattle.pawn_book.specs.Common.{first_of, is_bad_opening, live_of, new_pledge, pledge_step, terms_answer}
 use Rattle.pawn_book.specs.Limits.{most_terms, most_pledges}
@@ -251,10 +251,10 @@ is_window_full book (Some booking) = nat_le book.capacity (confirmed_count book.
 -- commands
 
 -- the outcome of a command on pledge n
-abbrev pub judged_outcome : ℕ → ℕ → Judged → Outcome
-judged_outcome b n (Refused why) = Refuses (Pledge why)
-judged_outcome b n (Answered done) = Says (Replied (Commanded n done))
-judged_outcome b n (Changed next done) = Makes (PutPledge b n next) (Commanded n done)
+abbrev pub outcome_of_step : ℕ → ℕ → StepResult → Outcome
+outcome_of_step b n (Refused why) = Refuses (Pledge why)
+outcome_of_step b n (Answered done) = Says (Replied (Commanded n done))
+outcome_of_step b n (Changed next done) = Makes (PutPledge b n next) (Commanded n done)
 
 -- the outcome, unless it confirms a booking whose window is full
 abbrev pub within_window : BookValue → Outcome → Outcome
@@ -265,12 +265,12 @@ within_window book (Makes change reply) = if is_window_full book (confirmed_book
 -- the outcome of a broker's command on pledge n
 abbrev pub broker_commands : BookValue → ℕ → ℕ → Stamp → Command → Option PledgeValue → Outcome
 broker_commands book b n stamp command None = Refuses NoSuchPledge
-broker_commands book b n stamp command (Some p) = within_window book (judged_outcome b n (pledge_step p stamp command))
+broker_commands book b n stamp command (Some p) = within_window book (outcome_of_step b n (pledge_step p stamp command))
 
 -- the outcome of a bearer's command, given the pledge of the receipt if the receipt is live
 abbrev pub bearer_commands : ℕ → ℕ → Stamp → Command → Option PledgeValue → Outcome
 bearer_commands b n stamp command None = Refuses NoSuchReceipt
-bearer_commands b n stamp command (Some p) = judged_outcome b n (pledge_step p stamp command)
+bearer_commands b n stamp command (Some p) = outcome_of_step b n (pledge_step p stamp command)
 
 -- a view: the statement of a pledge
 abbrev pub show_pledge : Stamp → Option PledgeValue → Outcome

@@ -10,7 +10,7 @@ pub use Rattle.pawn_pledge.specs.Laws.{IsReplacing, IsSpent, MayExtend, entry_co
 pub use Rattle.pawn_pledge.specs.Number.{IsNumber}
 pub use Rattle.pawn_pledge.specs.Pledge.{PledgeValue, end_of, live_of}
 pub use Rattle.pawn_pledge.specs.Replayable.{AreNumbered, IsReachable}
-pub use Rattle.pawn_pledge.specs.Step.{Answered, Changed, Judged, Refused, is_bad_opening, new_pledge, pledge_step}
+pub use Rattle.pawn_pledge.specs.Step.{Answered, Changed, StepResult, Refused, is_bad_opening, new_pledge, pledge_step}
 pub use Rattle.pawn_pledge.specs.Worked.{ring, ring_opening}
 pub use Rattle.pawn_pledge.specs.declared.command.Command.{Command}
 pub use Rattle.pawn_pledge.specs.declared.command.Done.{Done}

@@ -13,21 +13,21 @@ pub record Host : Type 0 where
   pub limit : ℕ
 
 -- one row for a booking
-abbrev pub booking_rows : Option Booking → ℕ
-booking_rows None = 0
-booking_rows (Some booking) = 1
+abbrev pub booking_row_count : Option Booking → ℕ
+booking_row_count None = 0
+booking_row_count (Some booking) = 1
 
 -- the rows of a pledge: one for itself, one for each entry and secret, and one for its booking
-abbrev pub pledge_rows : PledgeValue → ℕ
-pledge_rows p = 1 + length p.entries + length p.secrets + booking_rows p.standing.booking
+abbrev pub pledge_row_count : PledgeValue → ℕ
+pledge_row_count p = 1 + length p.entries + length p.secrets + booking_row_count p.standing.booking
 
 -- the rows of a book: one for itself, one for each version of its terms, and those of its pledges
-abbrev pub book_rows : BookValue → ℕ
-book_rows book = 1 + length book.terms + sum_by pledge_rows book.pledges
+abbrev pub book_row_count : BookValue → ℕ
+book_row_count book = 1 + length book.terms + sum_by pledge_row_count book.pledges
 
 -- the rows of all books of a host
 abbrev pub rows : Host → ℕ
-rows h = sum_by book_rows (values h.books)
+rows h = sum_by book_row_count (values h.books)
 
 -- the host with this book under number b
 abbrev pub with_book : Host → ℕ → Option BookValue → Host

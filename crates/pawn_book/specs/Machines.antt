@@ -6,7 +6,7 @@ use Rattle.pawn_book.specs.declared.request.BearerRequest.{BearerRequest}
 use Rattle.pawn_book.specs.declared.request.BearerRequest.TheVariants.{Present, OnPledge as OnReceipt}
 use Rattle.pawn_book.specs.declared.request.Caller.{Caller}
 use Rattle.pawn_pledge.specs.Pledge.{PledgeValue}
-use Rattle.pawn_pledge.specs.Step.{Judged, Changed, pledge_step}
+use Rattle.pawn_pledge.specs.Step.{StepResult, Changed, pledge_step}
 use Rattle.pawn_pledge.specs.declared.command.Command.{Command}
 use Rattle.pawn_pledge.specs.declared.command.Stamp.{Stamp}
 use Rattle.pawn_pledge.specs.declared.receipt.Receipt.{Receipt}
@@ -24,14 +24,14 @@ with_pledge slot n p pledges m = if m == n then within_slot slot n (Some p) else
 
 -- the map after the result of a command; a command that is refused, or answered without a change, does not change the
 -- map
-abbrev pub after_judgement : List Receipt → ℕ → Judged → (ℕ → Option PledgeValue) → ℕ → Option PledgeValue
-after_judgement slot n (Changed p done) pledges = with_pledge slot n p pledges
-after_judgement slot n other pledges = pledges
+abbrev pub after_step : List Receipt → ℕ → StepResult → (ℕ → Option PledgeValue) → ℕ → Option PledgeValue
+after_step slot n (Changed p done) pledges = with_pledge slot n p pledges
+after_step slot n other pledges = pledges
 
 -- the map after a command, which is carried out by the pledge's own rules
 abbrev pub after_command : List Receipt → ℕ → Stamp → Command → Option PledgeValue → (ℕ → Option PledgeValue) → ℕ → Option PledgeValue
 after_command slot n stamp command None pledges = pledges
-after_command slot n stamp command (Some p) pledges = after_judgement slot n (pledge_step p stamp command) pledges
+after_command slot n stamp command (Some p) pledges = after_step slot n (pledge_step p stamp command) pledges
 
 -- the map after one event: a pledge enters, or a command on it is carried out
 abbrev pub solo_step : List Receipt → SlotEvent → (ℕ → Option PledgeValue) → ℕ → Option PledgeValue

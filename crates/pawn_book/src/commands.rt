@@ -1,6 +1,6 @@
 //! Plans of commands on a pledge.
 ghost use Rattle.pawn_book.specs.BookStep.{BookValue, bearer_commands, book_head, broker_commands, confirmed_booking};
-ghost use Rattle.pawn_book.specs.BookStep.{judged_outcome, live_at, pledge_from, pledge_in};
+ghost use Rattle.pawn_book.specs.BookStep.{outcome_of_step, live_at, pledge_from, pledge_in};
 ghost use Rattle.pawn_book.specs.Common.{pledge_step};
 ghost use Rattle.pawn_book.specs.Keeping.{IsQuiet, Reads};
 ghost use Rattle.pawn_book.specs.Plans.{FindsRoom, IsOutcome, Plans, outcome_of};
@@ -71,7 +71,7 @@ fn plan_command(
     stamp: &Stamp,
     command: &Command,
 ) -> Result<Planned, Refusal>
-    ensures judged { IsOutcome (judged_outcome book number (pledge_step pledge stamp.now command.now)) result }
+    ensures outcome { IsOutcome (outcome_of_step book number (pledge_step pledge stamp.now command.now)) result }
     ensures day { IsRequestDay stamp.now.day }
     ensures word { IsWord stamp.now.word }
     ensures store { result ≡ Err Refusal.Store → ⊥ }

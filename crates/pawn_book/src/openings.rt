@@ -61,7 +61,7 @@ pub(crate) fn plan_pledge<K: Keep>(
 
 /// Plans an opening whose reference `pledge` already has.
 fn plan_again(pledge: &Pledge, opening: &Opening) -> Result<Planned, Refusal>
-    ensures told { (h : Host) (b : ℕ) (at : BookValue) (stamp : StampValue) → Plans h b (take_pledge at b opening.now stamp (Some pledge.now)) result }
+    ensures plans { (h : Host) (b : ℕ) (at : BookValue) (stamp : StampValue) → Plans h b (take_pledge at b opening.now stamp (Some pledge.now)) result }
     ensures store { result ≡ Err Refusal.Store → ⊥ }
 {
     if !is_same_opening(&pledge.agreement().opening, opening) {

@@ -7,7 +7,7 @@ use Rattle.pawn_book.proofs.Places.{terms_at_place}
 use Rattle.pawn_book.proofs.SoundLists.{absurd_none, references_push, some_is}
 use Rattle.pawn_book.proofs.Sounds.{each_at, numbered_at}
 use Rattle.pawn_book.specs.BookStep.{BookValue, book_head, pledge_from, pledge_in, with_reference}
-use Rattle.pawn_book.specs.HostStep.{Host, pledge_rows}
+use Rattle.pawn_book.specs.HostStep.{Host, pledge_row_count}
 use Rattle.pawn_book.specs.Keeping.{terms_of}
 use Rattle.pawn_book.specs.Limits.{IsCapacity, most_name_bytes, most_pledges, most_terms}
 use Rattle.pawn_book.specs.Rows.{AreDistinct, AreNumberedFrom, IsUnder, is_same_text, references_of, terms_at}
@@ -144,7 +144,7 @@ number_is None n is = absurd_none is
 number_is (Some q) n is = (q, refl, some_is _ _ is)
 
 pub front_more : (k : BookValue) (i : ℕ) (version rows next more : ℕ) (p : PledgeValue) → i < length k.pledges → pledge_from 1 k.pledges (1 + i) ≡ Some p
-    → FitsAt k (1 + i) p → version ≤ next → next ≡ version_of p → more ≡ pledge_rows p → IsFront k (take i k.pledges) version rows
+    → FitsAt k (1 + i) p → version ≤ next → next ≡ version_of p → more ≡ pledge_row_count p → IsFront k (take i k.pledges) version rows
     → IsFront k (take (i + 1) k.pledges) next (rows + more)
 front_more k i version rows next more p less at fits rise is few front =
     let long = length_take k.pledges i (omega (arith, less)) in
@@ -163,12 +163,12 @@ front_more k i version rows next more p less at fits rise is few front =
       versions = falls_push 0 (take i k.pledges) p front.versions (omega (arith, front.last, rise, is));
       written = Each-push HasTextsAndWords (take i k.pledges) p front.written fits.written;
       last = is ∙ sym (last_push 0 (take i k.pledges) p);
-      counted = let sums = sum_by_push pledge_rows (take i k.pledges) p in omega (arith, sums, few, front.counted);
+      counted = let sums = sum_by_push pledge_row_count (take i k.pledges) p in omega (arith, sums, few, front.counted);
     })
 
 -- the next pledge, as it was found
 pub front_next : (k : BookValue) (i n : ℕ) (version rows next more : ℕ) → i < length k.pledges → n ≡ i + 1
-    → ((p : PledgeValue) × (pledge_from 1 k.pledges n ≡ Some p) × FitsAt k n p × (version ≤ next) × (next ≡ version_of p) × (more ≡ pledge_rows p))
+    → ((p : PledgeValue) × (pledge_from 1 k.pledges n ≡ Some p) × FitsAt k n p × (version ≤ next) × (next ≡ version_of p) × (more ≡ pledge_row_count p))
     → IsFront k (take i k.pledges) version rows → IsFront k (take (i + 1) k.pledges) next (rows + more)
 front_next k i n version rows next more less at found front =
     let same : n ≡ 1 + i = omega (arith, at) in

@@ -2,7 +2,7 @@
 use Rattle.pawn_base.proofs.TestLemmas.{both_told, below}
 use Rattle.pawn_book.proofs.SoundLists.{absurd_none, some_is}
 use Rattle.pawn_book.specs.BookStep.{BookValue}
-use Rattle.pawn_book.specs.HostStep.{Host, book_rows, rows}
+use Rattle.pawn_book.specs.HostStep.{Host, book_row_count, rows}
 use Rattle.pawn_book.specs.Keeping.{IsNextBook}
 use Rattle.pawn_book.specs.Sound.{AreSound, HasUnsoundBook, IsSoundAt}
 use Rattle.pawn_check.specs.Checking.{AreCounted, AreOfBook}
@@ -196,7 +196,7 @@ pub record AreMet (h : Host) (a books pledges left : ℕ) : Type 0 where
   pub sound : (b : ℕ) (k : BookValue) → get h.books b ≡ Some k → 1 ≤ b → b ≤ a → IsSoundAt b k
   pub books_are : books ≡ up_to (λ _. 1) a (entries h.books)
   pub pledges_are : pledges ≡ up_to (λ k. length k.pledges) a (entries h.books)
-  pub left_are : left + up_to book_rows a (entries h.books) ≡ rows h
+  pub left_are : left + up_to book_row_count a (entries h.books) ≡ rows h
 
 found : (h : Host) (b : ℕ) (k : BookValue) → get h.books b ≡ Some k → find nat_cmp b (entries h.books) ≡ Some k
 found h b k is = sym (get-entries h.books b) ∙ is
@@ -204,19 +204,19 @@ found h b k is = sym (get-entries h.books b) ∙ is
 there : (h : Host) (b : ℕ) (k : BookValue) → find nat_cmp b (entries h.books) ≡ Some k → get h.books b ≡ Some k
 there h b k is = get-entries h.books b ∙ is
 
-rows_are : (h : Host) → rows h ≡ sum_by (λ (e : ℕ × BookValue). book_rows e.1) (entries h.books)
+rows_are : (h : Host) → rows h ≡ sum_by (λ (e : ℕ × BookValue). book_row_count e.1) (entries h.books)
 rows_are h = of_values (entries h.books) where
-  of_values : (es : Books) → sum_by book_rows (map (λ (e : ℕ × BookValue). e.1) es) ≡ sum_by (λ (e : ℕ × BookValue). book_rows e.1) es
+  of_values : (es : Books) → sum_by book_row_count (map (λ (e : ℕ × BookValue). e.1) es) ≡ sum_by (λ (e : ℕ × BookValue). book_row_count e.1) es
   of_values [] = refl
-  of_values (e ∷ es) = sum_by-cons book_rows e.1 (map (λ (e : ℕ × BookValue). e.1) es) ∙ ap (λ n. book_rows e.1 + n) (of_values es)
-      ∙ sym (sum_by-cons (λ (e : ℕ × BookValue). book_rows e.1) e es)
+  of_values (e ∷ es) = sum_by-cons book_row_count e.1 (map (λ (e : ℕ × BookValue). e.1) es) ∙ ap (λ n. book_row_count e.1 + n) (of_values es)
+      ∙ sym (sum_by-cons (λ (e : ℕ × BookValue). book_row_count e.1) e es)
 
 pub none_are_met : (h : Host) (left : ℕ) → left ≡ rows h → AreMet h 0 0 0 left
 none_are_met h left is = record {
   sound = λ b k at low high. absurd (omega (arith, low, high));
   books_are = sym (none_yet (λ _. 1) (entries h.books));
   pledges_are = sym (none_yet (λ k. length k.pledges) (entries h.books));
-  left_are = let none = none_yet book_rows (entries h.books) in omega (arith, none, is);
+  left_are = let none = none_yet book_row_count (entries h.books) in omega (arith, none, is);
 }
 
 -- the next book and what it has
@@ -243,8 +243,8 @@ next_sum h a n counts k f next =
 pub fits : (h : Host) (a n books pledges left : ℕ) (counts : BookCounts) (k : BookValue) → AreMet h a books pledges left → IsNext h a n counts k
     → counts.rows ≤ left
 fits h a n books pledges left counts k before next =
-    let sum = next_sum h a n counts k book_rows next in
-    let most = met_at_most book_rows n (entries h.books) in
+    let sum = next_sum h a n counts k book_row_count next in
+    let most = met_at_most book_row_count n (entries h.books) in
     let all = rows_are h in
     omega (arith, sum, most, all, before.left_are, next.has.rows)
 
@@ -255,7 +255,7 @@ one_more h a n books pledges left counts k before next = record {
   books_are = let sum = next_sum h a n counts k (λ _. 1) next in omega (arith, sum, before.books_are);
   pledges_are = let sum = next_sum h a n counts k (λ k. length k.pledges) next in omega (arith, sum, before.pledges_are, next.has.pledges);
   left_are =
-      let sum = next_sum h a n counts k book_rows next in
+      let sum = next_sum h a n counts k book_row_count next in
       let few = fits h a n books pledges left counts k before next in
       omega (arith, sum, few, before.left_are, next.has.rows);
 } where
@@ -279,7 +279,7 @@ one_is_left h a books pledges left before last some = go (get h.books 0) refl wh
   go : (o : Option BookValue) → get h.books 0 ≡ o → HasUnsoundBook h
   go (Some k) is = (0, (k, is, λ sound. absurd (let low = sound.0.0 in omega (arith, low))))
   go None none =
-      let all = all_met book_rows a (entries h.books) (entries_sorted h.books) (λ b x at. last b x (there h b x at)) (sym (get-entries h.books 0) ∙ none) in
+      let all = all_met book_row_count a (entries h.books) (entries_sorted h.books) (λ b x at. last b x (there h b x at)) (sym (get-entries h.books 0) ∙ none) in
       let sum = rows_are h in
       absurd (omega (arith, all, sum, before.left_are, some))
 
@@ -289,7 +289,7 @@ pub all_are_met : (h : Host) (a books pledges left : ℕ) → AreMet h a books p
 all_are_met h a books pledges left before last none_left = go (get h.books 0) refl where
   go : (o : Option BookValue) → get h.books 0 ≡ o → AreSound h × AreCounted h (record { books = books; pledges = pledges; rows = rows h })
   go (Some k) is =
-      let out = left_out book_rows a k (entries h.books) (found h 0 k is) in
+      let out = left_out book_row_count a k (entries h.books) (found h 0 k is) in
       let sum = rows_are h in
       absurd (omega (arith, out, sum, before.left_are, none_left))
   go None none =

@@ -1,7 +1,7 @@
 -- What the result of a check states about a host.
 use Rattle.pawn_base.specs.Lists.{DoNotFall, Each, last_by}
 use Rattle.pawn_book.specs.BookStep.{BookValue}
-use Rattle.pawn_book.specs.HostStep.{Host, book_rows, pledge_rows, rows}
+use Rattle.pawn_book.specs.HostStep.{Host, book_row_count, pledge_row_count, rows}
 use Rattle.pawn_book.specs.Keeping.{Keeping, number_of}
 use Rattle.pawn_book.specs.Rows.{AreDistinct, AreNumberedFrom, IsUnder, references_of, version_of}
 use Rattle.pawn_book.specs.Sound.{AreSound, HasTextsAndWords, HasUnsoundBook, IsSoundAt}
@@ -57,7 +57,7 @@ IsQuietCheck k old result = k.steady old → IsErrOf result Store → ⊥
 -- these are the numbers of a book's pledges and counted rows
 pub record AreOfBook (book : BookValue) (counts : BookCounts) : Type 0 where
   pub pledges : counts.pledges ≡ length book.pledges
-  pub rows : counts.rows ≡ book_rows book
+  pub rows : counts.rows ≡ book_row_count book
 
 -- the book, if the host has it, is sound and these are its counts; or the fault is as `Blames` says
 abbrev pub ChecksBook : Host → ℕ → Result BookCounts CheckFault → Type 0
@@ -81,4 +81,4 @@ pub record IsFront (book : BookValue) (pledges : List PledgeValue) (version rows
   pub versions : DoNotFall version_of 0 pledges
   pub written : Each HasTextsAndWords pledges
   pub last : version ≡ last_by version_of 0 pledges
-  pub counted : rows ≡ sum_by pledge_rows pledges
+  pub counted : rows ≡ sum_by pledge_row_count pledges

@@ -1,7 +1,7 @@
 //! Checks the pledges of a book one after the other, and counts their rows.
 ghost use Rattle.pawn_base.specs.Lists.{last_by};
 ghost use Rattle.pawn_book.specs.BookStep.{BookValue, pledge_from};
-ghost use Rattle.pawn_book.specs.HostStep.{pledge_rows};
+ghost use Rattle.pawn_book.specs.HostStep.{pledge_row_count};
 ghost use Rattle.pawn_book.specs.Keeping.{Reads, number_of};
 ghost use Rattle.pawn_book.specs.Limits.{most_pledges};
 ghost use Rattle.pawn_book.specs.Rows.{IsUnder, version_of};
@@ -25,7 +25,7 @@ pub struct Step {
 /// How many counted rows a pledge has.
 fn row_count(pledge: &Pledge) -> u64
     requires reachable { IsReachable pledge.now }
-    ensures value { result ≡ pledge_rows pledge.now }
+    ensures value { result ≡ pledge_row_count pledge.now }
     ensures few { result ≤ most_pledge_rows }
 {
     let booking = match pledge.standing().booking {
@@ -103,7 +103,7 @@ fn next_step<K: Keep>(
 ) -> Result<Step, CheckFault>
     ensures reads { Reads K.keeping keep.old keep.new (λ h. (k : BookValue) (place : ℕ) → get h.books book ≡ Some k → number ≡ place + 1
         → number ≤ length k.pledges → version ≡ last_by version_of 0 (take place k.pledges) → FindsSound h result (λ step. (p : PledgeValue) × (pledge_from 1
-        k.pledges number ≡ Some p) × FitsAt k number p × (version ≤ step.version) × (step.version ≡ version_of p) × (step.rows ≡ pledge_rows p))) }
+        k.pledges number ≡ Some p) × FitsAt k number p × (version ≤ step.version) × (step.version ≡ version_of p) × (step.rows ≡ pledge_row_count p))) }
     ensures few { IfOk result (λ step. step.rows ≤ most_pledge_rows) }
     ensures quiet { IsQuietCheck K.keeping keep.old result }
 {

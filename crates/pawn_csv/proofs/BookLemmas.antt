@@ -14,7 +14,7 @@ use Rattle.pawn_csv.specs.Order.{Begun, hand, is_whole, may_end, on_hand, on_sec
 use Rattle.pawn_csv.specs.Order.{place_extension, place_pledge, place_secret, place_terms, pledges_begun, put_hand}
 use Rattle.pawn_csv.specs.Order.{raw_pledge, run, then_run}
 use Rattle.pawn_csv.specs.Reading.{AreTaken, FitsVersion, IsReadAs, IsTextOf}
-use Rattle.pawn_csv.specs.Rows.{FitsColumns, Knows, header, pledge_csv_rows, row_fields, rows_of_csv, terms_rows}
+use Rattle.pawn_csv.specs.Rows.{FitsColumns, Knows, header, pledge_csv_rows, row_fields, book_csv_rows, terms_rows}
 use Rattle.pawn_csv.specs.Rows.{version_rows}
 use Rattle.pawn_csv.specs.Types.{Cause, PledgeColumns, RawPledge, Row, Version}
 
@@ -190,7 +190,7 @@ whole_counts b whole =
 
 -- what can be seen at the end
 pub whole_rows : (b : Begun) (k : BookRows) → is_whole (Some b) ≡ true → b.terms ≡ k.terms → pledges_begun b ≡ map raw_of k.pledges
-    → shown (Some b) ≡ rows_of_csv b.version k
+    → shown (Some b) ≡ book_csv_rows b.version k
 whole_rows b k whole terms pledges =
     let (m, n, ended) = whole_counts b whole in
     let count = n ∙ ap (λ (ps : List RawPledge). length ps) pledges ∙ length-raw k.pledges in
@@ -209,7 +209,7 @@ taken_is [] rows s k taken (b, is, whole, begun, replayable) = absurd (some_same
 taken_is (h ∷ rs) rows s k taken (b, is, whole, begun, replayable) =
     let grown = run_grows rows None (Some b) (taken.3 ∙ ap (λ (o : Option Begun). Ok o) is) tt in
     let whole' : is_whole (Some b) ≡ true = ap is_whole (sym is) ∙ whole in
-    let same : rows ≡ rows_of_csv b.version k = sym grown.0 ∙ whole_rows b k whole' begun.0 begun.1.0 in (
+    let same : rows ≡ book_csv_rows b.version k = sym grown.0 ∙ whole_rows b k whole' begun.0 begun.1.0 in (
       b.version,
       ap (λ (x : List (List ℕ)). x ∷ rs) taken.0 ∙ ap (λ (xs : List (List (List ℕ))). header ∷ xs) (taken.1 ∙ ap (λ (xs : List Row). map row_fields xs) same),
       (

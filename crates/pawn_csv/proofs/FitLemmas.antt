@@ -15,7 +15,7 @@ use Rattle.pawn_csv.specs.Types.{Row, Version}
 use Rattle.pawn_debt.proofs.Bounds.{accepted-bounded, after_days-small}
 use Rattle.pawn_debt.proofs.DueLemmas.{after_days-principal}
 use Rattle.pawn_debt.proofs.EntryLemmas.{due-from-last}
-use Rattle.pawn_debt.specs.Answers.{draw_rows, is_bad_amount, repay_rows, with_entry}
+use Rattle.pawn_debt.specs.Answers.{draw_refusals, is_bad_amount, repay_refusals, with_entry}
 use Rattle.pawn_debt.specs.Replay.{AreEntriesAccepted, sort_answer}
 use Rattle.pawn_terms.specs.Calendar.{IsRequestDay, first_day}
 use Rattle.pawn_terms.specs.Limits.{last_request_day}
@@ -32,8 +32,8 @@ few_pence pence h = let few : pence ≤ most_pence = grind (arith, nat_tests, h)
 
 -- a sum that the rules accept is at most a million pounds
 accepted_pence : (s : Sort) (d : DebtValue) (x pence : ℕ) → IsOk (sort_answer s d x pence) → IsColumnNumber pence
-accepted_pence Draw d x pence h = few_pence pence ((first_of-is_ok (draw_rows d x pence) (Ok (with_entry d x Draw pence)) h).0.1.1.0)
-accepted_pence Repay d x pence h = few_pence pence ((first_of-is_ok (repay_rows d x pence) (Ok (with_entry d x Repay pence)) h).0.1.0)
+accepted_pence Draw d x pence h = few_pence pence ((first_of-is_ok (draw_refusals d x pence) (Ok (with_entry d x Draw pence)) h).0.1.1.0)
+accepted_pence Repay d x pence h = few_pence pence ((first_of-is_ok (repay_refusals d x pence) (Ok (with_entry d x Repay pence)) h).0.1.0)
 
 all_pence : (d : DebtValue) (prior es : List Entry) → AreEntriesAccepted d prior es → Each (λ e. IsColumnNumber e.pence) es
 all_pence d prior [] h = tt

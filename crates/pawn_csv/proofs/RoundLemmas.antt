@@ -4,7 +4,7 @@ use Rattle.pawn_csv.proofs.Basics.{◌≡◌, ◌++◌, ◌∷◌, [], List, ref
 use Rattle.pawn_csv.specs.Common.{BookRows, Reached, default_config, default_writer, escaped, fields_text, flat_map}
 use Rattle.pawn_csv.specs.Common.{is_blank, next_record, read_back, row_text, strip_bom, State}
 use Rattle.pawn_csv.specs.Reading.{FitsVersion, IsTextOf}
-use Rattle.pawn_csv.specs.Rows.{csv_of, header, row_fields, rows_of_csv}
+use Rattle.pawn_csv.specs.Rows.{csv_of, header, row_fields, book_csv_rows}
 use Rattle.pawn_csv.specs.Types.{Row, Version}
 
 -- a record of more than one column is read as it is
@@ -37,9 +37,9 @@ no_mark rest = refl
 pub held_texts_are_read : (k : BookRows) → FitsVersion Version.Two k → IsTextOf (strip_bom (csv_of k)) k
 unfolding Reached
 held_texts_are_read k held =
-    let tail = flat_map (row_text default_writer) (map row_fields (rows_of_csv Version.Two k)) in (
+    let tail = flat_map (row_text default_writer) (map row_fields (book_csv_rows Version.Two k)) in (
       Version.Two,
       rw (no_mark tail)
-          (State.StartRecord, [], ((header, State.StartRecord, tail), read-write header tail, refl, rows_reached (rows_of_csv Version.Two k)), at_end),
+          (State.StartRecord, [], ((header, State.StartRecord, tail), read-write header tail, refl, rows_reached (book_csv_rows Version.Two k)), at_end),
       held,
     )

@@ -13,7 +13,7 @@ use Rattle.pawn_csv.specs.Layout.{AreLaidFrom, IsLaidOut, IsWithin, LayoutsAreTa
 use Rattle.pawn_csv.specs.Order.{Begun, hand, has_secret, in_order, is_nil, is_whole, may_end, on_hand, place}
 use Rattle.pawn_csv.specs.Order.{place_booking, place_entry, place_extension, place_secret, put_hand, raw_pledge, run}
 use Rattle.pawn_csv.specs.Order.{then_run, unless_full}
-use Rattle.pawn_csv.specs.Rows.{Knows, booking_csv_rows, entry_rows, extension_rows, rows_of_csv, secret_rows}
+use Rattle.pawn_csv.specs.Rows.{Knows, booking_csv_rows, entry_rows, extension_rows, book_csv_rows, secret_rows}
 use Rattle.pawn_csv.specs.Rows.{terms_rows, version_rows}
 use Rattle.pawn_csv.specs.Types.{Cause, PledgeColumns, RawPledge, Row, Version}
 
@@ -281,12 +281,12 @@ laid_book v k replayable knows = record {
 }
 
 -- its rows have the layout
-pub book_rows_are : (v : Version) (k : BookRows) → laid_rows v k.terms (map raw_of k.pledges) ≡ rows_of_csv v k
+pub book_rows_are : (v : Version) (k : BookRows) → laid_rows v k.terms (map raw_of k.pledges) ≡ book_csv_rows v k
 book_rows_are v k = λ i. Row.Book v (length k.terms) (length-raw k.pledges i) ∷ (terms_rows 1 k.terms ++ flat_map-raw k.pledges i)
 
 -- the rows of a book were accepted, and the book is made of them
 abbrev pub Makes : Version → BookRows → Type 0
-Makes v k = (b : Begun) × (run None (rows_of_csv v k) ≡ Ok (Some b)) × (is_whole (Some b) ≡ true) × IsBegunOf b k
+Makes v k = (b : Begun) × (run None (book_csv_rows v k) ≡ Ok (Some b)) × (is_whole (Some b) ≡ true) × IsBegunOf b k
 
 pub run_book : (v : Version) (k : BookRows) → AreReplayable k.terms k.pledges → Knows v k → Makes v k
 run_book v k replayable knows =
@@ -301,4 +301,4 @@ run_book v k replayable knows =
 pub texts_are_read_as : TextsAreReadAs
 texts_are_read_as text k (v, are, held) =
     let (b, ran, whole, is) = run_book v k held.0 held.1 in
-    (version_rows v k, rows_of_csv v k, Some b, are, (refl, refl, held.2, ran), (b, refl, whole, is, held.0))
+    (version_rows v k, book_csv_rows v k, Some b, are, (refl, refl, held.2, ran), (b, refl, whole, is, held.0))

@@ -3,7 +3,7 @@ use Rattle.pawn_csv.specs.Common.{AreNumbered, AreReplayable, BookRows, Booking,
 use Rattle.pawn_csv.specs.Common.{flat_map, most_entries, most_extensions, most_pledges, most_secrets, most_terms}
 use Rattle.pawn_csv.specs.Order.{Begun, has_secret, is_whole, place, pledges_begun, run}
 use Rattle.pawn_csv.specs.Reading.{RefusesEnd}
-use Rattle.pawn_csv.specs.Rows.{Knows, booking_csv_rows, entry_rows, extension_rows, rows_of_csv, secret_rows}
+use Rattle.pawn_csv.specs.Rows.{Knows, booking_csv_rows, entry_rows, extension_rows, book_csv_rows, secret_rows}
 use Rattle.pawn_csv.specs.Rows.{terms_rows}
 use Rattle.pawn_csv.specs.Types.{Cause, RawPledge, Row, Version}
 use Rattle.std.specs.Prelude.{◌≡◌, ◌≢◌, ◌⊎◌, ◌↔◌, ℕ, ◌+◌, ◌≤◌, ◌<◌, true, List, [], ◌∷◌, ◌++◌, length, Option, None}
@@ -79,4 +79,4 @@ TooManyIsAboveALimit = (s : Option Begun) (r : Row) → place s r ≡ Err Cause.
 abbrev pub NotReplayableIsOfNoBook : Type 0
 NotReplayableIsOfNoBook =
     (v : Version) (terms : List Rates) (pledges : List RawPledge) (s : Option Begun) → IsLaidOut v terms pledges → run None (laid_rows v terms pledges) ≡ Ok s
-    → RefusesEnd s Cause.NotReplayable ↔ ((k : BookRows) → AreReplayable k.terms k.pledges → Knows v k → laid_rows v terms pledges ≢ rows_of_csv v k)
+    → RefusesEnd s Cause.NotReplayable ↔ ((k : BookRows) → AreReplayable k.terms k.pledges → Knows v k → laid_rows v terms pledges ≢ book_csv_rows v k)

@@ -3,14 +3,14 @@ use Rattle.pawn_csv.specs.Common.{AreRecords, AreReplayable, BookRows, Each, Err
 use Rattle.pawn_csv.specs.Common.{State, default_config, next_record}
 use Rattle.pawn_csv.specs.Finishing.{IsFinishedAs, IsOfNoBook}
 use Rattle.pawn_csv.specs.Order.{Begun, place, run, is_whole}
-use Rattle.pawn_csv.specs.Rows.{FitsColumns, Knows, header, row_fields, rows_of_csv, version_rows}
+use Rattle.pawn_csv.specs.Rows.{FitsColumns, Knows, header, row_fields, book_csv_rows, version_rows}
 use Rattle.pawn_csv.specs.Types.{Cause, Row, Version}
 use Rattle.std.specs.Prelude.{◌≡◌, ◌≢◌, ◌⊎◌, ℕ, ◌+◌, nat_eq, Bool, true, false, List, [], ◌∷◌, length, map, Option}
 use Rattle.std.specs.Prelude.{None, Some, Result, Ok, Err}
 
 -- a book that a text of this version can hold: it is replayable, and each of its columns can be spelled
 abbrev pub FitsVersion : Version → BookRows → Type 0
-FitsVersion version k = AreReplayable k.terms k.pledges × Knows version k × Each FitsColumns (rows_of_csv version k)
+FitsVersion version k = AreReplayable k.terms k.pledges × Knows version k × Each FitsColumns (book_csv_rows version k)
 
 -- a book that can be written: it is replayable, its texts are UTF-8, its secrets have 128 bits, and its days are those
 -- of the calendar

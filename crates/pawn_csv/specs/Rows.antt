@@ -141,13 +141,13 @@ pledge_csv_rows p =
     ∷ (secret_rows n 1 p.secrets ++ (entry_rows n p.entries ++ (extension_rows n 1 p.extensions ++ booking_csv_rows n p.standing.booking)))
 
 -- a book's rows: its counts, its terms by version, and its pledges by number
-abbrev pub rows_of_csv : Version → BookRows → List Row
-rows_of_csv version k =
+abbrev pub book_csv_rows : Version → BookRows → List Row
+book_csv_rows version k =
     Row.Book version (length k.terms) (length k.pledges) ∷ (terms_rows 1 k.terms ++ flat_map pledge_csv_rows k.pledges)
 
 -- the records of a book in a version of the form
 abbrev pub version_rows : Version → BookRows → List (List (List ℕ))
-version_rows version k = header ∷ map row_fields (rows_of_csv version k)
+version_rows version k = header ∷ map row_fields (book_csv_rows version k)
 
 -- a book's records
 abbrev pub csv_rows : BookRows → List (List (List ℕ))

@@ -1,7 +1,7 @@
 -- Worked examples of rows: which are accepted, and for which cause others are refused.
 use Rattle.pawn_csv.specs.Common.{BookRows, Issue, PledgeValue, default_writer, row_text}
 use Rattle.pawn_csv.specs.Order.{Begun, is_whole, run}
-use Rattle.pawn_csv.specs.Rows.{pledge_columns, csv1_rows, row_fields, rows_of_csv}
+use Rattle.pawn_csv.specs.Rows.{pledge_columns, csv1_rows, row_fields, book_csv_rows}
 use Rattle.pawn_csv.specs.Types.{Cause, NUMBERS_END, Row, Version}
 use Rattle.pawn_debt.specs.Worked.{free}
 use Rattle.pawn_pledge.specs.Worked.{ring}
@@ -71,13 +71,13 @@ pub record WorkedRowTexts : Type 0 where
   -- a column with a comma or a quote is quoted
   pub quoted : row_text default_writer (codes "a,b" ∷ codes "\"" ∷ []) ≡ codes "\"a,b\",\"\"\"\"\n"
   -- the rows of a book may end there
-  pub declared : comes_to (rows_of_csv Version.One declared_book) ≡ Ok true
-  pub unbooked : comes_to (rows_of_csv Version.One
+  pub declared : comes_to (book_csv_rows Version.One declared_book) ≡ Ok true
+  pub unbooked : comes_to (book_csv_rows Version.One
       (record { terms = free ∷ []; pledges = record ring_tendered { standing = record ring_tendered.standing { booking = None } } ∷ [] })) ≡ Ok true
-  pub whole : comes_to (rows_of_csv Version.Two ring_book) ≡ Ok true
-  pub extended : comes_to (rows_of_csv Version.Two extended_book) ≡ Ok true
+  pub whole : comes_to (book_csv_rows Version.Two ring_book) ≡ Ok true
+  pub extended : comes_to (book_csv_rows Version.Two extended_book) ≡ Ok true
   -- version 1 has no extensions
-  pub first_version : comes_to (rows_of_csv Version.One extended_book) ≡ Err Cause.BadField
+  pub first_version : comes_to (book_csv_rows Version.One extended_book) ≡ Err Cause.BadField
   -- no row at all, and rows of which one is missing
   pub empty : comes_to [] ≡ Ok false
   pub wanting : comes_to (Row.Book Version.Two 1 1 ∷ Row.Terms 1 free ∷ []) ≡ Ok false

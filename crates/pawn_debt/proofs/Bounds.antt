@@ -3,7 +3,7 @@ use Rattle.pawn_base.proofs.ListLemmas.{DoNotFall-push, last_by-le, last_by-push
 use Rattle.pawn_base.proofs.RefusalLemmas.{first_of-is_ok}
 use Rattle.pawn_debt.proofs.DueLemmas.{after_days-principal}
 use Rattle.pawn_debt.proofs.EntryLemmas.{due-from-last, due-pushed, due-start, pushed}
-use Rattle.pawn_debt.specs.Answers.{draw_rows, repay_rows, with_entry}
+use Rattle.pawn_debt.specs.Answers.{draw_refusals, repay_refusals, with_entry}
 use Rattle.pawn_debt.specs.Due.{AreOrdered, DebtValue, Due, after_days, after_sort, credit_of, due, due_after}
 use Rattle.pawn_debt.specs.Due.{first_principal, keep_on, last_of}
 use Rattle.pawn_debt.specs.Limits.{most_a_day, most_pence}
@@ -65,13 +65,13 @@ entered-bounded : (p : DebtValue) (s : Sort) (x pence : ℕ) → credit_of p.kin
     → ((after_sort s pence (due p x)).principal ≤ most_pence) × ((after_sort s pence (due p x)).millionths ≤ (x - p.taken) * most_a_day)
     × (last_of p.taken p.entries ≤ x)
 entered-bounded p Draw x pence credit b h =
-    let a = first_of-is_ok (draw_rows p x pence) (Ok (with_entry p x Draw pence)) h in
+    let a = first_of-is_ok (draw_refusals p x pence) (Ok (with_entry p x Draw pence)) h in
     let over : nat_lt (credit_of p.kind) ((due p x).principal + pence) ≡ false = a.0.1.1.1.1.0 in
     let under : (due p x).principal + pence ≤ credit_of p.kind = grind (arith, nat_tests, over) in
     let early : nat_lt x (last_of p.taken p.entries) ≡ false = a.0.0 in
     (omega (arith, under, credit), b.millionths, grind (arith, nat_tests, early))
 entered-bounded p Repay x pence credit b h =
-    let a = first_of-is_ok (repay_rows p x pence) (Ok (with_entry p x Repay pence)) h in
+    let a = first_of-is_ok (repay_refusals p x pence) (Ok (with_entry p x Repay pence)) h in
     let early : nat_lt x (last_of p.taken p.entries) ≡ false = a.0.0 in
     (omega (arith, b.principal), omega (arith, b.millionths), grind (arith, nat_tests, early))
 
@@ -91,11 +91,11 @@ next-running p e h credit r ok =
     } where
       late_of : (p : DebtValue) (s : Sort) (x pence : ℕ) → IsOk (sort_answer s p x pence) → last_of p.taken p.entries ≤ x
       late_of p Draw x pence h =
-          let a = first_of-is_ok (draw_rows p x pence) (Ok (with_entry p x Draw pence)) h in
+          let a = first_of-is_ok (draw_refusals p x pence) (Ok (with_entry p x Draw pence)) h in
           let early : nat_lt x (last_of p.taken p.entries) ≡ false = a.0.0 in
           grind (arith, nat_tests, early)
       late_of p Repay x pence h =
-          let a = first_of-is_ok (repay_rows p x pence) (Ok (with_entry p x Repay pence)) h in
+          let a = first_of-is_ok (repay_refusals p x pence) (Ok (with_entry p x Repay pence)) h in
           let early : nat_lt x (last_of p.taken p.entries) ≡ false = a.0.0 in
           grind (arith, nat_tests, early)
 

@@ -3,7 +3,7 @@ use Rattle.pawn_base.proofs.ListLemmas.{last_by-le}
 use Rattle.pawn_base.proofs.RefusalLemmas.{first_of-accepts, first_of-is_ok, first_of-ok}
 use Rattle.pawn_base.proofs.TestLemmas.{not_below, not_most}
 use Rattle.pawn_debt.proofs.EntryLemmas.{due-extended}
-use Rattle.pawn_debt.specs.Answers.{draw_rows, repay_rows, with_entry}
+use Rattle.pawn_debt.specs.Answers.{draw_refusals, repay_refusals, with_entry}
 use Rattle.pawn_debt.specs.Due.{AreOrdered, DebtValue, Due, credit_of, due, last_of}
 use Rattle.pawn_debt.specs.Limits.{most_entries}
 use Rattle.pawn_debt.specs.Owing.{total_of}
@@ -19,10 +19,10 @@ use Rattle.std.proofs.lemmas.List.{drop_more, take_more}
 pub sort_answer-ok : (s : Sort) (p v : DebtValue) (x pence : ℕ) → sort_answer s p x pence ≡ Ok v
     → (last_of p.taken p.entries ≤ x) × (length p.entries < most_entries) × (v ≡ with_entry p x s pence)
 sort_answer-ok Draw p v x pence h =
-    let a = first_of-ok (draw_rows p x pence) (Ok (with_entry p x Draw pence)) v h in
+    let a = first_of-ok (draw_refusals p x pence) (Ok (with_entry p x Draw pence)) v h in
     (not_below x (last_of p.taken p.entries) a.0.0, not_most most_entries (length p.entries) a.0.1.1.1.0, cc)
 sort_answer-ok Repay p v x pence h =
-    let a = first_of-ok (repay_rows p x pence) (Ok (with_entry p x Repay pence)) v h in
+    let a = first_of-ok (repay_refusals p x pence) (Ok (with_entry p x Repay pence)) v h in
     (not_below x (last_of p.taken p.entries) a.0.0, not_most most_entries (length p.entries) a.0.1.1.0, cc)
 
 -- entries that are accepted in turn, and then one more
@@ -76,15 +76,15 @@ sort_answer-ended : (s : Sort) (d : DebtValue) (ends x pence : ℕ) → due (rec
     → IsOk (sort_answer s (record d { ends = ends }) x pence)
 sort_answer-ended Draw d ends x pence same h =
     let p : DebtValue = record d { ends = ends } in
-    let a = (first_of-is_ok (draw_rows d x pence) (Ok (with_entry d x Draw pence)) h).0 in
+    let a = (first_of-is_ok (draw_refusals d x pence) (Ok (with_entry d x Draw pence)) h).0 in
     let e : nat_lt (credit_of d.kind) ((due p x).principal + pence) ≡ false = ap (λ (o : Due). nat_lt (credit_of d.kind) (o.principal + pence)) same
     ∙ a.1.1.1.1.0 in
-    first_of-accepts (draw_rows p x pence) (with_entry p x Draw pence) (a.0, (a.1.0, (a.1.1.0, (a.1.1.1.0, (e, tt)))))
+    first_of-accepts (draw_refusals p x pence) (with_entry p x Draw pence) (a.0, (a.1.0, (a.1.1.0, (a.1.1.1.0, (e, tt)))))
 sort_answer-ended Repay d ends x pence same h =
     let p : DebtValue = record d { ends = ends } in
-    let a = (first_of-is_ok (repay_rows d x pence) (Ok (with_entry d x Repay pence)) h).0 in
+    let a = (first_of-is_ok (repay_refusals d x pence) (Ok (with_entry d x Repay pence)) h).0 in
     let e : nat_lt (total_of (due p x)) pence ≡ false = ap (λ (o : Due). nat_lt (total_of o) pence) same ∙ a.1.1.1.0 in
-    first_of-accepts (repay_rows p x pence) (with_entry p x Repay pence) (a.0, (a.1.0, (a.1.1.0, (e, tt))))
+    first_of-accepts (repay_refusals p x pence) (with_entry p x Repay pence) (a.0, (a.1.0, (a.1.1.0, (e, tt))))
 
 IsAccepted-ended : (d : DebtValue) (ends : ℕ) (e : Entry) → d.ends ≤ ends → d.taken ≤ e.day → e.day ≤ d.ends → IsEntryAccepted d e
     → IsEntryAccepted (record d { ends = ends }) e

@@ -36,8 +36,8 @@ start_answer kind terms taken ends =
     (Ok (record { kind = kind; terms = terms; taken = taken; ends = ends; entries = [] }))
 
 -- the refusals of a drawing, in order; the limit applies to the principal only
-abbrev pub draw_rows : DebtValue → ℕ → ℕ → List (Bool × DebtFault)
-draw_rows p day pence =
+abbrev pub draw_refusals : DebtValue → ℕ → ℕ → List (Bool × DebtFault)
+draw_refusals p day pence =
     (nat_lt day (last_of p.taken p.entries), EarlierDay)
     ∷ (is_fixed p.kind, FixedSum)
     ∷ (is_bad_amount pence, BadAmount)
@@ -47,11 +47,11 @@ draw_rows p day pence =
 
 -- the debt after a drawing, or its first refusal
 abbrev pub draw_answer : DebtValue → ℕ → ℕ → Result DebtValue DebtFault
-draw_answer p day pence = first_of (draw_rows p day pence) (Ok (with_entry p day Draw pence))
+draw_answer p day pence = first_of (draw_refusals p day pence) (Ok (with_entry p day Draw pence))
 
 -- the refusals of a repayment, in order
-abbrev pub repay_rows : DebtValue → ℕ → ℕ → List (Bool × DebtFault)
-repay_rows p day pence =
+abbrev pub repay_refusals : DebtValue → ℕ → ℕ → List (Bool × DebtFault)
+repay_refusals p day pence =
     (nat_lt day (last_of p.taken p.entries), EarlierDay)
     ∷ (is_bad_amount pence, BadAmount)
     ∷ (nat_le most_entries (length p.entries), EntriesFull)
@@ -60,7 +60,7 @@ repay_rows p day pence =
 
 -- the debt after a repayment, or its first refusal
 abbrev pub repay_answer : DebtValue → ℕ → ℕ → Result DebtValue DebtFault
-repay_answer p day pence = first_of (repay_rows p day pence) (Ok (with_entry p day Repay pence))
+repay_answer p day pence = first_of (repay_refusals p day pence) (Ok (with_entry p day Repay pence))
 
 -- a call returns what the rules state, or `memory` where the rules accept; a refused call changes nothing
 abbrev pub IsAnswer : {V U E : Type 0} → E → Result V E → V → Result U E → V → Type 0

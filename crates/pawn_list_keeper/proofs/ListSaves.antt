@@ -9,8 +9,8 @@ use Rattle.pawn_list_keeper.proofs.ListReads.{book_at-set, get-book_at, kept_is,
 use Rattle.pawn_list_keeper.specs.Books.{Books}
 use Rattle.pawn_list_keeper.specs.Common.{AddTerms, BookValue, CanSave, Change, Continues, Follows, Full, Host}
 use Rattle.pawn_list_keeper.specs.Common.{ImportBook, MakeBook, NewBook, PledgeValue, PutPledge, Rates, book_number}
-use Rattle.pawn_list_keeper.specs.Common.{book_rows, changed_book, filled_book, made_book, most_rows, nat_cmp}
-use Rattle.pawn_list_keeper.specs.Common.{pledge_from, pledge_in, pledge_rows, put_from, rows, with_book, with_change}
+use Rattle.pawn_list_keeper.specs.Common.{book_row_count, changed_book, filled_book, made_book, most_rows, nat_cmp}
+use Rattle.pawn_list_keeper.specs.Common.{pledge_from, pledge_in, pledge_row_count, put_from, rows, with_book, with_change}
 use Rattle.pawn_list_keeper.specs.Listed.{Fits, HasChange, IsListed, IsPlace, SavesListed, added_rows, book_at}
 use Rattle.pawn_list_keeper.specs.Listed.{listed_book, host_of, replaced_rows, rows_now}
 use Rattle.pawn_list_keeper.specs.declared.kept.Kept.{Kept}
@@ -29,7 +29,7 @@ no_rows : (limit : ℕ) → rows (record { books = empty {X = BookValue} {R = na
 no_rows limit =
     let none : entries (empty {X = BookValue} {R = nat_cmp}) ≡ [] =
     no_elements _ (sym (len-entries (empty {X = BookValue} {R = nat_cmp})) ∙ len-empty nat_cmp BookValue) in
-    ap (λ es. sum_by book_rows (map (λ e. e.1) es)) none
+    ap (λ es. sum_by book_row_count (map (λ e. e.1) es)) none
 
 -- an empty list is kept
 pub kept_empty : (limit : ℕ) → limit ≤ most_rows → IsListed (record { books = []; limit = limit }) 0
@@ -53,16 +53,16 @@ kept_changed k next count change few same is sound counted fits =
     }
 
 sum_by-put : (k : ℕ) (ps : List PledgeValue) (n : ℕ) (p : PledgeValue) → k ≤ n → n ≤ k + length ps
-    → sum_by pledge_rows (put_from k ps n p) + rows_now (pledge_from k ps n) ≡ sum_by pledge_rows ps + pledge_rows p
-sum_by-put k [] n p low high = omega (arith, sum_by-cons pledge_rows p [])
+    → sum_by pledge_row_count (put_from k ps n p) + rows_now (pledge_from k ps n) ≡ sum_by pledge_row_count ps + pledge_row_count p
+sum_by-put k [] n p low high = omega (arith, sum_by-cons pledge_row_count p [])
 sum_by-put k (r ∷ ps) n p low high =
-    elim (n == k) as (λ v. n == k ≡ v → sum_by pledge_rows (if v then p ∷ ps else r ∷ put_from (k + 1) ps n p)
-    + rows_now (if v then Some r else pledge_from (k + 1) ps n) ≡ sum_by pledge_rows (r ∷ ps) + pledge_rows p) [
-      | true ↦ λ e. omega (arith, sum_by-cons pledge_rows p ps, sum_by-cons pledge_rows r ps)
+    elim (n == k) as (λ v. n == k ≡ v → sum_by pledge_row_count (if v then p ∷ ps else r ∷ put_from (k + 1) ps n p)
+    + rows_now (if v then Some r else pledge_from (k + 1) ps n) ≡ sum_by pledge_row_count (r ∷ ps) + pledge_row_count p) [
+      | true ↦ λ e. omega (arith, sum_by-cons pledge_row_count p ps, sum_by-cons pledge_row_count r ps)
       | false ↦ λ e.
           let more : k + 1 ≤ n = grind (arith, nat_tests, e, low) in
           let less : n ≤ (k + 1) + length ps = omega (arith, high) in
-          omega (arith, sum_by-put (k + 1) ps n p more less, sum_by-cons pledge_rows r (put_from (k + 1) ps n p), sum_by-cons pledge_rows r ps)
+          omega (arith, sum_by-put (k + 1) ps n p more less, sum_by-cons pledge_row_count r (put_from (k + 1) ps n p), sum_by-cons pledge_row_count r ps)
     ] refl
 
 -- where a pledge that follows is put
@@ -85,7 +85,7 @@ change_rows : (k : Books) (change : Change) → Follows (host_of k) change
     → rows (with_change (host_of k) change) + replaced_rows k.books change ≡ rows (host_of k) + added_rows change
 change_rows k (MakeBook b new) none =
     let sums = rows-with_book (host_of k) b (made_book new) in
-    let before : part book_rows (get (host_of k).books b) ≡ 0 = ap (part book_rows) none in
+    let before : part book_row_count (get (host_of k).books b) ≡ 0 = ap (part book_row_count) none in
     omega (arith, sums, before)
 change_rows k (AddTerms b version terms) follows =
     let at : BookValue = follows.0 in
@@ -93,7 +93,7 @@ change_rows k (AddTerms b version terms) follows =
     let all : rows (with_change (host_of k) (AddTerms b version terms)) ≡ rows (with_book (host_of k) b (Some book)) =
     ap (λ o. rows (with_book (host_of k) b (changed_book o (AddTerms b version terms)))) follows.1 in
     let sums = rows-with_book (host_of k) b book in
-    let before : part book_rows (get (host_of k).books b) ≡ book_rows at = ap (part book_rows) follows.1 in
+    let before : part book_row_count (get (host_of k).books b) ≡ book_row_count at = ap (part book_row_count) follows.1 in
     let longer = length-append at.terms (terms ∷ []) in
     omega (arith, all, sums, before, longer)
 change_rows k (PutPledge b n p) follows =
@@ -102,7 +102,7 @@ change_rows k (PutPledge b n p) follows =
     let all : rows (with_change (host_of k) (PutPledge b n p)) ≡ rows (with_book (host_of k) b (Some book)) =
     ap (λ o. rows (with_book (host_of k) b (changed_book o (PutPledge b n p)))) follows.1 in
     let sums = rows-with_book (host_of k) b book in
-    let before : part book_rows (get (host_of k).books b) ≡ book_rows at = ap (part book_rows) follows.1 in
+    let before : part book_row_count (get (host_of k).books b) ≡ book_row_count at = ap (part book_row_count) follows.1 in
     let place = follows_at at n p follows.2 in
     let pledges = sum_by-put 1 at.pledges n p place.0 place.1 in
     let stood : rows_now (pledge_in (book_at k.books b) n) ≡ rows_now (pledge_from 1 at.pledges n) =
@@ -114,9 +114,9 @@ change_rows k (ImportBook b key imported) follows =
     let all : rows (with_change (host_of k) (ImportBook b key imported)) ≡ rows (with_book (host_of k) b (Some book)) =
     ap (λ o. rows (with_book (host_of k) b (changed_book o (ImportBook b key imported)))) follows.1 in
     let sums = rows-with_book (host_of k) b book in
-    let before : part book_rows (get (host_of k).books b) ≡ book_rows at = ap (part book_rows) follows.1 in
+    let before : part book_row_count (get (host_of k).books b) ≡ book_row_count at = ap (part book_row_count) follows.1 in
     let no_terms : length at.terms ≡ 0 = ap length follows.2.terms in
-    let no_pledges : sum_by pledge_rows at.pledges ≡ 0 = ap (sum_by pledge_rows) follows.2.pledges in
+    let no_pledges : sum_by pledge_row_count at.pledges ≡ 0 = ap (sum_by pledge_row_count) follows.2.pledges in
     omega (arith, all, sums, before, no_terms, no_pledges)
 
 -- books with a change are those of the host with it

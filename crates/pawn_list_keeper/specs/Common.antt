@@ -4,7 +4,7 @@ pub use Rattle.pawn_book.specs.BookStep.{BookValue, book_head, changed_book, fil
 pub use Rattle.pawn_book.specs.BookStep.{pledge_in, put_from, with_reference}
 pub use Rattle.pawn_book.specs.Bookings.{confirmed_count, is_confirmed_for}
 pub use Rattle.pawn_book.specs.Changes.{CanSave, Continues, Follows, book_number, with_change}
-pub use Rattle.pawn_book.specs.HostStep.{Host, book_rows, pledge_rows, rows, with_book}
+pub use Rattle.pawn_book.specs.HostStep.{Host, book_row_count, pledge_row_count, rows, with_book}
 pub use Rattle.pawn_book.specs.Keeping.{IsNextBook, Keeping, Reads, entries_of, extensions_of, number_of, pledges_of}
 pub use Rattle.pawn_book.specs.Keeping.{terms_of}
 pub use Rattle.pawn_book.specs.Limits.{most_rows, most_terms}

@@ -4,7 +4,7 @@ use Rattle.pawn_book.specs.declared.fault.SaveError.{SaveError}
 use Rattle.pawn_list_keeper.specs.Books.{Books}
 use Rattle.pawn_list_keeper.specs.Common.{AddTerms, AreReplayable, BookValue, Change, Full, Host, ImportBook, Keeping}
 use Rattle.pawn_list_keeper.specs.Common.{MakeBook, Memory, PledgeValue, PutPledge, Store, book_number, changed_book}
-use Rattle.pawn_list_keeper.specs.Common.{most_rows, pledge_in, pledge_rows, rows, with_change}
+use Rattle.pawn_list_keeper.specs.Common.{most_rows, pledge_in, pledge_row_count, rows, with_change}
 use Rattle.pawn_list_keeper.specs.declared.kept.Kept.{Kept}
 use Rattle.std.specs.FinMap.{from_entries}
 use Rattle.std.specs.Prelude.{◌≡◌, ◌≢◌, ℕ, zero, suc, ◌+◌, ◌≤◌, ◌<◌, List, [], ◌∷◌, Option, Some, None, Result, Ok, Err}
@@ -45,14 +45,14 @@ IsLeastAbove books after (Some next) =
 -- how many rows a pledge counts for, or 0 where there is none
 abbrev pub rows_now : Option PledgeValue → ℕ
 rows_now None = 0
-rows_now (Some p) = pledge_rows p
+rows_now (Some p) = pledge_row_count p
 
 -- how many rows a change adds, and how many rows the pledge has that it replaces
 abbrev pub added_rows : Change → ℕ
 added_rows (MakeBook b new) = 1
 added_rows (AddTerms b version terms) = 1
-added_rows (PutPledge b n p) = pledge_rows p
-added_rows (ImportBook b key rows) = length rows.terms + sum_by pledge_rows rows.pledges
+added_rows (PutPledge b n p) = pledge_row_count p
+added_rows (ImportBook b key rows) = length rows.terms + sum_by pledge_row_count rows.pledges
 
 abbrev pub replaced_rows : List (ℕ × BookValue) → Change → ℕ
 replaced_rows books (MakeBook b new) = 0

@@ -1,5 +1,5 @@
 //! An import: the rows that it adds, and how they are put into a book of the list.
-ghost use Rattle.pawn_list_keeper.specs.Common.{BookValue, Each, IsChecked, pledge_rows};
+ghost use Rattle.pawn_list_keeper.specs.Common.{BookValue, Each, IsChecked, pledge_row_count};
 ghost use Rattle.pawn_list_keeper.specs.Listed.{HasChange, book_at, listed_book};
 ghost use Rattle.std.specs.Prelude.{◌≡◌, ◌+◌, IfOk, OnErr, OnOk, Some, length, map, sum_by};
 
@@ -10,7 +10,7 @@ use std::alloc::{AllocError, Global};
 
 /// How many rows an import adds: its versions of terms, and the rows of its pledges.
 pub(crate) fn count_rows(rows: &ReplayableRows) -> u64
-    ensures value { result ≡ length rows.now.terms + sum_by pledge_rows rows.now.pledges }
+    ensures value { result ≡ length rows.now.terms + sum_by pledge_row_count rows.now.pledges }
 {
     rows.know_replayable();
     let mut count = rows.terms().len() as u64;

@@ -1,5 +1,5 @@
 //! Changes, made to the books of a list, and how many rows the books have after one.
-ghost use Rattle.pawn_list_keeper.specs.Common.{BookValue, pledge_rows, put_from};
+ghost use Rattle.pawn_list_keeper.specs.Common.{BookValue, pledge_row_count, put_from};
 ghost use Rattle.pawn_list_keeper.specs.Listed.{Fits, HasChange, added_rows, book_at, listed_book, replaced_rows};
 ghost use Rattle.std.specs.Prelude.{◌≡◌, ◌≤◌, ◌+◌, None, OnErr, OnOk, Some, length, map};
 
@@ -11,7 +11,7 @@ use std::alloc::{AllocError, Global};
 /// How many rows a pledge counts for: one for itself, one for each entry and secret, and one for its booking if it has
 /// one.
 pub(crate) fn row_count(pledge: &Pledge) -> u64
-    ensures value { result ≡ pledge_rows pledge.now }
+    ensures value { result ≡ pledge_row_count pledge.now }
 {
     let booking = match pledge.standing().booking {
         None => 0,

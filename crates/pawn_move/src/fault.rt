@@ -26,7 +26,7 @@ impl MoveFault {
     /// every other fault becomes `Store`.
     pub fn of_opening(why: OpenFault) -> MoveFault
         ensures failure { IsFailure result }
-        ensures told { result ≡ fault_of_opening why }
+        ensures value { result ≡ fault_of_opening why }
     {
         match why {
             OpenFault::Memory => MoveFault::Memory,
@@ -37,7 +37,7 @@ impl MoveFault {
 
 /// A keeper's error as a fault of a migration: `NoRecord` becomes `Damaged`, `Database` becomes `Store`.
 pub(crate) fn unmoved(error: KeepError) -> MoveFault
-    ensures told { result ≡ move_fault_of error }
+    ensures value { result ≡ move_fault_of error }
 {
     match error {
         KeepError::Memory => MoveFault::Memory,

@@ -1,7 +1,7 @@
 -- The tables of the empty host.
 use Rattle.pawn_base.proofs.ListLemmas.{no_elements}
 use Rattle.pawn_book.specs.BookStep.{BookValue}
-use Rattle.pawn_book.specs.HostStep.{book_rows}
+use Rattle.pawn_book.specs.HostStep.{book_row_count}
 use Rattle.pawn_opening.specs.Common.{Database, Holds, Listed, Lists, with_rows, meta_row, meta_rows, StandsFor}
 use Rattle.pawn_opening.specs.Laying.{no_rows}
 use Rattle.pawn_opening.specs.Opened.{empty_host}
@@ -42,7 +42,7 @@ stands_empty db limit l = let none = sym no_entries in
       bookings = subst (λ es. Holds db.trees bookings_tree (record bookings { tree = bookings_tree })
           (flat_map (λ (e : ℕ × BookValue). flat_map (booking_listed e.0) e.1.pledges) es)) none l.tables.1.1.1.1.1.0;
       meta = subst (λ es. Holds db.trees meta_tree (record meta { tree = meta_tree })
-          (meta_rows (sum_by book_rows (map (λ (e : ℕ × BookValue). e.1) es)) limit)) none l.tables.1.1.1.1.1.1.0;
+          (meta_rows (sum_by book_row_count (map (λ (e : ℕ × BookValue). e.1) es)) limit)) none l.tables.1.1.1.1.1.1.0;
       totals = subst (λ es. Holds db.trees totals_tree (record totals { tree = totals_tree })
           (flat_map (λ (e : ℕ × BookValue). flat_map (totals_listed e.0) e.1.pledges) es)) none l.tables.1.1.1.1.1.1.1.0;
       extensions = subst (λ es. Holds db.trees extensions_tree (record extensions { tree = extensions_tree })

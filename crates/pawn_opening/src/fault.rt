@@ -36,7 +36,7 @@ impl fmt::Display for OpenFault {
 /// A database's error as a fault of opening: `Memory` if out of memory, otherwise `Store`.
 pub(crate) fn opening_fault(error: Error) -> OpenFault
     ensures memory { result ≡ Fault.Memory → error ≡ SqlError.SqliteFailure OutOfMemory }
-    ensures told { error ≡ SqlError.SqliteFailure OutOfMemory → result ≡ Fault.Memory }
+    ensures out_of_memory { error ≡ SqlError.SqliteFailure OutOfMemory → result ≡ Fault.Memory }
     ensures store { IsStoreFault result }
 {
     match error {

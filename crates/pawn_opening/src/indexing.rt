@@ -44,7 +44,7 @@ pub fn make_indexes<S: Alter>(tx: &mut Transaction<'_, S>, which: Lacking) -> Re
 /// Which of the program's indexes a store lacks; `None` if it has both. An index is recognised by its name only,
 /// whatever it indexes. As in SQL, the case of ASCII letters does not matter.
 pub fn indexes_lacking<S: Alter>(conn: &Connection<S>) -> Option<Lacking>
-    ensures told { result ≡ lacking (state S.Store conn.now).now.schema }
+    ensures value { result ≡ lacking (state S.Store conn.now).now.schema }
 {
     let schema = conn.schema();
     let by_end = schema.index_named(b"pledges_by_end").is_some();

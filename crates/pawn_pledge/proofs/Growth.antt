@@ -4,7 +4,7 @@ use Rattle.pawn_pledge.specs.Common.{Entry}
 use Rattle.pawn_pledge.specs.Growth.{Grows, StaysOrGrows}
 use Rattle.pawn_pledge.specs.Laws.{ListsGrow}
 use Rattle.pawn_pledge.specs.Pledge.{PledgeValue, end_of}
-use Rattle.pawn_pledge.specs.Step.{Answered, Changed, Judged, Refused, pledge_after, pledge_step}
+use Rattle.pawn_pledge.specs.Step.{Answered, Changed, StepResult, Refused, pledge_after, pledge_step}
 use Rattle.pawn_pledge.specs.Words.{issue_of, new_entry}
 use Rattle.pawn_pledge.specs.declared.command.Command.{Command}
 use Rattle.pawn_pledge.specs.declared.command.Stamp.{Stamp}
@@ -77,7 +77,7 @@ grows-moved p q w x m = record {
   extensions = front-of _ p.extensions q.extensions m.extensions;
 }
 
-pub grows-step : (p : PledgeValue) (stamp : Stamp) (c : Command) (j : Judged) → pledge_step p stamp c ≡ j → Grows p (pledge_after p j)
+pub grows-step : (p : PledgeValue) (stamp : Stamp) (c : Command) (j : StepResult) → pledge_step p stamp c ≡ j → Grows p (pledge_after p j)
 grows-step p stamp c (Refused why) is = grows-same p
 grows-step p stamp c (Answered done) is = grows-same p
 grows-step p stamp c (Changed q d) is = grows-moved p q stamp.word stamp.day (lists-moved p q c stamp.word stamp.day (pledge_moves p q stamp c d is).1)

@@ -10,7 +10,7 @@ use Rattle.pawn_pledge.specs.Common.{with_entry}
 use Rattle.pawn_pledge.specs.Limits.{last_window, most_extensions}
 use Rattle.pawn_pledge.specs.Pledge.{PledgeValue, debt_of, end_of, is_realisable, open_status, total_on}
 use Rattle.pawn_pledge.specs.Replayable.{IsDrawnBy, IsNotPassed}
-use Rattle.pawn_pledge.specs.Step.{Answered, Changed, Judged, ask_refusals, ask_once, ask_step, shared_refusals, cancel_in}
+use Rattle.pawn_pledge.specs.Step.{Answered, Changed, StepResult, ask_refusals, ask_once, ask_step, shared_refusals, cancel_in}
 use Rattle.pawn_pledge.specs.Step.{cancel_step, confirm_in, decide_step, declare_refusals, declare_step, decline_in}
 use Rattle.pawn_pledge.specs.Step.{entry_step, extend_refusals, extend_step, hold_step, makes_booking, numbered_step}
 use Rattle.pawn_pledge.specs.Step.{where_clear, period_refusals, pledge_step, redeem_refusals, redeem_step, sell_refusals}
@@ -35,19 +35,19 @@ use Rattle.std.proofs.Common.{true≢false}
 use Rattle.std.proofs.lemmas.Bool.Decides.{nat_tests}
 
 -- a step that changes was not refused on the way
-where_clear-changed : (g : Result (Unit {0}) Refusal) (own : Judged) (q : PledgeValue) (d : Done) → where_clear g own ≡ Changed q d
+where_clear-changed : (g : Result (Unit {0}) Refusal) (own : StepResult) (q : PledgeValue) (d : Done) → where_clear g own ≡ Changed q d
     → (g ≡ Ok tt) × (own ≡ Changed q d)
 where_clear-changed (Ok u) own q d h = (refl, h)
 where_clear-changed (Err e) own q d h = cc
 
-pub unless-changed : (rows : List (Bool × Refusal)) (own : Judged) (q : PledgeValue) (d : Done) → unless rows own ≡ Changed q d
+pub unless-changed : (rows : List (Bool × Refusal)) (own : StepResult) (q : PledgeValue) (d : Done) → unless rows own ≡ Changed q d
     → NoneApplies rows × (own ≡ Changed q d)
 unless-changed rows own q d h =
     let a = where_clear-changed (first_of rows (Ok tt)) own q d h in
     ((first_of-ok rows (Ok tt) tt a.0).0, a.1)
 
 -- a step that changes was not answered without a change on the way
-pub if-unanswered : (b : Bool) (a : Done) (own : Judged) (q : PledgeValue) (d : Done) → (if b then Answered a else own) ≡ Changed q d
+pub if-unanswered : (b : Bool) (a : Done) (own : StepResult) (q : PledgeValue) (d : Done) → (if b then Answered a else own) ≡ Changed q d
     → (b ≡ false) × (own ≡ Changed q d)
 if-unanswered true a own q d h = cc
 if-unanswered false a own q d h = (refl, h)
@@ -104,7 +104,7 @@ entry-moves p q c w x Repay pence d h = under_debt-moves p q c w x Repay pence (
 abbrev pub Goes : PledgeValue → ℕ → ℕ → Command → PledgeValue → Type 0
 Goes p x w c q = IsGated p x × Move p x w c q
 
-gated : (p q : PledgeValue) (c : Command) (w x : ℕ) (own : Judged) (d : Done) → (IsGated p x → own ≡ Changed q d → Move p x w c q)
+gated : (p q : PledgeValue) (c : Command) (w x : ℕ) (own : StepResult) (d : Done) → (IsGated p x → own ≡ Changed q d → Move p x w c q)
     → unless (shared_refusals p x) own ≡ Changed q d → Goes p x w c q
 gated p q c w x own d moves h =
     let a = unless-changed (shared_refusals p x) own q d h in
@@ -240,7 +240,7 @@ extend-moves : (p q : PledgeValue) (c : Command) (w x until : ℕ) (d : Done) �
     → Move p x w c q
 extend-moves p q c w x until d named h =
     let next : PledgeValue = with_extension p (record { day = x; until = until }) in
-    let own : Judged = unless (extend_refusals p until) (Changed next (Done.Extended until)) in
+    let own : StepResult = unless (extend_refusals p until) (Changed next (Done.Extended until)) in
     let a = unless-changed (period_refusals p x) (if until == end_of p then Answered (Done.Extended until) else own) q d h in
     let b = if-unanswered (until == end_of p) _ own q d a.1 in
     let e = unless-changed (extend_refusals p until) (Changed next (Done.Extended until)) q d b.1 in

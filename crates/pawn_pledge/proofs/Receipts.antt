@@ -5,7 +5,7 @@ use Rattle.pawn_pledge.proofs.Pushes.{last_element-push}
 use Rattle.pawn_pledge.proofs.Settled.{IsGated}
 use Rattle.pawn_pledge.specs.Laws.{EarlierAreSpent, IsSpent, NeverLiveAgain}
 use Rattle.pawn_pledge.specs.Pledge.{PledgeValue, last_secret, live_of, live_under}
-use Rattle.pawn_pledge.specs.Step.{Answered, Changed, Judged, Refused, shared_refusals, declare_refusals, declare_step, pledge_after}
+use Rattle.pawn_pledge.specs.Step.{Answered, Changed, StepResult, Refused, shared_refusals, declare_refusals, declare_step, pledge_after}
 use Rattle.pawn_pledge.specs.Step.{pledge_step, redeem_refusals, redeem_step, unless}
 use Rattle.pawn_pledge.specs.Words.{close, is_open, issue_of, with_secret}
 use Rattle.pawn_pledge.specs.declared.command.Command.{Command}
@@ -83,7 +83,7 @@ spent-changed p q stamp c d secret h is =
     let g = pledge_moves p q stamp c d is in
     spent-moved p q c stamp.word stamp.day secret h g.0 g.1
 
-spent-step : (p : PledgeValue) (stamp : Stamp) (c : Command) (secret : ℕ) → IsSpent p secret → (j : Judged) → pledge_step p stamp c ≡ j
+spent-step : (p : PledgeValue) (stamp : Stamp) (c : Command) (secret : ℕ) → IsSpent p secret → (j : StepResult) → pledge_step p stamp c ≡ j
     → IsSpent (pledge_after p j) secret
 spent-step p stamp c secret h (Refused why) is = h
 spent-step p stamp c secret h (Answered done) is = h

@@ -10,7 +10,7 @@ use Rattle.pawn_pledge.specs.Laws.{EntriesActOnce, ExtensionsActOnce, SameEndIsA
 use Rattle.pawn_pledge.specs.Laws.{pledge_after_all}
 use Rattle.pawn_pledge.specs.Pledge.{PledgeValue, debt_of, end_of}
 use Rattle.pawn_pledge.specs.Replayable.{AreNumbered}
-use Rattle.pawn_pledge.specs.Step.{Answered, Changed, Judged, shared_refusals, entry_of, entry_step, extend_refusals, numbered_step}
+use Rattle.pawn_pledge.specs.Step.{Answered, Changed, StepResult, shared_refusals, entry_of, entry_step, extend_refusals, numbered_step}
 use Rattle.pawn_pledge.specs.Step.{where_clear, period_refusals, pledge_step, under_debt, unless}
 use Rattle.pawn_pledge.specs.Words.{is_ahead, is_repeat, new_entry, same_sort, with_extension, with_last}
 use Rattle.pawn_pledge.specs.declared.command.Command.{Command}
@@ -23,7 +23,7 @@ use Rattle.std.proofs.Common.{find}
 use Rattle.std.proofs.lemmas.Bool.Decides.{nat_tests}
 
 -- if there is no refusal, the result is the given one
-pub unless-past : (rows : List (Bool × Refusal)) (own : Judged) → NoneApplies rows → unless rows own ≡ own
+pub unless-past : (rows : List (Bool × Refusal)) (own : StepResult) → NoneApplies rows → unless rows own ≡ own
 unless-past rows own h = ap (λ r. where_clear r own) (first_of-past rows (Ok tt) h)
 
 -- an entry that is made is the next one
@@ -130,7 +130,7 @@ pub extended-made : (p q : PledgeValue) (stamp : Stamp) (until : ℕ) (d : Done)
 extended-made p q stamp until d h =
     let x = stamp.day in
     let next : PledgeValue = with_extension p (record { day = x; until = until }) in
-    let own : Judged = unless (extend_refusals p until) (Changed next (Done.Extended until)) in
+    let own : StepResult = unless (extend_refusals p until) (Changed next (Done.Extended until)) in
     let a = unless-changed (shared_refusals p x) _ q d h in
     let b = unless-changed (period_refusals p x) (if until == end_of p then Answered (Done.Extended until) else own) q d a.1 in
     let f = if-unanswered (until == end_of p) _ own q d b.1 in

@@ -46,21 +46,21 @@ pledge_start number opening version terms stamp =
     first_of ((is_bad_opening opening, Refusal.Debt BadAmount) ∷ []) (Ok (new_pledge number opening version terms stamp))
 
 -- the result of a command
-pub data Judged : Type 0 where
-  Refused : (why : Refusal) → Judged
+pub data StepResult : Type 0 where
+  Refused : (why : Refusal) → StepResult
   -- an answer without a change
-  Answered : (done : Done) → Judged
+  Answered : (done : Done) → StepResult
   -- the pledge after a change, and an answer
-  Changed : (pledge : PledgeValue) (done : Done) → Judged
+  Changed : (pledge : PledgeValue) (done : Done) → StepResult
 
 -- the given result, unless there is a refusal
-abbrev pub where_clear : Result (Unit {0}) Refusal → Judged → Judged
-where_clear (Ok clear) judged = judged
-where_clear (Err why) judged = Refused why
+abbrev pub where_clear : Result (Unit {0}) Refusal → StepResult → StepResult
+where_clear (Ok clear) stepped = stepped
+where_clear (Err why) stepped = Refused why
 
 -- the refusal of the first condition that holds; if none holds, the given result
-abbrev pub unless : List (Bool × Refusal) → Judged → Judged
-unless rows judged = where_clear (first_of rows (Ok tt)) judged
+abbrev pub unless : List (Bool × Refusal) → StepResult → StepResult
+unless rows stepped = where_clear (first_of rows (Ok tt)) stepped
 
 -- the refusals that all commands share, on the day x
 abbrev pub shared_refusals : PledgeValue → ℕ → List (Bool × Refusal)
@@ -77,20 +77,20 @@ period_refusals p x = (nat_lt (end_of p) x, Refusal.PeriodOver) ∷ []
 -- drawings and repayments
 
 -- the result of an entry, by the debt's answer
-abbrev pub under_debt : PledgeValue → ℕ → Sort → ℕ → Result DebtValue DebtFault → Judged
+abbrev pub under_debt : PledgeValue → ℕ → Sort → ℕ → Result DebtValue DebtFault → StepResult
 under_debt p x sort pence (Ok debt) =
     Changed (record p { entries = debt.entries; standing = with_last p.standing x }) (Done.Entered (new_entry p x sort pence))
 under_debt p x sort pence (Err fault) = Refused (refusal_of fault)
 
 -- a drawing is refused after the end of the period; the other refusals are those of the debt
-abbrev pub entry_step : PledgeValue → ℕ → Sort → ℕ → Judged
+abbrev pub entry_step : PledgeValue → ℕ → Sort → ℕ → StepResult
 entry_step p x Draw pence =
     unless (period_refusals p x) (under_debt p x Draw pence (draw_answer (debt_of p) x pence))
 entry_step p x Repay pence = under_debt p x Repay pence (repay_answer (debt_of p) x pence)
 
 -- if the number of an entry is taken, a repeat gets the answer of the first time and an entry that differs is refused,
 -- whatever the day and the pledge's state
-abbrev pub numbered_step : PledgeValue → ℕ → ℕ → Sort → ℕ → Option Entry → Judged
+abbrev pub numbered_step : PledgeValue → ℕ → ℕ → Sort → ℕ → Option Entry → StepResult
 numbered_step p x seq sort pence (Some e) =
     unless ((not (is_repeat e sort pence), Refusal.SeqTaken) ∷ []) (Answered (Done.Entered e))
 numbered_step p x seq sort pence None =
@@ -101,7 +101,7 @@ abbrev pub entry_of : PledgeValue → ℕ → Option Entry
 entry_of p seq = find (λ e. e.seq == seq) p.entries
 
 -- puts the pledge on hold, or ends the hold; if the flag already has this value, nothing changes
-abbrev pub hold_step : PledgeValue → ℕ → Bool → Judged
+abbrev pub hold_step : PledgeValue → ℕ → Bool → StepResult
 hold_step p x flag =
     if same_flag p.standing.held flag then Answered (Done.Held flag)
     else Changed (with_standing p (with_hold p.standing flag x)) (Done.Held flag)
@@ -117,7 +117,7 @@ declare_refusals p paper word =
     ∷ []
 
 -- the stamp's word is the new and only live secret
-abbrev pub declare_step : PledgeValue → Stamp → Paper → Judged
+abbrev pub declare_step : PledgeValue → Stamp → Paper → StepResult
 declare_step p stamp paper =
     unless (declare_refusals p paper stamp.word)
     (Changed (with_secret p (record { day = stamp.day; sort = issue_of paper; secret = stamp.word })) (Done.Declared stamp.word))
@@ -125,12 +125,12 @@ declare_step p stamp paper =
 -- bookings
 
 -- a change of the pledge's booking
-abbrev pub makes_booking : PledgeValue → ℕ → Booking → Judged
+abbrev pub makes_booking : PledgeValue → ℕ → Booking → StepResult
 makes_booking p x booking = Changed (with_standing p (with_booking p.standing booking x)) (Done.Booked booking)
 
 -- a booking replaces any other; if an active booking (asked for or confirmed) already has this day and window, the
 -- answer is that booking and nothing changes
-abbrev pub ask_once : PledgeValue → ℕ → ℕ → ℕ → Option Booking → Judged
+abbrev pub ask_once : PledgeValue → ℕ → ℕ → ℕ → Option Booking → StepResult
 ask_once p x day window None = makes_booking p x (record { day = day; window = window; state = BookingState.Asked })
 ask_once p x day window (Some booking) =
     if is_asked_again booking day window then Answered (Done.Booked booking)
@@ -145,23 +145,23 @@ ask_refusals p x day window =
     ∷ []
 
 -- the result of asking for a booking
-abbrev pub ask_step : PledgeValue → ℕ → ℕ → ℕ → Judged
+abbrev pub ask_step : PledgeValue → ℕ → ℕ → ℕ → StepResult
 ask_step p x day window = unless (ask_refusals p x day window) (ask_once p x day window p.standing.booking)
 
 -- the result of cancelling, by the booking's state
-abbrev pub cancel_in : PledgeValue → ℕ → Booking → BookingState → Judged
+abbrev pub cancel_in : PledgeValue → ℕ → Booking → BookingState → StepResult
 cancel_in p x booking BookingState.Asked = makes_booking p x (in_state booking BookingState.Cancelled)
 cancel_in p x booking BookingState.Confirmed = makes_booking p x (in_state booking BookingState.Cancelled)
 cancel_in p x booking BookingState.Refused = Refused Refusal.NoBooking
 cancel_in p x booking BookingState.Cancelled = Answered (Done.Booked booking)
 
 -- the result of cancelling; there must be a booking
-abbrev pub cancel_step : PledgeValue → ℕ → Option Booking → Judged
+abbrev pub cancel_step : PledgeValue → ℕ → Option Booking → StepResult
 cancel_step p x None = Refused Refusal.NoBooking
 cancel_step p x (Some booking) = cancel_in p x booking booking.state
 
 -- the result of confirming, by the booking's state; the day of a booking that is asked for must not be over
-abbrev pub confirm_in : PledgeValue → ℕ → Booking → BookingState → Judged
+abbrev pub confirm_in : PledgeValue → ℕ → Booking → BookingState → StepResult
 confirm_in p x booking BookingState.Asked =
     unless ((nat_lt booking.day x, Refusal.BookingDay) ∷ []) (makes_booking p x (in_state booking BookingState.Confirmed))
 confirm_in p x booking BookingState.Confirmed = Answered (Done.Booked booking)
@@ -169,14 +169,14 @@ confirm_in p x booking BookingState.Refused = Refused Refusal.NoBooking
 confirm_in p x booking BookingState.Cancelled = Refused Refusal.NoBooking
 
 -- the result of refusing, by the booking's state
-abbrev pub decline_in : PledgeValue → ℕ → Booking → BookingState → Judged
+abbrev pub decline_in : PledgeValue → ℕ → Booking → BookingState → StepResult
 decline_in p x booking BookingState.Asked = makes_booking p x (in_state booking BookingState.Refused)
 decline_in p x booking BookingState.Confirmed = makes_booking p x (in_state booking BookingState.Refused)
 decline_in p x booking BookingState.Refused = Answered (Done.Booked booking)
 decline_in p x booking BookingState.Cancelled = Refused Refusal.NoBooking
 
 -- the result of a decision; there must be a booking
-abbrev pub decide_step : PledgeValue → ℕ → Decision → Option Booking → Judged
+abbrev pub decide_step : PledgeValue → ℕ → Decision → Option Booking → StepResult
 decide_step p x decision None = Refused Refusal.NoBooking
 decide_step p x Confirm (Some booking) = confirm_in p x booking booking.state
 decide_step p x Refuse (Some booking) = decline_in p x booking booking.state
@@ -191,7 +191,7 @@ redeem_refusals p x paid =
     ∷ []
 
 -- the result of a redemption
-abbrev pub redeem_step : PledgeValue → ℕ → ℕ → Judged
+abbrev pub redeem_step : PledgeValue → ℕ → ℕ → StepResult
 redeem_step p x paid =
     unless (redeem_refusals p x paid) (Changed (close p x (Closing.Redeemed x paid)) (Done.Redeemed x paid))
 
@@ -203,7 +203,7 @@ sell_refusals p x net =
     ∷ []
 
 -- the result of a sale, with the surplus over the sum owed or the shortfall below it
-abbrev pub sell_step : PledgeValue → ℕ → ℕ → Judged
+abbrev pub sell_step : PledgeValue → ℕ → ℕ → StepResult
 sell_step p x net =
     unless (sell_refusals p x net)
     (Changed (close p x (Closing.Sold x net)) (Done.Sold net (net - total_on p x) (total_on p x - net)))
@@ -216,7 +216,7 @@ extend_refusals p until =
     ∷ []
 
 -- an extension of the period; one to the present end is answered and changes nothing
-abbrev pub extend_step : PledgeValue → ℕ → ℕ → Judged
+abbrev pub extend_step : PledgeValue → ℕ → ℕ → StepResult
 extend_step p x until =
     unless (period_refusals p x)
     (if until == end_of p then Answered (Done.Extended until)
@@ -224,7 +224,7 @@ extend_step p x until =
     (Changed (with_extension p (record { day = x; until = until })) (Done.Extended until)))
 
 -- the result of a command
-abbrev pub pledge_step : PledgeValue → Stamp → Command → Judged
+abbrev pub pledge_step : PledgeValue → Stamp → Command → StepResult
 pledge_step p stamp (Command.Draw seq pence) = numbered_step p stamp.day seq Draw pence (entry_of p seq)
 pledge_step p stamp (Command.Repay seq pence) = numbered_step p stamp.day seq Repay pence (entry_of p seq)
 pledge_step p stamp Command.Hold = unless (shared_refusals p stamp.day) (hold_step p stamp.day true)
@@ -239,13 +239,13 @@ pledge_step p stamp (Command.Sell net) = unless (shared_refusals p stamp.day) (s
 pledge_step p stamp (Command.Extend until) = unless (shared_refusals p stamp.day) (extend_step p stamp.day until)
 
 -- the answer to the caller
-abbrev pub reply_of : Judged → Result Done Refusal
+abbrev pub reply_of : StepResult → Result Done Refusal
 reply_of (Refused why) = Err why
 reply_of (Answered done) = Ok done
 reply_of (Changed pledge done) = Ok done
 
 -- the pledge after a command
-abbrev pub pledge_after : PledgeValue → Judged → PledgeValue
+abbrev pub pledge_after : PledgeValue → StepResult → PledgeValue
 pledge_after p (Changed pledge done) = pledge
 pledge_after p other = p
 
@@ -257,24 +257,24 @@ IsAddition (Done.Extended until) = Unit {0}
 IsAddition other = ⊥
 
 -- the command adds to a list of the pledge
-abbrev pub IsGrowth : Judged → Type 0
+abbrev pub IsGrowth : StepResult → Type 0
 IsGrowth (Changed pledge done) = IsAddition done
 IsGrowth other = ⊥
 
 -- the call does what the step states, or returns `Memory` if the step adds to a list; after an error the pledge is
 -- unchanged
-abbrev pub IsStep : Judged → PledgeValue → Result Done Refusal → PledgeValue → Type 0
-IsStep judged old (Ok done) new = (reply_of judged ≡ Ok done) × (new ≡ pledge_after old judged)
-IsStep judged old (Err fault) new = (new ≡ old) × ((judged ≡ Refused fault) ⊎ ((fault ≡ Refusal.Memory) × IsGrowth judged))
+abbrev pub IsStep : StepResult → PledgeValue → Result Done Refusal → PledgeValue → Type 0
+IsStep stepped old (Ok done) new = (reply_of stepped ≡ Ok done) × (new ≡ pledge_after old stepped)
+IsStep stepped old (Err fault) new = (new ≡ old) × ((stepped ≡ Refused fault) ⊎ ((fault ≡ Refusal.Memory) × IsGrowth stepped))
 
 -- the result that a call reported
-abbrev pub judgement_of : Applied → PledgeValue → Judged
-judgement_of applied new = if applied.changed then Changed new applied.done else Answered applied.done
+abbrev pub step_result_of : Applied → PledgeValue → StepResult
+step_result_of applied new = if applied.changed then Changed new applied.done else Answered applied.done
 
 -- the same as `IsStep`, for a call that also reports whether there was a change
-abbrev pub IsApplied : Judged → PledgeValue → Result Applied Refusal → PledgeValue → Type 0
-IsApplied judged old (Ok applied) new = (judged ≡ judgement_of applied new) × (new ≡ pledge_after old judged)
-IsApplied judged old (Err fault) new = (new ≡ old) × ((judged ≡ Refused fault) ⊎ ((fault ≡ Refusal.Memory) × IsGrowth judged))
+abbrev pub IsApplied : StepResult → PledgeValue → Result Applied Refusal → PledgeValue → Type 0
+IsApplied stepped old (Ok applied) new = (stepped ≡ step_result_of applied new) × (new ≡ pledge_after old stepped)
+IsApplied stepped old (Err fault) new = (new ≡ old) × ((stepped ≡ Refused fault) ⊎ ((fault ≡ Refusal.Memory) × IsGrowth stepped))
 
 -- the call returns what the rules state, or `Memory` where the rules accept
 abbrev pub IsStarted : Result PledgeValue Refusal → Result PledgeValue Refusal → Type 0

@@ -4,7 +4,7 @@ use Rattle.pawn_saving.proofs.Basics.{rows-with_book, equals, of_one_book, rows_
 use Rattle.pawn_saving.proofs.Changing.{joined, more_joined, replaced}
 use Rattle.pawn_saving.proofs.Hosting.{AreSame, relisted}
 use Rattle.pawn_saving.proofs.RowsInOrder.{placed_parts}
-use Rattle.pawn_saving.specs.Common.{Database, changed_book, made_book, with_change, book_rows, with_book, AddTerms}
+use Rattle.pawn_saving.specs.Common.{Database, changed_book, made_book, with_change, book_row_count, with_book, AddTerms}
 use Rattle.pawn_saving.specs.Common.{MakeBook, NewBook, with_rows, ListsOurs}
 use Rattle.pawn_saving.specs.Counted.{IsWrittenPart, ListsHost}
 use Rattle.pawn_saving.specs.Writing.{IsOnly}
@@ -50,7 +50,7 @@ module _ (h : Host) (b : ℕ) (new : NewBook) (none : get h.books b ≡ None) (c
       → IsWrittenPart h grown db 1
   made_written db is l = record {
     lists = subst (ListsHost db grown) is (relisted db _ _ made_same l);
-    grown = let sums = rows-with_book h b made in let before : part book_rows (get h.books b) ≡ 0 = ap (part book_rows) none in omega (arith, sums, before);
+    grown = let sums = rows-with_book h b made in let before : part book_row_count (get h.books b) ≡ 0 = ap (part book_row_count) none in omega (arith, sums, before);
   }
 
 -- ---- the row of a book, and those of the others
@@ -147,6 +147,6 @@ module _ (h : Host) (b version : ℕ) (t : Rates) (k : BookValue) (is : get h.bo
   longer_written db same l = subst (λ g. IsWrittenPart h g db 1) (sym is_longer) (record {
     lists = subst (ListsHost db longer) same (relisted db _ _ longer_same l);
     grown = let sums = rows-with_book h b next in
-        let before : part book_rows (get h.books b) ≡ book_rows k = ap (part book_rows) is in let more = length-append k.terms (t ∷ []) in
+        let before : part book_row_count (get h.books b) ≡ book_row_count k = ap (part book_row_count) is in let more = length-append k.terms (t ∷ []) in
         omega (arith, sums, before, more);
   })

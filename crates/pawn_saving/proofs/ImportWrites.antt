@@ -5,8 +5,8 @@ use Rattle.pawn_saving.proofs.BookChanges.{books_after, found_after, other_books
 use Rattle.pawn_saving.proofs.Changing.{more_joined}
 use Rattle.pawn_saving.proofs.Hosting.{AreSame, relisted, relisted_by}
 use Rattle.pawn_saving.proofs.RowsInOrder.{carried_then, until}
-use Rattle.pawn_saving.specs.Common.{Database, changed_book, filled_book, IsUnfilled, with_change, book_rows}
-use Rattle.pawn_saving.specs.Common.{pledge_rows, with_book, AreSound, ImportBook, BookRows, with_rows, ListsOurs}
+use Rattle.pawn_saving.specs.Common.{Database, changed_book, filled_book, IsUnfilled, with_change, book_row_count}
+use Rattle.pawn_saving.specs.Common.{pledge_row_count, with_book, AreSound, ImportBook, BookRows, with_rows, ListsOurs}
 use Rattle.pawn_saving.specs.Counted.{IsWrittenPart, ListsHost}
 use Rattle.pawn_saving.specs.Importing.{whole_pledges}
 use Rattle.pawn_saving.specs.Putting.{beside, booking_under, whole_pledge}
@@ -76,12 +76,12 @@ pub record ArePledgesPut (old new : State) (b : ℕ) (ps : List PledgeValue) (i 
   pub carried : IsCarried old new true
   pub wrote : HasCleanDisk new → IsTrue old.in_transaction → (listed : Listed) → ((n : ℕ) → filter (at_pledge b n) (listed bookings_tree) ≡ [])
       → AreNumberedFrom 1 ps → ListsOurs old.now listed
-      → (counted ≡ sum_by pledge_rows (take i ps)) × ListsOurs new.now (beside (whole_pledges b (take i ps)) listed)
+      → (counted ≡ sum_by pledge_row_count (take i ps)) × ListsOurs new.now (beside (whole_pledges b (take i ps)) listed)
 
 pub one_pledge_put : (old mid new : State) (b i counted added sum : ℕ) (ps : List PledgeValue) (p : PledgeValue) → i < length ps → p ≡ get_or ps i p
     → sum ≡ counted + added → ArePledgesPut old mid b ps i counted → IsLent mid new true
     → (HasCleanDisk new → IsTrue mid.in_transaction → (listed : Listed) → filter (at_pledge b (number_in_book p)) (listed bookings_tree) ≡ [] → ListsOurs
-    mid.now listed → (added ≡ pledge_rows p) × ListsOurs new.now (beside (whole_pledge b (number_in_book p) p) listed)) → ArePledgesPut old new b ps (i + 1) sum
+    mid.now listed → (added ≡ pledge_row_count p) × ListsOurs new.now (beside (whole_pledge b (number_in_book p) p) listed)) → ArePledgesPut old new b ps (i + 1) sum
 one_pledge_put old mid new b i counted added sum ps p lt is sums put lent wrote = record {
   carried = carried_then old mid new true put.carried lent;
   wrote = λ clean within listed none numbered l.
@@ -89,16 +89,16 @@ one_pledge_put old mid new b i counted added sum ps p lt is sums put lent wrote 
       let one = wrote clean (put.carried.inside was within refl) (beside (whole_pledges b (take i ps)) listed)
       (next_unbooked b ps i p (listed bookings_tree) none numbered lt is) so_far.1 in
       let before = so_far.0 in let more = one.0 in
-      let longer : sum_by pledge_rows (take (i + 1) ps) ≡ sum_by pledge_rows (take i ps) + pledge_rows p = ap (sum_by pledge_rows) (until ps i p lt is)
-      ∙ sum_by_push pledge_rows (take i ps) p in
+      let longer : sum_by pledge_row_count (take (i + 1) ps) ≡ sum_by pledge_row_count (take i ps) + pledge_row_count p = ap (sum_by pledge_row_count) (until ps i p lt is)
+      ∙ sum_by_push pledge_row_count (take i ps) p in
       (omega (arith, sums, before, more, longer), one_beside b ps i p lt is listed new.now one.1);
 }
 
 pub all_pledges_put : (old new : State) (b : ℕ) (ps : List PledgeValue) (i counted : ℕ) → length ps ≤ i → ArePledgesPut old new b ps i counted
     → HasCleanDisk new → IsTrue old.in_transaction → (listed : Listed) → ((n : ℕ) → filter (at_pledge b n) (listed bookings_tree) ≡ []) → AreNumberedFrom 1 ps
-    → ListsOurs old.now listed → (counted ≡ sum_by pledge_rows ps) × ListsOurs new.now (beside (whole_pledges b ps) listed)
+    → ListsOurs old.now listed → (counted ≡ sum_by pledge_row_count ps) × ListsOurs new.now (beside (whole_pledges b ps) listed)
 all_pledges_put old new b ps i counted end put clean within listed none numbered l =
-    subst (λ qs. (counted ≡ sum_by pledge_rows qs) × ListsOurs new.now (beside (whole_pledges b qs) listed)) (take_all i ps end)
+    subst (λ qs. (counted ≡ sum_by pledge_row_count qs) × ListsOurs new.now (beside (whole_pledges b qs) listed)) (take_all i ps end)
     (put.wrote clean within listed none numbered l)
 
 -- ---- a book without terms and pledges
@@ -149,17 +149,17 @@ module _ (h : Host) (b key : ℕ) (k : BookValue) (brought : BookRows) (is : get
       extensions = joined_pledges extensions_listed;
     }
 
-    pub filled_written : (db : Database) (added : ℕ) → counted ≡ rows h → added ≡ length brought.terms + sum_by pledge_rows brought.pledges
+    pub filled_written : (db : Database) (added : ℕ) → counted ≡ rows h → added ≡ length brought.terms + sum_by pledge_row_count brought.pledges
         → ListsOurs db (beside (whole_pledges b brought.pledges) with_terms) → IsWrittenPart h (with_change h (ImportBook b key brought)) db added
     filled_written db added same many l = subst (λ g. IsWrittenPart h g db added) (sym is_changed) (record {
       lists = subst (ListsHost db changed) same (relisted db (listed_as changed counted) (beside (whole_pledges b brought.pledges) with_terms) filled_same l);
       grown = let sums = rows-with_book h b filled in
-          let before : part book_rows (get h.books b) ≡ 1 = ap (part book_rows) is ∙ (λ i. 1 + length (empty.terms i) + sum_by pledge_rows (empty.pledges i)) in
+          let before : part book_row_count (get h.books b) ≡ 1 = ap (part book_row_count) is ∙ (λ i. 1 + length (empty.terms i) + sum_by pledge_row_count (empty.pledges i)) in
           omega (arith, sums, before, many);
     })
 
     pub filled_counted : {E : Type 0} (db : Database) (versions added : ℕ) (result : Result ℕ E) → counted ≡ rows h → versions ≡ length brought.terms
-        → added ≡ sum_by pledge_rows brought.pledges → IfOk result (λ n. n ≡ versions + added)
+        → added ≡ sum_by pledge_row_count brought.pledges → IfOk result (λ n. n ≡ versions + added)
         → ListsOurs db (beside (whole_pledges b brought.pledges) with_terms) → IfOk result (IsWrittenPart h (with_change h (ImportBook b key brought)) db)
     filled_counted db versions added (Ok n) same terms pledges sum l = filled_written db n same (omega (arith, sum, terms, pledges)) l
     filled_counted db versions added (Err e) same terms pledges sum l = tt

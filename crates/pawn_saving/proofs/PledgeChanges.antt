@@ -5,7 +5,7 @@ use Rattle.pawn_saving.proofs.Basics.{number_in, AreUnder, all_under, of_one_ple
 use Rattle.pawn_saving.proofs.BookChanges.{books_after, found_after, only_book, other_books, rows_after, rows_before}
 use Rattle.pawn_saving.proofs.BookChanges.{rows_beside}
 use Rattle.pawn_saving.proofs.Changing.{more_joined}
-use Rattle.pawn_saving.specs.Common.{changed_book, put_from, with_change, book_rows, pledge_rows, with_book, AreSound}
+use Rattle.pawn_saving.specs.Common.{changed_book, put_from, with_change, book_row_count, pledge_row_count, with_book, AreSound}
 use Rattle.pawn_saving.specs.Common.{PutPledge}
 use Rattle.pawn_tables.proofs.Basics.{nat_tests, IsPermutation-sym, IsPermutation-trans, length_permutation}
 use Rattle.pawn_tables.proofs.Basics.{IsPermutation-filter, filter-append}
@@ -52,13 +52,13 @@ module _ (n : ℕ) (p : PledgeValue) where
     )
 
   put_sums : (k : ℕ) (ps : List PledgeValue)
-      → sum_by pledge_rows (put_from k ps n p) + part pledge_rows (pledge_from k ps n) ≡ sum_by pledge_rows ps + pledge_rows p
-  put_sums k [] = omega (arith, sum_by-cons pledge_rows p [])
+      → sum_by pledge_row_count (put_from k ps n p) + part pledge_row_count (pledge_from k ps n) ≡ sum_by pledge_row_count ps + pledge_row_count p
+  put_sums k [] = omega (arith, sum_by-cons pledge_row_count p [])
   put_sums k (q ∷ ps) =
-      elim (n == k) as (λ v. sum_by pledge_rows (if v then p ∷ ps else q ∷ put_from (k + 1) ps n p)
-      + part pledge_rows (if v then Some q else pledge_from (k + 1) ps n) ≡ sum_by pledge_rows (q ∷ ps) + pledge_rows p) [
-        | true ↦ omega (arith, sum_by-cons pledge_rows p ps, sum_by-cons pledge_rows q ps)
-        | false ↦ omega (arith, put_sums (k + 1) ps, sum_by-cons pledge_rows q (put_from (k + 1) ps n p), sum_by-cons pledge_rows q ps)
+      elim (n == k) as (λ v. sum_by pledge_row_count (if v then p ∷ ps else q ∷ put_from (k + 1) ps n p)
+      + part pledge_row_count (if v then Some q else pledge_from (k + 1) ps n) ≡ sum_by pledge_row_count (q ∷ ps) + pledge_row_count p) [
+        | true ↦ omega (arith, sum_by-cons pledge_row_count p ps, sum_by-cons pledge_row_count q ps)
+        | false ↦ omega (arith, put_sums (k + 1) ps, sum_by-cons pledge_row_count q (put_from (k + 1) ps n p), sum_by-cons pledge_row_count q ps)
       ]
 
   pub put_length : (k : ℕ) (ps : List PledgeValue) → length (put_from k ps n p) + part (λ (q : PledgeValue). 1) (pledge_from k ps n) ≡ length ps + 1
@@ -153,9 +153,9 @@ module _ (h : Host) (b n : ℕ) (k : BookValue) (p : PledgeValue) (is : get h.bo
 
   -- ---- how many rows are counted
 
-  pub rows_put : rows changed + part pledge_rows stood ≡ rows h + pledge_rows p
+  pub rows_put : rows changed + part pledge_row_count stood ≡ rows h + pledge_row_count p
   rows_put = let sums = rows-with_book h b next in
-      let before : part book_rows (get h.books b) ≡ book_rows k = ap (part book_rows) is in let pledges = put_sums n p 1 k.pledges in
+      let before : part book_row_count (get h.books b) ≡ book_row_count k = ap (part book_row_count) is in let pledges = put_sums n p 1 k.pledges in
       omega (arith, sums, before, pledges)
 
   -- a sound host has numbered pledges

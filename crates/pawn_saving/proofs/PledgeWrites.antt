@@ -7,7 +7,7 @@ use Rattle.pawn_saving.proofs.Hosting.{AreSame, relisted}
 use Rattle.pawn_saving.proofs.PledgeChanges.{after_put, before_put, books_stay, changed, is_changed, next, none_rest}
 use Rattle.pawn_saving.proofs.PledgeChanges.{put_length, put_named, rest, rows_grown, rows_joined, rows_put, stood}
 use Rattle.pawn_saving.proofs.RowsInOrder.{placed_parts}
-use Rattle.pawn_saving.specs.Common.{Database, Grows, Agreement, Continues, with_change, pledge_rows, AreSound}
+use Rattle.pawn_saving.specs.Common.{Database, Grows, Agreement, Continues, with_change, pledge_row_count, AreSound}
 use Rattle.pawn_saving.specs.Common.{PutPledge, with_rows, ListsOurs}
 use Rattle.pawn_saving.specs.Counted.{IsWrittenPart, ListsHost}
 use Rattle.pawn_saving.specs.Putting.{AreRelatedPut, beside, booking_under, entries_past, extensions_past, lists_past}
@@ -49,14 +49,14 @@ module _ (h : Host) (b n : ℕ) (k : BookValue) (p : PledgeValue) (is : get h.bo
 
     pub next_written : (db : Database) → counted ≡ rows h → AreSound (with_change h (PutPledge b n p)) → n ≤ 1 + length k.pledges → 1 ≤ n
         → ListsOurs db (with_rows (beside (whole_pledge b n p) (listed_as h counted)) 0 (book_row b (next h b n k p is) ∷ other_books h b k is))
-        → IsWrittenPart h (with_change h (PutPledge b n p)) db (pledge_rows p)
+        → IsWrittenPart h (with_change h (PutPledge b n p)) db (pledge_row_count p)
     next_written db same sound high low l = let g = changed h b n k p is in
         let sounds : AreSound g = subst AreSound (is_changed h b n k p is) sound in let named = put_named h b n k p is sounds high low in
         let lists = subst (λ m. ListsOurs db
         (with_rows (beside (whole_pledge b m p) (listed_as h counted)) 0 (book_row b (next h b n k p is) ∷ other_books h b k is))) (sym named) l in
-        subst (λ x. IsWrittenPart h x db (pledge_rows p)) (sym (is_changed h b n k p is)) (record {
+        subst (λ x. IsWrittenPart h x db (pledge_row_count p)) (sym (is_changed h b n k p is)) (record {
           lists = subst (ListsHost db g) same (relisted db _ _ (joined_same named) lists);
-          grown = let sums = rows_put h b n k p is in let before : part pledge_rows (stood h b n k p is) ≡ 0 = ap (part pledge_rows) none in
+          grown = let sums = rows_put h b n k p is in let before : part pledge_row_count (stood h b n k p is) ≡ 0 = ap (part pledge_row_count) none in
               omega (arith, sums, before);
         })
 
@@ -151,13 +151,13 @@ module _ (h : Host) (b n : ℕ) (k : BookValue) (old p : PledgeValue) (is : get 
         extensions = rows_grown h b n k p is extensions_listed old _ some (extensions_are b old p l as_before it.lists extensions_so);
       }
 
-      pub renewed_written : (db : Database) (added : ℕ) → counted ≡ rows h → pledge_rows p ≡ pledge_rows old + added → ListsOurs db
+      pub renewed_written : (db : Database) (added : ℕ) → counted ≡ rows h → pledge_row_count p ≡ pledge_row_count old + added → ListsOurs db
           (beside (lists_past l b n p) (with_related b n p others (listed_as h counted))) → IsWrittenPart h (with_change h (PutPledge b n p)) db added
       renewed_written db added same more lists = let g = changed h b n k p is in
           let named : p.agreement.number ≡ n = as_before ∙ old_named in
           let own = subst (λ m. ListsOurs db (beside (lists_past l b m p) (with_related b m p others (listed_as h counted)))) (sym named) lists in
           subst (λ x. IsWrittenPart h x db added) (sym (is_changed h b n k p is)) (record {
             lists = subst (ListsHost db g) same (relisted db _ _ renewed_same own);
-            grown = let sums = rows_put h b n k p is in let before : part pledge_rows (stood h b n k p is) ≡ pledge_rows old = ap (part pledge_rows) some in
+            grown = let sums = rows_put h b n k p is in let before : part pledge_row_count (stood h b n k p is) ≡ pledge_row_count old = ap (part pledge_row_count) some in
                 omega (arith, sums, before, more);
           })

@@ -4,7 +4,7 @@ pub use Rattle.one_table.specs.Common.{overlay, rowid, value_rows}
 pub use Rattle.one_table.specs.Listing.{IsNumbered, with_rows}
 pub use Rattle.pawn_book.specs.BookStep.{changed_book, filled_book, made_book, put_from}
 pub use Rattle.pawn_book.specs.Changes.{CanSave, Continues, IsUnfilled, book_number, with_change}
-pub use Rattle.pawn_book.specs.HostStep.{book_rows, pledge_rows, with_book}
+pub use Rattle.pawn_book.specs.HostStep.{book_row_count, pledge_row_count, with_book}
 pub use Rattle.pawn_book.specs.Sound.{AreSound, HasTextsAndWords}
 pub use Rattle.pawn_book.specs.declared.change.Change.{Change}
 pub use Rattle.pawn_book.specs.declared.change.Change.TheVariants.{AddTerms, ImportBook, MakeBook, PutPledge}

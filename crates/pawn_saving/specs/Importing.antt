@@ -1,5 +1,5 @@
 -- The rows that an import writes.
-use Rattle.pawn_saving.specs.Common.{pledge_rows, ListsOurs}
+use Rattle.pawn_saving.specs.Common.{pledge_row_count, ListsOurs}
 use Rattle.pawn_saving.specs.Putting.{beside, whole_pledge}
 use Rattle.pawn_tables.specs.At.{at_pledge}
 use Rattle.pawn_tables.specs.Common.{HasCleanDisk, State, PledgeValue, AreNumberedFrom, Listed}
@@ -17,4 +17,4 @@ abbrev pub AddsPledges : {E : Type 0} → State → State → Result ℕ E → �
 AddsPledges old new result b pledges =
     HasCleanDisk new → IsTrue old.in_transaction → (listed : Listed) → ((n : ℕ) → filter (at_pledge b n) (listed bookings_tree) ≡ [])
     → AreNumberedFrom 1 pledges → ListsOurs old.now listed
-    → IfOk result (λ added. (added ≡ sum_by pledge_rows pledges) × ListsOurs new.now (beside (whole_pledges b pledges) listed))
+    → IfOk result (λ added. (added ≡ sum_by pledge_row_count pledges) × ListsOurs new.now (beside (whole_pledges b pledges) listed))

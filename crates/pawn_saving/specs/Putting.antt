@@ -1,6 +1,6 @@
 -- The rows that saving a pledge writes.
 use Rattle.pawn_debt.specs.Kept.{totals_of}
-use Rattle.pawn_saving.specs.Common.{pledge_rows, with_rows, ListsOurs}
+use Rattle.pawn_saving.specs.Common.{pledge_row_count, with_rows, ListsOurs}
 use Rattle.pawn_saving.specs.Writing.{IsOnly}
 use Rattle.pawn_saving.specs.declared.lengths.Lengths.{Lengths}
 use Rattle.pawn_tables.specs.At.{at_pledge}
@@ -103,7 +103,7 @@ RenewRelated old new result b n before p =
 abbrev pub AddsPledge : {E : Type 0} → State → State → Result ℕ E → ℕ → ℕ → PledgeValue → Type 0
 AddsPledge old new result b n p =
     HasCleanDisk new → IsTrue old.in_transaction → (listed : Listed) → filter (at_pledge b n) (listed bookings_tree) ≡ [] → ListsOurs old.now listed
-    → IfOk result (λ added. (added ≡ pledge_rows p) × ListsOurs new.now (beside (whole_pledge b n p) listed))
+    → IfOk result (λ added. (added ≡ pledge_row_count p) × ListsOurs new.now (beside (whole_pledge b n p) listed))
 
 -- in one table, these rows replace those that pass the test
 abbrev pub PutsFor : {T E : Type 0} → State → State → Result T E → ℕ → (Row → Bool) → List Row → List Row → Type 0

@@ -1,5 +1,5 @@
 //! Writes a pledge that is not stored yet, and the parts that it shares with one that is.
-ghost use Rattle.pawn_saving.specs.Common.{pledge_rows};
+ghost use Rattle.pawn_saving.specs.Common.{pledge_row_count};
 ghost use Rattle.pawn_saving.specs.Putting.{AddRows, AddRelated, AddsPledge, PutsFor, lists_past};
 ghost use Rattle.pawn_saving.specs.Writing.{Carries};
 ghost use Rattle.pawn_tables.specs.At.{at_pledge};
@@ -36,7 +36,7 @@ pub(crate) fn rows_within(lengths: Lengths, is_booked: bool) -> Result<u32, Keep
 
 /// How many counted rows this pledge has.
 pub(crate) fn row_count(pledge: &Pledge) -> Result<u32, KeepError>
-    ensures value { IfOk result (λ n. n ≡ pledge_rows pledge.now) }
+    ensures value { IfOk result (λ n. n ≡ pledge_row_count pledge.now) }
 {
     let lengths = lengths_of(pledge)?;
     rows_within(lengths, pledge.standing().booking.is_some())

@@ -1,5 +1,5 @@
 //! Writes a pledge of an existing book: the next one, or one that is stored already.
-ghost use Rattle.pawn_saving.specs.Common.{pledge_rows, PutPledge};
+ghost use Rattle.pawn_saving.specs.Common.{pledge_row_count, PutPledge};
 ghost use Rattle.pawn_saving.specs.Counted.{WritesWhere};
 ghost use Rattle.pawn_saving.specs.Putting.{RenewRelated};
 ghost use Rattle.pawn_saving.specs.Stored.{IsStored};
@@ -51,7 +51,7 @@ fn set_related<S: Alter>(
 /// How many more counted rows a pledge has than are stored of it. `DATABASE_FAILED` if it has fewer, or if a booking is
 /// stored and the pledge has none: no command removes a booking.
 fn rows_added(stored: Stored, pledge: &Pledge) -> Result<u32, KeepError>
-    ensures value { IfOk result (λ added. (before : PledgeValue) → IsStored stored (Some before) → pledge_rows pledge.now ≡ pledge_rows before + added) }
+    ensures value { IfOk result (λ added. (before : PledgeValue) → IsStored stored (Some before) → pledge_row_count pledge.now ≡ pledge_row_count before + added) }
     ensures booked { IfOk result (λ added. (before : PledgeValue) → IsStored stored (Some before)
         → pledge.now.standing.booking ≡ None → before.standing.booking ≡ None) }
 {

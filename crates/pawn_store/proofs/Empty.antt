@@ -2,7 +2,7 @@
 use Rattle.pawn_base.proofs.ListLemmas.{no_elements}
 use Rattle.pawn_book.proofs.Sounds.{absurd_none}
 use Rattle.pawn_book.specs.BookStep.{BookValue}
-use Rattle.pawn_book.specs.HostStep.{book_rows, rows}
+use Rattle.pawn_book.specs.HostStep.{book_row_count, rows}
 use Rattle.pawn_opening.specs.Opened.{empty_host}
 use Rattle.pawn_store.specs.Running.{EmptyHostIsSound}
 use Rattle.std.proofs.Common.{◌≡◌, ◌∙◌, ℕ, [], map, sym, ap, arith, sum_by}
@@ -13,7 +13,7 @@ no_rows : (limit : ℕ) → rows (empty_host limit) ≡ 0
 no_rows limit =
     let none : entries (empty {X = BookValue} {R = nat_cmp}) ≡ [] =
     no_elements _ (sym (len-entries (empty {X = BookValue} {R = nat_cmp})) ∙ len-empty nat_cmp BookValue) in
-    ap (λ es. sum_by book_rows (map (λ e. e.1) es)) none
+    ap (λ es. sum_by book_row_count (map (λ e. e.1) es)) none
 
 pub empty_sound : EmptyHostIsSound
 empty_sound limit =

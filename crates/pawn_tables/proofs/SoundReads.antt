@@ -3,7 +3,7 @@ use Rattle.pawn_base.proofs.ListLemmas.{last_by-le, DoNotFall-each}
 use Rattle.pawn_base.proofs.RefusalLemmas.{first_of-is_ok}
 use Rattle.pawn_base.specs.Lists.{DoNotFall, last_by}
 use Rattle.pawn_book.proofs.Sounds.{reachable_at}
-use Rattle.pawn_debt.specs.Answers.{draw_rows, is_bad_amount, repay_rows, with_entry}
+use Rattle.pawn_debt.specs.Answers.{draw_refusals, is_bad_amount, repay_refusals, with_entry}
 use Rattle.pawn_debt.specs.Replay.{AreEntriesAccepted, sort_answer}
 use Rattle.pawn_pledge.proofs.Briefs.{brief_is_within}
 use Rattle.pawn_pledge.specs.declared.brief.BriefFields.{BriefFields}
@@ -102,8 +102,8 @@ some_pence pence h = (grind (arith, nat_tests, h), grind (arith, nat_tests, h))
 
 -- what the rules accept is a sum within the limits
 accepted_amount : (s : Sort) (d : DebtValue) (x pence : ℕ) → IsOk (sort_answer s d x pence) → IsAmount pence
-accepted_amount Draw d x pence h = some_pence pence ((first_of-is_ok (draw_rows d x pence) (Ok (with_entry d x Draw pence)) h).0.1.1.0)
-accepted_amount Repay d x pence h = some_pence pence ((first_of-is_ok (repay_rows d x pence) (Ok (with_entry d x Repay pence)) h).0.1.0)
+accepted_amount Draw d x pence h = some_pence pence ((first_of-is_ok (draw_refusals d x pence) (Ok (with_entry d x Draw pence)) h).0.1.1.0)
+accepted_amount Repay d x pence h = some_pence pence ((first_of-is_ok (repay_refusals d x pence) (Ok (with_entry d x Repay pence)) h).0.1.0)
 
 all_amounts : (d : DebtValue) (prior es : List Entry) → AreEntriesAccepted d prior es → Each (λ e. IsAmount e.pence) es
 all_amounts d prior [] h = tt

@@ -26,7 +26,7 @@ pub(crate) const NO_RECORD: KeepError = KeepError::Store(StoreFault::NoRecord);
 pub fn keeper_error(error: Error) -> KeepError
     ensures no_row { result ≢ Keeper.Store NoRecord }
     ensures memory { result ≡ Keeper.Memory → error ≡ SqlError.SqliteFailure OutOfMemory }
-    ensures told { error ≡ SqlError.SqliteFailure OutOfMemory → result ≡ Keeper.Memory }
+    ensures out_of_memory { error ≡ SqlError.SqliteFailure OutOfMemory → result ≡ Keeper.Memory }
 {
     match error {
         Error::SqliteFailure(ErrorCode::OutOfMemory) => KeepError::Memory,
@@ -36,7 +36,7 @@ pub fn keeper_error(error: Error) -> KeepError
 
 /// The error for a value of a row that could not be read: `Memory` if out of memory, otherwise `NoRecord`.
 fn unread(error: Error) -> KeepError
-    ensures told { error ≡ SqlError.SqliteFailure OutOfMemory → result ≡ Keeper.Memory }
+    ensures out_of_memory { error ≡ SqlError.SqliteFailure OutOfMemory → result ≡ Keeper.Memory }
     ensures memory { result ≡ Keeper.Memory → error ≡ SqlError.SqliteFailure OutOfMemory }
     ensures no_fault { result ≢ Keeper.Store Database }
 {

@@ -274,7 +274,7 @@ const REPAY: Command = Command::Repay {
 };
 
 #[test]
-fn a_store_is_judged_and_counted(rt: HostRuntime) -> Result<(), Fail> {
+fn a_store_is_checked_and_counted(rt: HostRuntime) -> Result<(), Fail> {
     let mut keep = pledges(&rt, rt.alloc(), 1000)?;
     let counts = Counts {
         books: 1,

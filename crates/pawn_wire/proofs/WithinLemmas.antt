@@ -18,7 +18,7 @@ use Rattle.pawn_wire.specs.Limits.{most_numeral}
 use Rattle.pawn_wire.specs.Member.{body_said, day_at, flag_at, if_text, in_range, json_of, key_at, number_at, string_at}
 use Rattle.pawn_wire.specs.Member.{text_at}
 use Rattle.pawn_wire.specs.Named.{day_said, number_said}
-use Rattle.pawn_wire.specs.Place.{is_ascii_text, method_of, place_asked, place_of, target_said}
+use Rattle.pawn_wire.specs.Target.{is_ascii_text, method_of, target_asked, target_of, target_said}
 use Rattle.pawn_wire.specs.Receipts.{all_said, is_hyphen, one_said, receipt_faults, receipt_said, receipt_values}
 use Rattle.pawn_wire.specs.Receipts.{receipts_said}
 use Rattle.pawn_wire.specs.Request.{HoldsRows, IsAsked, IsOutlined, SaysRequest, framing_faults, outline_by}
@@ -26,7 +26,7 @@ use Rattle.pawn_wire.specs.Route.{AskedFor, route_of}
 use Rattle.pawn_wire.specs.Types.{Asks, BadBody, BadReceipt, Create, Endpoint, Export, NoReceipt, NoRoute, OnPledge}
 use Rattle.pawn_wire.specs.Types.{OnReceipt, Outline, Present, PutTerms, Show, ShowDay, TakePledge, TooManyReceipts}
 use Rattle.pawn_wire.specs.Types.{WireFault, WrongMethod, Import, BearerAction, BrokerAction, NewBooking, NewEntry}
-use Rattle.pawn_wire.specs.Types.{Place, Target}
+use Rattle.pawn_wire.specs.Types.{BookTarget, Target}
 use Rattle.serde_json.specs.Find.{as_null, as_number, as_str, as_u64, get}
 use Rattle.std.proofs.Common.{◌≡◌, ℕ, ◌≤◌, List, [], ◌∷◌, length, Bool, true, false, Option, Some, None, IfSome, Result}
 use Rattle.std.proofs.Common.{Ok, Err, refl, ap, subst, arith, inl, inr, ◌==◌, ◌&&◌, not, nat_le, nat_lt, bytes_eq}
@@ -268,9 +268,9 @@ asks_within (OnReceipt action) fields body caller within e =
     mapped AreAsksWithin (λ command. Asks.Whole (Bearer (bearer.OnPledge receipt.0 command))) (bearers_command_said action body) caller
     (or_fault_ok BadBody _ caller receipt.2) (λ command is. (one_within (receipt_values fields) receipt.0 receipt.1, bearers_within action body command is))
 
--- the book's number of a place is valid, and the parts of its target are within their limits
-abbrev IsPlaceWithin : Place → Type 0
-IsPlaceWithin place = IsNumber place.book × IsTargetWithin place.target
+-- the number of the book is valid, and the parts of what is asked are within their limits
+abbrev IsBookTargetWithin : BookTarget → Type 0
+IsBookTargetWithin at = IsNumber at.book × IsTargetWithin at.target
 
 -- a target with a pledge's number
 numbered : (of : ℕ → Target) (text : Option (List ℕ)) (target : Target) → ((n : ℕ) → IsNumber n → IsTargetWithin (of n))
@@ -285,17 +285,17 @@ target_within Endpoint.ShowDay text target e =
     mapped IsTargetWithin ShowDay (and_then text day_said) target e (λ day is. let s = given_some text day_said day is in day_within s.0 day s.2)
 target_within endpoint text target e = subst IsTargetWithin (some_same e) tt
 
-asked_within : (asked : AskedFor) (place : Place) → place_asked asked ≡ Some place → IsPlaceWithin place
-asked_within asked place e =
-    let book = given_some (and_then asked.book number_said) _ place e in
+asked_within : (asked : AskedFor) (at : BookTarget) → target_asked asked ≡ Some at → IsBookTargetWithin at
+asked_within asked at e =
+    let book = given_some (and_then asked.book number_said) _ at e in
     let text = given_some asked.book number_said book.0 book.1 in
-    mapped IsPlaceWithin (λ target. record { book = book.0; target = target }) (target_said asked.endpoint asked.item) place book.2
+    mapped IsBookTargetWithin (λ target. record { book = book.0; target = target }) (target_said asked.endpoint asked.item) at book.2
     (λ target is. ((number_said-is book.0 text.0 text.2).0, target_within asked.endpoint asked.item target is))
 
-place_within : (target : List ℕ) (place : Place) → place_of target ≡ Some place → IsPlaceWithin place
-place_within target place e = by_test (is_ascii_text target) e where
-  by_test : (b : Bool) → (if b then and_then (route_of target) place_asked else None) ≡ Some place → IsPlaceWithin place
-  by_test true same = (let asked = given_some (route_of target) place_asked place same in asked_within asked.0 place asked.2)
+book_target_within : (target : List ℕ) (at : BookTarget) → target_of target ≡ Some at → IsBookTargetWithin at
+book_target_within target at e = by_test (is_ascii_text target) e where
+  by_test : (b : Bool) → (if b then and_then (route_of target) target_asked else None) ≡ Some at → IsBookTargetWithin at
+  by_test true same = (let asked = given_some (route_of target) target_asked at same in asked_within asked.0 at asked.2)
   by_test false same = absurd cc
 
 -- an outline has a valid book number, and what it asks is within its limits
@@ -305,12 +305,12 @@ IsOutlineWithin outline = IsNumber outline.book × AreAsksWithin outline.asks
 outline_within : (method target : List ℕ) (fields : List Pair) (body : List ℕ) (outline : Outline)
     → outline_by method target fields body ≡ Ok outline → IsOutlineWithin outline
 outline_within method target fields body outline e =
-    let place = after_ok (or_fault NoRoute (place_of target)) _ outline (first_ok (framing_faults fields body) _ outline e) in
-    let asked = after_ok (asks_said place.0.target fields body) _ outline
-    (first_ok ((not (bytes_eq (method_of place.0.target) method), WrongMethod) ∷ []) _ outline place.2) in
-    let within = place_within target place.0 (or_fault_ok NoRoute (place_of target) place.0 place.1) in
-    let same : ◌≡◌ {A = Outline} (record { book = place.0.book; asks = asked.0 }) outline = cc (asked.2) in
-    subst IsOutlineWithin same (within.0, asks_within place.0.target fields body asked.0 within.1 asked.1)
+    let at = after_ok (or_fault NoRoute (target_of target)) _ outline (first_ok (framing_faults fields body) _ outline e) in
+    let asked = after_ok (asks_said at.0.target fields body) _ outline
+    (first_ok ((not (bytes_eq (method_of at.0.target) method), WrongMethod) ∷ []) _ outline at.2) in
+    let within = book_target_within target at.0 (or_fault_ok NoRoute (target_of target) at.0 at.1) in
+    let same : ◌≡◌ {A = Outline} (record { book = at.0.book; asks = asked.0 }) outline = cc (asked.2) in
+    subst IsOutlineWithin same (within.0, asks_within at.0.target fields body asked.0 within.1 asked.1)
 
 -- a request is within the limits of its parts
 abbrev IsWithin : Request → Type 0

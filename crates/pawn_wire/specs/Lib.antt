@@ -11,7 +11,7 @@ pub mod Limits
 pub mod Member
 pub mod Named
 pub mod Numeral
-pub mod Place
+pub mod Target
 pub mod Receipts
 pub mod Request
 pub mod Route

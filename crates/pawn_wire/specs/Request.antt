@@ -8,7 +8,7 @@ use Rattle.pawn_wire.specs.Chain.{OrMemory, after, or_fault}
 use Rattle.pawn_wire.specs.Common.{BookRows, Broker, CsvFault, Import, Request, first_of, Cause}
 use Rattle.pawn_wire.specs.Fields.{Pair}
 use Rattle.pawn_wire.specs.Head.{ReadsHead, fields_of, length_by, field_faults}
-use Rattle.pawn_wire.specs.Place.{method_of, place_of}
+use Rattle.pawn_wire.specs.Target.{method_of, target_of}
 use Rattle.pawn_wire.specs.Types.{Asks, Csv, NoRoute, Outline, WireFault, WrongMethod}
 use Rattle.std.specs.Prelude.{◌≡◌, ◌≢◌, ℕ, ◌⊎◌, ◌==◌, Bool, not, List, [], ◌∷◌, ◌++◌, map, length, bytes_eq, unwrap_or}
 use Rattle.std.specs.Prelude.{Result, Ok, Err}
@@ -25,10 +25,10 @@ framing_faults fields body =
 abbrev pub outline_by : List ℕ → List ℕ → List Pair → List ℕ → Result Outline WireFault
 outline_by method target fields body =
     first_of (framing_faults fields body)
-    (after (or_fault NoRoute (place_of target))
-    (λ place. first_of ((not (bytes_eq (method_of place.target) method), WrongMethod) ∷ [])
-    (after (asks_said place.target fields body)
-    (λ asks. Ok (record { book = place.book; asks = asks })))))
+    (after (or_fault NoRoute (target_of target))
+    (λ asked. first_of ((not (bytes_eq (method_of asked.target) method), WrongMethod) ∷ [])
+    (after (asks_said asked.target fields body)
+    (λ asks. Ok (record { book = asked.book; asks = asks })))))
 
 -- the book that a body holds as a text, with or without a byte order mark, or the text's first fault
 abbrev pub HoldsRows : List ℕ → Result BookRows WireFault → Type 0

@@ -10,10 +10,10 @@ pub use Rattle.pawn_wire.specs.declared.fields.Fields.{Fields}
 pub use Rattle.pawn_wire.specs.declared.fields.Found.{Found}
 pub use Rattle.pawn_wire.specs.declared.fields.Found.TheVariants.{Missing, One, Several}
 pub use Rattle.pawn_wire.specs.declared.head.HeadFacts.{HeadFacts}
-pub use Rattle.pawn_wire.specs.declared.place.Place.{Place}
-pub use Rattle.pawn_wire.specs.declared.place.Target.{Target}
-pub use Rattle.pawn_wire.specs.declared.place.Target.TheVariants.{Create, PutTerms, TakePledge, Show, OnPledge, ShowDay}
-pub use Rattle.pawn_wire.specs.declared.place.Target.TheVariants.{Export, Import, Present, OnReceipt}
+pub use Rattle.pawn_wire.specs.declared.target.BookTarget.{BookTarget}
+pub use Rattle.pawn_wire.specs.declared.target.Target.{Target}
+pub use Rattle.pawn_wire.specs.declared.target.Target.TheVariants.{Create, PutTerms, TakePledge, Show, OnPledge, ShowDay}
+pub use Rattle.pawn_wire.specs.declared.target.Target.TheVariants.{Export, Import, Present, OnReceipt}
 pub use Rattle.pawn_wire.specs.declared.request.Outline.{Outline}
 pub use Rattle.pawn_wire.specs.declared.route.BearerAction.{BearerAction}
 pub use Rattle.pawn_wire.specs.declared.route.BrokerAction.{BrokerAction}

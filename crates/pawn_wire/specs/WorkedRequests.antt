@@ -8,11 +8,11 @@ use Rattle.pawn_wire.specs.Fields.{Pair}
 use Rattle.pawn_wire.specs.Limits.{most_head, most_fields, most_body, most_digits, most_numeral}
 use Rattle.pawn_wire.specs.Member.{body_said}
 use Rattle.pawn_wire.specs.Named.{number_said, day_said}
-use Rattle.pawn_wire.specs.Place.{place_of}
+use Rattle.pawn_wire.specs.Target.{target_of}
 use Rattle.pawn_wire.specs.Receipts.{receipt_values, receipt_said, receipts_said, one_said}
 use Rattle.pawn_wire.specs.Request.{outline_by}
 use Rattle.pawn_wire.specs.Types.{Asks, BadBody, BadKey, BadReceipt, BearerAction, BrokerAction, Create, Export, Import}
-use Rattle.pawn_wire.specs.Types.{NoReceipt, NoRoute, OnPledge, OnReceipt, Place, Present, PutTerms, Show, ShowDay}
+use Rattle.pawn_wire.specs.Types.{NoReceipt, NoRoute, OnPledge, OnReceipt, BookTarget, Present, PutTerms, Show, ShowDay}
 use Rattle.pawn_wire.specs.Types.{TakePledge, Target, TooManyReceipts, WireFault, WrongMethod}
 use Rattle.pawn_wire.specs.WorkedHeads.{chunked_coding, tells_length}
 use Rattle.std.specs.Prelude.{◌≡◌, ℕ, List, [], ◌∷◌, codes, replicate, false, true, Option, Some, None, Ok, Err}
@@ -31,43 +31,43 @@ WorkedLimits =
     × (most_numeral ≡ 999999999999)
 
 -- what is asked of a book
-abbrev pub of_book : ℕ → Target → Option Place
+abbrev pub of_book : ℕ → Target → Option BookTarget
 of_book book target = Some (record { book = book; target = target })
 
 -- what is asked by targets
 abbrev pub WorkedTargets : Type 0
 WorkedTargets =
-    (place_of (codes "/books/7") ≡ of_book 7 Create)
-    × (place_of (codes "/books/7/terms") ≡ of_book 7 PutTerms)
-    × (place_of (codes "/books/12/pledges") ≡ of_book 12 TakePledge)
-    × (place_of (codes "/books/12/pledges/3") ≡ of_book 12 (Show 3))
-    × (place_of (codes "/books/7/pledges/12/draw") ≡ of_book 7 (OnPledge 12 BrokerAction.Draw))
-    × (place_of (codes "/books/7/pledges/12/extend") ≡ of_book 7 (OnPledge 12 BrokerAction.Extend))
-    × (place_of (codes "/books/7/days/2024-02-29") ≡ of_book 7 (ShowDay (date 2024 2 29)))
-    × (place_of (codes "/books/7/days/2199-12-31") ≡ of_book 7 (ShowDay (date 2199 12 31)))
-    × (place_of (codes "/books/7/export") ≡ of_book 7 Export)
-    × (place_of (codes "/books/7/import") ≡ of_book 7 Import)
-    × (place_of (codes "/books/7/held") ≡ of_book 7 Present)
-    × (place_of (codes "/books/7/held/redeem") ≡ of_book 7 (OnReceipt BearerAction.Redeem))
+    (target_of (codes "/books/7") ≡ of_book 7 Create)
+    × (target_of (codes "/books/7/terms") ≡ of_book 7 PutTerms)
+    × (target_of (codes "/books/12/pledges") ≡ of_book 12 TakePledge)
+    × (target_of (codes "/books/12/pledges/3") ≡ of_book 12 (Show 3))
+    × (target_of (codes "/books/7/pledges/12/draw") ≡ of_book 7 (OnPledge 12 BrokerAction.Draw))
+    × (target_of (codes "/books/7/pledges/12/extend") ≡ of_book 7 (OnPledge 12 BrokerAction.Extend))
+    × (target_of (codes "/books/7/days/2024-02-29") ≡ of_book 7 (ShowDay (date 2024 2 29)))
+    × (target_of (codes "/books/7/days/2199-12-31") ≡ of_book 7 (ShowDay (date 2199 12 31)))
+    × (target_of (codes "/books/7/export") ≡ of_book 7 Export)
+    × (target_of (codes "/books/7/import") ≡ of_book 7 Import)
+    × (target_of (codes "/books/7/held") ≡ of_book 7 Present)
+    × (target_of (codes "/books/7/held/redeem") ≡ of_book 7 (OnReceipt BearerAction.Redeem))
 
 -- texts that are no target: a number or a day is malformed or in another spelling, or a part is missing or added
 abbrev pub WorkedNoTargets : Type 0
 WorkedNoTargets =
-    (place_of (codes "/books/07/held") ≡ None)
-    × (place_of (codes "/books/7/pledges/03") ≡ None)
-    × (place_of (codes "/books/7/pledges/x/draw") ≡ None)
-    × (place_of (codes "/books/07/days/2024-02-29") ≡ None)
-    × (place_of (codes "/books/7/days/2024-02-30") ≡ None)
-    × (place_of (codes "/books/7/days/2024-2-29") ≡ None)
-    × (place_of (codes "/books/7/days/2200-01-01") ≡ None)
-    × (place_of (codes "/books/7/days/12") ≡ None)
-    × (place_of (codes "/books/7/days") ≡ None)
-    × (place_of (codes "/books/7/pledges/2024-02-29") ≡ None)
-    × (place_of (codes "/books/7/held/") ≡ None)
-    × (place_of (codes "/books/7/held?x=1") ≡ None)
-    × (place_of (codes "/books/7/held/nope") ≡ None)
-    × (place_of (codes "/Books/7") ≡ None)
-    × (place_of (codes "/") ≡ None)
+    (target_of (codes "/books/07/held") ≡ None)
+    × (target_of (codes "/books/7/pledges/03") ≡ None)
+    × (target_of (codes "/books/7/pledges/x/draw") ≡ None)
+    × (target_of (codes "/books/07/days/2024-02-29") ≡ None)
+    × (target_of (codes "/books/7/days/2024-02-30") ≡ None)
+    × (target_of (codes "/books/7/days/2024-2-29") ≡ None)
+    × (target_of (codes "/books/7/days/2200-01-01") ≡ None)
+    × (target_of (codes "/books/7/days/12") ≡ None)
+    × (target_of (codes "/books/7/days") ≡ None)
+    × (target_of (codes "/books/7/pledges/2024-02-29") ≡ None)
+    × (target_of (codes "/books/7/held/") ≡ None)
+    × (target_of (codes "/books/7/held?x=1") ≡ None)
+    × (target_of (codes "/books/7/held/nope") ≡ None)
+    × (target_of (codes "/Books/7") ≡ None)
+    × (target_of (codes "/") ≡ None)
 
 -- a number is from 1 to 999,999,999, in its only spelling
 abbrev pub WorkedPathNumbers : Type 0

@@ -7,8 +7,8 @@ ghost use Rattle.pawn_wire.specs.Types.{TakePledge};
 ghost use Rattle.std.specs.Prelude.{◌≡◌, codes};
 
 use crate::fields::{Fields, Found};
-use crate::place::Target;
 use crate::route::{BearerAction, BrokerAction};
+use crate::target::Target;
 use crate::{body, commands, member, receipts};
 use pawn_book::{BearerRequest, BrokerRequest, Caller, Number, RequestDay, Secret, View};
 use pawn_reply::WireFault;

@@ -10,11 +10,11 @@ mod laws;
 mod limits;
 mod member;
 mod numeral;
-mod place;
 mod receipts;
 mod request;
 mod route;
 mod router;
+mod target;
 mod worked;
 
 pub use head::{HeadFacts, HeadRead, read_head};

@@ -9,8 +9,8 @@ use crate::callers::{Asks, Sent, who_asks};
 use crate::fields::Fields;
 use crate::head::body_length;
 use crate::limits::{MOST_FIELDS, MOST_HEAD};
-use crate::place::place_of;
 use crate::router::Router;
+use crate::target::target_of;
 use httparse::Status;
 use httparse::spans::{EMPTY_HEADER_SPAN, parse_request};
 use pawn_book::{BrokerRequest, Caller, Number, Request, Secret};
@@ -39,15 +39,15 @@ fn outline_by(
     if length != sent.body.len() {
         return Err(WireFault::BadLength);
     }
-    let Some(place) = place_of(router, target) else {
+    let Some(asked) = target_of(router, target) else {
         return Err(WireFault::NoRoute);
     };
-    if !place.target.takes(method) {
+    if !asked.target.takes(method) {
         return Err(WireFault::WrongMethod);
     }
-    let asks = who_asks(alloc, place.target, sent)?;
+    let asks = who_asks(alloc, asked.target, sent)?;
     Ok(Outline {
-        book: place.book,
+        book: asked.book,
         asks,
     })
 }

@@ -24,4 +24,4 @@ pub returns-in-Ok-Some-clause-reads : goal.returns-in-Ok-Some-clause-reads
 returns-in-Ok-Some-clause-reads g c = reads_as c.find_reference.ensures.reads (λ h found sound at is heads.
     subst (λ p. Plans h c.args.book (take_pledge at c.args.book c.args.opening.now c.args.stamp.now p) c.plan_again.result)
     (ok_is (c.in-Ok-Some.is ∙ ap Ok c.in-Ok-Some.field-0-is) (found sound) ∙ ap (λ o. with_reference (pledges_of o) c.args.opening.now.reference) is)
-    (c.plan_again.ensures.told h c.args.book at c.args.stamp.now))
+    (c.plan_again.ensures.plans h c.args.book at c.args.stamp.now))

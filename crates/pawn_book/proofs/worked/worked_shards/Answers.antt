@@ -2,7 +2,7 @@ use Rattle.pawn_base.proofs.ListLemmas.{no_elements}
 use Rattle.pawn_book.specs.BookStep.{BookValue, Makes, Outcome, Refuses, Says, book_step, changed_book, out_of}
 use Rattle.pawn_book.specs.Books.{Full, Request}
 use Rattle.pawn_book.specs.Common.{Stamp}
-use Rattle.pawn_book.specs.HostStep.{Host, book_rows, host_after, host_step, with_book, within_limit}
+use Rattle.pawn_book.specs.HostStep.{Host, book_row_count, host_after, host_step, with_book, within_limit}
 use Rattle.pawn_book.specs.Runs.{Said, Answered}
 use Rattle.pawn_book.specs.Shards.{handed}
 use Rattle.pawn_book.specs.WorkedShards.{a_ring, asked, book_of, first_shard, of_seven, one_host, second_shard, shard}
@@ -40,7 +40,7 @@ with_limit h b None = refl
 with_limit h b (Some book) = refl
 
 abbrev listed_rows : Books → ℕ
-listed_rows es = sum_by book_rows (map (λ (e : ℕ × BookValue). e.1) es)
+listed_rows es = sum_by book_row_count (map (λ (e : ℕ × BookValue). e.1) es)
 
 abbrev listed_within : Books → ℕ → ℕ → Outcome → Outcome
 listed_within es limit b (Refuses why) = Refuses why

@@ -31,7 +31,7 @@ returns-in-Ok-clause-migrates g c = went (state g.S.Store c.args.conn.now) (stat
 
 pub returns-in-Err-move_store-clause-migrates : goal.returns-in-Err-move_store-clause-migrates
 returns-in-Err-move_store-clause-migrates g c =
-    rw c.unmoved.ensures.told (failed (state g.S.Store c.args.conn.now) (state g.S.Store c.schema_of.new.conn) (λ now trees left. g.met.S.Store.settled _ trees
+    rw c.unmoved.ensures.value (failed (state g.S.Store c.args.conn.now) (state g.S.Store c.schema_of.new.conn) (λ now trees left. g.met.S.Store.settled _ trees
     now left) (state g.S.Store c.move_store.new.conn) c.in_ok-from.from c.in-Err-move_store.error c.in_ok-from.ensures.tells c.in-Err-move_store.ensures.moves)
 
 pub returns-then-from-eq-SCHEMA-clause-checks : goal.returns-then-from-eq-SCHEMA-clause-checks

@@ -6,5 +6,5 @@ returns-in-Ok-clause-kept g c clean h committed = closes c.args.conn c.in-Ok.fil
 
 pub returns-in-Err-clause-refuses : goal.returns-in-Err-clause-refuses
 returns-in-Err-clause-refuses g c = unclosed c.args.conn c.in-Err.store c.in-Err.error c.opening_fault.result c.opening_fault.ensures.store
-    c.opening_fault.ensures.told
+    c.opening_fault.ensures.out_of_memory
     c.in-Err.ensures.err.0 c.in-Err.ensures.err.1

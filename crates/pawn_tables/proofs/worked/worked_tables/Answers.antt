@@ -1,4 +1,4 @@
-use Rattle.pawn_book.specs.HostStep.{book_rows}
+use Rattle.pawn_book.specs.HostStep.{book_row_count}
 use Rattle.pawn_debt.specs.Due.{due_after}
 use Rattle.pawn_tables.proofs.Basics.{nil_from_length}
 use Rattle.pawn_tables.specs.Common.{empty, entries, nat_cmp, Row, PledgeValue, BookValue}
@@ -40,7 +40,7 @@ returns c = record {
     bookings = of_ring booking_listed;
     extensions = of_ring extensions_listed;
     totals = of_ring totals_listed;
-    notes = ap (λ es. meta_rows (sum_by book_rows (map (λ (e : ℕ × BookValue). e.1) es)) 1000) only;
+    notes = ap (λ es. meta_rows (sum_by book_row_count (map (λ (e : ℕ × BookValue). e.1) es)) 1000) only;
     key = refl;
     no_entry = refl;
     no_booking = refl;

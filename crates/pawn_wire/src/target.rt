@@ -1,6 +1,6 @@
 //! What is asked by the target of a request.
 ghost use Rattle.pawn_wire.specs.Named.{number_said};
-ghost use Rattle.pawn_wire.specs.Place.{is_ascii_text, method_of, place_of, target_said};
+ghost use Rattle.pawn_wire.specs.Target.{is_ascii_text, method_of, target_of, target_said};
 ghost use Rattle.std.specs.Prelude.{◌≡◌, bytes_eq, option_copied};
 
 use crate::member;
@@ -65,7 +65,7 @@ impl Target {
 
 /// A book, and what is asked of it.
 #[derive(Clone, Copy)]
-pub(crate) struct Place {
+pub(crate) struct BookTarget {
     pub book: Number,
     pub target: Target,
 }
@@ -104,8 +104,8 @@ fn target_said(endpoint: Endpoint, item: Option<&str>) -> Option<Target>
 }
 
 /// Returns what a target asks for. `None` if the service has no such target.
-pub(crate) fn place_of(router: &Router, target: &[u8]) -> Option<Place>
-    ensures value { result ≡ place_of target.now }
+pub(crate) fn target_of(router: &Router, target: &[u8]) -> Option<BookTarget>
+    ensures value { result ≡ target_of target.now }
 {
     if !is_ascii_text(target) {
         return None;
@@ -116,5 +116,5 @@ pub(crate) fn place_of(router: &Router, target: &[u8]) -> Option<Place>
     let asked = router.find(text)?;
     let book = number_said(asked.book?)?;
     let target = target_said(asked.endpoint, asked.item)?;
-    Some(Place { book, target })
+    Some(BookTarget { book, target })
 }

@@ -2,7 +2,7 @@
 use Rattle.pawn_wire.specs.Chain.{and_then}
 use Rattle.pawn_wire.specs.Named.{number_said, day_said}
 use Rattle.pawn_wire.specs.Route.{AskedFor, route_of}
-use Rattle.pawn_wire.specs.Types.{Create, Endpoint, Export, Import, OnPledge, OnReceipt, Place, Present, PutTerms, Show}
+use Rattle.pawn_wire.specs.Types.{Create, Endpoint, Export, Import, OnPledge, OnReceipt, BookTarget, Present, PutTerms, Show}
 use Rattle.pawn_wire.specs.Types.{ShowDay, TakePledge, Target}
 use Rattle.std.specs.List.{list_all}
 use Rattle.std.specs.Prelude.{ℕ, nat_lt, Bool, List, codes, if◌then◌else◌, Option, Some, None, option_map}
@@ -37,11 +37,11 @@ target_said Endpoint.Present item = Some Present
 target_said (Endpoint.OnReceipt action) item = Some (OnReceipt action)
 
 -- the book of a target, and what is asked of it
-abbrev pub place_asked : AskedFor → Option Place
-place_asked asked =
+abbrev pub target_asked : AskedFor → Option BookTarget
+target_asked asked =
     and_then (and_then asked.book number_said)
     (λ book. option_map (λ target. record { book = book; target = target }) (target_said asked.endpoint asked.item))
 
 -- what is asked by a target; a target that is not ASCII does not exist
-abbrev pub place_of : List ℕ → Option Place
-place_of target = if is_ascii_text target then and_then (route_of target) place_asked else None
+abbrev pub target_of : List ℕ → Option BookTarget
+target_of target = if is_ascii_text target then and_then (route_of target) target_asked else None

@@ -2,7 +2,7 @@ use Rattle.pawn_wire.specs.Common.{IsAscii}
 use Rattle.std.proofs.Common.{arith}
 use Rattle.std.proofs.lemmas.Grind.{common_steps}
 use Rattle.std.proofs.lemmas.Str.{IsUtf8-from_ascii}
-use Rattle.pawn_wire.proofs.place.place_of.Goals as goal
+use Rattle.pawn_wire.proofs.target.target_of.Goals as goal
 
 pub returns-in_default : goal.returns-in_default
 returns-in_default c =

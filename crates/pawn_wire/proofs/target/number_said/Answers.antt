@@ -1,7 +1,7 @@
 use Rattle.pawn_wire.proofs.NamedLemmas.{number_said-of}
 use Rattle.pawn_wire.specs.Named.{number_said}
 use Rattle.std.proofs.Common.{ap, ◌∙◌}
-use Rattle.pawn_wire.proofs.place.number_said.Goals as goal
+use Rattle.pawn_wire.proofs.target.number_said.Goals as goal
 
 pub returns : goal.returns
 returns c = record {
