@@ -46,7 +46,8 @@ sum_put f k v (e ∷ es) h = from (sum_put f k v es (both_told _ (is_sorted nat_
   from rest Greater is = rw is (omega (arith, rest, sum_by-cons f e.1 (map (λ x. x.1) es), sum_by-cons f e.1 (map (λ x. x.1) (put nat_cmp k v es))))
 
 -- the rows with a book set: those of the others, and its own
-pub rows-with_book : (h : Host) (b : ℕ) (book : BookValue) → rows (with_book h b (Some book)) + part book_row_count (get h.books b) ≡ rows h + book_row_count book
+pub rows-with_book : (h : Host) (b : ℕ) (book : BookValue)
+    → rows (with_book h b (Some book)) + part book_row_count (get h.books b) ≡ rows h + book_row_count book
 rows-with_book h b book =
     let put_in = sum_put book_row_count b book (entries h.books) (entries_sorted h.books) in
     ap (λ es. sum_by book_row_count (map (λ e. e.1) es) + part book_row_count (get h.books b)) (entries-insert nat_cmp_total h.books b book)

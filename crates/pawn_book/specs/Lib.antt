@@ -23,6 +23,7 @@ pub mod Shards
 pub mod WorkedSlots
 pub mod WorkedShards
 pub mod WorkedImports
+pub mod WorkedVersions
 pub mod Common
 pub mod Books
 pub mod WorkedLimits

@@ -129,3 +129,4 @@ pub use worked::worked_imports;
 pub use worked::worked_limits;
 pub use worked::worked_shards;
 pub use worked::worked_slots;
+pub use worked::worked_versions;

@@ -279,7 +279,8 @@ one_is_left h a books pledges left before last some = go (get h.books 0) refl wh
   go : (o : Option BookValue) → get h.books 0 ≡ o → HasUnsoundBook h
   go (Some k) is = (0, (k, is, λ sound. absurd (let low = sound.0.0 in omega (arith, low))))
   go None none =
-      let all = all_met book_row_count a (entries h.books) (entries_sorted h.books) (λ b x at. last b x (there h b x at)) (sym (get-entries h.books 0) ∙ none) in
+      let all = all_met book_row_count a (entries h.books) (entries_sorted h.books) (λ b x at. last b x (there h b x at))
+      (sym (get-entries h.books 0) ∙ none) in
       let sum = rows_are h in
       absurd (omega (arith, all, sum, before.left_are, some))
 

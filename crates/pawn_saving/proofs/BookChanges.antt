@@ -50,7 +50,8 @@ module _ (h : Host) (b : ℕ) (new : NewBook) (none : get h.books b ≡ None) (c
       → IsWrittenPart h grown db 1
   made_written db is l = record {
     lists = subst (ListsHost db grown) is (relisted db _ _ made_same l);
-    grown = let sums = rows-with_book h b made in let before : part book_row_count (get h.books b) ≡ 0 = ap (part book_row_count) none in omega (arith, sums, before);
+    grown = let sums = rows-with_book h b made in
+        let before : part book_row_count (get h.books b) ≡ 0 = ap (part book_row_count) none in omega (arith, sums, before);
   }
 
 -- ---- the row of a book, and those of the others

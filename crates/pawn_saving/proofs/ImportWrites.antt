@@ -80,8 +80,9 @@ pub record ArePledgesPut (old new : State) (b : ℕ) (ps : List PledgeValue) (i 
 
 pub one_pledge_put : (old mid new : State) (b i counted added sum : ℕ) (ps : List PledgeValue) (p : PledgeValue) → i < length ps → p ≡ get_or ps i p
     → sum ≡ counted + added → ArePledgesPut old mid b ps i counted → IsLent mid new true
-    → (HasCleanDisk new → IsTrue mid.in_transaction → (listed : Listed) → filter (at_pledge b (number_in_book p)) (listed bookings_tree) ≡ [] → ListsOurs
-    mid.now listed → (added ≡ pledge_row_count p) × ListsOurs new.now (beside (whole_pledge b (number_in_book p) p) listed)) → ArePledgesPut old new b ps (i + 1) sum
+    → (HasCleanDisk new → IsTrue mid.in_transaction → (listed : Listed) → filter (at_pledge b (number_in_book p)) (listed bookings_tree) ≡ []
+    → ListsOurs mid.now listed → (added ≡ pledge_row_count p) × ListsOurs new.now (beside (whole_pledge b (number_in_book p) p) listed))
+    → ArePledgesPut old new b ps (i + 1) sum
 one_pledge_put old mid new b i counted added sum ps p lt is sums put lent wrote = record {
   carried = carried_then old mid new true put.carried lent;
   wrote = λ clean within listed none numbered l.
@@ -89,7 +90,8 @@ one_pledge_put old mid new b i counted added sum ps p lt is sums put lent wrote 
       let one = wrote clean (put.carried.inside was within refl) (beside (whole_pledges b (take i ps)) listed)
       (next_unbooked b ps i p (listed bookings_tree) none numbered lt is) so_far.1 in
       let before = so_far.0 in let more = one.0 in
-      let longer : sum_by pledge_row_count (take (i + 1) ps) ≡ sum_by pledge_row_count (take i ps) + pledge_row_count p = ap (sum_by pledge_row_count) (until ps i p lt is)
+      let longer : sum_by pledge_row_count (take (i + 1) ps) ≡ sum_by pledge_row_count (take i ps) + pledge_row_count p =
+      ap (sum_by pledge_row_count) (until ps i p lt is)
       ∙ sum_by_push pledge_row_count (take i ps) p in
       (omega (arith, sums, before, more, longer), one_beside b ps i p lt is listed new.now one.1);
 }
@@ -154,7 +156,8 @@ module _ (h : Host) (b key : ℕ) (k : BookValue) (brought : BookRows) (is : get
     filled_written db added same many l = subst (λ g. IsWrittenPart h g db added) (sym is_changed) (record {
       lists = subst (ListsHost db changed) same (relisted db (listed_as changed counted) (beside (whole_pledges b brought.pledges) with_terms) filled_same l);
       grown = let sums = rows-with_book h b filled in
-          let before : part book_row_count (get h.books b) ≡ 1 = ap (part book_row_count) is ∙ (λ i. 1 + length (empty.terms i) + sum_by pledge_row_count (empty.pledges i)) in
+          let before : part book_row_count (get h.books b) ≡ 1 =
+          ap (part book_row_count) is ∙ (λ i. 1 + length (empty.terms i) + sum_by pledge_row_count (empty.pledges i)) in
           omega (arith, sums, before, many);
     })
 

@@ -158,6 +158,7 @@ module _ (h : Host) (b n : ℕ) (k : BookValue) (old p : PledgeValue) (is : get 
           let own = subst (λ m. ListsOurs db (beside (lists_past l b m p) (with_related b m p others (listed_as h counted)))) (sym named) lists in
           subst (λ x. IsWrittenPart h x db added) (sym (is_changed h b n k p is)) (record {
             lists = subst (ListsHost db g) same (relisted db _ _ renewed_same own);
-            grown = let sums = rows_put h b n k p is in let before : part pledge_row_count (stood h b n k p is) ≡ pledge_row_count old = ap (part pledge_row_count) some in
+            grown = let sums = rows_put h b n k p is in
+                let before : part pledge_row_count (stood h b n k p is) ≡ pledge_row_count old = ap (part pledge_row_count) some in
                 omega (arith, sums, before, more);
           })

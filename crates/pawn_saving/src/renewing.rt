@@ -51,7 +51,8 @@ fn set_related<S: Alter>(
 /// How many more counted rows a pledge has than are stored of it. `DATABASE_FAILED` if it has fewer, or if a booking is
 /// stored and the pledge has none: no command removes a booking.
 fn rows_added(stored: Stored, pledge: &Pledge) -> Result<u32, KeepError>
-    ensures value { IfOk result (λ added. (before : PledgeValue) → IsStored stored (Some before) → pledge_row_count pledge.now ≡ pledge_row_count before + added) }
+    ensures value { IfOk result (λ added. (before : PledgeValue) → IsStored stored (Some before)
+        → pledge_row_count pledge.now ≡ pledge_row_count before + added) }
     ensures booked { IfOk result (λ added. (before : PledgeValue) → IsStored stored (Some before)
         → pledge.now.standing.booking ≡ None → before.standing.booking ≡ None) }
 {

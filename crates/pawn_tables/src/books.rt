@@ -68,7 +68,8 @@ pub fn next_in<S: Alter>(
     above: u32,
 ) -> Result<Option<Number>, KeepError>
     ensures finds { FindsBy S.Store tx.old.conn tx.new.conn HasUnsoundBook result (λ h next. IsNextBook h above next) }
-    ensures finds_debts { FindsOf ListDebts HasUnsoundBook (state S.Store tx.old.conn.now) (state S.Store tx.new.conn.now) result (λ h next. IsNextBook h above next) }
+    ensures debts { FindsOf ListDebts HasUnsoundBook (state S.Store tx.old.conn.now) (state S.Store tx.new.conn.now) result
+        (λ h next. IsNextBook h above next) }
     ensures lent { Lends S.Store tx.old.conn tx.new.conn (is_ok result) }
 {
     let rows = run_query(tx, FIND_NEXT_BOOK, params![above])?;

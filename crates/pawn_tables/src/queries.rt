@@ -50,7 +50,7 @@ pub fn entries_in<S: Alter>(
     number: u32,
 ) -> Result<Entries, KeepError>
     ensures finds { FindsBy S.Store tx.old.conn tx.new.conn (IsUnsoundAt book) result (λ h x. x ≡ entries_of (pledge_in (get h.books book) number)) }
-    ensures finds_debts { FindsOf ListDebts (IsUnsoundAt book) (state S.Store tx.old.conn.now) (state S.Store tx.new.conn.now) result
+    ensures debts { FindsOf ListDebts (IsUnsoundAt book) (state S.Store tx.old.conn.now) (state S.Store tx.new.conn.now) result
         (λ h x. x ≡ entries_of (pledge_in (get h.books book) number)) }
     ensures lent { Lends S.Store tx.old.conn tx.new.conn (is_ok result) }
 {
@@ -120,7 +120,7 @@ pub fn terms_in<S: Alter>(
     version: u32,
 ) -> Result<Option<Terms>, KeepError>
     ensures finds { FindsBy S.Store tx.old.conn tx.new.conn (IsUnsoundAt book) result (λ h x. x ≡ terms_at (terms_of (get h.books book)) version) }
-    ensures finds_debts { FindsOf ListDebts (IsUnsoundAt book) (state S.Store tx.old.conn.now) (state S.Store tx.new.conn.now) result
+    ensures debts { FindsOf ListDebts (IsUnsoundAt book) (state S.Store tx.old.conn.now) (state S.Store tx.new.conn.now) result
         (λ h x. x ≡ terms_at (terms_of (get h.books book)) version) }
     ensures lent { Lends S.Store tx.old.conn tx.new.conn (is_ok result) }
 {

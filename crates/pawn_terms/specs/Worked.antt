@@ -51,6 +51,7 @@ WorkedTerms =
     (terms_answer (rates_of 20000 10000000 10000000) ≡ Ok (rates_of 20000 10000000 10000000))
     × (terms_answer (rates_of 20001 0 0) ≡ Err RateTooHigh)
     × (terms_answer (rates_of 0 10000001 0) ≡ Err KeepTooHigh)
+    × (terms_answer (rates_of 0 5 10000001) ≡ Err KeepTooHigh)
     × (terms_answer (rates_of 0 5 5) ≡ Ok (rates_of 0 5 5))
     × (terms_answer (rates_of 0 5 6) ≡ Err KeepingRate)
     × (terms_answer (rates_of 20001 10000001 10000002) ≡ Err RateTooHigh)
