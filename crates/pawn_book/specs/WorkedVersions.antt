@@ -12,7 +12,7 @@ use Rattle.std.specs.Prelude.{◌≡◌, ℕ, Result, Ok, Err}
 abbrev pub putting : ℕ → ℕ → ℕ → Result Rates Refusal
 putting versions version rate = next_terms versions (record { version = version; rates = rates_of rate 0 0 })
 
--- versions are counted from 1, without gaps, to 99
+-- versions are counted from 1, without gaps, up to the greatest
 pub record WorkedVersions : Type 0 where
   pub first : putting 0 1 20000 ≡ Ok (rates_of 20000 0 0)
   pub none : putting 0 0 20000 ≡ Err TermsSeq
