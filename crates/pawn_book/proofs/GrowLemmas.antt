@@ -109,9 +109,9 @@ put_grows book n p q stamp command done at step = record {
   imported = λ imported is. is;
 }
 
-step_grows : (book : BookValue) (b n : ℕ) (p : PledgeValue) (stamp : Stamp) (command : Command) → pledge_from 1 book.pledges n ≡ Some p
+result_grows : (book : BookValue) (b n : ℕ) (p : PledgeValue) (stamp : Stamp) (command : Command) → pledge_from 1 book.pledges n ≡ Some p
     → GrowsTo book (book_after (Some book) (outcome_of_step b n (pledge_step p stamp command)))
-step_grows book b n p stamp command at = from (pledge_step p stamp command) refl where
+result_grows book b n p stamp command at = from (pledge_step p stamp command) refl where
   from : (j : StepResult) → pledge_step p stamp command ≡ j → GrowsTo book (book_after (Some book) (outcome_of_step b n j))
   from (Refused why) step = stays book
   from (Answered done) step = stays book
@@ -127,13 +127,13 @@ number_grows : (book : BookValue) (b n : ℕ) (stamp : Stamp) (command : Command
     → GrowsTo book (book_after (Some book) (broker_commands book b n stamp command o))
 number_grows book b n stamp command None at = stays book
 number_grows book b n stamp command (Some p) at =
-    window_grows book (outcome_of_step b n (pledge_step p stamp command)) (step_grows book b n p stamp command at)
+    window_grows book (outcome_of_step b n (pledge_step p stamp command)) (result_grows book b n p stamp command at)
 
 receipt_grows : (book : BookValue) (b : ℕ) (r : Receipt) (stamp : Stamp) (command : Command) (o : Option PledgeValue) → live_at (pledge_in (Some book)) r ≡ o
     → GrowsTo book (book_after (Some book) (bearer_commands b r.number stamp command o))
 receipt_grows book b r stamp command None at = stays book
 receipt_grows book b r stamp command (Some p) at =
-    step_grows book b r.number p stamp command (live_is r.secret (pledge_from 1 book.pledges r.number) p (sym at))
+    result_grows book b r.number p stamp command (live_is r.secret (pledge_from 1 book.pledges r.number) p (sym at))
 
 shown_stays : (book : BookValue) (stamp : Stamp) (o : Option PledgeValue) → GrowsTo book (book_after (Some book) (show_pledge stamp o))
 shown_stays book stamp None = stays book
