@@ -51,6 +51,8 @@ class Copy:
             self.books = {int(book): it for book, it in note["books"].items()}
             # The copy before, if that one held more though no command took anything out.
             self.less_than = note.get("less_than")
+            # The folder of the copy whose books it has, if a command made it of one.
+            self.made_of = note.get("made_of")
         except (OSError, ValueError, KeyError, TypeError, AttributeError) as why:
             raise Stop(f"{folder} is not a finished copy: {NOTE} in it cannot be read ({why})") from None
         if not os.path.exists(self.path):
@@ -197,6 +199,8 @@ def describe(part, name, source=None, books=(), before=None):
         "bytes": {os.path.basename(it): os.path.getsize(it) for it in files_of_store(path)},
         "books": sums,
     }
+    if source:
+        note["made_of"] = source.folder
     if before and any(counts[it] < before.counts[it] for it in counts):
         note["less_than"] = before.name
     write_note(os.path.join(part, NOTE), note)
