@@ -6,6 +6,7 @@ import socket
 
 import replicas
 import services
+from copies import forget_failed_check
 from files import (
     BLOCK, LOG, copy_bytes, copy_store, files_of_store, open_plain, owner_of, replaced, room_for, room_in, sync,
     work_prefix, write_whole,
@@ -80,6 +81,7 @@ def put_in_place(name, new, old_is_sound=True):
                 os.unlink(it)
         sync(STORES, folder)
         put_file(name, new)
+    forget_failed_check(name)
 
 
 def put_folded(name, locked):

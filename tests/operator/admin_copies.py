@@ -114,6 +114,39 @@ def a_store_that_is_damaged():
         expect("the copies", copies(it), [])
 
 
+def a_damaged_book_of_a_store_that_is_served():
+    """The message names the section for it. The status says so until a copy is good again, though there is a copy of
+    before, which is then put back."""
+    with Machine() as it:
+        caller = it.book(7, pledges=3)
+        it.admin("copy", "main")
+        change_by_hand(it, "UPDATE totals SET principal = principal + 1")
+        said = it.admin("copy", "main", wanted=1)
+        expect(f"what it says: {said}", "fault 513 Damaged" in said and "OPERATING.md, `A damaged book`" in said, True)
+        for _ in range(2):
+            wrong = it.status()["wrong"]
+            expect(f"what is wrong: {wrong}", [("fault 513 Damaged" in it, "`A damaged book`" in it) for it in wrong],
+                   [(True, True)])
+        change_by_hand(it, "UPDATE totals SET principal = principal - 1")
+        it.admin("copy", "main")
+        expect("what is wrong with it as it was", it.status()["wrong"], [])
+        change_by_hand(it, "UPDATE totals SET principal = principal + 1")
+        it.admin("copy", "main", wanted=1)
+        it.admin("restore", "main", "newest")
+        expect("what is wrong after a copy was put back", it.status()["wrong"], [])
+        caller.look_up()
+        expect("what commands left", it.leftovers(), [])
+
+
+def change_by_hand(machine, statement):
+    machine.systemctl("stop", "pawnd@main")
+    tables = sqlite3.connect(machine.path("main"), isolation_level=None)
+    tables.execute(statement)
+    tables.close()
+    machine.systemctl("start", "pawnd@main")
+    machine.await_store("main")
+
+
 def a_copy_may_be_looked_into():
     """SQLite and the program bring the log of a copy into its database. It is the same copy then, and is put back; one
     of whose rows one was changed is not."""
@@ -364,6 +397,7 @@ if __name__ == "__main__":
         a_log_that_is_begun_anew,
         a_copy_without_its_log_is_noticed,
         a_store_that_is_damaged,
+        a_damaged_book_of_a_store_that_is_served,
         a_copy_may_be_looked_into,
         without_its_log_a_copy_is_refused,
         what_stood_there_becomes_a_copy,
