@@ -10,7 +10,7 @@ import services
 from begun import begun_file, begun_notes, begun_with
 from files import free_bytes, size_of_store
 from locks import alone_if_free
-from settings import COPIES, MAIN, STORES, Stop, Store, conf_of, store_file, store_names
+from settings import COPIES, MAIN, SETTINGS, STORES, Stop, Store, conf_of, store_file, store_names
 
 # A disk is too small with less than this part of it, or with less than what is wanted for a copy.
 SMALL_PART, SMALL_DISK = 0.05, 1 << 30
@@ -63,6 +63,14 @@ def removed_books_that_are_back(found):
                 yield (f"book {book} was taken out at {copy.made}, and is in the store {name} again. If its broker has not come "
                        f"back: `pawnd-admin remove-book {book}`. If the broker has, and nobody needs the book as it was then, "
                        f"`rm -r {copy.folder}` ends this note")
+
+
+def faults_of_key():
+    """The key that each store reads when it starts."""
+    path = os.path.join(SETTINGS, "operator.key")
+    if not os.path.exists(path):
+        yield (f"there is no {path}, and no store starts without it: put it back, or make another key (OPERATING.md, `The "
+               "operator's key`)")
 
 
 # ---- disks, and what commands left

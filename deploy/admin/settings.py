@@ -24,6 +24,13 @@ class Stop(Exception):
     """Why a command does not go on, and what the operator does next."""
 
 
+def reason(why):
+    """What an error says, in a sentence of the operator's."""
+    if isinstance(why, FileNotFoundError) and why.filename:
+        return f"there is no {why.filename}"
+    return f"{why.filename}: {why.strerror}" if isinstance(why, OSError) and why.filename else str(why)
+
+
 class Interrupted(BaseException):
     """A command was told to end by a signal. No step that goes on after a Stop goes on after this."""
 
@@ -62,7 +69,7 @@ def read_values(path):
     """The lines NAME=value of a file; none if there is no such file."""
     values = {}
     try:
-        with open(path) as file:
+        with open(path, errors="replace") as file:
             for line in file:
                 name, equals, value = line.strip().partition("=")
                 if equals and not name.startswith("#"):

@@ -12,12 +12,12 @@ import replicas
 import services
 from asking import PATIENCE, answers_through_proxy, state_of_proxy
 from faults import (
-    faults_of_books, faults_of_disks, is_left_by_command, pending, removed_books_that_are_back, unsound_states,
+    faults_of_books, faults_of_disks, faults_of_key, is_left_by_command, pending, removed_books_that_are_back, unsound_states,
 )
 from files import files_of_store, owner_of
 from locks import alone_if_free
 from reading import contents_of
-from settings import MAIN, OFFSITE, SETTINGS, Stop, Store, store_names
+from settings import MAIN, OFFSITE, SETTINGS, Stop, Store, reason, store_names
 
 # What is WRONG: a copy so many hours old, on this machine and off it; so much of the limit of rows.
 OLD_COPY, OLD_OFFSITE, MANY_ROWS = 26, 50, 0.8
@@ -146,7 +146,8 @@ def told(wrong, what=""):
     try:
         yield
     except (Stop, OSError, ValueError, KeyError, TypeError, AttributeError, subprocess.SubprocessError) as why:
-        wrong.append(f"{what}{why}" if isinstance(why, Stop) else f"{what}{type(why).__name__}: {why}")
+        known = isinstance(why, (Stop, OSError))
+        wrong.append(what + (reason(why) if known else f"{type(why).__name__}: {why}"))
 
 
 def through_proxy(name, lines, state, wrong):
@@ -243,6 +244,7 @@ def look():
         notes += more_notes
     with told(wrong):
         notes += [*unsound_states(), *removed_books_that_are_back(found)]
+    wrong += faults_of_key()
     with told(wrong):
         disks, more_wrong = faults_of_disks()
         wrong += more_wrong

@@ -307,7 +307,7 @@ esac
 """
 
 
-def by_borg(machine, *words):
+def by_borg(machine, *words, wanted=0):
     """What a command of deploy/offsite prints."""
     machine.write("bin/borg", BORG, 0o755)
     machine.write("bin/runuser", '#!/bin/sh\nshift 3\nexec "$@"\n', 0o755)
@@ -317,7 +317,7 @@ def by_borg(machine, *words):
         stdin=subprocess.DEVNULL, env={**machine.environment, "ARCHIVES": machine.place("archives"),
                                        "FOLDER": machine.place("offsite"), "PASSPHRASE": machine.place("passphrase")},
     )
-    expect(f"the end of {words}: {ran.stderr}", ran.returncode, 0)
+    expect(f"the end of {words}: {ran.stderr}", ran.returncode, wanted)
     return ran.stdout + ran.stderr
 
 
@@ -333,6 +333,16 @@ def a_certificate_that_is_elsewhere():
         by_borg(it, "take", "main", it.place("taken"))
         expect("the link", os.readlink(it.place("taken/etc/pawnd/certificate")), "first-certificate")
         expect("a file", os.path.exists(it.place("taken/etc/pawnd/operator.key")), True)
+
+
+def a_folder_that_is_not_there():
+    """`take` names it, before it fetches anything."""
+    with Machine() as it:
+        it.write("archives", "main.20260101T000000Z.20260101T000000Z x\n")
+        os.makedirs(it.place("archives.room/etc"))
+        said = by_borg(it, "take", "main", it.place("none"), wanted=1)
+        expect(f"what it says: {said}", said, f"take: there is no folder {it.place('none')}: make it first, `mkdir -m 700 "
+               f"{it.place('none')}`\n")
 
 
 def a_clock_that_was_ahead():
@@ -406,5 +416,6 @@ if __name__ == "__main__":
         old_copies_are_removed,
         a_clock_that_was_ahead,
         a_certificate_that_is_elsewhere,
+        a_folder_that_is_not_there,
         onto_an_empty_machine,
     )
