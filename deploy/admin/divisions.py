@@ -19,7 +19,7 @@ from locks import alone_with, copies_folder
 from reading import contents_of
 from restores import is_empty
 from settings import (
-    COPIES, MAIN, PAWND, REMOVED, Stop, Store, book_number, say, store_name, store_names, the_store,
+    COPIES, MAIN, PAWND, REMOVED, Stop, Store, book_number, name_to_make, say, store_names, the_store,
 )
 from stores import enable, make_settings, put_in_place, room_to_replace
 from tables import in_words, stop_unless_same
@@ -70,7 +70,7 @@ class Split:
     a change that the old store acknowledged after a kill is in them too."""
 
     def __init__(self, name, new, books):
-        self.store, self.new, self.books = the_store(name), store_name(new), set(map(book_number, books))
+        self.store, self.new, self.books = the_store(name), name_to_make(new), set(map(book_number, books))
         self.command = f"split {name} {new} {' '.join(map(str, sorted(self.books)))}"
         self.path = begun_file(f"split-{name}")
         replicas.stop_if_elsewhere(self.store, "split")
@@ -140,7 +140,7 @@ def split(name, new, books):
 def restore_book(number, said, new):
     """The verb `restore-book`. The map's line is turned last: until then nothing has changed for the broker."""
     book = book_number(number)
-    command, path = f"restore-book {book} {said} {store_name(new)}", begun_file(f"restore-{book}")
+    command, path = f"restore-book {book} {said} {name_to_make(new)}", begun_file(f"restore-{book}")
     begun = copy_of_begun(path, command)
     meant = [begun] if begun else copies_meant(book, said, new)
     if book not in meant[0].books:

@@ -65,6 +65,14 @@ def store_name(word):
     return word
 
 
+def name_to_make(word):
+    """The name of a store that a command makes here, unless it is here already."""
+    if store_name(word) in store_names() and not Store(word).is_here:
+        raise Stop(f"the store {word} is on another machine, at {Store(word).address}, and no second store gets its name: "
+                   "choose another name. Nothing was changed")
+    return word
+
+
 def read_values(path):
     """The lines NAME=value of a file; none if there is no such file."""
     values = {}

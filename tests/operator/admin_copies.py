@@ -335,6 +335,19 @@ def a_certificate_that_is_elsewhere():
         expect("a file", os.path.exists(it.place("taken/etc/pawnd/operator.key")), True)
 
 
+def a_receiver_whose_clock_is_behind():
+    """Its daily run names the archives that are dated in the future, and does not say that their store was not sent. Of a
+    store that was not sent, it has the command that says so."""
+    with Machine() as it:
+        os.makedirs(it.place("offsite/copies"))
+        old, ahead = f"west.{days_ago(9)}.{days_ago(9)}", f"main.{days_ago(-9)}.{days_ago(-9)}"
+        it.write("archives", f"{old} x\n{ahead} x\n")
+        said = by_borg(it, "prune", wanted=1)
+        expect(f"what it says: {said}", (f"{ahead}, is dated in the future" in said, f"echo {ahead}" in said), (True, False))
+        expect("of the other store", (f"echo {old} >>" in said, f"{old}, is dated" in said, "nothing is removed" in said),
+               (True, False, True))
+
+
 def a_folder_that_is_not_there():
     """`take` names it, before it fetches anything."""
     with Machine() as it:
@@ -416,6 +429,7 @@ if __name__ == "__main__":
         old_copies_are_removed,
         a_clock_that_was_ahead,
         a_certificate_that_is_elsewhere,
+        a_receiver_whose_clock_is_behind,
         a_folder_that_is_not_there,
         onto_an_empty_machine,
     )
