@@ -108,7 +108,7 @@ def state_of_certificate(wrong, notes):
     return days
 
 
-def state_of_proxy():
+def state_of_proxy(has_begun):
     wrong, notes, state = [], [], {"runs": False, "certificate_days": None}
     master = proxy.nginx_master()
     if master is None:
@@ -120,8 +120,9 @@ def state_of_proxy():
                      "and the map of books")
     else:
         state["certificate_days"] = state_of_certificate(wrong, notes)
+    # A command that has begun reloads nginx before it ends.
     begun = max(map(start_of, proxy.workers(master)), default=0)
-    for path in proxy.TAKEN_UP:
+    for path in () if has_begun else proxy.TAKEN_UP:
         if proxy.changed_at(path) > begun:
             wrong.append(f"nginx has not taken up {path}, which was changed since: `pawnd-admin reload`")
     return state, wrong, notes

@@ -4,7 +4,7 @@ import contextlib
 import os
 
 from files import read_note
-from settings import SETTINGS, Interrupted, Stop
+from settings import SETTINGS, Interrupted, Stop, reason
 
 FOLDER = os.path.join(SETTINGS, "pending")
 
@@ -49,7 +49,7 @@ def ended_by_itself_alone(path, command):
         if not os.path.exists(path):
             raise
         raise Stop(
-            f"{why}. The command has begun, and nothing else ends it: when this is mended, run it again, `pawnd-admin "
+            f"{reason(why)}. The command has begun, and nothing else ends it: when this is mended, run it again, `pawnd-admin "
             f"{command}`"
         ) from why
     with contextlib.suppress(FileNotFoundError):

@@ -17,12 +17,20 @@ from settings import Stop, Store, book_number, say, store_name, store_names
 
 
 def key_of_file(path):
-    with open(path) as file:
-        said = file.read().strip()
     try:
-        return str(uuid.UUID(said))
+        with open(path) as file:
+            return str(uuid.UUID(file.read().strip()))
     except ValueError:
         raise Stop(f"{path} does not hold a key: a key is 32 hexadecimal digits with or without hyphens") from None
+
+
+def stop_unless_writable(path):
+    """A key is handed over after it was made, so its file is looked at first."""
+    folder = os.path.dirname(os.path.abspath(path))
+    if not path or os.path.isdir(path):
+        raise Stop(f"--key-to {shlex.quote(path)} names no file, and a key is written to a file. Nothing was changed")
+    if not os.path.isdir(folder):
+        raise Stop(f"there is no folder {folder} for the file {path}. Make it first. Nothing was changed")
 
 
 def hand_over(key, what, path):
@@ -56,6 +64,21 @@ def claim(path, book, where, made, command):
     return {member: begun[member] for member in ("capacity", "key", "name")}
 
 
+def is_name(text):
+    try:
+        return 1 <= len(text.encode()) <= 60 and all(byte >= 0x20 and byte != 0x7F for byte in text.encode())
+    except UnicodeEncodeError:
+        return False
+
+
+def stop_unless_allowed(name, capacity):
+    """What the store would refuse, when the command has begun."""
+    if not is_name(name):
+        raise Stop("the name of a book has 1 to 60 bytes of UTF-8, and no control character. Nothing was changed")
+    if not 1 <= capacity <= 1000:
+        raise Stop("the capacity of a book is a whole number from 1 to 1000. Nothing was changed")
+
+
 def stop_if_taken(book, where):
     line, there = proxy.book_lines().get(book), stores_with(book)
     if there:
@@ -86,6 +109,9 @@ def make_book(number, where, name, capacity, key_to):
     """The verb `book`. The line of the map is written before the book is made: a book that answers always has it."""
     book = book_number(number)
     proxy.stop_if_of_another_machine("book")
+    stop_unless_allowed(name, capacity)
+    stop_unless_writable(key_to)
+    operators_key = services.operators_key()
     made = {"capacity": capacity, "name": name}
     if store_name(where) not in store_names():
         raise Stop(f"there is no store {where}. Make it first: `pawnd-admin store {where}`")
@@ -102,7 +128,7 @@ def make_book(number, where, name, capacity, key_to):
             proxy.turn({book}, where)
         if turned or was_there:
             proxy.reload_nginx()
-        services.post(store, f"/books/{book}", services.operators_key(), made, f'{{"book":{book}}}')
+        services.post(store, f"/books/{book}", operators_key, made, f'{{"book":{book}}}')
         hand_over(made["key"], f"the key of book {book}", key_to)
         os.unlink(path)
     say(f"book {book} ({name}) is in the store {where}")
@@ -145,6 +171,7 @@ def new_key(number, key_to, inside_file=None):
     leaves a book with a key that nobody knows."""
     book = book_number(number)
     proxy.stop_if_of_another_machine("new-key")
+    stop_unless_writable(key_to)
     inside, outside = own_key(book, inside_file), str(uuid.uuid4())
     with alone(begun_folder(), proxy.KEYS_MAP):
         hand_over(outside, f"the new key of book {book}", key_to)

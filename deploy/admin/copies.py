@@ -8,11 +8,11 @@ import time
 
 from files import (
     BLOCK, LOG, PART, copy_file, copy_store, files_of_store, is_plain, open_plain, read_note, room_for, room_in, size_of_store, sync,
-    sync_folder, time_name, write_note,
+    sync_folder, time_name, write_note, write_whole,
 )
-from locks import alone_with, copies_folder
+from locks import alone_with, copies_folder, is_open
 from reading import head_of_log
-from settings import COPIES, REMOVED, STORE_NAME, Stop, copies_to_keep, say, the_store, warn
+from settings import COPIES, REMOVED, STORE_NAME, Stop, copies_to_keep, say, store_file, the_store, warn
 from tables import NotSound, check_and_fold, counts_of, fold, in_words, keep_books, stop_unless_same, sums_of
 
 NOTE = "copy.json"
@@ -20,6 +20,9 @@ TIME = "%Y%m%dT%H%M%SZ"
 COPY_NAME = re.compile(r"\d{8}T\d{6}Z")
 # How the names begin of what a store had, where the program does not find it sound.
 UNSOUND = "unsound-"
+# What the last check of a store said that did not find it sound, among its copies: until a copy of it is good, or it gets
+# the file of a good one.
+FAILED = "failed-check"
 # How long a command tries to copy a store whose log is begun anew during each attempt, in seconds.
 COPY_PATIENCE = float(os.environ.get("COPY_PATIENCE", "300"))
 # A copy that is dated later than this from now was made while the clock was wrong, or the clock is wrong now.
@@ -51,6 +54,8 @@ class Copy:
             self.books = {int(book): it for book, it in note["books"].items()}
             # The copy before, if that one held more though no command took anything out.
             self.less_than = note.get("less_than")
+            # The folder of the copy whose books it has, if a command made it of one.
+            self.made_of = note.get("made_of")
         except (OSError, ValueError, KeyError, TypeError, AttributeError) as why:
             raise Stop(f"{folder} is not a finished copy: {NOTE} in it cannot be read ({why})") from None
         if not os.path.exists(self.path):
@@ -122,7 +127,7 @@ def the_copy(name, said):
     if said == "newest":
         past, future = copies_of(name)
         if future:
-            raise Stop(f"which copy is the newest is not sure. {in_the_future(name, future)}. Name the copy that you want by "
+            raise Stop(f"which copy is the newest is not sure: {in_the_future(name, future)}. Name the copy that you want by "
                        f"its time{f', the newest of the others is {past[-1].name}' if past else ''}. Nothing was changed")
         if not past:
             raise Stop(f"there is no copy of the store {name} in {os.path.join(COPIES, name)}")
@@ -197,6 +202,8 @@ def describe(part, name, source=None, books=(), before=None):
         "bytes": {os.path.basename(it): os.path.getsize(it) for it in files_of_store(path)},
         "books": sums,
     }
+    if source:
+        note["made_of"] = source.folder
     if before and any(counts[it] < before.counts[it] for it in counts):
         note["less_than"] = before.name
     write_note(os.path.join(part, NOTE), note)
@@ -263,8 +270,30 @@ def files_aside(name, path):
 
 def make_copy(name, path, before=None):
     """A new copy of a store. The caller holds its lock."""
-    with copy_aside(name, path, before) as part:
-        return Copy(named(part, new_time(name)))
+    try:
+        with copy_aside(name, path, before) as part:
+            made = Copy(named(part, new_time(name)))
+    except NotSound as why:
+        write_whole(failed_check(name), f"{utc_now().strftime(TIME)}: {why}\n", 0o600)
+        raise
+    forget_failed_check(name)
+    return made
+
+
+def failed_check(name):
+    return os.path.join(COPIES, name, FAILED)
+
+
+def forget_failed_check(name):
+    with contextlib.suppress(FileNotFoundError):
+        os.unlink(failed_check(name))
+
+
+def what_to_do_if_unsound(name):
+    """Where OPERATING.md says it: a store that is served may be damaged all the same."""
+    path = store_file(name)
+    section = "A damaged book" if is_plain(path) and is_open(path) else "A store does not start"
+    return f"the store {name} is damaged: OPERATING.md, `{section}`, says what to do"
 
 
 def copy(name):
@@ -278,8 +307,8 @@ def copy(name):
         try:
             made = make_copy(name, store.path, before)
         except NotSound as why:
-            raise Stop(f"{why}. No copy was made. Run the command again. If it says the same, the store {name} is damaged: "
-                       "OPERATING.md, `A store does not start`, says what to do") from None
+            raise Stop(f"{why}. No copy was made. Run the command again. If it says the same, {what_to_do_if_unsound(name)}"
+                       ) from None
         say(f"{made.folder}: {in_words(made.counts)}")
         forget_old(name, keep)
     if future:

@@ -2,6 +2,7 @@
 
 A store gets no file but that of a good copy, and what it had is in another one. So no book is ever in fewer places than
 before."""
+import contextlib
 import os
 import subprocess
 
@@ -18,7 +19,7 @@ from locks import alone_with, copies_folder
 from reading import contents_of
 from restores import is_empty
 from settings import (
-    COPIES, MAIN, PAWND, REMOVED, Stop, Store, book_number, say, store_name, store_names, the_store,
+    COPIES, MAIN, PAWND, REMOVED, Stop, Store, book_number, name_to_make, say, store_names, the_store,
 )
 from stores import enable, make_settings, put_in_place, room_to_replace
 from tables import in_words, stop_unless_same
@@ -69,7 +70,7 @@ class Split:
     a change that the old store acknowledged after a kill is in them too."""
 
     def __init__(self, name, new, books):
-        self.store, self.new, self.books = the_store(name), store_name(new), set(map(book_number, books))
+        self.store, self.new, self.books = the_store(name), name_to_make(new), set(map(book_number, books))
         self.command = f"split {name} {new} {' '.join(map(str, sorted(self.books)))}"
         self.path = begun_file(f"split-{name}")
         replicas.stop_if_elsewhere(self.store, "split")
@@ -139,47 +140,58 @@ def split(name, new, books):
 def restore_book(number, said, new):
     """The verb `restore-book`. The map's line is turned last: until then nothing has changed for the broker."""
     book = book_number(number)
-    command, path = f"restore-book {book} {said} {store_name(new)}", begun_file(f"restore-{book}")
-    copy = copy_of_begun(path, command) or copy_with(book, said, new)
-    if book not in copy.books:
-        raise Stop(f"{copy.folder} has no book {book}. `grep -l '\"{book}\":' {COPIES}/*/*/copy.json` lists the copies "
+    command, path = f"restore-book {book} {said} {name_to_make(new)}", begun_file(f"restore-{book}")
+    begun = copy_of_begun(path, command)
+    meant = [begun] if begun else copies_meant(book, said, new)
+    if book not in meant[0].books:
+        raise Stop(f"{meant[0].folder} has no book {book}. `grep -l '\"{book}\":' {COPIES}/*/*/copy.json` lists the copies "
                    "that have it")
     with alone_with(new):
         stop_if_another_began(path, command)
         if proxy.store_of(book, new) == new and not os.path.exists(path):
-            return tell_that_it_is_back(book, new, copy)
+            return tell_that_it_is_back(book, new, meant)
+        copy = the_only(book, new, meant)
         with ended_by_itself_alone(path, command):
             was = turn_to_part(book, new, copy, command, path)
     say(f"book {book} is in the store {new}, as it was at {copy.made}. Older rows of it that the store {was} may have "
         "stay there, and nobody reaches them")
 
 
-def copy_with(book, said, new):
-    """The copy that the operator names. A time may be that of a copy of a store which had the book before."""
+def copies_meant(book, said, new):
+    """The copies that the operator may mean: the first is of the store that has the book, if that has one. Copies of
+    several stores can have one time, and a time may be that of a copy of a store which had the book before."""
     name = proxy.store_of(book, new)
     if said == "newest" and name in store_names() and not Store(name).is_here:
         raise Stop(f"the store {name} is on another machine, at {Store(name).address}, which has its newest copies: run this "
                    "command there. Or name a copy that is here by its time. Nothing was changed")
-    if COPY_NAME.fullmatch(said) and not os.path.isdir(os.path.join(COPIES, name, said)):
-        others = [os.path.join(COPIES, it, said) for it in stores_with_copies()]
-        found = [it for it in others if os.path.isdir(it) and book in Copy(it).books]
-        if len(found) > 1:
-            raise Stop(f"there are several copies of that time with book {book}: name one of the folders {' and '.join(found)}")
-        said = (found or [said])[0]
-    return the_copy(name, said)
+    if not COPY_NAME.fullmatch(said):
+        return [the_copy(name, said)]
+    found = []
+    for store in sorted(stores_with_copies(), key=lambda it: it != name):
+        with contextlib.suppress(Stop):
+            found.append(Copy(os.path.join(COPIES, store, said)))
+    return [it for it in found if book in it.books] or [the_copy(name, said)]
 
 
-def tell_that_it_is_back(book, new, copy):
-    """An earlier run of the command has ended if the store has a copy with this state of the book. A copy of that store
-    itself may have been named for any reason."""
+def the_only(book, new, meant):
+    """The copy that is meant: if several stores have a copy of that time, the one of the store that has the book now."""
+    if len(meant) > 1 and meant[0].store != proxy.store_of(book, new):
+        raise Stop(f"there are several copies of that time with book {book}: name one of the folders "
+                   f"{' and '.join(it.folder for it in meant)}")
+    return meant[0]
+
+
+def tell_that_it_is_back(book, new, meant):
+    """An earlier run of the command has ended if a copy of the new store was made of one of these copies."""
     past, _ = copies_of(new)
     if book not in contents_of(the_store(new).path).books:
         raise Stop(f"the store {new} has no book {book}, but it is not new either: name a new store. Nothing was changed")
-    if copy.store == new or not any(it.books.get(book) == copy.books[book] for it in past):
+    source = next((it for it in meant if any(of.made_of == it.folder for of in past)), None)
+    if source is None:
         raise Stop(f"book {book} is in the store {new} already, and nothing was changed. If it is to be as it is in "
-                   f"{copy.folder}, name a new store: `pawnd-admin restore-book {book} {copy.folder} NEW`")
-    say(f"book {book} is in the store {new} already: it came from a copy of {copy.made}, and has what was entered since. "
-        "Nothing was changed")
+                   f"{meant[0].folder}, name a new store: `pawnd-admin restore-book {book} {meant[0].folder} NEW`")
+    say(f"book {book} is in the store {new} already: it came from {source.folder}, and has what was entered since. Nothing "
+        "was changed")
 
 
 def copy_of_begun(path, command):

@@ -5,10 +5,12 @@ import os
 
 import copies
 import proxy
+import replicas
+import services
 from begun import begun_file, begun_notes, begun_with
 from files import free_bytes, size_of_store
 from locks import alone_if_free
-from settings import COPIES, MAIN, STORES, conf_of, store_file, store_names
+from settings import COPIES, MAIN, SETTINGS, STORES, Stop, Store, conf_of, store_file, store_names
 
 # A disk is too small with less than this part of it, or with less than what is wanted for a copy.
 SMALL_PART, SMALL_DISK = 0.05, 1 << 30
@@ -27,7 +29,7 @@ def faults_of_books(lines, found):
                          f"another machine, `echo ADDRESS=10.0.0.3:8103 >{conf_of(name)}` with its address, then "
                          f"`pawnd-admin reload`. If it was here, `pawnd-admin restore {name} newest` puts it back. Else mend "
                          f"{proxy.BOOKS_MAP}")
-        elif found.get(name) is not None and book not in found[name]:
+        elif found.get(name) is not None and book not in found[name] and not begun_with(name):
             wrong.append(f"book {book} has a line for the store {name}, and is not there: {missing_book(book, name, found)}")
     for name, books in sorted(found.items()):
         for book in sorted(books or ()):
@@ -47,8 +49,6 @@ def faults_of_books(lines, found):
 
 def missing_book(book, name, found):
     """What to do about a line without a book."""
-    if command := begun_with(name):
-        return f"a command did not end: run it again, `pawnd-admin {command}`"
     others = [it for it, books in found.items() if books and book in books]
     if others:
         return (f"{' and '.join(others)} has rows of it. `pawnd-admin restore-book {book} COPY NEW`. If the line were removed, rows in main would answer, "
@@ -60,7 +60,17 @@ def removed_books_that_are_back(found):
     for copy in copies.removed_books():
         for book in copy.books:
             for name in [it for it, books in found.items() if books and book in books]:
-                yield f"book {book} was taken out at {copy.made}, and is in the store {name} again"
+                yield (f"book {book} was taken out at {copy.made}, and is in the store {name} again. If its broker has not come "
+                       f"back: `pawnd-admin remove-book {book}`. If the broker has, and nobody needs the book as it was then, "
+                       f"`rm -r {copy.folder}` ends this note")
+
+
+def faults_of_key():
+    """The key that each store reads when it starts."""
+    path = os.path.join(SETTINGS, "operator.key")
+    if not os.path.exists(path):
+        yield (f"there is no {path}, and no store starts without it: put it back, or make another key (OPERATING.md, `The "
+               "operator's key`)")
 
 
 # ---- disks, and what commands left
@@ -108,8 +118,24 @@ def unsound_states():
 
 
 def pending():
-    """What was begun and did not end."""
+    """What was begun and did not end is wrong, and what is at work now is worth knowing."""
+    wrong, notes = [], []
     for name, note in begun_notes():
-        with alone_if_free(note.get("stores", [MAIN])[0]) as free:
-            if free and os.path.exists(begun_file(name)):
-                yield f"a command did not end: run it again, `pawnd-admin {note.get('command', name)}`"
+        command, stores = note.get("command", name), note.get("stores", [MAIN])
+        away = [it for it in stores if it in store_names() and is_left_by_command(it)]
+        with alone_if_free(stores[0]) as free:
+            if not free:
+                notes.append(f"a command is at work: `pawnd-admin {command}`")
+            elif os.path.exists(begun_file(name)):
+                wrong.append(f"a command did not end: run it again, `pawnd-admin {command}`" + (
+                    f". Until it has ended, {' and '.join(away)} may not be served, and not at the next boot" if away else ""))
+    return wrong, notes
+
+
+def is_left_by_command(name):
+    """Whether a command that makes the store, or has stopped it, has not ended: to end it mends what the store lacks."""
+    with contextlib.suppress(Stop):
+        if begun_with(name):
+            unit = replicas.unit_of(Store(name)) if Store(name).volume else services.unit_of(name)
+            return not services.is_unit("is-enabled", unit)
+    return False

@@ -26,7 +26,7 @@ MAP_LINE = re.compile(r"\s*(?:([1-9][0-9]{0,8})\s+([a-z][a-z0-9]{0,19})\s*;\s*)?
 
 
 def map_lines():
-    with open(BOOKS_MAP) as file:
+    with open(BOOKS_MAP, errors="replace") as file:
         return file.read().splitlines()
 
 
@@ -105,7 +105,7 @@ EXCHANGE = re.compile(r"# book ([1-9][0-9]{0,8}): key ([0-9a-f-]{36}) outside is
 def exchanges():
     """Of each book with a leaked key: the key that its broker has, and the book's own."""
     found = {}
-    with contextlib.suppress(FileNotFoundError), open(KEYS_MAP) as file:
+    with contextlib.suppress(FileNotFoundError), open(KEYS_MAP, errors="replace") as file:
         for line in file:
             parts = EXCHANGE.match(line)
             if parts:

@@ -24,6 +24,13 @@ class Stop(Exception):
     """Why a command does not go on, and what the operator does next."""
 
 
+def reason(why):
+    """What an error says, in a sentence of the operator's."""
+    if isinstance(why, FileNotFoundError) and why.filename:
+        return f"there is no {why.filename}"
+    return f"{why.filename}: {why.strerror}" if isinstance(why, OSError) and why.filename else str(why)
+
+
 class Interrupted(BaseException):
     """A command was told to end by a signal. No step that goes on after a Stop goes on after this."""
 
@@ -58,11 +65,19 @@ def store_name(word):
     return word
 
 
+def name_to_make(word):
+    """The name of a store that a command makes here, unless it is here already."""
+    if store_name(word) in store_names() and not Store(word).is_here:
+        raise Stop(f"the store {word} is on another machine, at {Store(word).address}, and no second store gets its name: "
+                   "choose another name. Nothing was changed")
+    return word
+
+
 def read_values(path):
     """The lines NAME=value of a file; none if there is no such file."""
     values = {}
     try:
-        with open(path) as file:
+        with open(path, errors="replace") as file:
             for line in file:
                 name, equals, value = line.strip().partition("=")
                 if equals and not name.startswith("#"):

@@ -11,12 +11,13 @@ import proxy
 import replicas
 import services
 from asking import PATIENCE, answers_through_proxy, state_of_proxy
-from begun import begun_with
-from faults import faults_of_books, faults_of_disks, pending, removed_books_that_are_back, unsound_states
+from faults import (
+    faults_of_books, faults_of_disks, faults_of_key, is_left_by_command, pending, removed_books_that_are_back, unsound_states,
+)
 from files import files_of_store, owner_of
 from locks import alone_if_free
 from reading import contents_of
-from settings import MAIN, OFFSITE, SETTINGS, Stop, Store, store_names
+from settings import MAIN, OFFSITE, SETTINGS, Stop, Store, reason, store_names
 
 # What is WRONG: a copy so many hours old, on this machine and off it; so much of the limit of rows.
 OLD_COPY, OLD_OFFSITE, MANY_ROWS = 26, 50, 0.8
@@ -35,6 +36,11 @@ def newest_copy(name, wrong):
     hours = (copies.utc_now() - copies.time_of(past[-1].made)).total_seconds() / 3600
     if hours > OLD_COPY:
         wrong.append(f"has no copy of the last {OLD_COPY} hours: `journalctl -u pawnd-copy@{name}`")
+    if os.path.exists(copies.failed_check(name)):
+        with open(copies.failed_check(name)) as file:
+            said = file.read().strip()
+        wrong.append(f"it failed its last check, and no copy was made: {said}. Run `pawnd-admin copy {name}`. If it says the "
+                     f"same, {copies.what_to_do_if_unsound(name)}")
     if found := copies.unexplained_loss(past):
         less, more = found
         wrong.append(
@@ -140,7 +146,8 @@ def told(wrong, what=""):
     try:
         yield
     except (Stop, OSError, ValueError, KeyError, TypeError, AttributeError, subprocess.SubprocessError) as why:
-        wrong.append(f"{what}{why}" if isinstance(why, Stop) else f"{what}{type(why).__name__}: {why}")
+        known = isinstance(why, (Stop, OSError))
+        wrong.append(what + (reason(why) if known else f"{type(why).__name__}: {why}"))
 
 
 def through_proxy(name, lines, state, wrong):
@@ -189,23 +196,23 @@ def state_of(name, lines):
     with told(wrong):
         store = Store(name)
         state["address"], state["here"] = store.address, store.is_here
-        if not os.path.exists(store.path) and (command := begun_with(name)):
-            return state, [f"store {name}: is not made yet, since a command did not end: run it again, `pawnd-admin {command}`"], [], {}
-        with told(wrong):
-            how_it_answers(store, lines, state, wrong, notes)
+        # What such a store lacks is one complaint, of the command.
+        left = [] if is_left_by_command(name) else wrong
+        with told(left):
+            how_it_answers(store, lines, state, left, notes)
         if not store.is_here:
             notes.append(f"is on another machine, at {store.address}: `pawnd-admin status` there says how it is")
             if is_sent(name):
                 wrong.append("is on another machine, and this one still sends its old copies as the newest: `systemctl "
                              f"disable --now pawnd-offsite@{name}.timer`")
             return state, [f"store {name}: {it}" for it in wrong], [f"store {name}: {it}" for it in notes], None
-        with told(wrong):
-            state_of_units(store, wrong)
-        with told(wrong):
-            state["copy"] = newest_copy(name, wrong)
-        with told(wrong):
-            state["offsite"] = newest_offsite(name, wrong, notes)
-        books = state_of_file(store, state, wrong)
+        with told(left):
+            state_of_units(store, left)
+        with told(left):
+            state["copy"] = newest_copy(name, left)
+        with told(left):
+            state["offsite"] = newest_offsite(name, left, notes)
+        books = state_of_file(store, state, left)
     return state, [f"store {name}: {it}" for it in wrong], [f"store {name}: {it}" for it in notes], books
 
 
@@ -216,11 +223,12 @@ def look():
     wrong, notes, lines, proxy_state = [], [], {}, {"runs": None, "certificate_days": None}
     # To run such a command again mends much of what else is wrong, so this is what the operator reads first.
     with told(wrong):
-        wrong += pending()
+        wrong, notes = pending()
+    has_begun = bool(wrong or notes)
     with told(wrong):
         lines = proxy.book_lines()
     with concurrent.futures.ThreadPoolExecutor(16) as pool:
-        of_proxy = pool.submit(state_of_proxy)
+        of_proxy = pool.submit(state_of_proxy, has_begun)
         looked = list(pool.map(lambda name: state_of(name, lines), store_names()))
         with told(wrong, "the proxy: "):
             proxy_state, more_wrong, more_notes = of_proxy.result()
@@ -236,6 +244,7 @@ def look():
         notes += more_notes
     with told(wrong):
         notes += [*unsound_states(), *removed_books_that_are_back(found)]
+    wrong += faults_of_key()
     with told(wrong):
         disks, more_wrong = faults_of_disks()
         wrong += more_wrong

@@ -6,6 +6,7 @@ import socket
 
 import replicas
 import services
+from copies import forget_failed_check
 from files import (
     BLOCK, LOG, copy_bytes, copy_store, files_of_store, open_plain, owner_of, replaced, room_for, room_in, sync,
     work_prefix, write_whole,
@@ -13,7 +14,7 @@ from files import (
 from locks import alone_with, alone_with_settings, copies_folder, lock_store
 from proxy import is_of_another_machine, reload_nginx, run, write_stores
 from reading import contents_of
-from settings import FIRST_PORT, STORES, SYSTEM, Store, conf_of, say, store_file, store_name, store_names
+from settings import FIRST_PORT, STORES, SYSTEM, Store, conf_of, name_to_make, say, store_file, store_names
 from tables import check_and_fold, fold
 
 
@@ -80,6 +81,7 @@ def put_in_place(name, new, old_is_sound=True):
                 os.unlink(it)
         sync(STORES, folder)
         put_file(name, new)
+    forget_failed_check(name)
 
 
 def put_folded(name, locked):
@@ -118,7 +120,7 @@ def make_empty(name):
 
 def new_store(name):
     """The verb `store`. Each step leaves what is there already, so a command that was killed is run again."""
-    store_name(name)
+    name_to_make(name)
     with alone_with(name):
         store = make_settings(name)
         if not files_of_store(store_file(name)):

@@ -84,6 +84,43 @@ def a_book_that_is_made_again():
         expect("what commands left", [*it.leftovers(), *os.listdir(it.place("etc/pending"))], [])
 
 
+def words_that_are_wrong():
+    """The command says in a sentence what is wrong, before it begins anything, so that the corrected one is not held up by
+    it; and so it does where a file of the settings is not there or cannot be read."""
+    with Machine() as it:
+        good = {"--name": "Low Street", "--key-to": it.place("key-8")}
+        for name, word, what in (
+            ("--key-to", it.place("none/key-8"), f"there is no folder {it.place('none')}"), ("--key-to", it.room, "names no file"),
+            ("--key-to", "", "names no file"), ("--name", "", "1 to 60 bytes"), ("--name", "x" * 61, "1 to 60 bytes"),
+            ("--name", "Low\nStreet", "no control character"), ("--name", "Low \udcff", "1 to 60 bytes of UTF-8"),
+            ("--capacity", 0, "from 1 to 1000"), ("--capacity", 1001, "from 1 to 1000"),
+        ):
+            said = it.admin("book", 8, *(text for pair in {**good, name: word}.items() for text in pair), wanted=1)
+            expect(f"{name} {word!r}: {said}", what in said and "Nothing was changed" in said, True)
+        it.admin("book", 8, *(text for pair in good.items() for text in pair))
+        for path, what in ((it.place("none/key"), "there is no folder"), (it.room, "names no file")):
+            said = it.admin("new-key", 8, "--key-to", path, wanted=1)
+            expect(f"--key-to {path}: {said}", what in said and "Nothing was changed" in said, True)
+        for path, what in ((it.place("none"), f"there is no {it.place('none')}"), (it.path("main"), "does not hold a key")):
+            said = it.admin("new-key", 8, "--key-to", it.place("new"), "--inside-file", path, wanted=1)
+            expect(f"--inside-file {path}: {said}", what in said, True)
+        it.admin("copy", "main")
+        for name, what in (("operator.key", "there is no"), ("books.map", "there is no")):
+            os.rename(it.place("etc", name), it.place("aside"))
+            wrong = it.status()["wrong"]
+            expect(f"without {name}: {wrong}", any(f"{what} {it.place('etc', name)}" in line for line in wrong), True)
+            said = it.admin("book", 9, *(text for pair in good.items() for text in pair), wanted=1)
+            expect(f"without {name}: {said}", f"there is no {it.place('etc', name)}" in said, True)
+            os.rename(it.place("aside"), it.place("etc", name))
+        for name in ("books.map", "keys.map", "stores/main.conf"):
+            shutil.copy(it.place("etc", name), it.place("aside"))
+            with open(it.place("etc", name), "ab") as file:
+                file.write(b"\xff\n")
+            told = " ".join(it.status()["wrong"])
+            expect(f"a byte in {name}: {told}", "codec" in told, False)
+            shutil.copy(it.place("aside"), it.place("etc", name))
+
+
 def key_in(machine, name):
     with open(machine.place(name)) as file:
         return file.read().strip()
@@ -186,11 +223,25 @@ def expect_run_again(it, copy):
     for named in (copy, os.path.basename(copy)):
         said = it.admin("restore-book", 7, named, "west")
         expect(f"again by {named}: {said}", "is in the store west already" in said and "othing was changed" in said, True)
+    expect_run_again_in_one_second(it, copy)
     it.admin("copy", "west"), it.admin("copy", "main")
     for named in ("newest", it.newest("main")):
         said = it.admin("restore-book", 7, named, "west", wanted=1)
         expect(f"another copy: {said}", "othing was changed" in said and "name a new store" in said, True)
     expect("what is there", (books_in(it.path("west")), it.lines()), before)
+
+
+def expect_run_again_in_one_second(it, copy):
+    """The copy of the new store has the time of the copy that the book came from, and so has a copy of a third store with
+    this book: a quick machine makes both within a second, and timers make copies of several stores at one time."""
+    own, same = it.newest("west"), os.path.join(it.copies, "west", os.path.basename(copy))
+    third = os.path.join(it.copies, "third", os.path.basename(copy))
+    shutil.copytree(copy, third)
+    # Where the machine was quick, it has that name already.
+    os.rename(own, same)
+    said = it.admin("restore-book", 7, os.path.basename(copy), "west")
+    expect(f"again, by the time of several copies: {said}", "is in the store west already" in said, True)
+    os.rename(same, own), shutil.rmtree(os.path.dirname(third))
 
 
 def a_broker_who_leaves():
@@ -363,7 +414,7 @@ def a_leaked_key_of_a_store_elsewhere():
 
 if __name__ == "__main__":
     main_with(
-        PACKAGES, a_store_and_books, the_first_book_of_a_store, a_book_that_is_made_again, a_reply_that_is_cut_off,
+        PACKAGES, a_store_and_books, the_first_book_of_a_store, words_that_are_wrong, a_book_that_is_made_again, a_reply_that_is_cut_off,
         a_store_that_refuses, one_book_out_of_a_copy, a_broker_who_leaves, a_leaked_key,
         a_replicated_store_that_another_machine_serves, a_replicated_store_without_its_file,
         a_leaked_key_of_a_store_elsewhere, a_leaked_key_of_a_book_that_comes_back,

@@ -114,6 +114,39 @@ def a_store_that_is_damaged():
         expect("the copies", copies(it), [])
 
 
+def a_damaged_book_of_a_store_that_is_served():
+    """The message names the section for it. The status says so until a copy is good again, though there is a copy of
+    before, which is then put back."""
+    with Machine() as it:
+        caller = it.book(7, pledges=3)
+        it.admin("copy", "main")
+        change_by_hand(it, "UPDATE totals SET principal = principal + 1")
+        said = it.admin("copy", "main", wanted=1)
+        expect(f"what it says: {said}", "fault 513 Damaged" in said and "OPERATING.md, `A damaged book`" in said, True)
+        for _ in range(2):
+            wrong = it.status()["wrong"]
+            expect(f"what is wrong: {wrong}", [("fault 513 Damaged" in it, "`A damaged book`" in it) for it in wrong],
+                   [(True, True)])
+        change_by_hand(it, "UPDATE totals SET principal = principal - 1")
+        it.admin("copy", "main")
+        expect("what is wrong with it as it was", it.status()["wrong"], [])
+        change_by_hand(it, "UPDATE totals SET principal = principal + 1")
+        it.admin("copy", "main", wanted=1)
+        it.admin("restore", "main", "newest")
+        expect("what is wrong after a copy was put back", it.status()["wrong"], [])
+        caller.look_up()
+        expect("what commands left", it.leftovers(), [])
+
+
+def change_by_hand(machine, statement):
+    machine.systemctl("stop", "pawnd@main")
+    tables = sqlite3.connect(machine.path("main"), isolation_level=None)
+    tables.execute(statement)
+    tables.close()
+    machine.systemctl("start", "pawnd@main")
+    machine.await_store("main")
+
+
 def a_copy_may_be_looked_into():
     """SQLite and the program bring the log of a copy into its database. It is the same copy then, and is put back; one
     of whose rows one was changed is not."""
@@ -274,7 +307,7 @@ esac
 """
 
 
-def by_borg(machine, *words):
+def by_borg(machine, *words, wanted=0):
     """What a command of deploy/offsite prints."""
     machine.write("bin/borg", BORG, 0o755)
     machine.write("bin/runuser", '#!/bin/sh\nshift 3\nexec "$@"\n', 0o755)
@@ -284,7 +317,7 @@ def by_borg(machine, *words):
         stdin=subprocess.DEVNULL, env={**machine.environment, "ARCHIVES": machine.place("archives"),
                                        "FOLDER": machine.place("offsite"), "PASSPHRASE": machine.place("passphrase")},
     )
-    expect(f"the end of {words}: {ran.stderr}", ran.returncode, 0)
+    expect(f"the end of {words}: {ran.stderr}", ran.returncode, wanted)
     return ran.stdout + ran.stderr
 
 
@@ -300,6 +333,29 @@ def a_certificate_that_is_elsewhere():
         by_borg(it, "take", "main", it.place("taken"))
         expect("the link", os.readlink(it.place("taken/etc/pawnd/certificate")), "first-certificate")
         expect("a file", os.path.exists(it.place("taken/etc/pawnd/operator.key")), True)
+
+
+def a_receiver_whose_clock_is_behind():
+    """Its daily run names the archives that are dated in the future, and does not say that their store was not sent. Of a
+    store that was not sent, it has the command that says so."""
+    with Machine() as it:
+        os.makedirs(it.place("offsite/copies"))
+        old, ahead = f"west.{days_ago(9)}.{days_ago(9)}", f"main.{days_ago(-9)}.{days_ago(-9)}"
+        it.write("archives", f"{old} x\n{ahead} x\n")
+        said = by_borg(it, "prune", wanted=1)
+        expect(f"what it says: {said}", (f"{ahead}, is dated in the future" in said, f"echo {ahead}" in said), (True, False))
+        expect("of the other store", (f"echo {old} >>" in said, f"{old}, is dated" in said, "nothing is removed" in said),
+               (True, False, True))
+
+
+def a_folder_that_is_not_there():
+    """`take` names it, before it fetches anything."""
+    with Machine() as it:
+        it.write("archives", "main.20260101T000000Z.20260101T000000Z x\n")
+        os.makedirs(it.place("archives.room/etc"))
+        said = by_borg(it, "take", "main", it.place("none"), wanted=1)
+        expect(f"what it says: {said}", said, f"take: there is no folder {it.place('none')}: make it first, `mkdir -m 700 "
+               f"{it.place('none')}`\n")
 
 
 def a_clock_that_was_ahead():
@@ -364,6 +420,7 @@ if __name__ == "__main__":
         a_log_that_is_begun_anew,
         a_copy_without_its_log_is_noticed,
         a_store_that_is_damaged,
+        a_damaged_book_of_a_store_that_is_served,
         a_copy_may_be_looked_into,
         without_its_log_a_copy_is_refused,
         what_stood_there_becomes_a_copy,
@@ -372,5 +429,7 @@ if __name__ == "__main__":
         old_copies_are_removed,
         a_clock_that_was_ahead,
         a_certificate_that_is_elsewhere,
+        a_receiver_whose_clock_is_behind,
+        a_folder_that_is_not_there,
         onto_an_empty_machine,
     )

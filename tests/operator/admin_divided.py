@@ -247,6 +247,23 @@ def a_full_disk_of_a_store():
         expect("the books", (books_in(it.path("main")), it.lines()), ({7, 8}, {}))
 
 
+def the_name_of_a_store_elsewhere():
+    """No command makes a store here by the name of one that another machine serves: the map would turn books to that
+    machine, which does not have them."""
+    with Machine() as it:
+        caller = it.book(7, pledges=1)
+        it.admin("copy", "main")
+        it.write("etc/stores/east.conf", "ADDRESS=127.0.0.1:1\n")
+        it.admin("reload")
+        for words in (("split", "main", "east", 7), ("restore-book", 7, "newest", "east"), ("store", "east")):
+            said = it.admin(*words, wanted=1)
+            expect(f"{words}: {said}", "choose another name. Nothing was changed" in said, True)
+            caller.look_up()
+        expect("what was made", (it.lines(), os.path.exists(it.path("east")), it.status()["wrong"]), ({}, False, []))
+        it.admin("split", "main", "west", 7)
+        caller.look_up()
+
+
 if __name__ == "__main__":
     main_with(
         PACKAGES,
@@ -261,4 +278,5 @@ if __name__ == "__main__":
         a_disk_that_fills_meanwhile,
         a_store_on_a_disk_of_its_own,
         a_full_disk_of_a_store,
+        the_name_of_a_store_elsewhere,
     )

@@ -149,8 +149,8 @@ def books_and_lines():
         it.write("etc/books.map", "8 west;\n")
         it.admin("reload")
         it.admin_with("split", "main", "north", 7, PLANT="the_new_store_does_not_start", wanted=1)
-        wrong = it.status()["wrong"]
-        expect(f"the first thing to do after a command was killed: {wrong}", "a command did not end" in wrong[0], True)
+        expect_wrong(it, "a command did not end: run it again, `pawnd-admin split main north 7`. Until it has ended, north may "
+                     "not be served")
         it.admin("split", "main", "north", 7)
         expect_wrong(it)
         it.admin("restore-book", 7, "newest", "south")
@@ -158,6 +158,50 @@ def books_and_lines():
         in_two = [line for line in notes if "book 7 is in two stores: south answers" in line]
         expect(f"a book in two stores: {notes}", len(in_two), 1)
         expect_wrong(it)
+
+
+def commands_that_did_not_end():
+    """One complaint, which says what to run, whatever the store of the command lacks meanwhile; while a command is at work
+    there is none. What another store lacks is said all the same."""
+    with Machine() as it:
+        it.book(7, pledges=1), it.store("west"), it.book(8, "west")
+        it.admin("copy", "main"), it.admin("copy", "west")
+        first = "restore-book", 7, it.newest("main"), "first"
+        it.admin_with(*first, KILL_AT="0", STEPS=it.place("steps"))
+        steps = it.steps()
+        named = ("sysusers.d", "lib/first/books.db', -1", "'start', 'pawnd@", "'enable', '--now'", "books.map", "nginx")
+        for place, text in enumerate(named):
+            step = next(number for number, step in enumerate(steps, 1) if text in step and number > 30)
+            words = *first[:3], f"s{place}"
+            it.admin_with(*words, KILL_AT=str(step), wanted=-9)
+            expect_wrong(it, f"a command did not end: run it again, `pawnd-admin {' '.join(map(str, words))}`")
+            with it.held_up(words[3]):
+                expect_wrong(it)
+                at_work = [line for line in it.status()["notes"] if "a command is at work: `pawnd-admin restore-book 7" in line]
+                expect("what is at work", len(at_work), 1)
+            it.admin(*words)
+        it.admin_with(*first[:3], "last", KILL_AT=str(step), wanted=-9)
+        it.systemctl("stop", "pawnd@west")
+        expect_wrong(it, "a command did not end", "store west: does not answer on", "store west: does not answer through")
+
+
+def a_book_that_is_back():
+    """The note says how it goes away: the book is taken out again, or its last state is removed."""
+    with Machine() as it:
+        it.book(7, pledges=1)
+        it.admin("copy", "main"), it.admin("remove-book", 7)
+        removed = os.path.join(it.copies, "removed")
+        for place in ("west", "north"):
+            folder = os.path.join(removed, max(os.listdir(removed)))
+            it.admin("restore-book", 7, folder, place)
+            told = [line for line in it.status()["notes"] if "book 7 was taken out" in line]
+            remove, rest = "`pawnd-admin remove-book 7`", f"`rm -r {folder}`"
+            expect(f"what it says: {told}", [(remove in line, rest in line) for line in told], [(True, True)])
+            if place == "west":
+                it.admin("remove-book", 7)
+                shutil.rmtree(folder)
+        shutil.rmtree(folder)
+        expect("the notes", [line for line in it.status()["notes"] if "book 7 was taken out" in line], [])
 
 
 def copies_and_disks():
@@ -392,6 +436,8 @@ if __name__ == "__main__":
         a_store_that_is_being_started,
         the_proxy_and_its_files,
         books_and_lines,
+        commands_that_did_not_end,
+        a_book_that_is_back,
         copies_and_disks,
         a_disk_that_other_files_fill,
         a_clock_that_was_set_back,

@@ -1,6 +1,5 @@
 """Verbs of `pawnd-admin` that run at the same time: the same one twice, two on one store, and one store beside another
 that is held up; all while brokers work. Every change that was acknowledged is looked up."""
-import contextlib
 import fcntl
 import os
 import shutil
@@ -68,8 +67,7 @@ def a_restore_that_waits_for_a_copy():
         it.book(7, pledges=1)
         it.admin("copy", "main")
         older = it.newest("main")
-        with open_folder(os.path.join(it.copies, "main")) as folder:
-            fcntl.flock(folder, fcntl.LOCK_EX)
+        with it.held_up("main"):
             running = begun(it, "restore", "main", "newest")
             expect("it waits", "waiting for it" in running.stderr.readline(), True)
             newer = older
@@ -78,15 +76,6 @@ def a_restore_that_waits_for_a_copy():
             shutil.copytree(older, newer)
         said = " ".join(running.communicate(timeout=900))
         expect(f"the copy that was restored: {said}", (running.returncode, f"as at {os.path.basename(newer)}" in said), (0, True))
-
-
-@contextlib.contextmanager
-def open_folder(path):
-    handle = os.open(path, os.O_RDONLY | os.O_DIRECTORY)
-    try:
-        yield handle
-    finally:
-        os.close(handle)
 
 
 def two_verbs_on_one_store():

@@ -1,6 +1,7 @@
 """A machine for `pawnd-admin` in a folder: its settings, stores, copies and nginx, with programs in the place of
 systemctl, journalctl, nft and systemd-sysusers. And callers, who keep account of what was acknowledged to them."""
 import contextlib
+import fcntl
 import http.client
 import json
 import os
@@ -238,6 +239,16 @@ class Machine:
             yield
         finally:
             os.unlink(path)
+
+    @contextlib.contextmanager
+    def held_up(self, store):
+        """Within the block it is as if another command worked on this store."""
+        handle = os.open(os.path.join(self.copies, store), os.O_RDONLY | os.O_DIRECTORY)
+        try:
+            fcntl.flock(handle, fcntl.LOCK_EX)
+            yield
+        finally:
+            os.close(handle)
 
     def path(self, store):
         return os.path.join(self.stores, store, "books.db")
