@@ -20,7 +20,7 @@ import { heldBy, statementOf } from "./reading.js";
 import {
   dropDeadPaper, isLive, newestReceipt, readReceipt, SHOWS, toldOfReceipts, whyDead, whyDeadByBook,
 } from "./papers.js";
-import { receiptSheet } from "./receipt.js";
+import { receiptSheet, recheckPaper } from "./receipt.js";
 import { REDEEM } from "./redeem.js";
 import { askBook, askHeld, current, refuseOther } from "./session.js";
 
@@ -247,6 +247,7 @@ class Desk {
   /** Reads the pledge again that is shown, and draws it if it has changed. */
   async refresh() {
     if (!this.isIdle) return;
+    recheckPaper(byId("new-receipt"));
     const { statement, number } = this;
     let found;
     try {
@@ -410,7 +411,10 @@ export async function showPledge(detail) {
   if (fault) {
     byId("found").hidden = true;
     desk.message = null;
-  } else if (desk.statement?.number === number) desk.sayMessage();
+  } else if (desk.statement?.number === number) {
+    desk.sayMessage();
+    recheckPaper(byId("new-receipt"));
+  }
 }
 
 /**

@@ -19,6 +19,7 @@ import { ledger } from "./ledger.js";
 import { dropDeadPaper } from "./papers.js";
 import { openReceipt } from "./pledge.js";
 import { statementOf } from "./reading.js";
+import { recheckPaper } from "./receipt.js";
 import { nextReference } from "./references.js";
 import { askBook, current, refuseOther } from "./session.js";
 import { refuseStanding } from "./standing.js";
@@ -270,9 +271,13 @@ export function setUpTaking() {
   });
 }
 
-/** Shows the form. Terms that are old are read anew, as another till may have added some; nothing waits for that. */
+/**
+ * Shows the form. Terms that are old are read anew, as another till may have added some; and so is the pledge of the
+ * paper that is shown. Nothing waits for that.
+ */
 export function openTaking() {
   showTaking();
+  recheckPaper(place());
   if (ledger.head && performance.now() - ledger.head.began > OLD_TERMS) ledger.readHead().then(showTaking, () => {});
 }
 
