@@ -14,16 +14,17 @@ import { confirmed } from "./questions.js";
 import { isBarred, isOpen } from "./statuses.js";
 
 const NOTHING = { sentence: "Nothing was recorded.", tone: "quiet" };
-const WORDS = { draw: { done: "Drawn", as: "paid out" }, repay: { done: "Repaid", as: "received" } };
+const WORDS = {
+  draw: { name: "drawing", done: "Drawn", as: "paid out" }, repay: { name: "repayment", done: "Repaid", as: "received" },
+};
 
 /** How many of the entries that came in between are listed line by line. */
 const TOLD = 5;
 
 const isSame = (one, other) => one.seq === other.seq && one.sort === other.sort && one.pence === other.pence;
 
-/** The entries that the pledge has now and did not have when it was shown, as sentences. */
-function newEntries(shown, now) {
-  const entries = now.entries.slice(shown.entries.length);
+/** Entries as sentences: the last ones, and how many others there are. */
+function listed(entries) {
   const lines = entries.slice(-TOLD).map(entryInWords);
   return entries.length > TOLD ? [`${entries.length - TOLD} other entries.`, ...lines] : lines;
 }
@@ -85,15 +86,18 @@ function mending({ kind, owed }, sort, pence) {
  * else null.
  */
 function questionOf({ shown, now, sort, pence, askFrom }) {
-  const [entries, changes] = [newEntries(shown, now), otherChanges(shown, now)];
+  const [entries, changes] = [now.entries.slice(shown.entries.length), otherChanges(shown, now)];
   const amount = inPounds(pence);
+  const mine = `your ${WORDS[sort].name} of ${amount}`;
+  const mayBeListed = entries.some((one) => one.sort === sort);
   if (entries.length + changes.length > 0) return {
     title: "Something came in between", about: now,
     lines: [
-      "Since this pledge was shown here, this happened:", ...entries, ...changes, owedLine(now),
-      entries.length > 0 ? `Is your ${amount} another one, beside these?` : `Do you still want to record ${amount}?`,
+      "Since this pledge was shown here, this happened:", ...listed(entries), ...changes, owedLine(now),
+      mayBeListed ? `Is ${mine} another one? If it is listed here already, record nothing.`
+        : `Do you still want to record ${mine}?`,
     ],
-    yes: entries.length > 0 ? `Yes, record ${amount} as well` : `Yes, record ${amount}`, no: "No, record nothing",
+    yes: `Yes, record ${amount}${mayBeListed ? " as well" : ""}`, no: "No, record nothing",
   };
   if (pence < askFrom && !(Number.isFinite(askFrom) && isUnlike(now, sort, pence))) return null;
   return {
