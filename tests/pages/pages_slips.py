@@ -47,6 +47,26 @@ def an_extension_is_asked_about():
         no_faults()
 
 
+def an_extension_whose_end_is_moved_during_its_question_is_asked_about_anew():
+    """The question counts the days from the old end."""
+    with a_pledge_at_the_counter() as (pages, _):
+        browser.says("£100.00 owed today", "#statement")
+        end = six_months_after(today())
+        until, moved = end + datetime.timedelta(days=90), end + datetime.timedelta(days=60)
+        command("Extend the period", "Extend", until=str(until))
+        browser.says("90 days later", "dialog")
+        pages.session.broker("POST", "/books/7/pledges/1/extend", {"until": str(moved)})
+        browser.press("dialog button", "Extend it by 90 days")
+        browser.says(f"its end was moved to {in_words(moved)}", "#commands .action[open]")
+        expect("nothing was sent", ends_of(pages), str(moved))
+        browser.rests()
+        browser.press(".action[open] button", "Extend")
+        browser.says(f"The period ends on {in_words(moved)} now.", "dialog")
+        browser.press("dialog button", "Extend it by 30 days")
+        browser.says(f"The period ends on {in_words(until)}.", "#commands")
+        no_faults()
+
+
 def an_earlier_end_is_not_sent():
     """Also where another till moved the end since the pledge was shown."""
     with a_pledge_at_the_counter() as (pages, _):
@@ -502,7 +522,8 @@ def once_the_period_is_over_it_says_how_to_go_on():
 main(
     (),
     (
-        an_extension_is_asked_about, an_earlier_end_is_not_sent, an_unlike_amount_is_asked_about,
+        an_extension_is_asked_about, an_extension_whose_end_is_moved_during_its_question_is_asked_about_anew,
+        an_earlier_end_is_not_sent, an_unlike_amount_is_asked_about,
         how_slips_are_mended_is_told, a_sale_is_asked_about_with_its_surplus,
         a_sale_whose_reply_is_lost_is_told, a_take_whose_reply_is_lost_is_found,
         a_take_that_is_lost_for_a_while_is_the_same_when_it_is_pressed_again,

@@ -68,6 +68,8 @@ async function extend({ until }, shown, desk) {
     no: "Not now",
   });
   if (!yes) return NOTHING_DONE;
+  // An end that was moved during the question is asked about anew: the days are counted from the old one.
+  checkEnd(until, now, await lookFirst(desk.read()));
   return `${await sendEnd(until, desk)} ${OLD_PAPER} ${OLD_TAG}`;
 }
 
