@@ -531,7 +531,7 @@ def what_is_due():
             "the sections", [(one[0], len(one) - 1) for one in lists],
             [
                 ("In their days of grace", 2), ("Ends within 7 days", 1), ("Ends in 8 to 14 days", 1),
-                ("Ends in 15 to 30 days", 1), ("Can be sold now", 1), ("Passed to you", 1),
+                ("Ends in 15 to 30 days", 1), ("Can be sold now", 1), ("Passed to the shop", 1),
             ],
         )
         expect("in grace", lists[0][1], f"1 Clock G1 £190.00 can be sold from {in_short(ago(-4))}")
@@ -546,7 +546,7 @@ def what_is_due():
         browser.says(f"It can be sold from {in_words(ago(-4))} on, if it is not redeemed before.", "#commands")
         find("G9")
         unfold("Sale")
-        browser.says("if it is not redeemed or extended before, the article passes to you on", "#commands")
+        browser.says("if it is not redeemed or extended before, the article passes to the shop on", "#commands")
         no_faults()
 
 

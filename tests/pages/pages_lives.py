@@ -36,7 +36,7 @@ def the_life_of_a_pledge():
         visit = today() + datetime.timedelta(days=5)
         show_receipt(pages, receipt)
         browser.says("£100.00 owed today", "#cards")
-        browser.says(f"Still yours until {in_words(six_months_after(today()))}", "#cards")
+        browser.says(f"Kept for you until {in_words(six_months_after(today()))}", "#cards")
         browser.says(f"{(six_months_after(today()) - today()).days} days left", "#cards")
         expect("the address is cleared", browser.run("return location.href"), pages.address + "/pawn/")
         browser.shoot("pawn-pledge")

@@ -397,15 +397,15 @@ def a_hold_does_not_hide_what_the_end_brings():
         days = datetime.timedelta(days=5)
         hold = "On hold: it can’t be redeemed until"
         for number, for_clerk, for_pawnor in (
-            (1, f"The period ends on {in_words(ends)}, and five days of grace follow; after that the article is yours, "
-             "on hold or not",
+            (1, f"The period ends on {in_words(ends)}, and five days of grace follow; "
+             "after that the article is the shop’s, on hold or not",
              f"The period ends on {in_words(ends)}, and five days of grace follow if your paper says so; after that "
              "the article belongs to the pawnbroker, on hold or not"),
             (2, f"The period ends on {in_words(ends)}; after that the article may be sold, on hold or not", None),
             (3, f"The period ended on {in_words(six_months_after(ago(220)))}; the article may be sold any "
              "day, on hold or not", ...),
             (4, f"The period ended on {in_words(grace)}, and days of grace run until {in_words(grace + days)}; "
-             "after that the article is yours, on hold or not",
+             "after that the article is the shop’s, on hold or not",
              f"The period ended on {in_words(grace)}, and days of grace run until {in_words(grace + days)}; "
              "after that the article belongs to the pawnbroker, on hold or not"),
         ):

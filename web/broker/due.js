@@ -32,7 +32,9 @@ const SECTIONS = {
     day: ended, more: turnInShort,
   },
   sale: { title: "Can be sold now", empty: "Nothing can be sold today.", head: "Since", day: since },
-  passed: { title: "Passed to you", empty: "No article has passed to you.", head: "Since", day: since, isTicked: true },
+  passed: {
+    title: "Passed to the shop", empty: "No article has passed to the shop.", head: "Since", day: since, isTicked: true,
+  },
 };
 
 /** The numbers of the passed pledges that this shop has dealt with. This machine alone keeps them. */
@@ -109,7 +111,7 @@ export function showDue() {
   const dealt = lists.passed.filter(({ number }) => done.has(number));
   lists.passed = lists.passed.filter(({ number }) => !done.has(number));
   byId("due-lead").textContent = `On ${inShort(now)}. Sums are what is owed today, with charges, by the book as it was `
-    + "read; of what has passed to you, the credit.";
+    + "read; of what has passed to the shop, the credit.";
   byId("due-lists").replaceChildren(
     ...Object.entries(SECTIONS).map(([name, told]) => sectionOf(told, inOrder(lists[name]), now)),
     ...(dealt.length > 0 ? [dealtFold(dealt)] : []),

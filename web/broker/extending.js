@@ -38,7 +38,7 @@ export function endLines({ ends, taken, credit }, until) {
       ? loudLine(`That is more than a year later, on ${inWords(until)}: look at the year again.`)
       : null,
     willPass({ taken, ends, credit })
-      ? "The article will not pass to you then: if it is not redeemed, it is to be sold."
+      ? "The article will not pass to the shop then: if it is not redeemed, it is to be sold."
       : null,
     "The end can’t be made earlier again. A mistake is set right only if the pledge is redeemed by its paper and taken "
       + "anew.",

@@ -344,7 +344,7 @@ export async function goTo(number, begun, { statement = null, ...more } = {}) {
 /** What is said of a receipt that still shows its pledge, although the pledge is over. */
 const overMessage = (closing) => (closing
   ? `The article was sold on ${inShort(closing.day)}. ${SHOWS}`
-  : `The period is over, and the article is yours. ${SHOWS}`);
+  : `The period is over, and the article is the shop’s. ${SHOWS}`);
 
 /** What is said of a live receipt. On a hold, or once the pledge is over, the article is not given back for it. */
 function liveMessage({ status, owed, held, closing }) {

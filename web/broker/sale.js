@@ -21,7 +21,7 @@ function barredOf(statement, { fiveDays }) {
   // In the days of grace the end can't be moved any more.
   const unless = `if it is not redeemed${status === "inside" ? " or extended" : ""} before`;
   return willPass(statement)
-    ? `It is not sold: ${unless}, the article passes to you on ${first}.`
+    ? `It is not sold: ${unless}, the article passes to the shop on ${first}.`
     : `It can be sold from ${first} on, ${unless}.`;
 }
 

@@ -15,7 +15,8 @@ import { isBarred, isOpen } from "./statuses.js";
 
 const NOTHING = { sentence: "Nothing was recorded.", tone: "quiet" };
 const WORDS = {
-  draw: { name: "drawing", done: "Drawn", as: "paid out" }, repay: { name: "repayment", done: "Repaid", as: "received" },
+  draw: { name: "drawing", done: "Drawn", as: "paid out" },
+  repay: { name: "repayment", done: "Repaid", as: "received" },
 };
 
 /** How many of the entries that came in between are listed line by line. */
