@@ -96,8 +96,10 @@ function asked() {
 
 function askedLine({ number, window, day }) {
   const now = today();
-  const when = day < now ? `${inShort(day)}, which is over` : `${inShort(day)}, ${seenFrom(now, day)}`;
-  return make("li", {}, make("span", { className: "time" }, `${when}, ${timeOf({ day, window })}`), named(number));
+  // On the sheet of another day, “in 5 days” could be counted from that day.
+  const seen = day < now ? ", which is over" : sheet.day === now ? `, ${seenFrom(now, day)}` : "";
+  const time = `${inShort(day)}${seen}, ${timeOf({ day, window })}`;
+  return make("li", {}, make("span", { className: "time" }, time), named(number));
 }
 
 /** Before the book was read, only the days whose sheets were read are known. */
