@@ -9,7 +9,7 @@ from tests.library.keys import BROKER
 from tests.library.pages.browser import Pages
 from tests.library.pages.steps import (
     WRONG_SECRET, a_pledge_at_the_counter, ago, an_open_book, book_text, browser, command, entries, find, in_words,
-    main, make_book, no_faults, open_book, part, receipts_made, show_receipt, take_a_ring,
+    main, make_book, no_faults, open_book, part, receipts_made, show_receipt, take_a_ring, unfold,
 )
 from tests.library.waiting import wait_for
 
@@ -124,6 +124,9 @@ def pawnor_redeems(pages, receipt):
     no_faults()
 
 
+LIVE = "return [...document.querySelectorAll('.action[open] button:enabled')].map((one) => one.textContent)"
+
+
 def a_running_account_and_what_is_refused():
     with an_open_book() as pages:
         part("take")
@@ -146,11 +149,14 @@ def a_running_account_and_what_is_refused():
         browser.says(
             "A written statement is enough only for credit up to £75.00. Ask for a sworn declaration.", "#commands"
         )
-        command("Sale", "Record the sale", amount="10")
-        browser.says("The pledge can’t be sold yet", "#commands")
-        expect("neither is asked about", browser.run("return document.querySelector('dialog')"), None)
-        command("Visit", "Confirm")
-        browser.says("There is no booking that can be decided on or cancelled.", "#commands")
+        expect("it is not asked about", browser.run("return document.querySelector('dialog')"), None)
+        for title, says in (
+            ("Sale", "It can be sold from"), ("Visit", "No visit of this pledge waits for an answer."),
+        ):
+            browser.rests()
+            unfold(title)
+            browser.says(says, ".action[open]")
+            expect(f"{title}: nothing can be pressed", browser.run(LIVE), [])
         pages.session.bearer(receipt, "POST", "/books/7/held/ask", {"day": str(today()), "window": 0})
         find("R/1")
         command("Visit", "Refuse")

@@ -82,7 +82,7 @@ export const extension = (statement, desk) => ({
   title: "Extend the period",
   barred: barredOf(statement),
   parts: [
-    barredOf(statement) ? null : leadOf(statement),
+    leadOf(statement),
     field("New end", make("input", {
       type: "date", name: "until", min: plusDays(statement.ends, 1), max: "2199-12-31", required: true,
     })),

@@ -129,9 +129,7 @@ export function redemption(statement, desk) {
   );
   const amount = make("input", { name: "amount", inputMode: "decimal", required: true });
   const nothing = statement.owed.owing === 0;
-  const lead = statement.held
-    ? ""
-    : `${inPounds(statement.owed.owing)} is owed today. All of it is to be received${nothing ? ": type 0" : ""}.`;
+  const lead = `${inPounds(statement.owed.owing)} is owed today. All of it is to be received${nothing ? ": type 0" : ""}.`;
   return {
     title: REDEEM,
     barred: statement.held
