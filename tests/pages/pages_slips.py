@@ -214,7 +214,7 @@ def a_take_that_is_lost_for_a_while_is_the_same_when_it_is_pressed_again():
         browser.press("#read-book")
         the_book_is_read()
         browser.rests()
-        expect("no word of another reference", browser.text("#reference-stands"), "")
+        expect("no word of another reference", browser.text("#reference-in-use"), "")
         browser.press("#taking button", "Take the pledge")
         browser.says("Taken as pledge 1.", "#taking")
         expect("one pledge", pages.session.broker("GET", "/books/7/pledges/2")[0], 404)

@@ -3,7 +3,7 @@ import { refusalOf } from "../shared/codes.js";
 import { make } from "../shared/dom.js";
 import { Lost } from "../shared/faults.js";
 import { buttons } from "../shared/forms.js";
-import { SMALL } from "../shared/period.js";
+import { SMALL_PENCE } from "../shared/period.js";
 import { confirmed, NOTHING_DONE } from "../shared/questions.js";
 import { isOpen } from "../shared/statuses.js";
 import { ledger } from "./ledger.js";
@@ -102,7 +102,7 @@ async function madeBefore(desk) {
 async function declare({ paper }, statement, desk) {
   const { number } = desk;
   const place = placeOf(number);
-  if (paper === "written" && statement.credit > SMALL) throw refusalOf("NotSmall");
+  if (paper === "written" && statement.credit > SMALL_PENCE) throw refusalOf("NotSmall");
   const made = await madeBefore(desk);
   if (made) return made;
   const before = paper === "sworn"

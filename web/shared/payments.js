@@ -9,7 +9,7 @@ import { refusalOf } from "./codes.js";
 import { inWords, today } from "./days.js";
 import { entryInWords } from "./entries.js";
 import { Lost, lookFirst } from "./faults.js";
-import { inPounds, LARGE, MOST } from "./money.js";
+import { inPounds, LARGE_PENCE, MOST_PENCE } from "./money.js";
 import { confirmed } from "./questions.js";
 import { isBarred, isOpen } from "./statuses.js";
 
@@ -47,7 +47,7 @@ const owedLine = ({ owed }) => (owed ? `${inPounds(owed.owing)} is owed now.` : 
 function refusedNow({ status, owed, kind, credit }, sort, pence) {
   if (!isOpen(status)) return refusalOf(status === "passed" ? "Passed" : "Closed");
   if (sort === "draw" && kind === "fixed") return null;
-  if (pence === 0 || pence > MOST) return refusalOf("BadAmount");
+  if (pence === 0 || pence > MOST_PENCE) return refusalOf("BadAmount");
   if (sort === "repay") return pence > owed.owing ? refusalOf("OverOwing", { total: owed.owing }) : null;
   return owed.principal + pence > credit ? refusalOf("OverLimit") : null;
 }
@@ -124,8 +124,11 @@ async function agreedTo({ shown, read, sort, pence, askFrom, outdated }) {
   }
 }
 
-/** Whether what is read after the entry is what the pledge must have then. A new day adds charges of its own. */
-function judge({ now, after, said, day }) {
+/**
+ * What is wrong where the pledge, read after the entry, is not as it must be then; or null. A new day adds charges of
+ * its own.
+ */
+function checkEntry({ now, after, said, day }) {
   const others = after.entries.length - now.entries.length - 1;
   const mine = after.entries.find(({ seq }) => seq === said.seq);
   if (!mine || !isSame(mine, said)) return "But the pledge, read again, does not have it. Look at its entries";
@@ -145,7 +148,7 @@ function judge({ now, after, said, day }) {
 function tellOf({ now, after, said, day }) {
   const done = `${WORDS[said.sort].done}: ${inPounds(said.pence)}, on ${inWords(said.day)}.`;
   if (!after) return { sentence: `${done} It is recorded, but the pledge can’t be read just now.`, tone: "good" };
-  const wrong = judge({ now, after, said, day });
+  const wrong = checkEntry({ now, after, said, day });
   return wrong
     ? { sentence: `${done} ${wrong} before you do more.`, tone: "bad" }
     : { sentence: `${done} ${owedLine(after)}`, tone: "good" };
@@ -179,7 +182,7 @@ function tellLost({ now, after, entry }) {
  * already, `askFrom` is Infinity. Returns the message, with its tone. Throws the service's refusal, or Lost or
  * NotReached, or what `outdated` returns.
  */
-export async function recordEntry({ shown, read, send, sort, pence, askFrom = LARGE, outdated = null }) {
+export async function recordEntry({ shown, read, send, sort, pence, askFrom = LARGE_PENCE, outdated = null }) {
   const now = await agreedTo({ shown, read, sort, pence, askFrom, outdated });
   if (now === null) return NOTHING;
   const entry = { seq: now.nextSeq, sort, pence };
