@@ -208,6 +208,31 @@ def a_dead_receipt_is_not_printed_by_its_button():
         no_faults()
 
 
+def a_declaration_that_was_not_sent_does_not_have_the_lost_receipt_printed():
+    """Nobody knows whether it was sent: the next press of its own button shows that, and not the button that prints the
+    receipt that was lost."""
+    with a_pledge_at_the_counter() as (pages, receipt):
+        the_book_is_read()
+        browser.rests()
+        command("Replace a lost receipt", "Make a new receipt")
+        browser.element("dialog")
+        with browser.without_a_line():
+            browser.press("dialog button", "Make a new receipt")
+            browser.says("so a new receipt may have been made", "#commands")
+            said = browser.text("#commands")
+            expect("it sends nobody to the lost one", "Print the receipt again” shows" in said, False)
+            browser.says("Press “Make a new receipt” again: if one was made, it is shown then", "#commands")
+        expect("none was made", len(receipts_made(pages, 1)), 1)
+        browser.faults()
+        command("Replace a lost receipt", "Make a new receipt")
+        browser.says("The reply to the press before was lost. It has made no new receipt so far.", "dialog")
+        browser.press("dialog button", "Make a new receipt")
+        browser.says("A new receipt is below.", "#commands")
+        expect("one was made", len(receipts_made(pages, 1)), 2)
+        expect("it is another", browser.text(".paper .secret").strip() != receipt, True)
+        no_faults()
+
+
 def declare(pages, number):
     made = pages.session.broker("POST", f"/books/7/pledges/{number}/declare", {"paper": "sworn"})
     expect("another till makes a new receipt", made[0], 200)
@@ -700,6 +725,7 @@ main(
         a_receipt_that_was_redeemed_is_not_left_to_be_printed, a_receipt_with_the_old_end_is_not_left_to_be_printed,
         a_receipt_that_another_till_replaced_is_not_left_to_be_printed, a_dead_receipt_is_not_printed_by_its_button,
         a_paper_with_an_end_that_another_till_moved_is_not_printed,
+        a_declaration_that_was_not_sent_does_not_have_the_lost_receipt_printed,
         a_receipt_that_another_till_replaced_is_not_called_live_any_more,
         an_equal_payment_that_comes_during_the_question_is_another, redemption_by_the_paper,
         a_redemption_that_the_browser_sends_twice_is_told, a_sale_that_the_browser_sends_twice_is_told,

@@ -214,11 +214,17 @@ class Desk {
     this.read(number).then((found) => ledger.mend(found), () => ledger.anotherChanged());
   }
 
-  /** Shows a receipt of the pledge, to be printed, once it was found live and the book has the pledge’s terms. */
-  async showReceipt(receipt, found = null) {
+  /** Waits for a copy of the book that has the pledge, and returns how many receipts the pledge has had by it. */
+  async countReceipts() {
     await ledger.theBook();
     if (ledger.pledge(this.number) === null) await ledger.awaitReading();
     this.refuseOtherBook();
+    return ledger.pledge(this.number)?.secrets.length ?? 0;
+  }
+
+  /** Shows a receipt of the pledge, to be printed, once it was found live and the book has the pledge’s terms. */
+  async showReceipt(receipt, found = null) {
+    await this.countReceipts();
     const { known } = this;
     if (!known.terms) throw new Error("the book does not have the pledge’s terms");
     if (this.wanted !== this.number || this.statement?.number !== this.number) throw new Outdated(ANOTHER);
