@@ -417,7 +417,7 @@ def a_pledge_that_changed_is_shown_anew_before_it_is_renewed_or_extended():
         pages.session.bearer(receipt, "POST", "/books/7/held/repay", {"pence": 1000, "seq": 1})
         later = str(end + datetime.timedelta(days=90))
         command("Renew", "Renew the pledge", until=later)
-        browser.says("Since this pledge was shown here, it has changed. £90.00 is owed now.", "#commands .action[open]")
+        browser.says("Since this pledge was shown here, it has changed. £90.00 is owed now", "#commands .action[open]")
         browser.says("£90.00 owed today", "#statement")
         expect("the end that was typed", browser.run(UNTIL), later)
         moved = end + datetime.timedelta(days=30)

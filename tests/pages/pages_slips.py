@@ -480,17 +480,17 @@ def a_renewal_stops_where_the_pledge_was_changed_during_its_question():
         open_book(pages)
         the_book_is_read()
         find("Ring-1")
-        until = str(ago(-300))
+        until = ago(-300)
         for target, body, owed in (
-            ("extend", {"until": until}, "£108.00 is owed now."),
-            ("repay", {"pence": 800, "seq": 1}, "£100.00 is owed now."),
+            ("extend", {"until": str(until)}, "£108.00 is owed now"),
+            ("repay", {"pence": 800, "seq": 1}, "£100.00 is owed now"),
         ):
             command("Renew", "Renew the pledge")
             browser.says("Receive £8.00, and extend by", "dialog")
             expect(target, pages.session.broker("POST", f"/books/7/pledges/1/{target}", body)[0], 200)
             browser.press("dialog button.grave")
-            browser.says(f"it has changed. {owed} Look at the pledge, and renew it again.", "#commands")
-        expect("only the other till's", (len(entries(pages, 1)), ends_of(pages)), (1, until))
+            browser.says(f"it has changed. {owed}, and the period ends on {in_words(until)}. Look at the", "#commands")
+        expect("only the other till's", (len(entries(pages, 1)), ends_of(pages)), (1, str(until)))
         no_faults()
 
 

@@ -32,8 +32,10 @@ const question = (now, until, isNewDay) => confirmed({
   no: "Not now",
 });
 
-const outdated = ({ owed }) => new Outdated(
-  `${CHANGED} ${inPounds(owed.owing)} is owed now. Look at the pledge, and renew it again.`,
+/** Another till may have renewed it. */
+const outdated = ({ owed, ends }) => new Outdated(
+  `${CHANGED} ${inPounds(owed.owing)} is owed now, and the period ends on ${inWords(ends)}. Look at the pledge before `
+    + "you renew it.",
 );
 
 /**
