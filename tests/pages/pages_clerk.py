@@ -316,7 +316,7 @@ def a_receipt_of_a_pledge_that_is_over_says_who_has_the_article():
         open_book(pages)
         find(f"1-{secret_of(1)}")
         shows = "The receipt only shows what became of the pledge: don’t hand out the article for it."
-        browser.says(f"The period is over, and the article is yours. {shows}", "#commands")
+        browser.says(f"The period is over, and the article is the shop’s. {shows}", "#commands")
         find(f"2-{secret_of(2)}")
         browser.says(f"The article was sold on {in_short(today())}. {shows}", "#commands")
         expect("it is not called live", "is live" in browser.text("#commands"), False)
@@ -417,7 +417,7 @@ def a_pledge_that_changed_is_shown_anew_before_it_is_renewed_or_extended():
         pages.session.bearer(receipt, "POST", "/books/7/held/repay", {"pence": 1000, "seq": 1})
         later = str(end + datetime.timedelta(days=90))
         command("Renew", "Renew the pledge", until=later)
-        browser.says("Since this pledge was shown here, it has changed. £90.00 is owed now.", "#commands .action[open]")
+        browser.says("Since this pledge was shown here, it has changed. £90.00 is owed now", "#commands .action[open]")
         browser.says("£90.00 owed today", "#statement")
         expect("the end that was typed", browser.run(UNTIL), later)
         moved = end + datetime.timedelta(days=30)
@@ -752,7 +752,7 @@ def an_extension_says_that_the_article_does_not_pass_any_more():
             ):
                 command(title, button, **typed)
                 browser.says("The period ends on", "dialog")
-                loses = "The article will not pass to you then: if it is not redeemed, it is to be sold."
+                loses = "The article will not pass to the shop then: if it is not redeemed, it is to be sold."
                 expect(f"{title} of pledge {number}", loses in browser.text("dialog"), says)
                 browser.press("dialog button", "Not now")
                 browser.says("Nothing was done.", "#commands")

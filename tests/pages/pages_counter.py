@@ -161,6 +161,99 @@ def a_receipt_that_another_till_replaced_is_not_called_live_any_more():
         no_faults()
 
 
+# Counts what is printed, and prints nothing.
+COUNT_PRINTS = "window.printed = 0; window.print = () => { window.printed += 1; };"
+
+
+def a_dead_receipt_is_not_printed_by_its_button():
+    """Two tills replace the same lost receipt in the same minute. Before the book is read again, the first till still
+    shows its paper: its receipt is read when it is to be printed, and when the clerk comes back to it."""
+    with a_pledge_at_the_counter() as (pages, receipt):
+        the_book_is_read()
+        browser.run(COUNT_PRINTS)
+        command("Replace a lost receipt", "Make a new receipt")
+        agree()
+        browser.says("A new receipt is below.", "#commands")
+        browser.rests()
+        browser.press("#new-receipt button", "Print the receipt")
+        browser.until("return window.printed === 1", "a live receipt is printed")
+        browser.rests()
+        with browser.without_a_line():
+            browser.press("#new-receipt button", "Print the receipt")
+            browser.says("It could not be read just now whether this receipt is", "#new-receipt", patience=20)
+        expect("what can't be known is not printed", browser.run("return window.printed"), 1)
+        browser.faults()
+        declare(pages, 1)
+        browser.press("#new-receipt button", "Print the receipt")
+        browser.says("This receipt is not live: a newer one took its place", "#new-receipt")
+        there_is_no_paper()
+        expect("a dead one is not printed", browser.run("return window.printed"), 1)
+        command("Print the receipt again", "Print the receipt again")
+        agree()
+        browser.says("It was looked at just now: it is live.", "#commands")
+        browser.rests()
+        declare(pages, 1)
+        part("today")
+        browser.says("Coming", "#sheet")
+        browser.run("location.hash = '#pledge=1'")
+        browser.says("This receipt is not live: a newer one took its place", "#new-receipt")
+        there_is_no_paper()
+        take_a_ring(reference="A2")
+        declare(pages, 2)
+        part("today")
+        browser.says("Coming", "#sheet")
+        part("take")
+        browser.says("This receipt is not live: a newer one took its place", "#taken-receipt")
+        expect("but for the tag", browser.run("return document.querySelectorAll('.paper .secret').length"), 0)
+        no_faults()
+
+
+def a_declaration_that_was_not_sent_does_not_have_the_lost_receipt_printed():
+    """Nobody knows whether it was sent: the next press of its own button shows that, and not the button that prints the
+    receipt that was lost."""
+    with a_pledge_at_the_counter() as (pages, receipt):
+        the_book_is_read()
+        browser.rests()
+        command("Replace a lost receipt", "Make a new receipt")
+        browser.element("dialog")
+        with browser.without_a_line():
+            browser.press("dialog button", "Make a new receipt")
+            browser.says("so a new receipt may have been made", "#commands")
+            said = browser.text("#commands")
+            expect("it sends nobody to the lost one", "Print the receipt again” shows" in said, False)
+            browser.says("Press “Make a new receipt” again: if one was made, it is shown then", "#commands")
+        expect("none was made", len(receipts_made(pages, 1)), 1)
+        browser.faults()
+        command("Replace a lost receipt", "Make a new receipt")
+        browser.says("The reply to the press before was lost. It has made no new receipt so far.", "dialog")
+        browser.press("dialog button", "Make a new receipt")
+        browser.says("A new receipt is below.", "#commands")
+        expect("one was made", len(receipts_made(pages, 1)), 2)
+        expect("it is another", browser.text(".paper .secret").strip() != receipt, True)
+        no_faults()
+
+
+def declare(pages, number):
+    made = pages.session.broker("POST", f"/books/7/pledges/{number}/declare", {"paper": "sworn"})
+    expect("another till makes a new receipt", made[0], 200)
+
+
+def a_paper_with_an_end_that_another_till_moved_is_not_printed():
+    with a_pledge_at_the_counter() as (pages, _):
+        the_book_is_read()
+        browser.run(COUNT_PRINTS)
+        command("Print the receipt again", "Print the receipt again")
+        agree()
+        browser.says("It was looked at just now: it is live.", "#commands")
+        browser.rests()
+        pages.session.broker("POST", "/books/7/pledges/1/extend", {"until": str(ago(-400))})
+        browser.press("#new-receipt button", "Print the receipt")
+        browser.says("The pledge has changed since this paper was made", "#new-receipt")
+        there_is_no_paper()
+        expect("it is not printed", browser.run("return window.printed"), 0)
+        no_faults()
+
+
 # Another till declares the same receipt lost once this page's declaration was answered.
 DECLARED_TWICE = """
 const real = window.fetch;
@@ -463,7 +556,7 @@ def what_is_due():
             "the sections", [(one[0], len(one) - 1) for one in lists],
             [
                 ("In their days of grace", 2), ("Ends within 7 days", 1), ("Ends in 8 to 14 days", 1),
-                ("Ends in 15 to 30 days", 1), ("Can be sold now", 1), ("Passed to you", 1),
+                ("Ends in 15 to 30 days", 1), ("Can be sold now", 1), ("Passed to the shop", 1),
             ],
         )
         expect("in grace", lists[0][1], f"1 Clock G1 £190.00 can be sold from {in_short(ago(-4))}")
@@ -478,7 +571,7 @@ def what_is_due():
         browser.says(f"It can be sold from {in_words(ago(-4))} on, if it is not redeemed before.", "#commands")
         find("G9")
         unfold("Sale")
-        browser.says("if it is not redeemed or extended before, the article passes to you on", "#commands")
+        browser.says("if it is not redeemed or extended before, the article passes to the shop on", "#commands")
         no_faults()
 
 
@@ -630,7 +723,9 @@ main(
         what_was_done_is_told_where_it_can_no_longer_be_looked_at, a_receipt_has_the_terms_of_its_pledge,
         a_new_receipt_that_another_replaced_is_not_printed, two_equal_payments_are_two,
         a_receipt_that_was_redeemed_is_not_left_to_be_printed, a_receipt_with_the_old_end_is_not_left_to_be_printed,
-        a_receipt_that_another_till_replaced_is_not_left_to_be_printed,
+        a_receipt_that_another_till_replaced_is_not_left_to_be_printed, a_dead_receipt_is_not_printed_by_its_button,
+        a_paper_with_an_end_that_another_till_moved_is_not_printed,
+        a_declaration_that_was_not_sent_does_not_have_the_lost_receipt_printed,
         a_receipt_that_another_till_replaced_is_not_called_live_any_more,
         an_equal_payment_that_comes_during_the_question_is_another, redemption_by_the_paper,
         a_redemption_that_the_browser_sends_twice_is_told, a_sale_that_the_browser_sends_twice_is_told,

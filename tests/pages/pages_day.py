@@ -43,7 +43,7 @@ def references_are_found():
         )
         part("take")
         browser.fill("#taking", ref="b1")
-        browser.says("Pledge 5 has this reference: Silver spoon.", "#reference-stands")
+        browser.says("Pledge 5 has this reference: Silver spoon.", "#reference-in-use")
         browser.run("document.querySelector('#taking').reset()")
         take_a_ring(article="Fork", reference="B2")
         browser.press("#next-reference")

@@ -9,7 +9,7 @@ from tests.library.keys import BROKER
 from tests.library.pages.browser import Pages
 from tests.library.pages.steps import (
     WRONG_SECRET, a_pledge_at_the_counter, ago, an_open_book, book_text, browser, command, entries, find, in_words,
-    main, make_book, no_faults, open_book, part, receipts_made, show_receipt, take_a_ring,
+    main, make_book, no_faults, open_book, part, receipts_made, show_receipt, take_a_ring, unfold,
 )
 from tests.library.waiting import wait_for
 
@@ -36,7 +36,7 @@ def the_life_of_a_pledge():
         visit = today() + datetime.timedelta(days=5)
         show_receipt(pages, receipt)
         browser.says("£100.00 owed today", "#cards")
-        browser.says(f"Still yours until {in_words(six_months_after(today()))}", "#cards")
+        browser.says(f"Kept for you until {in_words(six_months_after(today()))}", "#cards")
         browser.says(f"{(six_months_after(today()) - today()).days} days left", "#cards")
         expect("the address is cleared", browser.run("return location.href"), pages.address + "/pawn/")
         browser.shoot("pawn-pledge")
@@ -71,8 +71,10 @@ def broker_answers(pages, visit, receipt):
     browser.says("£90.00 owed today", "#statement")
     command("Repayment", "Record the repayment", amount="500")
     browser.says("That is more than is owed. Owed today: £90.00.", "#commands")
-    command("Drawing", "Record the drawing", amount="5")
-    browser.says("This pledge is for a fixed sum, so nothing more can be drawn.", "#commands")
+    browser.rests()
+    unfold("Drawing")
+    browser.says("This pledge is for a fixed sum, so nothing more can be drawn.", ".action[open]")
+    expect("nothing can be pressed", browser.run(LIVE), [])
     longer = six_months_after(today()) + datetime.timedelta(days=30)
     command("Extend the period", "Extend", until=str(longer))
     browser.press("dialog button", "Extend it by 30 days")
@@ -124,6 +126,9 @@ def pawnor_redeems(pages, receipt):
     no_faults()
 
 
+LIVE = "return [...document.querySelectorAll('.action[open] button:enabled')].map((one) => one.textContent)"
+
+
 def a_running_account_and_what_is_refused():
     with an_open_book() as pages:
         part("take")
@@ -146,11 +151,14 @@ def a_running_account_and_what_is_refused():
         browser.says(
             "A written statement is enough only for credit up to £75.00. Ask for a sworn declaration.", "#commands"
         )
-        command("Sale", "Record the sale", amount="10")
-        browser.says("The pledge can’t be sold yet", "#commands")
-        expect("neither is asked about", browser.run("return document.querySelector('dialog')"), None)
-        command("Visit", "Confirm")
-        browser.says("There is no booking that can be decided on or cancelled.", "#commands")
+        expect("it is not asked about", browser.run("return document.querySelector('dialog')"), None)
+        for title, says in (
+            ("Sale", "It can be sold from"), ("Visit", "No visit of this pledge waits for an answer."),
+        ):
+            browser.rests()
+            unfold(title)
+            browser.says(says, ".action[open]")
+            expect(f"{title}: nothing can be pressed", browser.run(LIVE), [])
         pages.session.bearer(receipt, "POST", "/books/7/held/ask", {"day": str(today()), "window": 0})
         find("R/1")
         command("Visit", "Refuse")

@@ -205,7 +205,7 @@ def as_the_service_writes_it(pages):
 
 
 @on_a_page
-def how_a_pledge_stands(pages):
+def the_status_of_a_pledge(pages):
     """By the page and by the service, with grace, extensions and small sums."""
     long_ago, now = ago(220), today()
     pledges = [
@@ -376,6 +376,6 @@ main(
     (each_refusal_has_a_sentence, no_text_becomes_code_or_markup),
     (
         days_and_amounts_as_people_write_them, statements_are_read, sheets_are_read, books_of_both_versions_are_read,
-        how_a_pledge_stands, receipts_references_and_terms, codes_of_links, links_hold_what_there_is_room_for,
+        the_status_of_a_pledge, receipts_references_and_terms, codes_of_links, links_hold_what_there_is_room_for,
     ),
 )

@@ -228,6 +228,30 @@ def all_else_goes_on_a4():
         no_faults()
 
 
+def a_sheet_of_another_day_counts_no_days_from_today():
+    """It is printed before, and used on its own day."""
+    day, asked = ago(-2), ago(-5)
+    with Pages() as pages:
+        make_book(pages)
+        receipt = pages.session.open_pledge(1)
+        pages.session.bearer(receipt, "POST", "/books/7/held/ask", {"day": str(asked), "window": 3})
+        open_book(pages)
+        the_book_is_read()
+        browser.says(f"{in_short(asked)}, in 5 days, 10:30 to 11:00", "#sheet")
+        browser.fill("#sheet-day", day=str(day))
+        browser.press("#sheet-day button", "Show")
+        browser.says(f"{in_words(day)}, in 2 days", "#sheet-title")
+        browser.rests()
+        browser.says(f"{in_short(asked)}, 10:30 to 11:00", "#sheet")
+        is_printed("paper-ahead", A4, in_words(day), f"{in_short(asked)}, 10:30", never=("in 2 days", "in 5 days"))
+        part("till")
+        browser.fill("#till-day", day=str(ago(4)))
+        browser.press("#till-day button", "Show")
+        browser.says(f"Till, {in_words(ago(4))}, 4 days ago", "#till-title")
+        is_printed("paper-till-before", A4, f"Till, {in_words(ago(4))}", never=("4 days ago",))
+        no_faults()
+
+
 provide({**PACKAGES, **TEXTS, **READER})
 for what, reader in (("the text on the paper", TEXTS), ("what its square code says", READER)):
     if missing(reader):
@@ -237,6 +261,6 @@ main(
     (
         a_receipt_is_one_a5, a_paper_that_is_printed_again_says_what_is_still_lent,
         the_day_and_the_hour_of_printing_are_of_one_clock, a_tag_is_a_small_paper, a_receipt_without_more,
-        all_else_goes_on_a4,
+        all_else_goes_on_a4, a_sheet_of_another_day_counts_no_days_from_today,
     ),
 )

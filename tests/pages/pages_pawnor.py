@@ -138,7 +138,16 @@ def what_the_page_says_of_links():
         expect("what is not so", "keeps it in this tab alone" in browser.text(), False)
 
 
+# Nothing can be asked for, and the browser does not report it; until it is mended.
+NO_LINE = """
+const real = window.fetch;
+window.mend = () => { window.fetch = real; };
+window.fetch = async () => { throw new TypeError("no line"); };
+"""
+
+
 def without_a_line():
+    """Where the browser does not say that the line is back, a button tries again."""
     with a_pledge_by_its_receipt() as (pages, receipt):
         browser.says("£100.00 owed today", "#cards")
         for is_asked_before in (False, True):
@@ -152,9 +161,16 @@ def without_a_line():
                     command("Record a part payment", "Record the payment", amount="10")
                 browser.says("The pledge can’t be shown just now", "#cards", patience=20)
                 browser.says(NOT_SENT, "#cards")
-            browser.press("button", "Try again")
             browser.says("£100.00 owed today", "#cards")
             expect("no entry", entries(pages, 1), [])
+        browser.rests()
+        browser.run(NO_LINE)
+        command("Record a part payment", "Record the payment", amount="10")
+        browser.says("The pledge can’t be shown just now", "#cards", patience=20)
+        browser.run("window.mend()")
+        browser.press("button", "Try again")
+        browser.says("£100.00 owed today", "#cards")
+        expect("no entry", entries(pages, 1), [])
         command("Redeem", "Redeem for £100.00")
         browser.press("dialog button", "Not yet")
         browser.says("Nothing was done.", "#cards")
@@ -163,6 +179,27 @@ def without_a_line():
             browser.run("return [...document.querySelectorAll('.notice')].find((one) => one.textContent).className"),
             "notice quiet",
         )
+
+
+def a_pledge_is_tried_again_by_itself_once_the_line_is_back():
+    """What was said of the act on the line that dropped stays."""
+    with a_pledge_by_its_receipt() as (pages, receipt):
+        browser.says("£100.00 owed today", "#cards")
+        browser.rests()
+        with browser.without_a_line():
+            command("Record a part payment", "Record the payment", amount="10")
+            browser.says("The pledge can’t be shown just now", "#cards", patience=20)
+            browser.element("button", "Try again")
+        browser.says("£100.00 owed today", "#cards")
+        browser.says(NOT_SENT, "#cards .pledge > .notice")
+        browser.faults()
+        shown = "return performance.getEntriesByType('resource').length"
+        browser.rests()
+        before = browser.run(shown)
+        browser.run("dispatchEvent(new Event('online'))")
+        browser.rests()
+        expect("what is shown is not read again", browser.run(shown), before)
+        no_faults()
 
 
 def a_payment_on_a_line_that_drops():
@@ -397,7 +434,8 @@ main(
     (
         two_equal_payments_are_two, an_amount_that_is_refused_is_not_asked_about,
         a_receipt_that_died_says_one_thing, what_was_redeemed_on_this_page_stays_redeemed, a_redemption_that_is_refused_is_not_asked_about, what_the_page_says_of_links, without_a_line,
-        a_payment_on_a_line_that_drops, a_receipt_that_is_typed_again_takes_the_place_of_the_mistyped_one,
+        a_pledge_is_tried_again_by_itself_once_the_line_is_back, a_payment_on_a_line_that_drops,
+        a_receipt_that_is_typed_again_takes_the_place_of_the_mistyped_one,
         a_visit_is_not_said_to_be_cancelled_before_it_is, a_payment_whose_reply_is_lost_for_good,
         a_visit_after_the_end, receipts_as_people_write_them,
         a_cut_receipt_among_others_is_told, forty_receipts_at_once, the_link_names_the_shop,

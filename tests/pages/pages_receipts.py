@@ -356,7 +356,7 @@ def what_will_be_owed_is_told_by_the_link():
         end = six_months_after(ago(30))
         last = end + datetime.timedelta(days=5)
         for says in (
-            f"Still yours until {in_words(last)}", "five days of grace follow", "R/1", "£8.00 in 30 days on £100",
+            f"Kept for you until {in_words(last)}", "five days of grace follow", "R/1", "£8.00 in 30 days on £100",
             "30p in 30 days, after the end 15p in 30 days", "are as the receipt’s link says",
         ):
             browser.says(says, "#cards")
@@ -370,7 +370,7 @@ def what_will_be_owed_is_told_by_the_link():
         browser.says(f"From {in_short(last + datetime.timedelta(days=1))} on it may have been sold.", "#cards")
         browser.shoot("pawn-reckoned")
         show_receipt(pages, receipt)
-        browser.says(f"Still yours until {in_words(end)}", "#cards")
+        browser.says(f"Kept for you until {in_words(end)}", "#cards")
         browser.says("five days more, if your paper says that it has days of grace", "#cards")
         expect("no form", "what will be owed" in browser.text("#cards"), False)
         no_faults()

@@ -47,6 +47,26 @@ def an_extension_is_asked_about():
         no_faults()
 
 
+def an_extension_whose_end_is_moved_during_its_question_is_asked_about_anew():
+    """The question counts the days from the old end."""
+    with a_pledge_at_the_counter() as (pages, _):
+        browser.says("£100.00 owed today", "#statement")
+        end = six_months_after(today())
+        until, moved = end + datetime.timedelta(days=90), end + datetime.timedelta(days=60)
+        command("Extend the period", "Extend", until=str(until))
+        browser.says("90 days later", "dialog")
+        pages.session.broker("POST", "/books/7/pledges/1/extend", {"until": str(moved)})
+        browser.press("dialog button", "Extend it by 90 days")
+        browser.says(f"its end was moved to {in_words(moved)}", "#commands .action[open]")
+        expect("nothing was sent", ends_of(pages), str(moved))
+        browser.rests()
+        browser.press(".action[open] button", "Extend")
+        browser.says(f"The period ends on {in_words(moved)} now.", "dialog")
+        browser.press("dialog button", "Extend it by 30 days")
+        browser.says(f"The period ends on {in_words(until)}.", "#commands")
+        no_faults()
+
+
 def an_earlier_end_is_not_sent():
     """Also where another till moved the end since the pledge was shown."""
     with a_pledge_at_the_counter() as (pages, _):
@@ -194,7 +214,7 @@ def a_take_that_is_lost_for_a_while_is_the_same_when_it_is_pressed_again():
         browser.press("#read-book")
         the_book_is_read()
         browser.rests()
-        expect("no word of another reference", browser.text("#reference-stands"), "")
+        expect("no word of another reference", browser.text("#reference-in-use"), "")
         browser.press("#taking button", "Take the pledge")
         browser.says("Taken as pledge 1.", "#taking")
         expect("one pledge", pages.session.broker("GET", "/books/7/pledges/2")[0], 404)
@@ -460,17 +480,17 @@ def a_renewal_stops_where_the_pledge_was_changed_during_its_question():
         open_book(pages)
         the_book_is_read()
         find("Ring-1")
-        until = str(ago(-300))
+        until = ago(-300)
         for target, body, owed in (
-            ("extend", {"until": until}, "£108.00 is owed now."),
-            ("repay", {"pence": 800, "seq": 1}, "£100.00 is owed now."),
+            ("extend", {"until": str(until)}, "£108.00 is owed now"),
+            ("repay", {"pence": 800, "seq": 1}, "£100.00 is owed now"),
         ):
             command("Renew", "Renew the pledge")
             browser.says("Receive £8.00, and extend by", "dialog")
             expect(target, pages.session.broker("POST", f"/books/7/pledges/1/{target}", body)[0], 200)
             browser.press("dialog button.grave")
-            browser.says(f"it has changed. {owed} Look at the pledge, and renew it again.", "#commands")
-        expect("only the other till's", (len(entries(pages, 1)), ends_of(pages)), (1, until))
+            browser.says(f"it has changed. {owed}, and the period ends on {in_words(until)}. Look at the", "#commands")
+        expect("only the other till's", (len(entries(pages, 1)), ends_of(pages)), (1, str(until)))
         no_faults()
 
 
@@ -502,7 +522,8 @@ def once_the_period_is_over_it_says_how_to_go_on():
 main(
     (),
     (
-        an_extension_is_asked_about, an_earlier_end_is_not_sent, an_unlike_amount_is_asked_about,
+        an_extension_is_asked_about, an_extension_whose_end_is_moved_during_its_question_is_asked_about_anew,
+        an_earlier_end_is_not_sent, an_unlike_amount_is_asked_about,
         how_slips_are_mended_is_told, a_sale_is_asked_about_with_its_surplus,
         a_sale_whose_reply_is_lost_is_told, a_take_whose_reply_is_lost_is_found,
         a_take_that_is_lost_for_a_while_is_the_same_when_it_is_pressed_again,

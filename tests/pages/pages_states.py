@@ -135,8 +135,8 @@ def visit_in_a_list(state):
 
 
 def turn_in_a_list(state):
-    said = {"passed": "passed to you on", "realisable": "can be sold since"}.get(state.status)
-    return f"{said or ('passes to you on' if state.passes else 'can be sold from')} {in_short(state.after)}"
+    said = {"passed": "passed to the shop on", "realisable": "can be sold since"}.get(state.status)
+    return f"{said or ('passes to the shop on' if state.passes else 'can be sold from')} {in_short(state.after)}"
 
 
 def end_in_a_list(state):
@@ -269,7 +269,7 @@ def the_sheet_says_each_state():
 
 def state_lines(state, reader):
     """What the card of a pledge says of its state: for the clerk, and for the pawnor by a link with all that it says."""
-    becomes = {True: {"broker": "is yours", "pawnor": "belongs to the pawnbroker"}, False: {
+    becomes = {True: {"broker": "is the shop’s", "pawnor": "belongs to the pawnbroker"}, False: {
         "broker": "may be sold", "pawnor": "may be sold",
     }}[state.passes][reader]
     more = "can’t be redeemed any more" if state.passes else "can be redeemed until it is sold"
@@ -279,13 +279,14 @@ def state_lines(state, reader):
         whose = {"broker": "which is the pawnor’s", "pawnor": "which is yours: ask the shop for it"}[reader]
         return [f"£50.00 more than was owed, {whose}", "Lent and not repaid then"]
     if state.status == "passed":
-        return [{"broker": "The article is yours now", "pawnor": "The article belongs to the pawnbroker now"}[reader]]
+        whose = {"broker": "is the shop’s", "pawnor": "belongs to the pawnbroker"}[reader]
+        return [f"The article {whose} now"]
     if state.held:
         return ["On hold: it can’t be redeemed until", f"the article {becomes}", "on hold or not"]
     if state.status == "realisable":
         return ["may be sold any day"]
     broker = "Can be redeemed until" if state.passes else "To be kept until"
-    until = {"broker": broker, "pawnor": "Still yours until"}[reader]
+    until = {"broker": broker, "pawnor": "Still yours until" if state.passes else "Kept for you until"}[reader]
     front = f"from {in_short(state.after)} on the article" if reader == "broker" else "after that it"
     return [f"{until} {in_words(state.last)}", f"{front} {becomes}, and {more}"]
 
@@ -353,7 +354,8 @@ def the_page_of_a_pledge_says_each_state():
                 command("Print a tag for the bag", "Show the tag")
                 browser.says("The tag is below", "#commands")
                 cell("the tag", state, browser.text("#new-receipt .paper"), [
-                    f"Until {in_short(state.last)}", f"After that it {'is yours' if state.passes else 'may be sold'}.",
+                    f"Until {in_short(state.last)}",
+                    f"After that it {'is the shop’s' if state.passes else 'may be sold'}.",
                     "Up to £" if state.kind == "running" else None,
                 ])
         no_faults()
@@ -393,7 +395,8 @@ def the_pawnors_page_says_each_state():
             said = browser.text("#cards")
             if state.status == "inside" and not state.held:
                 cell("the page without the link’s more", state, said, [
-                    f"Still yours until {in_words(state.ends)}", "five days more, if your paper says",
+                    f"{'Still yours' if state.passes else 'Kept for you'} until {in_words(state.ends)}",
+                    "five days more, if your paper says",
                 ])
         no_faults()
 

@@ -2,6 +2,7 @@
 what this machine keeps; in a real browser, in front of the program."""
 import os
 
+from tests.library.book_texts import row
 from tests.library.checks import expect
 from tests.library.dates import six_months_after, today
 from tests.library.pages.browser import Pages
@@ -90,21 +91,46 @@ def dues_are_what_is_owed_and_can_be_ticked_off():
                     "field.dispatchEvent(new Event('change', { bubbles: true }))")
         by_reference = browser.run(order)
         expect("by reference", by_reference.index("B2\n") < by_reference.index("B10"), True)
-        browser.says("2: £110.00", "#due-lists")
+        days = (six_months_after(long_ago) - long_ago).days
+        watch, brooch = 5000 + 5 * days, 6000 + 6 * days
+        both, one = (f"{pence / 100:.2f}" for pence in (watch + brooch, brooch))
+        browser.says(f"2: £{both}", "#due-lists")
         browser.says("What you tick off as dealt with is kept in this browser: other tills still list it.", "#due-lists")
         browser.press("#due-lists .tick", "Dealt with")
-        browser.says("1: £60.00", "#due-lists")
+        browser.says(f"1: £{one}", "#due-lists")
         browser.says("Passed and dealt with: 1", "#due-lists")
         browser.shoot("broker-dealt")
         browser.ask("POST", "/refresh", {})
         browser.says("Passed and dealt with: 1", "#due-lists")
         browser.press("#due-lists summary")
         browser.press("#due-lists details .tick", "Dealt with")
-        browser.says("2: £110.00", "#due-lists")
+        browser.says(f"2: £{both}", "#due-lists")
         part("all")
         browser.says("5 of 5 pledges. Out on loan on 3 open ones: £400.00, with £69.00 of charges today.", "#all")
         browser.fill("#searching", text="Ring")
         browser.says("1 of 5 pledges. Out on loan on 1 open one: £100.00, with £3.00 of charges today.", "#all")
+        no_faults()
+
+
+def what_has_passed_is_listed_with_what_was_owed_then():
+    """One that was repaid is listed with nothing, and a running account without what was never drawn."""
+    taken = ago(220)
+    with Pages() as pages:
+        make_book(pages, terms=False)
+        text = book_text([("Cup", "A1", 5000, taken, "", "no")], rates=(0, 0, 0)).replace("B,2,1,1", "B,2,1,2")
+        fill_book(pages, text + "\n".join([
+            row("E", 1, 1, taken, "repay", 5000),
+            row("P", 2, "A2", "Pin", "running", 7000, taken, "", "no", 1, "no", taken, "open"),
+            row("S", 2, 1, taken, "opening", secret_of(2)), row("E", 2, 1, taken, "draw", 1000),
+        ]) + "\n")
+        open_book(pages)
+        the_book_is_read()
+        part("due")
+        browser.says("Passed to the shop", "#due-lists")
+        browser.says("2: £10.00", "#due-lists")
+        sums = "return [...document.querySelectorAll('#due-lists td.number')].map((one) => one.textContent)"
+        expect("each sum", browser.run(sums), ["£0.00", "£10.00"])
+        browser.says("of what has passed to the shop, what was owed on its last day.", "#due-lead")
         no_faults()
 
 
@@ -354,7 +380,8 @@ main(
     (),
     (
         what_a_pledge_has_beside_its_statement, the_sheet_is_read_anew, dues_are_what_is_owed_and_can_be_ticked_off,
-        the_till_parts_what_was_repaid_and_has_a_float, the_sum_of_a_line_is_named, an_import_tells_of_the_other_book,
+        what_has_passed_is_listed_with_what_was_owed_then, the_till_parts_what_was_repaid_and_has_a_float,
+        the_sum_of_a_line_is_named, an_import_tells_of_the_other_book,
         a_file_that_is_no_book_is_not_asked_about,
         a_reply_that_hangs_is_not_waited_for, what_is_typed_stays_while_a_pledge_is_drawn_anew,
         what_is_typed_stays_while_the_book_is_read, the_parts_take_one_row,

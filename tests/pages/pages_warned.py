@@ -7,8 +7,8 @@ from tests.library.dates import six_months_after, today
 from tests.library.pages.browser import Pages
 from tests.library.pages.steps import (
     LOST, WRONG_SECRET, a_pledge_at_the_counter, a_pledge_by_its_receipt, ago, an_open_book, book_text, browser,
-    command, entries, fill_book, find, in_words, main, make_book, no_faults, open_book, part, secret_of, show_receipt,
-    the_book_is_read, unfold,
+    command, entries, fill_book, find, in_short, in_words, main, make_book, no_faults, open_book, part, secret_of,
+    show_receipt, take_a_ring, the_book_is_read, unfold,
 )
 
 PAID_OUT = "Nothing is paid out yet: record each amount that you pay out as a drawing"
@@ -397,15 +397,15 @@ def a_hold_does_not_hide_what_the_end_brings():
         days = datetime.timedelta(days=5)
         hold = "On hold: it can’t be redeemed until"
         for number, for_clerk, for_pawnor in (
-            (1, f"The period ends on {in_words(ends)}, and five days of grace follow; after that the article is yours, "
-             "on hold or not",
+            (1, f"The period ends on {in_words(ends)}, and five days of grace follow; "
+             "after that the article is the shop’s, on hold or not",
              f"The period ends on {in_words(ends)}, and five days of grace follow if your paper says so; after that "
              "the article belongs to the pawnbroker, on hold or not"),
             (2, f"The period ends on {in_words(ends)}; after that the article may be sold, on hold or not", None),
             (3, f"The period ended on {in_words(six_months_after(ago(220)))}; the article may be sold any "
              "day, on hold or not", ...),
             (4, f"The period ended on {in_words(grace)}, and days of grace run until {in_words(grace + days)}; "
-             "after that the article is yours, on hold or not",
+             "after that the article is the shop’s, on hold or not",
              f"The period ended on {in_words(grace)}, and days of grace run until {in_words(grace + days)}; "
              "after that the article belongs to the pawnbroker, on hold or not"),
         ):
@@ -490,7 +490,7 @@ def what_came_in_between_is_named():
         browser.press(".action[open] button")
         browser.says(f"The period ends on {in_words(day)} now.", "dialog")
         browser.says("The pledge was put on hold.", "dialog")
-        browser.says("Do you still want to record £5.00?", "dialog")
+        browser.says("Do you still want to record your repayment of £5.00?", "dialog")
         browser.press("dialog button", "No, record nothing")
         browser.rests()
         browser.fill(".action[open] form", amount="6")
@@ -498,9 +498,36 @@ def what_came_in_between_is_named():
         pages.session.broker("POST", "/books/7/pledges/1/repay", {"pence": 600, "seq": 1})
         browser.press(".action[open] button")
         browser.says("The hold was released.", "dialog")
-        browser.says("Is your £6.00 another one, beside these?", "dialog")
+        browser.says("Is your repayment of £6.00 another one? If it is listed here already, record nothing.", "dialog")
         browser.press("dialog button", "No, record nothing")
         expect("one entry", len(entries(pages, 1)), 1)
+        no_faults()
+
+
+def a_drawing_that_came_in_between_is_not_asked_about_as_a_repayment():
+    with an_open_book() as pages:
+        the_book_is_read()
+        take_a_ring(kind="running")
+        draw = {"pence": 1000, "seq": 1}
+        expect("a drawing", pages.session.broker("POST", "/books/7/pledges/1/draw", draw)[0], 200)
+        find("1")
+        browser.says("£10.00 owed today", "#statement")
+        draw["seq"] = 2
+        expect("another till's", pages.session.broker("POST", "/books/7/pledges/1/draw", draw)[0], 200)
+        command("Repayment", "Record the repayment", amount="10")
+        browser.says(f"Drawn: £10.00, on {in_short(today())}.", "dialog")
+        browser.says("Do you still want to record your repayment of £10.00?", "dialog")
+        browser.press("dialog button", "Yes, record £10.00")
+        browser.says("Repaid: £10.00", "#commands")
+        for name, seq in ("repay", 4), ("draw", 5):
+            made = pages.session.broker("POST", f"/books/7/pledges/1/{name}", {"pence": 1000, "seq": seq})
+            expect("another till's", made[0], 200)
+        command("Drawing", "Record the drawing", amount="10")
+        for came in ("Repaid", "Drawn"):
+            browser.says(f"{came}: £10.00, on {in_short(today())}.", "dialog")
+        browser.says("Is your drawing of £10.00 another one? If it is listed here already, record nothing.", "dialog")
+        browser.press("dialog button", "Yes, record £10.00 as well")
+        browser.says("£20.00 is owed now.", "#commands")
         no_faults()
 
 
@@ -710,6 +737,7 @@ main(
         closing_the_book_asks_while_a_reply_is_awaited,
         a_pledge_that_is_paid_is_still_to_be_fetched, a_hold_does_not_hide_what_the_end_brings,
         a_visit_whose_time_is_over_is_told_the_clerk,
-        what_came_in_between_is_named, money_that_is_paid_out_on_a_hold_is_asked_about,
+        what_came_in_between_is_named, a_drawing_that_came_in_between_is_not_asked_about_as_a_repayment,
+        money_that_is_paid_out_on_a_hold_is_asked_about,
     ),
 )

@@ -1,6 +1,6 @@
 /**
- * The commands on a pledge, each with its form. A command that would be refused now is shown apart, with the reason;
- * the service decides.
+ * The commands on a pledge, each with its form. A command that would be refused now is shown apart, with the reason in
+ * place of its form.
  */
 import { inWords } from "../shared/days.js";
 import { make } from "../shared/dom.js";
@@ -23,7 +23,8 @@ import { tagging } from "./tag.js";
 
 /** One command: its name, why not now or null, the parts of its form, and what it does with the form's fields. */
 function commandFold({ title, barred, parts, act }, desk) {
-  const form = make("form", { autocomplete: "off" }, barred && make("p", { className: "barred" }, barred), ...parts);
+  const content = barred ? [make("p", { className: "barred" }, barred)] : parts;
+  const form = make("form", { autocomplete: "off" }, ...content);
   return fold(title, form, (fields, place) => desk.perform(() => act(fields), place));
 }
 
@@ -54,7 +55,7 @@ function drawing(statement, desk) {
     title: "Drawing",
     barred: fixed ?? (statement.status === "inside" ? null : "The period is over, so nothing more is drawn."),
     parts: [
-      lead(`Money that you pay out on a running account. ${fixed ? "" : left}`), amountField("Paid out, in pounds"),
+      lead(`Money that you pay out on a running account. ${left}`), amountField("Paid out, in pounds"),
       buttons(button("Record the drawing")),
     ],
     act: ({ amount }) => entry(statement, desk, "draw", amount),
@@ -150,15 +151,16 @@ function doubtsAbout(statement, known) {
 
 function visit(statement, desk) {
   const { booking } = statement;
+  const title = "Visit";
+  if (!isPending(booking)) return { title, barred: "No visit of this pledge waits for an answer." };
   return {
-    title: "Visit",
-    barred: isPending(booking) ? null : "No visit of this pledge waits for an answer.",
+    title, barred: null,
     parts: [
-      lead(booking ? `${bookingInWords(booking)}.` : "The pawnor asks for a day and a time."),
+      lead(`${bookingInWords(booking)}.`),
       ...doubtsAbout(statement, desk.known).map(lead),
       // What is confirmed already, or was asked for a day that is over, can only be refused.
       buttons(
-        isPast(booking) || booking?.state === "confirmed" ? null : button("Confirm", "yes"),
+        isPast(booking) || booking.state === "confirmed" ? null : button("Confirm", "yes"),
         button("Refuse", "no", "plain"),
       ),
     ],

@@ -1,6 +1,6 @@
 /** The form that chooses the day of a part: a day and its neighbours. The address names the day, but not today. */
 import { inWords, plusDays, seenFrom, today } from "../shared/days.js";
-import { byId } from "../shared/dom.js";
+import { byId, make } from "../shared/dom.js";
 import { onSend } from "../shared/forms.js";
 
 /** The ids of each part's form and title begin so. */
@@ -28,11 +28,15 @@ export function putDay(part, day) {
   shown[part] = day;
 }
 
-/** Shows a day in the part's title, after the words before it; and in its form, unless another was typed since. */
+/**
+ * Shows a day in the part's title, after the words before it; and in its form, unless another was typed since. Paper is
+ * read on other days, so how far a day is off is on the screen alone.
+ */
 export function showDayOf(part, day, { name, isToday }) {
   if (shown[part] !== day) putDay(part, day);
   const front = name ? `${name}, ` : "";
-  byId(`${FRONTS[part]}-title`).textContent = day === today()
-    ? `${front}${isToday}, ${inWords(day)}`
-    : `${front}${inWords(day)}, ${seenFrom(today(), day)}`;
+  byId(`${FRONTS[part]}-title`).replaceChildren(
+    ...(day === today() ? [`${front}${isToday}, ${inWords(day)}`]
+      : [`${front}${inWords(day)}`, make("span", { className: "screen" }, `, ${seenFrom(today(), day)}`)])
+  );
 }

@@ -3,7 +3,8 @@ import { turnInShort } from "../shared/after.js";
 import { inShort, seenFrom, today } from "../shared/days.js";
 import { byId, foreign, make } from "../shared/dom.js";
 import { inPounds } from "../shared/money.js";
-import { firstDayAfter } from "../shared/period.js";
+import { owedOn } from "../shared/owing.js";
+import { firstDayAfter, lastSafeDay } from "../shared/period.js";
 import { bookingInShort } from "../shared/visits.js";
 import { missingInWords } from "./age.js";
 import { dueOf, placeOf } from "./groups.js";
@@ -32,7 +33,9 @@ const SECTIONS = {
     day: ended, more: turnInShort,
   },
   sale: { title: "Can be sold now", empty: "Nothing can be sold today.", head: "Since", day: since },
-  passed: { title: "Passed to you", empty: "No article has passed to you.", head: "Since", day: since, isTicked: true },
+  passed: {
+    title: "Passed to the shop", empty: "No article has passed to the shop.", head: "Since", day: since, isTicked: true,
+  },
 };
 
 /** The numbers of the passed pledges that this shop has dealt with. This machine alone keeps them. */
@@ -54,8 +57,9 @@ function tickBox({ number }, isDone) {
   return make("label", { className: "choice tick screen" }, box, make("span", {}, "Dealt with"));
 }
 
-/** What is owed today; of a passed pledge, on which nothing is owed, the sum that was lent. */
-const sumOf = (pledge) => ledger.owed(pledge)?.owing ?? pledge.credit;
+/** What is owed today; of a passed pledge, on which nothing is owed any more, what was owed on its last day. */
+const sumOf = (pledge) =>
+  (ledger.owed(pledge) ?? owedOn(pledge, ledger.termsOf(pledge), lastSafeDay(pledge))).owing;
 
 /** The visit for which the article has to be kept, or whose day is over. Of a passed article nothing is fetched. */
 function visitOf({ booking }, { isTicked }, now) {
@@ -77,7 +81,7 @@ function sectionOf(told, pledges, now) {
   return section({
     title: told.title, empty: told.empty, items: pledges,
     count: pledges.length === 0 ? "0" : `${pledges.length}: ${inPounds(total)}`,
-    heads: [["No."], ["Article and reference"], [told.isTicked ? "Credit" : "Owed", "number"], [told.head]],
+    heads: [["No."], ["Article and reference"], [told.isTicked ? "Owed then" : "Owed", "number"], [told.head]],
     row: (pledge) => rowOf(pledge, told, now),
     under: told.isTicked && pledges.length > 0 ? [make("p", { className: "lead screen" }, TICKS)] : [],
   });
@@ -109,7 +113,7 @@ export function showDue() {
   const dealt = lists.passed.filter(({ number }) => done.has(number));
   lists.passed = lists.passed.filter(({ number }) => !done.has(number));
   byId("due-lead").textContent = `On ${inShort(now)}. Sums are what is owed today, with charges, by the book as it was `
-    + "read; of what has passed to you, the credit.";
+    + "read; of what has passed to the shop, what was owed on its last day.";
   byId("due-lists").replaceChildren(
     ...Object.entries(SECTIONS).map(([name, told]) => sectionOf(told, inOrder(lists[name]), now)),
     ...(dealt.length > 0 ? [dealtFold(dealt)] : []),

@@ -38,7 +38,7 @@ export function endLines({ ends, taken, credit }, until) {
       ? loudLine(`That is more than a year later, on ${inWords(until)}: look at the year again.`)
       : null,
     willPass({ taken, ends, credit })
-      ? "The article will not pass to you then: if it is not redeemed, it is to be sold."
+      ? "The article will not pass to the shop then: if it is not redeemed, it is to be sold."
       : null,
     "The end can’t be made earlier again. A mistake is set right only if the pledge is redeemed by its paper and taken "
       + "anew.",
@@ -68,6 +68,8 @@ async function extend({ until }, shown, desk) {
     no: "Not now",
   });
   if (!yes) return NOTHING_DONE;
+  // An end that was moved during the question is asked about anew: the days are counted from the old one.
+  checkEnd(until, now, await lookFirst(desk.read()));
   return `${await sendEnd(until, desk)} ${OLD_PAPER} ${OLD_TAG}`;
 }
 
@@ -80,7 +82,7 @@ export const extension = (statement, desk) => ({
   title: "Extend the period",
   barred: barredOf(statement),
   parts: [
-    barredOf(statement) ? null : leadOf(statement),
+    leadOf(statement),
     field("New end", make("input", {
       type: "date", name: "until", min: plusDays(statement.ends, 1), max: "2199-12-31", required: true,
     })),

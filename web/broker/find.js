@@ -11,7 +11,7 @@ import { goTo, hasGoneOn, hidePledge, openReceipt, startOfSearch } from "./pledg
 import { statementOf } from "./reading.js";
 
 /** At most so many pledges are offered. */
-const MOST = 20;
+const MOST_CHOICES = 20;
 
 /** What was typed and opened as a number before the book was read and showed whether it is a reference, too. */
 let opened = null;
@@ -26,7 +26,7 @@ function choice({ number, as }) {
 }
 
 const showChoices = (meant) =>
-  byId("choices").replaceChildren(make("ul", { className: "lines card" }, ...meant.slice(0, MOST).map(choice)));
+  byId("choices").replaceChildren(make("ul", { className: "lines card" }, ...meant.slice(0, MOST_CHOICES).map(choice)));
 
 /** The pledges of a reference: by the book as it was read, or else as it is read now. */
 async function named(wanted) {

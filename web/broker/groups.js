@@ -5,7 +5,7 @@ import { numberOf, pledgeTyped, receiptsTyped } from "../shared/receipts.js";
 import { isOpen } from "../shared/statuses.js";
 import { isPast, isToCome } from "../shared/visits.js";
 
-const stands = (...wanted) => (now) => (pledge) => wanted.includes(statusOn(pledge, now));
+const hasStatus = (...wanted) => (now) => (pledge) => wanted.includes(statusOn(pledge, now));
 
 /** How many days before a period's end it is said to end soon. */
 const SOON = 30;
@@ -27,11 +27,11 @@ export const GROUPS = {
   all: { name: "All", of: () => () => true },
   open: { name: "Open", of: stillOpen },
   due: { name: `Ends within ${SOON} days`, of: endsSoon },
-  grace: { name: "In grace", of: stands("grace") },
-  sale: { name: "Can be sold", of: stands("realisable") },
-  passed: { name: "Passed", of: stands("passed") },
-  redeemed: { name: "Redeemed", of: stands("redeemed") },
-  sold: { name: "Sold", of: stands("sold") },
+  grace: { name: "In grace", of: hasStatus("grace") },
+  sale: { name: "Can be sold", of: hasStatus("realisable") },
+  passed: { name: "Passed", of: hasStatus("passed") },
+  redeemed: { name: "Redeemed", of: hasStatus("redeemed") },
+  sold: { name: "Sold", of: hasStatus("sold") },
   held: { name: "On hold", of: isHeld },
   comes: { name: "Visit to come", of: somebodyComes },
   past: { name: "Past visit", of: wasToCome },

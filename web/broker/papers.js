@@ -2,6 +2,7 @@
 import { liveReceipt } from "../shared/book.js";
 import { clockOf } from "../shared/clock.js";
 import { inShort } from "../shared/days.js";
+import { isFailedLook, Outdated } from "../shared/faults.js";
 import { numberOf, receiptsTyped, whyNotWhole } from "../shared/receipts.js";
 import { Unreadable } from "../shared/unreadable.js";
 import { ledger } from "./ledger.js";
@@ -94,6 +95,26 @@ export async function whyDead(receipt, begun = current()) {
   const statement = await statementOf(numberOf(receipt), begun);
   const later = ledger.readAgain().then(() => whyByBook(receipt), () => null);
   return { sentence: whyAtOnce(receipt, statement), statement, later };
+}
+
+const UNREAD = "It could not be read just now whether this receipt is still live, so it was not printed. "
+  + "Try again in a minute.";
+const CHANGED = "The pledge has changed since this paper was made. "
+  + "“Print the receipt again”, on its page, shows it as it is now.";
+
+/** What a paper says of its pledge that may change. */
+const saidOf = ({ ends, status, owed }) => `${ends} ${status} ${owed?.principal}`;
+
+/** Throws an Unreadable where a paper is not to be printed any more, by its pledge as it is read now. */
+export async function refuseOld({ receipt, statement }, begun) {
+  const now = await heldBy(receipt, begun).catch((fault) => {
+    throw isFailedLook(fault) ? new Outdated(UNREAD) : fault;
+  });
+  if (now === null) {
+    const { sentence, later } = await whyDead(receipt, begun);
+    throw new Unreadable(sentence, null, later);
+  }
+  if (saidOf(now) !== saidOf(statement)) throw new Unreadable(CHANGED);
 }
 
 /** The one receipt that was typed or scanned, of this book. */

@@ -20,7 +20,7 @@ import { heldBy, statementOf } from "./reading.js";
 import {
   dropDeadPaper, isLive, newestReceipt, readReceipt, SHOWS, toldOfReceipts, whyDead, whyDeadByBook,
 } from "./papers.js";
-import { receiptSheet } from "./receipt.js";
+import { receiptSheet, recheckPaper } from "./receipt.js";
 import { REDEEM } from "./redeem.js";
 import { askBook, askHeld, current, refuseOther } from "./session.js";
 
@@ -214,11 +214,17 @@ class Desk {
     this.read(number).then((found) => ledger.mend(found), () => ledger.anotherChanged());
   }
 
-  /** Shows a receipt of the pledge, to be printed, once it was found live and the book has the pledge’s terms. */
-  async showReceipt(receipt, found = null) {
+  /** Waits for a copy of the book that has the pledge, and returns how many receipts the pledge has had by it. */
+  async countReceipts() {
     await ledger.theBook();
     if (ledger.pledge(this.number) === null) await ledger.awaitReading();
     this.refuseOtherBook();
+    return ledger.pledge(this.number)?.secrets.length ?? 0;
+  }
+
+  /** Shows a receipt of the pledge, to be printed, once it was found live and the book has the pledge’s terms. */
+  async showReceipt(receipt, found = null) {
+    await this.countReceipts();
     const { known } = this;
     if (!known.terms) throw new Error("the book does not have the pledge’s terms");
     if (this.wanted !== this.number || this.statement?.number !== this.number) throw new Outdated(ANOTHER);
@@ -247,6 +253,7 @@ class Desk {
   /** Reads the pledge again that is shown, and draws it if it has changed. */
   async refresh() {
     if (!this.isIdle) return;
+    recheckPaper(byId("new-receipt"));
     const { statement, number } = this;
     let found;
     try {
@@ -343,7 +350,7 @@ export async function goTo(number, begun, { statement = null, ...more } = {}) {
 /** What is said of a receipt that still shows its pledge, although the pledge is over. */
 const overMessage = (closing) => (closing
   ? `The article was sold on ${inShort(closing.day)}. ${SHOWS}`
-  : `The period is over, and the article is yours. ${SHOWS}`);
+  : `The period is over, and the article is the shop’s. ${SHOWS}`);
 
 /** What is said of a live receipt. On a hold, or once the pledge is over, the article is not given back for it. */
 function liveMessage({ status, owed, held, closing }) {
@@ -410,7 +417,10 @@ export async function showPledge(detail) {
   if (fault) {
     byId("found").hidden = true;
     desk.message = null;
-  } else if (desk.statement?.number === number) desk.sayMessage();
+  } else if (desk.statement?.number === number) {
+    desk.sayMessage();
+    recheckPaper(byId("new-receipt"));
+  }
 }
 
 /**

@@ -2,12 +2,15 @@
 import { becomesInWords } from "../shared/after.js";
 import { inShort, inWords, today } from "../shared/days.js";
 import { facts, foreign, make } from "../shared/dom.js";
+import { makeNotice, run, tell, tellLater } from "../shared/forms.js";
 import { inPounds } from "../shared/money.js";
 import { pictureOf } from "../shared/qr.js";
 import { linkTo } from "../shared/receipts.js";
 import { isOpen } from "../shared/statuses.js";
 import { agreedFact, endInWords } from "../shared/summary.js";
 import { interestInWords, keepingInWords } from "../shared/terms.js";
+import { Unreadable } from "../shared/unreadable.js";
+import { refuseOld } from "./papers.js";
 import { current } from "./session.js";
 import { shop } from "./shop.js";
 
@@ -59,6 +62,43 @@ function headOf(number, reference) {
   );
 }
 
+/** By the element of a receipt: the look at its pledge, which takes away a paper that is not to be printed any more. */
+const looks = new WeakMap();
+
+/** Looks at the receipt that a place shows, to which the clerk comes back. */
+export async function recheckPaper(place) {
+  const whole = place.querySelector(".receipt");
+  const fault = await looks.get(whole)?.().catch((found) => found);
+  if (!(fault instanceof Unreadable)) return;
+  tell(whole.firstChild, fault.message, "bad");
+  tellLater(whole.firstChild, fault);
+}
+
+/** The button that prints a receipt, if it may still be printed, with its notice. */
+function printing({ statement, receipt }, whole) {
+  const begun = current();
+  const notice = makeNotice();
+  const button = make("button", { type: "button" }, "Print the receipt");
+  let isGood;
+  const look = async () => {
+    isGood = false;
+    try {
+      await refuseOld({ receipt, statement }, begun);
+      isGood = true;
+    } catch (fault) {
+      if (fault instanceof Unreadable) whole.replaceChildren(notice);
+      throw fault;
+    }
+    return "";
+  };
+  looks.set(whole, look);
+  button.addEventListener("click", async () => {
+    await run({ notice, within: whole, reader: "broker", act: look });
+    if (isGood) window.print();
+  });
+  return [notice, make("div", { className: "buttons screen" }, button)];
+}
+
 /**
  * The receipt of a pledge, with a button that prints it: by its statement, the receipt's text, and what the book has
  * of the pledge and its statement lacks.
@@ -68,8 +108,6 @@ export function receiptSheet({ statement, receipt, known }) {
   const { terms, fiveDays, reference } = known;
   const { origin } = location;
   const link = linkTo({ origin, book: current().book, receipt, shop: name, reference, terms, fiveDays });
-  const print = make("button", { type: "button" }, "Print the receipt");
-  print.addEventListener("click", () => window.print());
   const sign = (who) => make("div", { className: "sign" }, who);
   const sheet = make("article", { className: "paper" },
     headOf(statement.number, reference),
@@ -80,5 +118,7 @@ export function receiptSheet({ statement, receipt, known }) {
     make("p", { className: "care" }, isOpen(statement.status) ? CARE : SPENT),
     make("div", { className: "signs" },
       sign(till ? `For the shop, ${till}` : "For the shop"), sign("Customer’s name"), sign("Received by")));
-  return make("div", { className: "receipt" }, make("div", { className: "buttons screen" }, print), sheet);
+  const whole = make("div", { className: "receipt" });
+  whole.append(...printing({ statement, receipt }, whole), sheet);
+  return whole;
 }

@@ -128,10 +128,8 @@ export function redemption(statement, desk) {
     "input", { name: "receipt", defaultValue: desk.scanned, autocapitalize: "none", spellcheck: false, required: true },
   );
   const amount = make("input", { name: "amount", inputMode: "decimal", required: true });
-  const nothing = statement.owed.owing === 0;
-  const lead = statement.held
-    ? ""
-    : `${inPounds(statement.owed.owing)} is owed today. All of it is to be received${nothing ? ": type 0" : ""}.`;
+  const { owing } = statement.owed;
+  const lead = `${inPounds(owing)} is owed today. All of it is to be received${owing === 0 ? ": type 0" : ""}.`;
   return {
     title: REDEEM,
     barred: statement.held

@@ -32,8 +32,10 @@ const question = (now, until, isNewDay) => confirmed({
   no: "Not now",
 });
 
-const outdated = ({ owed }) => new Outdated(
-  `${CHANGED} ${inPounds(owed.owing)} is owed now. Look at the pledge, and renew it again.`,
+/** Another till may have renewed it. */
+const outdated = ({ owed, ends }) => new Outdated(
+  `${CHANGED} ${inPounds(owed.owing)} is owed now, and the period ends on ${inWords(ends)}. Look at the pledge before `
+    + "you renew it.",
 );
 
 /**
@@ -114,7 +116,6 @@ async function renew({ until }, shown, desk) {
 
 export function renewal(statement, desk) {
   const { owed, ends } = statement;
-  const barred = barredOf(statement);
   const until = make("input", {
     type: "date", name: "until", min: ends, max: "2199-12-31", required: true,
     defaultValue: sixMonthsAfter(ends > today() ? ends : today()),
@@ -124,9 +125,9 @@ export function renewal(statement, desk) {
     : `No charges are owed today. Agree on a later end than ${inWords(ends)}.`;
   return {
     title: "Renew",
-    barred,
+    barred: barredOf(statement),
     parts: [
-      barred ? null : make("p", { className: "lead" }, `${lead} Then the paper is printed with its new end.`),
+      make("p", { className: "lead" }, `${lead} Then the paper is printed with its new end.`),
       field("New end", until),
       buttons(make("button", {}, "Renew the pledge")),
     ],

@@ -1,9 +1,9 @@
 /** A receipt printed again, and a lost one replaced by a new one. */
 import { refusalOf } from "../shared/codes.js";
 import { make } from "../shared/dom.js";
-import { Lost } from "../shared/faults.js";
+import { Lost, lookFirst } from "../shared/faults.js";
 import { buttons } from "../shared/forms.js";
-import { SMALL } from "../shared/period.js";
+import { SMALL_PENCE } from "../shared/period.js";
 import { confirmed, NOTHING_DONE } from "../shared/questions.js";
 import { isOpen } from "../shared/statuses.js";
 import { ledger } from "./ledger.js";
@@ -21,6 +21,8 @@ const linesOf = ({ status }) => (isOpen(status)
   ]
   : ["It is the same receipt. Both papers show what became of the pledge. It can’t be redeemed any more."]);
 
+const NONE_LIVE = { sentence: "No receipt of this pledge is live, so none is printed.", tone: "bad" };
+
 async function printAgain(statement, desk) {
   const yes = await confirmed({
     title: "Print the receipt again?", about: statement, lines: linesOf(statement),
@@ -28,7 +30,7 @@ async function printAgain(statement, desk) {
   });
   if (!yes) return NOTHING_DONE;
   const receipt = await desk.newestReceipt();
-  if (receipt === null) return { sentence: "No receipt of this pledge is live, so none is printed.", tone: "bad" };
+  if (receipt === null) return NONE_LIVE;
   await desk.showReceipt(receipt);
   const now = isOpen(statement.status) ? "It was looked at just now: it is live." : SHOWS;
   return `The receipt is below, ready to print. ${now} ${desk.toldOfReceipts()}`;
@@ -44,9 +46,9 @@ export const printing = (statement, desk) => ({
   act: () => printAgain(statement, desk),
 });
 
-/** After a lost reply the book shows whether a new receipt was made. */
-const LOST = "The reply was lost, so a new receipt may have been made. Don’t ask for another: "
-  + "“Print the receipt again” shows the newest one.";
+/** The newest receipt may be the lost one still, so it is not to be printed: the next press reads the book. */
+const LOST = "The reply was lost, so a new receipt may have been made. Press “Make a new receipt” again: "
+  + "if one was made, it is shown then, and no other is made.";
 
 const OVERTAKEN = "A new receipt was made, but another one took its place at the same time, so it is not shown. "
   + "“Print the receipt again” shows the newest one.";
@@ -67,44 +69,36 @@ async function showNew(receipt, paper, desk) {
   }
 }
 
-/**
- * By book and pledge: how many receipts the copy of the book had before a declaration whose reply was lost; null if the
- * book was not read yet.
- */
+/** By book and pledge: how many receipts the pledge had before a declaration whose reply was lost. */
 const lost = new Map();
 
 const placeOf = (number) => `${current().book}/${number}`;
-const receiptsOf = (number) => ledger.pledge(number)?.secrets.length ?? null;
 
 const MADE_ALREADY = "The new receipt was made already, by the press whose reply was lost. ";
-const LOST_BEFORE = "The reply to the press before was lost, so a new receipt may have been made then. “Print the "
-  + "receipt again” shows the newest one. If you make another, that one is worth nothing.";
+const LOST_BEFORE = "The reply to the press before was lost. It has made no new receipt so far.";
 
 /**
  * Before a declaration is sent again whose reply was lost, the book is read: a receipt that was made is shown. Returns
  * the message for that case, or null if the book has no new receipt.
  */
 async function madeBefore(desk) {
-  const { number } = desk;
-  const place = placeOf(number);
-  const before = lost.get(place) ?? null;
-  if (before === null) return null;
+  const place = placeOf(desk.number);
+  if (!lost.has(place)) return null;
   await ledger.readAgain();
-  desk.refuseOtherBook();
-  if (receiptsOf(number) <= before) return null;
+  if (await desk.countReceipts() <= lost.get(place)) return null;
   const receipt = await desk.newestReceipt();
-  if (receipt === null) return null;
+  if (receipt === null) return NONE_LIVE;
   await desk.showReceipt(receipt);
   lost.delete(place);
   return `${MADE_ALREADY}It is below. ${desk.toldOfReceipts()}`;
 }
 
 async function declare({ paper }, statement, desk) {
-  const { number } = desk;
-  const place = placeOf(number);
-  if (paper === "written" && statement.credit > SMALL) throw refusalOf("NotSmall");
+  const place = placeOf(desk.number);
+  if (paper === "written" && statement.credit > SMALL_PENCE) throw refusalOf("NotSmall");
   const made = await madeBefore(desk);
   if (made) return made;
+  const count = await lookFirst(desk.countReceipts());
   const before = paper === "sworn"
     ? "You have the sworn declaration before you."
     : "You have the written statement before you.";
@@ -112,12 +106,11 @@ async function declare({ paper }, statement, desk) {
     title: "Make a new receipt?", about: statement,
     lines: [
       "The receipt that the pawnor had is worth nothing from then on, no matter who has it.", before,
-      ...(lost.has(place) ? [LOST_BEFORE] : []),
+      lost.has(place) ? LOST_BEFORE : null,
     ],
     yes: "Make a new receipt", no: "Not now",
   });
   if (!yes) return NOTHING_DONE;
-  const count = receiptsOf(number);
   let receipt;
   try {
     receipt = (await desk.command("declare", { paper }, false)).said.receipt;

@@ -4,7 +4,7 @@ import { inWords } from "../shared/days.js";
 import { make } from "../shared/dom.js";
 import { lookFirst, orSeen } from "../shared/faults.js";
 import { buttons, field } from "../shared/forms.js";
-import { inPounds, MOST, readPounds } from "../shared/money.js";
+import { inPounds, MOST_PENCE, readPounds } from "../shared/money.js";
 import { firstDayAfter, willPass } from "../shared/period.js";
 import { confirmed, NOTHING_DONE } from "../shared/questions.js";
 import { saleInWords } from "../shared/states.js";
@@ -21,7 +21,7 @@ function barredOf(statement, { fiveDays }) {
   // In the days of grace the end can't be moved any more.
   const unless = `if it is not redeemed${status === "inside" ? " or extended" : ""} before`;
   return willPass(statement)
-    ? `It is not sold: ${unless}, the article passes to you on ${first}.`
+    ? `It is not sold: ${unless}, the article passes to the shop on ${first}.`
     : `It can be sold from ${first} on, ${unless}.`;
 }
 
@@ -54,7 +54,7 @@ const REFUSED = { passed: "Passed", redeemed: "Closed", sold: "Closed" };
 
 async function sell({ amount }, desk) {
   const net = readPounds(amount);
-  if (net > MOST) throw refusalOf("BadAmount");
+  if (net > MOST_PENCE) throw refusalOf("BadAmount");
   const now = await lookFirst(desk.read());
   const { status, owed, held, booking } = now;
   if (status !== "realisable") throw refusalOf(REFUSED[status] ?? "NotRealisable");

@@ -4,7 +4,7 @@
  */
 import { byId } from "../shared/dom.js";
 import { onSend } from "../shared/forms.js";
-import { LARGE, readPounds } from "../shared/money.js";
+import { LARGE_PENCE, readPounds } from "../shared/money.js";
 import { isReceiptLike } from "../shared/receipts.js";
 import { Unreadable } from "../shared/unreadable.js";
 import { keep, kept } from "./kept.js";
@@ -15,7 +15,7 @@ const NONE = { name: "", address: "", till: "", ask: "" };
 export const shop = () => ({ ...NONE, ...kept("shop", {}) });
 
 /** From this many pence on, an entry is asked about. */
-export const askFrom = () => (shop().ask === "" ? LARGE : readPounds(shop().ask));
+export const askFrom = () => (shop().ask === "" ? LARGE_PENCE : readPounds(shop().ask));
 
 /** Keeps what was said, and leaves the rest. */
 export function keepShop(said) {

@@ -8,24 +8,25 @@ import { inShort, inWords, sixMonthsAfter, today } from "../shared/days.js";
 import { byId, foreign, make } from "../shared/dom.js";
 import { Lost, lookFirst } from "../shared/faults.js";
 import { fieldsOf, fillAgain, onSend, tell } from "../shared/forms.js";
-import { inPounds, MOST, readPounds } from "../shared/money.js";
+import { inPounds, MOST_PENCE, readPounds } from "../shared/money.js";
 import { confirmed, NEW_DAY, NOTHING_DONE } from "../shared/questions.js";
 import { isReceiptLike, numberOf } from "../shared/receipts.js";
 import { termsInWords } from "../shared/terms.js";
 import { folded, readText } from "../shared/texts.js";
 import { Unreadable } from "../shared/unreadable.js";
 import { isLong, loudLine } from "./extending.js";
+import { refuseInUse } from "./inuse.js";
 import { ledger } from "./ledger.js";
 import { dropDeadPaper } from "./papers.js";
 import { openReceipt } from "./pledge.js";
 import { statementOf } from "./reading.js";
+import { recheckPaper } from "./receipt.js";
 import { nextReference } from "./references.js";
 import { askBook, current, refuseOther } from "./session.js";
-import { refuseStanding } from "./standing.js";
 import { PAID_OUT, settle } from "./taken.js";
 
-/** From this many pence on, the question says that the sum is large. */
-const VERY_LARGE = 1_000_000;
+/** From this sum on, the question says that it is large. */
+const VERY_LARGE_PENCE = 1_000_000;
 
 /** Terms that were read so many milliseconds ago are old. */
 const OLD_TERMS = 60_000;
@@ -86,7 +87,7 @@ function openingOf({ article, ref, kind, amount, agreed, five }) {
 
 /** Throws where the service takes no such amount, before it is asked about. */
 function refuseAmount({ pence }) {
-  if (pence === 0 || pence > MOST) throw refusalOf("BadAmount");
+  if (pence === 0 || pence > MOST_PENCE) throw refusalOf("BadAmount");
 }
 
 /** Asks, and shows all that will be entered, since nothing of it can be changed; `isNewDay` if it was asked before. */
@@ -104,7 +105,7 @@ function askOf({ article, ref, kind, pence, agreed, five_days: fiveDays }, terms
       isLong(six, end) ? loudLine("That is more than a year after the six months: look at the year again.") : null,
       `After that the article ${becomesInWords({ taken: today(), ends: end, credit: pence }, "broker")}.`,
       isFixed ? `${inPounds(pence)} is lent.` : `A running account up to ${inPounds(pence)}. ${PAID_OUT}`,
-      pence >= VERY_LARGE ? "That is a large sum: look at it again." : null,
+      pence >= VERY_LARGE_PENCE ? "That is a large sum: look at it again." : null,
       terms ? `Interest by version ${terms.version} of the terms: ${termsInWords(terms)}.` : null,
       agreed && agreed <= six
         ? `The agreed end, ${inShort(agreed)}, counts for nothing: six months run to ${inShort(six)}.`
@@ -208,7 +209,7 @@ async function take(fields) {
   const again = lost && isEqual(lost.opening, opening) ? lost : null;
   await refuseWithoutTerms();
   refuseOther(begun);
-  await refuseStanding(opening.ref, again?.known);
+  await refuseInUse(opening.ref, again?.known);
   const asked = again ? again.asked : await agreedTo(opening);
   if (asked === null) return NOTHING_DONE;
   let sent;
@@ -250,17 +251,17 @@ function warnOfTerms() {
 }
 
 /** Says, while a reference is typed, that a pledge has it already. */
-function warnStanding() {
+function warnInUse() {
   const { value } = form().elements.ref;
-  const [standing] = lost && folded(lost.opening.ref) === folded(value) ? [] : ledger.withReference(value);
-  byId("reference-stands").replaceChildren(
-    ...(standing ? [`Pledge ${standing.number} has this reference: `, foreign(standing.article), "."] : [])
+  const [found] = lost && folded(lost.opening.ref) === folded(value) ? [] : ledger.withReference(value);
+  byId("reference-in-use").replaceChildren(
+    ...(found ? [`Pledge ${found.number} has this reference: `, foreign(found.article), "."] : [])
   );
 }
 
 export function setUpTaking() {
   notice = onSend(form(), "broker", take);
-  form().elements.ref.addEventListener("input", warnStanding);
+  form().elements.ref.addEventListener("input", warnInUse);
   form().addEventListener("input", keepTyped);
   fillTyped();
   byId("next-reference").addEventListener("click", ({ currentTarget }) => {
@@ -270,9 +271,13 @@ export function setUpTaking() {
   });
 }
 
-/** Shows the form. Terms that are old are read anew, as another till may have added some; nothing waits for that. */
+/**
+ * Shows the form. Terms that are old are read anew, as another till may have added some; and so is the pledge of the
+ * paper that is shown. Nothing waits for that.
+ */
 export function openTaking() {
   showTaking();
+  recheckPaper(place());
   if (ledger.head && performance.now() - ledger.head.began > OLD_TERMS) ledger.readHead().then(showTaking, () => {});
 }
 
@@ -297,5 +302,5 @@ export function showTaking() {
   dropOldPaper();
   warnOfTerms();
   offerReference();
-  warnStanding();
+  warnInUse();
 }

@@ -2,11 +2,11 @@
 import { inWords } from "../shared/days.js";
 import { byId, foreign, make } from "../shared/dom.js";
 import { termsInWords } from "../shared/terms.js";
+import { tellInUse } from "./inuse.js";
 import { ledger } from "./ledger.js";
 import { heldBy } from "./reading.js";
 import { receiptSheet } from "./receipt.js";
 import { refuseOther } from "./session.js";
-import { tellStanding } from "./standing.js";
 import { tagOf } from "./tag.js";
 
 /** Whether a receipt is a live one of a pledge that was taken now, and the pledge is as it was sent. */
@@ -73,11 +73,11 @@ export async function settle({ opening, said, known, before, asked, begun }) {
   refuseOther(begun);
   if (!isTakenNow({ held, opening, said, known })) {
     ledger.anotherChanged();
-    await tellStanding(said.number, opening.ref);
+    await tellInUse(said.number, opening.ref);
   }
   const link = make("a", { href: `#pledge=${said.number}`, className: "pledge-link" }, `Pledge ${said.number}`);
-  const stands = make("p", { className: "taken screen" }, link, " is in the book: ", foreign(opening.article), ".");
-  byId("taken-receipt").replaceChildren(stands);
+  const line = make("p", { className: "taken screen" }, link, " is in the book: ", foreign(opening.article), ".");
+  byId("taken-receipt").replaceChildren(line);
   const terms = await termsTaken(said.number, before);
   refuseOther(begun);
   ledger.addTaken({ opening, statement: held, receipt: said.receipt, version: terms.version });

@@ -13,8 +13,9 @@ import { labelled } from "./tables.js";
 /** Rates are kept in millionths a day, which is so many places of a per cent; charges in millionths of a penny. */
 const RATE_PLACES = 4;
 const CHARGE_PLACES = 6;
-/** The highest rate and the highest charge that the service takes. */
-const MOST = { rate: 20_000, keeping: 10_000_000 };
+/** The highest rate a day that the service takes, in millionths; and the highest charge, in millionths of a penny. */
+const MOST_RATE = 20_000;
+const MOST_KEEPING = 10_000_000;
 
 let versions = null;
 
@@ -77,8 +78,8 @@ async function readAnew() {
 
 /** Throws where the service takes no such terms, before they are asked about. */
 function refuseTerms({ rate, keep_before: before, keep_after: after }) {
-  if (rate > MOST.rate) throw refusalOf("RateTooHigh");
-  if (before > MOST.keeping) throw refusalOf("KeepTooHigh");
+  if (rate > MOST_RATE) throw refusalOf("RateTooHigh");
+  if (before > MOST_KEEPING) throw refusalOf("KeepTooHigh");
   if (after > before) throw refusalOf("KeepingRate");
 }
 

@@ -21,7 +21,7 @@ import { askBook, current } from "./session.js";
 import { pledgeLink } from "./tables.js";
 
 /** A card shows at most so many lines. */
-const MOST = 40;
+const MOST_LINES = 40;
 /** The sheets of so many days after today are looked at, too, for visits that were asked for meanwhile. */
 const AHEAD = 7;
 
@@ -33,8 +33,9 @@ let readAt = 0;
 const sheets = new Map();
 
 function card(title, lines, empty) {
-  const shown = lines.slice(0, MOST);
-  if (lines.length > MOST) shown.push(make("li", {}, `and ${lines.length - MOST} more: see “All pledges”.`));
+  const shown = lines.slice(0, MOST_LINES);
+  const more = lines.length - MOST_LINES;
+  if (more > 0) shown.push(make("li", {}, `and ${more} more: see “All pledges”.`));
   const body = lines.length > 0
     ? make("ul", { className: "lines" }, ...shown)
     : make("p", { className: "empty" }, empty);
@@ -96,8 +97,10 @@ function asked() {
 
 function askedLine({ number, window, day }) {
   const now = today();
-  const when = day < now ? `${inShort(day)}, which is over` : `${inShort(day)}, ${seenFrom(now, day)}`;
-  return make("li", {}, make("span", { className: "time" }, `${when}, ${timeOf({ day, window })}`), named(number));
+  // On the sheet of another day, “in 5 days” could be counted from that day.
+  const seen = day < now ? ", which is over" : sheet.day === now ? `, ${seenFrom(now, day)}` : "";
+  const time = `${inShort(day)}${seen}, ${timeOf({ day, window })}`;
+  return make("li", {}, make("span", { className: "time" }, time), named(number));
 }
 
 /** Before the book was read, only the days whose sheets were read are known. */

@@ -116,15 +116,12 @@ function visitFold(card) {
   const times = make(
     "select", { name: "window" }, ...WINDOWS.map((window) => make("option", { value: window }, windowInWords(window)))
   );
-  const standing = isToCome(card.statement.booking);
-  const lead = leadOf(card.statement);
+  const title = isToCome(card.statement.booking) ? "Ask for another time" : "Ask for a time to come";
   const parts = [
-    make("p", { className: "lead" }, lead), field("Day", day), field("Time", times),
+    make("p", { className: "lead" }, leadOf(card.statement)), field("Day", day), field("Time", times),
     buttons(make("button", {}, "Ask for this time")),
   ];
-  return foldOf(
-    card, standing ? "Ask for another time" : "Ask for a time to come", parts, (fields) => askForVisit(card, fields),
-  );
+  return foldOf(card, title, parts, (fields) => askForVisit(card, fields));
 }
 
 function cancelFold(card) {

@@ -156,6 +156,12 @@ export class Card {
     return this.isShown;
   }
 
+  /** Tries again by itself, if the pledge could not be shown. What was said of an act stays. */
+  async tryAgain() {
+    const isTried = !(this.isShown || this.isRedeemed || this.saysDead || this.isActing);
+    if (isTried) await this.showNow();
+  }
+
   focus() {
     this.summary.querySelector("h2").focus();
   }

@@ -155,6 +155,9 @@ function comeBack() {
   if (!document.hidden && Date.now() - lookedAt >= LEFT) refresh(cards.filter(({ isActing }) => !isActing));
 }
 
+/** The browser has a line again. */
+const comeOnline = () => inTurn(cards.map((card) => () => card.tryAgain()));
+
 async function lookAgain() {
   byId("look-again").disabled = true;
   await refresh(cards);
@@ -164,6 +167,7 @@ async function lookAgain() {
 startPage(() => {
   const notice = onSend(byId("find"), "pawnor", find);
   document.addEventListener("visibilitychange", comeBack);
+  addEventListener("online", comeOnline);
   onClock(tick);
   setInterval(tick, TICK);
   byId("look-again").addEventListener("click", lookAgain);

@@ -4,7 +4,7 @@ import { firstDayAfter, statusOn, willPass } from "./period.js";
 
 /** By whether the article passes to the shop: what becomes of it, for each reader. */
 const BECOMES = {
-  true: { broker: "is yours", pawnor: "belongs to the pawnbroker", more: "can’t be redeemed any more" },
+  true: { broker: "is the shop’s", pawnor: "belongs to the pawnbroker", more: "can’t be redeemed any more" },
   false: { broker: "may be sold", pawnor: "may be sold", more: "can be redeemed until it is sold" },
 };
 
@@ -26,7 +26,8 @@ export const endInShort = ({ ends }, now = today()) => `${ends < now ? "ended" :
 
 /** By the status: what comes of the article after its time, or has come, in a list of the broker's. */
 const TURNS = {
-  passed: "passed to you on", realisable: "can be sold since", passes: "passes to you on", sale: "can be sold from",
+  passed: "passed to the shop on", realisable: "can be sold since", passes: "passes to the shop on",
+  sale: "can be sold from",
 };
 
 /** What comes after the time of a pledge that is not closed, in a list of the broker's. */

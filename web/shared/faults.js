@@ -46,7 +46,7 @@ export function tellFault(fault, reader) {
   if (fault instanceof Unreadable || fault instanceof Outdated) return fault.message;
   if (fault instanceof NotReached) return isFailedLook(fault)
     ? UNSEEN
-    : `${UNSEEN} What you asked for was not sent, so it was not done.`;
+    : "The service could not be reached. What you asked for was not sent, so it was not done.";
   if (fault instanceof Lost) {
     return "The reply was lost, so this may have been done. Look at the pledge before you do it again.";
   }

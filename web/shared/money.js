@@ -16,8 +16,8 @@ export function readPounds(text, field = "amount") {
   return Number(found[1].replaceAll(",", "")) * 100 + Number(found[2] ?? 0);
 }
 
-/** From this many pence on, an amount is asked about before it is sent, where the shop did not set another sum. */
-export const LARGE = 100_000;
+/** From this amount on, an entry is asked about before it is sent, where the shop did not set another sum. */
+export const LARGE_PENCE = 100_000;
 
-/** The largest amount that the service takes, in pence. */
-export const MOST = 100_000_000;
+/** The largest amount that the service takes. */
+export const MOST_PENCE = 100_000_000;

@@ -9,21 +9,23 @@ import { refusalOf } from "./codes.js";
 import { inWords, today } from "./days.js";
 import { entryInWords } from "./entries.js";
 import { Lost, lookFirst } from "./faults.js";
-import { inPounds, LARGE, MOST } from "./money.js";
+import { inPounds, LARGE_PENCE, MOST_PENCE } from "./money.js";
 import { confirmed } from "./questions.js";
 import { isBarred, isOpen } from "./statuses.js";
 
 const NOTHING = { sentence: "Nothing was recorded.", tone: "quiet" };
-const WORDS = { draw: { done: "Drawn", as: "paid out" }, repay: { done: "Repaid", as: "received" } };
+const WORDS = {
+  draw: { name: "drawing", done: "Drawn", as: "paid out" },
+  repay: { name: "repayment", done: "Repaid", as: "received" },
+};
 
 /** How many of the entries that came in between are listed line by line. */
 const TOLD = 5;
 
 const isSame = (one, other) => one.seq === other.seq && one.sort === other.sort && one.pence === other.pence;
 
-/** The entries that the pledge has now and did not have when it was shown, as sentences. */
-function newEntries(shown, now) {
-  const entries = now.entries.slice(shown.entries.length);
+/** Entries as sentences: the last ones, and how many others there are. */
+function listed(entries) {
   const lines = entries.slice(-TOLD).map(entryInWords);
   return entries.length > TOLD ? [`${entries.length - TOLD} other entries.`, ...lines] : lines;
 }
@@ -45,7 +47,7 @@ const owedLine = ({ owed }) => (owed ? `${inPounds(owed.owing)} is owed now.` : 
 function refusedNow({ status, owed, kind, credit }, sort, pence) {
   if (!isOpen(status)) return refusalOf(status === "passed" ? "Passed" : "Closed");
   if (sort === "draw" && kind === "fixed") return null;
-  if (pence === 0 || pence > MOST) return refusalOf("BadAmount");
+  if (pence === 0 || pence > MOST_PENCE) return refusalOf("BadAmount");
   if (sort === "repay") return pence > owed.owing ? refusalOf("OverOwing", { total: owed.owing }) : null;
   return owed.principal + pence > credit ? refusalOf("OverLimit") : null;
 }
@@ -85,15 +87,18 @@ function mending({ kind, owed }, sort, pence) {
  * else null.
  */
 function questionOf({ shown, now, sort, pence, askFrom }) {
-  const [entries, changes] = [newEntries(shown, now), otherChanges(shown, now)];
+  const [entries, changes] = [now.entries.slice(shown.entries.length), otherChanges(shown, now)];
   const amount = inPounds(pence);
+  const mine = `your ${WORDS[sort].name} of ${amount}`;
+  const mayBeListed = entries.some((one) => one.sort === sort);
   if (entries.length + changes.length > 0) return {
     title: "Something came in between", about: now,
     lines: [
-      "Since this pledge was shown here, this happened:", ...entries, ...changes, owedLine(now),
-      entries.length > 0 ? `Is your ${amount} another one, beside these?` : `Do you still want to record ${amount}?`,
+      "Since this pledge was shown here, this happened:", ...listed(entries), ...changes, owedLine(now),
+      mayBeListed ? `Is ${mine} another one? If it is listed here already, record nothing.`
+        : `Do you still want to record ${mine}?`,
     ],
-    yes: entries.length > 0 ? `Yes, record ${amount} as well` : `Yes, record ${amount}`, no: "No, record nothing",
+    yes: `Yes, record ${amount}${mayBeListed ? " as well" : ""}`, no: "No, record nothing",
   };
   if (pence < askFrom && !(Number.isFinite(askFrom) && isUnlike(now, sort, pence))) return null;
   return {
@@ -119,8 +124,11 @@ async function agreedTo({ shown, read, sort, pence, askFrom, outdated }) {
   }
 }
 
-/** Whether what is read after the entry is what the pledge must have then. A new day adds charges of its own. */
-function judge({ now, after, said, day }) {
+/**
+ * What is wrong where the pledge, read after the entry, is not as it must be then; or null. A new day adds charges of
+ * its own.
+ */
+function checkEntry({ now, after, said, day }) {
   const others = after.entries.length - now.entries.length - 1;
   const mine = after.entries.find(({ seq }) => seq === said.seq);
   if (!mine || !isSame(mine, said)) return "But the pledge, read again, does not have it. Look at its entries";
@@ -140,7 +148,7 @@ function judge({ now, after, said, day }) {
 function tellOf({ now, after, said, day }) {
   const done = `${WORDS[said.sort].done}: ${inPounds(said.pence)}, on ${inWords(said.day)}.`;
   if (!after) return { sentence: `${done} It is recorded, but the pledge can’t be read just now.`, tone: "good" };
-  const wrong = judge({ now, after, said, day });
+  const wrong = checkEntry({ now, after, said, day });
   return wrong
     ? { sentence: `${done} ${wrong} before you do more.`, tone: "bad" }
     : { sentence: `${done} ${owedLine(after)}`, tone: "good" };
@@ -174,7 +182,7 @@ function tellLost({ now, after, entry }) {
  * already, `askFrom` is Infinity. Returns the message, with its tone. Throws the service's refusal, or Lost or
  * NotReached, or what `outdated` returns.
  */
-export async function recordEntry({ shown, read, send, sort, pence, askFrom = LARGE, outdated = null }) {
+export async function recordEntry({ shown, read, send, sort, pence, askFrom = LARGE_PENCE, outdated = null }) {
   const now = await agreedTo({ shown, read, sort, pence, askFrom, outdated });
   if (now === null) return NOTHING;
   const entry = { seq: now.nextSeq, sort, pence };

@@ -4,8 +4,8 @@
 import { plusDays, sixMonthsAfter } from "./days.js";
 import { isBarred } from "./statuses.js";
 
-/** Up to this credit in pence, an article whose period of six months is over is the broker's. */
-export const SMALL = 7500;
+/** Up to this credit, an article whose period of six months is over is the broker's. */
+export const SMALL_PENCE = 7500;
 const GRACE_DAYS = 5;
 
 /** The last day of grace, where the five days apply. */
@@ -23,7 +23,7 @@ export const lastSafeDay = ({ ends, fiveDays }) => (fiveDays ? graceEnd(ends) : 
 export const firstDayAfter = (pledge) => plusDays(lastSafeDay(pledge), 1);
 
 /** Whether the article is the broker's once the period is over, and is not to be sold. */
-export const willPass = ({ taken, ends, credit }) => credit <= SMALL && ends === sixMonthsAfter(taken);
+export const willPass = ({ taken, ends, credit }) => credit <= SMALL_PENCE && ends === sixMonthsAfter(taken);
 
 /** inside, grace, passed, realisable, redeemed or sold. */
 export function statusOn(pledge, day) {

@@ -65,7 +65,7 @@ const STATES = {
   passed: ({ ends }) => (
     {
       badge: "Passed", tone: "ended", line: `The period ended on ${inWords(ends)}`,
-      more: "The article is yours now",
+      more: "The article is the shop’s now",
     }
   ),
   redeemed: ({ closing }) => (
@@ -87,9 +87,13 @@ const over = (ends) => `Its time was over on ${inWords(ends)}`;
 /** What becomes of an article once its time is over, for the pawnor. */
 const afterIt = (statement) => `after that it ${becomesInWords(statement, "pawnor")}`;
 
-/** Until when a pledge is the pawnor's, and what is to be done by then: the end comes even if all is paid. */
-const yoursUntil = (last, { owed }, toDo) =>
-  `Still yours until ${inWords(last)}${owed.owing === 0 ? ": nothing is owed, but it has to be fetched by then" : toDo}`;
+/**
+ * Until when an article is not to be sold, or does not pass to the shop, and what is to be done by then: the end comes
+ * even if all is paid.
+ */
+const safeUntil = (last, statement, toDo) =>
+  `${willPass(statement) ? "Still yours" : "Kept for you"} until ${inWords(last)}`
+    + (statement.owed.owing === 0 ? ": nothing is owed, but it has to be fetched by then" : toDo);
 
 /** A pledge in its period, for the pawnor: the days of grace are those that the receipt's link says. */
 function stillYours(statement, now, { fiveDays }) {
@@ -100,7 +104,7 @@ function stillYours(statement, now, { fiveDays }) {
     null: "; five days more, if your paper says that it has days of grace",
   };
   return {
-    badge: "Still yours", line: yoursUntil(last, statement, ""),
+    badge: "Still yours", line: safeUntil(last, statement, ""),
     more: `${lastsFor(now, last)}${grace[fiveDays]}; ${afterIt(statement)}`,
   };
 }
@@ -110,7 +114,7 @@ const FOR_PAWNOR = {
   inside: stillYours,
   grace: (statement, now) => ({
     badge: "Last days",
-    line: yoursUntil(graceEnd(statement.ends), statement, ": pay what is owed to have it back"),
+    line: safeUntil(graceEnd(statement.ends), statement, ": pay what is owed to have it back"),
     more: `${over(statement.ends)}, and days of grace run: ${lastsFor(now, graceEnd(statement.ends))}; `
       + afterIt(statement),
   }),

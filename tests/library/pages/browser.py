@@ -315,7 +315,7 @@ class Browser:
         os.makedirs(SHOTS, exist_ok=True)
         for width in WIDTHS:
             self.resize(width)
-            expect(f"{name}: what is wrong at {width}", self.run(JUDGE, width), [])
+            expect(f"{name}: what is wrong at {width}", self.run(CHECK, width), [])
             size = self.devtools("Page.getLayoutMetrics")["cssContentSize"]
             picture = self.devtools(
                 "Page.captureScreenshot", captureBeyondViewport=True,
@@ -353,7 +353,7 @@ return field.type;
 """
 
 # What is wrong with the page as it is shown, as a list of texts.
-JUDGE = r"""
+CHECK = r"""
 const wrong = [];
 const width = arguments[0];
 if (document.documentElement.scrollWidth > width) wrong.push(`it is ${document.documentElement.scrollWidth} wide`);

@@ -8,7 +8,7 @@ import { statementOf } from "./reading.js";
 import { current, refuseOther } from "./session.js";
 
 /** Shows which pledge has a reference, since when, and its status, and says so. */
-export async function tellStanding(number, reference) {
+export async function tellInUse(number, reference) {
   const begun = current();
   const statement = await statementOf(number);
   refuseOther(begun);
@@ -34,7 +34,7 @@ export async function tellStanding(number, reference) {
 }
 
 /** Refuses a reference that the book in the page has already, except for a pledge that came after this number. */
-export async function refuseStanding(reference, after = Infinity) {
-  const [standing] = ledger.withReference(reference);
-  if (standing && standing.number <= after) await tellStanding(standing.number, standing.reference);
+export async function refuseInUse(reference, after = Infinity) {
+  const [found] = ledger.withReference(reference);
+  if (found && found.number <= after) await tellInUse(found.number, found.reference);
 }
