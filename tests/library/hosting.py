@@ -24,7 +24,7 @@ from tests.library.packages import PATHS
 from tests.library.paths import PROGRAM, TOP
 from tests.library.requests import request
 from tests.library.sessions import WAIT, Once
-from tests.library.waiting import wait_for
+from tests.library.waiting import listens, wait_for
 
 NAME = "books.example.org"
 # What each program comes in, as a package of Debian.
@@ -378,14 +378,9 @@ class Hosted:
             start_new_session=True,
         )
         self.stack.callback(self.end)
-        wait_for(lambda: self.nginx.poll() is not None or self.listens(), "nginx", 30)
+        wait_for(lambda: self.nginx.poll() is not None or listens(self.port), "nginx", 30)
         if self.nginx.poll() is not None:
             raise Failed(f"nginx ended: {self.nginx.stderr.read().decode()[-600:]} {self.log('error')[-600:]}")
-
-    def listens(self):
-        with contextlib.suppress(OSError), socket.create_connection(("127.0.0.1", self.port), timeout=5):
-            return True
-        return False
 
     def end(self):
         with contextlib.suppress(ProcessLookupError):

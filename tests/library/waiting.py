@@ -1,5 +1,6 @@
 """Waits for what another process does."""
 import contextlib
+import socket
 import time
 import urllib.request
 
@@ -16,6 +17,13 @@ def wait_for(found, what, patience=PATIENCE):
             return it
         time.sleep(0.03)
     raise Failed(f"{what}: not there after {patience} seconds")
+
+
+def listens(port):
+    """Whether anything listens on this port of the loopback."""
+    with contextlib.suppress(OSError), socket.create_connection(("127.0.0.1", port), timeout=5):
+        return True
+    return False
 
 
 def answers(address):

@@ -21,6 +21,7 @@ from tests.library.program import DAY, Server, check, fault, free_port, how_it_e
 from tests.library.requests import refusal, request
 from tests.library.sessions import read_all
 from tests.library.small_disks import small_disk
+from tests.library.waiting import listens, wait_for
 
 NONE = refusal(712, "NoReceipt", "400 Bad Request")
 LAST = request("GET", "/books/7/held", "Connection: close")
@@ -154,8 +155,11 @@ def standard_streams_that_are_closed():
                 preexec_fn=with_closed(*streams),
             )
             try:
-                time.sleep(0.5)
-                expect(f"serve without {streams}: its status", program.poll(), 3 if 1 in streams else None)
+                if 1 in streams:
+                    expect(f"serve without {streams}: its status", program.wait(timeout=60), 3)
+                else:
+                    wait_for(lambda: program.poll() is not None or listens(port), f"serve without {streams}", 60)
+                    expect(f"serve without {streams}: its status", program.poll(), None)
             finally:
                 program.kill()
                 program.wait()
@@ -175,7 +179,7 @@ def output_that_nobody_reads():
     )
     os.close(into)
     try:
-        time.sleep(0.5)
+        wait_for(lambda: listens(port), "a service whose first line waits", 60)
         with socket.create_connection(("127.0.0.1", port), timeout=10) as peer:
             peer.sendall(LAST)
             says_nothing(peer, "its first line waits")
@@ -250,14 +254,23 @@ def says_nothing(peer, why):
         pass
 
 
+def state_of(program):
+    """T of a process that the system has stopped, S of one that waits."""
+    with open(f"/proc/{program.pid}/stat") as it:
+        return it.read().rpartition(")")[2].split()[0]
+
+
 def stands_still(program):
     """Waits until the system has stopped a process."""
-    for _ in range(500):
-        with open(f"/proc/{program.pid}/stat") as it:
-            if it.read().rpartition(")")[2].split()[0] == "T":
-                return
-        time.sleep(0.01)
-    raise Failed("it does not stop")
+    wait_for(lambda: state_of(program) == "T", "a process that is stopped")
+
+
+def has_taken(server, peer):
+    """Whether the service has accepted a connection: until then its end there is no file, and has no inode."""
+    at, own = f":{server.port:04X}", f":{peer.getsockname()[1]:04X}"
+    with open("/proc/net/tcp") as it:
+        ends = [line.split() for line in it.readlines()[1:]]
+    return any(end[1].endswith(at) and end[2].endswith(own) and end[9] != "0" for end in ends)
 
 
 def a_service_that_is_stopped_goes_on():
@@ -287,7 +300,9 @@ def a_connection_that_waited_is_closed():
             body = '{"pence":1,"seq":1}'
             asked = request("POST", "/books/7/held/repay", f"Pledge-Receipt: {receipts[0]}", body=body)
             with server.connect() as waiting:
-                time.sleep(0.3)
+                wait_for(
+                    lambda: has_taken(server, waiting) and state_of(server.program) == "S", "a service that waits", 60,
+                )
                 server.program.send_signal(signal.SIGSTOP)
                 stands_still(server.program)
                 time.sleep(wait)
