@@ -40,12 +40,12 @@ NUMBER = r"(\d[\d,_]*(?:\.\d\d)?)"
 SAID = {
     ("pawn_terms", "MOST_RATE"): (
         [(RULES, f"The rate is in millionths of the principal per day, at most {NUMBER}"),
-         ("web/broker/terms.js", f"rate: {NUMBER}, keeping")],
+         ("web/broker/terms.js", f"MOST_RATE = {NUMBER};")],
         [SCHEMAS["Terms"]["properties"]["rate"]["x-limit"]["most"]],
     ),
     ("pawn_terms", "MOST_KEEP"): (
         [(RULES, f"Each charge is in millionths of a penny per day, at most {NUMBER}"),
-         ("web/broker/terms.js", f"keeping: {NUMBER} }}")],
+         ("web/broker/terms.js", f"MOST_KEEPING = {NUMBER};")],
         [SCHEMAS["Terms"]["properties"][name]["x-limit"]["most"] for name in ("keep_before", "keep_after")],
     ),
     ("pawn_debt", "MOST_PENCE"): (
@@ -85,7 +85,7 @@ SAID = {
         [(RULES, f"credit is at most {NUMBER} pence"), (RULES, f"credit is above {NUMBER} pence"),
          ("web/shared/refusals.js", f"only for credit up to £{NUMBER}\\."), ("docs/CLIENTS.md", f"credit up to £{NUMBER}\\."),
          ("docs/CLIENTS.md", f"credit be above £{NUMBER}, or agree on a later end"),
-         ("web/broker/replacing.js", f"for credit up to £{NUMBER}\""), ("web/shared/period.js", f"SMALL = {NUMBER};")],
+         ("web/broker/replacing.js", f"for credit up to £{NUMBER}\""), ("web/shared/period.js", f"SMALL_PENCE = {NUMBER};")],
         [],
     ),
     ("pawn_pledge", "MOST_SECRETS"): ([(RULES, f"a pledge with more than {NUMBER} secrets,")], []),
