@@ -50,7 +50,7 @@ SAID = {
     ),
     ("pawn_debt", "MOST_PENCE"): (
         [(RULES, f"net proceeds are at most {NUMBER} pence"), (RULES, rf"201 \(above {NUMBER} pence"),
-         ("web/shared/money.js", f"MOST = {NUMBER};")],
+         ("web/shared/money.js", f"MOST_PENCE = {NUMBER};")],
         [SCHEMAS["Opening"]["properties"]["pence"]["x-limit"]["most"],
          SCHEMAS["Payment"]["properties"]["pence"]["x-limit"]["most"],
          SCHEMAS["Sale"]["properties"]["net"]["x-limit"]["most"]],
