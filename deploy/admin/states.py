@@ -101,7 +101,6 @@ def state_of_units(store, wrong):
 def state_of_file(store, state, wrong):
     """What the store holds, and what is wrong with that."""
     if replicas.is_away(store):
-        wrong.append(f"its folder is not mounted here: `journalctl -u {replicas.unit_of(store)}` says why")
         return {}
     if not os.path.exists(store.path):
         wrong.append(f"its file {store.path} is missing. Is its disk there? `pawnd-admin restore {store.name} newest`"
@@ -174,7 +173,8 @@ def how_it_answers(store, lines, state, wrong, notes):
     if not store.is_here:
         return
     state["answers"] = services.answers(store.address, PATIENCE)
-    if not state["answers"]:
+    # What mounts the folder starts the store, too.
+    if not state["answers"] and not replicas.is_away(store):
         wrong.append(f"does not answer on {store.address}: {why_it_is_silent(store)}")
 
 

@@ -55,6 +55,7 @@ def a_machine_may_be_lost():
             print(f"        {load.acknowledged()} acknowledged changes looked up", flush=True)
             the_copies_are_alike(machines)
             without_its_folder(machines[0])
+            two_machines_are_lost_for_good(machines, load)
 
 
 def a_large_store():
@@ -240,6 +241,31 @@ def without_its_folder(it):
     told = it.run("systemctl start pawnd@main 2>&1", wanted=1)
     expect(f"what it says: {told}", "Assertion failed" in told, True)
     expect("what is in the folder", it.run("ls -A /var/lib/pawnd/main"), "")
+
+
+def two_machines_are_lost_for_good(machines, load):
+    """The third one goes on alone by the page's commands, with every acknowledged change."""
+    at_once(lambda it: it.run("systemctl start pawnd-replicated@main"), *((it,) for it in machines))
+    expect_well(machines, within=120)
+    again = Load(load.tills[0].book, load.tills[0].key)
+    with again:
+        again.await_more()
+        (it, _), others = serving(machines), []
+        others = [other for other in machines if other is not it]
+        others[0].lose_power()
+        again.await_more()
+        it.lose_power()
+        last = others[1]
+        last.until("! systemctl -q is-active pawnd@main && pawnd-admin status | grep -q 'Two machines lost for good'", 120)
+        told = [line for line in last.run("pawnd-admin status", wanted=1).splitlines() if line.startswith("WRONG")]
+        expect(f"what is wrong: {told}", len(told), 2)
+        check, alone, _ = commands(REPLICATED, "Two machines lost for good")
+        expect("the check", "books 1 pledges" in last.run(check), True)
+        last.run(alone)
+        again.await_more()
+    again.look_up(), load.look_up()
+    told = last.run("pawnd-admin status || true")
+    expect("what is wrong", [line for line in told.splitlines() if line.startswith("WRONG")], [])
 
 
 if __name__ == "__main__":
