@@ -40,7 +40,7 @@ def newest_copy(name, wrong):
         with open(copies.failed_check(name)) as file:
             said = file.read().strip()
         wrong.append(f"it failed its last check, and no copy was made: {said}. Run `pawnd-admin copy {name}`. If it says the "
-                     f"same, {copies.what_to_do_if_unsound(name)}")
+                     f"same, {copies.what_to_do_if_unsound(name, said)}")
     if found := copies.unexplained_loss(past):
         less, more = found
         wrong.append(

@@ -44,7 +44,7 @@ def a_machine_may_be_lost():
                 load.await_more()
                 losses = three_power_cuts, two_lines_under_load, a_line_while_nobody_asks, each_started_anew
                 rare = (two_lines_at_once, a_machine_that_hangs) if NUMBERS else ()
-                for step in (what_stops_the_store, *losses * ROUNDS, *rare):
+                for step in (what_stops_the_store, a_start_while_another_serves, *losses * ROUNDS, *rare):
                     begun, before = time.monotonic(), load.acknowledged()
                     step(machines, load)
                     expect_well(machines)
@@ -135,6 +135,21 @@ def what_stops_the_store(machines, load):
     it.run("rm /etc/pawnd/stores/east.conf; : >/etc/pawnd/books.map; pawnd-admin reload")
     for other in others:
         other.run("rm /etc/pawnd/stores/east.conf; " + bring.replace("10.0.0.1", it.address))
+
+
+def a_start_while_another_serves(machines, load):
+    """It is refused, and the operator is not informed. If the store ends where it is served, the operator is."""
+    it, _ = serving(machines)
+    other = next(other for other in machines if other is not it)
+    for one in (it, other):
+        one.run("printf '#!/bin/sh\\necho $1 >>/root/told\\n' >/etc/pawnd/on-failure; chmod 755 /etc/pawnd/on-failure; : >/root/told")
+    other.run("systemctl start pawnd@main || true")
+    other.until("[ $(systemctl is-active pawnd@main) = failed ] && ! systemctl list-jobs --no-legend | grep -q pawnd")
+    expect("why", "fault 503 Store" in other.journal("pawnd@main"), True)
+    it.run("systemctl kill --kill-whom=main -s KILL pawnd@main")
+    it.until("grep -q pawnd@main.service /root/told")
+    expect("whom the other machine told", other.run("cat /root/told"), "")
+    load.await_more()
 
 
 def three_power_cuts(machines, load):
