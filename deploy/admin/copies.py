@@ -289,8 +289,10 @@ def forget_failed_check(name):
         os.unlink(failed_check(name))
 
 
-def what_to_do_if_unsound(name):
-    """Where OPERATING.md says it: a store that is served may be damaged all the same."""
+def what_to_do_if_unsound(name, said):
+    """Where the pages say it: a store that is served may be damaged all the same."""
+    if "OldSchema" in said:
+        return f"the store {name} has an older schema: FILES.md, `Moving an older file`, says what to do"
     path = store_file(name)
     section = "A damaged book" if is_plain(path) and is_open(path) else "A store does not start"
     return f"the store {name} is damaged: OPERATING.md, `{section}`, says what to do"
@@ -307,7 +309,7 @@ def copy(name):
         try:
             made = make_copy(name, store.path, before)
         except NotSound as why:
-            raise Stop(f"{why}. No copy was made. Run the command again. If it says the same, {what_to_do_if_unsound(name)}"
+            raise Stop(f"{why}. No copy was made. Run the command again. If it says the same, {what_to_do_if_unsound(name, str(why))}"
                        ) from None
         say(f"{made.folder}: {in_words(made.counts)}")
         forget_old(name, keep)

@@ -1,5 +1,6 @@
 """Stores in a replicated folder: a GlusterFS volume with three copies on three machines (REPLICATED.md)."""
 import os
+import re
 import subprocess
 
 import services
@@ -19,6 +20,23 @@ def copies_in_reach(folder, volume):
     except subprocess.TimeoutExpired:
         return None
     return int(ran.stdout or 0)
+
+
+def machines_out_of_reach(folder, volume):
+    """The addresses of the machines whose copies the mount of this folder does not reach now."""
+    active = os.path.join(folder, ".meta/graphs/active")
+    children = said_by_mount(os.path.join(active, f"{volume}-replicate-0/private"))
+    numbers = re.findall(r"^child_up\[(\d+)\] = 0$", children, re.M)
+    return [said_by_mount(os.path.join(active, f"{volume}-client-{it}/options/remote-host")).strip() for it in numbers]
+
+
+def said_by_mount(path):
+    """A file of the mount's own, by a process that can be given up on; nothing if the mount does not say it in time."""
+    try:
+        ran = subprocess.run(["cat", path], stdin=subprocess.DEVNULL, capture_output=True, text=True, timeout=3)
+    except subprocess.TimeoutExpired:
+        return ""
+    return ran.stdout
 
 
 def unit_of(store):
@@ -44,10 +62,24 @@ def stop_if_elsewhere(store, verb):
 
 
 def faults(store):
-    """What is wrong with the folder, and with what mounts it."""
-    if not services.is_unit("is-enabled", unit_of(store)) or not services.is_unit("is-active", unit_of(store)):
-        yield f"its folder is not mounted, or not at the next boot: `systemctl enable --now {unit_of(store)}`"
-    found = copies_in_reach(os.path.dirname(store.path), store.volume)
-    if found != COPIES:
-        yield (f"{found or 0} of {COPIES} copies of its folder are in reach. While one is away the loss of another one stops "
-               f"the store: `gluster volume status {store.volume}` says which")
+    """What is wrong with the folder, and with what mounts it. It is mounted only while two copies are in reach, and until
+    then it is tried again and again."""
+    if not services.is_unit("is-enabled", unit_of(store)) or services.state_of_unit(unit_of(store)) in ("inactive", "failed"):
+        yield f"its folder is not mounted here, or not at the next boot: `systemctl enable --now {unit_of(store)}`"
+    elif is_away(store):
+        yield (f"its folder is not mounted here: `journalctl -u {unit_of(store)}` says why. It is mounted as soon as two of the "
+               "three machines reach each other. If two are lost for good, REPLICATED.md, `Two machines lost for good`, says "
+               "what to do")
+    if not is_away(store):
+        yield from copies_that_are_away(os.path.dirname(store.path), store.volume)
+
+
+def copies_that_are_away(folder, volume):
+    found = copies_in_reach(folder, volume)
+    if found is None:
+        yield "its folder does not answer: another machine may be silent. Look again after ten seconds"
+    elif found != COPIES:
+        names = " and ".join(machines_out_of_reach(folder, volume))
+        yield (f"{found} of {COPIES} copies of its folder are in reach" + (f", and not the copy of {names}" if names else "")
+               + ". While one is away, the loss of another one stops the store: bring that machine back. If it hangs, switch it "
+               "off first")

@@ -171,6 +171,12 @@ def log_bytes(path):
     return os.path.getsize(path + LOG) if os.path.exists(path + LOG) else 0
 
 
+def state_of_unit(name):
+    """The word of `systemctl is-active`: a unit that is about to be started again is `activating`."""
+    ran = subprocess.run(["systemctl", "is-active", name], stdin=subprocess.DEVNULL, capture_output=True, text=True, timeout=30)
+    return ran.stdout.strip()
+
+
 def is_unit(state, name):
     """What `systemctl is-active` or `is-enabled` says of a unit."""
     ran = subprocess.run(

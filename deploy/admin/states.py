@@ -40,7 +40,7 @@ def newest_copy(name, wrong):
         with open(copies.failed_check(name)) as file:
             said = file.read().strip()
         wrong.append(f"it failed its last check, and no copy was made: {said}. Run `pawnd-admin copy {name}`. If it says the "
-                     f"same, {copies.what_to_do_if_unsound(name)}")
+                     f"same, {copies.what_to_do_if_unsound(name, said)}")
     if found := copies.unexplained_loss(past):
         less, more = found
         wrong.append(
@@ -101,7 +101,6 @@ def state_of_units(store, wrong):
 def state_of_file(store, state, wrong):
     """What the store holds, and what is wrong with that."""
     if replicas.is_away(store):
-        wrong.append(f"its folder is not mounted here: `journalctl -u {replicas.unit_of(store)}` says why")
         return {}
     if not os.path.exists(store.path):
         wrong.append(f"its file {store.path} is missing. Is its disk there? `pawnd-admin restore {store.name} newest`"
@@ -174,7 +173,8 @@ def how_it_answers(store, lines, state, wrong, notes):
     if not store.is_here:
         return
     state["answers"] = services.answers(store.address, PATIENCE)
-    if not state["answers"]:
+    # What mounts the folder starts the store, too.
+    if not state["answers"] and not replicas.is_away(store):
         wrong.append(f"does not answer on {store.address}: {why_it_is_silent(store)}")
 
 

@@ -25,8 +25,19 @@ def check(path):
     found = re.fullmatch(r"books (\d+) pledges (\d+) rows (\d+)\n", ran.stdout)
     if ran.returncode or not found:
         said = ran.stderr.strip() or ran.stdout.strip() or f"status {ran.returncode}"
+        stop_if_not_of_the_store(path, ran.returncode, said)
         raise NotSound(f"`pawnd check {path}` does not find the store sound: {said}")
     return dict(zip(("books", "pledges", "rows"), map(int, found.groups())))
+
+
+def stop_if_not_of_the_store(path, status, said):
+    """A check that ended for another reason says nothing of the store."""
+    if status < 0 or said.endswith("Memory"):
+        raise Stop(f"`pawnd check {path}` ran out of memory, or was killed ({said}), so nothing is known of the store. Give the "
+                   "machine more memory, then run the command again")
+    if "fault 492" in said:
+        raise Stop(f"the disk of {path} failed while `pawnd check` read it ({said}): `journalctl -k` says more. Mend it, then run "
+                   "the command again")
 
 
 def in_words(counts):

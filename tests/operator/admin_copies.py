@@ -114,6 +114,27 @@ def a_store_that_is_damaged():
         expect("the copies", copies(it), [])
 
 
+def a_check_that_says_nothing_of_the_store():
+    """It ran out of memory, was killed, or the disk of the copies failed: the message does not say that the store is damaged,
+    and the status does not. Nor does it say so of an older schema, which is migrated."""
+    with Machine() as it:
+        it.book(7, pledges=1)
+        it.admin("copy", "main")
+        for ends, wanted, unwanted in (
+            ("echo 'fault 504 Memory' >&2; exit 1", "ran out of memory", "is damaged"),
+            ("kill -KILL $$", "was killed", "is damaged"),
+            ("echo 'fault 492 Store' >&2; exit 1", "the disk of", "is damaged"),
+            ("echo 'fault 501 OldSchema' >&2; exit 1", "FILES.md, `Moving an older file`", "is damaged"),
+        ):
+            it.write("ends", f"#!/bin/sh\n[ $1 != check ] || {{ {ends}; }}\nexec {PROGRAM} \"$@\"\n", 0o755)
+            said = it.admin("copy", "main", wanted=1, PAWND=it.place("ends"))
+            expect(f"what it says: {said}", (wanted in said, unwanted in said), (True, False))
+            wrong = it.status()["wrong"]
+            expect(f"what is wrong: {wrong}", [wanted in line for line in wrong], [True] * ("501" in ends))
+        it.admin("copy", "main")
+        expect("what is wrong", it.status()["wrong"], [])
+
+
 def a_damaged_book_of_a_store_that_is_served():
     """The message names the section for it. The status says so until a copy is good again, though there is a copy of
     before, which is then put back."""
@@ -420,6 +441,7 @@ if __name__ == "__main__":
         a_log_that_is_begun_anew,
         a_copy_without_its_log_is_noticed,
         a_store_that_is_damaged,
+        a_check_that_says_nothing_of_the_store,
         a_damaged_book_of_a_store_that_is_served,
         a_copy_may_be_looked_into,
         without_its_log_a_copy_is_refused,

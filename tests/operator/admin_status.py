@@ -405,6 +405,26 @@ def services_that_do_not_start_at_boot():
         expect_wrong(it, "its service is not enabled", "no copies are made of it")
 
 
+def a_copy_of_a_replicated_folder_that_is_away():
+    """The machine that has it is named, by what the mount of GlusterFS says in its files."""
+    with Machine() as it:
+        it.book(7)
+        it.admin("copy", "main")
+        with open(it.place("etc/stores/main.conf"), "a") as file:
+            file.write("VOLUME=books\n")
+        it.write("units/enabled-pawnd-replicated@main.service", "")
+        active = os.path.join(it.stores, "main/.meta/graphs/active")
+        os.makedirs(f"{active}/books-replicate-0")
+        for number in range(3):
+            os.makedirs(f"{active}/books-client-{number}/options")
+            it.write(f"lib/main/.meta/graphs/active/books-client-{number}/options/remote-host", f"10.0.0.{number + 1}\n")
+        for up, wanted in (("111", []), ("101", ["2 of 3 copies of its folder are in reach, and not the copy of 10.0.0.2."]),
+                           ("100", ["1 of 3 copies of its folder are in reach, and not the copy of 10.0.0.2 and 10.0.0.3."])):
+            text = "".join(f"child_up[{place}] = {word}\npending_reads[{place}] = 0\n" for place, word in enumerate(up))
+            it.write("lib/main/.meta/graphs/active/books-replicate-0/private", text)
+            expect_wrong(it, *wanted)
+
+
 def a_rule_that_is_gone():
     """What keeps the store's user to its port is looked at, for each store that is served; a reload sets it again."""
     with Machine() as it:
@@ -447,6 +467,7 @@ if __name__ == "__main__":
         a_machine_without_main,
         a_file_of_another_user,
         services_that_do_not_start_at_boot,
+        a_copy_of_a_replicated_folder_that_is_away,
         a_rule_that_is_gone,
         it_copies_nothing,
     )

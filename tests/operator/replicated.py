@@ -44,7 +44,7 @@ def a_machine_may_be_lost():
                 load.await_more()
                 losses = three_power_cuts, two_lines_under_load, a_line_while_nobody_asks, each_started_anew
                 rare = (two_lines_at_once, a_machine_that_hangs) if NUMBERS else ()
-                for step in (what_stops_the_store, *losses * ROUNDS, *rare):
+                for step in (what_stops_the_store, a_start_while_another_serves, *losses * ROUNDS, *rare):
                     begun, before = time.monotonic(), load.acknowledged()
                     step(machines, load)
                     expect_well(machines)
@@ -55,6 +55,7 @@ def a_machine_may_be_lost():
             print(f"        {load.acknowledged()} acknowledged changes looked up", flush=True)
             the_copies_are_alike(machines)
             without_its_folder(machines[0])
+            two_machines_are_lost_for_good(machines, load)
 
 
 def a_large_store():
@@ -134,6 +135,21 @@ def what_stops_the_store(machines, load):
     it.run("rm /etc/pawnd/stores/east.conf; : >/etc/pawnd/books.map; pawnd-admin reload")
     for other in others:
         other.run("rm /etc/pawnd/stores/east.conf; " + bring.replace("10.0.0.1", it.address))
+
+
+def a_start_while_another_serves(machines, load):
+    """It is refused, and the operator is not informed. If the store ends where it is served, the operator is."""
+    it, _ = serving(machines)
+    other = next(other for other in machines if other is not it)
+    for one in (it, other):
+        one.run("printf '#!/bin/sh\\necho $1 >>/root/told\\n' >/etc/pawnd/on-failure; chmod 755 /etc/pawnd/on-failure; : >/root/told")
+    other.run("systemctl start pawnd@main || true")
+    other.until("[ $(systemctl is-active pawnd@main) = failed ] && ! systemctl list-jobs --no-legend | grep -q pawnd")
+    expect("why", "fault 503 Store" in other.journal("pawnd@main"), True)
+    it.run("systemctl kill --kill-whom=main -s KILL pawnd@main")
+    it.until("grep -q pawnd@main.service /root/told")
+    expect("whom the other machine told", other.run("cat /root/told"), "")
+    load.await_more()
 
 
 def three_power_cuts(machines, load):
@@ -240,6 +256,31 @@ def without_its_folder(it):
     told = it.run("systemctl start pawnd@main 2>&1", wanted=1)
     expect(f"what it says: {told}", "Assertion failed" in told, True)
     expect("what is in the folder", it.run("ls -A /var/lib/pawnd/main"), "")
+
+
+def two_machines_are_lost_for_good(machines, load):
+    """The third one goes on alone by the page's commands, with every acknowledged change."""
+    at_once(lambda it: it.run("systemctl start pawnd-replicated@main"), *((it,) for it in machines))
+    expect_well(machines, within=120)
+    again = Load(load.tills[0].book, load.tills[0].key)
+    with again:
+        again.await_more()
+        (it, _), others = serving(machines), []
+        others = [other for other in machines if other is not it]
+        others[0].lose_power()
+        again.await_more()
+        it.lose_power()
+        last = others[1]
+        last.until("! systemctl -q is-active pawnd@main && pawnd-admin status | grep -q 'Two machines lost for good'", 120)
+        told = [line for line in last.run("pawnd-admin status", wanted=1).splitlines() if line.startswith("WRONG")]
+        expect(f"what is wrong: {told}", len(told), 2)
+        check, alone, _ = commands(REPLICATED, "Two machines lost for good")
+        expect("the check", "books 1 pledges" in last.run(check), True)
+        last.run(alone)
+        again.await_more()
+    again.look_up(), load.look_up()
+    told = last.run("pawnd-admin status || true")
+    expect("what is wrong", [line for line in told.splitlines() if line.startswith("WRONG")], [])
 
 
 if __name__ == "__main__":
