@@ -264,6 +264,13 @@ def the_sheet_says_each_state():
         wanted = [number for number, state in enumerate(STATES, 1) if state.is_open and "asked" in (state.booking or ())]
         expect("who waits for an answer", sorted(asked, key=int), [str(number) for number in wanted])
         browser.shoot("broker-states-today")
+        first = "return document.querySelector('#sheet h2').textContent"
+        expect("the first card of today", browser.run(first), "Coming")
+        browser.fill("#sheet-day", day=str(PAST))
+        browser.press("#sheet-day button", "Show")
+        browser.says(in_words(PAST), "#sheet-title")
+        browser.rests()
+        expect("nobody comes any more on a day that is over", browser.run(first), "Confirmed for this day")
         no_faults()
 
 
