@@ -62,7 +62,7 @@ function headOf(number, reference) {
   );
 }
 
-/** By the element of a receipt: the look at its pledge, which takes away a paper that is not to be printed any more. */
+/** By the element of a receipt: the look at its pledge, which takes away papers that are not to be printed any more. */
 const looks = new WeakMap();
 
 /** Looks at the receipt that a place shows, to which the clerk comes back. */
@@ -80,13 +80,19 @@ function printing({ statement, receipt }, whole) {
   const notice = makeNotice();
   const button = make("button", { type: "button" }, "Print the receipt");
   let isGood;
+  /** What is said takes the place of the paper, and of the tag that may be shown in its turn. */
+  const drop = () => {
+    whole.replaceChildren(notice);
+    whole.hidden = false;
+    whole.parentElement?.replaceChildren(whole);
+  };
   const look = async () => {
     isGood = false;
     try {
       await refuseOld({ receipt, statement }, begun);
       isGood = true;
     } catch (fault) {
-      if (fault instanceof Unreadable) whole.replaceChildren(notice);
+      if (fault instanceof Unreadable) drop();
       throw fault;
     }
     return "";
