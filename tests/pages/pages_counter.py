@@ -162,6 +162,7 @@ def a_receipt_that_another_till_replaced_is_not_called_live_any_more():
         no_faults()
 
 
+DEAD = "This receipt is not live"
 # Counts what is printed, and prints nothing.
 COUNT_PRINTS = "window.printed = 0; window.print = () => { window.printed += 1; };"
 
@@ -186,7 +187,7 @@ def a_dead_receipt_is_not_printed_by_its_button():
         browser.faults()
         declare(pages, 1)
         browser.press("#new-receipt button", "Print the receipt")
-        browser.says("This receipt is not live: a newer one took its place", "#new-receipt")
+        browser.says(f"{DEAD}: a newer one took its place", "#commands > .notice")
         there_is_no_paper()
         expect("a dead one is not printed", browser.run("return window.printed"), 1)
         command("Print the receipt again", "Print the receipt again")
@@ -197,14 +198,23 @@ def a_dead_receipt_is_not_printed_by_its_button():
         part("today")
         browser.says("Coming", "#sheet")
         browser.run("location.hash = '#pledge=1'")
-        browser.says("This receipt is not live: a newer one took its place", "#new-receipt")
+        browser.says(f"{DEAD}: a newer one took its place", "#commands > .notice")
         there_is_no_paper()
         take_a_ring(reference="A2")
         declare(pages, 2)
         part("today")
         browser.says("Coming", "#sheet")
         part("take")
-        browser.says("This receipt is not live: a newer one took its place", "#taken-receipt")
+        browser.says(f"{DEAD}: a newer one took its place", "#taking .notice")
+        there_is_no_paper()
+        browser.rests()
+        find("2")
+        command("Print the receipt again", "Print the receipt again")
+        agree()
+        browser.says("It was looked at just now: it is live.", "#commands > .notice")
+        declare(pages, 2)
+        the_clock_goes_on(61)
+        browser.says(f"{DEAD}: a newer one took its place", "#commands > .notice")
         there_is_no_paper()
         no_faults()
 
@@ -284,7 +294,7 @@ def a_paper_with_an_end_that_another_till_moved_is_not_printed():
         browser.rests()
         pages.session.broker("POST", "/books/7/pledges/1/extend", {"until": str(ago(-400))})
         browser.press("#new-receipt button", "Print the receipt")
-        browser.says("The pledge has changed since this paper was made", "#new-receipt")
+        browser.says("The pledge has changed since this paper was made", "#commands > .notice")
         there_is_no_paper()
         expect("it is not printed", browser.run("return window.printed"), 0)
         take_a_ring(reference="A2")
@@ -293,7 +303,7 @@ def a_paper_with_an_end_that_another_till_moved_is_not_printed():
         part("today")
         browser.says("Coming", "#sheet")
         part("take")
-        browser.says("The pledge has changed since this paper was made", "#taken-receipt")
+        browser.says("The pledge has changed since this paper was made", "#taking .notice")
         there_is_no_paper()
         no_faults()
 

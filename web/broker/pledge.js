@@ -229,7 +229,7 @@ class Desk {
     const { known } = this;
     if (!known.terms) throw new Error("the book does not have the pledge’s terms");
     if (this.wanted !== this.number || this.statement?.number !== this.number) throw new Outdated(ANOTHER);
-    byId("new-receipt").replaceChildren(receiptSheet({ statement, receipt, known }));
+    byId("new-receipt").replaceChildren(receiptSheet({ statement, receipt, known, said: this.notice }));
     byId("new-receipt").scrollIntoView();
     return statement;
   }
