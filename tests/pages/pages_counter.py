@@ -1,6 +1,7 @@
 """What the broker's page once said at the counter that was not so, each as it was found; in a real browser, in front of
 the program."""
 import datetime
+import re
 
 from tests.library.checks import expect
 from tests.library.dates import six_months_after, today
@@ -161,6 +162,7 @@ def a_receipt_that_another_till_replaced_is_not_called_live_any_more():
         no_faults()
 
 
+DEAD = "This receipt is not live"
 # Counts what is printed, and prints nothing.
 COUNT_PRINTS = "window.printed = 0; window.print = () => { window.printed += 1; };"
 
@@ -185,7 +187,7 @@ def a_dead_receipt_is_not_printed_by_its_button():
         browser.faults()
         declare(pages, 1)
         browser.press("#new-receipt button", "Print the receipt")
-        browser.says("This receipt is not live: a newer one took its place", "#new-receipt")
+        browser.says(f"{DEAD}: a newer one took its place", "#commands > .notice")
         there_is_no_paper()
         expect("a dead one is not printed", browser.run("return window.printed"), 1)
         command("Print the receipt again", "Print the receipt again")
@@ -196,15 +198,59 @@ def a_dead_receipt_is_not_printed_by_its_button():
         part("today")
         browser.says("Coming", "#sheet")
         browser.run("location.hash = '#pledge=1'")
-        browser.says("This receipt is not live: a newer one took its place", "#new-receipt")
+        browser.says(f"{DEAD}: a newer one took its place", "#commands > .notice")
         there_is_no_paper()
         take_a_ring(reference="A2")
         declare(pages, 2)
         part("today")
         browser.says("Coming", "#sheet")
         part("take")
-        browser.says("This receipt is not live: a newer one took its place", "#taken-receipt")
-        expect("but for the tag", browser.run("return document.querySelectorAll('.paper .secret').length"), 0)
+        browser.says(f"{DEAD}: a newer one took its place", "#taking .notice")
+        there_is_no_paper()
+        browser.rests()
+        find("2")
+        command("Print the receipt again", "Print the receipt again")
+        agree()
+        browser.says("It was looked at just now: it is live.", "#commands > .notice")
+        declare(pages, 2)
+        the_clock_goes_on(61)
+        browser.says(f"{DEAD}: a newer one took its place", "#commands > .notice")
+        there_is_no_paper()
+        no_faults()
+
+
+def a_paper_is_made_of_the_pledge_as_it_is_now():
+    """Another till moved the end, or sold the article, since the pledge was shown: bags are pulled by what their tags
+    say."""
+    with Pages() as pages:
+        make_book(pages, terms=False)
+        fill_book(pages, book_text([
+            ("Ring", "A1", 9000, ago(30), "", "no"), ("Clock", "A2", 9000, ago(220), "", "no"),
+        ]))
+        open_book(pages)
+        the_book_is_read()
+        find("1")
+        browser.says("Pledge 1 of book 7", "#statement")
+        for title, button, says in (
+            ("Print a tag for the bag", "Show the tag", "Until {}"),
+            ("Print the receipt again", "Print the receipt again", "{}, as extended"),
+            ("Replace a lost receipt", "Make a new receipt", "{}, as extended"),
+        ):
+            browser.rests()
+            moved = datetime.date.fromisoformat(re.search(
+                "^Ends (.*)$", pages.session.broker("GET", "/books/7/pledges/1")[1], re.M,
+            )[1]) + datetime.timedelta(days=30)
+            pages.session.broker("POST", "/books/7/pledges/1/extend", {"until": str(moved)})
+            command(title, button)
+            agree()
+            browser.says(says.format(in_short(moved)), "#new-receipt .paper")
+        find("2")
+        browser.says("Pledge 2 of book 7", "#statement")
+        browser.rests()
+        pages.session.broker("POST", "/books/7/pledges/2/sell", {"net": 20000})
+        command("Print the receipt again", "Print the receipt again")
+        agree()
+        browser.says("The receipt only shows what became of the pledge", "#commands > .notice")
         no_faults()
 
 
@@ -248,9 +294,17 @@ def a_paper_with_an_end_that_another_till_moved_is_not_printed():
         browser.rests()
         pages.session.broker("POST", "/books/7/pledges/1/extend", {"until": str(ago(-400))})
         browser.press("#new-receipt button", "Print the receipt")
-        browser.says("The pledge has changed since this paper was made", "#new-receipt")
+        browser.says("The pledge has changed since this paper was made", "#commands > .notice")
         there_is_no_paper()
         expect("it is not printed", browser.run("return window.printed"), 0)
+        take_a_ring(reference="A2")
+        browser.press("#taken-receipt button", "Show the tag for the bag")
+        pages.session.broker("POST", "/books/7/pledges/2/extend", {"until": str(ago(-400))})
+        part("today")
+        browser.says("Coming", "#sheet")
+        part("take")
+        browser.says("The pledge has changed since this paper was made", "#taking .notice")
+        there_is_no_paper()
         no_faults()
 
 
@@ -726,6 +780,7 @@ main(
         a_receipt_that_another_till_replaced_is_not_left_to_be_printed, a_dead_receipt_is_not_printed_by_its_button,
         a_paper_with_an_end_that_another_till_moved_is_not_printed,
         a_declaration_that_was_not_sent_does_not_have_the_lost_receipt_printed,
+        a_paper_is_made_of_the_pledge_as_it_is_now,
         a_receipt_that_another_till_replaced_is_not_called_live_any_more,
         an_equal_payment_that_comes_during_the_question_is_another, redemption_by_the_paper,
         a_redemption_that_the_browser_sends_twice_is_told, a_sale_that_the_browser_sends_twice_is_told,

@@ -138,7 +138,7 @@ def how_slips_are_mended_is_told():
         find("A1")
         unfold("If something was entered by mistake")
         for says in (
-            "redeem it by its own receipt for what is owed", "£100.00 is owed today.", "take the pledge anew",
+            "redeem the pledge by its own receipt for what is owed", "£100.00 is owed today.", "take it anew",
             "unless it was taken twice",
             "can’t be drawn again on a fixed sum",
             "A visit that was refused can’t be confirmed: the pawnor asks for it again.",

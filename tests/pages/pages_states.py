@@ -264,6 +264,13 @@ def the_sheet_says_each_state():
         wanted = [number for number, state in enumerate(STATES, 1) if state.is_open and "asked" in (state.booking or ())]
         expect("who waits for an answer", sorted(asked, key=int), [str(number) for number in wanted])
         browser.shoot("broker-states-today")
+        first = "return document.querySelector('#sheet h2').textContent"
+        expect("the first card of today", browser.run(first), "Coming")
+        browser.fill("#sheet-day", day=str(PAST))
+        browser.press("#sheet-day button", "Show")
+        browser.says(in_words(PAST), "#sheet-title")
+        browser.rests()
+        expect("nobody comes any more on a day that is over", browser.run(first), "Confirmed for this day")
         no_faults()
 
 
@@ -280,15 +287,16 @@ def state_lines(state, reader):
         return [f"£50.00 more than was owed, {whose}", "Lent and not repaid then"]
     if state.status == "passed":
         whose = {"broker": "is the shop’s", "pawnor": "belongs to the pawnbroker"}[reader]
-        return [f"The article {whose} now"]
+        return [f"The period ended on {in_words(state.ends)}", f"The article {whose} now"]
     if state.held:
         return ["On hold: it can’t be redeemed until", f"the article {becomes}", "on hold or not"]
     if state.status == "realisable":
-        return ["may be sold any day"]
+        return [f"The period ended on {in_words(state.ends)}", "may be sold any day"]
     broker = "Can be redeemed until" if state.passes else "To be kept until"
     until = {"broker": broker, "pawnor": "Still yours until" if state.passes else "Kept for you until"}[reader]
     front = f"from {in_short(state.after)} on the article" if reader == "broker" else "after that it"
-    return [f"{until} {in_words(state.last)}", f"{front} {becomes}, and {more}"]
+    over = f"he period ended on {in_words(state.ends)}, and days of grace run" if state.status == "grace" else ""
+    return [f"{until} {in_words(state.last)}", over, f"{front} {becomes}, and {more}"]
 
 
 def card_of(state, reader):

@@ -222,15 +222,16 @@ class Desk {
     return ledger.pledge(this.number)?.secrets.length ?? 0;
   }
 
-  /** Shows a receipt of the pledge, to be printed, once it was found live and the book has the pledge’s terms. */
-  async showReceipt(receipt, found = null) {
+  /** Shows a receipt that was found live, with the pledge as it is now, to be printed. Returns the pledge. */
+  async showReceipt(receipt) {
     await this.countReceipts();
+    const statement = await this.read();
     const { known } = this;
     if (!known.terms) throw new Error("the book does not have the pledge’s terms");
     if (this.wanted !== this.number || this.statement?.number !== this.number) throw new Outdated(ANOTHER);
-    const statement = found ?? this.statement;
-    byId("new-receipt").replaceChildren(receiptSheet({ statement, receipt, known }));
+    byId("new-receipt").replaceChildren(receiptSheet({ statement, receipt, known, said: this.notice }));
     byId("new-receipt").scrollIntoView();
+    return statement;
   }
 
   /**

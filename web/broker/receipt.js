@@ -62,48 +62,44 @@ function headOf(number, reference) {
   );
 }
 
-/** By the element of a receipt: the look at its pledge, which takes away a paper that is not to be printed any more. */
+/** By the element of a receipt: the look at its pledge, which takes the paper away if it may not be printed any more. */
 const looks = new WeakMap();
 
-/** Looks at the receipt that a place shows, to which the clerk comes back. */
-export async function recheckPaper(place) {
-  const whole = place.querySelector(".receipt");
-  const fault = await looks.get(whole)?.().catch((found) => found);
-  if (!(fault instanceof Unreadable)) return;
-  tell(whole.firstChild, fault.message, "bad");
-  tellLater(whole.firstChild, fault);
-}
+/** Looks at the pledge of the receipt that a place shows, to which the clerk comes back. */
+export const recheckPaper = (place) => looks.get(place.querySelector(".receipt"))?.().catch(() => {});
 
-/** The button that prints a receipt, if it may still be printed, with its notice. */
-function printing({ statement, receipt }, whole) {
+/** The button that prints a receipt if it may still be printed, with its notice; `said` is that of the whole part. */
+function printing({ statement, receipt, said }, whole) {
   const begun = current();
   const notice = makeNotice();
   const button = make("button", { type: "button" }, "Print the receipt");
-  let isGood;
   const look = async () => {
-    isGood = false;
     try {
       await refuseOld({ receipt, statement }, begun);
-      isGood = true;
+      return "";
     } catch (fault) {
-      if (fault instanceof Unreadable) whole.replaceChildren(notice);
+      if (fault instanceof Unreadable && whole.isConnected) {
+        whole.parentElement.replaceChildren();
+        tell(said, fault.message, "bad");
+        tellLater(said, fault);
+      }
       throw fault;
     }
-    return "";
   };
   looks.set(whole, look);
   button.addEventListener("click", async () => {
-    await run({ notice, within: whole, reader: "broker", act: look });
-    if (isGood) window.print();
+    const fault = await run({ notice, within: whole, reader: "broker", act: look });
+    if (fault === null) window.print();
+    else if (!whole.isConnected) said.focus();
   });
   return [notice, make("div", { className: "buttons screen" }, button)];
 }
 
 /**
- * The receipt of a pledge, with a button that prints it: by its statement, the receipt's text, and what the book has
- * of the pledge and its statement lacks.
+ * The receipt of a pledge, with a button that prints it: by its statement, the receipt's text, what the book has of the
+ * pledge and its statement lacks, and the notice that says why the paper is taken away.
  */
-export function receiptSheet({ statement, receipt, known }) {
+export function receiptSheet({ statement, receipt, known, said }) {
   const { name, till } = shop();
   const { terms, fiveDays, reference } = known;
   const { origin } = location;
@@ -119,6 +115,6 @@ export function receiptSheet({ statement, receipt, known }) {
     make("div", { className: "signs" },
       sign(till ? `For the shop, ${till}` : "For the shop"), sign("Customer’s name"), sign("Received by")));
   const whole = make("div", { className: "receipt" });
-  whole.append(...printing({ statement, receipt }, whole), sheet);
+  whole.append(...printing({ statement, receipt, said }, whole), sheet);
   return whole;
 }

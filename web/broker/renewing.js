@@ -56,7 +56,7 @@ async function showPaper(desk) {
   try {
     const receipt = await desk.newestReceipt();
     if (receipt === null) return " No receipt of this pledge is live, so none is printed.";
-    await desk.showReceipt(receipt, await desk.read());
+    await desk.showReceipt(receipt);
     return " The paper with the new end is below: print it, and take the old one back.";
   } catch {
     return " The paper can’t be shown just now: “Print the receipt again” shows it.";

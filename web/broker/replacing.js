@@ -31,8 +31,8 @@ async function printAgain(statement, desk) {
   if (!yes) return NOTHING_DONE;
   const receipt = await desk.newestReceipt();
   if (receipt === null) return NONE_LIVE;
-  await desk.showReceipt(receipt);
-  const now = isOpen(statement.status) ? "It was looked at just now: it is live." : SHOWS;
+  const { status } = await desk.showReceipt(receipt);
+  const now = isOpen(status) ? "It was looked at just now: it is live." : SHOWS;
   return `The receipt is below, ready to print. ${now} ${desk.toldOfReceipts()}`;
 }
 

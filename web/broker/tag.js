@@ -24,7 +24,7 @@ export function tagOf(statement, { reference, fiveDays }) {
       make("p", {}, `After that it ${becomes(statement, "broker")}.`)));
 }
 
-export const tagging = (statement, desk) => ({
+export const tagging = (_, desk) => ({
   title: "Print a tag for the bag",
   barred: desk.known.reference === null ? "The reference is shown once the book is read." : null,
   parts: [
@@ -32,7 +32,7 @@ export const tagging = (statement, desk) => ({
     buttons(make("button", { className: "plain" }, "Show the tag")),
   ],
   act: async () => {
-    byId("new-receipt").replaceChildren(tagOf(statement, desk.known));
+    byId("new-receipt").replaceChildren(tagOf(await desk.read(), desk.known));
     byId("new-receipt").scrollIntoView();
     return "The tag is below, ready to print.";
   },

@@ -142,7 +142,7 @@ const UNSEEN = "It could not be looked at just now, so no receipt is shown. Open
 
 /** Shows the receipt of what was taken, and empties the form for the next pledge. */
 async function show(sent) {
-  const said = await settle(sent);
+  const said = await settle({ ...sent, notice });
   lost = null;
   emptyForm();
   showTaking();

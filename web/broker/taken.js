@@ -64,9 +64,9 @@ function toldOf({ number, taken, ends, kind }, terms, asked) {
 
 /**
  * Shows that a pledge was taken, and its receipt. `asked` is the day and the version of the terms that were asked about,
- * `begun` the session in which it was taken.
+ * `begun` the session in which it was taken, `notice` what says later why the receipt is taken away.
  */
-export async function settle({ opening, said, known, before, asked, begun }) {
+export async function settle({ opening, said, known, before, asked, begun, notice }) {
   // The beginning of the book is asked for after that: the service makes the whole book for it, and more of it comes
   // than is wanted, and both would delay what the receipt opens.
   const held = await heldBy(said.receipt, begun);
@@ -84,7 +84,9 @@ export async function settle({ opening, said, known, before, asked, begun }) {
   const { ref: reference, agreed, five_days: fiveDays } = opening;
   const beside = { reference, agreed, fiveDays, terms };
   byId("taken-receipt").append(
-    ...inTurn(receiptSheet({ statement: held, receipt: said.receipt, known: beside }), tagOf(held, beside))
+    ...inTurn(
+      receiptSheet({ statement: held, receipt: said.receipt, known: beside, said: notice }), tagOf(held, beside),
+    )
   );
   return toldOf(held, terms, asked);
 }

@@ -133,8 +133,9 @@ const endsLine = (number) => make("li", {}, named(number, { withVisit: true }));
 
 function draw() {
   showDayOf("today", sheet.day, { isToday: "Today" });
+  const coming = sheet.day < today() ? "Confirmed for this day" : "Coming";
   const cards = [
-    card("Coming", sheet.windows.map(windowLine), "No visit is confirmed for this day."),
+    card(coming, sheet.windows.map(windowLine), "No visit is confirmed for this day."),
     waitingCard(),
     pastCard(),
     card("Period ends", sheet.ends.map(endsLine), "No period ends on this day."),

@@ -82,7 +82,7 @@ const STATES = {
   ),
 };
 
-const over = (ends) => `Its time was over on ${inWords(ends)}`;
+const over = (ends) => `The period ended on ${inWords(ends)}`;
 
 /** What becomes of an article once its time is over, for the pawnor. */
 const afterIt = (statement) => `after that it ${becomesInWords(statement, "pawnor")}`;
@@ -121,7 +121,7 @@ const FOR_PAWNOR = {
   realisable: ({ ends }) => (
     {
       badge: "May be sold", line: "You can still fetch it, until the shop sells it",
-      more: `${over(ends)}. It may be sold any day`,
+      more: `${over(ends)}. The article may be sold any day`,
     }
   ),
   sold: ({ closing }) => ({ more: saleInWords(closing, "pawnor") }),
