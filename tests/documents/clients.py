@@ -388,7 +388,10 @@ def what_the_proxy_says_by_itself():
         expect("a target that is the pages'", (status, said[:15]), (404, b"<!doctype html>"))
         expect("a long body", by_proxy(port, "/books/7/import", b"x" * (BODY_BYTES + 1))[:2], (413, not_handed_on(413)))
         expect("a long head", by_proxy(port, "/books/7/held", X="x" * 40_000)[:2], (400, not_handed_on(400)))
-        seen = [by_proxy(port, "/books/7/held", **view) for _ in range(40)]
+        seen = [by_proxy(port, "/books/7/held", **view)]
+        end = time.monotonic() + 60
+        while seen[-1][0] != 429 and time.monotonic() < end:
+            seen.append(by_proxy(port, "/books/7/held", **view))
         expect("many", {(it[0], it[2]) for it in seen}, {(200, None), (429, "2")})
         expect("their answer", next(it[1] for it in seen if it[0] == 429), not_handed_on(429))
         time.sleep(2)

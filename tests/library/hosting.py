@@ -24,7 +24,7 @@ from tests.library.packages import PATHS
 from tests.library.paths import PROGRAM, TOP
 from tests.library.requests import request
 from tests.library.sessions import WAIT, Once
-from tests.library.waiting import listens, wait_for
+from tests.library.waiting import wait_for
 
 NAME = "books.example.org"
 # What each program comes in, as a package of Debian.
@@ -207,13 +207,6 @@ def open_text(path):
         return it.read()
 
 
-def begun_at(pid):
-    """When a process began, in the system's ticks; never if it has ended."""
-    with contextlib.suppress(OSError), open(f"/proc/{pid}/stat") as it:
-        return int(it.read().rpartition(")")[2].split()[19])
-    return float("inf")
-
-
 class Hosted:
     """nginx in front of some stores. The files are those of deploy/nginx, but for paths, addresses and the settings;
     `changes` are pairs of texts: of limits in pawnd-http.conf, or else in pawnd-server.conf."""
@@ -339,15 +332,10 @@ class Hosted:
         self.reload()
 
     def reload(self):
-        """nginx reads its files anew. Its workers of before take no connection any more. They are told by the time at which
-        they began: soon after its start, not all of them are there yet."""
-        time.sleep(0.02)
-        with open("/proc/uptime") as it:
-            sent = float(it.read().split()[0]) * os.sysconf("SC_CLK_TCK")
+        """nginx reads its files anew. Its workers of before take no connection any more."""
+        before = self.workers()
         os.kill(self.nginx.pid, signal.SIGHUP)
-        wait_for(
-            lambda: (now := self.workers()) and all(begun_at(pid) >= sent for pid in now), "nginx has read its files anew", 30,
-        )
+        wait_for(lambda: (now := self.workers()) and not now & before, "nginx has read its files anew", 30)
 
     def workers(self):
         """The workers that take connections."""
@@ -378,7 +366,8 @@ class Hosted:
             start_new_session=True,
         )
         self.stack.callback(self.end)
-        wait_for(lambda: self.nginx.poll() is not None or listens(self.port), "nginx", 30)
+        # It listens before its workers are there, of which it has one for each processor.
+        wait_for(lambda: self.nginx.poll() is not None or len(self.workers()) == os.cpu_count(), "nginx", 30)
         if self.nginx.poll() is not None:
             raise Failed(f"nginx ended: {self.nginx.stderr.read().decode()[-600:]} {self.log('error')[-600:]}")
 

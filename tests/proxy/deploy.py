@@ -8,13 +8,14 @@ import random
 import re
 import socket
 import subprocess
+import time
 
 from tests.library.checks import Failed, expect
 from tests.library.dates import today
 from tests.library.hosting import BOOKS, NAME, PACKAGES, Caller, Hosted, Recorder, proxys, status
 from tests.library.keys import BROKER, KEY, OPERATOR
 from tests.library.packages import main_with
-from tests.library.proxy.checks import no_secret_in_a_log
+from tests.library.proxy.checks import guesses, no_secret_in_a_log
 from tests.library.requests import request
 
 NOT_HANDED_ON = b'{"proxy":%d,"handed_on":false}'
@@ -375,14 +376,11 @@ def what_is_unknown_and_what_was_not_done():
 def guesses_are_slowed_down():
     with Hosted() as it:
         it.open_books()
-        told, caller = [], it.caller()
-        for number in range(60):
-            told.append(status(caller.ask("GET", "/books/7/held", f"Pledge-Receipt: 1-{number:032x}")))
-        expect(
-            "guesses of one address",
-            (told.count(404) + told.count(429), 20 <= told.count(404) <= 40, told[-1]),
-            (60, True, 429),
-        )
+        caller, begun = it.caller(), time.monotonic()
+        told = [status(reply) for reply in guesses(caller, 7, 20)]
+        # A burst of 20, and then 5 a second.
+        most = 21 + 5 * (time.monotonic() - begun)
+        expect("guesses of one address", (set(told), 20 <= told.count(404) <= most), ({404, 429}, True))
         expect("the refusal", proxys(caller.ask("GET", "/books/7/held", "Pledge-Receipt: 1-1")), (429, False))
         expect(
             "another address",

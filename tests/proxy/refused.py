@@ -15,7 +15,7 @@ from tests.library.checks import Failed, expect
 from tests.library.hosting import BOOKS, NAME, PACKAGES, Hosted, Recorder, proxys, status
 from tests.library.keys import BROKER
 from tests.library.packages import main_with
-from tests.library.proxy.checks import no_secret_in_a_log, plainly
+from tests.library.proxy.checks import guesses, no_secret_in_a_log, plainly
 from tests.library.requests import request
 from tests.library.waiting import wait_for
 
@@ -130,10 +130,7 @@ def limits_come_before_the_answer_for_no_book():
         it.open_books()
         told = {}
         for number in (7, 1_000):
-            caller = it.caller()
-            replies = [caller.ask("GET", f"/books/{number}/held", f"Pledge-Receipt: 1-{n:032x}") for n in range(40)]
-            told[number] = {(status(reply), reply.body) for reply in replies}
-            expect(f"guesses at book {number}", sorted(status(reply) for reply in replies)[-1], 429)
+            told[number] = {(status(reply), reply.body) for reply in guesses(it.caller(), number, 6)}
         expect("a book and no book are answered alike", told[7], told[1_000])
 
 
@@ -149,9 +146,8 @@ def when_to_ask_again():
             reply = caller.send(sent)
             expect(step, (status(reply), reply.fields.get("retry-after")), (wanted, None))
             caller.close()
-        replies = [caller.ask("GET", "/books/7/held") for _ in range(40)]
-        late = [reply for reply in replies if status(reply) == 429]
-        expect("too often", ({reply.fields.get("retry-after") for reply in late}, len(late) > 5), ({"2"}, True))
+        late = [reply for reply in guesses(caller, 7, 6) if status(reply) == 429]
+        expect("too often", {reply.fields.get("retry-after") for reply in late}, {"2"})
 
 
 def a_store_that_is_being_restarted():

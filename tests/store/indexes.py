@@ -188,15 +188,17 @@ def a_kill_leaves_both_or_none():
     chance, seen = random.Random(47), set()
     with tempfile.TemporaryDirectory() as room:
         path = made(room, each=2000)
-        before, whole = rows(path), 0.0
+        before, whole = rows(path), None
         for at in range(KILLS):
             killed = older_copy(path, os.path.join(room, f"killed{at}"))
             begun = time.monotonic()
             with subprocess.Popen([PROGRAM, "check", killed], stdout=subprocess.DEVNULL) as ran:
-                if whole:
-                    time.sleep(chance.uniform(0, whole))
+                try:
+                    ran.wait(whole and chance.uniform(0, whole))
+                    # One run may be slower than the others: the next are killed within the time of the last whole one.
+                    whole = time.monotonic() - begun
+                except subprocess.TimeoutExpired:
                     ran.kill()
-            whole = whole or time.monotonic() - begun
             found = indexes(killed)
             seen.add(len(found))
             expect(f"the indexes after kill {at}", found in ({}, TEXTS), True)
