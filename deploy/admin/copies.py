@@ -274,7 +274,9 @@ def make_copy(name, path, before=None):
         with copy_aside(name, path, before) as part:
             made = Copy(named(part, new_time(name)))
     except NotSound as why:
-        write_whole(failed_check(name), f"{utc_now().strftime(TIME)}: {why}\n", 0o600)
+        # A full disk is no reason to say less of the store.
+        with contextlib.suppress(Stop, OSError):
+            write_whole(failed_check(name), f"{utc_now().strftime(TIME)}: {why}\n", 0o600)
         raise
     forget_failed_check(name)
     return made
