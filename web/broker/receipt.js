@@ -92,7 +92,7 @@ function printing({ statement, receipt, said }, whole) {
     if (fault === null) window.print();
     else if (!whole.isConnected) said.focus();
   });
-  return [notice, make("div", { className: "buttons screen" }, button)];
+  return [make("div", { className: "buttons screen" }, button), notice];
 }
 
 /**
