@@ -203,7 +203,7 @@ def all_else_goes_on_a4():
         browser.says("Can be sold now", "#due")
         is_printed(
             "paper-due", A4, "Can be sold now", "Article 59", "Article 120", "Ends within 7 days", AS_READ,
-            never=(*never, "Show 31 more"),
+            never=(*never, "Show 31 more", "in 5 days"),
         )
         part("till")
         browser.says("Sums of today", "#till")

@@ -494,6 +494,19 @@ def a_renewal_stops_where_the_pledge_was_changed_during_its_question():
         no_faults()
 
 
+def a_renewal_without_charges_stops_where_the_end_was_moved_during_its_question():
+    with a_pledge_at_the_counter() as (pages, _):
+        browser.says("£100.00 owed today", "#statement")
+        moved = six_months_after(today()) + datetime.timedelta(days=30)
+        command("Renew", "Renew the pledge")
+        browser.says("No charges are owed today.", "dialog")
+        pages.session.broker("POST", "/books/7/pledges/1/extend", {"until": str(moved)})
+        browser.press("dialog button.grave")
+        browser.says(f"its end was moved to {in_words(moved)}", "#commands .action[open]")
+        expect("the end", ends_of(pages), str(moved))
+        no_faults()
+
+
 def once_the_period_is_over_it_says_how_to_go_on():
     """In the days of grace and after them, beside the commands that can't be done any more."""
     with Pages() as pages:
@@ -534,6 +547,7 @@ main(
         a_hold_bars_redemption_before_it_is_sent,
         a_renewal_after_which_nothing_can_be_looked_at_is_not_somebody_elses, a_pledge_is_renewed_in_one_step,
         a_renewal_stops_where_the_pledge_was_changed_during_its_question,
+        a_renewal_without_charges_stops_where_the_end_was_moved_during_its_question,
         once_the_period_is_over_it_says_how_to_go_on, an_extension_whose_reply_is_lost_is_told,
     ),
 )

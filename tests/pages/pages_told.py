@@ -191,6 +191,7 @@ def an_import_tells_of_the_other_book():
         browser.press("#importing button")
         browser.press("dialog button", "Fill book 7")
         browser.says("Each receipt now opens its pledge in this book, and in the book that the file", "#files")
+        browser.says("Record nothing in that one any more, and ask the operator of the service to remove it.", "#files")
         browser.says("name the old book, so print the receipts again", "#files")
 
 

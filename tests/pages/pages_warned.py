@@ -392,6 +392,11 @@ def a_hold_does_not_hide_what_the_end_brings():
             ("Ring", "A1", 5000, ago(30), "", "yes"), ("Watch", "A2", 9000, ago(30), "", "no"),
             ("Clock", "A3", 9000, ago(220), "", "no"), ("Spoon", "A4", 5000, ago(186), "", "yes"),
         ]))
+        open_book(pages)
+        find("1")
+        browser.says("Pledge 1 of book 7", "#statement")
+        unfold("Put on hold")
+        browser.says("While the pledge is on hold, it can’t be redeemed, and its time runs on.", ".action[open]")
         ends = six_months_after(ago(30))
         grace = six_months_after(ago(186))
         days = datetime.timedelta(days=5)

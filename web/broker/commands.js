@@ -175,8 +175,8 @@ const hold = ({ held }, desk) => ({
   barred: null,
   parts: [
     lead(held
-      ? "Redemption is barred now. Releasing the hold allows it again."
-      : "A hold bars redemption until you release it."),
+      ? "Once the hold is released, the pledge can be redeemed again."
+      : "While the pledge is on hold, it can’t be redeemed, and its time runs on."),
     buttons(button(held ? "Release" : "Hold"))],
   act: () => orSeen(
     desk.command(held ? "release" : "hold", undefined, true).then(({ said }) => holdInWords(said.held)),

@@ -12,7 +12,9 @@ import { keep, kept } from "./kept.js";
 import { ledger } from "./ledger.js";
 import { articleCell, numberCell, section } from "./tables.js";
 
-const ended = ({ ends }, now) => `${inShort(ends)}, ${seenFrom(now, ends)}`;
+/** Paper is read on other days, so how far a day is off is on the screen alone. */
+const ended = ({ ends }, now) =>
+  make("span", {}, inShort(ends), make("span", { className: "screen" }, `, ${seenFrom(now, ends)}`));
 const since = (pledge) => inShort(firstDayAfter(pledge));
 
 /** Each group: its title, what is said where it is empty, and the day that counts for it. */

@@ -16,8 +16,8 @@ const PATIENCE = 300_000;
 
 /** What the broker has to know once two books have the same receipts. */
 const BOTH = "Each receipt now opens its pledge in this book, and in the book that the file came from as well, if that "
-  + "still exists: close that one to redemptions. Links and codes that were printed before name the old book, so print "
-  + "the receipts again.";
+  + "still exists. Record nothing in that one any more, and ask the operator of the service to remove it. "
+  + "Links and codes that were printed before name the old book, so print the receipts again.";
 
 const LOST = "The reply was lost, so the book may have been filled. Send the same file again: it fills the book once.";
 

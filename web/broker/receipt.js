@@ -62,7 +62,7 @@ function headOf(number, reference) {
   );
 }
 
-/** By the element of a receipt: the look at its pledge, which takes the paper away if it may not be printed any more. */
+/** By the element of a receipt: the look at its pledge, which takes away a paper that is not to be printed. */
 const looks = new WeakMap();
 
 /** Looks at the pledge of the receipt that a place shows, to which the clerk comes back. */
@@ -92,7 +92,7 @@ function printing({ statement, receipt, said }, whole) {
     if (fault === null) window.print();
     else if (!whole.isConnected) said.focus();
   });
-  return [notice, make("div", { className: "buttons screen" }, button)];
+  return [make("div", { className: "buttons screen" }, button), notice];
 }
 
 /**

@@ -42,8 +42,11 @@ const outdated = ({ owed, ends }) => new Outdated(
  * Receives the charges. Returns a message if the renewal has to stop here, or null. A change during the question is not
  * asked about: a yes would go to the loan where the charges are paid, and move an end again that was moved.
  */
-async function receive(now, desk) {
-  if (now.owed.charges === 0) return null;
+async function receive(until, now, desk) {
+  if (now.owed.charges === 0) {
+    compare(until, now, await lookFirst(desk.read()), false);
+    return null;
+  }
   const said = await recordEntry({
     shown: now, sort: "repay", pence: now.owed.charges, askFrom: Infinity, outdated, read: () => desk.read(),
     send: (body) => desk.command("repay", body, true),
@@ -97,7 +100,7 @@ async function agreedTo(until, shown, desk) {
 async function renew({ until }, shown, desk) {
   const now = await agreedTo(until, shown, desk);
   if (now === null) return NOTHING_DONE;
-  const stopped = await receive(now, desk);
+  const stopped = await receive(until, now, desk);
   if (stopped) return { ...stopped, sentence: `${stopped.sentence} The period was not extended.` };
   const received = now.owed.charges > 0 ? `${inPounds(now.owed.charges)} of charges was received. ` : "";
   try {
