@@ -270,7 +270,7 @@ def a_clock_that_was_set_back():
     with Machine() as it:
         caller = it.book(7, pledges=1)
         for _ in range(4):
-            caller.repay(), it.admin("copy", "main"), time.sleep(1)
+            caller.repay(), it.admin("copy", "main")
         names = sorted(os.listdir(os.path.join(it.copies, "main")))
         later = [f"2099010{place}T030000Z" for place in range(1, 4)]
         for name, other in zip(names[1:], later, strict=True):

@@ -17,6 +17,7 @@ import time
 
 from tests.library.checks import Failed, expect
 from tests.library.keys import OPERATOR
+from tests.library.operator.admin_systemctl import running
 from tests.library.packages import PATHS
 from tests.library.paths import PROGRAM, TOP
 from tests.library.program import free_port
@@ -135,11 +136,12 @@ class Machine:
         wait_for(lambda: not os.path.exists(self.place("nginx.pid")), "the end of nginx", 30)
 
     def end(self):
-        for name in [*os.listdir(self.place("units")), "nginx.pid"]:
-            path = self.place("nginx.pid") if name == "nginx.pid" else self.place("units", name)
-            if name.startswith(("pid-", "nginx")):
-                with contextlib.suppress(OSError, ValueError), open(path) as file:
-                    os.kill(int(file.read()), signal.SIGTERM if name == "nginx.pid" else signal.SIGKILL)
+        for name in os.listdir(self.place("units")):
+            if name.startswith("pid-") and (pid := running(self.place("units", name))):
+                with contextlib.suppress(ProcessLookupError):
+                    os.kill(pid, signal.SIGKILL)
+        with contextlib.suppress(OSError, ValueError), open(self.place("nginx.pid")) as file:
+            os.kill(int(file.read()), signal.SIGTERM)
 
     def admin(self, *words, wanted=0, within=900, **environment):
         """What `pawnd-admin` prints, or what it complains of where it is to end with another status than 0."""

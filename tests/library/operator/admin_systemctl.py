@@ -9,20 +9,32 @@ import subprocess
 import sys
 import time
 
-ROOM = os.environ["MACHINE"]
+ROOM = os.environ.get("MACHINE")
 
 
 def place(kind, unit):
     return os.path.join(ROOM, "units", f"{kind}-{unit}")
 
 
-def pid_of(unit):
-    with contextlib.suppress(OSError, ValueError), open(place("pid", unit)) as file:
-        pid = int(file.read())
-        with open(f"/proc/{pid}/stat") as stat:
-            if stat.read().rpartition(")")[2].split()[0] != "Z":
-                return pid
+def named(pid):
+    """A process by its number and by when it began, since another process gets its number later. None if it has ended."""
+    with contextlib.suppress(OSError), open(f"/proc/{pid}/stat") as stat:
+        state, *fields = stat.read().rpartition(")")[2].split()
+        return None if state == "Z" else f"{pid} {fields[18]}"
     return None
+
+
+def running(path):
+    """The process that a file names, if it still runs."""
+    with contextlib.suppress(OSError, IndexError), open(path) as file:
+        name = file.read()
+        if named(name.split()[0]) == name:
+            return int(name.split()[0])
+    return None
+
+
+def pid_of(unit):
+    return running(place("pid", unit))
 
 
 def value_of(path, name):
@@ -47,7 +59,7 @@ def start(unit):
     null = {"stdin": subprocess.DEVNULL, "stdout": subprocess.DEVNULL, "stderr": subprocess.DEVNULL}
     begun = subprocess.Popen(words, start_new_session=True, umask=0o077, preexec_fn=with_defaults, **null)
     with open(place("pid", unit), "w") as file:
-        file.write(str(begun.pid))
+        file.write(named(begun.pid) or "")
 
 
 def with_defaults():
