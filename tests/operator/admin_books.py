@@ -154,6 +154,7 @@ def a_reply_that_is_cut_off():
         with a_service_that_says(b"HTTP/1.1 200 OK\r\n") as port:
             it.write("etc/stores/west.conf", f"ADDRESS=127.0.0.1:{port}\n")
             said = it.admin("book", 7, *words, wanted=1)
+            os.unlink(it.place("units/enabled-pawnd@west.service"))
             it.admin("reload")
             wrong = it.status()["wrong"]
         expect(f"what it says: {said}", "run the command again" in said, True)
