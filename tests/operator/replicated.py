@@ -276,9 +276,12 @@ def two_machines_are_lost_for_good(machines, load):
         last.until("! systemctl -q is-active pawnd@main && pawnd-admin status | grep -q 'Two machines lost for good'", 120)
         told = [line for line in last.run("pawnd-admin status", wanted=1).splitlines() if line.startswith("WRONG")]
         expect(f"what is wrong: {told}", len(told), 2)
-        check, alone, _ = commands(REPLICATED, "Two machines lost for good")
+        check, alone, remove = commands(REPLICATED, "Two machines lost for good")
         expect("the check", "books 1 pledges" in last.run(check), True)
         last.run(alone)
+        again.await_more()
+        # These folders are disks of the test's.
+        last.run(remove.replace("/var/lib/glusterd ", "/var/lib/glusterd/* "))
         again.await_more()
     again.look_up()
     told = last.run("pawnd-admin status || true")
