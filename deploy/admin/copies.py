@@ -84,13 +84,16 @@ def copies_of(name):
 def in_the_future(name, future):
     """What to do about copies that are dated in the future. After the clock was set back they are good ones, and may be the
     newest."""
-    names = f"the copy {future[0].name} is" if len(future) == 1 else (
-        f"{len(future)} copies, {future[0].name} to {future[-1].name}, are")
+    names, leave, counts, was, them = (
+        (f"the copy {future[0].name} is", "it where it is", "the copy counts", "the copy was", "it") if len(future) == 1 else
+        (f"{len(future)} copies, {future[0].name} to {future[-1].name}, are", "them where they are", "they count", "they were",
+         "them")
+    )
     return (
-        f"{names} dated in the future and not counted. Look at the clock first: `timedatectl`. If it is wrong now, leave "
-        "them where they are: they count again when it is right. If it is right, they were made while it was ahead: move "
-        f"them out of {os.path.join(COPIES, name)}, and do not remove them. `pawnd-admin restore {name} FOLDER` takes a copy "
-        "from any place"
+        f"{names} dated in the future and not counted. Look at the clock first: `timedatectl`. If the clock is wrong now, leave "
+        f"{leave}: {counts} again when the clock is right. If the clock is right, {was} made while it was ahead: move {them} out "
+        f"of {os.path.join(COPIES, name)}, and do not remove {them}. `pawnd-admin restore {name} FOLDER` takes a copy from any "
+        "place"
     )
 
 

@@ -135,7 +135,8 @@ def pending():
 def is_left_by_command(name):
     """Whether a command that makes the store, or has stopped it, has not ended: to end it mends what the store lacks."""
     with contextlib.suppress(Stop):
-        if begun_with(name):
-            unit = replicas.unit_of(Store(name)) if Store(name).volume else services.unit_of(name)
+        store = Store(name)
+        if store.is_here and begun_with(name):
+            unit = replicas.unit_of(store) if store.volume else services.unit_of(name)
             return not services.is_unit("is-enabled", unit)
     return False

@@ -154,7 +154,12 @@ def a_reply_that_is_cut_off():
         with a_service_that_says(b"HTTP/1.1 200 OK\r\n") as port:
             it.write("etc/stores/west.conf", f"ADDRESS=127.0.0.1:{port}\n")
             said = it.admin("book", 7, *words, wanted=1)
+            os.unlink(it.place("units/enabled-pawnd@west.service"))
+            it.admin("reload")
+            wrong = it.status()["wrong"]
         expect(f"what it says: {said}", "run the command again" in said, True)
+        expect(f"a store of another machine is not left stopped: {wrong}", "may not be served" in " ".join(wrong), False)
+        expect("that it does not answer is said", "store west: does not answer through the proxy" in " ".join(wrong), True)
         it.write("etc/stores/west.conf", own)
         it.admin("reload"), it.admin("book", 7, *words)
         expect("the book", Caller(it, 7, key_in(it, "key-7")).request("GET", "/pledges/1")[1]["code"], 403)

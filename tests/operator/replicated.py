@@ -18,7 +18,8 @@ from tests.library.operator.documented import DEPLOYING, commands
 from tests.library.operator.first_day import ask, put_certbot, reach
 from tests.library.operator.packages import make_folder
 from tests.library.operator.replicated import (
-    REPLICATED, Load, Machine, at_once, await_healed, coming_back, expect_well, put_store, serving, three_machines, why_not,
+    REPLICATED, Load, Machine, at_once, await_healed, await_serving, coming_back, expect_well, put_store, serving, three_machines,
+    why_not,
 )
 
 NUMBERS = [int(word) for word in sys.argv[1:] if word.isdigit()]
@@ -70,7 +71,7 @@ def a_large_store():
             with load:
                 for what in ("as it is", "folded", "as it is", "folded"):
                     load.await_more(200, 600)
-                    it, _ = serving(machines)
+                    it, _ = await_serving(machines)
                     if what == "folded":
                         it.run("systemctl restart pawnd@main")
                         load.await_more(1, 600)
@@ -95,7 +96,7 @@ def await_takeover(load, what, at):
 def what_stops_the_store(machines, load):
     """On the machine that serves it: a copy is put back, a book leaves, and a book goes to a store of its own, which moves
     to a fourth machine that all three reach. On another machine the commands are refused."""
-    it, _ = serving(machines)
+    it, _ = await_serving(machines)
     others = [other for other in machines if other is not it]
     it.run("for n in 8 9; do pawnd-admin book $n --name Street --key-to /root/$n.key; done")
     for words in ("restore main newest", "split main east 8", "remove-book 9", "book 10 --name Street --key-to /root/10.key"):
@@ -139,7 +140,7 @@ def what_stops_the_store(machines, load):
 
 def a_start_while_another_serves(machines, load):
     """It is refused, and the operator is not informed. If the store ends where it is served, the operator is."""
-    it, _ = serving(machines)
+    it, _ = await_serving(machines)
     other = next(other for other in machines if other is not it)
     for one in (it, other):
         one.run("printf '#!/bin/sh\\necho $1 >>/root/told\\n' >/etc/pawnd/on-failure; chmod 755 /etc/pawnd/on-failure; : >/root/told")
@@ -156,7 +157,7 @@ def three_power_cuts(machines, load):
     """Of the machine that serves, at a random moment."""
     for _ in range(3):
         time.sleep(DRAW.random() * 2)
-        (it, _), at = serving(machines), time.monotonic()
+        (it, _), at = await_serving(machines), time.monotonic()
         it.lose_power()
         await_takeover(load, f"{it.name} lost its power", at)
         with coming_back(machines, load):
@@ -166,7 +167,7 @@ def three_power_cuts(machines, load):
 def two_lines_under_load(machines, load):
     for _ in range(2):
         time.sleep(DRAW.random() * 2)
-        (it, _), at = serving(machines), time.monotonic()
+        (it, _), at = await_serving(machines), time.monotonic()
         it.line(False)
         await_takeover(load, f"the line of {it.name} was cut", at)
         whole_again(machines, load, it)
@@ -176,7 +177,7 @@ def a_line_while_nobody_asks(machines, load):
     """The machine that is cut off does not hear of it by a change that fails."""
     with load.quiet():
         time.sleep(1)
-        (it, _), at = serving(machines), time.monotonic()
+        (it, _), at = await_serving(machines), time.monotonic()
         it.line(False)
         time.sleep(5)
     await_takeover(load, f"the line of {it.name} was cut while no client asked", at)
@@ -186,7 +187,7 @@ def a_line_while_nobody_asks(machines, load):
 def two_lines_at_once(machines, load):
     """The machine that serves is left alone: nothing is acknowledged, and the store is stopped until two machines reach
     each other again."""
-    it, _ = serving(machines)
+    it, _ = await_serving(machines)
     first, second = [other for other in machines if other is not it]
     first.line(False), second.line(False)
     it.until("! ss -Hltn 'sport = :8101' | grep -q LISTEN")
@@ -203,7 +204,7 @@ def two_lines_at_once(machines, load):
 
 def a_machine_that_hangs(machines, load):
     """Its kernel keeps its lines and its locks, so no other machine serves until it is switched off."""
-    it, _ = serving(machines)
+    it, _ = await_serving(machines)
     it.run("kill -STOP -1")
     time.sleep(20)
     expect("who else serves", [other.serves() for other in machines if other is not it], [None, None])
@@ -267,7 +268,7 @@ def two_machines_are_lost_for_good(machines, load):
         till.pledges, till.entries, till.sent = before.pledges, before.entries, before.sent
     with again:
         again.await_more()
-        it, _ = serving(machines)
+        it, _ = await_serving(machines)
         first, last = [other for other in machines if other is not it]
         first.lose_power()
         again.await_more()
@@ -275,9 +276,12 @@ def two_machines_are_lost_for_good(machines, load):
         last.until("! systemctl -q is-active pawnd@main && pawnd-admin status | grep -q 'Two machines lost for good'", 120)
         told = [line for line in last.run("pawnd-admin status", wanted=1).splitlines() if line.startswith("WRONG")]
         expect(f"what is wrong: {told}", len(told), 2)
-        check, alone, _ = commands(REPLICATED, "Two machines lost for good")
+        check, alone, remove = commands(REPLICATED, "Two machines lost for good")
         expect("the check", "books 1 pledges" in last.run(check), True)
         last.run(alone)
+        again.await_more()
+        # These folders are disks of the test's.
+        last.run(remove.replace("/var/lib/glusterd ", "/var/lib/glusterd/* "))
         again.await_more()
     again.look_up()
     told = last.run("pawnd-admin status || true")

@@ -231,6 +231,16 @@ def serving(machines):
     return found[0] if found else (None, None)
 
 
+def await_serving(machines, within=60):
+    """The machine that serves, which may be about to start the store anew."""
+    end = time.monotonic() + within
+    while not (found := serving(machines))[0]:
+        if time.monotonic() > end:
+            raise Failed(f"no machine serves after {within} seconds")
+        time.sleep(0.3)
+    return found
+
+
 @contextlib.contextmanager
 def coming_back(machines, load):
     """A machine comes back within the block, in every way: the machine that serves starts the store anew with all copies,
