@@ -108,6 +108,34 @@ def a_receipt_that_died_says_one_thing():
         no_faults()
 
 
+# The next redemption is not sent, and the page can't know that.
+REDEMPTION_IS_LOST = """
+const real = window.fetch;
+window.fetch = async (path, how) => {
+  if (!path.endsWith("/redeem")) return real(path, how);
+  window.fetch = real;
+  throw new TypeError("no line");
+};
+"""
+
+
+def a_redemption_that_was_not_done_is_forgotten():
+    """The pledge, read again, is open: a receipt that dies later is not said to be of that redemption."""
+    with a_pledge_by_its_receipt() as (pages, _):
+        browser.says("£100.00 owed today", "#cards")
+        browser.rests()
+        browser.run(REDEMPTION_IS_LOST)
+        command("Redeem", "Redeem for £100.00")
+        browser.press("dialog button", "Yes, £100.00 was received")
+        browser.says("The reply was lost, so this may have been done.", "#cards")
+        browser.says("£100.00 owed today", "#cards")
+        browser.rests()
+        pages.session.broker("POST", "/books/7/pledges/1/declare", {"paper": "sworn"})
+        browser.press("#look-again")
+        browser.says("This receipt was replaced or used", "#cards")
+        no_faults()
+
+
 def a_redemption_that_is_refused_is_not_asked_about():
     """The shop recorded a payment, or put the pledge on hold, since it was shown."""
     with a_pledge_by_its_receipt() as (pages, receipt):
@@ -433,7 +461,9 @@ main(
     (),
     (
         two_equal_payments_are_two, an_amount_that_is_refused_is_not_asked_about,
-        a_receipt_that_died_says_one_thing, what_was_redeemed_on_this_page_stays_redeemed, a_redemption_that_is_refused_is_not_asked_about, what_the_page_says_of_links, without_a_line,
+        a_receipt_that_died_says_one_thing, what_was_redeemed_on_this_page_stays_redeemed,
+        a_redemption_that_was_not_done_is_forgotten, a_redemption_that_is_refused_is_not_asked_about,
+        what_the_page_says_of_links, without_a_line,
         a_pledge_is_tried_again_by_itself_once_the_line_is_back, a_payment_on_a_line_that_drops,
         a_receipt_that_is_typed_again_takes_the_place_of_the_mistyped_one,
         a_visit_is_not_said_to_be_cancelled_before_it_is, a_payment_whose_reply_is_lost_for_good,

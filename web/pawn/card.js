@@ -84,7 +84,8 @@ export class Card {
     this.statement = await this.read();
     this.readAt = Date.now();
     this.isShown = this.one.wasSeen = true;
-    this.neverOpened = this.saysDead = false;
+    // A redemption whose reply was lost was not done, if the pledge is open.
+    this.neverOpened = this.saysDead = this.one.lostRedemption = false;
     const { statement, known } = this;
     const hasFocus = this.summary.contains(document.activeElement);
     this.summary.replaceChildren(
