@@ -16,13 +16,13 @@ def bad_days():
         with_terms(one)
         steps(
             (one,),
-            copies_every_ten_minutes,
             a_disk_without_room,
             a_store_that_does_not_start,
             a_leaked_key,
             one_book_put_back,
             a_broker_who_leaves,
             the_clock_and_the_monitor,
+            copies_every_ten_minutes,
         )
         told = one.run("pawnd-admin status || true")
         expect("what is wrong at the end", [line for line in told.splitlines() if line.startswith("WRONG")], [])
