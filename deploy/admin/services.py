@@ -125,6 +125,8 @@ def what_to_do(store, said):
         return (f". It was started with another operator's key than the one in {SETTINGS}/operator.key. If it is on another "
                 f"machine, copy the file there. Restart it there, `systemctl restart {unit_of(store.name)}`, and run the "
                 "command again")
+    if b'"code":490' in said:
+        return ". It has as many rows as its limit: OPERATING.md, `490, a full store`, says what to do. Then run the command again"
     if b'"handed_on":false' in said:
         return ". It is being started, and nothing was done: run the command again when `pawnd-admin status` says that it answers"
     return ""

@@ -15,6 +15,7 @@ from tests.library.operator.admin_machine import PACKAGES, Caller, Machine, awai
 from tests.library.operator.admin_places import books_in
 from tests.library.packages import main_with
 from tests.library.program import Server
+from tests.library.tables import opened
 from tests.library.waiting import wait_for
 
 REFUSED = 404, {"code": 401, "name": "NoSuchBook"}
@@ -166,8 +167,8 @@ def a_reply_that_is_cut_off():
 
 
 def a_store_that_refuses():
-    """The command says what to do: where a store has another operator's key, and where the relay of another machine answers
-    in the place of a store that is being started."""
+    """The command says what to do: where a store has another operator's key, where the relay of another machine answers in
+    the place of a store that is being started, and where a store is full."""
     with Machine() as it:
         kept = key_in(it, "etc/operator.key")
         it.write("etc/operator.key", str(uuid.uuid4()) + "\n", 0o600)
@@ -183,6 +184,13 @@ def a_store_that_refuses():
             words = "--name", "Far Street", "--store", "west", "--key-to", it.place("key-8")
             said = it.admin("book", 8, *words, wanted=1)
         expect(f"a store that is being started: {said}", "run the command again" in said, True)
+        it.systemctl("stop", "pawnd@main")
+        with opened(it.path("main")) as tables:
+            tables.execute("UPDATE meta SET value = 1 WHERE name = 'limit'")
+        it.systemctl("start", "pawnd@main")
+        it.await_store("main")
+        said = it.admin("book", 9, "--name", "New Street", "--key-to", it.place("key-9"), wanted=1)
+        expect(f"a full store: {said}", "OPERATING.md, `490, a full store`" in said, True)
 
 
 def one_book_out_of_a_copy():
