@@ -4,6 +4,7 @@ import datetime
 import functools
 import os
 import signal
+import time
 
 from tests.library.book_texts import COLUMNS, row
 from tests.library.checks import Failed, expect, main as run_tests
@@ -157,9 +158,15 @@ def is_told_quietly(part):
 
 
 def agree(patience=2):
-    """Says yes to a question, if one is asked within so many seconds."""
+    """Says yes to a question, if one is asked within so many seconds, or some seconds more while the page waits for the
+    service."""
+    begun = time.monotonic()
+    while not browser.run("return document.querySelector('dialog') !== null"):
+        waited = time.monotonic() - begun
+        if waited > patience and (waited > patience + 8 or not browser.run("return window.asking")):
+            return
+        time.sleep(0.1)
     with contextlib.suppress(Failed):
-        browser.until("return document.querySelector('dialog')", "a question", patience=patience)
         browser.press("dialog button.grave")
 
 
