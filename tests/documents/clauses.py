@@ -34,10 +34,19 @@ RULES = {
     "order rows": ("pledge_csv_rows", "put_pledges", "more_than_a_page.txt"),
     "accrues": ("after_charges", "after_days", "WorkedInterest"),
     "ask": ("a booking replaces any other", "ask_once [step]", "WorkedAskings"),
+    "WindowFull": ("a window's capacity (408)", "within_window", "find_room [reads]"),
+    "laws of texts": ("laws_of_texts [fits, read, hosts, taken]",),
+    "longest article": ("most_article_bytes", "`text` [`value`]"),
+    "older schema": ("AcceptsSchema", "expect_ours", "migration"),
+    "no key opens another": ("gate_step", "`gate` [`reads`]", "two_brokers.txt", "gate_for_any_key"),
     "711": ("receipt_faults", "one [value]", "receipts [value]", "WorkedReceiptLists", "limits.py"),
 }
 # What has the same name as a refusal, but is none.
-NOT_FOUND = {"303": ("Lends", "hold_step", "pages_receipts.py"), "203": ("debt_fault_code",)}
+NOT_FOUND = {
+    "303": ("Lends", "hold_step", "pages_receipts.py"), "203": ("debt_fault_code",),
+    # A name of the kit, and a clause that ends before the next function.
+    "crash": ("file_keep", "connect_path"), "import key": ("rows_each",),
+}
 
 
 def the_page_is_that_of_the_sources():
