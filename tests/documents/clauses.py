@@ -45,7 +45,7 @@ RULES = {
 NOT_FOUND = {
     "303": ("Lends", "hold_step", "pages_receipts.py"), "203": ("debt_fault_code",),
     # A name of the kit, and a clause that ends before the next function.
-    "crash": ("file_keep", "connect_path"), "import key": ("rows_each",),
+    "crash": ("connect_path",), "import key": ("rows_each",),
 }
 
 
