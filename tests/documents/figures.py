@@ -127,7 +127,7 @@ SAID = {
     ("pawn_host", "MOST_REQUESTS"): (
         [(RULES, rf"\*\*Limit\*\* after {NUMBER} requests"), ("docs/CLIENTS.md", rf"after its {NUMBER}th reply"),
          ("docs/PROMISES.md", f"stream, answers at most {NUMBER} requests"), (PROVED, f"send {NUMBER} requests in one stream"),
-         (PROVED, f"whose stamps, at most {NUMBER}, are made")],
+         (PROVED, f"up to {NUMBER} stamps")],
         [DESCRIPTION["x-limits"]["requests-of-a-connection"]],
     ),
     ("pawn_host", "MOST_READS"): ([("docs/PROMISES.md", f"makes at most {NUMBER} reads")], []),
@@ -202,7 +202,7 @@ IN_COMMENTS = {
     ("pawn_book", "MOST_PLEDGES"): [f"book has {NUMBER} pledges"],
     ("pawn_host", "MOST_REQUESTS"): [
         f"or after {NUMBER} requests", f"acted on, at most {NUMBER}", f"[Aa]t most {NUMBER} requests", f"{NUMBER} requests were answered",
-        f"of the stream\\. There are at most {NUMBER}", f"one session: at most {NUMBER}", f"whose stamps, at most {NUMBER}, are made",
+        f"of the stream\\. There are at most {NUMBER}", f"one session: at most {NUMBER}", f"up to {NUMBER} stamps",
         f"the settings: up to {NUMBER} of", f"a command line: up to {NUMBER}",
     ],
     ("pawn_host", "MOST_READS"): [
