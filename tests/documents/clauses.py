@@ -35,6 +35,7 @@ RULES = {
     "accrues": ("after_charges", "after_days", "WorkedInterest"),
     "ask": ("a booking replaces any other", "ask_once [step]", "WorkedAskings"),
     "WindowFull": ("a window's capacity (408)", "within_window", "find_room [reads]"),
+    "AgreementStays": ("laws_of_steps [agreement]",),
     "laws of texts": ("laws_of_texts [fits, read, hosts, taken]",),
     "longest article": ("most_article_bytes", "`text` [`value`]"),
     "older schema": ("AcceptsSchema", "expect_ours", "migration"),

@@ -162,6 +162,7 @@ MISFITS = [
     ("an entry's number left out", bent_by("UPDATE entries SET seq = 3 WHERE book = 7 AND seq = 2")),
     ("an entry deleted before another", bent_by("DELETE FROM entries WHERE book = 7 AND seq = 1")),
     ("another end", bent_by("UPDATE pledges SET ends = ends + 1 WHERE book = 7 AND number = 1")),
+    ("a sum that was changed alone", bent_by("UPDATE pledges SET credit = credit + 1 WHERE book = 7 AND number = 2")),
     ("other totals", bent_by("UPDATE totals SET charges = charges + 1 WHERE book = 7 AND number = 1")),
     ("an extension into the past", bent_by("UPDATE extensions SET until_day = day WHERE book = 7")),
     (
