@@ -509,6 +509,33 @@ def what_came_in_between_is_named():
         no_faults()
 
 
+def a_payment_that_came_during_another_act_is_said():
+    """The act shows the pledge anew with it, so the repayment after that is not asked about any more."""
+    with a_pledge_at_the_counter() as (pages, receipt):
+        browser.rests()
+        unfold("Put on hold")
+        paid = pages.session.bearer(receipt, "POST", "/books/7/held/repay", {"pence": 6000, "seq": 1})
+        expect("the pawnor's payment", paid[0], 200)
+        browser.press(".action[open] button", "Hold")
+        browser.says(
+            "The pledge is on hold: it can’t be redeemed. Since this pledge was shown here, this happened: "
+            f"Repaid: £60.00, on {in_short(today())}. £40.00 is owed now.", "#commands",
+        )
+        browser.rests()
+        unfold("Replace a lost receipt")
+        pages.session.bearer(receipt, "POST", "/books/7/held/repay", {"pence": 500, "seq": 2})
+        browser.press(".action[open] button", "Make a new receipt")
+        browser.press("dialog button", "Not now")
+        browser.says(
+            "Nothing was done. Since this pledge was shown here, this happened: "
+            f"Repaid: £5.00, on {in_short(today())}. £35.00 is owed now.", "#commands",
+        )
+        command("Repayment", "Record the repayment", amount="4")
+        browser.says(f"Repaid: £4.00, on {in_words(today())}. £31.00 is owed now.", "#commands")
+        expect("what this page recorded is no news", "this happened" in browser.text("#commands"), False)
+        no_faults()
+
+
 def a_drawing_that_came_in_between_is_not_asked_about_as_a_repayment():
     with an_open_book() as pages:
         the_book_is_read()
@@ -742,7 +769,8 @@ main(
         closing_the_book_asks_while_a_reply_is_awaited,
         a_pledge_that_is_paid_is_still_to_be_fetched, a_hold_does_not_hide_what_the_end_brings,
         a_visit_whose_time_is_over_is_told_the_clerk,
-        what_came_in_between_is_named, a_drawing_that_came_in_between_is_not_asked_about_as_a_repayment,
+        what_came_in_between_is_named, a_payment_that_came_during_another_act_is_said,
+        a_drawing_that_came_in_between_is_not_asked_about_as_a_repayment,
         money_that_is_paid_out_on_a_hold_is_asked_about,
     ),
 )

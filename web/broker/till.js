@@ -100,8 +100,8 @@ function keepFloat(day, pence) {
 }
 
 /**
- * What the float is of, and the name under which it is kept. The book does not say at which till something was done, so of
- * several only the sum is known.
+ * What the float is of, and the name under which it is kept. The book does not say at which till something was done, so
+ * of several only the sum is known.
  */
 const FLOATS = {
   one: {

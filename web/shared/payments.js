@@ -43,6 +43,14 @@ function otherChanges(shown, now) {
 
 const owedLine = ({ owed }) => (owed ? `${inPounds(owed.owing)} is owed now.` : "Nothing more is done on this pledge.");
 
+const SINCE = "Since this pledge was shown here, this happened:";
+
+/** What others recorded since the pledge was shown, and what is owed now, as a text; or an empty one. */
+export function othersInWords(shown, now) {
+  const entries = now.entries.slice(shown.entries.length);
+  return entries.length > 0 ? [SINCE, ...listed(entries), owedLine(now)].join(" ") : "";
+}
+
 /** The refusal that the pledge, as it was read just now, must bring; or null. */
 function refusedNow({ status, owed, kind, credit }, sort, pence) {
   if (!isOpen(status)) return refusalOf(status === "passed" ? "Passed" : "Closed");
@@ -94,7 +102,7 @@ function questionOf({ shown, now, sort, pence, askFrom }) {
   if (entries.length + changes.length > 0) return {
     title: "Something came in between", about: now,
     lines: [
-      "Since this pledge was shown here, this happened:", ...listed(entries), ...changes, owedLine(now),
+      SINCE, ...listed(entries), ...changes, owedLine(now),
       mayBeListed ? `Is ${mine} another one? If it is listed here already, record nothing.`
         : `Do you still want to record ${mine}?`,
     ],
