@@ -360,17 +360,18 @@ def a_line_is_seen_whole_on_a_telephone():
     with Pages() as pages:
         make_book(pages, terms=False)
         fill_book(pages, book_text([
-            ("Ring", "J1", 9000, ago(300), "", "no"),
+            ("Silver cup", "J3", 9000, "2020-01-01", "2020-09-30", "no"), ("Ring", "J1", 9000, ago(300), "", "no"),
             ("Gold watch with a long name", "J2", 10_000_000, ago(20), "2199-09-30", "no"),
         ]))
         open_book(pages)
         the_book_is_read()
         part("all")
-        browser.says("2 of 2 pledges", "#all")
-        for width in (390, 1280):
+        browser.says("3 of 3 pledges", "#all")
+        for width in (320, 390, 1280):
             browser.resize(width)
-            (later, cut), (over, also) = browser.run(LINES)
-            expect(f"what is cut off at {width}", cut + also, [])
+            (later, cut), (over, also), (long, too) = browser.run(LINES)
+            expect(f"what is cut off at {width}", cut + also + too, [])
+            expect("the longest end", "ended 30 September 2020" in long, True)
             expect("the sum", ("£100,000.00" in later, "£90.00" in over), (True, True))
             expect("the end to come", "ends 30 September 2199" in later, True)
             expect("the end that is over", f"ended {in_short(six_months_after(ago(300)))}" in over, True)
