@@ -149,6 +149,32 @@ def a_payment_of_all_that_is_owed_does_not_redeem_the_pledge():
         no_faults()
 
 
+def a_repayment_near_the_end_says_that_the_end_stays():
+    """A clerk or a pawnor may take the charges for a renewal, and the article passes to the shop, or is sold."""
+    with Pages() as pages:
+        make_book(pages, terms=False)
+        ends = six_months_after(ago(180))
+        fill_book(pages, book_text([
+            ("Ring", "R1", 5000, ago(180), "", "no"), ("Violin", "R2", 20000, ago(220), "", "no"),
+            ("Cup", "R3", 20000, ago(20), "", "no"),
+        ], rates=(0, 0, 0)))
+        open_book(pages)
+        for number, stays in (
+            (1, f" This does not move the end of the period, {in_words(ends)}."),
+            (2, f" This does not move the end of the period, {in_words(six_months_after(ago(220)))}."), (3, ""),
+        ):
+            find(str(number))
+            command("Repayment", "Record the repayment", amount="1")
+            owed = "£49.00" if number == 1 else "£199.00"
+            browser.says(f"Repaid: £1.00, on {in_words(today())}. {owed} is owed now.{stays}", "#commands")
+            expect("whether it is said", "This does not move" in browser.text("#commands"), stays != "")
+        show_receipt(pages, f"1-{secret_of(1)}")
+        command("Record a part payment", "Record the payment", amount="2")
+        browser.press("dialog button", "Yes, £2.00 was received")
+        browser.says(f"£47.00 is owed now. This does not move the end of the period, {in_words(ends)}.", "#cards")
+        no_faults()
+
+
 def nothing_more_is_repaid_where_nothing_is_owed():
     """Neither page offers it: money that is taken then is in no book."""
     with a_pledge_at_the_counter() as (pages, receipt):
@@ -752,6 +778,7 @@ def a_pawnor_who_comes_back_sees_what_the_shop_decided():
 main(
     (),
     (
+        a_repayment_near_the_end_says_that_the_end_stays,
         nothing_more_is_repaid_where_nothing_is_owed, a_running_account_says_that_nothing_is_paid_out_yet,
         a_long_question_is_seen_from_its_beginning,
         terms_that_were_added_in_the_morning_are_asked_about, a_pawnor_redeems_at_the_shop,

@@ -6,7 +6,7 @@
  * have then.
  */
 import { refusalOf } from "./codes.js";
-import { inWords, today } from "./days.js";
+import { daysBetween, inWords, today } from "./days.js";
 import { entryInWords } from "./entries.js";
 import { Lost, lookFirst } from "./faults.js";
 import { inPounds, LARGE_PENCE, MOST_PENCE } from "./money.js";
@@ -18,6 +18,9 @@ const WORDS = {
   draw: { name: "drawing", done: "Drawn", as: "paid out" },
   repay: { name: "repayment", done: "Repaid", as: "received" },
 };
+
+/** From so many days before the end of its period on, a repayment says that it does not move that end. */
+const NEAR = 30;
 
 /** How many of the entries that came in between are listed line by line. */
 const TOLD = 5;
@@ -151,6 +154,16 @@ function checkEntry({ now, after, said, day }) {
 }
 
 /**
+ * What is owed after an entry; and near the end that a repayment does not move it: charges that are paid may be taken
+ * for a renewal.
+ */
+function leftInWords(sort, after) {
+  const isNear = isOpen(after.status) && daysBetween(today(), after.ends) <= NEAR;
+  const stays = `This does not move the end of the period, ${inWords(after.ends)}.`;
+  return sort === "repay" && isNear ? `${owedLine(after)} ${stays}` : owedLine(after);
+}
+
+/**
  * The result of an entry that the service took. If the pledge can't be read after it, the entry must not be made again.
  */
 function tellOf({ now, after, said, day }) {
@@ -159,7 +172,7 @@ function tellOf({ now, after, said, day }) {
   const wrong = checkEntry({ now, after, said, day });
   return wrong
     ? { sentence: `${done} ${wrong} before you do more.`, tone: "bad" }
-    : { sentence: `${done} ${owedLine(after)}`, tone: "good" };
+    : { sentence: `${done} ${leftInWords(said.sort, after)}`, tone: "good" };
 }
 
 /** What a look says of an entry whose reply was lost. */
@@ -168,7 +181,7 @@ function tellLost({ now, after, entry }) {
   if (found && isSame(found, entry)) {
     return {
       sentence: `The reply was lost, but the pledge, read again, has the entry. `
-        + `${entryInWords(found)} ${owedLine(after)}`,
+        + `${entryInWords(found)} ${leftInWords(entry.sort, after)}`,
       tone: "good",
     };
   }
