@@ -693,6 +693,24 @@ def what_an_act_reports_stays_where_one_came_back_during_its_question():
         no_faults()
 
 
+def a_visit_to_an_article_that_is_sold_is_not_asked_about():
+    """The shop sold it after the pawnor's page had shown it: the page has read that, and does not say that it may be."""
+    with Pages() as pages:
+        make_book(pages, terms=False)
+        fill_book(pages, book_text([("Coat", "A1", 10000, ago(400), "", "no")], rates=(0, 0, 0)))
+        show_receipt(pages, f"1-{secret_of(1)}&grace=0&terms=0.0.0")
+        browser.says("You can still fetch it, until the shop sells it", "#cards")
+        expect("the sale", pages.session.broker("POST", "/books/7/pledges/1/sell", {"net": 12000})[0], 200)
+        command("Ask for a time to come", "Ask for this time", day=str(ago(-2)), window="3")
+        browser.until(
+            "return document.querySelector('dialog') || document.body.innerText.includes('sold already')", "an answer",
+        )
+        expect("no question", browser.run("return document.querySelector('dialog')?.innerText ?? null"), None)
+        browser.says("The pledge is redeemed or sold already. Nothing more is done on it.", "#cards")
+        browser.says("£20.00 more than was owed, which is yours: ask the shop for it", "#cards")
+        no_faults()
+
+
 def a_visit_after_the_time_is_over_says_what_becomes_of_the_article():
     """An article that may be sold never belongs to the shop, and no day is better than another; one that passes can't
     be fetched on any day after that."""
@@ -791,6 +809,7 @@ main(
         what_is_scanned_while_a_day_or_a_box_has_the_focus_is_found,
         a_link_that_comes_after_its_receipt_says_what_it_says, a_pawnor_who_comes_back_sees_what_the_shop_decided,
         what_an_act_reports_stays_where_one_came_back_during_its_question, the_pledge_of_a_link_is_the_one_that_is_seen,
+        a_visit_to_an_article_that_is_sold_is_not_asked_about,
         a_visit_after_the_time_is_over_says_what_becomes_of_the_article,
         closing_the_book_asks_about_what_was_typed, a_float_does_not_keep_the_book_open,
         closing_the_book_asks_while_a_reply_is_awaited,
