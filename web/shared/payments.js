@@ -89,7 +89,9 @@ function mending({ kind, owed }, sort, pence) {
     return "That is all that is owed, but the pledge stays open after it. If the article goes out today, redeem the "
       + "pledge by the paper in place of this.";
   }
-  if (kind === "running") return "An entry can’t be taken back: what was repaid by mistake is drawn again.";
+  if (kind === "running") {
+    return "An entry can’t be taken back: what was repaid by mistake is drawn again, up to the limit of the account.";
+  }
   return "An entry can’t be taken back, and nothing is drawn again on a fixed sum.";
 }
 
