@@ -565,8 +565,8 @@ main(
     (
         an_extension_is_asked_about, an_extension_whose_end_is_moved_during_its_question_is_asked_about_anew,
         an_earlier_end_is_not_sent, an_unlike_amount_is_asked_about,
-        how_slips_are_mended_is_told, a_repayment_is_drawn_again_up_to_the_limit, a_sale_is_asked_about_with_its_surplus,
-        a_sale_whose_reply_is_lost_is_told, a_take_whose_reply_is_lost_is_found,
+        how_slips_are_mended_is_told, a_repayment_is_drawn_again_up_to_the_limit,
+        a_sale_is_asked_about_with_its_surplus, a_sale_whose_reply_is_lost_is_told, a_take_whose_reply_is_lost_is_found,
         a_take_that_is_lost_for_a_while_is_the_same_when_it_is_pressed_again,
         a_take_that_was_lost_with_its_page_can_be_opened, nothing_is_sent_that_is_to_be_refused,
         a_look_before_a_command_that_fails_is_told,

@@ -694,7 +694,7 @@ def what_an_act_reports_stays_where_one_came_back_during_its_question():
 
 
 def a_visit_to_an_article_that_is_sold_is_not_asked_about():
-    """The shop sold it after the pawnor's page had shown it: the page has read that, and does not say that it may be."""
+    """The shop sold it after the pawnor's page had shown it: the page has read that, and says so at once."""
     with Pages() as pages:
         make_book(pages, terms=False)
         fill_book(pages, book_text([("Coat", "A1", 10000, ago(400), "", "no")], rates=(0, 0, 0)))
