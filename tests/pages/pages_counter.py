@@ -254,6 +254,20 @@ def a_paper_is_made_of_the_pledge_as_it_is_now():
         no_faults()
 
 
+def no_tag_is_made_of_a_pledge_that_is_over():
+    """Another till, or the pawnor, redeemed it since it was shown: its tag would say until when the article is kept."""
+    with a_pledge_at_the_counter() as (pages, receipt):
+        the_book_is_read()
+        browser.rests()
+        unfold("Print a tag for the bag")
+        redeem_by(pages, receipt)
+        browser.press(".action[open] button", "Show the tag")
+        browser.says("Redeemed on", "#statement")
+        browser.says("The pledge is redeemed or sold already. Nothing more is done on it.", "#commands")
+        there_is_no_paper()
+        no_faults()
+
+
 def a_declaration_that_was_not_sent_does_not_have_the_lost_receipt_printed():
     """Nobody knows whether it was sent: the next press of its own button shows that, and not the button that prints the
     receipt that was lost."""
@@ -780,7 +794,7 @@ main(
         a_receipt_that_another_till_replaced_is_not_left_to_be_printed, a_dead_receipt_is_not_printed_by_its_button,
         a_paper_with_an_end_that_another_till_moved_is_not_printed,
         a_declaration_that_was_not_sent_does_not_have_the_lost_receipt_printed,
-        a_paper_is_made_of_the_pledge_as_it_is_now,
+        a_paper_is_made_of_the_pledge_as_it_is_now, no_tag_is_made_of_a_pledge_that_is_over,
         a_receipt_that_another_till_replaced_is_not_called_live_any_more,
         an_equal_payment_that_comes_during_the_question_is_another, redemption_by_the_paper,
         a_redemption_that_the_browser_sends_twice_is_told, a_sale_that_the_browser_sends_twice_is_told,

@@ -181,18 +181,29 @@ def what_is_typed_is_looked_at():
 
 
 def the_same_file_is_one_import():
+    """Where the book was filled from it before, nothing comes, and the page says so: the pledges may be over by now."""
     with Pages() as pages:
         make_book(pages, terms=False)
         path = os.path.join(pages.room, "book.csv")
         with open(path, "w") as it:
-            it.write(book_text([("Ring", "J9", 9000, ago(3), "", "no")]))
-        for _ in range(2):
+            it.write(book_text([("Ring", "J9", 9000, ago(3), "", "no")], rates=(0, 0, 0)))
+        for asked, says in (
+            ("A book is filled once", "The book is filled: 1 pledge came."),
+            (
+                "Book 7 is not empty: it has 1 pledge. If it was filled from this file, nothing is changed.",
+                "Nothing was changed: book 7 was filled from this file before, with 1 pledge.",
+            ),
+        ):
             open_book(pages)
             part("files")
             browser.fill("#importing", file=path)
             browser.press("#importing button")
+            browser.says(asked, "dialog")
             browser.press("dialog button", "Fill book 7")
-            browser.says("The book is filled: 1 pledge came.", "#files")
+            browser.says(says, "#files")
+            pages.session.bearer(f"1-{secret_of(1)}", "POST", "/books/7/held/redeem", {"paid": 9000})
+        is_told_quietly("#importing")
+        no_faults()
 
 
 def a_shops_day():

@@ -3,6 +3,7 @@ reply; in a real browser, in front of the program."""
 import datetime
 import re
 
+from tests.library.book_texts import COLUMNS, row
 from tests.library.checks import expect
 from tests.library.dates import six_months_after, today
 from tests.library.keys import BROKER
@@ -150,6 +151,33 @@ def how_slips_are_mended_is_told():
         browser.says("a repayment of too much is drawn again", "#commands .action[open]")
         browser.says("charges that were owed are part of the loan after it", "#commands .action[open]")
         browser.shoot("broker-slips")
+
+
+def a_repayment_is_drawn_again_up_to_the_limit():
+    """Charges that were paid by mistake are part of the loan if they are drawn again, and may be above the limit."""
+    rows = [
+        COLUMNS, row("B", 2, 1, 1), row("T", 1, 2667, 0, 0),
+        row("P", 1, "P1", "Piano", "running", 50000, ago(60), "", "no", 1, "no", ago(60), "open"),
+        row("S", 1, 1, ago(60), "opening", secret_of(1)), row("E", 1, 1, ago(60), "draw", 50000),
+    ]
+    with Pages() as pages:
+        make_book(pages, terms=False)
+        fill_book(pages, "\n".join(rows) + "\n")
+        open_book(pages)
+        find("1")
+        browser.says("£580.01 owed today", "#statement")
+        command("Repayment", "Record the repayment", amount="500")
+        browser.says("what was repaid by mistake is drawn again, up to the limit of the account.", "dialog")
+        browser.press("dialog button", "Record £500.00")
+        browser.says("£80.01 is owed now.", "#commands")
+        unfold("If something was entered by mistake")
+        browser.says(
+            "a repayment of too much is drawn again, up to the limit of the account: charges that it paid may not fit "
+            "under it.", "#commands .action[open]",
+        )
+        command("Drawing", "Record the drawing", amount="500")
+        browser.says("Drawing that much would pass the limit of the account.", "#commands .action[open]")
+        no_faults()
 
 
 def a_sale_is_asked_about_with_its_surplus():
@@ -537,8 +565,8 @@ main(
     (
         an_extension_is_asked_about, an_extension_whose_end_is_moved_during_its_question_is_asked_about_anew,
         an_earlier_end_is_not_sent, an_unlike_amount_is_asked_about,
-        how_slips_are_mended_is_told, a_sale_is_asked_about_with_its_surplus,
-        a_sale_whose_reply_is_lost_is_told, a_take_whose_reply_is_lost_is_found,
+        how_slips_are_mended_is_told, a_repayment_is_drawn_again_up_to_the_limit,
+        a_sale_is_asked_about_with_its_surplus, a_sale_whose_reply_is_lost_is_told, a_take_whose_reply_is_lost_is_found,
         a_take_that_is_lost_for_a_while_is_the_same_when_it_is_pressed_again,
         a_take_that_was_lost_with_its_page_can_be_opened, nothing_is_sent_that_is_to_be_refused,
         a_look_before_a_command_that_fails_is_told,

@@ -161,6 +161,36 @@ def the_till_parts_what_was_repaid_and_has_a_float():
         no_faults()
 
 
+def a_float_of_one_drawer_is_not_that_of_all():
+    """Where the till gets a name, the shop has several drawers: what was kept of one is not said of all."""
+    with an_open_book():
+        the_book_is_read()
+        take_a_ring()
+        part("till")
+        browser.fill("#till-lists .float", amount="250")
+        browser.press("#till-lists .float button", "Keep the float")
+        browser.says("With its float of £250.00 it should have £150.00.", "#till-lists")
+        name_the_till("Till 2")
+        browser.says("The drawers of all tills together have £100.00 less than at the day’s beginning", "#till-lists")
+        expect("their floats are not known", "With their floats" in browser.text("#till-lists"), False)
+        expect("nor typed", browser.run("return document.querySelector('#till-lists .float [name=amount]').value"), "")
+        browser.fill("#till-lists .float", amount="400")
+        browser.press("#till-lists .float button", "Keep the floats")
+        browser.says("With their floats of £400.00 they should have £300.00.", "#till-lists")
+        name_the_till("")
+        browser.says("With its float of £250.00 it should have £150.00.", "#till-lists")
+        no_faults()
+
+
+def name_the_till(name):
+    """Gives this till a name, and goes back to its sums."""
+    part("shop")
+    browser.fill("#shop-form", till=name)
+    browser.press("#shop-form button")
+    browser.says("Kept in this browser.", "#shop-form")
+    part("till")
+
+
 def the_sum_of_a_line_is_named():
     """In the list of all pledges it is the credit: a repayment does not change it, and a limit is not lent."""
     with Pages() as pages:
@@ -330,17 +360,18 @@ def a_line_is_seen_whole_on_a_telephone():
     with Pages() as pages:
         make_book(pages, terms=False)
         fill_book(pages, book_text([
-            ("Ring", "J1", 9000, ago(300), "", "no"),
+            ("Silver cup", "J3", 9000, "2020-01-01", "2020-09-30", "no"), ("Ring", "J1", 9000, ago(300), "", "no"),
             ("Gold watch with a long name", "J2", 10_000_000, ago(20), "2199-09-30", "no"),
         ]))
         open_book(pages)
         the_book_is_read()
         part("all")
-        browser.says("2 of 2 pledges", "#all")
-        for width in (390, 1280):
+        browser.says("3 of 3 pledges", "#all")
+        for width in (320, 390, 1280):
             browser.resize(width)
-            (later, cut), (over, also) = browser.run(LINES)
-            expect(f"what is cut off at {width}", cut + also, [])
+            (later, cut), (over, also), (long, too) = browser.run(LINES)
+            expect(f"what is cut off at {width}", cut + also + too, [])
+            expect("the longest end", "ended 30 September 2020" in long, True)
             expect("the sum", ("£100,000.00" in later, "£90.00" in over), (True, True))
             expect("the end to come", "ends 30 September 2199" in later, True)
             expect("the end that is over", f"ended {in_short(six_months_after(ago(300)))}" in over, True)
@@ -382,7 +413,7 @@ main(
     (
         what_a_pledge_has_beside_its_statement, the_sheet_is_read_anew, dues_are_what_is_owed_and_can_be_ticked_off,
         what_has_passed_is_listed_with_what_was_owed_then, the_till_parts_what_was_repaid_and_has_a_float,
-        the_sum_of_a_line_is_named, an_import_tells_of_the_other_book,
+        a_float_of_one_drawer_is_not_that_of_all, the_sum_of_a_line_is_named, an_import_tells_of_the_other_book,
         a_file_that_is_no_book_is_not_asked_about,
         a_reply_that_hangs_is_not_waited_for, what_is_typed_stays_while_a_pledge_is_drawn_anew,
         what_is_typed_stays_while_the_book_is_read, the_parts_take_one_row,

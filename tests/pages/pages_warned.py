@@ -149,6 +149,32 @@ def a_payment_of_all_that_is_owed_does_not_redeem_the_pledge():
         no_faults()
 
 
+def a_repayment_near_the_end_says_that_the_end_stays():
+    """A clerk or a pawnor may take the charges for a renewal, and the article passes to the shop, or is sold."""
+    with Pages() as pages:
+        make_book(pages, terms=False)
+        ends = six_months_after(ago(180))
+        fill_book(pages, book_text([
+            ("Ring", "R1", 5000, ago(180), "", "no"), ("Violin", "R2", 20000, ago(220), "", "no"),
+            ("Cup", "R3", 20000, ago(20), "", "no"),
+        ], rates=(0, 0, 0)))
+        open_book(pages)
+        for number, stays in (
+            (1, f" This does not move the end of the period, {in_words(ends)}."),
+            (2, f" This does not move the end of the period, {in_words(six_months_after(ago(220)))}."), (3, ""),
+        ):
+            find(str(number))
+            command("Repayment", "Record the repayment", amount="1")
+            owed = "£49.00" if number == 1 else "£199.00"
+            browser.says(f"Repaid: £1.00, on {in_words(today())}. {owed} is owed now.{stays}", "#commands")
+            expect("whether it is said", "This does not move" in browser.text("#commands"), stays != "")
+        show_receipt(pages, f"1-{secret_of(1)}")
+        command("Record a part payment", "Record the payment", amount="2")
+        browser.press("dialog button", "Yes, £2.00 was received")
+        browser.says(f"£47.00 is owed now. This does not move the end of the period, {in_words(ends)}.", "#cards")
+        no_faults()
+
+
 def nothing_more_is_repaid_where_nothing_is_owed():
     """Neither page offers it: money that is taken then is in no book."""
     with a_pledge_at_the_counter() as (pages, receipt):
@@ -509,6 +535,33 @@ def what_came_in_between_is_named():
         no_faults()
 
 
+def a_payment_that_came_during_another_act_is_said():
+    """The act shows the pledge anew with it, so the repayment after that is not asked about any more."""
+    with a_pledge_at_the_counter() as (pages, receipt):
+        browser.rests()
+        unfold("Put on hold")
+        paid = pages.session.bearer(receipt, "POST", "/books/7/held/repay", {"pence": 6000, "seq": 1})
+        expect("the pawnor's payment", paid[0], 200)
+        browser.press(".action[open] button", "Hold")
+        browser.says(
+            "The pledge is on hold: it can’t be redeemed. Since this pledge was shown here, this happened: "
+            f"Repaid: £60.00, on {in_short(today())}. £40.00 is owed now.", "#commands",
+        )
+        browser.rests()
+        unfold("Replace a lost receipt")
+        pages.session.bearer(receipt, "POST", "/books/7/held/repay", {"pence": 500, "seq": 2})
+        browser.press(".action[open] button", "Make a new receipt")
+        browser.press("dialog button", "Not now")
+        browser.says(
+            "Nothing was done. Since this pledge was shown here, this happened: "
+            f"Repaid: £5.00, on {in_short(today())}. £35.00 is owed now.", "#commands",
+        )
+        command("Repayment", "Record the repayment", amount="4")
+        browser.says(f"Repaid: £4.00, on {in_words(today())}. £31.00 is owed now.", "#commands")
+        expect("what this page recorded is no news", "this happened" in browser.text("#commands"), False)
+        no_faults()
+
+
 def a_drawing_that_came_in_between_is_not_asked_about_as_a_repayment():
     with an_open_book() as pages:
         the_book_is_read()
@@ -640,6 +693,24 @@ def what_an_act_reports_stays_where_one_came_back_during_its_question():
         no_faults()
 
 
+def a_visit_to_an_article_that_is_sold_is_not_asked_about():
+    """The shop sold it after the pawnor's page had shown it: the page has read that, and says so at once."""
+    with Pages() as pages:
+        make_book(pages, terms=False)
+        fill_book(pages, book_text([("Coat", "A1", 10000, ago(400), "", "no")], rates=(0, 0, 0)))
+        show_receipt(pages, f"1-{secret_of(1)}&grace=0&terms=0.0.0")
+        browser.says("You can still fetch it, until the shop sells it", "#cards")
+        expect("the sale", pages.session.broker("POST", "/books/7/pledges/1/sell", {"net": 12000})[0], 200)
+        command("Ask for a time to come", "Ask for this time", day=str(ago(-2)), window="3")
+        browser.until(
+            "return document.querySelector('dialog') || document.body.innerText.includes('sold already')", "an answer",
+        )
+        expect("no question", browser.run("return document.querySelector('dialog')?.innerText ?? null"), None)
+        browser.says("The pledge is redeemed or sold already. Nothing more is done on it.", "#cards")
+        browser.says("£20.00 more than was owed, which is yours: ask the shop for it", "#cards")
+        no_faults()
+
+
 def a_visit_after_the_time_is_over_says_what_becomes_of_the_article():
     """An article that may be sold never belongs to the shop, and no day is better than another; one that passes can't
     be fetched on any day after that."""
@@ -725,6 +796,7 @@ def a_pawnor_who_comes_back_sees_what_the_shop_decided():
 main(
     (),
     (
+        a_repayment_near_the_end_says_that_the_end_stays,
         nothing_more_is_repaid_where_nothing_is_owed, a_running_account_says_that_nothing_is_paid_out_yet,
         a_long_question_is_seen_from_its_beginning,
         terms_that_were_added_in_the_morning_are_asked_about, a_pawnor_redeems_at_the_shop,
@@ -737,12 +809,14 @@ main(
         what_is_scanned_while_a_day_or_a_box_has_the_focus_is_found,
         a_link_that_comes_after_its_receipt_says_what_it_says, a_pawnor_who_comes_back_sees_what_the_shop_decided,
         what_an_act_reports_stays_where_one_came_back_during_its_question, the_pledge_of_a_link_is_the_one_that_is_seen,
+        a_visit_to_an_article_that_is_sold_is_not_asked_about,
         a_visit_after_the_time_is_over_says_what_becomes_of_the_article,
         closing_the_book_asks_about_what_was_typed, a_float_does_not_keep_the_book_open,
         closing_the_book_asks_while_a_reply_is_awaited,
         a_pledge_that_is_paid_is_still_to_be_fetched, a_hold_does_not_hide_what_the_end_brings,
         a_visit_whose_time_is_over_is_told_the_clerk,
-        what_came_in_between_is_named, a_drawing_that_came_in_between_is_not_asked_about_as_a_repayment,
+        what_came_in_between_is_named, a_payment_that_came_during_another_act_is_said,
+        a_drawing_that_came_in_between_is_not_asked_about_as_a_repayment,
         money_that_is_paid_out_on_a_hold_is_asked_about,
     ),
 )

@@ -21,11 +21,14 @@ import { askFrom } from "./shop.js";
 import { slipsFold } from "./slips.js";
 import { tagging } from "./tag.js";
 
-/** One command: its name, why not now or null, the parts of its form, and what it does with the form's fields. */
-function commandFold({ title, barred, parts, act }, desk) {
+/**
+ * One command: its name, why not now or null, the parts of its form, what it does with the form's fields, and whether
+ * it records an entry.
+ */
+function commandFold({ title, barred, parts, act, isEntry = false }, desk) {
   const content = barred ? [make("p", { className: "barred" }, barred)] : parts;
   const form = make("form", { autocomplete: "off" }, ...content);
-  return fold(title, form, (fields, place) => desk.perform(() => act(fields), place));
+  return fold(title, form, (fields, place) => desk.perform(() => act(fields), place, isEntry));
 }
 
 const lead = (text) => make("p", { className: "lead" }, text);
@@ -45,6 +48,7 @@ const repayment = (statement, desk) => ({
     amountField("Received, in pounds"), buttons(button("Record the repayment")),
   ],
   act: ({ amount }) => entry(statement, desk, "repay", amount),
+  isEntry: true,
 });
 
 function drawing(statement, desk) {
@@ -59,6 +63,7 @@ function drawing(statement, desk) {
       buttons(button("Record the drawing")),
     ],
     act: ({ amount }) => entry(statement, desk, "draw", amount),
+    isEntry: true,
   };
 }
 

@@ -2,7 +2,7 @@
 import { refusalOf } from "../shared/codes.js";
 import { today } from "../shared/days.js";
 import { byId, foreign, make } from "../shared/dom.js";
-import { Lost } from "../shared/faults.js";
+import { Lost, lookFirst } from "../shared/faults.js";
 import { onSend } from "../shared/forms.js";
 import { confirmed, NOTHING_DONE } from "../shared/questions.js";
 import { Unreadable } from "../shared/unreadable.js";
@@ -78,15 +78,35 @@ function countIn(body) {
 
 const countPledges = (count) => (count === 1 ? "1 pledge" : `${count} pledges`);
 
-/** A book is filled once, so the file and the book are asked about. */
-const agreedTo = ({ name }, count) => confirmed({
+/** The imports whose replies were lost, as their books and keys. */
+const lost = new Set();
+
+/** Whether the book has something already, so that nothing of a file comes into it any more. */
+const isFilled = ({ terms, count }) => terms.length + count > 0;
+
+const filledLine = ({ count }) =>
+  `Book ${current().book} is not empty: it has ${count === 0 ? "terms" : countPledges(count)}. `
+    + "If it was filled from this file, nothing is changed.";
+
+/** A book is filled once, so the file and the book, of which `head` is the beginning, are asked about. */
+const agreedTo = ({ name }, count, head) => confirmed({
   title: `Fill book ${current().book} from this file?`,
   lines: [
     [foreign(name), count === null ? "." : `, with ${countPledges(count)}.`],
+    isFilled(head) ? filledLine(head) : null,
     "A book is filled once: after that it can’t be emptied, or filled from another file.",
   ],
   yes: `Fill book ${current().book}`, no: "Not now",
 });
+
+/** The result of an import: the service answers a file that it has answered before in the same way. */
+const tellFilled = (imported, book, isAgain) => (isAgain
+  ? {
+    sentence: `Nothing was changed: book ${book} was filled from this file before, with ${countPledges(imported)}. `
+      + "What was done in the book since then stays.",
+    tone: "quiet",
+  }
+  : `The book is filled: ${countPledges(imported)} came. ${BOTH}`);
 
 async function fillBook({ file }) {
   const begun = current();
@@ -98,17 +118,21 @@ async function fillBook({ file }) {
   const body = textOf(bytes);
   const count = countIn(body);
   const importKey = await keyOf(bytes);
+  const head = await lookFirst(ledger.readHead());
   refuseOther(begun);
-  if (!await agreedTo(file, count)) return NOTHING_DONE;
+  if (!await agreedTo(file, count, head)) return NOTHING_DONE;
+  const name = `${begun.book} ${importKey}`;
   let said;
   try {
     ({ said } = await askBook("POST", "/import", { body, harmless: true, importKey, silence: PATIENCE, begun }));
   } catch (fault) {
-    if (fault instanceof Lost) return { sentence: LOST, tone: "bad" };
-    throw fault;
+    if (!(fault instanceof Lost)) throw fault;
+    lost.add(name);
+    return { sentence: LOST, tone: "bad" };
   }
   if (begun === current()) ledger.read().catch(() => {});
-  return `The book is filled: ${countPledges(said.imported)} came. ${BOTH}`;
+  const wasLost = lost.delete(name);
+  return tellFilled(said.imported, begun.book, isFilled(head) && !wasLost);
 }
 
 export function setUpFiles() {

@@ -8,6 +8,7 @@ import {
   fieldsOf, foldOf, makeNotice, outcomeOf, redrawFolds, run, sayAfter, tell, tellLater,
 } from "../shared/forms.js";
 import { inPounds } from "../shared/money.js";
+import { othersInWords } from "../shared/payments.js";
 import { numberOf } from "../shared/receipts.js";
 import { reckoningForm } from "../shared/reckoning.js";
 import { isOpen } from "../shared/statuses.js";
@@ -172,9 +173,12 @@ class Desk {
     if (news) ledger.anotherChanged({ isMissing: ledger.pledge(number) === null });
   }
 
-  /** Runs an act on the pledge, shows the pledge as it is then, and reports the result. */
-  async perform(act, { form, notice: line, title }) {
-    const { number } = this;
+  /**
+   * Runs an act on the pledge, shows the pledge as it is then, and reports the result; and what others recorded
+   * meanwhile, unless the act records an entry: then it has asked about that.
+   */
+  async perform(act, { form, notice: line, title }, isEntry = false) {
+    const { number, statement: shown } = this;
     const fields = fieldsOf(form);
     byId("new-receipt").replaceChildren();
     tell(this.notice, "");
@@ -203,7 +207,10 @@ class Desk {
       return;
     }
     this.saidOn = today();
-    sayAfter({ within: byId("commands"), notice: this.notice, title: place, fields, said, fault, reader: "broker" });
+    const more = isEntry || fault instanceof Outdated ? "" : othersInWords(shown, this.statement);
+    sayAfter({
+      within: byId("commands"), notice: this.notice, title: place, fields, said, fault, reader: "broker", more,
+    });
   }
 
   /** Reports the result of an act above all parts, where its pledge is not the one that is shown. */

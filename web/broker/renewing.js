@@ -135,5 +135,6 @@ export function renewal(statement, desk) {
       buttons(make("button", {}, "Renew the pledge")),
     ],
     act: (fields) => renew(fields, statement, desk),
+    isEntry: true,
   };
 }

@@ -9,9 +9,9 @@ const TITLE = "If something was entered by mistake";
 function waysOf({ kind, taken, owed, status }) {
   const anew = "redeem the pledge by its own receipt for what is owed, and take it anew under another reference";
   const running = status === "inside"
-    ? "A drawing of too much is recorded as repaid, and a repayment of too much is drawn again. If that is done on the "
-      + "same day, as much is owed then as before, but charges that were owed are part of the loan after it, and bear "
-      + "interest."
+    ? "A drawing of too much is recorded as repaid, and a repayment of too much is drawn again, up to the limit of the "
+      + "account: charges that it paid may not fit under it. If that is done on the same day, as much is owed then as "
+      + "before, but charges that were owed are part of the loan after it, and bear interest."
     : "A drawing of too much is recorded as repaid.";
   return [
     taken === today()

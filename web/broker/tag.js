@@ -1,10 +1,12 @@
 /** A tag for the bag: the pledge's number, reference, article and end, on a small paper of its own. */
 import { becomes } from "../shared/after.js";
+import { refusalOf } from "../shared/codes.js";
 import { inShort } from "../shared/days.js";
 import { byId, foreign, make } from "../shared/dom.js";
 import { buttons } from "../shared/forms.js";
 import { inPounds } from "../shared/money.js";
 import { lastSafeDay } from "../shared/period.js";
+import { isOpen } from "../shared/statuses.js";
 import { current } from "./session.js";
 
 /** The tag of a pledge, with a button that prints it. */
@@ -32,7 +34,9 @@ export const tagging = (_, desk) => ({
     buttons(make("button", { className: "plain" }, "Show the tag")),
   ],
   act: async () => {
-    byId("new-receipt").replaceChildren(tagOf(await desk.read(), desk.known));
+    const now = await desk.read();
+    if (!isOpen(now.status)) throw refusalOf(now.status === "passed" ? "Passed" : "Closed");
+    byId("new-receipt").replaceChildren(tagOf(now, desk.known));
     byId("new-receipt").scrollIntoView();
     return "The tag is below, ready to print.";
   },

@@ -87,29 +87,33 @@ const partsOf = (name, { sums, charges }) => [
   ["of which charges", inPounds(charges[name])], ["of which loans", inPounds(sums[name] - charges[name])],
 ];
 
+/** A till has a name only in a shop that has more than one. */
+const drawers = () => FLOATS[shop().till ? "several" : "one"];
+
 /** The float: what the drawer had when the day began, or all drawers. This machine keeps it, for this day alone. */
-const floatOf = (day) => kept("float", {})[day] ?? null;
+const floatOf = (day) => kept(drawers().name, {})[day] ?? null;
 
 /** Keeps it, or no longer keeps it, for null. */
 function keepFloat(day, pence) {
-  const days = Object.entries({ ...kept("float", {}), [day]: pence }).sort().slice(-31);
-  keep("float", Object.fromEntries(days));
+  const days = Object.entries({ ...kept(drawers().name, {}), [day]: pence }).sort().slice(-31);
+  keep(drawers().name, Object.fromEntries(days));
 }
 
-/** What the float is of. The book does not say at which till something was done, so of several only the sum is known. */
+/**
+ * What the float is of, and the name under which it is kept. The book does not say at which till something was done, so
+ * of several only the sum is known.
+ */
 const FLOATS = {
   one: {
-    label: "Float: in the drawer when the day began, in pounds", keep: "Keep the float",
+    name: "float", label: "Float: in the drawer when the day began, in pounds", keep: "Keep the float",
     drawer: "The drawer has", with: "With its float of", should: "it should have",
   },
   several: {
-    label: "Floats: in the drawers of all tills when the day began, in pounds", keep: "Keep the floats",
+    name: "floats", label: "Floats: in the drawers of all tills when the day began, in pounds",
+    keep: "Keep the floats",
     drawer: "The drawers of all tills together have", with: "With their floats of", should: "they should have",
   },
 };
-
-/** A till has a name only in a shop that has more than one. */
-const drawers = () => FLOATS[shop().till ? "several" : "one"];
 
 const floatField = () => byId("till-lists").querySelector(".float [name=amount]");
 

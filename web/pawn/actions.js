@@ -74,12 +74,19 @@ async function agreedToGiveUp(now, { title, line, yes }) {
   });
 }
 
+/** Reads the pledge. Throws where it is over, so that nothing is asked about it any more. */
+async function readOpen(card) {
+  const now = await lookFirst(card.read());
+  if (!isOpen(now.status)) throw refusalOf(now.status === "passed" ? "Passed" : "Closed");
+  return now;
+}
+
 async function askForVisit(card, { day, window }) {
   if (!day) throw new Unreadable("Choose a day.", "day");
   if (day < today()) throw new Unreadable("That day is over. Choose a later one.", "day");
   if (!await agreedToOver(card.statement, day, Number(window))) return NOT_NOW;
-  if (!await agreedToLate(await lookFirst(card.read()), card.known, day)) return NOT_NOW;
-  const now = await lookFirst(card.read());
+  if (!await agreedToLate(await readOpen(card), card.known, day)) return NOT_NOW;
+  const now = await readOpen(card);
   const isSame = now.booking?.day === day && now.booking.window === Number(window);
   if (!isSame && !await agreedToGiveUp(now, {
     title: "Give up the confirmed visit?", yes: "Ask for the new time",
@@ -179,8 +186,7 @@ function repayFold(card) {
 
 /** Reads the pledge. Throws if it can't be redeemed, or if another sum is owed than is shown. */
 async function readRedeemable(card) {
-  const now = await lookFirst(card.read());
-  if (!isOpen(now.status)) throw refusalOf(now.status === "passed" ? "Passed" : "Closed");
+  const now = await readOpen(card);
   if (now.held) throw refusalOf("Held");
   const { owing } = now.owed;
   if (owing !== card.statement.owed.owing) throw new Outdated(`${CHANGED} ${inPounds(owing)} is owed now.`);

@@ -216,11 +216,12 @@ export const outcomeOf = ({ said, fault, reader }) => ({
 
 /**
  * Reports the result of an act after which all folds were made anew: in the notice above them if it was done, else in
- * the fold of that title, which is opened again with what was typed.
+ * the fold of that title, which is opened again with what was typed. `more` is said after it, if it is no empty text.
  */
-export function sayAfter({ within, notice, title, fields, said, fault, reader }) {
+export function sayAfter({ within, notice, title, fields, said, fault, reader, more = "" }) {
   const details = foldOf(within, title);
-  const { text, tone } = outcomeOf({ said, fault, reader });
+  const { text: result, tone } = outcomeOf({ said, fault, reader });
+  const text = more ? `${result} ${more}` : result;
   if (tone === "good" || !details) {
     tell(notice, text, tone);
     return notice.focus();

@@ -6,7 +6,7 @@
  * have then.
  */
 import { refusalOf } from "./codes.js";
-import { inWords, today } from "./days.js";
+import { daysBetween, inWords, today } from "./days.js";
 import { entryInWords } from "./entries.js";
 import { Lost, lookFirst } from "./faults.js";
 import { inPounds, LARGE_PENCE, MOST_PENCE } from "./money.js";
@@ -18,6 +18,9 @@ const WORDS = {
   draw: { name: "drawing", done: "Drawn", as: "paid out" },
   repay: { name: "repayment", done: "Repaid", as: "received" },
 };
+
+/** From so many days before the end of its period on, a repayment says that it does not move that end. */
+const NEAR = 30;
 
 /** How many of the entries that came in between are listed line by line. */
 const TOLD = 5;
@@ -42,6 +45,14 @@ function otherChanges(shown, now) {
 }
 
 const owedLine = ({ owed }) => (owed ? `${inPounds(owed.owing)} is owed now.` : "Nothing more is done on this pledge.");
+
+const SINCE = "Since this pledge was shown here, this happened:";
+
+/** What others recorded since the pledge was shown, and what is owed now, as a text; or an empty one. */
+export function othersInWords(shown, now) {
+  const entries = now.entries.slice(shown.entries.length);
+  return entries.length > 0 ? [SINCE, ...listed(entries), owedLine(now)].join(" ") : "";
+}
 
 /** The refusal that the pledge, as it was read just now, must bring; or null. */
 function refusedNow({ status, owed, kind, credit }, sort, pence) {
@@ -78,7 +89,9 @@ function mending({ kind, owed }, sort, pence) {
     return "That is all that is owed, but the pledge stays open after it. If the article goes out today, redeem the "
       + "pledge by the paper in place of this.";
   }
-  if (kind === "running") return "An entry can’t be taken back: what was repaid by mistake is drawn again.";
+  if (kind === "running") {
+    return "An entry can’t be taken back: what was repaid by mistake is drawn again, up to the limit of the account.";
+  }
   return "An entry can’t be taken back, and nothing is drawn again on a fixed sum.";
 }
 
@@ -94,7 +107,7 @@ function questionOf({ shown, now, sort, pence, askFrom }) {
   if (entries.length + changes.length > 0) return {
     title: "Something came in between", about: now,
     lines: [
-      "Since this pledge was shown here, this happened:", ...listed(entries), ...changes, owedLine(now),
+      SINCE, ...listed(entries), ...changes, owedLine(now),
       mayBeListed ? `Is ${mine} another one? If it is listed here already, record nothing.`
         : `Do you still want to record ${mine}?`,
     ],
@@ -143,6 +156,16 @@ function checkEntry({ now, after, said, day }) {
 }
 
 /**
+ * What is owed after an entry; and near the end that a repayment does not move it: charges that are paid may be taken
+ * for a renewal.
+ */
+function leftInWords(sort, after) {
+  const isNear = isOpen(after.status) && daysBetween(today(), after.ends) <= NEAR;
+  const stays = `This does not move the end of the period, ${inWords(after.ends)}.`;
+  return sort === "repay" && isNear ? `${owedLine(after)} ${stays}` : owedLine(after);
+}
+
+/**
  * The result of an entry that the service took. If the pledge can't be read after it, the entry must not be made again.
  */
 function tellOf({ now, after, said, day }) {
@@ -151,7 +174,7 @@ function tellOf({ now, after, said, day }) {
   const wrong = checkEntry({ now, after, said, day });
   return wrong
     ? { sentence: `${done} ${wrong} before you do more.`, tone: "bad" }
-    : { sentence: `${done} ${owedLine(after)}`, tone: "good" };
+    : { sentence: `${done} ${leftInWords(said.sort, after)}`, tone: "good" };
 }
 
 /** What a look says of an entry whose reply was lost. */
@@ -160,7 +183,7 @@ function tellLost({ now, after, entry }) {
   if (found && isSame(found, entry)) {
     return {
       sentence: `The reply was lost, but the pledge, read again, has the entry. `
-        + `${entryInWords(found)} ${owedLine(after)}`,
+        + `${entryInWords(found)} ${leftInWords(entry.sort, after)}`,
       tone: "good",
     };
   }
