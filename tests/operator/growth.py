@@ -214,7 +214,19 @@ def a_lost_second_machine(one, second):
         answers_again(one, target="/books/10/pledges/4", key="/root/10.key")
         expect("it goes on there", enter(one, 5, 10, "/root/10.key")[0], 200)
         third.run("pawnd-admin status")
+        copies_every_ten_minutes(third)
         third.run("apt-get -y remove pawnd; nginx -t -q; apt-get -y purge pawnd; nginx -t -q; systemctl restart nginx")
+
+
+def copies_every_ten_minutes(third):
+    """By the page's lines, on a machine that has no store `main`: no timer is started for a store that is not there."""
+    third.run(command(DEPLOYING, "Copies", "often.conf"))
+    told = third.run("systemctl list-timers --no-pager --no-legend 'pawnd-copy@*'")
+    timers = re.findall(r"pawnd-copy@\w+\.timer", told)
+    expect("the stores of which copies are made", sorted(timers), ["pawnd-copy@back.timer", "pawnd-copy@east.timer"])
+    for it in timers:
+        due = third.run(f"systemctl show -P TimersCalendar {it}")
+        expect(f"when {it} is due", re.findall(r"OnCalendar=(.*?) ;", due), ["*-*-* *:00/10:00"])
 
 
 if __name__ == "__main__":
