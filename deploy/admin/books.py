@@ -85,6 +85,10 @@ def stop_if_taken(book, where):
         raise Stop(f"book {book} is in the store {there[0]} already. Choose another number")
     if line not in (None, where):
         raise Stop(f"book {book} has a line in {proxy.BOOKS_MAP} for the store {line}. Choose another number")
+    # What was taken out on the other machine is kept there, where this command does not see it.
+    if line and not Store(where).is_here:
+        raise Stop(f"book {book} has a line in {proxy.BOOKS_MAP} for the store {where}, which is on another machine: the "
+                   "book is there, or was taken out there and may come back. Choose another number")
     removed = [it.folder for it in removed_books() if book in it.books]
     if removed or book in proxy.exchanges():
         raise Stop(f"there was a book {book}, which may come back: {removed[-1] if removed else proxy.KEYS_MAP} is of it. "

@@ -5,7 +5,9 @@ import os
 import proxy
 import replicas
 import services
-from copies import UNSOUND, Copy, books_aside, copy_aside, files_aside, named, new_time, removed_books, the_copy
+from copies import (
+    UNSOUND, Copy, books_aside, copies_of, copy_aside, files_aside, named, new_time, removed_books, the_copy,
+)
 from files import files_of_store, is_plain, size_of_store
 from locks import alone_with
 from reading import contents_of
@@ -87,6 +89,12 @@ def tell_what_differs(store, copy):
         if place == store.name and book not in copy.books:
             warn(f"book {book} has a line for the store {place}, and was not in it at {copy.made}. If an older store "
                  "or a later copy has it: `pawnd-admin restore-book`")
+    # On a machine that takes over a store, an empty store of that name may have been copied.
+    older = [it for it in copies_of(store.name)[0] if it.made < copy.made and it.books]
+    if older and not copy.books:
+        last = older[-1]
+        warn(f"this copy has no books, and the copy {last.name} before it holds {in_words(last.counts)}. If you want "
+             f"that one: `pawnd-admin restore {store.name} {last.name}`")
 
 
 def is_empty(name):

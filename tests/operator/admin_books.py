@@ -286,6 +286,24 @@ def a_broker_who_leaves():
         expect("what commands left", it.leftovers(), [])
 
 
+def a_number_of_a_store_elsewhere():
+    """A book that was taken out on another machine may come back there. Its line in the map keeps its number."""
+    with Machine() as it:
+        it.store("west")
+        it.book(10, "west")
+        it.admin("remove-book", 10)
+        shutil.rmtree(it.place("backups/removed"))
+        with open(it.place("etc/stores/west.conf")) as file:
+            port = file.read().partition("PORT=")[2].strip()
+        it.write("etc/stores/west.conf", f"ADDRESS=127.0.0.1:{port}\n")
+        it.write("etc/books.map", "10 west;\n")
+        words = "--name", "Another Street", "--store", "west", "--key-to", it.place("key-again")
+        said = it.admin("book", 10, *words, wanted=1)
+        expect(f"what it says: {said}", "Choose another number" in said, True)
+        expect("nothing was begun", (os.listdir(it.place("etc/pending")), it.lines()), ([], {10: "west"}))
+        it.admin("book", 11, *words)
+
+
 def a_leaked_key_of_a_book_that_comes_back():
     """The key that leaked before the book left is refused when the book is back, since no other book gets its number."""
     with Machine() as it:
@@ -430,5 +448,5 @@ if __name__ == "__main__":
         PACKAGES, a_store_and_books, the_first_book_of_a_store, words_that_are_wrong, a_book_that_is_made_again, a_reply_that_is_cut_off,
         a_store_that_refuses, one_book_out_of_a_copy, a_broker_who_leaves, a_leaked_key,
         a_replicated_store_that_another_machine_serves, a_replicated_store_without_its_file,
-        a_leaked_key_of_a_store_elsewhere, a_leaked_key_of_a_book_that_comes_back,
+        a_leaked_key_of_a_store_elsewhere, a_number_of_a_store_elsewhere, a_leaked_key_of_a_book_that_comes_back,
     )

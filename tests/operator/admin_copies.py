@@ -433,6 +433,23 @@ def onto_an_empty_machine():
         expect("what is wrong", new.status()["wrong"], [])
 
 
+def an_empty_copy_that_is_newer():
+    """A machine that receives copies had an empty store of its own, which was copied after the copy that was sent."""
+    with Machine() as old, Machine() as new:
+        old.book(7)
+        old.admin("copy", "main")
+        sent = os.path.basename(old.newest("main"))
+        new.admin("copy", "main")
+        while copies(new)[-1] <= sent:
+            new.admin("copy", "main")
+        shutil.rmtree(os.path.join(new.copies, "main", sent), ignore_errors=True)
+        shutil.copytree(old.newest("main"), os.path.join(new.copies, "main", sent))
+        said = new.admin("restore", "main", "newest")
+        expect(f"`newest`: {said}", f"`pawnd-admin restore main {sent}`" in said, True)
+        said = new.admin("restore", "main", sent)
+        expect(f"the copy that was sent: {said}", "holds 1 books" in said and "has no books" not in said, True)
+
+
 if __name__ == "__main__":
     main_with(
         PACKAGES,
@@ -454,4 +471,5 @@ if __name__ == "__main__":
         a_receiver_whose_clock_is_behind,
         a_folder_that_is_not_there,
         onto_an_empty_machine,
+        an_empty_copy_that_is_newer,
     )

@@ -12,6 +12,9 @@ from tests.library.operator.first_day import (
 from tests.library.operator.packages import make_folder, make_package
 
 
+AWAY = '{"proxy":503,"handed_on":false}'
+
+
 def growth():
     with tempfile.TemporaryDirectory() as room:
         folder = make_folder(room)
@@ -50,8 +53,8 @@ def a_second_machine(one, second):
     one.run(tell)
     answers_again(one, target="/books/10/pledges/1", key="/root/10.key")
     expect("it goes on there", enter(one, 2, 10, "/root/10.key")[0], 200)
-    one.run("pawnd-admin book 11 --store east --name 'Far Street' --key-to /root/11.key")
-    expect("a new book there", ask(one, "/books/11/pledges/1", key="/root/11.key")[0], 404)
+    one.run("pawnd-admin book 13 --store east --name 'Next Street' --key-to /root/13.key")
+    expect("a new book there", ask(one, "/books/13/pledges/1", key="/root/13.key")[0], 404)
     stranger = one.run("ip address add 10.0.0.9/24 dev to-second; curl -s --interface 10.0.0.9 -o /dev/null -w '%{http_code}' "
                        "http://10.0.0.3:8103/books/10/held")
     expect("no caller but the proxy reaches the relay", stranger, "403")
@@ -63,8 +66,10 @@ def a_second_machine(one, second):
     answers_again(one, target="/books/10/pledges/2", key="/root/10.key")
     second.run("cd /root; apt-get -y reinstall ./pawnd_*_amd64.deb")
     answers_again(one, target="/books/10/pledges/2", key="/root/10.key")
-    second.run("pawnd-admin status; pawnd-admin remove-book 11; pawnd-admin status")
-    expect("a book that left", ask(one, "/books/11/pledges/1", key="/root/11.key")[0], 404)
+    second.run("pawnd-admin status; pawnd-admin remove-book 13; pawnd-admin status")
+    expect("a book that left", ask(one, "/books/13/pledges/1", key="/root/13.key")[0], 404)
+    said = one.run("pawnd-admin book 13 --store east --name 'Other Street' --key-to /root/13.key.again 2>&1", wanted=1)
+    expect(f"its number: {said}", "taken out there and may come back" in said, True)
     answers_again(one, target="/books/10/pledges/2", key="/root/10.key")
 
 
@@ -81,13 +86,13 @@ def a_boot_there(one, second):
 
 def a_division_there(one, second):
     """The relay passes a book to the store of the second machine that has it, and the first machine goes on as before."""
-    one.run("pawnd-admin book 11 --store east --name 'Far Street' --key-to /root/11.key.again")
-    with_terms(one, 11, "/root/11.key.again")
+    one.run("pawnd-admin book 11 --store east --name 'Far Street' --key-to /root/11.key")
+    with_terms(one, 11, "/root/11.key")
     before = one.run("cat /etc/pawnd/books.map /etc/pawnd/stores.conf")
     divide, timer = commands(DEPLOYING, "A second machine")[4:6]
     second.run(divide)
-    answers_again(one, target="/books/11/pledges/1", key="/root/11.key.again")
-    expect("both go on", (enter(one, 3, 10, "/root/10.key")[0], enter(one, 2, 11, "/root/11.key.again")[0]), (200, 200))
+    answers_again(one, target="/books/11/pledges/1", key="/root/11.key")
+    expect("both go on", (enter(one, 3, 10, "/root/10.key")[0], enter(one, 2, 11, "/root/11.key")[0]), (200, 200))
     expect("the map there", second.run("cat /etc/pawnd/books.map"), "11 west;\n")
     second.run("sleep 1; pawnd-admin copy east; pawnd-admin restore-book 10 newest back")
     expect("a book that came back", ask(one, "/books/10/pledges/3", key="/root/10.key")[0], 200)
@@ -96,7 +101,7 @@ def a_division_there(one, second):
     second.run("pawnd-admin status")
     second.run(timer)
     second.run("pawnd-admin remove-book 11")
-    expect("a book that left", ask(one, "/books/11/pledges/1", key="/root/11.key.again")[0], 404)
+    expect("a book that left", ask(one, "/books/11/pledges/1", key="/root/11.key")[0], 404)
 
 
 def an_upgrade_there(one, second):
@@ -121,8 +126,8 @@ def an_upgrade_there(one, second):
 def a_store_that_comes_back(one, second):
     """To the first machine, while a book that was in it stays in a store of the second one; and it goes there again."""
     _, away, there, tell, _, _, stop, stays, back = commands(DEPLOYING, "A second machine")
-    # The book 11 was taken out on the second machine.
-    before = one.run("sed -i '/^11 /d' /etc/pawnd/books.map; cat /etc/pawnd/books.map")
+    # The books 11 and 13 were taken out on the second machine.
+    before = one.run("sed -i '/^1[13] /d' /etc/pawnd/books.map; cat /etc/pawnd/books.map")
     second.run(stop)
     one.run(stays.replace("west", "back").replace("11 ", "10 "))
     one.run(back)
@@ -194,18 +199,34 @@ def a_lost_second_machine(one, second):
         expect("the other stores go on", ask(one, "/books/7/pledges/1")[0], 200)
         one.line_to(third, "10.0.0.1", "10.0.0.3")
         reach(one, standby, third)
-        third.run(commands(DEPLOYING, "A second machine")[0])
-        take, fetch, restore, remove = commands(OPERATING, "A lost second machine")
+        prepare = commands(DEPLOYING, "A second machine")[0].splitlines()
+        expect("the last two enable the relay", [it.split()[0] for it in prepare[-2:]], ["ln", "pawnd-admin"])
+        third.run("\n".join(prepare[:-2]))
+        expect("callers meanwhile", ask(one, "/books/10/pledges/4", key="/root/10.key"), (503, AWAY))
+        take, fetch, restore, let_in, remove = commands(OPERATING, "A lost second machine")
         for name in ("east", "back"):
             standby.run(take.replace("east", name))
             third.run(fetch.replace("east", name))
         for name in ("east", "back"):
             third.run(restore.replace("east", name))
+        third.run(let_in)
         standby.run(remove)
         answers_again(one, target="/books/10/pledges/4", key="/root/10.key")
         expect("it goes on there", enter(one, 5, 10, "/root/10.key")[0], 200)
         third.run("pawnd-admin status")
+        copies_every_ten_minutes(third)
         third.run("apt-get -y remove pawnd; nginx -t -q; apt-get -y purge pawnd; nginx -t -q; systemctl restart nginx")
+
+
+def copies_every_ten_minutes(third):
+    """By the page's lines, on a machine that has no store `main`: no timer is started for a store that is not there."""
+    third.run(command(DEPLOYING, "Copies", "often.conf"))
+    told = third.run("systemctl list-timers --no-pager --no-legend 'pawnd-copy@*'")
+    timers = re.findall(r"pawnd-copy@\w+\.timer", told)
+    expect("the stores of which copies are made", sorted(timers), ["pawnd-copy@back.timer", "pawnd-copy@east.timer"])
+    for it in timers:
+        due = third.run(f"systemctl show -P TimersCalendar {it}")
+        expect(f"when {it} is due", re.findall(r"OnCalendar=(.*?) ;", due), ["*-*-* *:00/10:00"])
 
 
 if __name__ == "__main__":

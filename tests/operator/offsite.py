@@ -65,6 +65,8 @@ def a_copy_is_sent(one, standby):
     standby.run("cp /root/packages/*.deb /root/")
     standby.run(receiver.replace("PUBLIC-KEY", public))
     standby.run("rm /root/*.deb; systemctl start ssh")
+    said = standby.run("pawnd-admin copy main 2>&1", wanted=1)
+    expect(f"no copy of its own is newer than what is sent: {said}", "there is no store main" in said, True)
     carry_passphrase(one, standby)
     one.run(begin)
     expect("an archive", len(archives(standby)), 1)
