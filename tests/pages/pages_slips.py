@@ -180,6 +180,30 @@ def a_repayment_is_drawn_again_up_to_the_limit():
         no_faults()
 
 
+def a_repayment_after_the_period_is_not_drawn_again():
+    rows = [
+        COLUMNS, row("B", 2, 1, 1), row("T", 1, 0, 0, 0),
+        row("P", 1, "P1", "Piano", "running", 50000, ago(200), "", "no", 1, "no", ago(200), "open"),
+        row("S", 1, 1, ago(200), "opening", secret_of(1)), row("E", 1, 1, ago(200), "draw", 20000),
+    ]
+    with Pages() as pages:
+        make_book(pages, terms=False)
+        fill_book(pages, "\n".join(rows) + "\n")
+        open_book(pages)
+        find("1")
+        browser.says("£200.00 owed today", "#statement")
+        command("Repayment", "Record the repayment", amount="150")
+        browser.says("can’t be taken back, and nothing is drawn again once the period is over.", "dialog")
+        browser.press("dialog button", "Record £150.00")
+        browser.says("£50.00 is owed now.", "#commands")
+        unfold("If something was entered by mistake")
+        browser.says(
+            "A repayment of too much can’t be drawn again, since the period is over. If the pawnor agrees and brings the "
+            "paper: redeem the pledge", "#commands .action[open]",
+        )
+        no_faults()
+
+
 def a_sale_is_asked_about_with_its_surplus():
     with Pages() as pages:
         make_book(pages, terms=False)
@@ -566,6 +590,7 @@ main(
         an_extension_is_asked_about, an_extension_whose_end_is_moved_during_its_question_is_asked_about_anew,
         an_earlier_end_is_not_sent, an_unlike_amount_is_asked_about,
         how_slips_are_mended_is_told, a_repayment_is_drawn_again_up_to_the_limit,
+        a_repayment_after_the_period_is_not_drawn_again,
         a_sale_is_asked_about_with_its_surplus, a_sale_whose_reply_is_lost_is_told, a_take_whose_reply_is_lost_is_found,
         a_take_that_is_lost_for_a_while_is_the_same_when_it_is_pressed_again,
         a_take_that_was_lost_with_its_page_can_be_opened, nothing_is_sent_that_is_to_be_refused,

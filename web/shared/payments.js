@@ -83,16 +83,17 @@ function isUnlike(now, sort, pence) {
 }
 
 /** How an entry that should not have been made is set right, since none can be taken back. */
-function mending({ kind, owed }, sort, pence) {
+function mending({ kind, owed, status }, sort, pence) {
   if (sort === "draw") return "An entry can’t be taken back: money drawn by mistake is recorded as repaid.";
   if (pence === owed?.owing) {
     return "That is all that is owed, but the pledge stays open after it. If the article goes out today, redeem the "
       + "pledge by the paper in place of this.";
   }
-  if (kind === "running") {
+  if (kind === "running" && status === "inside") {
     return "An entry can’t be taken back: what was repaid by mistake is drawn again, up to the limit of the account.";
   }
-  return "An entry can’t be taken back, and nothing is drawn again on a fixed sum.";
+  const why = kind === "running" ? "once the period is over" : "on a fixed sum";
+  return `An entry can’t be taken back, and nothing is drawn again ${why}.`;
 }
 
 /**
