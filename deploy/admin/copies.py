@@ -92,8 +92,8 @@ def in_the_future(name, future):
     return (
         f"{names} dated in the future and not counted. Look at the clock first: `timedatectl`. If the clock is wrong now, leave "
         f"{leave}: {counts} again when the clock is right. If the clock is right, {was} made while it was ahead: move {them} out "
-        f"of {os.path.join(COPIES, name)}, and do not remove {them}. `pawnd-admin restore {name} FOLDER` takes a copy from any "
-        "place"
+        f"of {os.path.join(COPIES, name)}, and do not remove {them}. A command takes a copy from any place if it names the "
+        "folder"
     )
 
 
