@@ -155,8 +155,8 @@ def a_repayment_near_the_end_says_that_the_end_stays():
         make_book(pages, terms=False)
         ends = six_months_after(ago(180))
         fill_book(pages, book_text([
-            ("Ring", "R1", 5000, ago(180), "", "no"), ("Violin", "R2", 20000, ago(220), "", "no"),
-            ("Cup", "R3", 20000, ago(20), "", "no"),
+            ("Ring", "A1", 5000, ago(180), "", "no"), ("Violin", "A2", 20000, ago(220), "", "no"),
+            ("Cup", "A3", 20000, ago(20), "", "no"),
         ], rates=(0, 0, 0)))
         open_book(pages)
         for number, stays in (
