@@ -153,18 +153,23 @@ def how_slips_are_mended_is_told():
         browser.shoot("broker-slips")
 
 
+def open_account(pages, *, taken, drawn, rate):
+    """Shows the one pledge of a book: a running account up to £500, on which so many pence were drawn when it was taken."""
+    rows = [
+        COLUMNS, row("B", 2, 1, 1), row("T", 1, rate, 0, 0),
+        row("P", 1, "P1", "Piano", "running", 50000, taken, "", "no", 1, "no", taken, "open"),
+        row("S", 1, 1, taken, "opening", secret_of(1)), row("E", 1, 1, taken, "draw", drawn),
+    ]
+    make_book(pages, terms=False)
+    fill_book(pages, "\n".join(rows) + "\n")
+    open_book(pages)
+    find("1")
+
+
 def a_repayment_is_drawn_again_up_to_the_limit():
     """Charges that were paid by mistake are part of the loan if they are drawn again, and may be above the limit."""
-    rows = [
-        COLUMNS, row("B", 2, 1, 1), row("T", 1, 2667, 0, 0),
-        row("P", 1, "P1", "Piano", "running", 50000, ago(60), "", "no", 1, "no", ago(60), "open"),
-        row("S", 1, 1, ago(60), "opening", secret_of(1)), row("E", 1, 1, ago(60), "draw", 50000),
-    ]
     with Pages() as pages:
-        make_book(pages, terms=False)
-        fill_book(pages, "\n".join(rows) + "\n")
-        open_book(pages)
-        find("1")
+        open_account(pages, taken=ago(60), drawn=50000, rate=2667)
         browser.says("£580.01 owed today", "#statement")
         command("Repayment", "Record the repayment", amount="500")
         browser.says("what was repaid by mistake is drawn again, up to the limit of the account.", "dialog")
@@ -181,16 +186,8 @@ def a_repayment_is_drawn_again_up_to_the_limit():
 
 
 def a_repayment_after_the_period_is_not_drawn_again():
-    rows = [
-        COLUMNS, row("B", 2, 1, 1), row("T", 1, 0, 0, 0),
-        row("P", 1, "P1", "Piano", "running", 50000, ago(200), "", "no", 1, "no", ago(200), "open"),
-        row("S", 1, 1, ago(200), "opening", secret_of(1)), row("E", 1, 1, ago(200), "draw", 20000),
-    ]
     with Pages() as pages:
-        make_book(pages, terms=False)
-        fill_book(pages, "\n".join(rows) + "\n")
-        open_book(pages)
-        find("1")
+        open_account(pages, taken=ago(200), drawn=20000, rate=0)
         browser.says("£200.00 owed today", "#statement")
         command("Repayment", "Record the repayment", amount="150")
         browser.says("can’t be taken back, and nothing is drawn again once the period is over.", "dialog")
