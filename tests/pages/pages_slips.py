@@ -154,7 +154,7 @@ def how_slips_are_mended_is_told():
 
 
 def open_account(pages, *, taken, drawn, rate):
-    """Shows the one pledge of a book: a running account up to £500, on which so many pence were drawn when it was taken."""
+    """Shows the one pledge of a book: a running account up to £500, from which so many pence were drawn at once."""
     rows = [
         COLUMNS, row("B", 2, 1, 1), row("T", 1, rate, 0, 0),
         row("P", 1, "P1", "Piano", "running", 50000, taken, "", "no", 1, "no", taken, "open"),
@@ -195,8 +195,8 @@ def a_repayment_after_the_period_is_not_drawn_again():
         browser.says("£50.00 is owed now.", "#commands")
         unfold("If something was entered by mistake")
         browser.says(
-            "A repayment of too much can’t be drawn again, since the period is over. If the pawnor agrees and brings the "
-            "paper: redeem the pledge", "#commands .action[open]",
+            "A repayment of too much can’t be drawn again, since the period is over. If the pawnor agrees and brings "
+            "the paper: redeem the pledge", "#commands .action[open]",
         )
         no_faults()
 
